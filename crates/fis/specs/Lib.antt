@@ -1,0 +1,7 @@
+pub mod Bytes
+pub mod D2h
+pub mod H2d
+pub mod SetDeviceBits
+pub mod DmaSetup
+pub mod PioSetup
+pub mod Fis

@@ -1,0 +1,31 @@
+-- The verdict of the relation is the one that the function gives.
+use Rattle.std.proofs.Common.{◌≡◌, ℕ, zero, suc, ◌+◌, ◌≤◌, ◌<◌, Bool, true, false, Option, Some, None, refl, sym, ap, ◌∙◌, arith, inl, inr, ◌⊎◌}
+use Rattle.std.proofs.lemmas.Bool.{cases_lt}
+use Rattle.locking.specs.declared.range.Op.{Op}
+use Rattle.locking.specs.declared.ranges.Verdict.{Verdict}
+use Rattle.locking.specs.declared.ranges.Verdict.TheVariants.{Serve, Denied}
+use Rattle.locking.specs.Range.{RangeRows, row_at}
+use Rattle.locking.specs.Verdict.{is_permitted, ArePermitted, IsLeastDenied, IsVerdict, first_denied, verdict_at, verdict_of}
+
+none_denied : (rows : RangeRows) (op : Op) (first count : ℕ) → ArePermitted rows op first (first + count) → first_denied rows op first count ≡ None
+none_denied rows op first zero served = refl
+none_denied rows op first (suc n) served =
+    rw (served first (omega arith) (omega arith)) (none_denied rows op (suc first) n (λ s a b. served s (omega arith) (omega arith)))
+
+least_denied : (rows : RangeRows) (op : Op) (first count sector : ℕ) → IsLeastDenied rows op first count sector → first_denied rows op first count ≡ Some sector
+least_denied rows op first zero sector h = absurd (omega (arith, h.from, h.below))
+least_denied rows op first (suc n) sector h =
+    elim (cases_lt first sector) [
+      | inl lt ↦ rw (h.before first (omega arith) lt) (least_denied rows op (suc first) n sector (record { from = omega arith; below = omega (arith, h.below); denied = h.denied; before = λ t a b. h.before t (omega arith) b }))
+      | inr le ↦
+          let here : sector ≡ first = omega (arith, h.from) in
+          let denied : is_permitted rows op first ≡ false = rw here at h.denied in
+          rw denied (ap (λ (s : ℕ). Some s) (sym here))
+    ]
+
+-- no other verdict is right
+pub is_verdict_of : (rows : RangeRows) (op : Op) (lba count : ℕ) (verdict : Verdict) → IsVerdict rows op lba count verdict → verdict ≡ verdict_of rows op lba count
+unfolding verdict_of
+is_verdict_of rows op lba count Serve h = rw (none_denied rows op lba count h) refl
+is_verdict_of rows op lba count (Denied why) h =
+    rw (least_denied rows op lba count h.0 h.1) (ap (λ d. Denied d) h.2)

@@ -1,0 +1,45 @@
+-- What a range covers and permits (Opal SSC, Locking table).
+use Rattle.std.specs.Prelude.{ℕ, ◌+◌, ◌==◌, Bool, true, false, not, ◌&&◌, ◌||◌, nat_le, nat_lt, List, [], ◌∷◌, if◌then◌else◌}
+use Rattle.locking.specs.declared.range.Op.{Op}
+use Rattle.locking.specs.declared.range.Op.TheVariants.{Read, Write}
+use Rattle.locking.specs.declared.range.RangeRow.{RangeRow}
+
+-- The sector is one of the range's. A range of length 0 covers nothing.
+abbrev pub covers : RangeRow → ℕ → Bool
+covers row sector = nat_le row.start sector && nat_lt sector (row.start + row.length)
+
+-- A lock counts where it is enabled.
+abbrev pub permits : Op → RangeRow → Bool
+permits Read row = not (row.read_enabled && row.read_locked)
+permits Write row = not (row.write_enabled && row.write_locked)
+
+-- Two ranges have a sector in common: neither is empty, and one covers the first sector of the other.
+abbrev pub meets : RangeRow → RangeRow → Bool
+meets row other =
+    not (row.length == 0) && (not (other.length == 0) && (covers row other.start || covers other row.start))
+
+-- A range as the factory leaves it.
+abbrev pub empty_row : ℕ → RangeRow
+empty_row range = record {
+  range = range;
+  start = 0;
+  length = 0;
+  read_enabled = false;
+  write_enabled = false;
+  read_locked = false;
+  write_locked = false;
+}
+
+-- The first row that covers the sector, else the last resort.
+abbrev pub row_in : List RangeRow → RangeRow → ℕ → RangeRow
+row_in [] global sector = global
+row_in (row ∷ rows) global sector = if covers row sector then row else row_in rows global sector
+
+-- The ranges of a drive: the global one, and the numbered ones.
+pub record RangeRows : Type 0 where
+  pub global : RangeRow
+  pub numbered : List RangeRow
+
+-- The range of a sector: the numbered range that covers it, else the global range.
+abbrev pub row_at : RangeRows → ℕ → RangeRow
+row_at rows sector = row_in rows.numbered rows.global sector

@@ -1,0 +1,93 @@
+-- Commands, and the FISes that carry them (ACS-3, the commands' tables of inputs).
+use Rattle.std.specs.Prelude.{◌≡◌, ◌≢◌, ℕ, ◌+◌, ◌*◌, ◌/◌, ◌%◌, ◌^◌, ◌<◌, ◌≤◌, ◌==◌, Bool, true, false, not, ◌||◌, Option, Some, None, Result, Ok, Err, if◌then◌else◌}
+use Rattle.fis.specs.declared.h2d.RegH2d.{RegH2d}
+use Rattle.trusted_cmds.specs.declared.command.Command.{Command}
+use Rattle.trusted_cmds.specs.declared.command.Command.TheVariants.{ReadQueued, WriteQueued}
+use Rattle.trusted_cmds.specs.declared.command.CommandError.{CommandError}
+use Rattle.trusted_cmds.specs.declared.command.CommandError.TheVariants.{Unknown, NotCommand, Device}
+
+-- A count field of 0 stands for 65,536.
+abbrev pub sectors : ℕ → ℕ
+sectors field = if field == 0 then 65536 else field
+
+-- What a queued transfer has in its fields.
+pub record IsQueued (h : RegH2d) (code first sectors_asked slot : ℕ) : Type 0 where
+  pub is_command : h.is_command ≡ true
+  pub command : h.command ≡ code
+  pub lba : h.lba ≡ first
+  pub count : sectors h.feature ≡ sectors_asked
+  pub tag : h.count / 8 % 32 ≡ slot
+  pub device : h.device / 64 % 2 ≡ 1
+
+-- The FIS carries the command, with this tag.
+abbrev pub Carries : RegH2d → Command → Option ℕ → Type 0
+Carries h (ReadQueued lba count) (Some tag) = IsQueued h 0x60 lba count tag
+Carries h (WriteQueued lba count) (Some tag) = IsQueued h 0x61 lba count tag
+Carries h (ReadQueued lba count) None = ⊥
+Carries h (WriteQueued lba count) None = ⊥
+
+-- The first thing that is wrong with a FIS, if something is.
+abbrev pub fault_of : RegH2d → Option CommandError
+fault_of h =
+    if not h.is_command then Some NotCommand
+    else (if not (h.command == 0x60 || h.command == 0x61) then Some Unknown
+    else (if not (h.device / 64 % 2 == 1) then Some Device else None))
+
+abbrev pub command_of : RegH2d → Command
+command_of h =
+    if h.command == 0x60 then ReadQueued h.lba (sectors h.feature)
+    else WriteQueued h.lba (sectors h.feature)
+
+abbrev pub tag_of : RegH2d → ℕ
+tag_of h = h.count / 8 % 32
+
+abbrev pub read_unless : Option CommandError → RegH2d → Result (Command × Option ℕ) CommandError
+read_unless (Some e) h = Err e
+read_unless None h = Ok (command_of h, Some (tag_of h))
+
+-- What a reader gives, as a function of the FIS.
+abbrev pub reading : RegH2d → Result (Command × Option ℕ) CommandError
+reading h = read_unless (fault_of h) h
+
+-- How many sectors the command moves.
+abbrev pub count_of : Command → ℕ
+count_of (ReadQueued lba count) = count
+count_of (WriteQueued lba count) = count
+
+-- The first sector that the command moves.
+abbrev pub lba_of : Command → ℕ
+lba_of (ReadQueued lba count) = lba
+lba_of (WriteQueued lba count) = lba
+
+-- The count field that stands for so many sectors.
+abbrev pub sectors_field : ℕ → ℕ
+sectors_field count = if count == 65536 then 0 else count
+
+-- The FIS of a queued transfer: the count of sectors stands in Feature, the tag in bits 7 to 3 of Count.
+abbrev pub queued_fis : ℕ → ℕ → ℕ → ℕ → RegH2d
+queued_fis code lba count tag = record {
+  is_command = true;
+  port = 0;
+  command = code;
+  feature = sectors_field count;
+  lba = lba;
+  device = 0x40;
+  count = 8 * tag;
+  icc = 0;
+  control = 0;
+}
+
+-- The writer's spelling of a command under a tag.
+abbrev pub fis_of : Command → ℕ → RegH2d
+fis_of (ReadQueued lba count) tag = queued_fis 0x60 lba count tag
+fis_of (WriteQueued lba count) tag = queued_fis 0x61 lba count tag
+
+-- The blocks of a trusted command: the low byte of their number stands in Count 7:0, the high byte in LBA 7:0.
+abbrev pub blocks : RegH2d → ℕ
+blocks h = h.count % 256 + 256 * (h.lba % 256)
+
+-- How many bytes come with a command that is not queued: WRITE DMA EXT, TRUSTED SEND, TRUSTED SEND DMA.
+abbrev pub payload_length : RegH2d → ℕ
+payload_length h =
+    if h.command == 0x35 then 512 * sectors h.count
+    else (if h.command == 0x5e || h.command == 0x5f then 512 * blocks h else 0)

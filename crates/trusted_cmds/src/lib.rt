@@ -1,0 +1,13 @@
+//! ATA commands of a self-locking drive, and the FISes that carry them (ACS-3).
+#![tactic(auto)]
+
+mod command;
+mod convert;
+mod payload;
+
+pub use command::{Command, CommandError};
+pub use convert::{of_fis, to_fis};
+pub use payload::payload_len;
+
+#[cfg(test)]
+mod tests;

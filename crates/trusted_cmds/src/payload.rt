@@ -1,0 +1,32 @@
+//! How much data comes with a command.
+
+ghost use Rattle.std.specs.Prelude.{◌≡◌, ◌≤◌, ◌%◌};
+ghost use Rattle.trusted_cmds.specs.Commands.{sectors, blocks, payload_length};
+ghost use Rattle.fis.specs.declared.h2d.RegH2d.{RegH2d};
+
+use crate::convert::sectors;
+use fis::RegH2d;
+
+/// The blocks of a trusted command: their number has its low byte in Count, its high byte in LBA.
+fn blocks(h: &RegH2d) -> u32
+    ensures value { result ≡ blocks h.now }
+    ensures fits { result ≤ 65535 }
+{
+    let low = u32::from(h.count & 0xff);
+    let high = (h.lba.number() & 0xff) as u32;
+    low + 256 * high
+}
+
+/// How many bytes come with an unqueued command: 512 for each sector of WRITE DMA EXT and for each
+/// block of TRUSTED SEND, else none. The command code alone tells which it is, whatever the C bit
+/// and the Device field are (ACS-3, "WRITE DMA EXT", "TRUSTED SEND", "TRUSTED SEND DMA").
+pub fn payload_len(h: &RegH2d) -> usize
+    ensures { result ≡ payload_length h.now }
+{
+    match h.command {
+        0x35 => 512 * sectors(h.count) as usize,
+        0x5e => 512 * blocks(h) as usize,
+        0x5f => 512 * blocks(h) as usize,
+        _ => 0,
+    }
+}
