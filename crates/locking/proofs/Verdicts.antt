@@ -29,3 +29,25 @@ unfolding verdict_of
 is_verdict_of rows op lba count Serve h = rw (none_denied rows op lba count h) refl
 is_verdict_of rows op lba count (Denied why) h =
     rw (least_denied rows op lba count h.0 h.1) (ap (λ d. Denied d) h.2)
+
+none_denied-back : (rows : RangeRows) (op : Op) (first count : ℕ) → first_denied rows op first count ≡ None → (b : Bool) → b ≡ is_permitted rows op first → (s : ℕ) → first ≤ s → s < first + count → is_permitted rows op s ≡ true
+none_denied-back rows op first zero e b here s from below = absurd (omega arith)
+none_denied-back rows op first (suc n) e true here s from below =
+    elim (cases_lt first s) [
+      | inl lt ↦ none_denied-back rows op (suc first) n (rw (sym here) at e) (is_permitted rows op (suc first)) refl s (omega arith) (omega arith)
+      | inr le ↦ let same : first ≡ s = omega arith in rw same at (sym here)
+    ]
+none_denied-back rows op first (suc n) e false here s from below = let gone = rw (sym here) at e in cc
+
+verdict_at-serve : (rows : RangeRows) (op : Op) (lba count : ℕ) (found : Option ℕ) → verdict_at rows op lba count found ≡ Serve → found ≡ None
+verdict_at-serve rows op lba count None e = refl
+verdict_at-serve rows op lba count (Some sector) e = cc
+
+-- a transfer that is served is permitted sector by sector, and back
+pub served_is_permitted : (rows : RangeRows) (op : Op) (lba count : ℕ) → verdict_of rows op lba count ≡ Serve → ArePermitted rows op lba (lba + count)
+unfolding verdict_of
+served_is_permitted rows op lba count e =
+    none_denied-back rows op lba count (verdict_at-serve rows op lba count (first_denied rows op lba count) e) (is_permitted rows op lba) refl
+
+pub permitted_is_served : (rows : RangeRows) (op : Op) (lba count : ℕ) → ArePermitted rows op lba (lba + count) → verdict_of rows op lba count ≡ Serve
+permitted_is_served rows op lba count permitted = sym (is_verdict_of rows op lba count Serve permitted)

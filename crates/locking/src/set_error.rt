@@ -19,6 +19,11 @@ pub enum SetError {
 }
 
 impl From<AllocError> for SetError {
+    ghost use Rattle.std.specs.Prelude.{◌≡◌};
+    ghost use Rattle.locking.specs.declared.set_error.SetError.TheVariants.{OutOfMemory};
+
+    ghost from_gives = { λ _ e. e ≡ OutOfMemory };
+
     fn from(_error: AllocError) -> SetError {
         SetError::OutOfMemory
     }

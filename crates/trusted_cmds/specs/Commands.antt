@@ -10,6 +10,10 @@ use Rattle.trusted_cmds.specs.declared.command.CommandError.TheVariants.{Unknown
 abbrev pub sectors : ℕ → ℕ
 sectors field = if field == 0 then 65536 else field
 
+-- The codes of the queued commands.
+abbrev pub is_queued : ℕ → Bool
+is_queued code = code == 0x60 || code == 0x61
+
 -- What a queued transfer has in its fields.
 pub record IsQueued (h : RegH2d) (code first sectors_asked slot : ℕ) : Type 0 where
   pub is_command : h.is_command ≡ true
@@ -30,14 +34,16 @@ Carries h (WriteQueued lba count) None = ⊥
 abbrev pub fault_of : RegH2d → Option CommandError
 fault_of h =
     if not h.is_command then Some NotCommand
-    else (if not (h.command == 0x60 || h.command == 0x61) then Some Unknown
+    else (if not (is_queued h.command) then Some Unknown
     else (if not (h.device / 64 % 2 == 1) then Some Device else None))
 
+-- The command of a FIS that has no fault.
 abbrev pub command_of : RegH2d → Command
 command_of h =
     if h.command == 0x60 then ReadQueued h.lba (sectors h.feature)
     else WriteQueued h.lba (sectors h.feature)
 
+-- The tag of a queued command: bits 7 to 3 of Count.
 abbrev pub tag_of : RegH2d → ℕ
 tag_of h = h.count / 8 % 32
 

@@ -1,7 +1,7 @@
 ghost use Rattle.std.specs.Prelude.{◌≡◌, ◌<◌, ◌≤◌, ◌^◌, MatchResult, Some, None, IfOk, Ok, Option, ℕ, ◌/◌, ◌%◌, ◌==◌, ◌||◌};
 ghost use Rattle.fis.specs.declared.h2d.RegH2d.{RegH2d};
 ghost use Rattle.trusted_cmds.specs.declared.command.Command.{Command};
-ghost use Rattle.trusted_cmds.specs.Commands.{Carries, fault_of, sectors, sectors_field, reading, count_of, lba_of, fis_of, queued_fis};
+ghost use Rattle.trusted_cmds.specs.Commands.{is_queued, tag_of, Carries, fault_of, sectors, sectors_field, reading, count_of, lba_of, fis_of, queued_fis};
 
 use crate::command::{Command, CommandError};
 use fis::{Lba, PortNumber, RegH2d, Tag};
@@ -29,10 +29,18 @@ fn has_lba_bit(device: u8) -> bool
     device >> 6 & 1 == 1
 }
 
-fn is_queued(command: u8) -> bool
-    ensures { result ≡ (command == 0x60 || command == 0x61) }
+/// Whether a command code is one of the queued commands, READ and WRITE FPDMA QUEUED.
+pub fn is_queued(command: u8) -> bool
+    ensures { result ≡ is_queued command }
 {
     command == 0x60 || command == 0x61
+}
+
+/// The tag of a queued command: bits 7 to 3 of Count.
+pub fn tag_of(h: &RegH2d) -> Tag
+    ensures { result ≡ tag_of h.now }
+{
+    Tag::low_bits((h.count >> 3 & 0x1f) as u8)
 }
 
 /// The command that a FIS carries, with its tag where it is queued. The errors come in this order:
@@ -42,6 +50,7 @@ pub fn of_fis(h: &RegH2d) -> Result<(Command, Option<Tag>), CommandError>
     ensures found { IfOk result (λ r. Carries h.now r.0 r.1) }
     ensures only { (c : Command) (t : Option ℕ) → Carries h.now c t → result ≡ Ok (c, t) }
     ensures some { IfOk result (λ r. 0 < count_of r.0) }
+    ensures most { IfOk result (λ r. count_of r.0 ≤ 65536) }
     ensures fault { MatchResult result (λ _. fault_of h.now ≡ None) (λ e. fault_of h.now ≡ Some e) }
 {
     if !h.is_command {
@@ -55,7 +64,7 @@ pub fn of_fis(h: &RegH2d) -> Result<(Command, Option<Tag>), CommandError>
     }
     let lba = h.lba.number();
     let count = sectors(h.feature);
-    let tag = Some(Tag::low_bits((h.count >> 3 & 0x1f) as u8));
+    let tag = Some(tag_of(h));
     match h.command {
         0x60 => Ok((Command::ReadQueued { lba, count }, tag)),
         0x61 => Ok((Command::WriteQueued { lba, count }, tag)),

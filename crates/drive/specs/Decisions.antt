@@ -1,0 +1,104 @@
+-- What the drive does with a command, by what is held and whether the queue has failed (ACS-3, NCQ feature set).
+-- The order of the rules stands here once. What the past says, and what a drive keeps, come as arguments.
+use Rattle.std.specs.Prelude.{ℕ, zero, suc, ◌+◌, Bool, true, false, not, ◌&&◌, ◌||◌, ◌==◌, ◌<◌, ◌≤◌, nat_lt, List, [], ◌∷◌, slice_index, slice_index_or, slice_set, replicate, is_some, Option, Some, None, Result, Ok, Err, if◌then◌else◌}
+use Rattle.fis.specs.H2d.{h2d_at}
+use Rattle.fis.specs.declared.h2d.RegH2d.{RegH2d}
+use Rattle.locking.specs.Range.{RangeRows}
+use Rattle.locking.specs.Verdict.{verdict_of}
+use Rattle.locking.specs.declared.range.Op.{Op}
+use Rattle.locking.specs.declared.range.Op.TheVariants.{Read, Write}
+use Rattle.locking.specs.declared.audit.Why.{Why}
+use Rattle.locking.specs.declared.ranges.Verdict.{Verdict}
+use Rattle.locking.specs.declared.ranges.Verdict.TheVariants.{Serve, Denied}
+use Rattle.trusted_cmds.specs.declared.command.Command.{Command}
+use Rattle.trusted_cmds.specs.declared.command.Command.TheVariants.{ReadQueued, WriteQueued}
+use Rattle.trusted_cmds.specs.declared.command.CommandError.{CommandError}
+use Rattle.trusted_cmds.specs.declared.command.CommandError.TheVariants.{Unknown, NotCommand, Device}
+use Rattle.trusted_cmds.specs.Commands.{reading, tag_of, is_queued, lba_of, count_of}
+use Rattle.drive.specs.declared.failure.Failure.{Failure}
+use Rattle.drive.specs.declared.decision.Decision.{Decision}
+use Rattle.drive.specs.declared.decision.Decision.TheVariants.{Refused, Fails, Holds}
+
+-- What log page 10h will tell of the command that failed the queue: its tag where it is queued, the error, and fields of its FIS.
+abbrev pub failure_of : Option ℕ → ℕ → RegH2d → Failure
+failure_of tag error h = record { tag = tag; error = error; lba = h.lba; device = h.device; count = h.count }
+
+-- The queue fails, by no range.
+abbrev pub aborts : Option ℕ → RegH2d → Decision
+aborts tag h = Fails (failure_of tag 0x04 h) None
+
+abbrev pub by_verdict : RegH2d → ℕ → Command → Verdict → Decision
+by_verdict h tag command Serve = Holds tag command
+by_verdict h tag command (Denied why) = Fails (failure_of (Some tag) 0x04 h) (Some why)
+
+-- The addresses come before the policy.
+abbrev pub placed : ℕ → RangeRows → RegH2d → ℕ → Command → Op → ℕ → ℕ → Decision
+placed sectors rows h tag command op lba count =
+    if nat_lt sectors (lba + count) then Fails (failure_of (Some tag) 0x10 h) None
+    else by_verdict h tag command (verdict_of rows op lba count)
+
+-- A queued transfer: a tag that is held fails the queue.
+abbrev pub admitted : ℕ → RangeRows → Bool → RegH2d → ℕ → Command → Decision
+admitted sectors rows true h tag command = aborts (Some tag) h
+admitted sectors rows false h tag (ReadQueued lba count) = placed sectors rows h tag (ReadQueued lba count) Read lba count
+admitted sectors rows false h tag (WriteQueued lba count) = placed sectors rows h tag (WriteQueued lba count) Write lba count
+
+-- A command that the mixing of queues does not refuse.
+abbrev pub known : ℕ → RangeRows → (ℕ → Bool) → RegH2d → Result (Command × Option ℕ) CommandError → Decision
+known sectors rows is_held h (Err NotCommand) = Refused
+known sectors rows is_held h (Err Unknown) = Refused
+known sectors rows is_held h (Err Device) = aborts (Some (tag_of h)) h
+known sectors rows is_held h (Ok (command, Some tag)) = admitted sectors rows (is_held tag) h tag command
+known sectors rows is_held h (Ok (command, None)) = Refused
+
+-- No command, and any command while the queue has failed, change nothing. One that is not queued, beside a held one, fails the queue.
+abbrev pub judged : ℕ → RangeRows → Bool → Bool → (ℕ → Bool) → RegH2d → Decision
+judged sectors rows failed busy is_held h =
+    if not h.is_command || failed then Refused
+    else (if busy && not (is_queued h.command) then aborts None h else known sectors rows is_held h (reading h))
+
+abbrev pub decision : ℕ → RangeRows → Bool → Bool → (ℕ → Bool) → List ℕ → Decision
+decision sectors rows failed busy is_held fis =
+    if not (slice_index fis 0 == 0x27) then Refused else judged sectors rows failed busy is_held (h2d_at fis)
+
+-- Some number below n passes.
+unfoldable pub any_below : (ℕ → Bool) → ℕ → Bool
+any_below p zero = false
+any_below p (suc n) = p n || any_below p n
+
+-- The command in a slot.
+abbrev pub held_at : List (Option Command) → ℕ → Option Command
+held_at held tag = slice_index_or held tag None
+
+abbrev pub is_held_at : List (Option Command) → ℕ → Bool
+is_held_at held tag = is_some (held_at held tag)
+
+-- The sectors of the command are on the drive.
+abbrev pub FitsDrive : ℕ → Option Command → Type 0
+FitsDrive sectors None = Unit {0}
+FitsDrive sectors (Some command) = (lba_of command + count_of command ≤ sectors) × (count_of command ≤ 65536)
+
+abbrev pub AllFit : ℕ → List (Option Command) → Type 0
+AllFit sectors held = (tag : ℕ) → FitsDrive sectors (held_at held tag)
+
+-- A decision to hold names one of the slots.
+abbrev pub NamesSlot : ℕ → Decision → Type 0
+NamesSlot sectors Refused = Unit {0}
+NamesSlot sectors (Fails failure denied) = Unit {0}
+NamesSlot sectors (Holds tag command) = (tag < 32) × FitsDrive sectors (Some command)
+
+-- No slot holds a command.
+unfoldable pub none_held : List (Option Command)
+none_held = replicate 32 None
+
+-- The slots after a decision.
+abbrev pub held_then : Decision → List (Option Command) → List (Option Command)
+held_then Refused held = held
+held_then (Fails failure denied) held = none_held
+held_then (Holds tag command) held = slice_set held tag (Some command)
+
+-- How the queue has failed after it.
+abbrev pub failed_then : Decision → Option Failure → Option Failure
+failed_then Refused before = before
+failed_then (Fails failure denied) before = Some failure
+failed_then (Holds tag command) before = before

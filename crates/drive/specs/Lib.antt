@@ -1,0 +1,10 @@
+pub mod Opening
+pub mod Decisions
+pub mod Media
+pub mod Completions
+pub mod Events
+pub mod History
+pub mod State
+pub mod Extents
+pub mod Answers
+pub mod TransferLaws

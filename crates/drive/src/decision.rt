@@ -1,0 +1,109 @@
+ghost use Rattle.std.specs.Prelude.{◌≡◌, ◌<◌, ◌≤◌, ◌^◌};
+ghost use Rattle.fis.specs.declared.h2d.RegH2d.{RegH2d};
+ghost use Rattle.trusted_cmds.specs.Commands.{count_of};
+ghost use Rattle.drive.specs.Decisions.{aborts, admitted, any_below, is_held_at, decision, NamesSlot};
+
+use crate::failure::Failure;
+use crate::queue::is_busy;
+use fis::{RegH2d, Tag};
+use locking::{Op, Ranges, Verdict, Why};
+use trusted_cmds::{Command, CommandError, is_queued, of_fis, tag_of};
+
+/// The error of a command that is aborted or denied (ACS-3, ABRT).
+const ABORTED: u8 = 0x04;
+
+/// The error of a command whose sectors are not all on the drive (ACS-3, IDNF).
+const NOT_FOUND: u8 = 0x10;
+
+/// What the drive does with a command.
+#[derive(Clone, Copy, Debug, PartialEq, Eq)]
+pub enum Decision {
+    /// Aborted, and nothing changes.
+    Refused,
+    /// Failed, and the queue with it.
+    Fails { failure: Failure, denied: Option<Why> },
+    /// Held until it is completed.
+    Holds { tag: Tag, command: Command },
+}
+
+/// The queue fails with an aborted command, by no range.
+fn aborts(tag: Option<Tag>, h: &RegH2d) -> Decision
+    ensures { result ≡ aborts tag h.now }
+{
+    Decision::Fails {
+        failure: Failure::of(tag, ABORTED, h),
+        denied: None,
+    }
+}
+
+/// A command whose FIS has no fault: its tag, its addresses, and then what its ranges permit.
+fn admit(
+    sectors: u64,
+    ranges: &Ranges,
+    is_held: bool,
+    h: &RegH2d,
+    tag: Tag,
+    command: Command,
+) -> Decision
+    requires small { sectors ≤ 2 ^ 48 }
+    requires some { 0 < count_of command }
+    requires most { count_of command ≤ 65536 }
+    requires slot { tag < 32 }
+    ensures slot { NamesSlot sectors result }
+    ensures value { result ≡ admitted sectors ranges.now is_held h.now tag command }
+{
+    if is_held {
+        return aborts(Some(tag), h);
+    }
+    let (op, lba, count) = match command {
+        Command::ReadQueued { lba, count } => (Op::Read, lba, count),
+        Command::WriteQueued { lba, count } => (Op::Write, lba, count),
+    };
+    if lba > sectors || u64::from(count) > sectors - lba {
+        return Decision::Fails {
+            failure: Failure::of(Some(tag), NOT_FOUND, h),
+            denied: None,
+        };
+    }
+    match ranges.verdict(op, lba, count) {
+        Verdict::Serve => Decision::Holds { tag, command },
+        Verdict::Denied(why) => Decision::Fails {
+            failure: Failure::of(Some(tag), ABORTED, h),
+            denied: Some(why),
+        },
+    }
+}
+
+/// What the drive does with the FIS of a command, by its ranges, its failure and what it holds.
+pub(crate) fn decide(
+    sectors: u64,
+    ranges: &Ranges,
+    failed: bool,
+    held: &[Option<Command>; 32],
+    fis: &[u8; 20],
+) -> Decision
+    requires { sectors ≤ 2 ^ 48 }
+    ensures slot { NamesSlot sectors result }
+    ensures value { result ≡ decision sectors ranges.now failed (any_below (is_held_at held.now) 32) (is_held_at held.now) fis.now }
+{
+    if fis[0] != 0x27 {
+        return Decision::Refused;
+    }
+    let h = RegH2d::read(fis);
+    if !h.is_command || failed {
+        return Decision::Refused;
+    }
+    if is_busy(held) && !is_queued(h.command) {
+        return aborts(None, &h);
+    }
+    match of_fis(&h) {
+        Err(CommandError::NotCommand) => Decision::Refused,
+        Err(CommandError::Unknown) => Decision::Refused,
+        Err(CommandError::Device) => aborts(Some(tag_of(&h)), &h),
+        Ok((_, None)) => Decision::Refused,
+        Ok((command, Some(tag))) => {
+            let is_held = held[usize::from(tag.number())].is_some();
+            admit(sectors, ranges, is_held, &h, tag, command)
+        }
+    }
+}

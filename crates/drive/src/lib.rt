@@ -1,0 +1,22 @@
+//! A self-locking drive: a queue of commands over locking ranges (ACS-3, NCQ feature set; TCG Opal
+//! SSC 2.01).
+#![tactic(auto)]
+
+mod answer;
+mod decision;
+mod drive;
+mod failure;
+mod laws;
+mod media;
+mod opening;
+mod queue;
+mod written;
+
+pub use answer::{Accepted, Completed};
+pub use drive::{Drive, DriveError};
+pub use failure::Failure;
+pub use laws::laws_of_transfers;
+pub use locking::{DriveConfig, RangeRow, SetError, Why};
+
+#[cfg(test)]
+mod tests;
