@@ -1,0 +1,139 @@
+//! A whole script, from a reader to a writer.
+
+ghost use Rattle.std.specs.Prelude.{◌≡◌, ◌≤◌, [], OnOk, IfOk};
+ghost use Rattle.std.specs.Io.KnownBytes.{Appends};
+
+use crate::options::Options;
+use crate::session::{Fault, Session, Turn};
+use std::alloc::{AllocError, Global};
+use std::io;
+use std::io::{BufRead, BufReader, ErrorKind, Read, Write};
+use thiserror::Error;
+
+/// Why a script could not be run to its end.
+#[derive(Clone, Copy, Debug, PartialEq, Eq, Error)]
+pub enum RunError {
+    #[error("Memory")]
+    Memory,
+    #[error("Read")]
+    Read,
+    #[error("Write")]
+    Write,
+    #[error("ReadLimit")]
+    ReadLimit,
+}
+
+impl From<AllocError> for RunError {
+    fn from(_error: AllocError) -> RunError {
+        RunError::Memory
+    }
+}
+
+fn reading(error: io::Error) -> RunError {
+    if error.kind() == ErrorKind::OutOfMemory {
+        RunError::Memory
+    } else {
+        RunError::Read
+    }
+}
+
+/// How a script ended.
+#[derive(Clone, Copy, Debug, PartialEq, Eq)]
+enum End {
+    Done,
+    ExpectationFailed,
+    Bad { line: u64, fault: Fault },
+}
+
+/// The most lines that are read.
+const READ_LIMIT: u64 = 4_294_967_296;
+
+/// A line without its line feed, and without one carriage return before it.
+fn without_end(line: &[u8]) -> &[u8] {
+    let line = line.strip_suffix(b"\n").unwrap_or(line);
+    line.strip_suffix(b"\r").unwrap_or(line)
+}
+
+/// Writes what is printed so far.
+fn hand_on<W: Write>(session: &mut Session, output: &mut W) -> Result<(), RunError>
+    ensures written { OnOk result (Appends (W.contents output.old) (W.contents output.new) session.old.report.pending.items) }
+    ensures cleared { OnOk result (session.new.report.pending.items ≡ []) }
+{
+    if session.report.pending.is_empty() {
+        return Ok(());
+    }
+    output
+        .write_all(&session.report.pending)
+        .map_err(|_| RunError::Write)?;
+    output.flush().map_err(|_| RunError::Write)?;
+    session.report.pending.clear();
+    Ok(())
+}
+
+fn run_lines<R: Read + Drop, W: Write>(
+    reader: &mut BufReader<R>,
+    session: &mut Session,
+    output: &mut W,
+    line: &mut Vec<u8>,
+) -> Result<End, RunError> {
+    for number in 0..READ_LIMIT {
+        if !reader.buffer().contains(&b'\n') {
+            hand_on(session, output)?;
+        }
+        line.clear();
+        if reader.read_until(b'\n', line).map_err(reading)? == 0 {
+            return Ok(End::Done);
+        }
+        match session.turn(without_end(line))? {
+            Turn::Goes => {}
+            Turn::ExpectationFailed => return Ok(End::ExpectationFailed),
+            Turn::Bad(fault) => {
+                return Ok(End::Bad {
+                    line: number + 1,
+                    fault,
+                });
+            }
+        }
+    }
+    Err(RunError::ReadLimit)
+}
+
+/// Runs the script that a reader gives, writes what it prints to `output` and the fault that ended
+/// it to `faults`, and gives its status: 0 done, 1 an expectation failed, 2 a bad line or a refused
+/// range row.
+pub fn run_script_with_faults<R: Read + Drop, W: Write, E: Write>(
+    alloc: Global,
+    input: R,
+    output: &mut W,
+    faults: &mut E,
+    options: &Options,
+) -> Result<u8, RunError>
+    ensures { IfOk result (λ status. status ≤ 2) }
+{
+    let mut reader = BufReader::with_capacity(alloc, 65_536, input).map_err(reading)?;
+    let mut session = Session::new(alloc, options)?;
+    let mut line = Vec::new(alloc);
+    let end = run_lines(&mut reader, &mut session, output, &mut line);
+    hand_on(&mut session, output)?;
+    match end? {
+        End::Done => Ok(0),
+        End::ExpectationFailed => Ok(1),
+        End::Bad { line, fault } => {
+            writeln!(faults, "line {line}: {fault}").map_err(|_| RunError::Write)?;
+            Ok(2)
+        }
+    }
+}
+
+/// Runs the script that a reader gives, as `run_script_with_faults` does, and drops the text of the
+/// fault.
+pub fn run_script<R: Read + Drop, W: Write>(
+    alloc: Global,
+    input: R,
+    output: &mut W,
+    options: &Options,
+) -> Result<u8, RunError>
+    ensures { IfOk result (λ status. status ≤ 2) }
+{
+    run_script_with_faults(alloc, input, output, &mut io::sink(), options)
+}
