@@ -1,5 +1,5 @@
 -- Each act keeps the drive as the list of acts leaves it.
-use Rattle.std.proofs.Common.{◌≡◌, ℕ, zero, suc, ◌+◌, ◌-◌, ◌*◌, ◌≤◌, ◌<◌, Bool, true, false, List, [], ◌∷◌, ◌++◌, reverse, length, is_some, slice_index, slice_set, not, ◌&&◌, ◌||◌, nat_le, nat_lt, take, drop, Result, Ok, Err, ◌==◌, if◌then◌else◌, Option, Some, None, refl, sym, subst, ap, ◌∙◌, arith, inl, inr, eq-eqb}
+use Rattle.std.proofs.Common.{◌≡◌, ℕ, zero, suc, ◌+◌, ◌-◌, ◌*◌, ◌/◌, ◌≤◌, ◌<◌, Bool, true, false, List, [], ◌∷◌, ◌++◌, reverse, length, is_some, slice_index, slice_set, not, ◌&&◌, ◌||◌, nat_le, nat_lt, take, drop, Result, Ok, Err, ◌==◌, if◌then◌else◌, Option, Some, None, refl, sym, subst, ap, ◌∙◌, arith, inl, inr, eq-eqb}
 use Rattle.std.specs.Prelude.{unwrap_or}
 use Rattle.std.proofs.lemmas.Bool.{cases_eq, ne_eqb}
 use Rattle.std.proofs.Math.ListN.{length-set}
@@ -16,7 +16,8 @@ use Rattle.trusted_cmds.specs.Commands.{reading, tag_of, is_queued}
 use Rattle.trusted_cmds.specs.declared.command.Command.{Command}
 use Rattle.trusted_cmds.specs.declared.command.Command.TheVariants.{ReadQueued, WriteQueued}
 use Rattle.drive.specs.Opening.{Opening}
-use Rattle.drive.specs.Media.{zeros, sector_at, bytes_from, overwritten}
+use Rattle.shadow_mbr.specs.Stored.{Stored, zeros, sector_at, sectors_from}
+
 use Rattle.drive.specs.Completions.{data_of, sector_then}
 use Rattle.drive.specs.declared.failure.Failure.{Failure}
 use Rattle.drive.specs.declared.decision.Decision.{Decision}
@@ -91,13 +92,14 @@ accept_in_order d o acts fis payload sectors small h =
 pub accept_answers : (d : State) (o : Opening) (acts : List Act) (fis payload : List ℕ) (answer : Accepted) → Agrees d o acts → IsAnswer (event_of (decision_on d fis)) answer → IsAnswer (event o (log o acts) (Accept fis payload)) answer
 accept_answers d o acts fis payload answer h a = rw (← same_decision d o (log o acts) fis h) a
 
-bytes_from-agree : (f g : ℕ → List ℕ) (first n : ℕ) → ((s : ℕ) → f s ≡ g s) → bytes_from f first n ≡ bytes_from g first n
-bytes_from-agree f g first zero same = refl
-bytes_from-agree f g first (suc n) same = rw (same first, bytes_from-agree f g (suc first) n same) refl
+sectors_from-agree : (f g : ℕ → List ℕ) (first n : ℕ) → ((s : ℕ) → f s ≡ g s) → sectors_from f first n ≡ sectors_from g first n
+unfolding sectors_from
+sectors_from-agree f g first zero same = refl
+sectors_from-agree f g first (suc n) same = rw (same first, sectors_from-agree f g (first + 1) n same) refl
 
 data_of-agree : (f g : ℕ → List ℕ) (command : Option Command) → ((s : ℕ) → f s ≡ g s) → data_of f command ≡ data_of g command
 data_of-agree f g None same = refl
-data_of-agree f g (Some (ReadQueued lba count)) same = bytes_from-agree f g lba count same
+data_of-agree f g (Some (ReadQueued lba count)) same = sectors_from-agree f g lba count same
 data_of-agree f g (Some (WriteQueued lba count)) same = refl
 
 pub complete_answers : (d : State) (o : Opening) (acts : List Act) (tag : ℕ) (done : Completed) → Agrees d o acts → IsCompletion (sector_at d.media) tag (held_at d.held tag) done → IsCompletion (sector (log o acts)) tag (held (log o acts) tag) done
@@ -133,7 +135,7 @@ sector_moved : (command : Option Command) (payload : List ℕ) (tag : ℕ) (past
 sector_moved None payload tag past place = refl
 sector_moved (Some (ReadQueued lba count)) payload tag past place = refl
 sector_moved (Some (WriteQueued lba count)) payload tag past place =
-    sector_here (nat_le lba place && nat_lt place (lba + count)) (take 512 (drop (512 * (place - lba)) payload)) (sector past place) (latest (writing place) past) refl
+    sector_here (nat_le lba place && nat_lt place (lba + length payload / 512)) (take 512 (drop (512 * (place - lba)) payload)) (sector past place) (latest (writing place) past) refl
 
 pub complete_agrees : (old new : State) (o : Opening) (acts : List Act) (tag : ℕ) (payload : List ℕ) → tag < 32 → IsMoved old new tag payload → Agrees old o acts → Agrees new o (Complete tag payload ∷ acts)
 complete_agrees old new o acts tag payload small m h =
@@ -159,7 +161,7 @@ pub complete_in_order : (old new : State) (o : Opening) (acts : List Act) (tag :
 complete_in_order old new o acts tag payload small m h =
     subst (λ (past : List Act). Agrees new o past) (sym (reverse-append acts (Complete tag payload ∷ []))) (complete_agrees old new o (reverse acts) tag payload small m h)
 
-pub new_agrees : (o : Opening) (d : State) → d ≡ (record { opening = o; held = none_held; failure = None; media = [] }) → Agrees d o []
-new_agrees o d e =
-    let fresh : Agrees (record { opening = o; held = none_held; failure = None; media = [] }) o [] = record { opening = refl; slots = none_length; held_commands = no_slot; failed_queue = refl; sectors = λ s. refl } in
+pub new_agrees : (o : Opening) (d : State) (media : Stored) → d ≡ (record { opening = o; held = none_held; failure = None; media = media }) → ((place : ℕ) → sector_at media place ≡ zeros) → Agrees d o []
+new_agrees o d media e blank =
+    let fresh : Agrees (record { opening = o; held = none_held; failure = None; media = media }) o [] = record { opening = refl; slots = none_length; held_commands = no_slot; failed_queue = refl; sectors = blank } in
     subst (λ (x : State). Agrees x o []) (sym e) fresh

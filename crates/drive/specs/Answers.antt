@@ -19,7 +19,7 @@ abbrev pub holds : Deed → Bool
 holds Nothing = false
 holds (OfQueue (Held tag command)) = true
 holds (OfQueue (CompletedRead tag)) = false
-holds (OfQueue (CompletedWrite tag lba count bytes)) = false
+holds (OfQueue (CompletedWrite tag lba bytes)) = false
 holds (OfQueue (QueueFailed failure)) = false
 
 -- A register FIS with bit I, the status and the error; its other fields are 0.

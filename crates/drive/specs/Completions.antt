@@ -2,7 +2,7 @@
 use Rattle.std.specs.Prelude.{ℕ, ◌*◌, Bool, true, false, List, [], Option, Some, None}
 use Rattle.trusted_cmds.specs.declared.command.Command.{Command}
 use Rattle.trusted_cmds.specs.declared.command.Command.TheVariants.{ReadQueued, WriteQueued}
-use Rattle.drive.specs.Media.{bytes_from, overwritten}
+use Rattle.shadow_mbr.specs.Stored.{sectors_from, sector_after}
 
 abbrev pub is_read : Command → Bool
 is_read (ReadQueued lba count) = true
@@ -17,11 +17,11 @@ expected (Some (WriteQueued lba count)) = 512 * count
 -- The bytes that a completion gives: the sectors of a read, as they are then.
 abbrev pub data_of : (ℕ → List ℕ) → Option Command → List ℕ
 data_of at None = []
-data_of at (Some (ReadQueued lba count)) = bytes_from at lba count
+data_of at (Some (ReadQueued lba count)) = sectors_from at lba count
 data_of at (Some (WriteQueued lba count)) = []
 
 -- A sector after a completion.
 abbrev pub sector_then : Option Command → List ℕ → List ℕ → ℕ → List ℕ
 sector_then None payload before sector = before
 sector_then (Some (ReadQueued lba count)) payload before sector = before
-sector_then (Some (WriteQueued lba count)) payload before sector = overwritten lba count payload before sector
+sector_then (Some (WriteQueued lba count)) payload before sector = sector_after lba payload before sector

@@ -10,7 +10,7 @@ use Rattle.drive.specs.declared.decision.Decision.TheVariants.{Refused, Fails, H
 pub data QueueDeed : Type 0 where
   Held : (tag : ℕ) (command : Command) → QueueDeed
   Completed : (tag : ℕ) → QueueDeed
-  CompletedWrite : (tag lba count : ℕ) (bytes : List ℕ) → QueueDeed
+  CompletedWrite : (tag lba : ℕ) (bytes : List ℕ) → QueueDeed
   QueueFailed : (failure : Failure) → QueueDeed
 
 -- What an act did, by the part of the drive that it did it to.

@@ -1,5 +1,5 @@
 -- What a drive owes after a list of acts, by looking back over the list. The newest act comes first, so "before" is the tail.
-use Rattle.std.specs.Prelude.{ℕ, ◌+◌, ◌-◌, ◌*◌, Bool, true, false, ◌==◌, ◌&&◌, nat_le, nat_lt, List, [], ◌∷◌, take, drop, is_some, unwrap_or, Option, Some, None, if◌then◌else◌}
+use Rattle.std.specs.Prelude.{ℕ, ◌+◌, ◌-◌, ◌*◌, ◌/◌, length, Bool, true, false, ◌==◌, ◌&&◌, nat_le, nat_lt, List, [], ◌∷◌, take, drop, is_some, unwrap_or, Option, Some, None, if◌then◌else◌}
 use Rattle.locking.specs.LookUp.{LookUp}
 use Rattle.locking.specs.Table.{look_up_in}
 use Rattle.locking.specs.Ranges.{ranges_in}
@@ -9,7 +9,7 @@ use Rattle.drive.specs.declared.failure.Failure.{Failure}
 use Rattle.drive.specs.declared.decision.Decision.{Decision}
 use Rattle.drive.specs.Opening.{Opening}
 use Rattle.drive.specs.Decisions.{any_below, decision}
-use Rattle.drive.specs.Media.{zeros}
+use Rattle.shadow_mbr.specs.Stored.{zeros}
 use Rattle.drive.specs.Events.{Event, Deed, Nothing, OfQueue, QueueDeed, Held, Completed, CompletedWrite, QueueFailed, event_of, did, latest}
 
 -- A call that was not refused.
@@ -26,7 +26,7 @@ abbrev pub holding : ℕ → Deed → Option (Option Command)
 holding tag Nothing = None
 holding tag (OfQueue (Held held command)) = if held == tag then Some (Some command) else None
 holding tag (OfQueue (Completed done)) = if done == tag then Some None else None
-holding tag (OfQueue (CompletedWrite done lba count bytes)) = if done == tag then Some None else None
+holding tag (OfQueue (CompletedWrite done lba bytes)) = if done == tag then Some None else None
 holding tag (OfQueue (QueueFailed failure)) = Some None
 
 abbrev pub held : List Event → ℕ → Option Command
@@ -40,7 +40,7 @@ abbrev pub failing : Deed → Option (Option Failure)
 failing (OfQueue (QueueFailed failure)) = Some (Some failure)
 failing (OfQueue (Held tag command)) = None
 failing (OfQueue (Completed tag)) = None
-failing (OfQueue (CompletedWrite tag lba count bytes)) = None
+failing (OfQueue (CompletedWrite tag lba bytes)) = None
 failing Nothing = None
 
 abbrev pub failure : List Event → Option Failure
@@ -48,8 +48,8 @@ failure past = unwrap_or (latest failing past) None
 
 -- Media: a sector holds what the latest act that moved data over it wrote there, else zeros.
 abbrev pub writing : ℕ → Deed → Option (List ℕ)
-writing sector (OfQueue (CompletedWrite tag lba count bytes)) =
-    if nat_le lba sector && nat_lt sector (lba + count) then Some (take 512 (drop (512 * (sector - lba)) bytes)) else None
+writing sector (OfQueue (CompletedWrite tag lba bytes)) =
+    if nat_le lba sector && nat_lt sector (lba + length bytes / 512) then Some (take 512 (drop (512 * (sector - lba)) bytes)) else None
 writing sector (OfQueue (Held tag command)) = None
 writing sector (OfQueue (Completed tag)) = None
 writing sector (OfQueue (QueueFailed failure)) = None
@@ -67,7 +67,7 @@ decision_after o past fis =
 abbrev pub completed : ℕ → List ℕ → Option Command → Event
 completed tag payload None = did Nothing
 completed tag payload (Some (ReadQueued lba count)) = did (OfQueue (Completed tag))
-completed tag payload (Some (WriteQueued lba count)) = did (OfQueue (CompletedWrite tag lba count payload))
+completed tag payload (Some (WriteQueued lba count)) = did (OfQueue (CompletedWrite tag lba payload))
 
 -- What an act does after those events.
 abbrev pub event : Opening → List Event → Act → Event

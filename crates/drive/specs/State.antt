@@ -7,7 +7,7 @@ use Rattle.drive.specs.declared.failure.Failure.{Failure}
 use Rattle.drive.specs.declared.decision.Decision.{Decision}
 use Rattle.drive.specs.Opening.{Opening}
 use Rattle.drive.specs.Decisions.{held_at, is_held_at, any_below, decision, held_then, failed_then}
-use Rattle.drive.specs.Media.{Extent, sector_at}
+use Rattle.shadow_mbr.specs.Stored.{Stored, sector_at}
 use Rattle.drive.specs.Completions.{sector_then}
 use Rattle.drive.specs.Events.{Event}
 use Rattle.drive.specs.History.{Act, log, held, failure, sector}
@@ -17,7 +17,7 @@ pub record State : Type 0 where
   pub opening : Opening
   pub held : List (Option Command)
   pub failure : Option Failure
-  pub media : List Extent
+  pub media : Stored
 
 -- The drive stands as these events leave it, part by part.
 pub record StandsAs (drive : State) (o : Opening) (past : List Event) : Type 0 where
@@ -34,13 +34,6 @@ Agrees drive o acts = StandsAs drive o (log o acts)
 -- The same for a list whose oldest act comes first.
 abbrev pub AgreesInOrder : State → Opening → List Act → Type 0
 AgreesInOrder drive o acts = Agrees drive o (reverse acts)
-
--- A call that was refused leaves the drive as it was: it agrees with the same openings and acts.
-pub record IsUnchanged (old new : State) : Type 0 where
-  pub opening : new.opening ≡ old.opening
-  pub held_commands : new.held ≡ old.held
-  pub failed_queue : new.failure ≡ old.failure
-  pub sectors : (place : ℕ) → sector_at new.media place ≡ sector_at old.media place
 
 -- What the drive does with a FIS, by how it stands.
 abbrev pub decision_on : State → List ℕ → Decision

@@ -1,16 +1,17 @@
 ghost use Rattle.std.specs.Prelude.{◌≡◌, ◌+◌, ◌≤◌, ◌^◌, ℕ, ◌*◌, length, Some, OnOk, OnErr, IfOk, IsOkUnless};
 ghost use Rattle.trusted_cmds.specs.Commands.{lba_of, count_of};
-ghost use Rattle.drive.specs.Media.{sector_at};
+ghost use Rattle.shadow_mbr.specs.Stored.{sector_at};
+ghost use Rattle.shadow_mbr.specs.Stored.{sectors_from};
 ghost use Rattle.drive.specs.Completions.{expected, data_of, sector_then, is_read};
 
 use crate::answer::{Accepted, Completed, completion_fises};
 use crate::decision::{Decision, decide};
 use crate::failure::Failure;
-use crate::media::Media;
 use crate::opening::table_with;
 use crate::queue::{no_commands, settle};
 use fis::Tag;
 use locking::{DriveConfig, RangeRow, RangeTable, Ranges, SetError};
+use shadow_mbr::Media;
 use std::alloc::{AllocError, Global};
 use std::marker::Model;
 use thiserror::Error;
@@ -46,18 +47,31 @@ fn transfer(
     payload: &[u8],
 ) -> Result<Vec<u8>, AllocError>
     requires length { length payload.now ≡ expected (Some command) }
-    requires fits { lba_of command + count_of command ≤ 2 ^ 48 }
+    requires fits { lba_of command + count_of command ≤ media.old.sectors }
+    requires few { count_of command ≤ 65536 }
     ensures data { IfOk result (λ v. v.items ≡ data_of (sector_at media.old) (Some command)) }
+    ensures size { media.new.sectors ≡ media.old.sectors }
     ensures media { OnOk result ((s : ℕ) → sector_at media.new s ≡ sector_then (Some command) payload.now (sector_at media.old s) s) }
-    ensures err { OnErr result ((s : ℕ) → sector_at media.new s ≡ sector_at media.old s) }
+    ensures err { OnErr result (media.new ≡ media.old) }
 {
     match command {
-        Command::ReadQueued { lba, count } => media.read(alloc, lba, count),
-        Command::WriteQueued { lba, count } => {
-            media.write(alloc, lba, count, payload)?;
+        Command::ReadQueued { lba, count } => read(media, alloc, lba, count),
+        Command::WriteQueued { lba, .. } => {
+            media.write(lba, payload)?;
             Ok(Vec::new(alloc))
         }
     }
+}
+
+/// The bytes of so many sectors.
+fn read(media: &Media, alloc: Global, lba: u64, count: u32) -> Result<Vec<u8>, AllocError>
+    requires fits { lba + count ≤ media.now.sectors }
+    requires few { count ≤ 65536 }
+    ensures { IfOk result (λ v. v.items ≡ sectors_from (sector_at media.now) lba count) }
+{
+    let mut bytes = vec![in alloc; 0; 512 * count as usize]?;
+    media.read(lba, &mut bytes);
+    Ok(bytes)
 }
 
 /// The direction of a command's data, and how many bytes it moves.
@@ -94,7 +108,7 @@ impl Model for Drive {
 
     ghost view = { λ a. record { opening = record { config = a.config; cells = a.table }; held = a.held; failure = a.failure; media = a.media } };
 
-    ghost invariant = { λ a. (a.config.sectors ≤ 2 ^ 48) × (a.ranges ≡ ranges_in (look_up_in a.table)) × AllFit a.config.sectors a.held };
+    ghost invariant = { λ a. (a.config.sectors ≤ 2 ^ 48) × (a.ranges ≡ ranges_in (look_up_in a.table)) × (a.media.sectors ≡ a.config.sectors) × AllFit a.config.sectors a.held };
 }
 
 impl Drive {
@@ -103,11 +117,11 @@ impl Drive {
     ghost use Rattle.locking.specs.declared.set_error.SetError.{SetError};
     ghost use Rattle.drive.specs.Opening.{Opening, factory, opened};
     ghost use Rattle.drive.specs.Decisions.{NamesSlot, held_at};
-    ghost use Rattle.drive.specs.Media.{sector_at};
+    ghost use Rattle.shadow_mbr.specs.Stored.{sector_at};
     ghost use Rattle.drive.specs.Completions.{expected, data_of};
     ghost use Rattle.drive.specs.Events.{event_of};
     ghost use Rattle.drive.specs.History.{Act, Accept, Complete, log, event, held, sector};
-    ghost use Rattle.drive.specs.State.{State, Agrees, AgreesInOrder, IsUnchanged, IsMoved, decision_on, decided};
+    ghost use Rattle.drive.specs.State.{State, Agrees, AgreesInOrder, IsMoved, decision_on, decided};
     ghost use Rattle.drive.specs.Answers.{IsAnswer, IsCompletion};
 
     /// A drive as it leaves the factory, on which nothing was done.
@@ -165,7 +179,7 @@ impl Drive {
         ensures agrees { OnOk result ((o : Opening) (acts : List Act) → Agrees self.old o acts → Agrees self.new o (Accept fis.now payload.now ∷ acts)) }
         ensures in_order { OnOk result ((o : Opening) (acts : List Act) → AgreesInOrder self.old o acts → AgreesInOrder self.new o (acts ++ Accept fis.now payload.now ∷ [])) }
         ensures answer { IfOk result (λ accepted. (o : Opening) (acts : List Act) → Agrees self.old o acts → IsAnswer (event o (log o acts) (Accept fis.now payload.now)) accepted) }
-        ensures err { OnErr result (IsUnchanged self.old self.new) }
+        ensures err { OnErr result (self.new ≡ self.old) }
     {
         Ok(self.take(fis))
     }
@@ -215,7 +229,7 @@ impl Drive {
         ensures in_order { OnOk result ((o : Opening) (acts : List Act) → AgreesInOrder self.old o acts → AgreesInOrder self.new o (acts ++ Complete tag payload.now ∷ [])) }
         ensures answer { IfOk result (λ done. (o : Opening) (acts : List Act) → Agrees self.old o acts → IsCompletion (sector (log o acts)) tag (held (log o acts) tag) done) }
         ensures not_held { (o : Opening) (acts : List Act) → Agrees self.old o acts → (IsErrOf result DriveError.NotHeld ↔ (held (log o acts) tag ≡ None)) }
-        ensures err { OnErr result (IsUnchanged self.old self.new) }
+        ensures err { OnErr result (self.new ≡ self.old) }
     {
         self.finish(tag, payload)
     }
@@ -226,7 +240,7 @@ impl Drive {
         ensures state { OnOk result (IsMoved self.old self.new tag payload.now) }
         ensures answer { IfOk result (λ done. IsCompletion (sector_at self.old.media) tag (held_at self.old.held tag) done) }
         ensures not_held { IsErrOf result DriveError.NotHeld ↔ (held_at self.old.held tag ≡ None) }
-        ensures err { OnErr result (IsUnchanged self.old self.new) }
+        ensures err { OnErr result (self.new ≡ self.old) }
     {
         let slot = usize::from(tag.number());
         match self.held[slot] {

@@ -7,10 +7,8 @@ mod decision;
 mod drive;
 mod failure;
 mod laws;
-mod media;
 mod opening;
 mod queue;
-mod written;
 
 pub use answer::{Accepted, Completed};
 pub use drive::{Drive, DriveError};

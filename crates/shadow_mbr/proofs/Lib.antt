@@ -1,0 +1,5 @@
+pub mod Zeros
+pub mod Pieces
+pub mod Writes
+pub mod Same
+pub mod Whole

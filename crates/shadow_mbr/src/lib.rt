@@ -1,0 +1,16 @@
+//! The media of a drive and the bytes of its shadow MBR, kept by the sectors that were written.
+//!
+//! Each byte is the last one that was written there since `new` or `wipe`, else zero. A sector
+//! that was never written takes no memory.
+#![tactic(auto)]
+
+mod mbr;
+mod media;
+mod sectors;
+
+pub use mbr::Mbr;
+pub use media::Media;
+pub use sectors::Block;
+
+#[cfg(test)]
+mod tests;

@@ -1,0 +1,89 @@
+use crate::sectors::{Block, Sectors};
+use std::alloc::{AllocError, Global};
+use std::marker::Model;
+
+/// The sectors of a drive, of 512 bytes each (ACS-3, 4.1), zeros where nothing was written.
+#[derive(Drop)]
+pub struct Media {
+    held: Sectors,
+}
+
+impl Model for Media {
+    ghost use Rattle.shadow_mbr.specs.Stored.{Stored, IsSound};
+
+    ghost Value = { Stored };
+
+    ghost view = { λ a. a.held };
+
+    ghost invariant = { λ a. IsSound a.held };
+}
+
+impl Media {
+    ghost use Rattle.std.specs.Prelude.{◌≡◌, ◌+◌, ◌*◌, ◌/◌, ◌%◌, ◌≤◌, ◌<◌, ◌^◌, ℕ, length, OnOk, OnErr, [], slice_index, slice_range};
+    ghost use Rattle.shadow_mbr.specs.Stored.{zeros, sector_at, byte_at, byte_after, sector_after, sectors_from};
+
+    /// So many sectors of zeros.
+    #[tactic(auto, using(crate::proofs::Zeros::blank_byte))]
+    pub fn new(alloc: Global, sectors: u64) -> Media
+        requires { sectors ≤ 2 ^ 48 }
+        ensures exact { result ≡ record { sectors = sectors; kept = [] } }
+        ensures blank { (sector : ℕ) → sector_at result sector ≡ zeros }
+        ensures zero { (place : ℕ) → byte_at result place ≡ 0 }
+    {
+        Media {
+            held: Sectors::new(alloc, sectors),
+        }
+    }
+
+    /// How many sectors the media have.
+    pub fn sectors(&self) -> u64
+        ensures { result ≡ self.now.sectors }
+    {
+        self.held.sectors()
+    }
+
+    /// What the sector holds.
+    pub fn sector(&self, sector: u64) -> &Block
+        requires { sector < self.now.sectors }
+        ensures value { result.now ≡ sector_at self.now sector }
+        ensures len { length result.now ≡ 512 }
+    {
+        self.held.sector(sector)
+    }
+
+    /// Fills the buffer with whole sectors from `lba` on.
+    #[tactic(auto, using(crate::proofs::Whole::read_chunks, crate::proofs::Whole::read_exact))]
+    pub fn read(&self, lba: u64, buffer: &mut [u8])
+        requires whole { length buffer.old % 512 ≡ 0 }
+        requires inside { 512 * lba + length buffer.old ≤ 512 * self.now.sectors }
+        ensures bytes { (k : ℕ) → k < length buffer.new → slice_index buffer.new k ≡ byte_at self.now (512 * lba + k) }
+        ensures chunks { (k : ℕ) → 512 * k < length buffer.new → slice_range buffer.new (512 * k) (512 * k + 512) ≡ sector_at self.now (lba + k) }
+        ensures exact { buffer.new ≡ sectors_from (sector_at self.now) lba (length buffer.old / 512) }
+    {
+        self.held.read(512 * lba, buffer);
+    }
+
+    /// Writes whole sectors from `lba` on. Where memory is refused, nothing changes.
+    #[tactic(auto, using(crate::proofs::Whole::write_sectors))]
+    pub fn write(&mut self, lba: u64, bytes: &[u8]) -> Result<(), AllocError>
+        requires whole { length bytes.now % 512 ≡ 0 }
+        requires inside { 512 * lba + length bytes.now ≤ 512 * self.old.sectors }
+        ensures size { self.new.sectors ≡ self.old.sectors }
+        ensures sectors { OnOk result ((sector : ℕ) → sector_at self.new sector ≡ sector_after lba bytes.now (sector_at self.old sector) sector) }
+        ensures bytes { OnOk result ((place : ℕ) → byte_at self.new place ≡ byte_after (512 * lba) bytes.now (byte_at self.old place) place) }
+        ensures err { OnErr result (self.new ≡ self.old) }
+    {
+        self.held.write(512 * lba, bytes)?;
+        Ok(())
+    }
+
+    /// Makes every sector zeros, and gives back the memory.
+    #[tactic(auto, using(crate::proofs::Zeros::blank_byte))]
+    pub fn wipe(&mut self)
+        ensures exact { self.new ≡ record self.old { kept = [] } }
+        ensures blank { (sector : ℕ) → sector_at self.new sector ≡ zeros }
+        ensures zero { (place : ℕ) → byte_at self.new place ≡ 0 }
+    {
+        self.held.clear();
+    }
+}

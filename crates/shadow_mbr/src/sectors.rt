@@ -1,0 +1,289 @@
+ghost use Rattle.std.specs.Prelude.{◌≡◌, ◌+◌, ◌%◌, ◌<◌, ◌≤◌};
+ghost use Rattle.shadow_mbr.specs.Stored.{zeros};
+
+use std::alloc::{AllocError, Global};
+use std::collections::BTreeMap;
+use std::marker::Model;
+
+/// The bytes of a sector (ACS-3, 4.1).
+pub(crate) const SECTOR: usize = 512;
+
+/// What a sector holds.
+pub type Block = [u8; 512];
+
+static ZEROS: Block = [0; 512];
+
+/// So many sectors, of which those that were never written are not kept.
+#[derive(Drop)]
+pub(crate) struct Sectors {
+    alloc: Global,
+    sectors: u64,
+    kept: BTreeMap<u64, Block>,
+}
+
+impl Model for Sectors {
+    ghost use Rattle.std.specs.Prelude.{◌≡◌, ℕ, ◌≤◌, ◌^◌, length};
+    ghost use Rattle.shadow_mbr.specs.Stored.{Stored, IsSound};
+
+    ghost Value = { Stored };
+
+    ghost view = { λ a. record { sectors = a.sectors; kept = a.kept.entries } };
+
+    ghost invariant = { λ a. IsSound (record { sectors = a.sectors; kept = a.kept.entries }) };
+}
+
+#[tactic(auto, unfolding(crate::specs::Stored::zeros))]
+fn zeros() -> &'static Block
+    ensures { result.now ≡ zeros }
+{
+    &ZEROS
+}
+
+/// How many of the bytes from a place on are in its sector.
+fn piece_len(place: u64, len: usize) -> usize
+    requires { 0 < len }
+    ensures fits { place % 512 + result ≤ 512 }
+    ensures within { result ≤ len }
+    ensures some { 0 < result }
+{
+    (SECTOR - (place % 512) as usize).min(len)
+}
+
+impl Sectors {
+    ghost use Rattle.std.specs.Prelude.{◌≡◌, ◌+◌, ◌*◌, ◌/◌, ◌%◌, ◌≤◌, ◌<◌, ◌^◌, ◌==◌, ◌++◌, ℕ, length, OnOk, OnErr, IfOk, IsTrue, ◌↔◌, [], true, is_some, slice_index, take, drop, if◌then◌else◌};
+    ghost use Rattle.std.specs.Prelude.{nat_eq, None, Some};
+    ghost use Rattle.std.specs.List.{list_any};
+    ghost use Rattle.shadow_mbr.specs.Stored.{IsSound, AreKept, ListsMissing, zeros, kept_at, sector_at, byte_at, byte_after};
+
+    pub(crate) fn new(alloc: Global, sectors: u64) -> Sectors
+        requires { sectors ≤ 2 ^ 48 }
+        ensures exact { result ≡ record { sectors = sectors; kept = [] } }
+        ensures sound { IsSound result }
+    {
+        Sectors {
+            alloc,
+            sectors,
+            kept: BTreeMap::new(alloc),
+        }
+    }
+
+    pub(crate) fn clear(&mut self)
+        ensures exact { self.new ≡ record self.old { kept = [] } }
+        ensures sound { IsSound self.new }
+    {
+        self.kept.clear();
+    }
+
+    pub(crate) fn sectors(&self) -> u64
+        ensures { result ≡ self.now.sectors }
+    {
+        self.sectors
+    }
+
+    pub(crate) fn sector(&self, sector: u64) -> &Block
+        ensures value { result.now ≡ sector_at self.now sector }
+        ensures sound { IsSound self.now }
+    {
+        match self.kept.get(&sector) {
+            Some(block) => block,
+            None => zeros(),
+        }
+    }
+
+    fn has(&self, sector: u64) -> bool
+        ensures { result ≡ is_some (kept_at self.now sector) }
+    {
+        self.kept.contains_key(&sector)
+    }
+
+    fn put(&mut self, sector: u64, from: usize, bytes: &[u8])
+        requires kept { is_some (kept_at self.old sector) ≡ true }
+        requires fits { from + length bytes.now ≤ 512 }
+        ensures size { self.new.sectors ≡ self.old.sectors }
+        ensures kept { (s : ℕ) → is_some (kept_at self.new s) ≡ is_some (kept_at self.old s) }
+        ensures bytes { (s : ℕ) → sector_at self.new s ≡ (if s == sector then take from (sector_at self.old s) ++ bytes.now ++ drop (from + length bytes.now) (sector_at self.old s) else sector_at self.old s) }
+        ensures sound { IsSound self.new }
+    {
+        if let Some(block) = self.kept.get_mut(&sector) {
+            block[from..from + bytes.len()].copy_from_slice(bytes);
+        }
+    }
+
+    /// Some bytes of one sector, from a place on.
+    #[tactic(auto, using(crate::proofs::Pieces::part_of_sector))]
+    fn part(&self, place: u64, len: usize) -> &[u8]
+        requires { place % 512 + len ≤ 512 }
+        ensures len { length result.now ≡ len }
+        ensures bytes { (i : ℕ) → i < len → slice_index result.now i ≡ byte_at self.now (place + i) }
+    {
+        let block = self.sector(place / 512);
+        let from = (place % 512) as usize;
+        &block[from..from + len]
+    }
+
+    /// The bytes from a place on.
+    pub(crate) fn read(&self, at: u64, buffer: &mut [u8])
+        requires { at + length buffer.old ≤ 512 * self.now.sectors }
+        ensures bytes { (k : ℕ) → k < length buffer.new → slice_index buffer.new k ≡ byte_at self.now (at + k) }
+        ensures sound { IsSound self.now }
+    {
+        let _ = &self.kept;
+        let mut done = 0;
+        while done < buffer.len() {
+            let place = at + done as u64;
+            let len = piece_len(place, buffer.len() - done);
+            buffer[done..done + len].copy_from_slice(self.part(place, len));
+            done += len;
+        }
+    }
+
+    /// Writes some bytes of one sector that is kept, from a place on.
+    fn write_part(&mut self, place: u64, bytes: &[u8])
+        requires fits { place % 512 + length bytes.now ≤ 512 }
+        requires kept { is_some (kept_at self.old (place / 512)) ≡ true }
+        ensures size { self.new.sectors ≡ self.old.sectors }
+        ensures kept { (s : ℕ) → is_some (kept_at self.new s) ≡ is_some (kept_at self.old s) }
+        ensures bytes { (p : ℕ) → byte_at self.new p ≡ byte_after place bytes.now (byte_at self.old p) p }
+        ensures sound { IsSound self.new }
+    {
+        let _ = &self.kept;
+        self.put(place / 512, (place % 512) as usize, bytes);
+    }
+
+    /// Writes bytes from a place on, into sectors that are kept.
+    pub(crate) fn overwrite(&mut self, at: u64, bytes: &[u8])
+        requires inside { at + length bytes.now ≤ 512 * self.old.sectors }
+        requires kept { AreKept self.old at (length bytes.now) }
+        ensures size { self.new.sectors ≡ self.old.sectors }
+        ensures kept { (s : ℕ) → is_some (kept_at self.new s) ≡ is_some (kept_at self.old s) }
+        ensures bytes { (p : ℕ) → byte_at self.new p ≡ byte_after at bytes.now (byte_at self.old p) p }
+        ensures sound { IsSound self.new }
+    {
+        let _ = &self.kept;
+        let mut done = 0;
+        while done < bytes.len() {
+            let place = at + done as u64;
+            let len = piece_len(place, bytes.len() - done);
+            self.write_part(place, &bytes[done..done + len]);
+            done += len;
+        }
+    }
+
+    /// Whether each sector that has one of so many bytes is kept.
+    pub(crate) fn covers(&self, at: u64, len: usize) -> bool
+        requires { at + len ≤ 512 * self.now.sectors }
+        ensures { IsTrue result ↔ AreKept self.now at len }
+    {
+        let _ = &self.kept;
+        let mut done = 0;
+        while done < len {
+            let place = at + done as u64;
+            if !self.has(place / 512) {
+                return false;
+            }
+            done += piece_len(place, len - done);
+        }
+        true
+    }
+
+    /// The sectors that have one of so many bytes and that are not kept.
+    fn missing(&self, at: u64, len: usize) -> Result<Vec<u64>, AllocError>
+        requires { at + len ≤ 512 * self.now.sectors }
+        ensures lists { IfOk result (λ v. ListsMissing self.now at len v.items) }
+        ensures sound { IsSound self.now }
+    {
+        let _ = &self.kept;
+        let mut missing = Vec::new(self.alloc);
+        let mut done = 0;
+        while done < len {
+            let place = at + done as u64;
+            let sector = place / 512;
+            if !self.has(sector) {
+                missing.push(sector)?;
+            }
+            done += piece_len(place, len - done);
+        }
+        Ok(missing)
+    }
+
+    /// Keeps the sector no more.
+    #[tactic(auto, using(crate::proofs::Zeros::length_zeros))]
+    fn remove(&mut self, sector: u64)
+        ensures size { self.new.sectors ≡ self.old.sectors }
+        ensures kept { (s : ℕ) → kept_at self.new s ≡ (if s == sector then None else kept_at self.old s) }
+        ensures sound { IsSound self.old × IsSound self.new }
+    {
+        self.kept.remove(&sector);
+    }
+
+    /// Keeps the sector, as zeros.
+    #[tactic(auto, using(crate::proofs::Zeros::length_zeros))]
+    fn add(&mut self, sector: u64) -> Result<(), AllocError>
+        ensures size { self.new.sectors ≡ self.old.sectors }
+        ensures kept { OnOk result ((s : ℕ) → kept_at self.new s ≡ (if s == sector then Some zeros else kept_at self.old s)) }
+        ensures err { OnErr result (self.new ≡ self.old) }
+        ensures sound { IsSound self.old × IsSound self.new }
+    {
+        self.kept.insert(sector, *zeros())?;
+        Ok(())
+    }
+
+    /// Keeps no sector that is listed.
+    fn remove_all(&mut self, sectors: &[u64])
+        ensures size { self.new.sectors ≡ self.old.sectors }
+        ensures kept { (s : ℕ) → kept_at self.new s ≡ (if list_any (nat_eq s) sectors.now then None else kept_at self.old s) }
+    {
+        for sector in sectors {
+            self.remove(*sector);
+        }
+    }
+
+    /// Keeps the listed sectors too, as zeros.
+    fn add_all(&mut self, sectors: &[u64]) -> Result<(), AllocError>
+        requires { (s : ℕ) → list_any (nat_eq s) sectors.now ≡ true → kept_at self.old s ≡ None }
+        ensures size { self.new.sectors ≡ self.old.sectors }
+        ensures kept { OnOk result ((s : ℕ) → kept_at self.new s ≡ (if list_any (nat_eq s) sectors.now then Some zeros else kept_at self.old s)) }
+        ensures err { OnErr result (self.new ≡ self.old) }
+        ensures sound { IsSound self.new }
+    {
+        let _ = &self.kept;
+        for (i, sector) in sectors.iter().enumerate() {
+            if let Err(refused) = self.add(*sector) {
+                self.remove_all(&sectors[..i]);
+                let _ = &self.kept;
+                return Err(refused);
+            }
+        }
+        Ok(())
+    }
+
+    /// Keeps each sector that has one of so many bytes.
+    fn prepare(&mut self, at: u64, len: usize) -> Result<(), AllocError>
+        requires { at + len ≤ 512 * self.old.sectors }
+        ensures size { self.new.sectors ≡ self.old.sectors }
+        ensures kept { OnOk result (AreKept self.new at len) }
+        ensures stays { (s : ℕ) → is_some (kept_at self.old s) ≡ true → is_some (kept_at self.new s) ≡ true }
+        ensures bytes { (s : ℕ) → sector_at self.new s ≡ sector_at self.old s }
+        ensures err { OnErr result (self.new ≡ self.old) }
+        ensures sound { IsSound self.new }
+    {
+        let missing = self.missing(at, len)?;
+        self.add_all(&missing)?;
+        Ok(())
+    }
+
+    /// Writes bytes from a place on. Where memory is refused, nothing changes.
+    pub(crate) fn write(&mut self, at: u64, bytes: &[u8]) -> Result<(), AllocError>
+        requires { at + length bytes.now ≤ 512 * self.old.sectors }
+        ensures size { self.new.sectors ≡ self.old.sectors }
+        ensures kept { OnOk result (AreKept self.new at (length bytes.now)) }
+        ensures stays { (s : ℕ) → is_some (kept_at self.old s) ≡ true → is_some (kept_at self.new s) ≡ true }
+        ensures bytes { OnOk result ((p : ℕ) → byte_at self.new p ≡ byte_after at bytes.now (byte_at self.old p) p) }
+        ensures err { OnErr result (self.new ≡ self.old) }
+        ensures sound { IsSound self.new }
+    {
+        self.prepare(at, bytes.len())?;
+        self.overwrite(at, bytes);
+        Ok(())
+    }
+}
