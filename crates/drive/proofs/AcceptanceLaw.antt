@@ -18,7 +18,7 @@ use Rattle.trusted_cmds.specs.declared.command.Command.TheVariants.{ReadQueued, 
 use Rattle.drive.specs.declared.decision.Decision.{Decision}
 use Rattle.drive.specs.declared.decision.Decision.TheVariants.{Refused, Fails, Holds}
 use Rattle.drive.specs.Opening.{Opening}
-use Rattle.drive.specs.Decisions.{failure_of, by_verdict, admitted, aborts, known, judged, decision, any_below}
+use Rattle.drive.specs.Decisions.{failure_of, by_verdict, admitted, fails, known, judged, decision, any_below}
 use Rattle.drive.specs.Events.{Event, event_of}
 use Rattle.drive.specs.History.{Act, Accept, log, event, held, is_held, failure, in_force, decision_after}
 use Rattle.drive.specs.TransferLaws.{op_of, IsPermitted, IsAsked, ComesToPolicy, IsJudged, AcceptanceLaw}
@@ -51,10 +51,10 @@ decision-policy o past fis command tag asked comes =
     let busy : Bool = any_below (is_held past) 32 in
     let rows : RangeRows = ranges_in (in_force o past) in
     ap (λ (b : Bool). if not b then Refused else judged o.config.sectors rows (is_some (failure past)) busy (is_held past) h) (eq-eqb (slice_index fis 0) 0x27 asked.kind)
-    ∙ ap (λ (b : Bool). if not b || is_some (failure past) then Refused else (if busy && not (is_queued h.command) then aborts None h else known o.config.sectors rows (is_held past) h (reading h))) fine.0
-    ∙ ap (λ (b : Bool). if b then Refused else (if busy && not (is_queued h.command) then aborts None h else known o.config.sectors rows (is_held past) h (reading h))) (ap is_some comes.mended)
-    ∙ ap (λ (b : Bool). if busy && not b then aborts None h else known o.config.sectors rows (is_held past) h (reading h)) fine.1
-    ∙ ap (λ (b : Bool). if b then aborts None h else known o.config.sectors rows (is_held past) h (reading h)) (and_false busy)
+    ∙ ap (λ (b : Bool). if not b || is_some (failure past) then Refused else (if busy && not (is_queued h.command) then fails None 0x04 h None else known o.config.sectors rows (is_held past) h (reading h))) fine.0
+    ∙ ap (λ (b : Bool). if b then Refused else (if busy && not (is_queued h.command) then fails None 0x04 h None else known o.config.sectors rows (is_held past) h (reading h))) (ap is_some comes.mended)
+    ∙ ap (λ (b : Bool). if busy && not b then fails None 0x04 h None else known o.config.sectors rows (is_held past) h (reading h)) fine.1
+    ∙ ap (λ (b : Bool). if b then fails None 0x04 h None else known o.config.sectors rows (is_held past) h (reading h)) (and_false busy)
     ∙ ap (known o.config.sectors rows (is_held past) h) asked.reads
     ∙ ap (λ (b : Bool). admitted o.config.sectors rows b h tag command) free
     ∙ admitted-free o.config.sectors rows h tag command comes.on_drive

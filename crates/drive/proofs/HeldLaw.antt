@@ -41,9 +41,14 @@ held-completed payload t tag past command e =
 one_later : (o : Opening) (act : Act) (acts : List Act) (command : Command) (tag : ℕ) → WasAccepted o acts command tag → WasAccepted o (act ∷ acts) command tag
 one_later o act acts command tag w =
     record {
-      before = w.before; later = act ∷ w.later; fis = w.fis; payload = w.payload;
+      before = w.before;
+      later = act ∷ w.later;
+      fis = w.fis;
+      payload = w.payload;
       place = ap (λ (rest : List Act). act ∷ rest) w.place;
-      asked = w.asked; on_drive = w.on_drive; permitted = w.permitted;
+      asked = w.asked;
+      on_drive = w.on_drive;
+      permitted = w.permitted;
     }
 
 accepted_here : (o : Opening) (acts : List Act) (fis payload : List ℕ) (command : Command) (tag : ℕ) → decision_after o (log o acts) fis ≡ Holds tag command → WasAccepted o (Accept fis payload ∷ acts) command tag
@@ -51,8 +56,13 @@ accepted_here o acts fis payload command tag e =
     let past = log o acts in
     let k = decision-holds o.config.sectors (ranges_in (in_force o past)) (is_some (failure past)) (any_below (is_held past) 32) (is_held past) fis tag command e in
     record {
-      before = acts; later = []; fis = fis; payload = payload; place = refl;
-      asked = k.asked; on_drive = k.on_drive;
+      before = acts;
+      later = [];
+      fis = fis;
+      payload = payload;
+      place = refl;
+      asked = k.asked;
+      on_drive = k.on_drive;
       permitted = served_is_permitted (ranges_in (in_force o past)) (op_of command) (lba_of command) (count_of command) k.served;
     }
 

@@ -16,7 +16,7 @@ use Rattle.trusted_cmds.specs.declared.command.Command.{Command}
 use Rattle.trusted_cmds.specs.declared.command.Command.TheVariants.{ReadQueued, WriteQueued}
 use Rattle.drive.specs.declared.decision.Decision.{Decision}
 use Rattle.drive.specs.declared.decision.Decision.TheVariants.{Refused, Fails, Holds}
-use Rattle.drive.specs.Decisions.{failure_of, by_verdict, placed, aborts, admitted, known, judged, decision}
+use Rattle.drive.specs.Decisions.{failure_of, by_verdict, placed, fails, admitted, known, judged, decision}
 use Rattle.drive.specs.TransferLaws.{op_of, IsAsked}
 
 -- The command is on the drive, and served.
@@ -84,8 +84,8 @@ pub decision-holds : (sectors : ℕ) (rows : RangeRows) (failed busy : Bool) (p 
 decision-holds sectors rows failed busy p fis tag command e =
     let h : RegH2d = h2d_at fis in
     let one = chosen (not (slice_index fis 0 == 0x27)) Refused (judged sectors rows failed busy p h) tag command (λ x. cc) e in
-    let two = chosen (not h.is_command || failed) Refused (if busy && not (is_queued h.command) then aborts None h else known sectors rows p h (reading h)) tag command (λ x. cc) one.1 in
-    let three = chosen (busy && not (is_queued h.command)) (aborts None h) (known sectors rows p h (reading h)) tag command (λ x. cc) two.1 in
+    let two = chosen (not h.is_command || failed) Refused (if busy && not (is_queued h.command) then fails None 0x04 h None else known sectors rows p h (reading h)) tag command (λ x. cc) one.1 in
+    let three = chosen (busy && not (is_queued h.command)) (fails None 0x04 h None) (known sectors rows p h (reading h)) tag command (λ x. cc) two.1 in
     let read = known-holds sectors rows p h (reading h) tag command three.1 in
     record {
       asked = record { kind = eqb-true (slice_index fis 0) 0x27 (is_command_byte (slice_index fis 0 == 0x27) one.0); reads = read.reads };

@@ -17,14 +17,13 @@ use Rattle.trusted_cmds.specs.declared.command.Command.{Command}
 use Rattle.trusted_cmds.specs.declared.command.Command.TheVariants.{ReadQueued, WriteQueued}
 use Rattle.drive.specs.Opening.{Opening}
 use Rattle.shadow_mbr.specs.Stored.{Stored, zeros, sector_at, sectors_from}
-
 use Rattle.drive.specs.Completions.{data_of, sector_then}
 use Rattle.drive.specs.declared.failure.Failure.{Failure}
 use Rattle.drive.specs.declared.decision.Decision.{Decision}
 use Rattle.drive.specs.declared.decision.Decision.TheVariants.{Refused, Fails, Holds}
 use Rattle.drive.specs.declared.answer.Accepted.{Accepted}
 use Rattle.drive.specs.declared.answer.Completed.{Completed}
-use Rattle.drive.specs.Decisions.{NamesSlot, none_held, aborts, admitted, known, judged, held_at, is_held_at, any_below, decision}
+use Rattle.drive.specs.Decisions.{NamesSlot, none_held, fails, admitted, known, judged, held_at, is_held_at, any_below, decision}
 use Rattle.drive.specs.Events.{Event, Deed, OfQueue, Held, latest, or_else, event_of}
 use Rattle.drive.specs.History.{Act, Accept, Complete, log, event, in_force, holding, held, is_held, failure, writing, sector, completed, decision_after}
 use Rattle.drive.specs.State.{State, StandsAs, Agrees, AgreesInOrder, IsMoved, decision_on, decided}
@@ -42,9 +41,9 @@ known-agree sectors rows p q h (Ok (command, None)) same = refl
 decision-agree : (sectors : ℕ) (rows : RangeRows) (failed busy : Bool) (p q : ℕ → Bool) (fis : List ℕ) → ((t : ℕ) → p t ≡ q t) → decision sectors rows failed busy p fis ≡ decision sectors rows failed busy q fis
 decision-agree sectors rows failed busy p q fis same =
     ap (λ (d : Decision). if not (slice_index fis 0 == 0x27) then Refused
-        else (if not (h2d_at fis).is_command || failed then Refused
-        else (if busy && not (is_queued (h2d_at fis).command) then aborts None (h2d_at fis) else d)))
-      (known-agree sectors rows p q (h2d_at fis) (reading (h2d_at fis)) same)
+    else (if not (h2d_at fis).is_command || failed then Refused
+    else (if busy && not (is_queued (h2d_at fis).command) then fails None 0x04 (h2d_at fis) None else d)))
+    (known-agree sectors rows p q (h2d_at fis) (reading (h2d_at fis)) same)
 
 -- a drive that stands so decides as the history does
 pub same_decision : (d : State) (o : Opening) (past : List Event) (fis : List ℕ) → StandsAs d o past → decision_on d fis ≡ decision_after o past fis
@@ -74,8 +73,8 @@ stands_decided d o past (Holds tag command) sectors small h =
       opening = h.opening;
       slots = length-set d.held tag (Some command) ∙ h.slots;
       held_commands = λ t.
-        slot_set d.held tag t (Some command) (omega (arith, h.slots, small))
-        ∙ held_here tag t (Some command) (held_at d.held t) (latest (holding t) past) (h.held_commands t);
+          slot_set d.held tag t (Some command) (omega (arith, h.slots, small))
+          ∙ held_here tag t (Some command) (held_at d.held t) (latest (holding t) past) (h.held_commands t);
       failed_queue = h.failed_queue;
       sectors = h.sectors;
     }
@@ -145,16 +144,16 @@ complete_agrees old new o acts tag payload small m h =
       opening = m.opening ∙ h.opening;
       slots = ap length m.held_commands ∙ length-set old.held tag None ∙ h.slots;
       held_commands = λ t.
-        ap (λ (l : List (Option Command)). held_at l t) m.held_commands
-        ∙ slot_set old.held tag t None (omega (arith, h.slots, small))
-        ∙ ap (λ (x : Option Command). if tag == t then None else x) (h.held_commands t)
-        ∙ held_moved was payload tag t past (λ e. ap (held past) (sym e));
+          ap (λ (l : List (Option Command)). held_at l t) m.held_commands
+          ∙ slot_set old.held tag t None (omega (arith, h.slots, small))
+          ∙ ap (λ (x : Option Command). if tag == t then None else x) (h.held_commands t)
+          ∙ held_moved was payload tag t past (λ e. ap (held past) (sym e));
       failed_queue = m.failed_queue ∙ h.failed_queue ∙ failed_moved was payload tag past;
       sectors = λ s.
-        m.sectors s
-        ∙ ap (λ (x : Option Command). sector_then x payload (sector_at old.media s) s) (h.held_commands tag)
-        ∙ ap (λ (x : List ℕ). sector_then was payload x s) (h.sectors s)
-        ∙ sector_moved was payload tag past s;
+          m.sectors s
+          ∙ ap (λ (x : Option Command). sector_then x payload (sector_at old.media s) s) (h.held_commands tag)
+          ∙ ap (λ (x : List ℕ). sector_then was payload x s) (h.sectors s)
+          ∙ sector_moved was payload tag past s;
     }
 
 pub complete_in_order : (old new : State) (o : Opening) (acts : List Act) (tag : ℕ) (payload : List ℕ) → tag < 32 → IsMoved old new tag payload → AgreesInOrder old o acts → AgreesInOrder new o (acts ++ Complete tag payload ∷ [])

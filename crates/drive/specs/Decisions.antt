@@ -23,23 +23,23 @@ use Rattle.drive.specs.declared.decision.Decision.TheVariants.{Refused, Fails, H
 abbrev pub failure_of : Option ℕ → ℕ → RegH2d → Failure
 failure_of tag error h = record { tag = tag; error = error; lba = h.lba; device = h.device; count = h.count }
 
--- The queue fails, by no range.
-abbrev pub aborts : Option ℕ → RegH2d → Decision
-aborts tag h = Fails (failure_of tag 0x04 h) None
+-- The queue fails with the command of a FIS: its error, and what denied it.
+abbrev pub fails : Option ℕ → ℕ → RegH2d → Option Why → Decision
+fails tag error h denied = Fails (failure_of tag error h) denied
 
 abbrev pub by_verdict : RegH2d → ℕ → Command → Verdict → Decision
 by_verdict h tag command Serve = Holds tag command
-by_verdict h tag command (Denied why) = Fails (failure_of (Some tag) 0x04 h) (Some why)
+by_verdict h tag command (Denied why) = fails (Some tag) 0x04 h (Some why)
 
 -- The addresses come before the policy.
 abbrev pub placed : ℕ → RangeRows → RegH2d → ℕ → Command → Op → ℕ → ℕ → Decision
 placed sectors rows h tag command op lba count =
-    if nat_lt sectors (lba + count) then Fails (failure_of (Some tag) 0x10 h) None
+    if nat_lt sectors (lba + count) then fails (Some tag) 0x10 h None
     else by_verdict h tag command (verdict_of rows op lba count)
 
 -- A queued transfer: a tag that is held fails the queue.
 abbrev pub admitted : ℕ → RangeRows → Bool → RegH2d → ℕ → Command → Decision
-admitted sectors rows true h tag command = aborts (Some tag) h
+admitted sectors rows true h tag command = fails (Some tag) 0x04 h None
 admitted sectors rows false h tag (ReadQueued lba count) = placed sectors rows h tag (ReadQueued lba count) Read lba count
 admitted sectors rows false h tag (WriteQueued lba count) = placed sectors rows h tag (WriteQueued lba count) Write lba count
 
@@ -47,7 +47,7 @@ admitted sectors rows false h tag (WriteQueued lba count) = placed sectors rows 
 abbrev pub known : ℕ → RangeRows → (ℕ → Bool) → RegH2d → Result (Command × Option ℕ) CommandError → Decision
 known sectors rows is_held h (Err NotCommand) = Refused
 known sectors rows is_held h (Err Unknown) = Refused
-known sectors rows is_held h (Err Device) = aborts (Some (tag_of h)) h
+known sectors rows is_held h (Err Device) = fails (Some (tag_of h)) 0x04 h None
 known sectors rows is_held h (Ok (command, Some tag)) = admitted sectors rows (is_held tag) h tag command
 known sectors rows is_held h (Ok (command, None)) = Refused
 
@@ -55,7 +55,7 @@ known sectors rows is_held h (Ok (command, None)) = Refused
 abbrev pub judged : ℕ → RangeRows → Bool → Bool → (ℕ → Bool) → RegH2d → Decision
 judged sectors rows failed busy is_held h =
     if not h.is_command || failed then Refused
-    else (if busy && not (is_queued h.command) then aborts None h else known sectors rows is_held h (reading h))
+    else (if busy && not (is_queued h.command) then fails None 0x04 h None else known sectors rows is_held h (reading h))
 
 abbrev pub decision : ℕ → RangeRows → Bool → Bool → (ℕ → Bool) → List ℕ → Decision
 decision sectors rows failed busy is_held fis =

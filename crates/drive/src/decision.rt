@@ -1,7 +1,7 @@
 ghost use Rattle.std.specs.Prelude.{◌≡◌, ◌<◌, ◌≤◌, ◌^◌};
 ghost use Rattle.fis.specs.declared.h2d.RegH2d.{RegH2d};
 ghost use Rattle.trusted_cmds.specs.Commands.{count_of};
-ghost use Rattle.drive.specs.Decisions.{aborts, admitted, any_below, is_held_at, decision, NamesSlot};
+ghost use Rattle.drive.specs.Decisions.{fails, admitted, any_below, is_held_at, decision, NamesSlot};
 
 use crate::failure::Failure;
 use crate::queue::is_busy;
@@ -21,18 +21,24 @@ pub enum Decision {
     /// Aborted, and nothing changes.
     Refused,
     /// Failed, and the queue with it.
-    Fails { failure: Failure, denied: Option<Why> },
+    Fails {
+        failure: Failure,
+        denied: Option<Why>,
+    },
     /// Held until it is completed.
-    Holds { tag: Tag, command: Command },
+    Holds {
+        tag: Tag,
+        command: Command,
+    },
 }
 
-/// The queue fails with an aborted command, by no range.
-fn aborts(tag: Option<Tag>, h: &RegH2d) -> Decision
-    ensures { result ≡ aborts tag h.now }
+/// The queue fails with the command of a FIS: its error, and what denied it.
+fn fails(tag: Option<Tag>, error: u8, h: &RegH2d, denied: Option<Why>) -> Decision
+    ensures { result ≡ fails tag error h.now denied }
 {
     Decision::Fails {
-        failure: Failure::of(tag, ABORTED, h),
-        denied: None,
+        failure: Failure::of(tag, error, h),
+        denied,
     }
 }
 
@@ -53,24 +59,18 @@ fn admit(
     ensures value { result ≡ admitted sectors ranges.now is_held h.now tag command }
 {
     if is_held {
-        return aborts(Some(tag), h);
+        return fails(Some(tag), ABORTED, h, None);
     }
     let (op, lba, count) = match command {
         Command::ReadQueued { lba, count } => (Op::Read, lba, count),
         Command::WriteQueued { lba, count } => (Op::Write, lba, count),
     };
     if lba > sectors || u64::from(count) > sectors - lba {
-        return Decision::Fails {
-            failure: Failure::of(Some(tag), NOT_FOUND, h),
-            denied: None,
-        };
+        return fails(Some(tag), NOT_FOUND, h, None);
     }
     match ranges.verdict(op, lba, count) {
         Verdict::Serve => Decision::Holds { tag, command },
-        Verdict::Denied(why) => Decision::Fails {
-            failure: Failure::of(Some(tag), ABORTED, h),
-            denied: Some(why),
-        },
+        Verdict::Denied(why) => fails(Some(tag), ABORTED, h, Some(why)),
     }
 }
 
@@ -94,12 +94,12 @@ pub(crate) fn decide(
         return Decision::Refused;
     }
     if is_busy(held) && !is_queued(h.command) {
-        return aborts(None, &h);
+        return fails(None, ABORTED, &h, None);
     }
     match of_fis(&h) {
         Err(CommandError::NotCommand) => Decision::Refused,
         Err(CommandError::Unknown) => Decision::Refused,
-        Err(CommandError::Device) => aborts(Some(tag_of(&h)), &h),
+        Err(CommandError::Device) => fails(Some(tag_of(&h)), ABORTED, &h, None),
         Ok((_, None)) => Decision::Refused,
         Ok((command, Some(tag))) => {
             let is_held = held[usize::from(tag.number())].is_some();

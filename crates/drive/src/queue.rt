@@ -34,7 +34,8 @@ pub(crate) fn settle(
     match *decision {
         Decision::Refused => {}
         Decision::Fails {
-            failure: failed, ..
+            failure: failed,
+            ..
         } => {
             release_all(held);
             *failure = Some(failed);

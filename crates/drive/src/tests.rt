@@ -57,11 +57,17 @@ fn denies_by_the_range(rt: HostRuntime) -> Result<(), Fail> {
     let tag = Tag::new(5).ok_or("a tag")?;
     let first = to_fis(&Command::ReadQueued { lba: 95, count: 5 }, tag).to_bytes();
     let accepted = accept(&mut drive, &first)?;
-    assert_eq!(rt; (accepted.status, accepted.error, accepted.held), (0x50, 0, true));
+    assert_eq!(rt;
+        (accepted.status, accepted.error, accepted.held),
+        (0x50, 0, true)
+    );
     assert_eq!(rt; complete(&mut drive, tag, &[])?, (Some(0), 2560));
     let second = to_fis(&Command::ReadQueued { lba: 95, count: 6 }, tag).to_bytes();
     let refused = accept(&mut drive, &second)?;
-    assert_eq!(rt; (refused.status, refused.error, refused.held), (0x51, 0x04, false));
+    assert_eq!(rt;
+        (refused.status, refused.error, refused.held),
+        (0x51, 0x04, false)
+    );
     let why = Why::ReadLocked {
         lba: 95,
         count: 6,

@@ -3,3 +3,4 @@ pub mod Pieces
 pub mod Writes
 pub mod Same
 pub mod Whole
+pub mod Touched

@@ -1,5 +1,5 @@
 -- Sectors that were added and taken away again.
-use Rattle.std.proofs.Common.{◌≡◌, ℕ, Bool, true, false, List, take, drop, nat_cmp, nat_eq, refl, ap, subst, sym, ◌∙◌, Option, Some, None, ◌||◌}
+use Rattle.std.proofs.Common.{◌≡◌, ℕ, Bool, true, false, List, take, drop, nat_cmp, nat_eq, refl, ap, sym, ◌∙◌, Option, Some, None}
 use Rattle.std.specs.Prelude.{if◌then◌else◌}
 use Rattle.std.specs.List.{list_any}
 use Rattle.std.specs.Cmp.{nat_cmp_total}
@@ -7,7 +7,7 @@ use Rattle.std.specs.BTreeMap.{BTreeMap, IsOrdered, get}
 use Rattle.std.proofs.lemmas.List.{take-append-drop}
 use Rattle.std.proofs.lemmas.List.Folds.{list_any-append}
 use Rattle.std.proofs.lemmas.Map.Lookups.{btree_map_from_get, exact_unsigned}
-use Rattle.shadow_mbr.specs.Stored.{Stored, IsSound, kept_at, zeros}
+use Rattle.shadow_mbr.specs.Stored.{Stored, kept_at, zeros}
 
 -- Two maps that keep the same are one value.
 pub same_stored : (m n : BTreeMap ℕ (List ℕ)) (a b : Stored) → a.kept ≡ m.entries → b.kept ≡ n.entries → IsOrdered nat_cmp m → IsOrdered nat_cmp n → a.sectors ≡ b.sectors → ((s : ℕ) → kept_at a s ≡ kept_at b s) → a ≡ b

@@ -1,9 +1,9 @@
--- Bytes in sectors of 512, by what is kept of them.
-use Rattle.std.specs.Prelude.{◌≡◌, ℕ, zero, suc, [], ◌++◌, ◌+◌, ◌-◌, ◌*◌, ◌/◌, ◌%◌, ◌^◌, ◌<◌, ◌≤◌, ◌&&◌, nat_le, nat_lt, is_some, Bool, true, List, length, take, drop, replicate, Option, None, unwrap_or, nat_eq, ◌||◌, slice_index, if◌then◌else◌}
+-- Bytes in sectors of 512 (ACS-3, 4.1), by what is kept of them.
+use Rattle.std.specs.Prelude.{◌≡◌, ℕ, zero, suc, [], ◌++◌, ◌+◌, ◌-◌, ◌*◌, ◌/◌, ◌%◌, ◌^◌, ◌<◌, ◌≤◌, ◌&&◌, nat_le, nat_lt, nat_eq, not, is_some, Bool, true, List, length, take, drop, replicate, Option, unwrap_or, slice_index, if◌then◌else◌}
 use Rattle.std.specs.List.{list_any}
+use Rattle.std.specs.List.Sorted.{IsStrictlySortedBy}
 use Rattle.std.specs.BTreeMap.{is_at}
 use Rattle.std.specs.Map.{lookup, keys_of}
-use Rattle.std.specs.List.Sorted.{IsStrictlySortedBy}
 use Rattle.std.specs.Ordering.{nat_cmp}
 
 -- How many sectors there are, and the sectors that are kept, by their numbers.
@@ -23,31 +23,15 @@ kept_at stored sector = lookup (is_at (nat_cmp sector)) stored.kept
 abbrev pub sector_at : Stored → ℕ → List ℕ
 sector_at stored sector = unwrap_or (kept_at stored sector) zeros
 
--- What the place holds: a byte of its sector.
+-- What a place holds: a byte of its sector.
 abbrev pub byte_at : Stored → ℕ → ℕ
 byte_at stored place = slice_index (sector_at stored (place / 512)) (place % 512)
-
--- Each sector that a place from `at` on, below `at` and `len`, stands in is kept.
-abbrev pub AreKept : Stored → ℕ → ℕ → Type 0
-AreKept stored at len = (place : ℕ) → at ≤ place → place < at + len → is_some (kept_at stored (place / 512)) ≡ true
-
--- There are no more sectors than a drive can have, the sectors that are kept ascend, and each
--- sector is 512 bytes.
-pub record IsSound (stored : Stored) : Type 0 where
-  pub few : stored.sectors ≤ 2 ^ 48
-  pub sorted : IsStrictlySortedBy nat_cmp (keys_of stored.kept)
-  pub whole : (sector : ℕ) → length (sector_at stored sector) ≡ 512
 
 -- The byte at a place after bytes were written from `at` on, where it was `before`.
 abbrev pub byte_after : ℕ → List ℕ → ℕ → ℕ → ℕ
 byte_after at bytes before place =
     if nat_le at place && nat_lt place (at + length bytes) then slice_index bytes (place - at)
     else before
-
--- The sectors that so many bytes from `at` on stand in, and that are not kept, are listed.
-pub record ListsMissing (stored : Stored) (at len : ℕ) (sectors : List ℕ) : Type 0 where
-  pub absent : (sector : ℕ) → list_any (nat_eq sector) sectors ≡ true → kept_at stored sector ≡ None
-  pub listed : (place : ℕ) → at ≤ place → place < at + len → (is_some (kept_at stored (place / 512)) || list_any (nat_eq (place / 512)) sectors) ≡ true
 
 -- What a sector holds after whole sectors were written from `lba` on, where it held `before`.
 abbrev pub sector_after : ℕ → List ℕ → List ℕ → ℕ → List ℕ
@@ -59,3 +43,25 @@ sector_after lba bytes before sector =
 unfoldable pub sectors_from : (ℕ → List ℕ) → ℕ → ℕ → List ℕ
 sectors_from holds lba zero = []
 sectors_from holds lba (suc n) = holds lba ++ sectors_from holds (lba + 1) n
+
+-- The sector of each of so many bytes from `at` on is kept.
+abbrev pub AreKept : Stored → ℕ → ℕ → Type 0
+AreKept stored at len =
+    (place : ℕ) → at ≤ place → place < at + len → is_some (kept_at stored (place / 512)) ≡ true
+
+-- Whether a sector has one of so many bytes from `at` on.
+abbrev pub has_byte : ℕ → ℕ → ℕ → Bool
+has_byte at len sector =
+    nat_lt 0 len && nat_lt (512 * sector) (at + len) && nat_lt at (512 * sector + 512)
+
+-- The sectors that have one of so many bytes from `at` on, and that are not kept, are listed.
+abbrev pub ListsMissing : Stored → ℕ → ℕ → List ℕ → Type 0
+ListsMissing stored at len sectors =
+    (sector : ℕ) → list_any (nat_eq sector) sectors ≡ (has_byte at len sector && not (is_some (kept_at stored sector)))
+
+-- There are no more sectors than a drive can have, the sectors that are kept ascend, and each
+-- sector is 512 bytes.
+pub record IsSound (stored : Stored) : Type 0 where
+  pub few : stored.sectors ≤ 2 ^ 48
+  pub sorted : IsStrictlySortedBy nat_cmp (keys_of stored.kept)
+  pub whole : (sector : ℕ) → length (sector_at stored sector) ≡ 512

@@ -19,8 +19,8 @@ impl Model for Mbr {
 }
 
 impl Mbr {
-    ghost use Rattle.std.specs.Prelude.{◌≡◌, ◌+◌, ◌*◌, ◌≤◌, ◌<◌, ◌↔◌, ℕ, length, IsTrue, OnOk, OnErr, [], slice_index};
-    ghost use Rattle.shadow_mbr.specs.Stored.{AreKept, byte_at, byte_after};
+    ghost use Rattle.std.specs.Prelude.{◌≡◌, ◌+◌, ◌*◌, ◌≤◌, ◌<◌, ◌↔◌, ℕ, length, IsTrue, is_some, ◌||◌, OnOk, OnErr, [], slice_index};
+    ghost use Rattle.shadow_mbr.specs.Stored.{AreKept, kept_at, has_byte, byte_at, byte_after};
 
     /// A table of so many sectors of 512 zeros.
     #[tactic(auto, using(crate::proofs::Zeros::blank_byte))]
@@ -50,6 +50,7 @@ impl Mbr {
     }
 
     /// Writes bytes from a place on. Where memory is refused, nothing changes.
+    #[tactic(auto, using(crate::proofs::Touched::touched))]
     pub fn write(&mut self, at: u64, bytes: &[u8]) -> Result<(), AllocError>
         requires { at + length bytes.now ≤ 512 * self.old.sectors }
         ensures size { self.new.sectors ≡ self.old.sectors }
@@ -57,6 +58,7 @@ impl Mbr {
 
         // What was written is covered then, and what was covered stays so.
         ensures covered { OnOk result (AreKept self.new at (length bytes.now)) }
+        ensures kept { OnOk result ((s : ℕ) → is_some (kept_at self.new s) ≡ (is_some (kept_at self.old s) || has_byte at (length bytes.now) s)) }
         ensures stays { (from len : ℕ) → AreKept self.old from len → AreKept self.new from len }
         ensures err { OnErr result (self.new ≡ self.old) }
     {

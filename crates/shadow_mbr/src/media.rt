@@ -1,4 +1,4 @@
-use crate::sectors::{Block, Sectors};
+use crate::sectors::{Block, SECTOR, Sectors};
 use std::alloc::{AllocError, Global};
 use std::marker::Model;
 
@@ -19,8 +19,8 @@ impl Model for Media {
 }
 
 impl Media {
-    ghost use Rattle.std.specs.Prelude.{◌≡◌, ◌+◌, ◌*◌, ◌/◌, ◌%◌, ◌≤◌, ◌<◌, ◌^◌, ℕ, length, OnOk, OnErr, [], slice_index, slice_range};
-    ghost use Rattle.shadow_mbr.specs.Stored.{zeros, sector_at, byte_at, byte_after, sector_after, sectors_from};
+    ghost use Rattle.std.specs.Prelude.{◌≡◌, ◌+◌, ◌*◌, ◌/◌, ◌%◌, ◌≤◌, ◌<◌, ◌^◌, ℕ, length, is_some, ◌||◌, OnOk, OnErr, [], slice_index, slice_range};
+    ghost use Rattle.shadow_mbr.specs.Stored.{zeros, kept_at, has_byte, sector_at, byte_at, byte_after, sector_after, sectors_from};
 
     /// So many sectors of zeros.
     #[tactic(auto, using(crate::proofs::Zeros::blank_byte))]
@@ -60,7 +60,7 @@ impl Media {
         ensures chunks { (k : ℕ) → 512 * k < length buffer.new → slice_range buffer.new (512 * k) (512 * k + 512) ≡ sector_at self.now (lba + k) }
         ensures exact { buffer.new ≡ sectors_from (sector_at self.now) lba (length buffer.old / 512) }
     {
-        self.held.read(512 * lba, buffer);
+        self.held.read(SECTOR * lba, buffer);
     }
 
     /// Writes whole sectors from `lba` on. Where memory is refused, nothing changes.
@@ -71,9 +71,10 @@ impl Media {
         ensures size { self.new.sectors ≡ self.old.sectors }
         ensures sectors { OnOk result ((sector : ℕ) → sector_at self.new sector ≡ sector_after lba bytes.now (sector_at self.old sector) sector) }
         ensures bytes { OnOk result ((place : ℕ) → byte_at self.new place ≡ byte_after (512 * lba) bytes.now (byte_at self.old place) place) }
+        ensures kept { OnOk result ((sector : ℕ) → is_some (kept_at self.new sector) ≡ (is_some (kept_at self.old sector) || has_byte (512 * lba) (length bytes.now) sector)) }
         ensures err { OnErr result (self.new ≡ self.old) }
     {
-        self.held.write(512 * lba, bytes)?;
+        self.held.write(SECTOR * lba, bytes)?;
         Ok(())
     }
 

@@ -6,7 +6,7 @@ use std::collections::BTreeMap;
 use std::marker::Model;
 
 /// The bytes of a sector (ACS-3, 4.1).
-pub(crate) const SECTOR: usize = 512;
+pub(crate) const SECTOR: u64 = 512;
 
 /// What a sector holds.
 pub type Block = [u8; 512];
@@ -46,14 +46,14 @@ fn piece_len(place: u64, len: usize) -> usize
     ensures within { result ≤ len }
     ensures some { 0 < result }
 {
-    (SECTOR - (place % 512) as usize).min(len)
+    ((SECTOR - place % SECTOR) as usize).min(len)
 }
 
 impl Sectors {
     ghost use Rattle.std.specs.Prelude.{◌≡◌, ◌+◌, ◌*◌, ◌/◌, ◌%◌, ◌≤◌, ◌<◌, ◌^◌, ◌==◌, ◌++◌, ℕ, length, OnOk, OnErr, IfOk, IsTrue, ◌↔◌, [], true, is_some, slice_index, take, drop, if◌then◌else◌};
-    ghost use Rattle.std.specs.Prelude.{nat_eq, None, Some};
+    ghost use Rattle.std.specs.Prelude.{nat_eq, ◌||◌, None, Some};
     ghost use Rattle.std.specs.List.{list_any};
-    ghost use Rattle.shadow_mbr.specs.Stored.{IsSound, AreKept, ListsMissing, zeros, kept_at, sector_at, byte_at, byte_after};
+    ghost use Rattle.shadow_mbr.specs.Stored.{IsSound, AreKept, ListsMissing, zeros, kept_at, sector_at, byte_at, byte_after, has_byte};
 
     pub(crate) fn new(alloc: Global, sectors: u64) -> Sectors
         requires { sectors ≤ 2 ^ 48 }
@@ -116,8 +116,8 @@ impl Sectors {
         ensures len { length result.now ≡ len }
         ensures bytes { (i : ℕ) → i < len → slice_index result.now i ≡ byte_at self.now (place + i) }
     {
-        let block = self.sector(place / 512);
-        let from = (place % 512) as usize;
+        let block = self.sector(place / SECTOR);
+        let from = (place % SECTOR) as usize;
         &block[from..from + len]
     }
 
@@ -127,6 +127,7 @@ impl Sectors {
         ensures bytes { (k : ℕ) → k < length buffer.new → slice_index buffer.new k ≡ byte_at self.now (at + k) }
         ensures sound { IsSound self.now }
     {
+        // The sectors are whole: the fields say so once they are used.
         let _ = &self.kept;
         let mut done = 0;
         while done < buffer.len() {
@@ -146,8 +147,9 @@ impl Sectors {
         ensures bytes { (p : ℕ) → byte_at self.new p ≡ byte_after place bytes.now (byte_at self.old p) p }
         ensures sound { IsSound self.new }
     {
+        // The sectors are whole: the fields say so once they are used.
         let _ = &self.kept;
-        self.put(place / 512, (place % 512) as usize, bytes);
+        self.put(place / SECTOR, (place % SECTOR) as usize, bytes);
     }
 
     /// Writes bytes from a place on, into sectors that are kept.
@@ -159,6 +161,7 @@ impl Sectors {
         ensures bytes { (p : ℕ) → byte_at self.new p ≡ byte_after at bytes.now (byte_at self.old p) p }
         ensures sound { IsSound self.new }
     {
+        // The sectors are whole: the fields say so once they are used.
         let _ = &self.kept;
         let mut done = 0;
         while done < bytes.len() {
@@ -174,11 +177,12 @@ impl Sectors {
         requires { at + len ≤ 512 * self.now.sectors }
         ensures { IsTrue result ↔ AreKept self.now at len }
     {
+        // The sectors are whole: the fields say so once they are used.
         let _ = &self.kept;
         let mut done = 0;
         while done < len {
             let place = at + done as u64;
-            if !self.has(place / 512) {
+            if !self.has(place / SECTOR) {
                 return false;
             }
             done += piece_len(place, len - done);
@@ -187,17 +191,19 @@ impl Sectors {
     }
 
     /// The sectors that have one of so many bytes and that are not kept.
+    #[tactic(auto, using(crate::proofs::Touched::one_piece))]
     fn missing(&self, at: u64, len: usize) -> Result<Vec<u64>, AllocError>
         requires { at + len ≤ 512 * self.now.sectors }
         ensures lists { IfOk result (λ v. ListsMissing self.now at len v.items) }
         ensures sound { IsSound self.now }
     {
+        // The sectors are whole: the fields say so once they are used.
         let _ = &self.kept;
         let mut missing = Vec::new(self.alloc);
         let mut done = 0;
         while done < len {
             let place = at + done as u64;
-            let sector = place / 512;
+            let sector = place / SECTOR;
             if !self.has(sector) {
                 missing.push(sector)?;
             }
@@ -246,10 +252,12 @@ impl Sectors {
         ensures err { OnErr result (self.new ≡ self.old) }
         ensures sound { IsSound self.new }
     {
+        // The sectors are whole: the fields say so once they are used.
         let _ = &self.kept;
         for (i, sector) in sectors.iter().enumerate() {
             if let Err(refused) = self.add(*sector) {
                 self.remove_all(&sectors[..i]);
+                // So is what is left.
                 let _ = &self.kept;
                 return Err(refused);
             }
@@ -261,8 +269,7 @@ impl Sectors {
     fn prepare(&mut self, at: u64, len: usize) -> Result<(), AllocError>
         requires { at + len ≤ 512 * self.old.sectors }
         ensures size { self.new.sectors ≡ self.old.sectors }
-        ensures kept { OnOk result (AreKept self.new at len) }
-        ensures stays { (s : ℕ) → is_some (kept_at self.old s) ≡ true → is_some (kept_at self.new s) ≡ true }
+        ensures kept { OnOk result ((s : ℕ) → is_some (kept_at self.new s) ≡ (is_some (kept_at self.old s) || has_byte at len s)) }
         ensures bytes { (s : ℕ) → sector_at self.new s ≡ sector_at self.old s }
         ensures err { OnErr result (self.new ≡ self.old) }
         ensures sound { IsSound self.new }
@@ -273,11 +280,11 @@ impl Sectors {
     }
 
     /// Writes bytes from a place on. Where memory is refused, nothing changes.
+    #[tactic(auto, using(crate::proofs::Touched::touched))]
     pub(crate) fn write(&mut self, at: u64, bytes: &[u8]) -> Result<(), AllocError>
         requires { at + length bytes.now ≤ 512 * self.old.sectors }
         ensures size { self.new.sectors ≡ self.old.sectors }
-        ensures kept { OnOk result (AreKept self.new at (length bytes.now)) }
-        ensures stays { (s : ℕ) → is_some (kept_at self.old s) ≡ true → is_some (kept_at self.new s) ≡ true }
+        ensures kept { OnOk result ((s : ℕ) → is_some (kept_at self.new s) ≡ (is_some (kept_at self.old s) || has_byte at (length bytes.now) s)) }
         ensures bytes { OnOk result ((p : ℕ) → byte_at self.new p ≡ byte_after at bytes.now (byte_at self.old p) p) }
         ensures err { OnErr result (self.new ≡ self.old) }
         ensures sound { IsSound self.new }

@@ -1,4 +1,4 @@
-//! The program's library: scripts of lines, run on a drive.
+//! The program's library: scripts of lines, run on a drive, and token streams, told as text.
 #![tactic(auto)]
 
 mod fault;
@@ -8,12 +8,14 @@ mod options;
 mod report;
 mod script;
 mod session;
+mod tokens;
 mod words;
 
 pub use fault::{LineFault, Transfer};
 pub use line::Line;
 pub use options::{Options, OptionsFault};
 pub use script::{RunError, run_script, run_script_with_faults};
+pub use tokens::run_tokens;
 
 #[cfg(test)]
 mod tests;

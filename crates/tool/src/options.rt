@@ -16,9 +16,7 @@ pub enum OptionsFault {
     Shadow,
     #[error("--msid is not written in hex")]
     Msid,
-    #[error(
-        "a drive has 1 to 281474976710656 sectors, a shadow of at most 262144 and not more than them, and an MSID of 1 to 32 bytes"
-    )]
+    #[error("a drive has 1 to 281474976710656 sectors, a shadow of at most 262144 and not more than them, and an MSID of 1 to 32 bytes")]
     NoDrive,
     #[error("out of memory")]
     OutOfMemory,

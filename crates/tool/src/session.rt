@@ -143,8 +143,9 @@ impl Session {
         match std::mem::replace(&mut self.stage, Stage::Lost) {
             Stage::Opening(opening) => {
                 // the rows were set before, so that no other error comes
-                let drive = Drive::with_ranges(self.alloc, opening.config, &opening.rows)
-                    .map_err(|_| AllocError)?;
+                let drive = Drive::with_ranges(self.alloc, opening.config, &opening.rows).map_err(
+                    |_| AllocError,
+                )?;
                 self.stage = Stage::Running(drive);
             }
             stage => self.stage = stage,

@@ -1,5 +1,5 @@
 -- What was added before the refusal is taken away again.
-use Rattle.std.proofs.Common.{◌≡◌, ℕ, ap, sym, ◌∙◌, cond, subst, take, nat_eq, Some}
+use Rattle.std.proofs.Common.{◌≡◌, ℕ, ap, sym, ◌∙◌, subst, take, nat_eq, Some}
 use Rattle.std.specs.Prelude.{if◌then◌else◌}
 use Rattle.std.specs.List.{list_any}
 use Rattle.shadow_mbr.specs.Stored.{Stored, kept_at, zeros}

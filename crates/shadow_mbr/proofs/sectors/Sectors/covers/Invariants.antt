@@ -1,4 +1,4 @@
-use Rattle.std.proofs.Common.{◌≡◌, ℕ, ◌+◌, ◌-◌, ◌*◌, ◌<◌, ◌≤◌, length, take, is_some}
+use Rattle.std.proofs.Common.{◌-◌, ◌≤◌}
 use Rattle.shadow_mbr.specs.Stored.{AreKept}
 use Rattle.shadow_mbr.proofs.sectors.Sectors.covers.Given as goal
 

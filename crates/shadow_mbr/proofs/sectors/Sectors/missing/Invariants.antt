@@ -1,4 +1,4 @@
-use Rattle.std.proofs.Common.{◌≡◌, ℕ, ◌-◌, ◌≤◌}
+use Rattle.std.proofs.Common.{◌-◌, ◌≤◌}
 use Rattle.shadow_mbr.specs.Stored.{ListsMissing}
 use Rattle.shadow_mbr.proofs.sectors.Sectors.missing.Given as goal
 

@@ -1,7 +1,7 @@
 -- Each piece is written into one sector.
-use Rattle.std.proofs.Common.{◌≡◌, ℕ, ◌+◌, ◌-◌, ◌≤◌, ◌∙◌, arith, rules, length, take, drop, is_some, ap, refl}
+use Rattle.std.proofs.Common.{◌≡◌, ◌+◌, ◌-◌, ◌≤◌, ◌∙◌, arith, length, take, drop, ap, refl}
 use Rattle.std.proofs.lemmas.List.{length-take-le, length-drop}
-use Rattle.shadow_mbr.specs.Stored.{byte_at, byte_after, kept_at}
+use Rattle.shadow_mbr.specs.Stored.{byte_at, byte_after}
 use Rattle.shadow_mbr.proofs.Writes.{write_more}
 use Rattle.shadow_mbr.proofs.sectors.Sectors.overwrite.Goals as goal
 

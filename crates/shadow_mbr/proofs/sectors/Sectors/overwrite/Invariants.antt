@@ -1,4 +1,4 @@
-use Rattle.std.proofs.Common.{◌≡◌, ℕ, ◌+◌, ◌-◌, ◌*◌, ◌<◌, ◌≤◌, length, take, is_some}
+use Rattle.std.proofs.Common.{◌≡◌, ℕ, ◌-◌, ◌≤◌, length, take, is_some}
 use Rattle.shadow_mbr.specs.Stored.{IsSound, byte_at, byte_after, kept_at}
 use Rattle.shadow_mbr.proofs.sectors.Sectors.overwrite.Given as goal
 

@@ -1,0 +1,4 @@
+pub mod Appended
+pub mod Readings
+pub mod Opening
+pub mod Places

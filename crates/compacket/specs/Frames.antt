@@ -1,0 +1,139 @@
+-- Frames as they are read: TCG Core 2.01, 3.2.3, "ComPackets, Packets and Subpackets".
+use Rattle.std.specs.Prelude.{◌≡◌, ℕ, ◌+◌, ◌*◌, ◌/◌, ◌<◌, ◌≤◌, ◌==◌, nat_lt, not, List, length, take, drop, Option, Some, None, Result, Ok, Err, if◌then◌else◌}
+use Rattle.byteorder.specs.Endian.{big_number}
+use Rattle.compacket.specs.declared.session.Session.{Session}
+use Rattle.compacket.specs.declared.error.FrameError.{FrameError}
+use Rattle.compacket.specs.declared.error.FrameError.TheVariants as errors
+
+-- What a frame carries.
+pub record Frame : Type 0 where
+  pub com_id : ℕ
+  pub session : Session
+  pub payload : List ℕ
+
+-- The number in so many bytes from a place on, the highest byte first.
+abbrev pub number_at : ℕ → List ℕ → ℕ → ℕ
+number_at size bytes place = big_number size (drop place bytes)
+
+-- The most bytes that a ComPacket may have: a TPer names them among its Properties, as
+-- MaxComPacketSize.
+abbrev pub max_com_packet : ℕ
+max_com_packet = 65536
+
+-- A subpacket's data are padded to a multiple of four bytes; its Length leaves the padding out.
+abbrev pub padded : ℕ → ℕ
+padded n = (n + 3) / 4 * 4
+
+-- The fields of a ComPacket header: reserved 4, ComID 2, ComID extension 2, OutstandingData 4,
+-- MinTransfer 4, Length 4. Of a packet header: TSN 4, HSN 4, SeqNumber 4, reserved 2, AckType 2,
+-- Acknowledgement 4, Length 4. Of a subpacket header: reserved 6, Kind 2, Length 4.
+abbrev pub com_id_of : List ℕ → ℕ
+com_id_of com_packet = number_at 2 com_packet 4
+
+abbrev pub com_packet_length : List ℕ → ℕ
+com_packet_length com_packet = number_at 4 com_packet 16
+
+abbrev pub session_of : List ℕ → Session
+session_of packet = record { tsn = number_at 4 packet 0; hsn = number_at 4 packet 4 }
+
+abbrev pub packet_length : List ℕ → ℕ
+packet_length packet = number_at 4 packet 20
+
+abbrev pub subpacket_kind : List ℕ → ℕ
+subpacket_kind subpacket = number_at 2 subpacket 6
+
+abbrev pub subpacket_length : List ℕ → ℕ
+subpacket_length subpacket = number_at 4 subpacket 8
+
+-- The bytes begin with a ComPacket for this ComID, with this content. What stands behind it, and
+-- the fields that are not named, may have any value.
+pub record IsComPacket (bytes : List ℕ) (com_id : ℕ) (content : List ℕ) : Type 0 where
+  pub is_whole : 20 + com_packet_length bytes ≤ length bytes
+  pub is_small : 20 + com_packet_length bytes ≤ max_com_packet
+  pub names : com_id_of bytes ≡ com_id
+  pub carries : take (com_packet_length bytes) (drop 20 bytes) ≡ content
+
+-- The bytes are one packet of this session, with this content.
+pub record IsPacket (bytes : List ℕ) (session : Session) (content : List ℕ) : Type 0 where
+  pub is_whole : 24 + packet_length bytes ≡ length bytes
+  pub names : session_of bytes ≡ session
+  pub carries : drop 24 bytes ≡ content
+
+-- The bytes are one data subpacket (Kind 0) with this payload, of one byte at least.
+pub record IsDataSubpacket (bytes payload : List ℕ) : Type 0 where
+  pub is_whole : 12 + padded (subpacket_length bytes) ≡ length bytes
+  pub is_data : subpacket_kind bytes ≡ 0
+  pub is_some : 0 < subpacket_length bytes
+  pub carries : take (subpacket_length bytes) (drop 12 bytes) ≡ payload
+
+-- The bytes begin with a frame: a ComPacket that carries one packet that carries one data
+-- subpacket that carries the payload.
+pub record IsFrame (bytes : List ℕ) (frame : Frame) : Type 0 where
+  pub packet : List ℕ
+  pub subpacket : List ℕ
+  pub is_com_packet : IsComPacket bytes frame.com_id packet
+  pub is_packet : IsPacket packet frame.session subpacket
+  pub is_subpacket : IsDataSubpacket subpacket frame.payload
+
+-- What each carries, by the Length in its header.
+abbrev pub com_packet_content : List ℕ → List ℕ
+com_packet_content bytes = take (com_packet_length bytes) (drop 20 bytes)
+
+abbrev pub packet_content : List ℕ → List ℕ
+packet_content bytes = drop 24 bytes
+
+abbrev pub subpacket_content : List ℕ → List ℕ
+subpacket_content bytes = take (subpacket_length bytes) (drop 12 bytes)
+
+-- The order of the checks. Each sum is one of natural numbers, so none wraps.
+abbrev pub com_packet_fault : List ℕ → Option FrameError
+com_packet_fault bytes =
+    if nat_lt (length bytes) 20 then Some errors.Short
+    else (if nat_lt (length bytes) (20 + com_packet_length bytes) then Some errors.Short
+    else (if com_packet_length bytes == 0 then Some errors.Empty
+    else (if nat_lt (com_packet_length bytes) 24 then Some errors.Length
+    else (if nat_lt max_com_packet (20 + com_packet_length bytes) then Some errors.Length
+    else None))))
+
+abbrev pub packet_fault : List ℕ → Option FrameError
+packet_fault bytes =
+    if nat_lt (length bytes) (24 + packet_length bytes) then Some errors.Length
+    else (if nat_lt (24 + packet_length bytes) (length bytes) then Some errors.Many
+    else (if packet_length bytes == 0 then Some errors.Empty
+    else (if nat_lt (packet_length bytes) 12 then Some errors.Length
+    else None)))
+
+abbrev pub subpacket_fault : List ℕ → Option FrameError
+subpacket_fault bytes =
+    if not (subpacket_kind bytes == 0) then Some errors.Kind
+    else (if subpacket_length bytes == 0 then Some errors.Empty
+    else (if nat_lt (length bytes) (12 + padded (subpacket_length bytes)) then Some errors.Length
+    else (if nat_lt (12 + padded (subpacket_length bytes)) (length bytes) then Some errors.Many
+    else None)))
+
+-- The first fault, if there is one.
+abbrev pub or_else : Option FrameError → Option FrameError → Option FrameError
+or_else (Some fault) later = Some fault
+or_else None later = later
+
+abbrev pub fault_of : List ℕ → Option FrameError
+fault_of bytes =
+    or_else (com_packet_fault bytes)
+    (or_else (packet_fault (com_packet_content bytes))
+    (subpacket_fault (packet_content (com_packet_content bytes))))
+
+-- What bytes without a fault carry.
+abbrev pub frame_in : List ℕ → Frame
+frame_in bytes = record {
+  com_id = com_id_of bytes;
+  session = session_of (com_packet_content bytes);
+  payload = subpacket_content (packet_content (com_packet_content bytes));
+}
+
+-- What a reader answers: the frame that the bytes begin with, or the first fault.
+abbrev pub read_unless : Option FrameError → Frame → Result Frame FrameError
+read_unless None frame = Ok frame
+read_unless (Some fault) frame = Err fault
+
+abbrev pub reading : List ℕ → Result Frame FrameError
+reading bytes = read_unless (fault_of bytes) (frame_in bytes)

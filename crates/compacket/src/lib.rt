@@ -1,0 +1,19 @@
+//! ComPackets of the TCG Storage protocol (TCG Core 2.01, 3.2.3): a frame is a ComPacket that
+//! carries one packet that carries one data subpacket that carries the payload.
+#![tactic(auto)]
+
+mod error;
+mod headers;
+mod padding;
+mod reader;
+mod session;
+mod writer;
+
+pub use error::FrameError;
+pub use headers::{MAX_COM_PACKET, empty_header, short_header};
+pub use reader::open;
+pub use session::{ComId, Opened, Session};
+pub use writer::{MAX_PAYLOAD, frame, frame_into, frame_len};
+
+#[cfg(test)]
+mod tests;

@@ -1,0 +1,72 @@
+ghost use Rattle.std.specs.Prelude.{ℕ, List, Ok, ◌≡◌, ◌+◌, ◌-◌, ◌<◌, ◌≤◌, ◌++◌, IfOk, length, vec_len, vec_capacity};
+ghost use Rattle.compacket.specs.Frames.{IsFrame, reading};
+ghost use Rattle.compacket.specs.Spelling.{frame_bytes, frame_length, padding};
+
+use crate::headers::{MAX_COM_PACKET, com_packet_header, packet_header, subpacket_header};
+use crate::padding::{padded, padding};
+use crate::session::{ComId, Session};
+use std::alloc::{AllocError, Global};
+
+/// The most bytes that a frame can carry: those of a ComPacket less its three headers.
+pub const MAX_PAYLOAD: usize = MAX_COM_PACKET - 56;
+
+/// How many bytes the frame of so many has.
+pub fn frame_len(payload: usize) -> usize
+    requires { payload ≤ MAX_PAYLOAD }
+    ensures { result ≡ frame_length payload }
+{
+    56 + padded(payload)
+}
+
+/// Adds bytes for which there is room.
+fn append(out: &mut Vec<u8>, bytes: &[u8])
+    requires { vec_len out.old + length bytes.now ≤ vec_capacity out.old }
+    ensures items { out.new.items ≡ out.old.items ++ bytes.now }
+    ensures len { vec_len out.new ≡ vec_len out.old + length bytes.now }
+    ensures room { vec_capacity out.old ≤ vec_capacity out.new }
+{
+    let _ = out.extend_from_slice(bytes);
+}
+
+/// Adds the frame of the payload, without taking memory.
+pub fn frame_into(com_id: ComId, session: Session, payload: &[u8], out: &mut Vec<u8>)
+    requires some { 0 < length payload.now }
+    requires fits { length payload.now ≤ MAX_PAYLOAD }
+    requires room { vec_len out.old + frame_length (length payload.now) ≤ vec_capacity out.old }
+    ensures items { out.new.items ≡ out.old.items ++ frame_bytes com_id session payload.now }
+    ensures len { vec_len out.new ≡ vec_len out.old + frame_length (length payload.now) }
+    ensures room_stays { vec_capacity out.old ≤ vec_capacity out.new }
+
+    // `open` gives back what was framed, whatever follows.
+    ensures is_frame { (rest : List ℕ) → IsFrame (frame_bytes com_id session payload.now ++ rest) (record { com_id = com_id; session = session; payload = payload.now }) }
+    ensures opens { (rest : List ℕ) → reading (frame_bytes com_id session payload.now ++ rest) ≡ Ok (record { com_id = com_id; session = session; payload = payload.now }) }
+{
+    let len = payload.len();
+    let whole = padded(len);
+    append(out, &com_packet_header(com_id, 0, 0, (36 + whole) as u32));
+    append(out, &packet_header(session, (12 + whole) as u32));
+    append(out, &subpacket_header(len as u32));
+    append(out, payload);
+    append(out, padding(len));
+}
+
+/// The frame of the payload: a ComPacket of one packet of the session with one data subpacket
+/// (TCG Core 2.01, 3.2.3). Fails only where memory was refused.
+pub fn frame(
+    alloc: Global,
+    com_id: ComId,
+    session: Session,
+    payload: &[u8],
+) -> Result<Vec<u8>, AllocError>
+    requires some { 0 < length payload.now }
+    requires fits { length payload.now ≤ MAX_PAYLOAD }
+    ensures exact { IfOk result (λ v. v.items ≡ frame_bytes com_id session payload.now) }
+
+    // `open` gives back what was framed, whatever follows.
+    ensures is_frame { IfOk result (λ v. (rest : List ℕ) → IsFrame (v.items ++ rest) (record { com_id = com_id; session = session; payload = payload.now })) }
+    ensures opens { IfOk result (λ v. (rest : List ℕ) → reading (v.items ++ rest) ≡ Ok (record { com_id = com_id; session = session; payload = payload.now })) }
+{
+    let mut out = Vec::with_capacity(alloc, frame_len(payload.len()))?;
+    frame_into(com_id, session, payload, &mut out);
+    Ok(out)
+}

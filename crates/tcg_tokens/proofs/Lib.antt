@@ -1,0 +1,9 @@
+pub mod Numbers
+pub mod Trees
+pub mod Loop
+pub mod Tokens
+pub mod Values
+pub mod Items
+pub mod Writings
+pub mod Short
+pub mod Shortest

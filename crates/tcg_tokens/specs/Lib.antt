@@ -1,0 +1,12 @@
+pub mod Fault
+pub mod Length
+pub mod Lexeme
+pub mod Tree
+pub mod Message
+pub mod Grammar
+pub mod Lex
+pub mod Gives
+pub mod Reading
+pub mod Spelling
+pub mod Text
+pub mod Writable

@@ -1,0 +1,28 @@
+//! Token streams of the TCG Storage Architecture: method calls, their replies and the session's own
+//! tokens, as bytes and as values.
+//!
+//! A stream of tokens is one [`Item`]. [`read_item`] reads it from bytes, [`write_item`] writes it, and
+//! [`item_text`] shows it to people. The encoding is that of the TCG Storage Architecture Core
+//! Specification 2.01, section 3.2.2. The limits of [`limits`] are this project's own.
+#![tactic(auto)]
+
+mod condition;
+mod error;
+mod length;
+pub mod limits;
+mod read;
+mod text;
+mod token;
+mod value;
+mod write;
+
+pub use condition::writable;
+pub use error::TokenError;
+pub use length::item_len;
+pub use read::read_item;
+pub use text::{fault_text, item_text, value_text};
+pub use value::{Bytes, Call, Item, Reply, Value};
+pub use write::{write_item, write_item_into};
+
+#[cfg(test)]
+mod tests;

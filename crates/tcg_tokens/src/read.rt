@@ -1,0 +1,295 @@
+//! Items from bytes.
+
+ghost use Rattle.std.specs.Prelude.{◌≡◌, ◌==◌, length, Some, None, Ok, IfOk, if◌then◌else◌};
+ghost use Rattle.tcg_tokens.specs.Gives.{Gives};
+ghost use Rattle.tcg_tokens.specs.Grammar.{Spells};
+ghost use Rattle.tcg_tokens.specs.Lexeme.{seen};
+ghost use Rattle.tcg_tokens.specs.Tree.{tree, trees};
+ghost use Rattle.tcg_tokens.specs.Message.{Message, message};
+ghost use Rattle.tcg_tokens.specs.Reading.{expect, number_at, uid_at, list_with, list_value_with, named_with, name_of, value_of, list_at, status_at, call_at, reply_at, marked_of, message_at, reading};
+
+use crate::error::TokenError;
+use crate::limits::NESTING_LIMIT;
+use crate::token::{Mark, Token, next_token, skipped};
+use crate::value::{Bytes, Call, Item, Reply, Value};
+use std::alloc::Global;
+
+/// What is behind that mark.
+#[tactic(auto, unfolding(crate::specs::Reading::expect))]
+fn after_mark(mark: Mark, bytes: &[u8]) -> Result<&[u8], TokenError>
+    ensures { Gives (λ x. x.now) result (expect mark bytes.now) }
+{
+    let (token, rest) = next_token(bytes)?;
+    match token {
+        Token::Mark(found) => {
+            if found.is(mark) {
+                Ok(rest)
+            } else {
+                Err(TokenError::Unbalanced)
+            }
+        }
+        Token::Number(_) => Err(TokenError::Unbalanced),
+        Token::Bytes(_) => Err(TokenError::Unbalanced),
+    }
+}
+
+/// A number, and what is behind it.
+#[tactic(auto, unfolding(crate::specs::Reading::number_at))]
+fn number(bytes: &[u8]) -> Result<(u64, &[u8]), TokenError>
+    ensures { Gives (λ x. (x.0, x.1.now)) result (number_at bytes.now) }
+{
+    let (token, rest) = next_token(bytes)?;
+    match token {
+        Token::Number(number) => Ok((number, rest)),
+        Token::Mark(_) => Err(TokenError::Unbalanced),
+        Token::Bytes(_) => Err(TokenError::Unbalanced),
+    }
+}
+
+/// Eight bytes as a UID.
+fn uid_from(content: &[u8]) -> Option<[u8; 8]>
+    ensures { result ≡ (if length content.now == 8 then Some content.now else None) }
+{
+    match content.split_first_chunk::<8>() {
+        Some((uid, [])) => Some(*uid),
+        _ => None,
+    }
+}
+
+/// A UID, and what is behind it.
+#[tactic(auto, unfolding(crate::specs::Reading::uid_at))]
+fn uid(bytes: &[u8]) -> Result<([u8; 8], &[u8]), TokenError>
+    ensures { Gives (λ x. (x.0, x.1.now)) result (uid_at bytes.now) }
+{
+    let (token, rest) = next_token(bytes)?;
+    match token {
+        Token::Bytes(content) => match uid_from(content) {
+            Some(uid) => Ok((uid, rest)),
+            None => Err(TokenError::Unbalanced),
+        },
+        Token::Number(_) => Err(TokenError::Unbalanced),
+        Token::Mark(_) => Err(TokenError::Unbalanced),
+    }
+}
+
+/// The three numbers of a status, and what is behind it.
+#[tactic(auto, unfolding(crate::specs::Reading::status_at))]
+fn status(bytes: &[u8]) -> Result<([u64; 3], &[u8]), TokenError>
+    ensures { Gives (λ x. (x.0, x.1.now)) result (status_at bytes.now) }
+{
+    let rest = after_mark(Mark::StartList, bytes)?;
+    let (a, rest) = number(rest)?;
+    let (b, rest) = number(rest)?;
+    let (c, rest) = number(rest)?;
+    let rest = after_mark(Mark::EndList, rest)?;
+    Ok(([a, b, c], rest))
+}
+
+/// A value behind its first token, where `room` more lists and named values may be nested.
+#[cycle(value)]
+#[tactic(auto, using(crate::proofs::Loop::nesting))]
+fn value<'a>(
+    alloc: Global,
+    token: Token<'a>,
+    rest: &'a [u8],
+    room: u8,
+) -> Result<(Value, &'a [u8]), TokenError>
+    ensures { Gives (λ x. (tree x.0, x.1.now)) result (value_of room (seen token.entry) rest.now) }
+{
+    match token {
+        Token::Number(number) => Ok((Value::Number(number), rest)),
+        Token::Bytes(content) => {
+            let items = Vec::from_slice(alloc, content)?;
+            Ok((Value::Bytes(Bytes::new(items)), rest))
+        }
+        Token::Mark(mark) => {
+            if mark.is(Mark::StartList) {
+                if room == 0 {
+                    return Err(TokenError::Deep);
+                }
+                return list(alloc, rest, room - 1);
+            }
+            if mark.is(Mark::StartName) {
+                if room == 0 {
+                    return Err(TokenError::Deep);
+                }
+                return named(alloc, rest, room - 1);
+            }
+            Err(TokenError::Unbalanced)
+        }
+    }
+}
+
+/// A list behind its first token.
+#[cycle(value)]
+#[tactic(auto, unfolding(crate::specs::Reading::list_value_with))]
+fn list<'a>(alloc: Global, bytes: &'a [u8], room: u8) -> Result<(Value, &'a [u8]), TokenError>
+    ensures { Gives (λ x. (tree x.0, x.1.now)) result (list_value_with (value_of room) bytes.now) }
+{
+    let (items, rest) = values(alloc, bytes, room)?;
+    Ok((Value::List(items), rest))
+}
+
+/// The name of a named value.
+fn name(alloc: Global, token: Token<'_>) -> Result<Value, TokenError>
+    ensures { Gives (λ x. tree x) result (name_of (seen token.entry)) }
+{
+    match token {
+        Token::Number(number) => Ok(Value::Number(number)),
+        Token::Bytes(content) => {
+            let items = Vec::from_slice(alloc, content)?;
+            Ok(Value::Bytes(Bytes::new(items)))
+        }
+        Token::Mark(_) => Err(TokenError::Unbalanced),
+    }
+}
+
+/// A named value behind its first token.
+#[cycle(value)]
+#[tactic(auto, unfolding(crate::specs::Reading::named_with))]
+fn named<'a>(alloc: Global, bytes: &'a [u8], room: u8) -> Result<(Value, &'a [u8]), TokenError>
+    ensures { Gives (λ x. (tree x.0, x.1.now)) result (named_with (value_of room) bytes.now) }
+{
+    let (token, rest) = next_token(bytes)?;
+    let name = name(alloc, token)?;
+    let (token, rest) = next_token(rest)?;
+    let (inner, rest) = value(alloc, token, rest, room)?;
+    let rest = after_mark(Mark::EndName, rest)?;
+    let name = Box::new(alloc, name)?;
+    let inner = Box::new(alloc, inner)?;
+    Ok((Value::Named(name, inner), rest))
+}
+
+/// The values up to the end of their list.
+#[cycle(value)]
+#[tactic(auto, unfolding(crate::specs::Reading::list_with))]
+fn values<'a>(
+    alloc: Global,
+    bytes: &'a [u8],
+    room: u8,
+) -> Result<(Vec<Value>, &'a [u8]), TokenError>
+    ensures { Gives (λ x. (trees x.0.items, x.1.now)) result (list_with (value_of room) bytes.now) }
+{
+    let mut items = Vec::new(alloc);
+    let mut rest = bytes;
+    // Each value has a byte at least, so there are no more of them than bytes.
+    for _ in 0..bytes.len() {
+        let (token, after) = next_token(rest)?;
+        if token.is_end() {
+            return Ok((items, after));
+        }
+        let (item, after) = value(alloc, token, after, room)?;
+        items.push(item)?;
+        rest = after;
+    }
+    Err(TokenError::Truncated)
+}
+
+/// The values of an outermost list, behind its first token.
+#[tactic(auto, unfolding(crate::specs::Reading::list_at))]
+fn outermost(alloc: Global, bytes: &[u8]) -> Result<(Vec<Value>, &[u8]), TokenError>
+    ensures { Gives (λ x. (trees x.0.items, x.1.now)) result (list_at bytes.now) }
+{
+    values(alloc, bytes, NESTING_LIMIT - 1)
+}
+
+/// A call behind its first token.
+#[tactic(auto, unfolding(crate::specs::Reading::call_at))]
+fn call(alloc: Global, bytes: &[u8]) -> Result<(Item, &[u8]), TokenError>
+    ensures { Gives (λ x. (message x.0, x.1.now)) result (call_at bytes.now) }
+{
+    let (object, rest) = uid(bytes)?;
+    let (method, rest) = uid(rest)?;
+    let rest = after_mark(Mark::StartList, rest)?;
+    let (args, rest) = outermost(alloc, rest)?;
+    let rest = after_mark(Mark::EndOfData, rest)?;
+    let (status, rest) = status(rest)?;
+    Ok((
+        Item::Call(Call {
+            object,
+            method,
+            args,
+            status,
+        }),
+        rest,
+    ))
+}
+
+/// A reply behind its first token.
+#[tactic(auto, unfolding(crate::specs::Reading::reply_at))]
+fn reply(alloc: Global, bytes: &[u8]) -> Result<(Item, &[u8]), TokenError>
+    ensures { Gives (λ x. (message x.0, x.1.now)) result (reply_at bytes.now) }
+{
+    let (results, rest) = outermost(alloc, bytes)?;
+    let rest = after_mark(Mark::EndOfData, rest)?;
+    let (status, rest) = status(rest)?;
+    Ok((Item::Reply(Reply { results, status }), rest))
+}
+
+/// An item behind its first token, a mark.
+fn marked(alloc: Global, mark: Mark, rest: &[u8]) -> Result<(Item, &[u8]), TokenError>
+    ensures { Gives (λ x. (message x.0, x.1.now)) result (marked_of mark rest.now) }
+{
+    match mark {
+        Mark::Call => call(alloc, rest),
+        Mark::StartList => reply(alloc, rest),
+        Mark::EndOfSession => Ok((Item::EndSession, rest)),
+        Mark::StartTransaction => {
+            let (number, rest) = number(rest)?;
+            Ok((Item::Begin(number), rest))
+        }
+        Mark::EndTransaction => {
+            let (number, rest) = number(rest)?;
+            Ok((Item::End(number), rest))
+        }
+        Mark::EndList | Mark::StartName | Mark::EndName | Mark::EndOfData => Err(
+            TokenError::Unbalanced,
+        ),
+    }
+}
+
+/// The item at the front, and what is behind it.
+#[tactic(auto, unfolding(crate::specs::Reading::message_at))]
+fn item(alloc: Global, bytes: &[u8]) -> Result<(Item, &[u8]), TokenError>
+    ensures { Gives (λ x. (message x.0, x.1.now)) result (message_at bytes.now) }
+{
+    let (token, rest) = next_token(bytes)?;
+    match token {
+        Token::Mark(mark) => marked(alloc, mark, rest),
+        Token::Number(_) => Err(TokenError::Unbalanced),
+        Token::Bytes(_) => Err(TokenError::Unbalanced),
+    }
+}
+
+/// The item that the bytes spell, all of the bytes but for FF behind it.
+#[tactic(auto, unfolding(crate::specs::Reading::reading))]
+fn read_whole(alloc: Global, bytes: &[u8]) -> Result<Item, TokenError>
+    ensures { Gives message result (reading bytes.now) }
+{
+    let (item, rest) = item(alloc, bytes)?;
+    if skipped(rest).is_empty() {
+        Ok(item)
+    } else {
+        Err(TokenError::Extra)
+    }
+}
+
+/// The item that the bytes spell, all of the bytes but for FF behind it.
+///
+/// FF is skipped before, between and behind tokens, and an atom may have any of its forms. The bytes are
+/// looked at once, from left to right; no call is nested deeper than the values are.
+///
+/// # Errors
+///
+/// The fault of the leftmost token that earns one, as [`TokenError`] says; `OutOfMemory` only where an
+/// allocation was refused.
+pub fn read_item(alloc: Global, bytes: &[u8]) -> Result<Item, TokenError>
+    // What is read is spelled so.
+    ensures found { IfOk result (λ i. Spells bytes.now (message i)) }
+    // What is spelled so is read, unless memory runs out: so an error says that there is no item.
+    ensures only { (m : Message) → Spells bytes.now m → Gives message result (Ok m) }
+    // Which error it is: the one that is met first from the left.
+    ensures exact { Gives message result (reading bytes.now) }
+{
+    read_whole(alloc, bytes)
+}

@@ -1,0 +1,216 @@
+//! One token at the front of bytes.
+
+ghost use Rattle.std.specs.Prelude.{◌≡◌, ◌≤◌, ◌<◌, ◌^◌, length, nat_lt, Some, None, if◌then◌else◌};
+ghost use Rattle.tcg_tokens.specs.Gives.{Gives};
+ghost use Rattle.tcg_tokens.specs.Lex.{content_at, atom_at, mark_at, lexeme_at, token_at, skip};
+ghost use Rattle.tcg_tokens.specs.Lexeme.{code_of, number_from, same, is_mark, seen};
+ghost use Rattle.tcg_tokens.specs.declared.token.Mark.TheVariants.{EndList};
+
+use crate::error::TokenError;
+use crate::limits::NUMBER_BITS;
+
+/// A token that is one byte.
+#[derive(Clone, Copy, Debug, PartialEq, Eq)]
+pub(crate) enum Mark {
+    StartList,
+    EndList,
+    StartName,
+    EndName,
+    Call,
+    EndOfData,
+    EndOfSession,
+    StartTransaction,
+    EndTransaction,
+}
+
+/// A token. The bytes of an atom lie in the input.
+#[derive(Clone, Copy)]
+pub(crate) enum Token<'a> {
+    Number(u64),
+    Bytes(&'a [u8]),
+    Mark(Mark),
+}
+
+/// The number that the bytes spell, the highest first, where it fits.
+fn number_of(content: &[u8]) -> Option<u64>
+    ensures { result ≡ (if nat_lt (number_from 0 content.now) (2 ^ NUMBER_BITS) then Some (number_from 0 content.now) else None) }
+{
+    let mut number: u64 = 0;
+    for byte in content {
+        if number >= 1 << (NUMBER_BITS - 8) {
+            return None;
+        }
+        number = 256 * number + u64::from(*byte);
+    }
+    Some(number)
+}
+
+/// An atom behind its header, from `len` bytes of content.
+fn content(is_bytes: bool, len: usize, rest: &[u8]) -> Result<(Token<'_>, &[u8]), TokenError>
+    ensures { Gives (λ x. (seen x.0, x.1.now)) result (content_at is_bytes len rest.now) }
+{
+    if rest.len() < len {
+        return Err(TokenError::Truncated);
+    }
+    let (content, rest) = rest.split_at(len);
+    if is_bytes {
+        return Ok((Token::Bytes(content), rest));
+    }
+    match number_of(content) {
+        Some(number) => Ok((Token::Number(number), rest)),
+        None => Err(TokenError::TooBig),
+    }
+}
+
+/// The length of an atom: the upper bits in its first byte, and the bytes of length behind it.
+fn length_of(upper: u8, bytes: &[u8]) -> usize
+    requires upper { upper < 16 }
+    requires width { length bytes.now ≤ 3 }
+    ensures { result ≡ number_from upper bytes.now }
+{
+    match bytes {
+        [] => usize::from(upper),
+        [a] => 256 * usize::from(upper) + usize::from(*a),
+        [a, b] => 256 * (256 * usize::from(upper) + usize::from(*a)) + usize::from(*b),
+        [a, b, c] => {
+            256 * (256 * (256 * usize::from(upper) + usize::from(*a)) + usize::from(*b))
+                + usize::from(*c)
+        }
+        _ => unreachable!(),
+    }
+}
+
+/// An atom behind its first byte, which says its kind and the upper bits of its length; `width` bytes of
+/// length follow.
+fn atom(
+    is_bytes: bool,
+    is_signed: bool,
+    upper: u8,
+    width: usize,
+    rest: &[u8],
+) -> Result<(Token<'_>, &[u8]), TokenError>
+    requires upper { upper < 16 }
+    requires width { width ≤ 3 }
+    ensures { Gives (λ x. (seen x.0, x.1.now)) result (atom_at is_bytes is_signed upper width rest.now) }
+{
+    if is_signed {
+        return Err(if is_bytes {
+            TokenError::Continued
+        } else {
+            TokenError::Signed
+        });
+    }
+    if rest.len() < width {
+        return Err(TokenError::Truncated);
+    }
+    let (len, rest) = rest.split_at(width);
+    content(is_bytes, length_of(upper, len), rest)
+}
+
+/// The mark that a byte is, and what is behind it.
+fn mark_from(byte: u8, rest: &[u8]) -> Result<(Token<'_>, &[u8]), TokenError>
+    ensures { Gives (λ x. (seen x.0, x.1.now)) result (mark_at byte rest.now) }
+{
+    let mark = match byte {
+        0xf0 => Mark::StartList,
+        0xf1 => Mark::EndList,
+        0xf2 => Mark::StartName,
+        0xf3 => Mark::EndName,
+        0xf8 => Mark::Call,
+        0xf9 => Mark::EndOfData,
+        0xfa => Mark::EndOfSession,
+        0xfb => Mark::StartTransaction,
+        0xfc => Mark::EndTransaction,
+        _ => return Err(TokenError::Reserved),
+    };
+    Ok((Token::Mark(mark), rest))
+}
+
+/// The bytes without the FF in front, which stands for nothing.
+pub(crate) fn skipped(bytes: &[u8]) -> &[u8]
+    ensures { result.now ≡ skip bytes.now }
+{
+    let mut rest = bytes;
+    while let [0xff, after @ ..] = rest {
+        rest = after;
+    }
+    rest
+}
+
+/// A token behind its first byte.
+fn token_from(first: u8, rest: &[u8]) -> Result<(Token<'_>, &[u8]), TokenError>
+    ensures { Gives (λ x. (seen x.0, x.1.now)) result (lexeme_at first rest.now) }
+{
+    if first < 0x40 {
+        return Ok((Token::Number(u64::from(first)), rest));
+    }
+    if first < 0x80 {
+        return Err(TokenError::Signed);
+    }
+    if first < 0xc0 {
+        return atom(
+            first / 32 % 2 == 1,
+            first / 16 % 2 == 1,
+            first % 16,
+            0,
+            rest,
+        );
+    }
+    if first < 0xe0 {
+        return atom(first / 16 % 2 == 1, first / 8 % 2 == 1, first % 8, 1, rest);
+    }
+    if first < 0xe4 {
+        return atom(first / 2 % 2 == 1, first % 2 == 1, 0, 3, rest);
+    }
+    mark_from(first, rest)
+}
+
+/// The token at the front, and what is behind it.
+#[tactic(auto, unfolding(crate::specs::Lex::first_lexeme))]
+pub(crate) fn next_token(bytes: &[u8]) -> Result<(Token<'_>, &[u8]), TokenError>
+    ensures { Gives (λ x. (seen x.0, x.1.now)) result (token_at bytes.now) }
+{
+    match skipped(bytes) {
+        [] => Err(TokenError::Truncated),
+        [first, rest @ ..] => token_from(*first, rest),
+    }
+}
+
+impl Mark {
+    /// The byte of the mark.
+    pub(crate) fn code(self) -> u8
+        ensures { result ≡ code_of self }
+    {
+        match self {
+            Mark::StartList => 0xf0,
+            Mark::EndList => 0xf1,
+            Mark::StartName => 0xf2,
+            Mark::EndName => 0xf3,
+            Mark::Call => 0xf8,
+            Mark::EndOfData => 0xf9,
+            Mark::EndOfSession => 0xfa,
+            Mark::StartTransaction => 0xfb,
+            Mark::EndTransaction => 0xfc,
+        }
+    }
+
+    /// Whether it is that mark.
+    pub(crate) fn is(self, other: Mark) -> bool
+        ensures { result ≡ same self other }
+    {
+        self == other
+    }
+}
+
+impl Token<'_> {
+    /// Whether it ends a list.
+    pub(crate) fn is_end(&self) -> bool
+        ensures { result ≡ is_mark EndList (seen self.now) }
+    {
+        match self {
+            Token::Mark(mark) => mark.is(Mark::EndList),
+            Token::Number(_) => false,
+            Token::Bytes(_) => false,
+        }
+    }
+}

@@ -1,0 +1,81 @@
+//! What token streams carry.
+
+ghost use Rattle.std.specs.Prelude.{◌≡◌};
+
+use std::marker::Model;
+
+/// Bytes, compared by what they are and not by where they lie.
+#[derive(Debug, Drop)]
+pub struct Bytes {
+    items: Vec<u8>,
+}
+
+impl Model for Bytes {
+    ghost use Rattle.std.specs.Prelude.{List, ℕ};
+
+    ghost Value = { List ℕ };
+
+    ghost view = { λ bytes. bytes.items.items };
+}
+
+impl Bytes {
+    /// The bytes of a vector.
+    pub fn new(items: Vec<u8>) -> Bytes
+        ensures { result ≡ items.items }
+    {
+        Bytes { items }
+    }
+
+    /// The bytes as a slice.
+    pub fn as_slice(&self) -> &[u8]
+        ensures { result.now ≡ self.now }
+    {
+        self.items.as_slice()
+    }
+}
+
+/// A value in the arguments of a call or the results of a reply.
+#[derive(Debug, Drop)]
+pub enum Value {
+    /// A number.
+    Number(u64),
+    /// Bytes: an atom of the byte form, as a UID or a PIN.
+    Bytes(Bytes),
+    /// A list of values.
+    List(Vec<Value>),
+    /// A name and its value. The name is a number or bytes where the value can be written.
+    Named(Box<Value>, Box<Value>),
+}
+
+/// The call of a method.
+#[derive(Debug, Drop)]
+pub struct Call {
+    /// The UID of the object, the highest byte first.
+    pub object: [u8; 8],
+    /// The UID of the method, the highest byte first.
+    pub method: [u8; 8],
+    pub args: Vec<Value>,
+    /// The three numbers of the status list. A reader of calls need not look at them.
+    pub status: [u64; 3],
+}
+
+/// The reply to a call.
+#[derive(Debug, Drop)]
+pub struct Reply {
+    pub results: Vec<Value>,
+    /// The status code of the method, and two numbers that are zero.
+    pub status: [u64; 3],
+}
+
+/// What one stream of tokens says.
+#[derive(Debug, Drop)]
+pub enum Item {
+    Call(Call),
+    Reply(Reply),
+    /// The session ends.
+    EndSession,
+    /// A transaction begins, with its status.
+    Begin(u64),
+    /// A transaction ends, with its status: 0 commits it, any other number aborts it.
+    End(u64),
+}

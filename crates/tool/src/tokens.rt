@@ -1,0 +1,44 @@
+//! One item of a token stream, told as text.
+
+ghost use Rattle.std.specs.Prelude.{◌≡◌, ◌++◌, ◌∷◌, [], ℕ, List, IfOk, Ok, Err, string_bytes};
+ghost use Rattle.std.specs.Io.KnownBytes.{Appends};
+ghost use Rattle.hex.specs.Hex.{decode_of};
+ghost use Rattle.hex.specs.declared.error.FromHexError.{FromHexError};
+ghost use Rattle.tool.specs.TokenLines.{token_text};
+
+use crate::script::RunError;
+use hex::FromHexError;
+use std::alloc::{AllocError, Global};
+use std::io::Write;
+use tcg_tokens::{TokenError, fault_text, item_text, read_item};
+
+/// The text of the item that the bytes spell, or of what is wrong with them.
+fn token_text(alloc: Global, bytes: &[u8]) -> Result<String, AllocError>
+    ensures { IfOk result (λ text. string_bytes text ≡ token_text bytes.now) }
+{
+    match read_item(alloc, bytes) {
+        Ok(item) => item_text(alloc, &item),
+        Err(TokenError::OutOfMemory) => Err(AllocError),
+        Err(fault) => fault_text(alloc, fault),
+    }
+}
+
+/// Prints the item that hex digits spell, or `malformed N NAME`, with status 0. Where the digits are no
+/// hex nothing is printed, and the status is 2.
+pub fn run_tokens<W: Write>(alloc: Global, hex: &str, output: &mut W) -> Result<u8, RunError>
+    ensures printed { (bytes : List ℕ) → decode_of hex.now ≡ Ok bytes → IfOk result (λ status. (status ≡ 0) × Appends (W.contents output.old) (W.contents output.new) (token_text bytes ++ 10 ∷ [])) }
+    ensures no_hex { (e : FromHexError) → decode_of hex.now ≡ Err e → IfOk result (λ status. status ≡ 2) }
+{
+    let bytes = match hex::decode(alloc, hex.as_bytes()) {
+        Ok(bytes) => bytes,
+        Err(FromHexError::OutOfMemory) => return Err(RunError::Memory),
+        Err(_) => return Ok(2),
+    };
+    let mut line = token_text(alloc, &bytes)?;
+    line.push_str("\n")?;
+    output
+        .write_all(line.as_bytes())
+        .map_err(|_| RunError::Write)?;
+    output.flush().map_err(|_| RunError::Write)?;
+    Ok(0)
+}
