@@ -6,7 +6,7 @@ use clap::{Arg, ArgMatches, Command};
 use std::alloc::{AllocError, Global};
 use std::io;
 use std::process::ExitCode;
-use tool::{Options, OptionsFault, run_script_with_faults};
+use tool::{Options, OptionsFault, run_script_with_faults, run_tokens};
 
 /// A command that opens a drive, with the options that say which.
 fn drive_command<'a>(
@@ -36,13 +36,25 @@ fn drive_command<'a>(
         .arg(msid)
 }
 
+/// The command that tells a token stream as text.
+fn tokens_command<'a>(alloc: Global) -> Result<Command<'a>, AllocError> {
+    let hex = Arg::new(alloc, "hex")
+        .value_name("HEX")
+        .required(true)
+        .help("The bytes of the tokens, in hex");
+    Command::new(alloc, "tokens")
+        .about("Tells the item that a token stream spells, or what is wrong with it")
+        .arg(hex)
+}
+
 /// The whole command line.
 fn command<'a>(alloc: Global) -> Result<Command<'a>, AllocError> {
     Command::new(alloc, "opalport")
         .about("A self-locking drive behind an AHCI port, driven by a script")
         .subcommand_required(true)
         .arg_required_else_help(true)
-        .subcommand(drive_command(alloc, "run", "Runs a script from standard input")?)
+        .subcommand(drive_command(alloc, "run", "Runs a script from standard input")?)?
+        .subcommand(tokens_command(alloc)?)
 }
 
 /// The options of a command, as they are written.
@@ -82,6 +94,22 @@ fn run(rt: &HostRuntime, matches: &ArgMatches) -> io::Result<u8> {
     }
 }
 
+/// Tells a token stream as text, and gives the status.
+fn tokens(rt: &HostRuntime, matches: &ArgMatches) -> io::Result<u8> {
+    let hex = matches.get_str("hex").unwrap_or("");
+    match run_tokens(rt.alloc(), hex, &mut rt.stdout()) {
+        Ok(2) => {
+            eprintln!(rt; "error: HEX is not written in hex digits, two for each byte")?;
+            Ok(2)
+        }
+        Ok(status) => Ok(status),
+        Err(error) => {
+            eprintln!(rt; "error: {error}")?;
+            Ok(2)
+        }
+    }
+}
+
 fn main(rt: HostRuntime) -> Result<ExitCode> {
     let alloc = rt.alloc();
     let words: Vec<String> = std::env::args(&rt)?.collect(alloc)?;
@@ -94,6 +122,7 @@ fn main(rt: HostRuntime) -> Result<ExitCode> {
     };
     let status = match matches.subcommand() {
         Some(("run", matches)) => run(&rt, matches)?,
+        Some(("tokens", matches)) => tokens(&rt, matches)?,
         _ => 2,
     };
     Ok(ExitCode::from(status))
