@@ -50,14 +50,14 @@ decision-policy o past fis command tag asked comes =
     let free : is_held past tag ≡ false = ap is_some comes.free in
     let busy : Bool = any_below (is_held past) 32 in
     let rows : RangeRows = ranges_in (in_force o past) in
-    ap (λ (b : Bool). if not b then Refused else judged o.config.sectors rows (is_some (failure past)) busy (is_held past) h) (eq-eqb (slice_index fis 0) 0x27 asked.kind)
-    ∙ ap (λ (b : Bool). if not b || is_some (failure past) then Refused else (if busy && not (is_queued h.command) then fails None 0x04 h None else known o.config.sectors rows (is_held past) h (reading h))) fine.0
-    ∙ ap (λ (b : Bool). if b then Refused else (if busy && not (is_queued h.command) then fails None 0x04 h None else known o.config.sectors rows (is_held past) h (reading h))) (ap is_some comes.mended)
-    ∙ ap (λ (b : Bool). if busy && not b then fails None 0x04 h None else known o.config.sectors rows (is_held past) h (reading h)) fine.1
-    ∙ ap (λ (b : Bool). if b then fails None 0x04 h None else known o.config.sectors rows (is_held past) h (reading h)) (and_false busy)
-    ∙ ap (known o.config.sectors rows (is_held past) h) asked.reads
-    ∙ ap (λ (b : Bool). admitted o.config.sectors rows b h tag command) free
-    ∙ admitted-free o.config.sectors rows h tag command comes.on_drive
+    ap (λ (b : Bool). if not b then Refused else judged o.tables.config.sectors rows (is_some (failure past)) busy (is_held past) h) (eq-eqb (slice_index fis 0) 0x27 asked.kind)
+    ∙ ap (λ (b : Bool). if not b || is_some (failure past) then Refused else (if busy && not (is_queued h.command) then fails None 0x04 h None else known o.tables.config.sectors rows (is_held past) h (reading h))) fine.0
+    ∙ ap (λ (b : Bool). if b then Refused else (if busy && not (is_queued h.command) then fails None 0x04 h None else known o.tables.config.sectors rows (is_held past) h (reading h))) (ap is_some comes.mended)
+    ∙ ap (λ (b : Bool). if busy && not b then fails None 0x04 h None else known o.tables.config.sectors rows (is_held past) h (reading h)) fine.1
+    ∙ ap (λ (b : Bool). if b then fails None 0x04 h None else known o.tables.config.sectors rows (is_held past) h (reading h)) (and_false busy)
+    ∙ ap (known o.tables.config.sectors rows (is_held past) h) asked.reads
+    ∙ ap (λ (b : Bool). admitted o.tables.config.sectors rows b h tag command) free
+    ∙ admitted-free o.tables.config.sectors rows h tag command comes.on_drive
 
 eqb_same : (n : ℕ) → (n == n) ≡ true
 eqb_same n = eq-eqb n n refl

@@ -54,7 +54,7 @@ one_later o act acts command tag w =
 accepted_here : (o : Opening) (acts : List Act) (fis payload : List ℕ) (command : Command) (tag : ℕ) → decision_after o (log o acts) fis ≡ Holds tag command → WasAccepted o (Accept fis payload ∷ acts) command tag
 accepted_here o acts fis payload command tag e =
     let past = log o acts in
-    let k = decision-holds o.config.sectors (ranges_in (in_force o past)) (is_some (failure past)) (any_below (is_held past) 32) (is_held past) fis tag command e in
+    let k = decision-holds o.tables.config.sectors (ranges_in (in_force o past)) (is_some (failure past)) (any_below (is_held past) 32) (is_held past) fis tag command e in
     record {
       before = acts;
       later = [];

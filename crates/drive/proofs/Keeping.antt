@@ -6,9 +6,8 @@ use Rattle.std.proofs.Math.ListN.{length-set}
 use Rattle.std.proofs.lemmas.List.{reverse-append}
 use Rattle.fis.specs.H2d.{h2d_at}
 use Rattle.fis.specs.declared.h2d.RegH2d.{RegH2d}
-use Rattle.locking.specs.Config.{Config}
 use Rattle.locking.specs.Range.{RangeRows}
-use Rattle.locking.specs.Table.{look_up_in}
+use Rattle.sp_tables.specs.Contents.{look_up}
 use Rattle.locking.specs.Ranges.{ranges_in}
 use Rattle.trusted_cmds.specs.declared.command.CommandError.{CommandError}
 use Rattle.trusted_cmds.specs.declared.command.CommandError.TheVariants.{Unknown, NotCommand, Device}
@@ -51,11 +50,11 @@ same_decision d o past fis h =
     let p : ℕ → Bool = is_held_at d.held in
     let q : ℕ → Bool = is_held past in
     let same : (t : ℕ) → p t ≡ q t = λ t. ap is_some (h.held_commands t) in
-    let rows : RangeRows = ranges_in (look_up_in o.cells) in
-    ap (λ (x : Opening). decision x.config.sectors (ranges_in (look_up_in x.cells)) (is_some d.failure) (any_below p 32) p fis) h.opening
-    ∙ ap (λ (x : Option Failure). decision o.config.sectors rows (is_some x) (any_below p 32) p fis) h.failed_queue
-    ∙ ap (λ (x : Bool). decision o.config.sectors rows (is_some (failure past)) x p fis) (any_below-agree p q 32 same)
-    ∙ decision-agree o.config.sectors rows (is_some (failure past)) (any_below q 32) p q fis same
+    let rows : RangeRows = ranges_in (look_up o.tables) in
+    ap (λ (x : Opening). decision x.tables.config.sectors (ranges_in (look_up x.tables)) (is_some d.failure) (any_below p 32) p fis) h.opening
+    ∙ ap (λ (x : Option Failure). decision o.tables.config.sectors rows (is_some x) (any_below p 32) p fis) h.failed_queue
+    ∙ ap (λ (x : Bool). decision o.tables.config.sectors rows (is_some (failure past)) x p fis) (any_below-agree p q 32 same)
+    ∙ decision-agree o.tables.config.sectors rows (is_some (failure past)) (any_below q 32) p q fis same
 
 -- a slot that is filled or emptied, read off the events
 held_here : (tag t : ℕ) (x now : Option Command) (rest : Option (Option Command)) → now ≡ unwrap_or rest None → (if tag == t then x else now) ≡ unwrap_or (or_else (if tag == t then Some x else None) rest) None

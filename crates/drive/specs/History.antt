@@ -1,7 +1,7 @@
 -- What a drive owes after a list of acts, by looking back over the list. The newest act comes first, so "before" is the tail.
 use Rattle.std.specs.Prelude.{ℕ, ◌+◌, ◌-◌, ◌*◌, ◌/◌, length, Bool, true, false, ◌==◌, ◌&&◌, nat_le, nat_lt, List, [], ◌∷◌, take, drop, is_some, unwrap_or, Option, Some, None, if◌then◌else◌}
-use Rattle.locking.specs.LookUp.{LookUp}
-use Rattle.locking.specs.Table.{look_up_in}
+use Rattle.sp_tables.specs.Flat.{LookUp}
+use Rattle.sp_tables.specs.Contents.{look_up}
 use Rattle.locking.specs.Ranges.{ranges_in}
 use Rattle.trusted_cmds.specs.declared.command.Command.{Command}
 use Rattle.trusted_cmds.specs.declared.command.Command.TheVariants.{ReadQueued, WriteQueued}
@@ -19,7 +19,7 @@ pub data Act : Type 0 where
 
 -- The rows in force: those of the opening.
 abbrev pub in_force : Opening → List Event → LookUp
-in_force o past = look_up_in o.cells
+in_force o past = look_up o.tables
 
 -- Held commands: what the latest event that speaks of the tag left under it. A failed queue drops them all.
 abbrev pub holding : ℕ → Deed → Option (Option Command)
@@ -61,7 +61,7 @@ sector past place = unwrap_or (latest (writing place) past) zeros
 -- What the drive does with a FIS after these events.
 abbrev pub decision_after : Opening → List Event → List ℕ → Decision
 decision_after o past fis =
-    decision o.config.sectors (ranges_in (in_force o past)) (is_some (failure past)) (any_below (is_held past) 32) (is_held past) fis
+    decision o.tables.config.sectors (ranges_in (in_force o past)) (is_some (failure past)) (any_below (is_held past) 32) (is_held past) fis
 
 -- A completion moves the data of what is held.
 abbrev pub completed : ℕ → List ℕ → Option Command → Event

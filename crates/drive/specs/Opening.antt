@@ -1,32 +1,67 @@
--- What a drive starts from: its configuration, and the cells of its ranges. Its media are zeros, and nothing is held.
-use Rattle.std.specs.Prelude.{ℕ, List, [], ◌∷◌, Option, Some, None, Result, Ok, Err}
-use Rattle.locking.specs.Config.{Config}
-use Rattle.locking.specs.Table.{factory_rows, set_fault, with_row}
+-- What a drive starts from: the tables of its SPs. Its media are zeros, and nothing is held.
+use Rattle.std.specs.Prelude.{ℕ, Bool, true, false, List, [], ◌∷◌, Option, Some, None, Result, Ok, Err}
+use Rattle.sp_tables.specs.Config.{Config}
+use Rattle.sp_tables.specs.Contents.{Contents, factory_contents, with_row}
+use Rattle.sp_tables.specs.Faults.{fault_of}
+use Rattle.sp_tables.specs.Names.{uid, col, range_uid, admin_pin_uid}
+use Rattle.sp_tables.specs.declared.names.Sp.{Sp}
+use Rattle.sp_tables.specs.declared.names.Sp.TheVariants.{Admin, Locking}
+use Rattle.sp_tables.specs.declared.names.Uid.{Uid}
+use Rattle.sp_tables.specs.declared.names.Column.{Column}
+use Rattle.sp_tables.specs.declared.cells.Cell.{Cell}
+use Rattle.sp_tables.specs.declared.cells.Cell.TheVariants.{Number, Bytes}
+use Rattle.sp_tables.specs.declared.error.SetError.{SetError}
 use Rattle.locking.specs.declared.range.RangeRow.{RangeRow}
-use Rattle.locking.specs.declared.range_table.RangeCells.{RangeCells}
-use Rattle.locking.specs.declared.set_error.SetError.{SetError}
 
 pub record Opening : Type 0 where
-  pub config : Config
-  pub cells : List RangeCells
+  pub tables : Contents
 
+-- The tables as they leave the factory.
 abbrev pub factory : Config → Opening
-factory config = record { config = config; cells = factory_rows }
+factory config = record { tables = factory_contents config }
 
 -- The fault, or else what follows.
 abbrev pub unless : {A : Type 0} → Option SetError → Result A SetError → Result A SetError
 unless None next = next
 unless (Some fault) next = Err fault
 
--- The rows are set one after the other, and the first refused one decides.
-abbrev pub set_all : ℕ → List RangeRow → List RangeCells → Result (List RangeCells) SetError
-set_all sectors [] table = Ok table
-set_all sectors (row ∷ rows) table = unless (set_fault sectors row table) (set_all sectors rows (with_row row table))
+-- The cells of an object are set, and then something follows.
+abbrev pub set_then : Sp → Uid → List (Column × Cell) → (Contents → Result Contents SetError) → Contents → Result Contents SetError
+set_then sp object changes next tables = unless (fault_of tables sp object changes) (next (with_row sp object changes tables))
 
-abbrev pub opening_over : Config → Result (List RangeCells) SetError → Result Opening SetError
-opening_over config (Ok cells) = Ok (record { config = config; cells = cells })
-opening_over config (Err fault) = Err fault
+abbrev pub flag : Bool → Cell
+flag true = Number 1
+flag false = Number 0
 
--- The factory's cells, with the given cells of ranges.
+-- RangeStart, RangeLength, ReadLockEnabled, WriteLockEnabled, ReadLocked, WriteLocked (Opal SSC, Locking table).
+abbrev pub changes_of : RangeRow → List (Column × Cell)
+changes_of row =
+    (col 3, Number row.start) ∷ (col 4, Number row.length) ∷ (col 5, flag row.read_enabled) ∷ (col 6, flag row.write_enabled)
+    ∷ (col 7, flag row.read_locked) ∷ (col 8, flag row.write_locked) ∷ []
+
+-- The given rows are set one after the other, and the first refused one decides.
+abbrev pub set_ranges : List RangeRow → Contents → Result Contents SetError
+set_ranges [] tables = Ok tables
+set_ranges (row ∷ rows) tables = set_then Locking (range_uid row.range) (changes_of row) (set_ranges rows) tables
+
+-- The Locking SP is Manufactured, as after an Activate, and the PIN of its Admin1 is the MSID.
+abbrev pub life_cycle : List (Column × Cell)
+life_cycle = (col 6, Number 9) ∷ []
+
+abbrev pub pin : List ℕ → List (Column × Cell)
+pin msid = (col 3, Bytes msid) ∷ []
+
+abbrev pub locking_sp : Uid
+locking_sp = uid 0x0000020500000002
+
+abbrev pub opened_tables : Config → List RangeRow → Result Contents SetError
+opened_tables config rows =
+    set_then Admin locking_sp life_cycle (set_then Locking (admin_pin_uid 1) (pin config.msid) (set_ranges rows)) (factory_contents config)
+
+abbrev pub opening_over : Result Contents SetError → Result Opening SetError
+opening_over (Ok tables) = Ok (record { tables = tables })
+opening_over (Err fault) = Err fault
+
+-- The factory's tables after an Activate, with the given cells of ranges.
 abbrev pub opened : Config → List RangeRow → Result Opening SetError
-opened config rows = opening_over config (set_all config.sectors rows factory_rows)
+opened config rows = opening_over (opened_tables config rows)

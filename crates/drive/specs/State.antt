@@ -1,6 +1,6 @@
 -- When a drive stands as a list of acts leaves it.
 use Rattle.std.specs.Prelude.{◌≡◌, ℕ, Bool, List, [], length, reverse, slice_set, is_some, Option, Some, None}
-use Rattle.locking.specs.Table.{look_up_in}
+use Rattle.sp_tables.specs.Contents.{look_up}
 use Rattle.locking.specs.Ranges.{ranges_in}
 use Rattle.trusted_cmds.specs.declared.command.Command.{Command}
 use Rattle.drive.specs.declared.failure.Failure.{Failure}
@@ -38,7 +38,7 @@ AgreesInOrder drive o acts = Agrees drive o (reverse acts)
 -- What the drive does with a FIS, by how it stands.
 abbrev pub decision_on : State → List ℕ → Decision
 decision_on drive fis =
-    decision drive.opening.config.sectors (ranges_in (look_up_in drive.opening.cells)) (is_some drive.failure) (any_below (is_held_at drive.held) 32) (is_held_at drive.held) fis
+    decision drive.opening.tables.config.sectors (ranges_in (look_up drive.opening.tables)) (is_some drive.failure) (any_below (is_held_at drive.held) 32) (is_held_at drive.held) fis
 
 -- How the drive stands after a decision.
 abbrev pub decided : State → Decision → State

@@ -1,7 +1,7 @@
 -- Laws over every list of acts.
 use Rattle.std.specs.Prelude.{◌≡◌, ℕ, ◌+◌, ◌≤◌, ◌==◌, ◌↔◌, Bool, true, false, is_some, List, [], ◌∷◌, ◌++◌, slice_index, Option, Some, None, Result, Ok}
 use Rattle.fis.specs.H2d.{h2d_at}
-use Rattle.locking.specs.LookUp.{LookUp}
+use Rattle.sp_tables.specs.Flat.{LookUp}
 use Rattle.locking.specs.Ranges.{ranges_in}
 use Rattle.locking.specs.Verdict.{ArePermitted}
 use Rattle.locking.specs.declared.range.Op.{Op}
@@ -34,7 +34,7 @@ pub record WasAccepted (o : Opening) (acts : List Act) (command : Command) (tag 
   pub payload : List ℕ
   pub place : acts ≡ later ++ Accept fis payload ∷ before
   pub asked : IsAsked fis command tag
-  pub on_drive : lba_of command + count_of command ≤ o.config.sectors
+  pub on_drive : lba_of command + count_of command ≤ o.tables.config.sectors
   pub permitted : IsPermitted (in_force o (log o before)) command
 
 -- What is held, and so what a completion serves, was permitted at its acceptance.
@@ -46,7 +46,7 @@ HeldLaw =
 pub record ComesToPolicy (o : Opening) (past : List Event) (command : Command) (tag : ℕ) : Type 0 where
   pub mended : failure past ≡ None
   pub free : held past tag ≡ None
-  pub on_drive : lba_of command + count_of command ≤ o.config.sectors
+  pub on_drive : lba_of command + count_of command ≤ o.tables.config.sectors
 
 -- And what comes to the policy is held exactly where it is permitted; else it fails with 04h and a reason.
 pub record IsJudged (o : Opening) (acts : List Act) (fis payload : List ℕ) (command : Command) (tag : ℕ) : Type 0 where

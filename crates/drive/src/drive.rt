@@ -7,11 +7,12 @@ ghost use Rattle.drive.specs.Completions.{expected, data_of, sector_then, is_rea
 use crate::answer::{Accepted, Completed, completion_fises};
 use crate::decision::{Decision, decide};
 use crate::failure::Failure;
-use crate::opening::table_with;
+use crate::opening::tables_with;
 use crate::queue::{no_commands, settle};
 use fis::Tag;
-use locking::{DriveConfig, RangeRow, RangeTable, Ranges, SetError};
+use locking::{RangeRow, Ranges};
 use shadow_mbr::Media;
+use sp_tables::{DriveConfig, SetError, Tables};
 use std::alloc::{AllocError, Global};
 use std::marker::Model;
 use thiserror::Error;
@@ -89,8 +90,7 @@ fn shape(command: Command) -> (bool, u32)
 #[derive(Drop)]
 pub struct Drive {
     alloc: Global,
-    config: DriveConfig,
-    table: RangeTable,
+    tables: Tables,
     ranges: Ranges,
     media: Media,
     held: [Option<Command>; 32],
@@ -99,22 +99,22 @@ pub struct Drive {
 
 impl Model for Drive {
     ghost use Rattle.std.specs.Prelude.{◌≡◌, ◌≤◌, ◌^◌};
-    ghost use Rattle.locking.specs.Table.{look_up_in};
+    ghost use Rattle.sp_tables.specs.Contents.{look_up};
     ghost use Rattle.locking.specs.Ranges.{ranges_in};
     ghost use Rattle.drive.specs.Decisions.{AllFit};
     ghost use Rattle.drive.specs.State.{State};
 
     ghost Value = { State };
 
-    ghost view = { λ a. record { opening = record { config = a.config; cells = a.table }; held = a.held; failure = a.failure; media = a.media } };
+    ghost view = { λ a. record { opening = record { tables = a.tables }; held = a.held; failure = a.failure; media = a.media } };
 
-    ghost invariant = { λ a. (a.config.sectors ≤ 2 ^ 48) × (a.ranges ≡ ranges_in (look_up_in a.table)) × (a.media.sectors ≡ a.config.sectors) × AllFit a.config.sectors a.held };
+    ghost invariant = { λ a. (a.tables.config.sectors ≤ 2 ^ 48) × (a.ranges ≡ ranges_in (look_up a.tables)) × (a.media.sectors ≡ a.tables.config.sectors) × AllFit a.tables.config.sectors a.held };
 }
 
 impl Drive {
     ghost use Rattle.std.specs.Prelude.{◌≡◌, ◌≤◌, ◌^◌, ◌⊎◌, [], ◌∷◌, ◌++◌, List, ◌<◌, ◌↔◌, OnOk, OnErr, IfOk, IfErr, IsErrOf, IsOkUnless, None, Ok, Err, length};
     ghost use Rattle.locking.specs.declared.range.RangeRow.{RangeRow};
-    ghost use Rattle.locking.specs.declared.set_error.SetError.{SetError};
+    ghost use Rattle.sp_tables.specs.declared.error.SetError.{SetError};
     ghost use Rattle.drive.specs.Opening.{Opening, factory, opened};
     ghost use Rattle.drive.specs.Decisions.{NamesSlot, held_at};
     ghost use Rattle.shadow_mbr.specs.Stored.{sector_at};
@@ -129,14 +129,14 @@ impl Drive {
         ensures agrees { IfOk result (λ drive. Agrees drive (factory config) []) }
         ensures memory { IsOkUnless result DriveError.OutOfMemory }
     {
-        let table = RangeTable::factory(alloc)?;
-        let drive = Drive::over(alloc, config, table)?;
+        let tables = Tables::factory(alloc, &config)?;
+        let drive = Drive::over(alloc, tables)?;
         Ok(drive)
     }
 
-    /// A drive with the given cells of ranges, on which nothing was done. The rows are set one after
-    /// the other, and the first refused one decides: `NoCell` for a range above the last, `Overlap`,
-    /// `Beyond`.
+    /// A drive with the given cells of ranges, on which nothing was done: the factory's tables after an
+    /// Activate of the Locking SP, whose Admin1 has the MSID as its PIN. The rows are set one after the
+    /// other, and the first refused one decides: `NoCell` for a range above the last, `Overlap`, `Beyond`.
     pub fn with_ranges(
         alloc: Global,
         config: DriveConfig,
@@ -145,21 +145,20 @@ impl Drive {
         ensures agrees { IfOk result (λ drive. (o : Opening) × (opened config rows.now ≡ Ok o) × Agrees drive o []) }
         ensures err { IfErr result (λ e. (e ≡ SetError.OutOfMemory) ⊎ (opened config rows.now ≡ Err e)) }
     {
-        let table = table_with(alloc, config.sectors(), rows)?;
-        let drive = Drive::over(alloc, config, table)?;
+        let tables = tables_with(alloc, &config, rows)?;
+        let drive = Drive::over(alloc, tables)?;
         Ok(drive)
     }
 
-    /// A drive over the cells of its ranges.
-    fn over(alloc: Global, config: DriveConfig, table: RangeTable) -> Result<Drive, AllocError>
-        ensures { IfOk result (λ drive. Agrees drive (record { config = config; cells = table }) []) }
+    /// A drive over its tables.
+    fn over(alloc: Global, tables: Tables) -> Result<Drive, AllocError>
+        ensures { IfOk result (λ drive. Agrees drive (record { tables = tables }) []) }
     {
-        let sectors = config.sectors();
-        let ranges = Ranges::of(alloc, &table)?;
+        let sectors = tables.config().sectors();
+        let ranges = Ranges::of(alloc, &tables)?;
         Ok(Drive {
             alloc,
-            config,
-            table,
+            tables,
             ranges,
             media: Media::new(alloc, sectors),
             held: no_commands(),
@@ -186,11 +185,11 @@ impl Drive {
 
     /// What the drive does with a FIS.
     fn decision(&self, fis: &[u8; 20]) -> Decision
-        ensures slot { NamesSlot self.now.opening.config.sectors result }
+        ensures slot { NamesSlot self.now.opening.tables.config.sectors result }
         ensures value { result ≡ decision_on self.now fis.now }
     {
         decide(
-            self.config.sectors(),
+            self.tables.config().sectors(),
             &self.ranges,
             self.failure.is_some(),
             &self.held,
@@ -199,7 +198,7 @@ impl Drive {
     }
 
     fn take(&mut self, fis: &[u8; 20]) -> Accepted
-        ensures slot { NamesSlot self.old.opening.config.sectors (decision_on self.old fis.now) }
+        ensures slot { NamesSlot self.old.opening.tables.config.sectors (decision_on self.old fis.now) }
         ensures state { self.new ≡ decided self.old (decision_on self.old fis.now) }
         ensures answer { IsAnswer (event_of (decision_on self.old fis.now)) result }
     {

@@ -14,7 +14,9 @@ pub use answer::{Accepted, Completed};
 pub use drive::{Drive, DriveError};
 pub use failure::Failure;
 pub use laws::laws_of_transfers;
-pub use locking::{DriveConfig, RangeRow, SetError, Why};
+pub use locking::{RangeRow, Why};
+pub use opening::set_range;
+pub use sp_tables::{DriveConfig, SetError};
 
 #[cfg(test)]
 mod tests;

@@ -1,5 +1,5 @@
 -- What a range covers and permits (Opal SSC, Locking table).
-use Rattle.std.specs.Prelude.{ℕ, ◌+◌, ◌==◌, Bool, true, false, not, ◌&&◌, ◌||◌, nat_le, nat_lt, List, [], ◌∷◌, if◌then◌else◌}
+use Rattle.std.specs.Prelude.{ℕ, ◌+◌, Bool, not, ◌&&◌, nat_le, nat_lt, List, [], ◌∷◌, if◌then◌else◌}
 use Rattle.locking.specs.declared.range.Op.{Op}
 use Rattle.locking.specs.declared.range.Op.TheVariants.{Read, Write}
 use Rattle.locking.specs.declared.range.RangeRow.{RangeRow}
@@ -12,23 +12,6 @@ covers row sector = nat_le row.start sector && nat_lt sector (row.start + row.le
 abbrev pub permits : Op → RangeRow → Bool
 permits Read row = not (row.read_enabled && row.read_locked)
 permits Write row = not (row.write_enabled && row.write_locked)
-
--- Two ranges have a sector in common: neither is empty, and one covers the first sector of the other.
-abbrev pub meets : RangeRow → RangeRow → Bool
-meets row other =
-    not (row.length == 0) && (not (other.length == 0) && (covers row other.start || covers other row.start))
-
--- A range as the factory leaves it.
-abbrev pub empty_row : ℕ → RangeRow
-empty_row range = record {
-  range = range;
-  start = 0;
-  length = 0;
-  read_enabled = false;
-  write_enabled = false;
-  read_locked = false;
-  write_locked = false;
-}
 
 -- The first row that covers the sector, else the last resort.
 abbrev pub row_in : List RangeRow → RangeRow → ℕ → RangeRow

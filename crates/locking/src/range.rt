@@ -20,22 +20,7 @@ pub struct RangeRow {
 
 impl RangeRow {
     ghost use Rattle.std.specs.Prelude.{◌≡◌};
-    ghost use Rattle.locking.specs.Range.{covers, permits, meets, empty_row};
-
-    /// A range as the factory leaves it: no sectors of its own and no lock.
-    pub fn empty(range: u8) -> RangeRow
-        ensures { result ≡ empty_row range }
-    {
-        RangeRow {
-            range,
-            start: 0,
-            length: 0,
-            read_enabled: false,
-            write_enabled: false,
-            read_locked: false,
-            write_locked: false,
-        }
-    }
+    ghost use Rattle.locking.specs.Range.{covers, permits};
 
     /// Whether the sector is one of the range's. A range of length 0 has none.
     pub fn covers(&self, sector: u64) -> bool
@@ -52,14 +37,5 @@ impl RangeRow {
             Op::Read => !(self.read_enabled && self.read_locked),
             Op::Write => !(self.write_enabled && self.write_locked),
         }
-    }
-
-    /// Whether two ranges have a sector in common: one covers the first sector of the other.
-    pub fn meets(&self, other: &RangeRow) -> bool
-        ensures { result ≡ meets self.now other.now }
-    {
-        self.length != 0
-            && other.length != 0
-            && (self.covers(other.start) || other.covers(self.start))
     }
 }

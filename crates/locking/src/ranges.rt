@@ -1,12 +1,13 @@
 ghost use Rattle.std.specs.Prelude.{◌≡◌, ◌≤◌, IfOk};
 ghost use Rattle.locking.specs.Range.{row_in};
-ghost use Rattle.locking.specs.Ranges.{number_at, row_of, rows_from};
+ghost use Rattle.sp_tables.specs.Ranges.{of_range};
+ghost use Rattle.sp_tables.specs.declared.names.TheConstants.{RANGES};
+ghost use Rattle.locking.specs.Ranges.{row_of, rows_from};
 ghost use Rattle.locking.specs.Verdict.{why_of};
 
 use crate::audit::Why;
 use crate::range::{Op, RangeRow};
-use crate::range_table::{RANGES, range_uid};
-use crate::rows::{Cell, Column, Rows, Sp};
+use sp_tables::{Column, RANGES, Rows, Sp, Uid, number_at};
 use std::alloc::{AllocError, Global};
 use std::marker::Model;
 
@@ -115,13 +116,10 @@ fn row_in(rows: &[RangeRow], global: RangeRow, sector: u64) -> RangeRow
 }
 
 /// The number in a column of a range, 0 where there is none.
-fn number_at<R: Rows>(rows: &R, range: u8, column: Column) -> u64
-    ensures { result ≡ number_at (R.look_up rows.now) range column }
+fn number_of<R: Rows>(rows: &R, range: u8, column: u64) -> u64
+    ensures { result ≡ of_range (R.look_up rows.now) range column }
 {
-    match rows.cell(Sp::Locking, range_uid(range), column) {
-        Some(Cell::Number(number)) => *number,
-        None => 0,
-    }
+    number_at(rows, Sp::Locking, Uid::range(range), Column(column))
 }
 
 fn row_of<R: Rows>(rows: &R, range: u8) -> RangeRow
@@ -129,17 +127,17 @@ fn row_of<R: Rows>(rows: &R, range: u8) -> RangeRow
 {
     RangeRow {
         range,
-        start: number_at(rows, range, 3),
-        length: number_at(rows, range, 4),
-        read_enabled: number_at(rows, range, 5) == 1,
-        write_enabled: number_at(rows, range, 6) == 1,
-        read_locked: number_at(rows, range, 7) == 1,
-        write_locked: number_at(rows, range, 8) == 1,
+        start: number_of(rows, range, 3),
+        length: number_of(rows, range, 4),
+        read_enabled: number_of(rows, range, 5) == 1,
+        write_enabled: number_of(rows, range, 6) == 1,
+        read_locked: number_of(rows, range, 7) == 1,
+        write_locked: number_of(rows, range, 8) == 1,
     }
 }
 
 fn numbered_rows<R: Rows>(alloc: Global, rows: &R) -> Result<Vec<RangeRow>, AllocError>
-    ensures { IfOk result (λ v. v.items ≡ rows_from (R.look_up rows.now) 1 8) }
+    ensures { IfOk result (λ v. v.items ≡ rows_from (R.look_up rows.now) 1 RANGES) }
 {
     let mut numbered = Vec::new(alloc);
     for range in 1..RANGES + 1 {

@@ -1,4 +1,4 @@
--- Bytes in sectors of 512 (ACS-3, 4.1), by what is kept of them.
+-- Bytes in logical sectors of 256 words (ACS-3, IDENTIFY DEVICE word 106), by what is kept of them.
 use Rattle.std.specs.Prelude.{◌≡◌, ℕ, zero, suc, [], ◌++◌, ◌+◌, ◌-◌, ◌*◌, ◌/◌, ◌%◌, ◌^◌, ◌<◌, ◌≤◌, ◌&&◌, nat_le, nat_lt, nat_eq, not, is_some, Bool, true, List, length, take, drop, replicate, Option, unwrap_or, slice_index, if◌then◌else◌}
 use Rattle.std.specs.List.{list_any}
 use Rattle.std.specs.List.Sorted.{IsStrictlySortedBy}

@@ -2,7 +2,7 @@ use crate::sectors::Sectors;
 use std::alloc::{AllocError, Global};
 use std::marker::Model;
 
-/// The bytes of the MBR table (Opal SSC 2.01, 4.3), zeros where nothing was written.
+/// The bytes of the MBR table (Opal SSC 2.01, 4.3.5.4), zeros where nothing was written.
 #[derive(Drop)]
 pub struct Mbr {
     held: Sectors,

@@ -2,7 +2,8 @@ use crate::sectors::{Block, SECTOR, Sectors};
 use std::alloc::{AllocError, Global};
 use std::marker::Model;
 
-/// The sectors of a drive, of 512 bytes each (ACS-3, 4.1), zeros where nothing was written.
+/// The sectors of a drive, of 512 bytes each (ACS-3, IDENTIFY DEVICE word 106), zeros where nothing
+/// was written.
 #[derive(Drop)]
 pub struct Media {
     held: Sectors,
@@ -59,6 +60,7 @@ impl Media {
         ensures bytes { (k : ℕ) → k < length buffer.new → slice_index buffer.new k ≡ byte_at self.now (512 * lba + k) }
         ensures chunks { (k : ℕ) → 512 * k < length buffer.new → slice_range buffer.new (512 * k) (512 * k + 512) ≡ sector_at self.now (lba + k) }
         ensures exact { buffer.new ≡ sectors_from (sector_at self.now) lba (length buffer.old / 512) }
+        ensures each { (sector : ℕ) → length (sector_at self.now sector) ≡ 512 }
     {
         self.held.read(SECTOR * lba, buffer);
     }

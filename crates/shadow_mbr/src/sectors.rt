@@ -5,7 +5,7 @@ use std::alloc::{AllocError, Global};
 use std::collections::BTreeMap;
 use std::marker::Model;
 
-/// The bytes of a sector (ACS-3, 4.1).
+/// The bytes of a sector (ACS-3, IDENTIFY DEVICE word 106).
 pub(crate) const SECTOR: u64 = 512;
 
 /// What a sector holds.

@@ -43,7 +43,8 @@ fn write_many(alloc: Global, media: &mut Media, bytes: &[u8]) -> Result<(bool, [
     Ok((refused, after))
 }
 
-/// A write over sectors of which one is there and the others are not. Where memory is refused, the bytes are as before, and the write can be made again.
+/// A write over sectors of which one is there and the others are not. Where memory is refused, the
+/// bytes are as before, and the write can be made again.
 #[test]
 fn a_refused_write_changes_nothing(rt: HostRuntime) -> Result<(), Fail> {
     let alloc = rt.alloc();

@@ -7,3 +7,4 @@ pub mod Items
 pub mod Writings
 pub mod Short
 pub mod Shortest
+pub mod Settled

@@ -1,6 +1,8 @@
 //! Items from bytes.
 
-ghost use Rattle.std.specs.Prelude.{◌≡◌, ◌==◌, length, Some, None, Ok, IfOk, if◌then◌else◌};
+ghost use Rattle.std.specs.Prelude.{◌≡◌, ◌≢◌, ◌++◌, ◌==◌, List, ℕ, Err, length, Some, None, Ok, IfOk, if◌then◌else◌};
+ghost use Rattle.tcg_tokens.specs.declared.error.TokenError.{TokenError};
+ghost use Rattle.tcg_tokens.specs.declared.error.TokenError.TheVariants.{Truncated, OutOfMemory};
 ghost use Rattle.tcg_tokens.specs.Gives.{Gives};
 ghost use Rattle.tcg_tokens.specs.Grammar.{Spells};
 ghost use Rattle.tcg_tokens.specs.Lexeme.{seen};
@@ -290,6 +292,8 @@ pub fn read_item(alloc: Global, bytes: &[u8]) -> Result<Item, TokenError>
     ensures only { (m : Message) → Spells bytes.now m → Gives message result (Ok m) }
     // Which error it is: the one that is met first from the left.
     ensures exact { Gives message result (reading bytes.now) }
+    // A fault is decided where it stands: whatever bytes follow, it stays. Truncated alone is due to their end.
+    ensures settled { (e : TokenError) → result ≡ Err e → e ≢ Truncated → e ≢ OutOfMemory → (more : List ℕ) → reading (bytes.now ++ more) ≡ Err e }
 {
     read_whole(alloc, bytes)
 }

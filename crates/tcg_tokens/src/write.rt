@@ -2,6 +2,7 @@
 
 ghost use Rattle.std.specs.Prelude.{◌≡◌, ◌<◌, ◌≤◌, ◌+◌, ◌^◌, ◌++◌, ◌∷◌, [], List, ℕ, length, true, IfOk, IsTrue, Ok, vec_len, vec_capacity};
 ghost use Rattle.std.specs.List.{flat_map};
+ghost use Rattle.tcg_tokens.specs.declared.limits.TheConstants.{LENGTH_BITS};
 ghost use Rattle.tcg_tokens.specs.Grammar.{IsFill, Spells};
 ghost use Rattle.tcg_tokens.specs.Length.{len_of};
 ghost use Rattle.tcg_tokens.specs.Lexeme.{AreBytes, code_of};
@@ -83,7 +84,7 @@ fn put_mark(out: &mut Vec<u8>, mark: Mark)
 
 /// What stands before the content of an atom, in its shortest form.
 fn put_header(out: &mut Vec<u8>, is_bytes: bool, len: usize)
-    requires short { len < 2 ^ 24 }
+    requires short { len < 2 ^ LENGTH_BITS }
     requires room { vec_len out.old + length (header is_bytes len) ≤ vec_capacity out.old }
     ensures items { out.new.items ≡ out.old.items ++ header is_bytes len }
     ensures len { vec_len out.new ≡ vec_len out.old + length (header is_bytes len) }
@@ -144,7 +145,7 @@ fn put_number(out: &mut Vec<u8>, number: u64)
 /// Bytes in the shortest atom.
 #[tactic(auto, unfolding(crate::specs::Spelling::bytes_spelling))]
 fn put_bytes(out: &mut Vec<u8>, content: &[u8])
-    requires short { length content.now < 2 ^ 24 }
+    requires short { length content.now < 2 ^ LENGTH_BITS }
     requires room { vec_len out.old + length (bytes_spelling content.now) ≤ vec_capacity out.old }
     ensures items { out.new.items ≡ out.old.items ++ bytes_spelling content.now }
     ensures len { vec_len out.new ≡ vec_len out.old + length (bytes_spelling content.now) }

@@ -3,7 +3,12 @@ use Rattle.drive.proofs.Keeping.{new_agrees}
 use Rattle.drive.proofs.drive.Drive.over.Goals as goal
 
 pub invariant_of-result : goal.invariant_of-result
-invariant_of-result c = (rw c.sectors-sectors.ensures.value at c.sectors-sectors.ensures.most, c.in_ok-ranges.ensures, rw c.new.ensures.exact (c.sectors-sectors.ensures.value), c.no_commands.ensures.fit c.args.config.sectors)
+invariant_of-result c = (
+    rw c.config.ensures at c.sectors-sectors.ensures.limits.sectors_named,
+    c.in_ok-ranges.ensures,
+    rw c.new.ensures.exact (rw c.config.ensures at c.sectors-sectors.ensures.value),
+    c.no_commands.ensures.fit c.args.tables.config.sectors,
+  )
 
 pub returns : goal.returns
 returns c = new_agrees _ _ c.new.result (rw c.no_commands.ensures.none refl) c.new.ensures.blank

@@ -1,0 +1,483 @@
+use super::*;
+use arrayvec::ArrayVec;
+use std::alloc::{AllocError, Global};
+use std::test::Fail;
+
+const MSID: &[u8] = b"OPALMSID";
+
+/// The tables of a new drive of 1,000 sectors with a shadow of 8.
+fn new_tables(alloc: Global) -> Result<Tables, Fail> {
+    let config = DriveConfig::new(1000, 8, MSID).ok_or("limits")?;
+    Ok(Tables::factory(alloc, &config)?)
+}
+
+fn is_number(tables: &Tables, sp: Sp, object: Uid, column: Column, number: u64) -> bool {
+    matches!(tables.get_cell(sp, object, column), Some(Cell::Number(n)) if *n == number)
+}
+
+fn is_bytes(tables: &Tables, sp: Sp, object: Uid, column: Column, bytes: &[u8]) -> bool {
+    match tables.get_cell(sp, object, column) {
+        Some(Cell::Bytes(b)) => b.as_slice() == bytes,
+        _ => false,
+    }
+}
+
+fn is_uid(tables: &Tables, sp: Sp, object: Uid, column: Column, uid: Uid) -> bool {
+    matches!(tables.get_cell(sp, object, column), Some(Cell::Uid(u)) if *u == uid)
+}
+
+fn is_power_cycle_alone(tables: &Tables, object: Uid, column: Column) -> bool {
+    match tables.get_cell(Sp::Locking, object, column) {
+        Some(Cell::Numbers(resets)) => resets.power_cycle && !resets.hardware,
+        _ => false,
+    }
+}
+
+fn is_expr(tables: &Tables, sp: Sp, entry: u64, elements: &[Element]) -> bool {
+    match tables.get_cell(
+        sp,
+        Uid(0x0000_0008_0000_0000 + entry % 0x10_0000),
+        Column::BOOLEAN_EXPR,
+    ) {
+        Some(Cell::Expr(expr)) => expr.as_slice() == elements,
+        _ => false,
+    }
+}
+
+fn has_columns(tables: &Tables, sp: Sp, entry: u64, columns: &[Column]) -> bool {
+    match tables.get_cell(
+        sp,
+        Uid(0x0000_0008_0000_0000 + entry % 0x10_0000),
+        Column::COLUMNS,
+    ) {
+        Some(Cell::Columns(c)) => c.as_slice() == columns,
+        _ => false,
+    }
+}
+
+#[test]
+fn limits_of_a_configuration(rt: HostRuntime) {
+    let long = [7u8; 33];
+    for (sectors, mbr_sectors, msid_len, within) in [
+        (1, 0, 1, true),
+        (0, 0, 1, false),
+        (0x1_0000_0000_0000, 262_144, 32, true),
+        (0x1_0000_0000_0001, 0, 1, false),
+        (1_000_000, 262_145, 1, false),
+        (4, 4, 1, true),
+        (4, 5, 1, false),
+        (4, 4, 0, false),
+        (4, 4, 33, false),
+    ] {
+        let msid = long.get(..msid_len).unwrap_or(&long);
+        assert_eq!(rt;
+            DriveConfig::new(sectors, mbr_sectors, msid).is_some(),
+            within
+        );
+    }
+}
+
+#[test]
+fn names_of_a_new_drive(rt: HostRuntime) -> Result<(), Fail> {
+    let tables = new_tables(rt.alloc())?;
+    for (sp, object, name) in [
+        (Sp::Admin, 0x0000_0205_0000_0002, "Locking"),
+        (Sp::Admin, 0x0000_0009_0000_0006, "SID"),
+        (Sp::Admin, 0x0000_000b_0000_8402, "C_PIN_MSID"),
+        (Sp::Admin, 0x0000_0008_0000_8c02, "C_PIN_SID_Get_NOPIN"),
+        (Sp::Locking, 0x0000_0009_0001_0004, "Admin4"),
+        (Sp::Locking, 0x0000_0009_0003_0000, "Users"),
+        (Sp::Locking, 0x0000_000b_0003_0003, "C_PIN_User3"),
+        (Sp::Locking, 0x0000_0802_0000_0001, "Locking_GlobalRange"),
+        (Sp::Locking, 0x0000_0802_0003_0008, "Locking_Range8"),
+        (Sp::Locking, 0x0000_0008_0003_a805, "C_PIN_User5_Set_PIN"),
+        (Sp::Locking, 0x0000_0008_0003_e000, "Range_0_Set_RdLocked"),
+        (Sp::Locking, 0x0000_0008_0003_e808, "Range_8_Set_WrLocked"),
+        (
+            Sp::Locking,
+            0x0000_0008_0003_f801,
+            "MBRControl_Set_DoneToDOR",
+        ),
+    ] {
+        assert!(rt;
+            is_bytes(&tables, sp, Uid(object), Column::NAME, name.as_bytes()),
+            "{name}"
+        );
+        assert!(rt;
+            is_uid(&tables, sp, Uid(object), Column::UID, Uid(object)),
+            "{name}"
+        );
+    }
+    Ok(())
+}
+
+#[test]
+fn cells_of_a_new_drive(rt: HostRuntime) -> Result<(), Fail> {
+    let tables = new_tables(rt.alloc())?;
+    for (sp, object, column, number) in [
+        (Sp::Admin, Uid::ADMIN_SP, Column::LIFE_CYCLE_STATE, 9),
+        (Sp::Admin, Uid::LOCKING_SP, Column::LIFE_CYCLE_STATE, 8),
+        (Sp::Admin, Uid::C_PIN_SID, Column::TRY_LIMIT, 5),
+        (Sp::Admin, Uid::C_PIN_MSID, Column::TRY_LIMIT, 0),
+        (Sp::Locking, Uid::admin(1), Column::ENABLED, 1),
+        (Sp::Locking, Uid::admin(2), Column::ENABLED, 0),
+        (Sp::Locking, Uid::user(8), Column::ENABLED, 0),
+        (Sp::Locking, Uid::USERS, Column::IS_CLASS, 1),
+        (Sp::Locking, Uid::user(8), Column::OPERATION, 1),
+        (Sp::Locking, Uid::range(3), Column::RANGE_LENGTH, 0),
+        (Sp::Locking, Uid::MBR_CONTROL, Column::MBR_DONE, 0),
+    ] {
+        assert!(rt; is_number(&tables, sp, object, column, number));
+    }
+    assert!(rt; is_bytes(&tables, Sp::Admin, Uid::C_PIN_SID, Column::PIN, MSID));
+    assert!(rt; is_bytes(&tables, Sp::Locking, Uid::pin_of_admin(1), Column::PIN, b""));
+    assert!(rt;
+        is_uid(
+            &tables,
+            Sp::Locking,
+            Uid::user(2),
+            Column::CLASS,
+            Uid::USERS
+        )
+    );
+    assert!(rt;
+        is_uid(
+            &tables,
+            Sp::Locking,
+            Uid::user(2),
+            Column::CREDENTIAL,
+            Uid::pin_of_user(2)
+        )
+    );
+    assert!(rt; is_power_cycle_alone(&tables, Uid::range(0), Column::LOCK_ON_RESET));
+    assert!(rt; is_power_cycle_alone(&tables, Uid::MBR_CONTROL, Column::MBR_DONE_ON_RESET));
+    let either = [
+        Element::Authority(Uid::ADMINS),
+        Element::Authority(Uid::user(7)),
+        Element::Or,
+    ];
+    assert!(rt; is_expr(&tables, Sp::Locking, 0x3_a807, &either));
+    assert!(rt; has_columns(&tables, Sp::Locking, 0x3_9001, &[Column(5)]));
+    assert!(rt; has_columns(&tables, Sp::Locking, 1, &[]));
+    assert!(rt;
+        tables
+            .get_cell(Sp::Locking, Uid::range(9), Column::UID)
+            .is_none()
+    );
+    assert!(rt;
+        tables
+            .get_cell(Sp::Admin, Uid::LOCKING_SP, Column::COMMON_NAME)
+            .is_none()
+    );
+    assert_eq!(rt; tables.mbr_sectors(), 8);
+    assert_eq!(rt;
+        number_at(
+            &tables,
+            Sp::Admin,
+            Uid::LOCKING_SP,
+            Column::LIFE_CYCLE_STATE
+        ),
+        8
+    );
+    Ok(())
+}
+
+fn set_range(tables: &mut Tables, range: u8, start: u64, len: u64) -> Result<Vec<Cell>, SetError> {
+    let bounds = [
+        (Column::RANGE_START, Cell::Number(start)),
+        (Column::RANGE_LENGTH, Cell::Number(len)),
+    ];
+    tables.set_row(Sp::Locking, Uid::range(range), &bounds)
+}
+
+#[test]
+fn bounds_of_ranges(rt: HostRuntime) -> Result<(), Fail> {
+    let mut tables = new_tables(rt.alloc())?;
+    let old = set_range(&mut tables, 1, 100, 10)?;
+    assert_eq!(rt; old.len(), 2);
+    for (range, start, len, error) in [
+        (2, 109, 1, Some(SetError::Overlap)),
+        (2, 110, 891, Some(SetError::Beyond)),
+        (2, 100, 901, Some(SetError::Overlap)),
+        (0, 0, 1, Some(SetError::Beyond)),
+        (9, 0, 0, Some(SetError::NoCell)),
+        (2, u64::MAX, u64::MAX, Some(SetError::Beyond)),
+        (2, 105, 0, None),
+        (2, 110, 890, None),
+    ] {
+        assert_eq!(rt;
+            set_range(&mut tables, range, start, len).err(),
+            error,
+            "{range} {start} {len}"
+        );
+    }
+    assert!(rt;
+        is_number(
+            &tables,
+            Sp::Locking,
+            Uid::range(1),
+            Column::RANGE_START,
+            100
+        )
+    );
+    assert!(rt;
+        is_number(
+            &tables,
+            Sp::Locking,
+            Uid::range(2),
+            Column::RANGE_LENGTH,
+            890
+        )
+    );
+    Ok(())
+}
+
+fn expr(alloc: Global, elements: &[Element]) -> Result<Cell, AllocError> {
+    let mut kept = ArrayVec::new();
+    for element in elements {
+        if !kept.is_full() {
+            kept.push(*element);
+        }
+    }
+    Ok(Cell::Expr(Expr::new(alloc, kept)?))
+}
+
+#[test]
+fn values_of_each_type(rt: HostRuntime) -> Result<(), Fail> {
+    let alloc = rt.alloc();
+    let mut tables = new_tables(alloc)?;
+    let entry = Uid(0x0000_0008_0003_e001);
+    let user = Element::Authority(Uid::user(1));
+    let resets = ResetTypes::from_numbers(&[1, 0]).ok_or("a set")?;
+    for (object, column, cell, error) in [
+        (
+            Uid::range(1),
+            Column::UID,
+            Cell::Number(1),
+            Some(SetError::WrongType),
+        ),
+        (
+            Uid::range(1),
+            Column::NAME,
+            Cell::Number(1),
+            Some(SetError::WrongType),
+        ),
+        (
+            Uid::range(1),
+            Column::RANGE_START,
+            Cell::Uid(Uid::SID),
+            Some(SetError::WrongType),
+        ),
+        (
+            Uid::range(1),
+            Column::READ_LOCKED,
+            Cell::Number(2),
+            Some(SetError::WrongType),
+        ),
+        (Uid::range(1), Column::READ_LOCKED, Cell::Number(1), None),
+        (
+            Uid::range(1),
+            Column::LOCK_ON_RESET,
+            Cell::Number(0),
+            Some(SetError::WrongType),
+        ),
+        (
+            Uid::range(1),
+            Column::LOCK_ON_RESET,
+            Cell::Numbers(resets),
+            None,
+        ),
+        (
+            Uid::user(1),
+            Column::ENABLED,
+            Cell::Numbers(resets),
+            Some(SetError::WrongType),
+        ),
+        (
+            Uid::pin_of_user(1),
+            Column::PIN,
+            Cell::Bytes(Bytes::from_vec([1; 32].to_vec(alloc)?)),
+            None,
+        ),
+        (
+            Uid::pin_of_user(1),
+            Column::PIN,
+            Cell::Bytes(Bytes::from_vec([1; 33].to_vec(alloc)?)),
+            Some(SetError::WrongType),
+        ),
+        (
+            entry,
+            Column::COLUMNS,
+            expr(alloc, &[user])?,
+            Some(SetError::WrongType),
+        ),
+        (
+            entry,
+            Column::BOOLEAN_EXPR,
+            Cell::Number(0),
+            Some(SetError::WrongType),
+        ),
+        (
+            entry,
+            Column::BOOLEAN_EXPR,
+            expr(alloc, &[user, user])?,
+            Some(SetError::Expr),
+        ),
+        (
+            entry,
+            Column::BOOLEAN_EXPR,
+            expr(alloc, &[Element::And, user])?,
+            Some(SetError::Expr),
+        ),
+        (
+            entry,
+            Column::BOOLEAN_EXPR,
+            expr(alloc, &[])?,
+            Some(SetError::Expr),
+        ),
+        (
+            entry,
+            Column::BOOLEAN_EXPR,
+            expr(alloc, &[Element::Authority(Uid::SID)])?,
+            Some(SetError::Expr),
+        ),
+        (
+            entry,
+            Column::BOOLEAN_EXPR,
+            expr(alloc, &[user, user, Element::And])?,
+            None,
+        ),
+        (entry, Column(5), Cell::Number(0), Some(SetError::NoCell)),
+    ] {
+        assert_eq!(rt;
+            tables.set_cell(Sp::Locking, object, column, cell).err(),
+            error
+        );
+    }
+    Ok(())
+}
+
+#[test]
+fn a_drive_whose_locking_sp_is_active(rt: HostRuntime) -> Result<(), Fail> {
+    let mut tables = new_tables(rt.alloc())?;
+    let old = tables.set_cell(
+        Sp::Admin,
+        Uid::LOCKING_SP,
+        Column::LIFE_CYCLE_STATE,
+        Cell::Number(9),
+    )?;
+    assert!(rt; matches!(old, Cell::Number(8)));
+    let secret = Cell::Bytes(Bytes::from_vec(MSID.to_vec(rt.alloc())?));
+    tables.set_cell(Sp::Locking, Uid::pin_of_admin(1), Column::PIN, secret)?;
+    assert!(rt;
+        is_number(
+            &tables,
+            Sp::Admin,
+            Uid::LOCKING_SP,
+            Column::LIFE_CYCLE_STATE,
+            9
+        )
+    );
+    assert!(rt;
+        is_bytes(
+            &tables,
+            Sp::Locking,
+            Uid::pin_of_admin(1),
+            Column::PIN,
+            MSID
+        )
+    );
+    Ok(())
+}
+
+/// A refused growth leaves every cell as it was; run with each allocation refused in turn.
+#[test]
+fn refused_memory(rt: HostRuntime) -> Result<(), Fail> {
+    let alloc = rt.alloc();
+    let config = DriveConfig::new(1000, 8, MSID).ok_or("limits")?;
+    let Ok(mut tables) = Tables::factory(alloc, &config) else {
+        return Ok(());
+    };
+    let Ok(name) = b"a name that is set".to_vec(alloc) else {
+        return Ok(());
+    };
+    let changes = [
+        (Column::READ_LOCKED, Cell::Number(1)),
+        (Column::COMMON_NAME, Cell::Bytes(Bytes::from_vec(name))),
+    ];
+    let set = tables.set_row(Sp::Locking, Uid::range(4), &changes);
+    let error = set.err();
+    let locked = is_number(&tables, Sp::Locking, Uid::range(4), Column::READ_LOCKED, 1);
+    let named = is_bytes(
+        &tables,
+        Sp::Locking,
+        Uid::range(4),
+        Column::COMMON_NAME,
+        b"a name that is set",
+    );
+    assert!(rt; error.is_none() || error == Some(SetError::OutOfMemory));
+    assert!(rt; locked == error.is_none() && named == error.is_none());
+    Ok(())
+}
+
+#[test]
+fn access_rows(rt: HostRuntime) {
+    let entries = Uid(0x0000_0008_0000_0000);
+    for (sp, object, method, want) in [
+        (Sp::Admin, Uid::THIS_SP, Uid::AUTHENTICATE, [1, 0, 0]),
+        (Sp::Admin, Uid::LOCKING_SP, Uid::ACTIVATE, [0x3_0002, 0, 0]),
+        (Sp::Admin, Uid::ADMIN_SP, Uid::ACTIVATE, [0, 0, 0]),
+        (Sp::Locking, Uid::admin(1), Uid::SET, [0, 0, 0]),
+        (Sp::Locking, Uid::admin(2), Uid::SET, [0x3_9001, 0, 0]),
+        (Sp::Locking, Uid::pin_of_user(8), Uid::SET, [0x3_a808, 0, 0]),
+        (
+            Sp::Locking,
+            Uid::range(0),
+            Uid::SET,
+            [0x3_f000, 0x3_e000, 0x3_e800],
+        ),
+        (
+            Sp::Locking,
+            Uid::range(1),
+            Uid::SET,
+            [0x3_f001, 0x3_e001, 0x3_e801],
+        ),
+        (Sp::Locking, Uid::range(8), Uid::GET, [0x3_d000, 3, 0]),
+        (Sp::Locking, Uid::MBR_TABLE, Uid::SET, [2, 0, 0]),
+        (
+            Sp::Locking,
+            Uid(0x0000_0008_0003_f801),
+            Uid::SET,
+            [0x3_8001, 0, 0],
+        ),
+        (Sp::Admin, Uid::range(1), Uid::GET, [0, 0, 0]),
+    ] {
+        let row = access_row(sp, object, method);
+        let found = row.is_some();
+        assert_eq!(rt; found, want != [0, 0, 0]);
+        if let Some(row) = row {
+            for (uid, number) in row.as_slice().iter().zip(want.iter()) {
+                assert_eq!(rt; uid.0 ^ entries.0, *number);
+            }
+        }
+    }
+}
+
+#[test]
+fn sets_of_resets(rt: HostRuntime) {
+    for (numbers, known) in [
+        ([0u64, 1].as_slice(), true),
+        ([1, 0].as_slice(), true),
+        ([0, 0].as_slice(), false),
+        ([2].as_slice(), false),
+        ([].as_slice(), true),
+    ] {
+        assert_eq!(rt; ResetTypes::from_numbers(numbers).is_some(), known);
+    }
+    let both = ResetTypes {
+        power_cycle: true,
+        hardware: true,
+    };
+    assert_eq!(rt; both.numbers().as_slice(), [0, 1].as_slice());
+    assert!(rt; both.contains(1) && !both.contains(3));
+}

@@ -1,0 +1,149 @@
+ghost use Rattle.std.specs.Prelude.{◌≡◌, [], ◌∷◌, IfOk, OnOk, OnErr, MatchResult, None, Some, option_copied, unwrap_or};
+ghost use Rattle.sp_tables.specs.Flat.{with_cells};
+ghost use Rattle.sp_tables.specs.Items.{replaced};
+ghost use Rattle.sp_tables.specs.Contents.{Contents, items_of, flat as flat_list, look_up as look_up_in, with_row, factory_contents};
+ghost use Rattle.sp_tables.specs.Faults.{fault_of, IsFault};
+ghost use Rattle.sp_tables.specs.Ranges.{AreApart};
+
+use crate::cells::Cell;
+use crate::config::DriveConfig;
+use crate::error::SetError;
+use crate::exchange::{exchange, new_cells};
+use crate::factory::{new_admin_sp, new_locking_sp};
+use crate::halves::SpTables;
+use crate::look::Rows;
+use crate::names::{Column, Sp, Uid};
+use std::alloc::{AllocError, Global};
+use std::marker::Model;
+
+/// The rows of both SPs of a drive, and what the drive was made with. No two numbered ranges have a sector in
+/// common.
+#[derive(Drop)]
+pub struct Tables {
+    alloc: Global,
+    config: DriveConfig,
+    admin: SpTables,
+    locking: SpTables,
+}
+
+impl Model for Tables {
+    ghost use Rattle.sp_tables.specs.Contents.{Contents, look_up};
+    ghost use Rattle.sp_tables.specs.Ranges.{AreApart};
+
+    ghost Value = { Contents };
+
+    ghost use Rattle.sp_tables.specs.Halves.{half_items};
+
+    ghost view = { λ t. record { admin = half_items t.admin; locking = half_items t.locking; config = t.config } };
+
+    ghost invariant = { λ t. AreApart (look_up (record { admin = half_items t.admin; locking = half_items t.locking; config = t.config })) };
+}
+
+impl Tables {
+    /// The tables of a new drive.
+    #[tactic(auto, using(crate::proofs::ContentLemmas::new_tables))]
+    pub fn factory(alloc: Global, config: &DriveConfig) -> Result<Tables, AllocError>
+        ensures { IfOk result (λ t. t ≡ factory_contents config.now) }
+    {
+        Ok(Tables {
+            alloc,
+            config: config.copy()?,
+            admin: new_admin_sp(alloc, config.msid())?,
+            locking: new_locking_sp(alloc)?,
+        })
+    }
+
+    /// What the drive was made with.
+    pub fn config(&self) -> &DriveConfig
+        ensures { result.now ≡ self.now.config }
+    {
+        &self.config
+    }
+
+    /// The cell at a place, where there is one.
+    #[tactic(auto, using(crate::proofs::ContentLemmas::halves))]
+    pub fn get_cell(&self, sp: Sp, object: Uid, column: Column) -> Option<&Cell>
+        ensures value { option_copied result ≡ look_up_in self.now sp object column }
+        ensures apart { AreApart (look_up_in self.now) }
+    {
+        match sp {
+            Sp::Admin => self.admin.cell(object, column),
+            Sp::Locking => self.locking.cell(object, column),
+        }
+    }
+}
+
+impl Tables {
+    /// Sets these cells of an object, all or none, and gives the old ones in the same order. Where a column is
+    /// named twice, the later value counts.
+    #[tactic(auto, using(crate::proofs::ExchangeLemmas::flattened))]
+    pub fn set_row(
+        &mut self,
+        sp: Sp,
+        object: Uid,
+        changes: &[(Column, Cell)],
+    ) -> Result<Vec<Cell>, SetError>
+        ensures ok { OnOk result (self.new ≡ with_row sp object changes.now self.old) }
+        ensures flat { OnOk result (flat_list self.new ≡ with_cells (flat_list self.old) sp object changes.now) }
+        ensures old { IfOk result (λ cells. cells.items ≡ replaced (items_of self.old sp) object changes.now) }
+        ensures fault { MatchResult result (λ _. fault_of self.old sp object changes.now ≡ None) (IsFault (fault_of self.old sp object changes.now)) }
+        ensures err { OnErr result (self.new ≡ self.old) }
+    {
+        let cells = self.put(sp, object, changes)?;
+        Ok(cells)
+    }
+
+    /// Sets these cells of an object, all or none.
+    fn put(
+        &mut self,
+        sp: Sp,
+        object: Uid,
+        changes: &[(Column, Cell)],
+    ) -> Result<Vec<Cell>, SetError>
+        ensures ok { OnOk result (self.new ≡ with_row sp object changes.now self.old) }
+        ensures old { IfOk result (λ cells. cells.items ≡ replaced (items_of self.old sp) object changes.now) }
+        ensures fault { MatchResult result (λ _. fault_of self.old sp object changes.now ≡ None) (IsFault (fault_of self.old sp object changes.now)) }
+        ensures err { OnErr result (self.new ≡ self.old) }
+    {
+        if let Some(fault) = self.fault(sp, object, changes) {
+            return Err(fault);
+        }
+        let mut cells = new_cells(self.alloc, changes)?;
+        match sp {
+            Sp::Admin => exchange(&mut self.admin, object, changes, &mut cells),
+            Sp::Locking => exchange(&mut self.locking, object, changes, &mut cells),
+        }
+        Ok(cells)
+    }
+
+    /// Sets one cell, as `set_row` does, and gives the old one.
+    pub fn set_cell(
+        &mut self,
+        sp: Sp,
+        object: Uid,
+        column: Column,
+        cell: Cell,
+    ) -> Result<Cell, SetError>
+        ensures ok { OnOk result (self.new ≡ with_row sp object ((column, cell) ∷ []) self.old) }
+        ensures old { IfOk result (λ old. old ≡ unwrap_or (look_up_in self.old sp object column) cell) }
+        ensures fault { MatchResult result (λ _. fault_of self.old sp object ((column, cell) ∷ []) ≡ None) (IsFault (fault_of self.old sp object ((column, cell) ∷ []))) }
+        ensures err { OnErr result (self.new ≡ self.old) }
+    {
+        let mut old = self.set_row(sp, object, &[(column, cell)])?;
+        Ok(old.pop().unwrap())
+    }
+}
+
+impl Rows for Tables {
+    ghost look_up = { look_up_in };
+
+    ghost shadow_sectors = { λ t. t.config.mbr_sectors };
+
+    fn cell(&self, sp: Sp, object: Uid, column: Column) -> Option<&Cell> {
+        self.get_cell(sp, object, column)
+    }
+
+    fn mbr_sectors(&self) -> u64 {
+        self.config.mbr_sectors()
+    }
+}
