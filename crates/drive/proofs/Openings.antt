@@ -41,7 +41,7 @@ refused_pin config tables changed e new fits set (inr h) =
       | inr fault ↦ inr (λ rows.
           let was = rw (set, new) at fault in
           second_refused (fault_of (factory_contents config) Admin locking_sp life_cycle)
-            (fault_of (with_row Admin locking_sp life_cycle (factory_contents config)) Locking (admin_pin_uid 1) (pin config.msid)) e
-            (set_ranges rows (with_row Locking (admin_pin_uid 1) (pin config.msid) (with_row Admin locking_sp life_cycle (factory_contents config))))
-            (rw new at fits) was)
+          (fault_of (with_row Admin locking_sp life_cycle (factory_contents config)) Locking (admin_pin_uid 1) (pin config.msid)) e
+          (set_ranges rows (with_row Locking (admin_pin_uid 1) (pin config.msid) (with_row Admin locking_sp life_cycle (factory_contents config))))
+          (rw new at fits) was)
     ]

@@ -59,7 +59,13 @@ fn manufacture(tables: &mut Tables) -> Result<(), SetError>
     ensures fault { IfErr result (IsFault (fault_of tables.old Admin locking_sp life_cycle)) }
 {
     let state = Cell::Number(MANUFACTURED);
-    set(tables, Sp::Admin, Uid::LOCKING_SP, Column::LIFE_CYCLE_STATE, state)
+    set(
+        tables,
+        Sp::Admin,
+        Uid::LOCKING_SP,
+        Column::LIFE_CYCLE_STATE,
+        state,
+    )
 }
 
 /// Gives Admin1 of the Locking SP a PIN.
@@ -69,7 +75,13 @@ fn set_admin_pin(tables: &mut Tables, alloc: Global, msid: &[u8]) -> Result<(), 
     ensures fault { IfErr result (λ e. (e ≡ SetError.OutOfMemory) ⊎ IsFault (fault_of tables.old Locking (admin_pin_uid 1) (pin msid.now)) e) }
 {
     let bytes = Bytes::from_vec(Vec::from_slice(alloc, msid)?);
-    if let Err(error) = set(tables, Sp::Locking, Uid::pin_of_admin(1), Column::PIN, Cell::Bytes(bytes)) {
+    if let Err(error) = set(
+        tables,
+        Sp::Locking,
+        Uid::pin_of_admin(1),
+        Column::PIN,
+        Cell::Bytes(bytes),
+    ) {
         return Err(error);
     }
     Ok(())

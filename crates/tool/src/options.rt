@@ -1,9 +1,9 @@
 //! What a drive is opened with.
 
-ghost use Rattle.locking.specs.Config.{IsWithinLimits};
+ghost use Rattle.sp_tables.specs.Config.{IsWithinLimits};
 
 use crate::number::number_up_to;
-use locking::DriveConfig;
+use sp_tables::DriveConfig;
 use std::alloc::Global;
 use thiserror::Error;
 

@@ -4,9 +4,10 @@ use crate::fault::{LineFault, Transfer};
 use crate::line::{Line, expected_text};
 use crate::options::Options;
 use crate::report::Report;
-use drive::Drive;
+use drive::{Drive, set_range};
 use fis::{PortNumber, RegH2d};
-use locking::{AuditLine, DriveConfig, RangeRow, RangeTable, SetError};
+use locking::{AuditLine, RangeRow};
+use sp_tables::{DriveConfig, SetError, Tables};
 use std::alloc::{AllocError, Global};
 use thiserror::Error;
 
@@ -29,12 +30,12 @@ pub enum Turn {
     Bad(Fault),
 }
 
-/// The range lines so far, and the table that they make.
+/// The range lines so far, and the tables that they make.
 #[derive(Drop)]
 struct Opening {
     config: DriveConfig,
     rows: Vec<RangeRow>,
-    table: RangeTable,
+    tables: Tables,
 }
 
 /// What a script runs on: the cells of range lines that may still come, or a drive.
@@ -91,13 +92,14 @@ impl Session {
     ghost use Rattle.tool.specs.declared.fault.LineFault.{LineFault};
 
     pub fn new(alloc: Global, options: &Options) -> Result<Session, AllocError> {
-        let table = RangeTable::factory(alloc)?;
+        let config = options.config();
+        let tables = Tables::factory(alloc, &config)?;
         Ok(Session {
             alloc,
             stage: Stage::Opening(Opening {
-                config: options.config(),
+                config,
                 rows: Vec::new(alloc),
-                table,
+                tables,
             }),
             acts: 0,
             payload: Vec::new(alloc),
@@ -159,7 +161,7 @@ impl Session {
             return Ok(Turn::Bad(Fault::LateRange));
         };
         opening.rows.push(row)?;
-        match opening.table.set_range(opening.config.sectors(), &row) {
+        match set_range(&mut opening.tables, &row) {
             Ok(()) => Ok(Turn::Goes),
             Err(SetError::OutOfMemory) => Err(AllocError),
             Err(error) => Ok(Turn::Bad(Fault::RefusedRow(error))),

@@ -14,9 +14,11 @@ fn run(rt: &HostRuntime, script: &[u8]) -> Result<(u8, Vec<u8>, Vec<u8>), Fail> 
 /// The rows of two reads over a locked range, and a read beyond the drive.
 #[test]
 fn prints_what_the_drive_answers(rt: HostRuntime) -> Result<(), Fail> {
-    let script = b"range 1 100 10 1 0 1 0\r\nread 7 5 95 5\n  read\t7 5 95 6\nexpect audit 3 7 deny read 95+6 range 1 ReadLocked";
+    let script =
+        b"range 1 100 10 1 0 1 0\r\nread 7 5 95 5\n  read\t7 5 95 6\nexpect audit 3 7 deny read 95+6 range 1 ReadLocked";
     let (status, output, _) = run(&rt, script)?;
-    let printed = b"ok 00000000 00000000 00000000 00000000 00000000\nfail 51 04\naudit 3 7 deny read 95+6 range 1 ReadLocked\n";
+    let printed =
+        b"ok 00000000 00000000 00000000 00000000 00000000\nfail 51 04\naudit 3 7 deny read 95+6 range 1 ReadLocked\n";
     assert_eq!(rt; status, 0);
     assert_eq!(rt; output.as_slice(), printed.as_slice());
     let (status, output, _) = run(&rt, b"expect\nread 1 5 0 0\nexpect fail 51 10\n")?;
@@ -25,7 +27,15 @@ fn prints_what_the_drive_answers(rt: HostRuntime) -> Result<(), Fail> {
     let alloc = rt.alloc();
     let options = Options::parse(alloc, b"1000", b"8", b"4F")?;
     let mut output = Vec::new(alloc);
-    assert_eq!(rt; run_script(alloc, b"write 1 0 5 1 aa\n".as_slice(), &mut output, &options), Ok(0));
+    assert_eq!(rt;
+        run_script(
+            alloc,
+            b"write 1 0 5 1 aa\n".as_slice(),
+            &mut output,
+            &options
+        ),
+        Ok(0)
+    );
     assert_eq!(rt; output.as_slice(), b"ok\n".as_slice());
     Ok(())
 }
@@ -34,7 +44,10 @@ fn prints_what_the_drive_answers(rt: HostRuntime) -> Result<(), Fail> {
 #[test]
 fn ends_at_the_first_wrong_line(rt: HostRuntime) -> Result<(), Fail> {
     let (status, output, faults) = run(&rt, b"expect ok\nread 1 1 1 1\n")?;
-    assert_eq!(rt; (status, output.is_empty(), faults.is_empty()), (1, true, true));
+    assert_eq!(rt;
+        (status, output.is_empty(), faults.is_empty()),
+        (1, true, true)
+    );
     let bad: [&[u8]; 14] = [
         b"",
         b"# a comment",
@@ -56,7 +69,10 @@ fn ends_at_the_first_wrong_line(rt: HostRuntime) -> Result<(), Fail> {
         script.extend_from_slice(line)?;
         script.extend_from_slice(b"\nread 1 5 1 1\n")?;
         let (status, output, faults) = run(&rt, &script)?;
-        assert_eq!(rt; (status, output.is_empty(), faults.is_empty()), (2, true, false));
+        assert_eq!(rt;
+            (status, output.is_empty(), faults.is_empty()),
+            (2, true, false)
+        );
     }
     let rows: [&[u8]; 4] = [
         b"range 9 0 0 0 0 0 0",
@@ -70,6 +86,9 @@ fn ends_at_the_first_wrong_line(rt: HostRuntime) -> Result<(), Fail> {
     }
     let (status, _, faults) = run(&rt, b"range 1 100 10 0 0 0 0\nrange 2 109 1 0 0 0 0\n")?;
     assert_eq!(rt; status, 2);
-    assert_eq!(rt; faults.as_slice(), b"line 2: the range row is refused: the range meets another\n".as_slice());
+    assert_eq!(rt;
+        faults.as_slice(),
+        b"line 2: the range row is refused: the range meets another\n".as_slice()
+    );
     Ok(())
 }
