@@ -1,0 +1,3 @@
+pub mod Truth
+pub mod Evaluation
+pub mod Entries
