@@ -1,0 +1,147 @@
+-- The registers of a port (AHCI 1.3.1, 3.3): where each stands, the word that it gives, and what a
+-- write of the host makes of it.
+use Rattle.std.specs.Prelude.{◌==◌, ℕ, ◌+◌, ◌*◌, Bool, true, false, Option, Some, None, if◌then◌else◌, bit_and, bit_or}
+use Rattle.std.specs.Int.{bit_not, w32}
+use Rattle.hba_regs.specs.declared.error.RegError.{RegError}
+use Rattle.hba_regs.specs.declared.error.RegError.TheVariants.{BadOffset, ReadOnly}
+use Rattle.hba_regs.specs.declared.register.Register.{Register}
+use Rattle.hba_regs.specs.declared.register.Register.TheVariants.{ListBase, ListBaseUpper, FisBase, FisBaseUpper, InterruptStatus, InterruptEnable, Command, TaskFile, Signature, SataStatus, SataControl, SataError, Active, Issue}
+
+-- The register at an offset in the port's block (3.3).
+abbrev pub register_at : ℕ → Option Register
+register_at offset =
+    if offset == 0x00 then Some ListBase
+    else (if offset == 0x04 then Some ListBaseUpper
+    else (if offset == 0x08 then Some FisBase
+    else (if offset == 0x0c then Some FisBaseUpper
+    else (if offset == 0x10 then Some InterruptStatus
+    else (if offset == 0x14 then Some InterruptEnable
+    else (if offset == 0x18 then Some Command
+    else (if offset == 0x20 then Some TaskFile
+    else (if offset == 0x24 then Some Signature
+    else (if offset == 0x28 then Some SataStatus
+    else (if offset == 0x2c then Some SataControl
+    else (if offset == 0x30 then Some SataError
+    else (if offset == 0x34 then Some Active
+    else (if offset == 0x38 then Some Issue
+    else None)))))))))))))
+
+-- What the registers keep. ST and FRE of PxCMD are `running` and `receiving`.
+pub record Regs : Type 0 where
+  pub list_base : ℕ
+  pub fis_base : ℕ
+  pub interrupts : ℕ
+  pub enabled : ℕ
+  pub running : Bool
+  pub receiving : Bool
+  pub status : ℕ
+  pub error : ℕ
+  pub control : ℕ
+  pub link_errors : ℕ
+  pub active : ℕ
+  pub issued : ℕ
+
+-- Before anything is written: a drive is there and ready, the port runs, the list stands at 0 and
+-- received FISes at 400h.
+abbrev pub fresh : Regs
+fresh = record {
+  list_base = 0;
+  fis_base = 0x400;
+  interrupts = 0;
+  enabled = 0;
+  running = true;
+  receiving = true;
+  status = 0x50;
+  error = 0;
+  control = 0;
+  link_errors = 0;
+  active = 0;
+  issued = 0;
+}
+
+-- PxCMD (3.3.7): CR (bit 15) follows ST (bit 0), and FR (bit 14) follows FRE (bit 4).
+abbrev pub command_word : Bool → Bool → ℕ
+command_word running receiving = (if running then 0x8001 else 0) + (if receiving then 0x4010 else 0)
+
+-- The word that a register gives.
+abbrev pub word : Regs → Register → ℕ
+word regs ListBase = regs.list_base
+word regs ListBaseUpper = 0
+word regs FisBase = regs.fis_base
+word regs FisBaseUpper = 0
+word regs InterruptStatus = regs.interrupts
+word regs InterruptEnable = regs.enabled
+word regs Command = command_word regs.running regs.receiving
+word regs TaskFile = regs.status + 256 * regs.error
+word regs Signature = 0x101
+word regs SataStatus = 0x133
+word regs SataControl = regs.control
+word regs SataError = regs.link_errors
+word regs Active = regs.active
+word regs Issue = regs.issued
+
+abbrev pub word_of : Regs → Option Register → Option ℕ
+word_of regs None = None
+word_of regs (Some register) = Some (word regs register)
+
+-- The word at an offset.
+abbrev pub word_at : Regs → ℕ → Option ℕ
+word_at regs offset = word_of regs (register_at offset)
+
+-- the bits of a word that are not in the mask
+abbrev pub without : ℕ → ℕ → ℕ
+without bits mask = bit_and bits (bit_not w32 mask)
+
+-- whether a word has the bits of a mask
+abbrev pub has : ℕ → ℕ → Bool
+has bits mask = bit_and bits mask == mask
+
+-- A port that is stopped has no command (3.3.7, ST).
+abbrev pub stopped : Regs → Regs
+stopped regs = record regs { running = false; active = 0; issued = 0 }
+
+abbrev pub started : Regs → Regs
+started regs = record regs { running = true }
+
+-- What a write of ST makes of the port.
+abbrev pub run : Bool → Regs → Regs
+run true regs = started regs
+run false regs = stopped regs
+
+-- What a write makes of a register: bits that keep what is written, bits that a written 1 clears,
+-- bits that a written 1 sets while the port runs, and registers that no write changes.
+abbrev pub written : Regs → Register → ℕ → Regs
+written regs ListBase value = record regs { list_base = bit_and value 0xfffffc00 }
+written regs ListBaseUpper value = regs
+written regs FisBase value = record regs { fis_base = bit_and value 0xffffff00 }
+written regs FisBaseUpper value = regs
+written regs InterruptStatus value = record regs { interrupts = without regs.interrupts value }
+written regs InterruptEnable value = record regs { enabled = value }
+written regs Command value = run (has value 0x01) (record regs { receiving = has value 0x10 })
+written regs TaskFile value = regs
+written regs Signature value = regs
+written regs SataStatus value = regs
+written regs SataControl value = record regs { control = value }
+written regs SataError value = record regs { link_errors = without regs.link_errors value }
+written regs Active value = if regs.running then record regs { active = bit_or regs.active value } else regs
+written regs Issue value = if regs.running then record regs { issued = bit_or regs.issued value } else regs
+
+-- whether the host can't write it
+abbrev pub is_read_only : Register → Bool
+is_read_only TaskFile = true
+is_read_only Signature = true
+is_read_only SataStatus = true
+is_read_only _ = false
+
+-- Why a write is refused, the first reason first.
+abbrev pub fault_of : Option Register → Option RegError
+fault_of None = Some BadOffset
+fault_of (Some register) = if is_read_only register then Some ReadOnly else None
+
+abbrev pub written_of : Regs → Option Register → ℕ → Regs
+written_of regs None value = regs
+written_of regs (Some register) value = written regs register value
+
+-- The registers after a write of a value at an offset.
+abbrev pub written_at : Regs → ℕ → ℕ → Regs
+written_at regs offset value = written_of regs (register_at offset) value

@@ -1,0 +1,225 @@
+use crate::command::PxCmd;
+use crate::error::RegError;
+use crate::interrupt::PxIs;
+use crate::register::Register;
+use bitflags::Flags;
+use fis::Tag;
+use std::marker::Model;
+
+/// The registers of a port.
+#[derive(Drop)]
+pub struct PortRegs {
+    list_base: u32,
+    fis_base: u32,
+    interrupts: PxIs,
+    enabled: u32,
+    /// ST and FRE count; CR and FR follow them.
+    command: PxCmd,
+    status: u8,
+    error: u8,
+    control: u32,
+    link_errors: u32,
+    active: u32,
+    issued: u32,
+}
+
+impl Model for PortRegs {
+    ghost use Rattle.hba_regs.specs.Registers.{Regs, has};
+
+    ghost Value = { Regs };
+
+    ghost view = { λ a. record {
+      list_base = a.list_base;
+      fis_base = a.fis_base;
+      interrupts = a.interrupts.0;
+      enabled = a.enabled;
+      running = has a.command.0 0x01;
+      receiving = has a.command.0 0x10;
+      status = a.status;
+      error = a.error;
+      control = a.control;
+      link_errors = a.link_errors;
+      active = a.active;
+      issued = a.issued;
+    } };
+}
+
+/// PxCLB keeps bits 31 to 10.
+const LIST_BASE: u32 = 0xffff_fc00;
+
+/// PxFB keeps bits 31 to 8.
+const FIS_BASE: u32 = 0xffff_ff00;
+
+/// PxSIG of a disk.
+const SIGNATURE: u32 = 0x0101;
+
+/// PxSSTS of a device at the third generation's speed, with its link up.
+const SATA_STATUS: u32 = 0x0133;
+
+impl PortRegs {
+    ghost use Rattle.std.specs.Prelude.{◌≡◌, ◌+◌, ◌*◌, ◌^◌, ◌↔◌, MatchResult, OnErr, IsErrOf, Some, None, bit_or, if◌then◌else◌};
+    ghost use Rattle.hba_regs.specs.declared.register.Register.TheVariants.{Command};
+    ghost use Rattle.hba_regs.specs.Registers.{fresh, word_at, written_at, fault_of, register_at, without, stopped, started, command_word, written};
+
+    /// The registers of a port that runs, with a device that is ready.
+    pub fn new() -> PortRegs
+        ensures { result ≡ fresh }
+    {
+        PortRegs {
+            list_base: 0,
+            fis_base: 0x400,
+            interrupts: PxIs::empty(),
+            enabled: 0,
+            command: PxCmd::from_bits_retain(0x11),
+            status: 0x50,
+            error: 0,
+            control: 0,
+            link_errors: 0,
+            active: 0,
+            issued: 0,
+        }
+    }
+
+    fn command_word(&self) -> u32
+        ensures { result ≡ command_word self.now.running self.now.receiving }
+    {
+        let running = if self.command.contains(PxCmd::ST) {
+            0x8001
+        } else {
+            0
+        };
+        let receiving = if self.command.contains(PxCmd::FRE) {
+            0x4010
+        } else {
+            0
+        };
+        running + receiving
+    }
+
+    /// The word at an offset in the port's block, or `None` where no register stands.
+    pub fn read(&self, offset: u32) -> Option<u32>
+        ensures { result ≡ word_at self.now offset }
+    {
+        let word = match Register::at(offset)? {
+            Register::ListBase => self.list_base,
+            Register::ListBaseUpper => 0,
+            Register::FisBase => self.fis_base,
+            Register::FisBaseUpper => 0,
+            Register::InterruptStatus => self.interrupts.bits(),
+            Register::InterruptEnable => self.enabled,
+            Register::Command => self.command_word(),
+            Register::TaskFile => u32::from(self.status) + 256 * u32::from(self.error),
+            Register::Signature => SIGNATURE,
+            Register::SataStatus => SATA_STATUS,
+            Register::SataControl => self.control,
+            Register::SataError => self.link_errors,
+            Register::Active => self.active,
+            Register::Issue => self.issued,
+        };
+        Some(word)
+    }
+
+    fn write_command(&mut self, value: u32)
+        ensures { self.new ≡ written self.old Command value }
+    {
+        let asked = PxCmd::from_bits_retain(value);
+        self.command = asked;
+        if !asked.contains(PxCmd::ST) {
+            self.active = 0;
+            self.issued = 0;
+        }
+    }
+
+    /// The host's write of a word. A refused one changes nothing.
+    ///
+    /// The errors come in this order: `BadOffset`, `ReadOnly`.
+    pub fn write(&mut self, offset: u32, value: u32) -> Result<(), RegError>
+        ensures exact { self.new ≡ written_at self.old offset value }
+        ensures fault { MatchResult result (λ _. fault_of (register_at offset) ≡ None) (λ e. fault_of (register_at offset) ≡ Some e) }
+        ensures bad { IsErrOf result RegError.BadOffset ↔ (word_at self.old offset ≡ None) }
+        ensures err { OnErr result (self.new ≡ self.old) }
+    {
+        match Register::at(offset).ok_or(RegError::BadOffset)? {
+            Register::ListBase => self.list_base = value & LIST_BASE,
+            Register::ListBaseUpper => {}
+            Register::FisBase => self.fis_base = value & FIS_BASE,
+            Register::FisBaseUpper => {}
+            Register::InterruptStatus => self.interrupts.remove(PxIs::from_bits_retain(value)),
+            Register::InterruptEnable => self.enabled = value,
+            Register::Command => self.write_command(value),
+            Register::TaskFile => return Err(RegError::ReadOnly),
+            Register::Signature => return Err(RegError::ReadOnly),
+            Register::SataStatus => return Err(RegError::ReadOnly),
+            Register::SataControl => self.control = value,
+            Register::SataError => self.link_errors &= !value,
+            Register::Active => {
+                if self.command.contains(PxCmd::ST) {
+                    self.active |= value;
+                }
+            }
+            Register::Issue => {
+                if self.command.contains(PxCmd::ST) {
+                    self.issued |= value;
+                }
+            }
+        }
+        Ok(())
+    }
+
+    /// Marks the command of a tag as issued, and as active too where it is queued.
+    pub fn set_issue(&mut self, tag: Tag, queued: bool)
+        ensures { self.new ≡ record self.old { active = (if queued then bit_or self.old.active (2 ^ tag) else self.old.active); issued = bit_or self.old.issued (2 ^ tag) } }
+    {
+        let bit = 1 << tag.number();
+        if queued {
+            self.active |= bit;
+        }
+        self.issued |= bit;
+    }
+
+    /// The port took the command of a tag.
+    pub fn clear_issue(&mut self, tag: Tag)
+        ensures { self.new ≡ record self.old { issued = without self.old.issued (2 ^ tag) } }
+    {
+        self.issued &= !(1 << tag.number());
+    }
+
+    /// The queued commands of these tags are done.
+    pub fn clear_active(&mut self, mask: u32)
+        ensures { self.new ≡ record self.old { active = without self.old.active mask } }
+    {
+        self.active &= !mask;
+    }
+
+    /// Sets status and error of the device (PxTFD).
+    pub fn set_task(&mut self, status: u8, error: u8)
+        ensures { self.new ≡ record self.old { status = status; error = error } }
+    {
+        self.status = status;
+        self.error = error;
+    }
+
+    /// Sets bits of the interrupt status.
+    pub fn raise(&mut self, bits: PxIs)
+        ensures { self.new ≡ record self.old { interrupts = bit_or self.old.interrupts bits.0 } }
+    {
+        self.interrupts.insert(bits);
+    }
+
+    /// Clears ST, and with it every tag that is active or issued.
+    #[tactic(auto, using(crate::proofs::Bits::start_clear, crate::proofs::Bits::receive_stays))]
+    pub fn stop(&mut self)
+        ensures { self.new ≡ stopped self.old }
+    {
+        self.command.remove(PxCmd::ST);
+        self.active = 0;
+        self.issued = 0;
+    }
+
+    /// Sets ST.
+    pub fn start(&mut self)
+        ensures { self.new ≡ started self.old }
+    {
+        self.command.insert(PxCmd::ST);
+    }
+}

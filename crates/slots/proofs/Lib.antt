@@ -1,0 +1,5 @@
+pub mod Splices
+pub mod Held
+pub mod Placed
+pub mod Sums
+pub mod Posted

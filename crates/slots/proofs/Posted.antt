@@ -1,0 +1,18 @@
+-- A memory with a FIS of the device.
+use Rattle.std.proofs.Common.{◌≡◌, ℕ, ◌+◌, ◌≤◌, List, length, arith, inl, inr, ⊎_elim}
+use Rattle.fis.specs.declared.any.Fis.{Fis}
+use Rattle.fis.specs.declared.any.Fis.TheVariants as fises
+use Rattle.fis.specs.Fis.{IsSpelling}
+use Rattle.slots.specs.Layout.{memory_size, received_place, part, laid}
+use Rattle.slots.specs.Fetch.{AreApart}
+use Rattle.slots.proofs.Splices.{apart}
+
+narrower : (place n at m : ℕ) → 0x400 ≤ at → at + m ≤ 0x500 → AreApart place n 0x400 0x100 → AreApart place n at m
+narrower place n at m low high = ⊎_elim (λ h. inl (omega arith)) (λ h. inr (omega arith))
+
+pub posted_apart : (memory : List ℕ) (f : Fis) (bytes : List ℕ) → IsSpelling bytes f → length memory ≡ memory_size → (place n : ℕ) → AreApart place n 0x400 0x100 → part (laid memory (received_place f) bytes) place n ≡ part memory place n
+posted_apart memory (fises.H2d f) bytes spelled long place n h = apart memory bytes 0x460 20 place n spelled.1 (omega (arith, long)) (narrower place n 0x460 20 (omega arith) (omega arith) h)
+posted_apart memory (fises.D2h f) bytes spelled long place n h = apart memory bytes 0x440 20 place n spelled.1 (omega (arith, long)) (narrower place n 0x440 20 (omega arith) (omega arith) h)
+posted_apart memory (fises.SetDeviceBits f) bytes spelled long place n h = apart memory bytes 0x458 8 place n spelled.1 (omega (arith, long)) (narrower place n 0x458 8 (omega arith) (omega arith) h)
+posted_apart memory (fises.DmaSetup f) bytes spelled long place n h = apart memory bytes 0x400 28 place n spelled.1 (omega (arith, long)) (narrower place n 0x400 28 (omega arith) (omega arith) h)
+posted_apart memory (fises.PioSetup f) bytes spelled long place n h = apart memory bytes 0x420 20 place n spelled.1 (omega (arith, long)) (narrower place n 0x420 20 (omega arith) (omega arith) h)

@@ -1,0 +1,51 @@
+-- The command in a slot (AHCI 1.3.1, 5.5.1), over any bytes.
+use Rattle.std.specs.Prelude.{◌≡◌, ◌≤◌, ◌⊎◌, ℕ, ◌+◌, ◌==◌, ◌&&◌, nat_le, not, Bool, List, Option, Some, None, Result, Ok, Err, if◌then◌else◌}
+use Rattle.slots.specs.declared.error.FetchError.{FetchError}
+use Rattle.slots.specs.declared.error.FetchError.TheVariants.{BadLength, BadAddress, BadPrdt, BadFis}
+use Rattle.slots.specs.declared.fetched.Fetched.{Fetched}
+use Rattle.slots.specs.Layout.{laid, part, header_place, table_place, buffer_place, buffer_size}
+use Rattle.slots.specs.Header.{header_bytes, entries_for, fis_words, is_write, entries, table_at, has_table}
+use Rattle.slots.specs.Table.{table_bytes, is_command, are_sound, bytes_of}
+
+-- The memory with a command in a slot.
+abbrev pub placed : List ℕ → ℕ → List ℕ → Bool → ℕ → List ℕ
+placed memory tag command write len =
+    laid (laid memory (header_place tag) (header_bytes write (entries_for len) (table_place tag)))
+    (table_place tag) (table_bytes (buffer_place tag) command len)
+
+-- How many bytes the descriptors of a table name: a slot moves no more than a buffer has.
+abbrev pub transfer : List ℕ → ℕ → ℕ → Option ℕ
+transfer memory table n =
+    if are_sound memory table n && nat_le (bytes_of memory table n) buffer_size then Some (bytes_of memory table n) else None
+
+-- The FIS in a table.
+abbrev pub command_fis : List ℕ → ℕ → Option (List ℕ)
+command_fis memory table = if is_command (part memory table 20) then Some (part memory table 20) else None
+
+abbrev pub fis_fetched : Option (List ℕ) → Bool → ℕ → Result Fetched FetchError
+fis_fetched None write len = Err BadFis
+fis_fetched (Some bytes) write len = Ok (record { fis = bytes; write = write; len = len })
+
+abbrev pub table_fetched : Option ℕ → Option (List ℕ) → Bool → Result Fetched FetchError
+table_fetched None fis write = Err BadPrdt
+table_fetched (Some len) fis write = fis_fetched fis write len
+
+-- What a header names, the first fault first.
+abbrev pub header_fetched : List ℕ → List ℕ → Result Fetched FetchError
+header_fetched memory header =
+    if not (fis_words header == 5) then Err BadLength
+    else (if not (has_table header) then Err BadAddress
+    else table_fetched (transfer memory (table_at header) (entries header)) (command_fis memory (table_at header)) (is_write header))
+
+-- What a slot holds.
+abbrev pub fetched : List ℕ → ℕ → Result Fetched FetchError
+fetched memory tag = header_fetched memory (part memory (header_place tag) 32)
+
+-- A slot holds a command: its header and its table are as they are written.
+pub record Holds (memory : List ℕ) (tag : ℕ) (command : List ℕ) (write : Bool) (len : ℕ) : Type 0 where
+  pub header : part memory (header_place tag) 32 ≡ header_bytes write (entries_for len) (table_place tag)
+  pub table : part memory (table_place tag) 256 ≡ table_bytes (buffer_place tag) command len
+
+-- a part of so many bytes has none of the others
+abbrev pub AreApart : ℕ → ℕ → ℕ → ℕ → Type 0
+AreApart place n other m = (place + n ≤ other) ⊎ (other + m ≤ place)

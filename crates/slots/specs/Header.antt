@@ -1,0 +1,44 @@
+-- A command header, the 32 bytes of a slot in the command list (AHCI 1.3.1, 4.2.2).
+use Rattle.std.specs.Prelude.{ℕ, ◌+◌, ◌*◌, ◌/◌, ◌%◌, ◌==◌, ◌&&◌, nat_le, Bool, List, ◌++◌, drop, slice_index, if◌then◌else◌}
+use Rattle.byteorder.specs.Endian.{little_number, little_bytes}
+use Rattle.fis.specs.Bytes.{bit}
+use Rattle.slots.specs.Layout.{memory_size}
+
+-- The number in so many bytes from a place on, the lowest first.
+abbrev pub number_at : ℕ → List ℕ → ℕ → ℕ
+number_at size bytes place = little_number size (drop place bytes)
+
+-- The writing: a command FIS of five words, W where the data go to the device, so many entries,
+-- the place of the command table, and zeros.
+abbrev pub header_bytes : Bool → ℕ → ℕ → List ℕ
+header_bytes write entries table =
+    little_bytes 2 (5 + 64 * bit write) ++ little_bytes 2 entries ++ little_bytes 4 0
+    ++ little_bytes 4 table ++ little_bytes 4 0 ++ little_bytes 16 0
+
+-- Data in one piece have one entry, no data have none.
+abbrev pub entries_for : ℕ → ℕ
+entries_for len = if len == 0 then 0 else 1
+
+-- CFL: how many words the command FIS has
+abbrev pub fis_words : List ℕ → ℕ
+fis_words header = slice_index header 0 % 32
+
+-- W
+abbrev pub is_write : List ℕ → Bool
+is_write header = slice_index header 0 / 64 % 2 == 1
+
+-- PRDTL: how many entries the table has
+abbrev pub entries : List ℕ → ℕ
+entries header = number_at 2 header 2
+
+-- CTBA and CTBAU: where the command table stands
+abbrev pub table_at : List ℕ → ℕ
+table_at header = number_at 4 header 8
+
+abbrev pub table_upper : List ℕ → ℕ
+table_upper header = number_at 4 header 12
+
+-- The table stands at a multiple of 128 and in the memory, its entries of 16 bytes included.
+abbrev pub has_table : List ℕ → Bool
+has_table header =
+    table_at header % 128 == 0 && table_upper header == 0 && nat_le (table_at header + 0x80 + 16 * entries header) memory_size

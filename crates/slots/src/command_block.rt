@@ -1,0 +1,56 @@
+ghost use Rattle.std.specs.Prelude.{◌≡◌, ◌≤◌, ◌↔◌, IsTrue, length};
+ghost use Rattle.slots.specs.Table.{is_command};
+
+use std::marker::Model;
+
+/// The bytes of a Register FIS to the device whose C bit is set.
+#[derive(Clone, Copy, Debug, PartialEq, Eq)]
+pub struct CommandBlock {
+    bytes: [u8; 20],
+}
+
+impl Model for CommandBlock {
+    ghost use Rattle.std.specs.Prelude.{ℕ, List, ◌≡◌, true};
+    ghost use Rattle.slots.specs.Table.{is_command};
+
+    ghost Value = { List ℕ };
+
+    ghost view = { λ c. c.bytes };
+
+    ghost invariant = { λ c. is_command c.bytes ≡ true };
+
+    ghost inverse = { λ b. record { bytes = b } };
+}
+
+/// Whether bytes begin as a Register FIS to the device does whose C bit is set.
+pub(crate) fn is_command(bytes: &[u8]) -> bool
+    requires { 20 ≤ length bytes.now }
+    ensures { result ≡ is_command bytes.now }
+{
+    bytes[0] == 0x27 && bytes[1] >= 0x80
+}
+
+impl CommandBlock {
+    ghost use Rattle.std.specs.Prelude.{◌≡◌, ◌↔◌, IsSome, IfSome, length, true};
+    ghost use Rattle.slots.specs.Table.{is_command};
+
+    pub fn new(bytes: [u8; 20]) -> Option<CommandBlock>
+        ensures some { IsSome result ↔ (is_command bytes ≡ true) }
+        ensures value { IfSome result (λ c. c ≡ bytes) }
+    {
+        if is_command(&bytes) {
+            Some(CommandBlock { bytes })
+        } else {
+            None
+        }
+    }
+
+    /// The bytes of the FIS.
+    pub fn bytes(&self) -> &[u8; 20]
+        ensures value { result.now ≡ self.now }
+        ensures len { length self.now ≡ 20 }
+        ensures command { is_command self.now ≡ true }
+    {
+        &self.bytes
+    }
+}

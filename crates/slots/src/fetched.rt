@@ -1,0 +1,10 @@
+/// What a slot holds.
+#[derive(Clone, Copy, Debug, PartialEq, Eq)]
+pub struct Fetched {
+    /// The command FIS.
+    pub fis: [u8; 20],
+    /// Whether the data go to the device.
+    pub write: bool,
+    /// How many bytes of data there is room for.
+    pub len: u32,
+}

@@ -1,0 +1,213 @@
+ghost use Rattle.std.specs.Prelude.{◌≡◌, ℕ, IfOk, length, slice_index};
+
+use crate::command_block::{CommandBlock, is_command};
+use crate::error::FetchError;
+use crate::fetched::Fetched;
+use crate::layout::{BUFFER, MEMORY, buffer_place, header_place, received_place, table_place};
+use crate::parts;
+use fis::{Fis, Tag};
+use std::alloc::{AllocError, Global};
+use std::marker::Model;
+
+/// The memory of a port.
+#[derive(Drop)]
+pub struct PortMemory {
+    bytes: Vec<u8>,
+}
+
+impl Model for PortMemory {
+    ghost use Rattle.std.specs.Prelude.{ℕ, List, ◌≡◌, length};
+    ghost use Rattle.slots.specs.Layout.{memory_size};
+
+    ghost Value = { List ℕ };
+
+    ghost view = { λ m. m.bytes.items };
+
+    ghost invariant = { λ m. length m.bytes.items ≡ memory_size };
+}
+
+/// So many zeros.
+fn zeros(alloc: Global, len: usize) -> Result<Vec<u8>, AllocError>
+    ensures { IfOk result (λ v. (length v.items ≡ len) × ((k : ℕ) → slice_index v.items k ≡ 0)) }
+{
+    vec![in alloc; 0; len]
+}
+
+impl PortMemory {
+    ghost use Rattle.std.specs.Prelude.{◌≡◌, ◌+◌, ◌*◌, ◌≤◌, ◌<◌, ◌%◌, ◌↔◌, ℕ, List, Bool, true, IfOk, IfSome, IsSome, Ok, Some, None, length, slice_index, if◌then◌else◌};
+    ghost use Rattle.slots.specs.Layout.{memory_size, laid, part, header_place, table_place, buffer_place, received_place, buffer_size};
+    ghost use Rattle.slots.specs.Fetch.{fetched, placed, transfer, command_fis, Holds, AreApart};
+    ghost use Rattle.slots.specs.Table.{is_command};
+    ghost use Rattle.fis.specs.Fis.{IsSpelling};
+
+    /// A memory of zeros.
+    pub fn new(alloc: Global) -> Result<PortMemory, AllocError>
+        ensures { IfOk result (λ m. (k : ℕ) → slice_index m k ≡ 0) }
+    {
+        Ok(PortMemory {
+            bytes: zeros(alloc, MEMORY)?,
+        })
+    }
+
+    /// The memory with these bytes, or `None` where they are not as many as a memory has.
+    pub fn of_bytes(bytes: Vec<u8>) -> Option<PortMemory>
+        ensures some { IsSome result ↔ (length bytes.items ≡ memory_size) }
+        ensures value { IfSome result (λ m. m ≡ bytes.items) }
+    {
+        if bytes.len() == MEMORY {
+            Some(PortMemory { bytes })
+        } else {
+            None
+        }
+    }
+
+    pub(crate) fn part(&self, at: usize, len: usize) -> &[u8]
+        requires { at + len ≤ memory_size }
+        ensures value { result.now ≡ part self.now at len }
+        ensures len { length result.now ≡ len }
+    {
+        &self.bytes[at..at + len]
+    }
+
+    fn lay(&mut self, at: usize, bytes: &[u8])
+        requires { at + length bytes.now ≤ memory_size }
+        ensures { self.new ≡ laid self.old at bytes.now }
+    {
+        parts::lay(&mut self.bytes, at, bytes);
+    }
+
+    /// Lays a command with `len` bytes of data in its slot. What no field names is 0.
+    pub fn place(&mut self, tag: Tag, command: &CommandBlock, write: bool, len: u32)
+        requires even { len % 2 ≡ 0 }
+        requires fits { len ≤ 131072 }
+        ensures exact { self.new ≡ placed self.old tag command.now write len }
+
+        // The slot holds the command then, and no other byte changes.
+        ensures holds { Holds self.new tag command.now write len }
+        ensures elsewhere { (place n : ℕ) → AreApart place n (header_place tag) 32 → AreApart place n (table_place tag) 256 → part self.new place n ≡ part self.old place n }
+    {
+        self.lay_command(tag, command, write, len);
+    }
+
+    fn lay_command(&mut self, tag: Tag, command: &CommandBlock, write: bool, len: u32)
+        requires { len ≤ 131072 }
+        ensures exact { self.new ≡ placed self.old tag command.now write len }
+        ensures memory_len { length self.old ≡ memory_size }
+        ensures command_len { length command.now ≡ 20 }
+        ensures tag { tag < 32 }
+    {
+        // There are as many bytes as a memory has: the field says so once it is used.
+        let _ = &self.bytes;
+        let bytes = command.bytes();
+        let header = parts::header(tag, write, len);
+        let table = parts::table(tag, bytes, len);
+        self.lay(header_place(tag), &header);
+        self.lay(table_place(tag), &table);
+    }
+
+    /// How many bytes the descriptors of a table name, or `None` where one is wrong or there are
+    /// too many.
+    #[tactic(auto, using(crate::proofs::Sums::one_more_sound, crate::proofs::Sums::one_more_sum, crate::proofs::Sums::unsound))]
+    fn transfer(&self, table: usize, entries: usize) -> Option<u32>
+        requires few { entries < 65536 }
+        requires inside { table + 0x80 + 16 * entries ≤ memory_size }
+        ensures { result ≡ transfer self.now table entries }
+    {
+        let mut total = 0;
+        for k in 0..entries {
+            let entry = self.part(table + 0x80 + 16 * k, 16);
+            if !parts::is_sound(entry) {
+                return None;
+            }
+            total += parts::count(entry);
+        }
+        if total > BUFFER as u64 {
+            return None;
+        }
+        Some(total as u32)
+    }
+
+    /// The FIS in a command table, or `None` where it is no command.
+    fn command_fis(&self, table: usize) -> Option<[u8; 20]>
+        requires { table + 0x80 ≤ memory_size }
+        ensures { result ≡ command_fis self.now table }
+    {
+        let bytes = self.part(table, 20);
+        if !is_command(bytes) {
+            return None;
+        }
+        let mut fis = [0; 20];
+        fis.copy_from_slice(bytes);
+        Some(fis)
+    }
+
+    /// The command in a slot, whatever bytes stand there.
+    ///
+    /// The errors come in this order: `BadLength`, `BadAddress`, `BadPrdt`, `BadFis`.
+    pub fn fetch(&self, tag: Tag) -> Result<Fetched, FetchError>
+        ensures exact { result ≡ fetched self.now tag }
+
+        // What was placed is fetched, as long as the slot holds it.
+        ensures held { (command : List ℕ) (write : Bool) (len : ℕ) → length command ≡ 20 → is_command command ≡ true → len % 2 ≡ 0 → len ≤ 131072 → Holds self.now tag command write len → result ≡ Ok (record { fis = command; write = write; len = len }) }
+    {
+        self.read_slot(tag)
+    }
+
+    fn read_slot(&self, tag: Tag) -> Result<Fetched, FetchError>
+        ensures exact { result ≡ fetched self.now tag }
+        ensures tag { tag < 32 }
+    {
+        let header = self.part(header_place(tag), 32);
+        if parts::fis_words(header) != 5 {
+            return Err(FetchError::BadLength);
+        }
+        if !parts::has_table(header) {
+            return Err(FetchError::BadAddress);
+        }
+        let table = parts::table_at(header);
+        let len = self
+            .transfer(table, parts::entries(header))
+            .ok_or(FetchError::BadPrdt)?;
+        let fis = self.command_fis(table).ok_or(FetchError::BadFis)?;
+        Ok(Fetched {
+            fis,
+            write: parts::is_write(header),
+            len,
+        })
+    }
+
+    /// Stores a FIS of the device where the port receives one of its type.
+    pub fn post(&mut self, fis: &Fis)
+        ensures exact { (bytes : List ℕ) × IsSpelling bytes fis.now × (self.new ≡ laid self.old (received_place fis.now) bytes) }
+
+        // No byte outside the received FISes changes.
+        ensures elsewhere { (place n : ℕ) → AreApart place n 0x400 0x100 → part self.new place n ≡ part self.old place n }
+    {
+        self.store(fis);
+    }
+
+    fn store(&mut self, fis: &Fis)
+        ensures exact { (bytes : List ℕ) × IsSpelling bytes fis.now × (self.new ≡ laid self.old (received_place fis.now) bytes) }
+        ensures memory_len { length self.old ≡ memory_size }
+    {
+        // There are as many bytes as a memory has: the field says so once it is used.
+        let _ = &self.bytes;
+        self.lay(received_place(fis), &fis.to_bytes());
+    }
+
+    /// The data of a slot.
+    pub fn buffer(&self, tag: Tag) -> &[u8]
+        ensures value { result.now ≡ part self.now (buffer_place tag) buffer_size }
+        ensures len { length result.now ≡ buffer_size }
+    {
+        self.part(buffer_place(tag), BUFFER)
+    }
+
+    /// Writes bytes into the data of a slot, from a place on.
+    pub fn fill_buffer(&mut self, tag: Tag, at: usize, bytes: &[u8])
+        requires { at + length bytes.now ≤ buffer_size }
+        ensures { self.new ≡ laid self.old (buffer_place tag + at) bytes.now }
+    {
+        self.lay(buffer_place(tag) + at, bytes);
+    }
+}
