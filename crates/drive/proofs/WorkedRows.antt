@@ -8,8 +8,8 @@ use Rattle.sp_tables.specs.declared.names.Sp.TheVariants.{Locking}
 use Rattle.locking.specs.Ranges.{ranges_in}
 use Rattle.locking.specs.Verdict.{verdict_of}
 use Rattle.locking.specs.declared.range.RangeRow.{RangeRow}
-use Rattle.locking.specs.declared.audit.Why.{Why}
-use Rattle.locking.specs.declared.audit.Why.TheVariants.{ReadLocked}
+use Rattle.audit.specs.declared.reason.Why.{Why}
+use Rattle.audit.specs.declared.reason.Why.TheVariants.{ReadLocked}
 use Rattle.shadow_mbr.specs.Stored.{zeros, sectors_from}
 use Rattle.drive.specs.Opening.{Opening, changes_of}
 use Rattle.drive.specs.Decisions.{any_below}

@@ -7,7 +7,7 @@ use Rattle.locking.specs.Range.{RangeRows}
 use Rattle.locking.specs.Verdict.{verdict_of}
 use Rattle.locking.specs.declared.range.Op.{Op}
 use Rattle.locking.specs.declared.range.Op.TheVariants.{Read, Write}
-use Rattle.locking.specs.declared.audit.Why.{Why}
+use Rattle.audit.specs.declared.reason.Why.{Why}
 use Rattle.locking.specs.declared.ranges.Verdict.{Verdict}
 use Rattle.locking.specs.declared.ranges.Verdict.TheVariants.{Serve, Denied}
 use Rattle.trusted_cmds.specs.declared.command.Command.{Command}

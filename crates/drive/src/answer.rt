@@ -3,8 +3,8 @@ ghost use Rattle.drive.specs.Answers.{answer_fis, setup_fis, moved_fis};
 
 use crate::decision::Decision;
 use arrayvec::ArrayVec;
+use audit::Why;
 use fis::{DmaSetup, Fis, RegD2h, SetDeviceBits, StatusBits, Tag};
-use locking::Why;
 use std::alloc::Global;
 
 /// What the drive answers to an accepted FIS.
@@ -49,10 +49,10 @@ impl Accepted {
     ghost use Rattle.drive.specs.Events.{event_of};
     ghost use Rattle.drive.specs.Answers.{IsAnswer};
 
-    pub(crate) fn of(alloc: Global, decision: &Decision) -> Accepted
-        ensures { IsAnswer (event_of decision.now) result }
+    pub(crate) fn of(alloc: Global, decision: Decision) -> Accepted
+        ensures { IsAnswer (event_of decision) result }
     {
-        let (error, held, denied) = match *decision {
+        let (error, held, denied) = match decision {
             Decision::Refused => (Some(0x04), false, None),
             Decision::Fails { failure, denied } => (Some(failure.error), false, denied),
             Decision::Holds { .. } => (None, true, None),

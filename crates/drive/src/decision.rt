@@ -5,8 +5,9 @@ ghost use Rattle.drive.specs.Decisions.{fails, admitted, any_below, is_held_at, 
 
 use crate::failure::Failure;
 use crate::queue::is_busy;
+use audit::Why;
 use fis::{RegH2d, Tag};
-use locking::{Op, Ranges, Verdict, Why};
+use locking::{Op, Ranges, Verdict};
 use trusted_cmds::{Command, CommandError, is_queued, of_fis, tag_of};
 
 /// The error of a command that is aborted or denied (ACS-3, ABRT).
@@ -16,7 +17,7 @@ const ABORTED: u8 = 0x04;
 const NOT_FOUND: u8 = 0x10;
 
 /// What the drive does with a command.
-#[derive(Clone, Copy, Debug, PartialEq, Eq)]
+#[derive(Clone, Debug, Drop, PartialEq, Eq)]
 pub enum Decision {
     /// Aborted, and nothing changes.
     Refused,

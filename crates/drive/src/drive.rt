@@ -204,7 +204,7 @@ impl Drive {
     {
         let decision = self.decision(fis);
         settle(&mut self.held, &mut self.failure, &decision);
-        Accepted::of(self.alloc, &decision)
+        Accepted::of(self.alloc, decision)
     }
 
     /// How many bytes a completion of the tag has to bring: 512 for each sector of a held write,

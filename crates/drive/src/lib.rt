@@ -11,10 +11,11 @@ mod opening;
 mod queue;
 
 pub use answer::{Accepted, Completed};
+pub use audit::Why;
 pub use drive::{Drive, DriveError};
 pub use failure::Failure;
 pub use laws::laws_of_transfers;
-pub use locking::{RangeRow, Why};
+pub use locking::RangeRow;
 pub use opening::set_range;
 pub use sp_tables::{DriveConfig, SetError};
 

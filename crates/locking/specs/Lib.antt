@@ -1,4 +1,3 @@
 pub mod Range
 pub mod Ranges
 pub mod Verdict
-pub mod AuditText

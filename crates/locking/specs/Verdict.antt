@@ -2,8 +2,8 @@
 use Rattle.std.specs.Prelude.{◌≡◌, ℕ, zero, suc, ◌+◌, ◌≤◌, ◌<◌, Bool, true, false, List, [], ◌∷◌, if◌then◌else◌, Option, Some, None}
 use Rattle.locking.specs.declared.range.Op.{Op}
 use Rattle.locking.specs.declared.range.Op.TheVariants.{Read, Write}
-use Rattle.locking.specs.declared.audit.Why.{Why}
-use Rattle.locking.specs.declared.audit.Why.TheVariants.{ReadLocked, WriteLocked}
+use Rattle.audit.specs.declared.reason.Why.{Why}
+use Rattle.audit.specs.declared.reason.Why.TheVariants.{ReadLocked, WriteLocked}
 use Rattle.locking.specs.declared.ranges.Verdict.{Verdict}
 use Rattle.locking.specs.declared.ranges.Verdict.TheVariants.{Serve, Denied}
 use Rattle.locking.specs.Range.{RangeRows, row_at, permits}

@@ -5,14 +5,14 @@ ghost use Rattle.sp_tables.specs.declared.names.TheConstants.{RANGES};
 ghost use Rattle.locking.specs.Ranges.{row_of, rows_from};
 ghost use Rattle.locking.specs.Verdict.{why_of};
 
-use crate::audit::Why;
 use crate::range::{Op, RangeRow};
+use audit::Why;
 use sp_tables::{Column, RANGES, Rows, Sp, Uid, number_at};
 use std::alloc::{AllocError, Global};
 use std::marker::Model;
 
 /// What a transfer is answered.
-#[derive(Clone, Copy, Debug, PartialEq, Eq)]
+#[derive(Clone, Debug, Drop, PartialEq, Eq)]
 pub enum Verdict {
     /// Each sector's range permits it.
     Serve,

@@ -1,8 +1,8 @@
 -- Printed lines.
 use Rattle.std.specs.Prelude.{ℕ, ◌+◌, ◌*◌, ◌/◌, suc, zero, List, [], ◌∷◌, ◌++◌, slice_range, length, codes}
 use Rattle.hex.specs.Hex.{encode_lower}
-use Rattle.locking.specs.AuditText.{line_text}
-use Rattle.locking.specs.declared.audit.AuditLine.{AuditLine}
+use Rattle.audit.specs.AuditText.{line_text}
+use Rattle.audit.specs.declared.reason.AuditLine.{AuditLine}
 
 -- a blank and the first four bytes of each of so many sectors, from one on
 abbrev pub first_bytes : ℕ → ℕ → List ℕ → List ℕ

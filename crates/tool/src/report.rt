@@ -4,7 +4,7 @@ ghost use Rattle.std.specs.Prelude.{◌≡◌, ◌++◌, ◌∷◌, [], OnOk, le
 ghost use Rattle.hex.specs.Hex.{encode_lower};
 ghost use Rattle.tool.specs.Reports.{sectors_text};
 
-use locking::{AuditLine, line_bytes};
+use audit::{AuditLine, line_bytes};
 use std::alloc::{AllocError, Global};
 
 /// Lines that are printed and not handed on yet, and the last of all.

@@ -4,9 +4,10 @@ use crate::fault::{LineFault, Transfer};
 use crate::line::{Line, expected_text};
 use crate::options::Options;
 use crate::report::Report;
-use drive::{Drive, set_range};
+use audit::{AuditLine, Why};
+use drive::{Accepted, Drive, set_range};
 use fis::{PortNumber, RegH2d};
-use locking::{AuditLine, RangeRow};
+use locking::RangeRow;
 use sp_tables::{DriveConfig, SetError, Tables};
 use std::alloc::{AllocError, Global};
 use thiserror::Error;
@@ -168,27 +169,41 @@ impl Session {
         }
     }
 
+    /// Prints that a command failed, and what denied it.
+    fn print_refusal(
+        &mut self,
+        client: u32,
+        status: u8,
+        error: u8,
+        denied: Option<Why>,
+    ) -> Result<(), AllocError> {
+        self.report.print_failure(status, error)?;
+        if let Some(why) = denied {
+            let step = self.acts;
+            let line = AuditLine { step, client, why };
+            self.report.print_audit(self.alloc, &line)?;
+        }
+        Ok(())
+    }
+
     /// Accepts a queued transfer, and completes it where it is held.
     fn transfer(&mut self, code: Code, transfer: Transfer, byte: u8) -> Result<(), AllocError> {
         self.open_drive()?;
         let Stage::Running(drive) = &mut self.stage else {
             return Err(AllocError);
         };
-        let accepted = drive
+        let Accepted {
+            status,
+            error,
+            held,
+            denied,
+            ..
+        } = drive
             .accept(&queued(code, &transfer), &[])
             .map_err(|_| AllocError)?;
         self.acts = self.acts.wrapping_add(1);
-        if !accepted.held {
-            self.report.print_failure(accepted.status, accepted.error)?;
-            if let Some(why) = accepted.denied {
-                let line = AuditLine {
-                    step: self.acts,
-                    client: transfer.client,
-                    why,
-                };
-                self.report.print_audit(self.alloc, &line)?;
-            }
-            return Ok(());
+        if !held {
+            return self.print_refusal(transfer.client, status, error, denied);
         }
         self.payload.clear();
         self.payload.resize(drive.expects(transfer.tag), byte)?;

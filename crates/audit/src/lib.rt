@@ -1,0 +1,12 @@
+//! The audit log of a self-locking drive: why an act was denied, and the line of text that says so.
+#![tactic(auto)]
+
+mod line;
+mod names;
+mod reason;
+
+pub use line::line_bytes;
+pub use reason::{AttemptFailure, AuditLine, Why};
+
+#[cfg(test)]
+mod tests;
