@@ -1,10 +1,9 @@
 //! What a drive is opened with.
 
-ghost use Rattle.sp_tables.specs.Config.{IsWithinLimits};
-
 use crate::number::number_up_to;
 use sp_tables::DriveConfig;
 use std::alloc::Global;
+use std::marker::Model;
 use thiserror::Error;
 
 /// Why options open no drive.
@@ -28,11 +27,25 @@ pub struct Options {
     sectors: u64,
     shadow: u64,
     msid: Vec<u8>,
-    ghost fits: { IsWithinLimits sectors shadow msid.items },
+}
+
+impl Model for Options {
+    ghost use Rattle.sp_tables.specs.Config.{Config, IsWithinLimits};
+
+    ghost Value = { Config };
+
+    ghost view = { λ o. record { sectors = o.sectors; mbr_sectors = o.shadow; msid = o.msid.items } };
+
+    ghost invariant = { λ o. IsWithinLimits o.sectors o.shadow o.msid.items };
 }
 
 impl Options {
-    ghost use Rattle.std.specs.Prelude.{◌≡◌};
+    ghost use Rattle.std.specs.Prelude.{◌≡◌, ◌↔◌, ℕ, List, None, Ok, Err, IfOk, IsErrOf};
+    ghost use Rattle.sp_tables.specs.Config.{Config, IsWithinLimits};
+    ghost use Rattle.hex.specs.Hex.{decode_of};
+    ghost use Rattle.tool.specs.Numbers.{number_up_to};
+    ghost use Rattle.tool.specs.OptionTexts.{WritesConfig, most};
+    ghost use Rattle.tool.specs.declared.options.OptionsFault.{OptionsFault};
 
     /// Reads the values as they are written on the command line: two decimal numbers, and hex. The
     /// first fault is told: `Sectors`, `Shadow`, `Msid`, `NoDrive`.
@@ -41,7 +54,13 @@ impl Options {
         sectors: &[u8],
         shadow: &[u8],
         msid: &[u8],
-    ) -> Result<Options, OptionsFault> {
+    ) -> Result<Options, OptionsFault>
+        ensures read { IfOk result (λ options. WritesConfig sectors.now shadow.now msid.now options) }
+        ensures sectors { IsErrOf result OptionsFault.Sectors ↔ (number_up_to most sectors.now ≡ None) }
+        ensures shadow { result ≡ Err OptionsFault.Shadow → number_up_to most shadow.now ≡ None }
+        ensures msid { result ≡ Err OptionsFault.Msid → (bytes : List ℕ) → decode_of msid.now ≡ Ok bytes → ⊥ }
+        ensures no_drive { result ≡ Err OptionsFault.NoDrive → (config : Config) → WritesConfig sectors.now shadow.now msid.now config → IsWithinLimits config.sectors config.mbr_sectors config.msid → ⊥ }
+    {
         let sectors = number_up_to(u64::MAX, sectors).ok_or(OptionsFault::Sectors)?;
         let shadow = number_up_to(u64::MAX, shadow).ok_or(OptionsFault::Shadow)?;
         let msid = match hex::decode(alloc, msid) {
@@ -61,7 +80,7 @@ impl Options {
 
     /// The configuration of the drive.
     pub fn config(&self) -> DriveConfig
-        ensures { result ≡ record { sectors = self.now.sectors; mbr_sectors = self.now.shadow; msid = self.now.msid.items } }
+        ensures { result ≡ self.now }
     {
         DriveConfig::new(self.sectors, self.shadow, &self.msid).unwrap()
     }

@@ -88,7 +88,7 @@ fn ends_at_the_first_wrong_line(rt: HostRuntime) -> Result<(), Fail> {
     assert_eq!(rt; status, 2);
     assert_eq!(rt;
         faults.as_slice(),
-        b"line 2: the range row is refused: the range meets another\n".as_slice()
+        b"line 2: the range row is refused: the range meets another one\n".as_slice()
     );
     Ok(())
 }
