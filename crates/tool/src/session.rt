@@ -1,16 +1,24 @@
 //! A drive, and what the lines of a script do with it.
 
+ghost use Rattle.std.specs.Prelude.{◌≡◌, All, OnOk, length};
+ghost use Rattle.trusted_cmds.specs.Commands.{sectors};
+ghost use Rattle.tool.specs.Transfers.{read_of, write_of};
+ghost use Rattle.std.specs.Prelude.{◌≡◌, All, OnOk, length};
+ghost use Rattle.trusted_cmds.specs.Commands.{sectors};
+ghost use Rattle.tool.specs.Transfers.{read_of, write_of};
+
 use crate::fault::{LineFault, Transfer};
 use crate::line::{Line, expected_text};
 use crate::options::Options;
 use crate::report::Report;
-use audit::{AuditLine, Why};
+use audit::AuditLine;
 use drive::{Accepted, Drive, set_range};
-use fis::{PortNumber, RegH2d};
+use fis::Tag;
 use locking::RangeRow;
 use sp_tables::{DriveConfig, SetError, Tables};
 use std::alloc::{AllocError, Global};
 use thiserror::Error;
+use trusted_cmds::{Command, to_fis};
 
 /// What ends a script with status 2.
 #[derive(Clone, Copy, Debug, PartialEq, Eq, Error)]
@@ -33,16 +41,33 @@ pub enum Turn {
 
 /// The range lines so far, and the tables that they make.
 #[derive(Drop)]
-struct Opening {
+struct RangeLines {
     config: DriveConfig,
     rows: Vec<RangeRow>,
     tables: Tables,
 }
 
+impl RangeLines {
+    ghost use Rattle.std.specs.Prelude.{◌≡◌, ◌++◌, ◌∷◌, [], IfOk};
+    ghost use Rattle.tool.specs.Transfers.{AddsTo};
+
+    /// Adds a row, unless it is refused.
+    fn add(&mut self, row: RangeRow) -> Result<Turn, AllocError>
+        ensures { IfOk result (λ turn. AddsTo turn row self.old self.new) }
+    {
+        self.rows.push(row)?;
+        match set_range(&mut self.tables, &row) {
+            Ok(()) => Ok(Turn::Goes),
+            Err(SetError::OutOfMemory) => Err(AllocError),
+            Err(error) => Ok(Turn::Bad(Fault::RefusedRow(error))),
+        }
+    }
+}
+
 /// What a script runs on: the cells of range lines that may still come, or a drive.
 #[derive(Drop)]
 enum Stage {
-    Opening(Opening),
+    Opening(RangeLines),
     Running(Drive),
     /// Between the two, where memory was refused.
     Lost,
@@ -59,45 +84,72 @@ pub struct Session {
     pub report: Report,
 }
 
-/// The code of a queued transfer.
-#[derive(Clone, Copy, Debug, PartialEq, Eq)]
-enum Code {
-    Read,
-    Write,
+/// The count of sectors that a count field writes.
+fn sectors(count: u16) -> u32
+    ensures { result ≡ sectors count }
+{
+    match count {
+        0 => 65_536,
+        count => u32::from(count),
+    }
 }
 
-/// The FIS of a queued transfer, with its count field as it is written.
-fn queued(code: Code, transfer: &Transfer) -> [u8; 20] {
-    RegH2d {
-        is_command: true,
-        port: PortNumber::low_bits(0),
-        command: match code {
-            Code::Read => 0x60,
-            Code::Write => 0x61,
-        },
-        feature: transfer.count,
-        lba: transfer.lba,
-        device: 0x40,
-        count: u16::from(transfer.tag.number()) * 8,
-        icc: 0,
-        control: 0,
+/// The queued read that a line asks for.
+fn read_of(transfer: &Transfer) -> Command
+    ensures { result ≡ read_of transfer.now }
+{
+    Command::ReadQueued {
+        lba: transfer.lba.number(),
+        count: sectors(transfer.count),
     }
-    .to_bytes()
+}
+
+/// The queued write that a line asks for.
+fn write_of(transfer: &Transfer) -> Command
+    ensures { result ≡ write_of transfer.now }
+{
+    Command::WriteQueued {
+        lba: transfer.lba.number(),
+        count: sectors(transfer.count),
+    }
+}
+
+/// Fills a buffer with so many bytes, all the same.
+fn fill(buffer: &mut Vec<u8>, size: usize, byte: u8) -> Result<(), AllocError>
+    ensures size { OnOk result (length buffer.new.items ≡ size) }
+    ensures bytes { OnOk result (All (λ each. each ≡ byte) buffer.new.items) }
+{
+    buffer.clear();
+    buffer.resize(size, byte)?;
+    Ok(())
 }
 
 impl Session {
-    ghost use Rattle.std.specs.Prelude.{◌≡◌, OnErr, IfErr, Ok, Err};
+    ghost use Rattle.std.specs.Prelude.{◌≡◌, ◌<◌, ◌≤◌, ◌^◌, ◌++◌, [], List, IfOk, OnOk, Ok, Err};
     ghost use Rattle.tool.specs.Readings.{line_of};
+    ghost use Rattle.tool.specs.Scripts.{GoesOn, Says};
+    ghost use Rattle.trusted_cmds.specs.Commands.{lba_of, count_of};
+    ghost use Rattle.drive.specs.Opening.{Opening, opened};
+    ghost use Rattle.drive.specs.History.{Act};
+    ghost use Rattle.tool.specs.Transfers.{RunsOn, Accepts, Serves, Transfers, Does, AddsRow, refusal_text};
+    ghost use Rattle.trusted_cmds.specs.Commands.{lba_of, count_of};
+    ghost use Rattle.drive.specs.Opening.{Opening, opened};
+    ghost use Rattle.drive.specs.History.{Act};
+    ghost use Rattle.tool.specs.Transfers.{RunsOn, Accepts, Serves, Transfers, Does, AddsRow, refusal_text};
+    ghost use Rattle.tool.specs.declared.line.Line.{Line};
     ghost use Rattle.tool.specs.declared.session.Fault.{Fault};
     ghost use Rattle.tool.specs.declared.session.Turn.{Turn};
     ghost use Rattle.tool.specs.declared.fault.LineFault.{LineFault};
 
-    pub fn new(alloc: Global, options: &Options) -> Result<Session, AllocError> {
+    pub fn new(alloc: Global, options: &Options) -> Result<Session, AllocError>
+        ensures runs { IfOk result (λ session. (o : Opening) → opened options.now [] ≡ Ok o → RunsOn session o []) }
+        ensures report { IfOk result (λ session. session.report.pending.items ≡ []) }
+    {
         let config = options.config();
         let tables = Tables::factory(alloc, &config)?;
         Ok(Session {
             alloc,
-            stage: Stage::Opening(Opening {
+            stage: Stage::Opening(RangeLines {
                 config,
                 rows: Vec::new(alloc),
                 tables,
@@ -112,6 +164,8 @@ impl Session {
     pub fn turn(&mut self, text: &[u8]) -> Result<Turn, AllocError>
         ensures bad_line { (fault : LineFault) → line_of text.now ≡ Err fault → result ≡ Ok (Turn.Bad (Fault.Line fault)) }
         ensures nothing_acts { (fault : LineFault) → line_of text.now ≡ Err fault → self.new ≡ self.old }
+        ensures says { IfOk result (λ turn. Says turn text.now) }
+        ensures does { (line : Line) → line_of text.now ≡ Ok line → IfOk result (λ turn. (o : Opening) (acts : List Act) → RunsOn self.old o acts → Does line text.now turn self.old self.new o acts) }
     {
         match Line::parse(text) {
             Ok(line) => self.act(line, text),
@@ -119,15 +173,18 @@ impl Session {
         }
     }
 
-    fn act(&mut self, line: Line, text: &[u8]) -> Result<Turn, AllocError> {
+    fn act(&mut self, line: Line, text: &[u8]) -> Result<Turn, AllocError>
+        ensures goes { IfOk result (GoesOn line) }
+        ensures does { IfOk result (λ turn. (o : Opening) (acts : List Act) → RunsOn self.old o acts → Does line text.now turn self.old self.new o acts) }
+    {
         match line {
             Line::Range(row) => self.set(row),
             Line::Read(transfer) => {
-                self.transfer(Code::Read, transfer, 0)?;
+                self.transfer(&read_of(&transfer), &transfer, 0)?;
                 Ok(Turn::Goes)
             }
             Line::Write(transfer, byte) => {
-                self.transfer(Code::Write, transfer, byte)?;
+                self.transfer(&write_of(&transfer), &transfer, byte)?;
                 Ok(Turn::Goes)
             }
             Line::Expect => {
@@ -142,13 +199,16 @@ impl Session {
     }
 
     /// Opens the drive, where it is not open yet.
-    fn open_drive(&mut self) -> Result<(), AllocError> {
+    fn open_drive(&mut self) -> Result<(), AllocError>
+        ensures runs { OnOk result ((o : Opening) (acts : List Act) → RunsOn self.old o acts → RunsOn self.new o acts) }
+        ensures report { self.new.report ≡ self.old.report }
+    {
         match std::mem::replace(&mut self.stage, Stage::Lost) {
             Stage::Opening(opening) => {
                 // the rows were set before, so that no other error comes
-                let drive = Drive::with_ranges(self.alloc, opening.config, &opening.rows).map_err(
-                    |_| AllocError,
-                )?;
+                let Ok(drive) = Drive::with_ranges(self.alloc, opening.config, &opening.rows) else {
+                    return Err(AllocError);
+                };
                 self.stage = Stage::Running(drive);
             }
             stage => self.stage = stage,
@@ -157,26 +217,29 @@ impl Session {
     }
 
     /// Keeps the cells of a range, unless the row is refused.
-    fn set(&mut self, row: RangeRow) -> Result<Turn, AllocError> {
-        let Stage::Opening(opening) = &mut self.stage else {
-            return Ok(Turn::Bad(Fault::LateRange));
-        };
-        opening.rows.push(row)?;
-        match set_range(&mut opening.tables, &row) {
-            Ok(()) => Ok(Turn::Goes),
-            Err(SetError::OutOfMemory) => Err(AllocError),
-            Err(error) => Ok(Turn::Bad(Fault::RefusedRow(error))),
+    fn set(&mut self, row: RangeRow) -> Result<Turn, AllocError>
+        ensures goes { IfOk result (GoesOn (Line.Range row)) }
+        ensures row { IfOk result (λ turn. AddsRow turn row self.old.stage self.new.stage) }
+        ensures report { self.new.report ≡ self.old.report }
+    {
+        match &mut self.stage {
+            Stage::Opening(lines) => lines.add(row),
+            _ => Ok(Turn::Bad(Fault::LateRange)),
         }
     }
 
     /// Prints that a command failed, and what denied it.
-    fn print_refusal(
-        &mut self,
-        client: u32,
-        status: u8,
-        error: u8,
-        denied: Option<Why>,
-    ) -> Result<(), AllocError> {
+    fn print_refusal(&mut self, client: u32, accepted: Accepted) -> Result<(), AllocError>
+        ensures text { OnOk result (self.new.report.pending.items ≡ self.old.report.pending.items ++ refusal_text self.old.acts client accepted.status accepted.error accepted.denied) }
+        ensures stage { self.new.stage ≡ self.old.stage }
+        ensures acts { self.new.acts ≡ self.old.acts }
+    {
+        let Accepted {
+            status,
+            error,
+            denied,
+            ..
+        } = accepted;
         self.report.print_failure(status, error)?;
         if let Some(why) = denied {
             let step = self.acts;
@@ -186,32 +249,58 @@ impl Session {
         Ok(())
     }
 
-    /// Accepts a queued transfer, and completes it where it is held.
-    fn transfer(&mut self, code: Code, transfer: Transfer, byte: u8) -> Result<(), AllocError> {
-        self.open_drive()?;
+    /// Completes a held transfer, whose payload has this byte in each place, and prints its data.
+    fn serve(&mut self, tag: Tag, byte: u8) -> Result<(), AllocError>
+        ensures { OnOk result ((o : Opening) (acts : List Act) → RunsOn self.old o acts → Serves self.old self.new o acts tag byte) }
+    {
         let Stage::Running(drive) = &mut self.stage else {
             return Err(AllocError);
         };
-        let Accepted {
-            status,
-            error,
-            held,
-            denied,
-            ..
-        } = drive
-            .accept(&queued(code, &transfer), &[])
-            .map_err(|_| AllocError)?;
-        self.acts = self.acts.wrapping_add(1);
-        if !held {
-            return self.print_refusal(transfer.client, status, error, denied);
-        }
-        self.payload.clear();
-        self.payload.resize(drive.expects(transfer.tag), byte)?;
+        fill(&mut self.payload, drive.expects(tag), byte)?;
         // what is held completes, unless memory is refused
-        let done = drive
-            .complete(transfer.tag, &self.payload)
-            .map_err(|_| AllocError)?;
+        let Ok(done) = drive.complete(tag, &self.payload) else {
+            return Err(AllocError);
+        };
         self.acts = self.acts.wrapping_add(1);
         self.report.print_data(&done.bytes)
+    }
+
+    /// Gives the drive the FIS of a queued command.
+    fn accept(&mut self, command: &Command, tag: Tag) -> Result<Accepted, AllocError>
+        requires address { lba_of command.now < 2 ^ 48 }
+        requires some { 0 < count_of command.now }
+        requires count { count_of command.now ≤ 65536 }
+        ensures answer { IfOk result (λ accepted. (o : Opening) (acts : List Act) → RunsOn self.old o acts → Accepts self.new o acts command.now tag accepted) }
+        ensures report { self.new.report ≡ self.old.report }
+    {
+        let Stage::Running(drive) = &mut self.stage else {
+            return Err(AllocError);
+        };
+        let Ok(accepted) = drive.accept(&to_fis(command, tag).to_bytes(), &[]) else {
+            return Err(AllocError);
+        };
+        self.acts = self.acts.wrapping_add(1);
+        Ok(accepted)
+    }
+
+    /// Accepts a queued transfer, and completes it where it is held.
+    fn transfer(
+        &mut self,
+        command: &Command,
+        transfer: &Transfer,
+        byte: u8,
+    ) -> Result<(), AllocError>
+        requires address { lba_of command.now < 2 ^ 48 }
+        requires some { 0 < count_of command.now }
+        requires count { count_of command.now ≤ 65536 }
+        ensures { OnOk result ((o : Opening) (acts : List Act) → RunsOn self.old o acts → Transfers self.old self.new o acts command.now transfer.now byte) }
+    {
+        self.open_drive()?;
+        let accepted = self.accept(command, transfer.tag)?;
+        if accepted.held {
+            self.serve(transfer.tag, byte)
+        } else {
+            self.print_refusal(transfer.client, accepted)
+        }
     }
 }

@@ -1,10 +1,11 @@
 //! One item of a token stream, told as text.
 
-ghost use Rattle.std.specs.Prelude.{◌≡◌, ◌++◌, ◌∷◌, [], ℕ, List, IfOk, Ok, Err, string_bytes};
+ghost use Rattle.std.specs.Prelude.{◌≡◌, ◌++◌, ◌∷◌, [], ℕ, List, ◌⊎◌, IfOk, IfErr, Ok, Err, string_bytes};
 ghost use Rattle.std.specs.Io.KnownBytes.{Appends};
 ghost use Rattle.hex.specs.Hex.{decode_of};
 ghost use Rattle.hex.specs.declared.error.FromHexError.{FromHexError};
 ghost use Rattle.tool.specs.TokenLines.{token_text};
+ghost use Rattle.tool.specs.declared.script.RunError.{RunError};
 
 use crate::script::RunError;
 use hex::FromHexError;
@@ -27,6 +28,7 @@ fn token_text(alloc: Global, bytes: &[u8]) -> Result<String, AllocError>
 /// hex nothing is printed, and the status is 2.
 pub fn run_tokens<W: Write>(alloc: Global, hex: &str, output: &mut W) -> Result<u8, RunError>
     ensures printed { (bytes : List ℕ) → decode_of hex.now ≡ Ok bytes → IfOk result (λ status. (status ≡ 0) × Appends (W.contents output.old) (W.contents output.new) (token_text bytes ++ 10 ∷ [])) }
+    ensures errors { IfErr result (λ error. (error ≡ RunError.Memory) ⊎ (error ≡ RunError.Write)) }
     ensures no_hex { (e : FromHexError) → decode_of hex.now ≡ Err e → IfOk result (λ status. status ≡ 2) }
 {
     let bytes = match hex::decode(alloc, hex.as_bytes()) {

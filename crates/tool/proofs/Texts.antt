@@ -1,0 +1,106 @@
+-- The first line of a text, and what a run has read so far.
+use Rattle.std.proofs.Common.{◌≡◌, ◌≢◌, ◌⊎◌, ℕ, zero, suc, ◌+◌, ◌-◌, ◌<◌, ◌≤◌, Bool, true, false, eqb, ◌==◌, ◌&&◌, List, [], ◌∷◌, ◌++◌, map, cond, length, take, slice_index, refl, sym, ap, subst, ◌∙◌, arith, lt-ltb, Option, Some, None, IfSome, All, Ok, Err, IsOk, IfOk, Result, append_assoc, append-nil, inl, inr}
+use Rattle.std.specs.Io.BufRead.{take_through, drop_through, strip_last, ends_with_byte}
+use Rattle.std.proofs.lemmas.List.Elements.{All-append, All-cons, All-nil}
+use Rattle.tool.specs.Scripts.{in_front, lines_of_text, script_lines, bare, TakesLine, IsLine, ComesTo, EndsWith}
+use Rattle.tool.specs.Ends.{EndsSo, status_of}
+use Rattle.tool.specs.declared.script.End.{End}
+use Rattle.tool.specs.declared.script.End.TheVariants.{Done, ExpectationFailed, Bad}
+
+strip_of : (b : ℕ) (xs : List ℕ) (n : ℕ) → length xs ≡ suc n → strip_last b xs ≡ cond (slice_index xs n == b) (take n xs) xs
+strip_of b xs n e =
+    ap (λ t. cond (t && (slice_index xs (length xs - 1) == b)) (take (length xs - 1) xs) xs) (lt-ltb 0 (length xs) (omega (arith, e)))
+    ∙ ap (λ k. cond (slice_index xs k == b) (take k xs) xs) (omega (arith, e))
+
+cond-cons : (t : Bool) (x : ℕ) (xs ys : List ℕ) → cond t (x ∷ xs) (x ∷ ys) ≡ x ∷ cond t xs ys
+cond-cons true x xs ys = refl
+cond-cons false x xs ys = refl
+
+strip-cons : (b x z : ℕ) (zs : List ℕ) → strip_last b (x ∷ z ∷ zs) ≡ x ∷ strip_last b (z ∷ zs)
+strip-cons b x z zs =
+    strip_of b (x ∷ z ∷ zs) (suc (length zs)) refl
+    ∙ cond-cons (slice_index (z ∷ zs) (length zs) == b) x (take (length zs) (z ∷ zs)) (z ∷ zs)
+    ∙ ap (λ l. x ∷ l) (sym (strip_of b (z ∷ zs) (length zs) refl))
+
+strip-end : (b x : ℕ) (t : Bool) → (x == b) ≡ t → strip_last b (x ∷ []) ≡ cond t [] (x ∷ [])
+strip-end b x t e = strip_of b (x ∷ []) 0 refl ∙ ap (λ t. cond t [] (x ∷ [])) e
+
+-- one byte in front of a text that is not empty
+in-front-of : (x y : ℕ) (ys : List ℕ) (t : Bool) → (x == 10) ≡ t
+    → lines_of_text (y ∷ ys) ≡ strip_last 10 (take_through 10 (y ∷ ys)) ∷ lines_of_text (drop_through 10 (y ∷ ys))
+    → cond t ([] ∷ lines_of_text (y ∷ ys)) (in_front x (lines_of_text (y ∷ ys)))
+    ≡ strip_last 10 (cond t (x ∷ []) (x ∷ take_through 10 (y ∷ ys))) ∷ lines_of_text (cond t (y ∷ ys) (drop_through 10 (y ∷ ys)))
+in-front-of x y ys true e behind = ap (λ l. l ∷ lines_of_text (y ∷ ys)) (sym (strip-end 10 x true e))
+in-front-of x y ys false e behind = ap (in_front x) behind ∙ ap (λ l. l ∷ lines_of_text (drop_through 10 (y ∷ ys))) (longer (y == 10))
+  where
+    longer : (t : Bool) → x ∷ strip_last 10 (cond t (y ∷ []) (y ∷ take_through 10 ys)) ≡ strip_last 10 (x ∷ cond t (y ∷ []) (y ∷ take_through 10 ys))
+    longer true = sym (strip-cons 10 x y [])
+    longer false = sym (strip-cons 10 x y (take_through 10 ys))
+
+-- the first line, and the lines behind it
+first-line : (x : ℕ) (xs : List ℕ) → lines_of_text (x ∷ xs) ≡ strip_last 10 (take_through 10 (x ∷ xs)) ∷ lines_of_text (drop_through 10 (x ∷ xs))
+unfolding lines_of_text
+first-line x [] = at (x == 10) refl
+  where
+    at : (t : Bool) → (x == 10) ≡ t → cond t ([] ∷ []) (in_front x []) ≡ strip_last 10 (cond t (x ∷ []) (x ∷ [])) ∷ lines_of_text (cond t [] [])
+    at true e = ap (λ l. l ∷ []) (sym (strip-end 10 x true e))
+    at false e = ap (λ l. l ∷ []) (sym (strip-end 10 x false e))
+first-line x (y ∷ ys) = in-front-of x y ys (x == 10) refl (first-line y ys)
+
+-- the lines of a text are its first line and the lines of what is left
+first-of-script : (text : List ℕ) → 0 < length (take_through 10 text) → script_lines text ≡ bare (take_through 10 text) ∷ script_lines (drop_through 10 text)
+first-of-script [] some = absurd (omega (arith, some))
+first-of-script (x ∷ xs) some = ap (map (strip_last 13)) (first-line x xs)
+
+-- of these lines some were read, each of which says something, and a text is left
+abbrev pub HasRead : List (List ℕ) → Option (List ℕ) → Type 0
+HasRead lines left =
+    (text : List ℕ) × (earlier : List (List ℕ)) × (left ≡ Some text) × (lines ≡ earlier ++ script_lines text) × All IsLine earlier
+
+pub none-read : (text : List ℕ) (left : Option (List ℕ)) → left ≡ Some text → HasRead (script_lines text) left
+none-read text left e = (text, [], e, refl, All-nil IsLine)
+
+-- the line that is read stands behind those that were
+here : (lines : List (List ℕ)) (old new : Option (List ℕ)) (line : List ℕ) → (read : HasRead lines old) → IfSome old (λ text. TakesLine true line text new)
+    → (lines ≡ read.1 ++ bare line ∷ script_lines (drop_through 10 read.0)) × (new ≡ Some (drop_through 10 read.0))
+here lines old new line (text, earlier, is, all, said) takes =
+    let taken = subst (λ o. IfSome o (λ text. TakesLine true line text new)) is takes in
+    let some : 0 < length (take_through 10 text) = subst (λ l. 0 < length l) taken.1 taken.0 in
+    let first : script_lines text ≡ bare line ∷ script_lines (drop_through 10 text) =
+    first-of-script text some ∙ ap (λ l. bare l ∷ script_lines (drop_through 10 text)) (sym taken.1) in
+    (all ∙ ap (λ l. earlier ++ l) first, taken.2)
+
+pub one-more : (lines : List (List ℕ)) (old new : Option (List ℕ)) (line : List ℕ) → HasRead lines old → IfSome old (λ text. TakesLine true line text new)
+    → IsLine (bare line) → HasRead lines new
+one-more lines old new line read takes says =
+    let found = here lines old new line read takes in (
+      drop_through 10 read.0,
+      read.1 ++ bare line ∷ [],
+      found.1,
+      found.0 ∙ sym (append_assoc read.1 (bare line ∷ []) (script_lines (drop_through 10 read.0))),
+      All-append IsLine read.1 (bare line ∷ []) read.4 (All-cons IsLine (bare line) [] says (All-nil IsLine)),
+    )
+
+pub comes-to : (P : List ℕ → Type 0) (lines : List (List ℕ)) (old new : Option (List ℕ)) (line : List ℕ) → HasRead lines old
+    → IfSome old (λ text. TakesLine true line text new) → P (bare line) → ComesTo P lines
+comes-to P lines old new line read takes says =
+    let found = here lines old new line read takes in
+    (read.1, bare line, script_lines (drop_through 10 read.0), found.0, read.4, says)
+
+pub all-read : (lines : List (List ℕ)) (old new : Option (List ℕ)) (line : List ℕ) → HasRead lines old → IfSome old (λ text. TakesLine false line text new)
+    → All IsLine lines
+unfolding lines_of_text
+all-read lines old new line (text, earlier, is, all, said) takes =
+    let none : text ≡ [] = subst (λ o. IfSome o (λ text. TakesLine false line text new)) is takes in
+    subst (All IsLine) (sym (all ∙ ap (λ t. earlier ++ script_lines t) none ∙ append-nil earlier)) said
+
+pub weaker : {A : Type 0} (o : Option A) (P Q : A → Type 0) → ((x : A) → P x → Q x) → IfSome o P → IfSome o Q
+weaker None P Q f h = h
+weaker (Some x) P Q f h = f x h
+
+pub told : {E : Type 0} (told : Result ℕ E) (end : End) (lines : List (List ℕ)) → IfOk told (λ status. status ≡ status_of end) → EndsSo end lines
+    → IfOk told (λ status. EndsWith status lines)
+told (Err e) end lines is ends = is
+told (Ok status) Done lines is ends = inl (is, ends)
+told (Ok status) ExpectationFailed lines is ends = inr (inl (is, ends))
+told (Ok status) (Bad line fault) lines is ends = inr (inr (is, ends))
