@@ -39,6 +39,8 @@ impl PortMemory {
     ghost use Rattle.slots.specs.Fetch.{fetched, placed, transfer, command_fis, Holds, AreApart};
     ghost use Rattle.slots.specs.Table.{is_command};
     ghost use Rattle.fis.specs.Fis.{IsSpelling};
+    ghost use Rattle.std.specs.Borrow.{sem};
+    ghost use Rattle.slots.specs.Lending.{with_part, LendsPart};
 
     /// A memory of zeros.
     pub fn new(alloc: Global) -> Result<PortMemory, AllocError>
@@ -67,6 +69,17 @@ impl PortMemory {
         ensures len { length result.now ≡ len }
     {
         &self.bytes[at..at + len]
+    }
+
+    fn part_mut(&mut self, at: usize, len: usize) -> &mut [u8]
+        requires { at + len ≤ memory_size }
+        ensures* writes_back { sem 𝓛 (LendsPart self.entry at result) }
+        ensures value { result.now ≡ part self.old at len }
+        ensures len { length result.now ≡ len }
+        ensures whole { (bytes : List ℕ) → length bytes ≡ len → with_part self.old at bytes ≡ laid self.old at bytes }
+        ensures inside { (i : ℕ) (bytes : List ℕ) → i + length bytes ≤ len → with_part self.old at (laid (part self.old at len) i bytes) ≡ laid self.old (at + i) bytes }
+    {
+        self.bytes.slice_mut(at..at + len)
     }
 
     fn lay(&mut self, at: usize, bytes: &[u8])
@@ -203,11 +216,17 @@ impl PortMemory {
         self.part(buffer_place(tag), BUFFER)
     }
 
-    /// Writes bytes into the data of a slot, from a place on.
-    pub fn fill_buffer(&mut self, tag: Tag, at: usize, bytes: &[u8])
-        requires { at + length bytes.now ≤ buffer_size }
-        ensures { self.new ≡ laid self.old (buffer_place tag + at) bytes.now }
+    /// The data of a slot, to be changed.
+    pub fn buffer_mut(&mut self, tag: Tag) -> &mut [u8]
+        ensures* writes_back { sem 𝓛 (LendsPart self.entry (buffer_place tag) result) }
+        ensures value { result.now ≡ part self.old (buffer_place tag) buffer_size }
+        ensures len { length result.now ≡ buffer_size }
+
+        // The slice keeps its length, so that no byte outside the buffer changes. What is written
+        // into the slice from a place on stands in the memory.
+        ensures whole { (bytes : List ℕ) → length bytes ≡ buffer_size → with_part self.old (buffer_place tag) bytes ≡ laid self.old (buffer_place tag) bytes }
+        ensures inside { (i : ℕ) (bytes : List ℕ) → i + length bytes ≤ buffer_size → with_part self.old (buffer_place tag) (laid (part self.old (buffer_place tag) buffer_size) i bytes) ≡ laid self.old (buffer_place tag + i) bytes }
     {
-        self.lay(buffer_place(tag) + at, bytes);
+        self.part_mut(buffer_place(tag), BUFFER)
     }
 }
