@@ -48,7 +48,7 @@ impl PortMemory {
 
     /// A memory of zeros.
     pub fn new(alloc: Global) -> Result<PortMemory, AllocError>
-        ensures { IfOk result (λ m. (k : ℕ) → slice_index m k ≡ 0) }
+        ensures { IfOk result (λ m. (length m ≡ memory_size) × ((k : ℕ) → slice_index m k ≡ 0)) }
     {
         Ok(PortMemory {
             bytes: zeros(alloc, MEMORY)?,
