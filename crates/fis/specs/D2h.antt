@@ -1,13 +1,13 @@
 -- A Register FIS from the device to the host, in bytes (Serial ATA, "Register - Device to Host").
-use Rattle.std.specs.Prelude.{◌≡◌, ℕ, ◌+◌, ◌*◌, ◌/◌, ◌%◌, ◌<◌, ◌≤◌, Bool, true, false, List, [], ◌∷◌, length, slice_index}
-use Rattle.std.specs.Int.{byte_at}
+use Rattle.std.specs.Prelude.{◌≡◌, ℕ, ◌+◌, ◌*◌, ◌<◌, ◌≤◌, List, [], ◌∷◌, length, slice_index}
 use Rattle.fis.specs.Bytes.{bit, number_2, number_6, AreClear}
+use Rattle.fis.specs.Types.{d2h_type, d2h_length}
 use Rattle.fis.specs.declared.d2h.RegD2h.{RegD2h}
 
 -- The bytes begin with a writing of the FIS.
 pub record IsD2h (bytes : List ℕ) (f : RegD2h) : Type 0 where
-  pub long : 20 ≤ length bytes
-  pub kind : slice_index bytes 0 ≡ 0x34
+  pub long : d2h_length ≤ length bytes
+  pub kind : slice_index bytes 0 ≡ d2h_type
   pub flags : slice_index bytes 1 ≡ 64 * bit f.interrupt + f.port
   pub port_fits : f.port < 16
   pub status : slice_index bytes 2 ≡ f.status

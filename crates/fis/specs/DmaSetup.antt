@@ -1,12 +1,13 @@
 -- A DMA Setup FIS in bytes (Serial ATA, "DMA Setup - Device to Host").
 use Rattle.std.specs.Prelude.{◌≡◌, ℕ, ◌+◌, ◌*◌, ◌<◌, ◌≤◌, List, [], ◌∷◌, length, slice_index}
 use Rattle.fis.specs.Bytes.{bit, number_4, AreClear}
+use Rattle.fis.specs.Types.{dma_setup_type, dma_setup_length}
 use Rattle.fis.specs.declared.dma_setup.DmaSetup.{DmaSetup}
 
 -- The bytes begin with a writing of the FIS.
 pub record IsDmaSetup (bytes : List ℕ) (f : DmaSetup) : Type 0 where
-  pub long : 28 ≤ length bytes
-  pub kind : slice_index bytes 0 ≡ 0x41
+  pub long : dma_setup_length ≤ length bytes
+  pub kind : slice_index bytes 0 ≡ dma_setup_type
   pub flags : slice_index bytes 1 ≡ 128 * bit f.auto_activate + 64 * bit f.interrupt + 32 * bit f.to_host + f.port
   pub port_fits : f.port < 16
   pub buffer_low : number_4 bytes 4 5 6 7 ≡ f.buffer_low

@@ -1,12 +1,13 @@
 -- A Register FIS from the host to the device, in bytes (Serial ATA, "Register - Host to Device").
-use Rattle.std.specs.Prelude.{◌≡◌, ℕ, ◌+◌, ◌*◌, ◌/◌, ◌%◌, ◌<◌, ◌≤◌, Bool, true, false, nat_le, List, [], ◌∷◌, length, slice_index}
+use Rattle.std.specs.Prelude.{◌≡◌, ℕ, ◌+◌, ◌*◌, ◌/◌, ◌%◌, ◌≤◌, nat_le, List, [], ◌∷◌, length, slice_index}
 use Rattle.fis.specs.Bytes.{bit, number_2, number_6, AreClear}
+use Rattle.fis.specs.Types.{h2d_type, h2d_length}
 use Rattle.fis.specs.declared.h2d.RegH2d.{RegH2d}
 
 -- The bytes begin with a writing of the FIS. Bits 6 to 4 of byte 1 and bytes 16 to 19 may have any value.
 pub record IsH2d (bytes : List ℕ) (f : RegH2d) : Type 0 where
-  pub long : 20 ≤ length bytes
-  pub kind : slice_index bytes 0 ≡ 0x27
+  pub long : h2d_length ≤ length bytes
+  pub kind : slice_index bytes 0 ≡ h2d_type
   pub is_command : slice_index bytes 1 / 128 ≡ bit f.is_command
   pub port : slice_index bytes 1 % 16 ≡ f.port
   pub command : slice_index bytes 2 ≡ f.command

@@ -1,4 +1,5 @@
 pub mod Bytes
+pub mod Types
 pub mod D2h
 pub mod H2d
 pub mod SetDeviceBits

@@ -1,13 +1,13 @@
 ghost use Rattle.std.specs.Prelude.{◌≡◌, ◌<◌, ◌≤◌, ◌↔◌, IfOk, OnErr, IsErrOf, Ok, Err, Some, None, length, slice_index};
-ghost use Rattle.fis.specs.Fis.{IsWriting, length_of, least_length, IsUnknown};
+ghost use Rattle.fis.specs.Fis.{IsWriting, length_of, least_length, IsUnknown, blank};
 ghost use Rattle.fis.specs.declared.any.Fis.{Fis};
 
-use crate::d2h::RegD2h;
-use crate::dma_setup::DmaSetup;
+use crate::d2h::{D2H_LENGTH, D2H_TYPE, RegD2h};
+use crate::dma_setup::{DMA_SETUP_LENGTH, DMA_SETUP_TYPE, DmaSetup};
 use crate::error::FisError;
-use crate::h2d::RegH2d;
-use crate::pio_setup::PioSetup;
-use crate::set_device_bits::SetDeviceBits;
+use crate::h2d::{H2D_LENGTH, H2D_TYPE, RegH2d};
+use crate::pio_setup::{PIO_SETUP_LENGTH, PIO_SETUP_TYPE, PioSetup};
+use crate::set_device_bits::{SET_DEVICE_BITS_LENGTH, SET_DEVICE_BITS_TYPE, SetDeviceBits};
 use arrayvec::ArrayVec;
 
 /// A FIS of any type that passes between the host and the drive (Serial ATA, "FIS types").
@@ -22,6 +22,8 @@ pub enum Fis {
 
 /// A register FIS to the host with zeros in all its fields.
 impl Default for Fis {
+    ghost is_default = { λ f. f ≡ blank };
+
     fn default() -> Fis {
         Fis::D2h(RegD2h::default())
     }
@@ -32,11 +34,11 @@ fn length_of(kind: u8) -> Option<usize>
     ensures { result ≡ length_of kind }
 {
     match kind {
-        0x27 => Some(20),
-        0x34 => Some(20),
-        0xa1 => Some(8),
-        0x41 => Some(28),
-        0x5f => Some(20),
+        H2D_TYPE => Some(H2D_LENGTH),
+        D2H_TYPE => Some(D2H_LENGTH),
+        SET_DEVICE_BITS_TYPE => Some(SET_DEVICE_BITS_LENGTH),
+        DMA_SETUP_TYPE => Some(DMA_SETUP_LENGTH),
+        PIO_SETUP_TYPE => Some(PIO_SETUP_LENGTH),
         _ => None,
     }
 }
@@ -60,16 +62,16 @@ fn read_whole(bytes: &[u8], len: usize) -> Result<Fis, FisError>
     ensures error { OnErr result (result ≡ Err FisError.ReservedSet) }
 {
     let kind = bytes[0];
-    if kind == 0x27 {
+    if kind == H2D_TYPE {
         return Ok(Fis::H2d(RegH2d::read(bytes)));
     }
-    if kind == 0x34 {
+    if kind == D2H_TYPE {
         return Ok(Fis::D2h(RegD2h::read(bytes)?));
     }
-    if kind == 0xa1 {
+    if kind == SET_DEVICE_BITS_TYPE {
         return Ok(Fis::SetDeviceBits(SetDeviceBits::read(bytes)?));
     }
-    if kind == 0x41 {
+    if kind == DMA_SETUP_TYPE {
         return Ok(Fis::DmaSetup(DmaSetup::read(bytes)?));
     }
     Ok(Fis::PioSetup(PioSetup::read(bytes)?))

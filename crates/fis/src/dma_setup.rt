@@ -1,25 +1,39 @@
 ghost use Rattle.std.specs.Prelude.{◌≤◌, ◌↔◌, IsTrue, length, [], ◌∷◌};
 ghost use Rattle.fis.specs.Bytes.{AreClear};
+ghost use Rattle.fis.specs.Types.{dma_setup_length};
 
 use crate::bytes::u32_at;
 use crate::error::FisError;
 use crate::fields::PortNumber;
 
-/// A DMA Setup FIS.
+/// The first byte of the FIS.
+pub(crate) const DMA_SETUP_TYPE: u8 = 0x41;
+
+/// How many bytes the FIS has.
+pub(crate) const DMA_SETUP_LENGTH: usize = 28;
+
+/// A DMA Setup FIS (Serial ATA, "DMA Setup - Device to Host or Host to Device").
 #[derive(Clone, Copy, Debug, Default, PartialEq, Eq)]
 pub struct DmaSetup {
+    /// Bit A: the transfer needs no DMA Activate FIS.
     pub auto_activate: bool,
+    /// Bit I: the port raises an interrupt when the data has moved.
     pub interrupt: bool,
+    /// Bit D: the data goes to the host.
     pub to_host: bool,
     pub port: PortNumber,
+    /// The low half of the buffer's identifier: the tag of a queued command.
     pub buffer_low: u32,
     pub buffer_high: u32,
+    /// Where in the buffer the data begins, in bytes.
     pub offset: u32,
+    /// How many bytes move.
     pub count: u32,
 }
 
+/// Whether the bytes of no field are zeros.
 fn reserved_clear(bytes: &[u8]) -> bool
-    requires { 28 ≤ length bytes.now }
+    requires { dma_setup_length ≤ length bytes.now }
     ensures { IsTrue result ↔ AreClear bytes.now (2 ∷ 3 ∷ 12 ∷ 13 ∷ 14 ∷ 15 ∷ 24 ∷ 25 ∷ 26 ∷ 27 ∷ []) }
 {
     bytes[2] == 0
@@ -36,10 +50,12 @@ fn reserved_clear(bytes: &[u8]) -> bool
 
 impl DmaSetup {
     ghost use Rattle.std.specs.Prelude.{◌≡◌, ◌≤◌, IfOk, OnErr, Err, Ok, length, slice_index};
+    ghost use Rattle.fis.specs.Types.{dma_setup_type, dma_setup_length};
     ghost use Rattle.fis.specs.DmaSetup.{IsDmaSetup};
     ghost use Rattle.fis.specs.declared.dma_setup.DmaSetup.{DmaSetup};
 
-    pub fn to_bytes(&self) -> [u8; 28]
+    /// The bytes of the FIS, with zeros in what it reserves.
+    pub fn to_bytes(&self) -> [u8; DMA_SETUP_LENGTH]
         ensures { IsDmaSetup result self.now }
     {
         let low = self.buffer_low.to_le_bytes();
@@ -51,16 +67,42 @@ impl DmaSetup {
             + 32 * u8::from(self.to_host)
             + self.port.number();
         [
-            0x41, flags, 0, 0, low[0], low[1], low[2], low[3], high[0], high[1], high[2], high[3],
-            0, 0, 0, 0, offset[0], offset[1], offset[2], offset[3], count[0], count[1], count[2],
-            count[3], 0, 0, 0, 0,
+            DMA_SETUP_TYPE,
+            flags,
+            0,
+            0,
+            low[0],
+            low[1],
+            low[2],
+            low[3],
+            high[0],
+            high[1],
+            high[2],
+            high[3],
+            0,
+            0,
+            0,
+            0,
+            offset[0],
+            offset[1],
+            offset[2],
+            offset[3],
+            count[0],
+            count[1],
+            count[2],
+            count[3],
+            0,
+            0,
+            0,
+            0,
         ]
     }
 
+    /// Reads the FIS from bytes of its type. The only error is `ReservedSet`.
     #[tactic(auto, using(crate::proofs::Flags::three_flags))]
     pub fn read(bytes: &[u8]) -> Result<DmaSetup, FisError>
-        requires long { 28 ≤ length bytes.now }
-        requires kind { slice_index bytes.now 0 ≡ 0x41 }
+        requires long { dma_setup_length ≤ length bytes.now }
+        requires kind { slice_index bytes.now 0 ≡ dma_setup_type }
         ensures found { IfOk result (λ f. IsDmaSetup bytes.now f) }
         ensures only { (f : DmaSetup) → IsDmaSetup bytes.now f → result ≡ Ok f }
         ensures error { OnErr result (result ≡ Err FisError.ReservedSet) }

@@ -24,6 +24,7 @@ impl Model for PortNumber {
 }
 
 impl PortNumber {
+    /// The port of this number, or `None` from 16 on.
     pub fn new(number: u8) -> Option<PortNumber>
         ensures some { IsSome result ↔ (number < 16) }
         ensures value { IfSome result (λ p. p ≡ number) }
@@ -44,6 +45,7 @@ impl PortNumber {
         }
     }
 
+    /// The number, 0 to 15.
     pub fn number(self) -> u8
         ensures value { result ≡ self }
         ensures below { result < 16 }
@@ -72,6 +74,7 @@ impl Model for StatusBits {
 }
 
 impl StatusBits {
+    /// These bits of a status, or `None` where bit 7 or bit 3 is set.
     pub fn new(bits: u8) -> Option<StatusBits>
         ensures some { IsSome result ↔ IsStatusBits bits }
         ensures value { IfSome result (λ s. s ≡ bits) }
@@ -83,6 +86,7 @@ impl StatusBits {
         }
     }
 
+    /// The bits, at their places in a status.
     pub fn bits(self) -> u8
         ensures value { result ≡ self }
         ensures fits { IsStatusBits result }
@@ -94,7 +98,7 @@ impl StatusBits {
 /// The number of a sector, of 48 bits.
 #[derive(Clone, Copy, Debug, Default, PartialEq, Eq, PartialOrd, Ord)]
 pub struct Lba {
-    number: u64,
+    sector: u64,
 }
 
 impl Model for Lba {
@@ -102,20 +106,21 @@ impl Model for Lba {
 
     ghost Value = { ℕ };
 
-    ghost view = { λ l. l.number };
+    ghost view = { λ l. l.sector };
 
-    ghost invariant = { λ l. l.number < 2 ^ 48 };
+    ghost invariant = { λ l. l.sector < 2 ^ 48 };
 
-    ghost inverse = { λ n. record { number = n } };
+    ghost inverse = { λ n. record { sector = n } };
 }
 
 impl Lba {
+    /// The sector of this number, or `None` from 2^48 on.
     pub fn new(number: u64) -> Option<Lba>
         ensures some { IsSome result ↔ (number < 2 ^ 48) }
         ensures value { IfSome result (λ l. l ≡ number) }
     {
         if number < 1 << 48 {
-            Some(Lba { number })
+            Some(Lba { sector: number })
         } else {
             None
         }
@@ -127,14 +132,15 @@ impl Lba {
     {
         let [a, b, c, d, e, f] = bytes;
         Lba {
-            number: u64::from_le_bytes([a, b, c, d, e, f, 0, 0]),
+            sector: u64::from_le_bytes([a, b, c, d, e, f, 0, 0]),
         }
     }
 
+    /// The number, below 2^48.
     pub fn number(self) -> u64
         ensures value { result ≡ self }
         ensures below { result < 2 ^ 48 }
     {
-        self.number
+        self.sector
     }
 }

@@ -1,7 +1,14 @@
 use crate::bytes::u16_at;
 use crate::fields::{Lba, PortNumber};
 
-/// A Register FIS from the host to the device. What no field names is not kept.
+/// The first byte of the FIS.
+pub(crate) const H2D_TYPE: u8 = 0x27;
+
+/// How many bytes the FIS has.
+pub(crate) const H2D_LENGTH: usize = 20;
+
+/// A Register FIS from the host to the device (Serial ATA, "Register - Host to Device"). What no
+/// field names is not kept.
 #[derive(Clone, Copy, Debug, Default, PartialEq, Eq)]
 pub struct RegH2d {
     /// Set for a command, clear for a write of the Control byte.
@@ -18,10 +25,12 @@ pub struct RegH2d {
 
 impl RegH2d {
     ghost use Rattle.std.specs.Prelude.{◌≡◌, ◌≤◌, length, slice_index};
+    ghost use Rattle.fis.specs.Types.{h2d_type, h2d_length};
     ghost use Rattle.fis.specs.H2d.{IsH2d, IsH2dSpelling, h2d_at};
     ghost use Rattle.fis.specs.declared.h2d.RegH2d.{RegH2d};
 
-    pub fn to_bytes(&self) -> [u8; 20]
+    /// The bytes of the FIS, with zeros in what no field names.
+    pub fn to_bytes(&self) -> [u8; H2D_LENGTH]
         ensures { IsH2dSpelling result self.now }
     {
         let lba = self.lba.number().to_le_bytes();
@@ -29,7 +38,7 @@ impl RegH2d {
         let feature = self.feature.to_le_bytes();
         let flags = u8::from(self.is_command) << 7 | self.port.number();
         [
-            0x27,
+            H2D_TYPE,
             flags,
             self.command,
             feature[0],
@@ -52,9 +61,10 @@ impl RegH2d {
         ]
     }
 
+    /// Reads the FIS from bytes of its type, whatever stands in what no field names.
     pub fn read(bytes: &[u8]) -> RegH2d
-        requires long { 20 ≤ length bytes.now }
-        requires kind { slice_index bytes.now 0 ≡ 0x27 }
+        requires long { h2d_length ≤ length bytes.now }
+        requires kind { slice_index bytes.now 0 ≡ h2d_type }
         ensures exact { result ≡ h2d_at bytes.now }
         ensures found { IsH2d bytes.now result }
         ensures only { (f : RegH2d) → IsH2d bytes.now f → result ≡ f }

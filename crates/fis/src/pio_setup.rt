@@ -1,9 +1,16 @@
 ghost use Rattle.std.specs.Prelude.{◌≡◌, ◌≤◌, ◌↔◌, IsTrue, length, [], ◌∷◌};
 ghost use Rattle.fis.specs.Bytes.{AreClear};
+ghost use Rattle.fis.specs.Types.{pio_setup_length};
 
 use crate::bytes::u16_at;
 use crate::error::FisError;
 use crate::fields::{Lba, PortNumber};
+
+/// The first byte of the FIS.
+pub(crate) const PIO_SETUP_TYPE: u8 = 0x5f;
+
+/// How many bytes the FIS has.
+pub(crate) const PIO_SETUP_LENGTH: usize = 20;
 
 /// A PIO Setup FIS (Serial ATA, "PIO Setup - Device to Host").
 #[derive(Clone, Copy, Debug, Default, PartialEq, Eq)]
@@ -27,7 +34,7 @@ pub struct PioSetup {
 
 /// Whether the bytes of no field are zeros.
 fn reserved_bytes_clear(bytes: &[u8]) -> bool
-    requires { 20 ≤ length bytes.now }
+    requires { pio_setup_length ≤ length bytes.now }
     ensures { IsTrue result ↔ AreClear bytes.now (11 ∷ 14 ∷ 18 ∷ 19 ∷ []) }
 {
     bytes[11] == 0 && bytes[14] == 0 && bytes[18] == 0 && bytes[19] == 0
@@ -35,11 +42,12 @@ fn reserved_bytes_clear(bytes: &[u8]) -> bool
 
 impl PioSetup {
     ghost use Rattle.std.specs.Prelude.{◌≡◌, ◌≤◌, IfOk, OnErr, Err, Ok, length, slice_index};
+    ghost use Rattle.fis.specs.Types.{pio_setup_type, pio_setup_length};
     ghost use Rattle.fis.specs.PioSetup.{IsPioSetup};
     ghost use Rattle.fis.specs.declared.pio_setup.PioSetup.{PioSetup};
 
     /// The 20 bytes of the FIS.
-    pub fn to_bytes(&self) -> [u8; 20]
+    pub fn to_bytes(&self) -> [u8; PIO_SETUP_LENGTH]
         ensures { IsPioSetup result self.now }
     {
         let lba = self.lba.number().to_le_bytes();
@@ -49,7 +57,7 @@ impl PioSetup {
             + 32 * u8::from(self.to_host)
             + self.port.number();
         [
-            0x5f,
+            PIO_SETUP_TYPE,
             flags,
             self.status,
             self.error,
@@ -75,8 +83,8 @@ impl PioSetup {
     /// Reads the FIS from bytes of its type. The only error is `ReservedSet`.
     #[tactic(auto, using(crate::proofs::Flags::two_flags))]
     pub fn read(bytes: &[u8]) -> Result<PioSetup, FisError>
-        requires long { 20 ≤ length bytes.now }
-        requires kind { slice_index bytes.now 0 ≡ 0x5f }
+        requires long { pio_setup_length ≤ length bytes.now }
+        requires kind { slice_index bytes.now 0 ≡ pio_setup_type }
         ensures found { IfOk result (λ f. IsPioSetup bytes.now f) }
         ensures only { (f : PioSetup) → IsPioSetup bytes.now f → result ≡ Ok f }
         ensures error { OnErr result (result ≡ Err FisError.ReservedSet) }

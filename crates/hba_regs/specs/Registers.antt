@@ -26,6 +26,42 @@ register_at offset =
     else (if offset == 0x38 then Some Issue
     else None)))))))))))))
 
+-- Bits of PxCMD (3.3.7): ST and FRE, which the host writes, and FR and CR, which follow them.
+abbrev pub start_bit : ℕ
+start_bit = 0x0001
+
+abbrev pub receive_bit : ℕ
+receive_bit = 0x0010
+
+abbrev pub receiving_bit : ℕ
+receiving_bit = 0x4000
+
+abbrev pub running_bit : ℕ
+running_bit = 0x8000
+
+-- The bits that an address keeps: PxCLB 31 to 10 (3.3.1), PxFB 31 to 8 (3.3.3).
+abbrev pub list_base_bits : ℕ
+list_base_bits = 0xfffffc00
+
+abbrev pub fis_base_bits : ℕ
+fis_base_bits = 0xffffff00
+
+-- Where received FISes stand before the host writes another place.
+abbrev pub first_fis_base : ℕ
+first_fis_base = 0x400
+
+-- The status of a device that is ready: DRDY, and the bit that ACS-3 calls command dependent.
+abbrev pub ready : ℕ
+ready = 0x50
+
+-- PxSIG of a disk (3.3.9), and PxSSTS of a device at the third generation's speed, with its link up
+-- and active (3.3.10).
+abbrev pub disk_signature : ℕ
+disk_signature = 0x101
+
+abbrev pub link_up : ℕ
+link_up = 0x133
+
 -- What the registers keep. ST and FRE of PxCMD are `running` and `receiving`.
 pub record Regs : Type 0 where
   pub list_base : ℕ
@@ -41,17 +77,16 @@ pub record Regs : Type 0 where
   pub active : ℕ
   pub issued : ℕ
 
--- Before anything is written: a drive is there and ready, the port runs, the list stands at 0 and
--- received FISes at 400h.
+-- Before anything is written: a drive is there and ready, and the port runs. The list stands at 0.
 abbrev pub fresh : Regs
 fresh = record {
   list_base = 0;
-  fis_base = 0x400;
+  fis_base = first_fis_base;
   interrupts = 0;
   enabled = 0;
   running = true;
   receiving = true;
-  status = 0x50;
+  status = ready;
   error = 0;
   control = 0;
   link_errors = 0;
@@ -59,9 +94,9 @@ fresh = record {
   issued = 0;
 }
 
--- PxCMD (3.3.7): CR (bit 15) follows ST (bit 0), and FR (bit 14) follows FRE (bit 4).
+-- PxCMD (3.3.7): CR follows ST, and FR follows FRE.
 abbrev pub command_word : Bool → Bool → ℕ
-command_word running receiving = (if running then 0x8001 else 0) + (if receiving then 0x4010 else 0)
+command_word running receiving = (if running then running_bit + start_bit else 0) + (if receiving then receiving_bit + receive_bit else 0)
 
 -- The word that a register gives.
 abbrev pub word : Regs → Register → ℕ
@@ -73,8 +108,8 @@ word regs InterruptStatus = regs.interrupts
 word regs InterruptEnable = regs.enabled
 word regs Command = command_word regs.running regs.receiving
 word regs TaskFile = regs.status + 256 * regs.error
-word regs Signature = 0x101
-word regs SataStatus = 0x133
+word regs Signature = disk_signature
+word regs SataStatus = link_up
 word regs SataControl = regs.control
 word regs SataError = regs.link_errors
 word regs Active = regs.active
@@ -111,13 +146,13 @@ run false regs = stopped regs
 -- What a write makes of a register: bits that keep what is written, bits that a written 1 clears,
 -- bits that a written 1 sets while the port runs, and registers that no write changes.
 abbrev pub written : Regs → Register → ℕ → Regs
-written regs ListBase value = record regs { list_base = bit_and value 0xfffffc00 }
+written regs ListBase value = record regs { list_base = bit_and value list_base_bits }
 written regs ListBaseUpper value = regs
-written regs FisBase value = record regs { fis_base = bit_and value 0xffffff00 }
+written regs FisBase value = record regs { fis_base = bit_and value fis_base_bits }
 written regs FisBaseUpper value = regs
 written regs InterruptStatus value = record regs { interrupts = without regs.interrupts value }
 written regs InterruptEnable value = record regs { enabled = value }
-written regs Command value = run (has value 0x01) (record regs { receiving = has value 0x10 })
+written regs Command value = run (has value start_bit) (record regs { receiving = has value receive_bit })
 written regs TaskFile value = regs
 written regs Signature value = regs
 written regs SataStatus value = regs

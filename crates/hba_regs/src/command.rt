@@ -1,4 +1,5 @@
 ghost use Rattle.std.specs.Prelude.{⊤, ◌≡◌, [], ◌∷◌, codes};
+ghost use Rattle.hba_regs.specs.Registers.{start_bit, receive_bit, receiving_bit, running_bit};
 
 use bitflags::{Flag, Flags, bitflag_items};
 
@@ -24,7 +25,7 @@ impl Flags for PxCmd {
 
     ghost exact = { ⊤ };
 
-    ghost table = { (codes "ST", 1) ∷ (codes "FRE", 0x10) ∷ (codes "FR", 0x4000) ∷ (codes "CR", 0x8000) ∷ [] };
+    ghost table = { (codes "ST", start_bit) ∷ (codes "FRE", receive_bit) ∷ (codes "FR", receiving_bit) ∷ (codes "CR", running_bit) ∷ [] };
 
     ghost set_of = { λ p. p.0 };
 

@@ -24,7 +24,7 @@ pub struct PortRegs {
 }
 
 impl Model for PortRegs {
-    ghost use Rattle.hba_regs.specs.Registers.{Regs, has};
+    ghost use Rattle.hba_regs.specs.Registers.{Regs, has, start_bit, receive_bit};
 
     ghost Value = { Regs };
 
@@ -33,8 +33,8 @@ impl Model for PortRegs {
       fis_base = a.fis_base;
       interrupts = a.interrupts.0;
       enabled = a.enabled;
-      running = has a.command.0 0x01;
-      receiving = has a.command.0 0x10;
+      running = has a.command.0 start_bit;
+      receiving = has a.command.0 receive_bit;
       status = a.status;
       error = a.error;
       control = a.control;
@@ -49,6 +49,12 @@ const LIST_BASE: u32 = 0xffff_fc00;
 
 /// PxFB keeps bits 31 to 8.
 const FIS_BASE: u32 = 0xffff_ff00;
+
+/// Where received FISes stand before the host writes another place.
+const FIRST_FIS_BASE: u32 = 0x400;
+
+/// The status of a device that is ready.
+const READY: u8 = 0x50;
 
 /// PxSIG of a disk.
 const SIGNATURE: u32 = 0x0101;
@@ -67,11 +73,11 @@ impl PortRegs {
     {
         PortRegs {
             list_base: 0,
-            fis_base: 0x400,
+            fis_base: FIRST_FIS_BASE,
             interrupts: PxIs::empty(),
             enabled: 0,
-            command: PxCmd::from_bits_retain(0x11),
-            status: 0x50,
+            command: PxCmd::ST.union(PxCmd::FRE),
+            status: READY,
             error: 0,
             control: 0,
             link_errors: 0,
@@ -84,12 +90,12 @@ impl PortRegs {
         ensures { result ≡ command_word self.now.running self.now.receiving }
     {
         let running = if self.command.contains(PxCmd::ST) {
-            0x8001
+            PxCmd::CR.bits() + PxCmd::ST.bits()
         } else {
             0
         };
         let receiving = if self.command.contains(PxCmd::FRE) {
-            0x4010
+            PxCmd::FR.bits() + PxCmd::FRE.bits()
         } else {
             0
         };

@@ -3,3 +3,4 @@ pub mod Held
 pub mod Placed
 pub mod Sums
 pub mod Posted
+pub mod Lending

@@ -1,10 +1,11 @@
 -- The command in a slot (AHCI 1.3.1, 5.5.1), over any bytes.
 use Rattle.std.specs.Prelude.{◌≡◌, ◌≤◌, ◌⊎◌, ℕ, ◌+◌, ◌==◌, ◌&&◌, nat_le, not, Bool, List, Option, Some, None, Result, Ok, Err, if◌then◌else◌}
+use Rattle.fis.specs.Types.{h2d_length}
 use Rattle.slots.specs.declared.error.FetchError.{FetchError}
 use Rattle.slots.specs.declared.error.FetchError.TheVariants.{BadLength, BadAddress, BadPrdt, BadFis}
 use Rattle.slots.specs.declared.fetched.Fetched.{Fetched}
-use Rattle.slots.specs.Layout.{laid, part, header_place, table_place, buffer_place, buffer_size}
-use Rattle.slots.specs.Header.{header_bytes, entries_for, fis_words, is_write, entries, table_at, has_table}
+use Rattle.slots.specs.Layout.{header_size, table_size, buffer_size, laid, part, header_place, table_place, buffer_place}
+use Rattle.slots.specs.Header.{command_words, header_bytes, entries_for, fis_words, is_write, entries, table_at, has_table}
 use Rattle.slots.specs.Table.{table_bytes, is_command, are_sound, bytes_of}
 
 -- The memory with a command in a slot.
@@ -20,7 +21,7 @@ transfer memory table n =
 
 -- The FIS in a table.
 abbrev pub command_fis : List ℕ → ℕ → Option (List ℕ)
-command_fis memory table = if is_command (part memory table 20) then Some (part memory table 20) else None
+command_fis memory table = if is_command (part memory table h2d_length) then Some (part memory table h2d_length) else None
 
 abbrev pub fis_fetched : Option (List ℕ) → Bool → ℕ → Result Fetched FetchError
 fis_fetched None write len = Err BadFis
@@ -33,18 +34,18 @@ table_fetched (Some len) fis write = fis_fetched fis write len
 -- What a header names, the first fault first.
 abbrev pub header_fetched : List ℕ → List ℕ → Result Fetched FetchError
 header_fetched memory header =
-    if not (fis_words header == 5) then Err BadLength
+    if not (fis_words header == command_words) then Err BadLength
     else (if not (has_table header) then Err BadAddress
     else table_fetched (transfer memory (table_at header) (entries header)) (command_fis memory (table_at header)) (is_write header))
 
 -- What a slot holds.
 abbrev pub fetched : List ℕ → ℕ → Result Fetched FetchError
-fetched memory tag = header_fetched memory (part memory (header_place tag) 32)
+fetched memory tag = header_fetched memory (part memory (header_place tag) header_size)
 
 -- A slot holds a command: its header and its table are as they are written.
 pub record Holds (memory : List ℕ) (tag : ℕ) (command : List ℕ) (write : Bool) (len : ℕ) : Type 0 where
-  pub header : part memory (header_place tag) 32 ≡ header_bytes write (entries_for len) (table_place tag)
-  pub table : part memory (table_place tag) 256 ≡ table_bytes (buffer_place tag) command len
+  pub header : part memory (header_place tag) header_size ≡ header_bytes write (entries_for len) (table_place tag)
+  pub table : part memory (table_place tag) table_size ≡ table_bytes (buffer_place tag) command len
 
 -- a part of so many bytes has none of the others
 abbrev pub AreApart : ℕ → ℕ → ℕ → ℕ → Type 0

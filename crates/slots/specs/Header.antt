@@ -2,17 +2,26 @@
 use Rattle.std.specs.Prelude.{ℕ, ◌+◌, ◌*◌, ◌/◌, ◌%◌, ◌==◌, ◌&&◌, nat_le, Bool, List, ◌++◌, drop, slice_index, if◌then◌else◌}
 use Rattle.byteorder.specs.Endian.{little_number, little_bytes}
 use Rattle.fis.specs.Bytes.{bit}
-use Rattle.slots.specs.Layout.{memory_size}
+use Rattle.fis.specs.Types.{h2d_length}
+use Rattle.slots.specs.Layout.{memory_size, descriptors_at, descriptor_size}
 
 -- The number in so many bytes from a place on, the lowest first.
 abbrev pub number_at : ℕ → List ℕ → ℕ → ℕ
 number_at size bytes place = little_number size (drop place bytes)
 
--- The writing: a command FIS of five words, W where the data go to the device, so many entries,
+-- how many words of four bytes a command FIS has
+abbrev pub command_words : ℕ
+command_words = h2d_length / 4
+
+-- a table stands at a multiple of this (4.2.2, CTBA)
+abbrev pub table_alignment : ℕ
+table_alignment = 128
+
+-- The writing: the words of a command FIS, W where the data go to the device, so many entries,
 -- the place of the command table, and zeros.
 abbrev pub header_bytes : Bool → ℕ → ℕ → List ℕ
 header_bytes write entries table =
-    little_bytes 2 (5 + 64 * bit write) ++ little_bytes 2 entries ++ little_bytes 4 0
+    little_bytes 2 (command_words + 64 * bit write) ++ little_bytes 2 entries ++ little_bytes 4 0
     ++ little_bytes 4 table ++ little_bytes 4 0 ++ little_bytes 16 0
 
 -- Data in one piece have one entry, no data have none.
@@ -38,7 +47,7 @@ table_at header = number_at 4 header 8
 abbrev pub table_upper : List ℕ → ℕ
 table_upper header = number_at 4 header 12
 
--- The table stands at a multiple of 128 and in the memory, its entries of 16 bytes included.
+-- The table stands at a multiple of the alignment and in the memory, its entries included.
 abbrev pub has_table : List ℕ → Bool
 has_table header =
-    table_at header % 128 == 0 && table_upper header == 0 && nat_le (table_at header + 0x80 + 16 * entries header) memory_size
+    table_at header % table_alignment == 0 && table_upper header == 0 && nat_le (table_at header + descriptors_at + descriptor_size * entries header) memory_size

@@ -1,36 +1,61 @@
 -- The memory that a host shares with a port (AHCI 1.3.1, 4.2). Where its parts stand is the host's
--- choice; the offsets among received FISes are those of 4.2.1.
+-- choice; sizes, and the offsets among received FISes, are those of the standard.
 use Rattle.std.specs.Prelude.{ℕ, ◌+◌, ◌*◌, List, ◌++◌, length, take, drop, replicate, slice_range}
 use Rattle.fis.specs.declared.any.Fis.{Fis}
 use Rattle.fis.specs.declared.any.Fis.TheVariants as fises
 
--- how many bytes it has, and how many of them are the buffer of a slot
-abbrev pub memory_size : ℕ
-memory_size = 0x410000
+-- The command list stands at 0, and has a header for each slot (4.2.2).
+abbrev pub header_size : ℕ
+header_size = 32
+
+-- where the received FISes stand, and how many bytes there are for them (4.2.1)
+abbrev pub received_at : ℕ
+received_at = 0x400
+
+abbrev pub received_size : ℕ
+received_size = 0x100
+
+-- where the command tables stand, and how many bytes each has
+abbrev pub tables_at : ℕ
+tables_at = 0x800
+
+abbrev pub table_size : ℕ
+table_size = 0x100
+
+-- In a table the descriptors of the data stand at an offset of their own (4.2.3).
+abbrev pub descriptors_at : ℕ
+descriptors_at = 0x80
+
+abbrev pub descriptor_size : ℕ
+descriptor_size = 16
+
+-- where the data stand, and how many bytes each slot has of them
+abbrev pub buffers_at : ℕ
+buffers_at = 0x10000
 
 abbrev pub buffer_size : ℕ
 buffer_size = 0x20000
 
--- The command list has a header of 32 bytes for each slot.
+-- How many bytes there are in all: the 32 buffers stand last.
+abbrev pub memory_size : ℕ
+memory_size = buffers_at + 32 * buffer_size
+
 abbrev pub header_place : ℕ → ℕ
-header_place tag = 32 * tag
+header_place tag = header_size * tag
 
--- There is a command table for each slot.
 abbrev pub table_place : ℕ → ℕ
-table_place tag = 0x800 + 0x100 * tag
+table_place tag = tables_at + table_size * tag
 
--- There is a buffer for each slot.
 abbrev pub buffer_place : ℕ → ℕ
-buffer_place tag = 0x10000 + 0x20000 * tag
+buffer_place tag = buffers_at + buffer_size * tag
 
--- Received FISes stand from 400h on, each type at an offset of its own: DMA Setup at 00, PIO Setup
--- at 20h, Register at 40h, Set Device Bits at 58h, and what is none of them at 60h (4.2.1).
+-- The place of each type among the received FISes (4.2.1). What is no FIS of a device stands last.
 abbrev pub received_place : Fis → ℕ
-received_place (fises.DmaSetup f) = 0x400
-received_place (fises.PioSetup f) = 0x420
-received_place (fises.D2h f) = 0x440
-received_place (fises.SetDeviceBits f) = 0x458
-received_place (fises.H2d f) = 0x460
+received_place (fises.DmaSetup f) = received_at
+received_place (fises.PioSetup f) = received_at + 0x20
+received_place (fises.D2h f) = received_at + 0x40
+received_place (fises.SetDeviceBits f) = received_at + 0x58
+received_place (fises.H2d f) = received_at + 0x60
 
 -- so many bytes from a place on
 abbrev pub part : List ℕ → ℕ → ℕ → List ℕ

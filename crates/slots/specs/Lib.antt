@@ -2,3 +2,4 @@ pub mod Layout
 pub mod Header
 pub mod Table
 pub mod Fetch
+pub mod Lending

@@ -1,8 +1,9 @@
--- A command table (AHCI 1.3.1, 4.2.3): the command FIS at 00, and from 80h on the physical region
--- descriptors, of 16 bytes each (4.2.3.3).
+-- A command table (AHCI 1.3.1, 4.2.3): the command FIS, and behind it the physical region
+-- descriptors (4.2.3.3).
 use Rattle.std.specs.Prelude.{ℕ, zero, suc, ◌+◌, ◌-◌, ◌*◌, ◌%◌, ◌==◌, ◌&&◌, nat_le, Bool, true, List, ◌++◌, slice_index, if◌then◌else◌}
 use Rattle.byteorder.specs.Endian.{little_bytes}
-use Rattle.slots.specs.Layout.{memory_size, laid, part, zeros}
+use Rattle.fis.specs.Types.{h2d_type}
+use Rattle.slots.specs.Layout.{memory_size, table_size, descriptors_at, descriptor_size, laid, part, zeros}
 use Rattle.slots.specs.Header.{number_at}
 
 -- The writing of a descriptor: the address and its upper half, a reserved word, and the count of
@@ -13,12 +14,12 @@ entry_bytes address len = little_bytes 4 address ++ little_bytes 4 0 ++ little_b
 -- The writing of a table: the FIS, the descriptor of the data where there are any, else zeros.
 abbrev pub table_bytes : ℕ → List ℕ → ℕ → List ℕ
 table_bytes buffer command len =
-    if len == 0 then laid (zeros 256) 0 command
-    else laid (laid (zeros 256) 0 command) 0x80 (entry_bytes buffer len)
+    if len == 0 then laid (zeros table_size) 0 command
+    else laid (laid (zeros table_size) 0 command) descriptors_at (entry_bytes buffer len)
 
--- The bytes begin as those of a Register FIS to the device (27h) whose C bit is set.
+-- The bytes begin as those of a Register FIS to the device whose C bit is set.
 abbrev pub is_command : List ℕ → Bool
-is_command bytes = slice_index bytes 0 == 0x27 && nat_le 0x80 (slice_index bytes 1)
+is_command bytes = slice_index bytes 0 == h2d_type && nat_le 0x80 (slice_index bytes 1)
 
 -- DBA and DBAU: where the data stand
 abbrev pub address : List ℕ → ℕ
@@ -27,9 +28,13 @@ address entry = number_at 4 entry 0
 abbrev pub upper : List ℕ → ℕ
 upper entry = number_at 4 entry 4
 
+-- how many bytes one descriptor can name
+abbrev pub descriptor_range : ℕ
+descriptor_range = 0x400000
+
 -- DBC, bits 21 to 0: the count of bytes less one
 abbrev pub count : List ℕ → ℕ
-count entry = number_at 4 entry 12 % 0x400000 + 1
+count entry = number_at 4 entry 12 % descriptor_range + 1
 
 -- The data stand at an even place, are an even count, and stand in the memory.
 abbrev pub is_sound : List ℕ → Bool
@@ -38,7 +43,7 @@ is_sound entry =
 
 -- a descriptor of a table
 abbrev pub entry_at : List ℕ → ℕ → ℕ → List ℕ
-entry_at memory table k = part memory (table + 0x80 + 16 * k) 16
+entry_at memory table k = part memory (table + descriptors_at + descriptor_size * k) descriptor_size
 
 -- whether each of the first n descriptors is sound, and how many bytes they are of
 abbrev pub are_sound : List ℕ → ℕ → ℕ → Bool

@@ -1,12 +1,19 @@
 ghost use Rattle.std.specs.Prelude.{◌≡◌, ◌≤◌, ◌↔◌, IsTrue, length};
+ghost use Rattle.fis.specs.Types.{h2d_length};
 ghost use Rattle.slots.specs.Table.{is_command};
 
 use std::marker::Model;
 
+/// How many bytes a command FIS has (Serial ATA, "Register - Host to Device").
+pub(crate) const COMMAND_FIS: usize = 20;
+
+/// The first byte of a command FIS.
+const COMMAND_TYPE: u8 = 0x27;
+
 /// The bytes of a Register FIS to the device whose C bit is set.
 #[derive(Clone, Copy, Debug, PartialEq, Eq)]
 pub struct CommandBlock {
-    bytes: [u8; 20],
+    bytes: [u8; COMMAND_FIS],
 }
 
 impl Model for CommandBlock {
@@ -24,17 +31,19 @@ impl Model for CommandBlock {
 
 /// Whether bytes begin as a Register FIS to the device does whose C bit is set.
 pub(crate) fn is_command(bytes: &[u8]) -> bool
-    requires { 20 ≤ length bytes.now }
+    requires { h2d_length ≤ length bytes.now }
     ensures { result ≡ is_command bytes.now }
 {
-    bytes[0] == 0x27 && bytes[1] >= 0x80
+    bytes[0] == COMMAND_TYPE && bytes[1] >= 0x80
 }
 
 impl CommandBlock {
     ghost use Rattle.std.specs.Prelude.{◌≡◌, ◌↔◌, IsSome, IfSome, length, true};
+    ghost use Rattle.fis.specs.Types.{h2d_length};
     ghost use Rattle.slots.specs.Table.{is_command};
 
-    pub fn new(bytes: [u8; 20]) -> Option<CommandBlock>
+    /// The command in these bytes, or `None` where they are none.
+    pub fn new(bytes: [u8; COMMAND_FIS]) -> Option<CommandBlock>
         ensures some { IsSome result ↔ (is_command bytes ≡ true) }
         ensures value { IfSome result (λ c. c ≡ bytes) }
     {
@@ -46,9 +55,9 @@ impl CommandBlock {
     }
 
     /// The bytes of the FIS.
-    pub fn bytes(&self) -> &[u8; 20]
+    pub fn bytes(&self) -> &[u8; COMMAND_FIS]
         ensures value { result.now ≡ self.now }
-        ensures len { length self.now ≡ 20 }
+        ensures len { length self.now ≡ h2d_length }
         ensures command { is_command self.now ≡ true }
     {
         &self.bytes

@@ -1,8 +1,10 @@
+use crate::command_block::COMMAND_FIS;
+
 /// What a slot holds.
 #[derive(Clone, Copy, Debug, PartialEq, Eq)]
 pub struct Fetched {
     /// The command FIS.
-    pub fis: [u8; 20],
+    pub fis: [u8; COMMAND_FIS],
     /// Whether the data go to the device.
     pub write: bool,
     /// How many bytes of data there is room for.

@@ -1,10 +1,13 @@
 ghost use Rattle.std.specs.Prelude.{◌≡◌, ℕ, IfOk, length, slice_index};
 
-use crate::command_block::{CommandBlock, is_command};
+use crate::command_block::{COMMAND_FIS, CommandBlock, is_command};
 use crate::error::FetchError;
 use crate::fetched::Fetched;
-use crate::layout::{BUFFER, MEMORY, buffer_place, header_place, received_place, table_place};
-use crate::parts;
+use crate::layout::{
+    BUFFER, DESCRIPTOR, DESCRIPTORS, HEADER, MEMORY, buffer_place, header_place, received_place,
+    table_place,
+};
+use crate::parts::{self, COMMAND_WORDS};
 use fis::{Fis, Tag};
 use std::alloc::{AllocError, Global};
 use std::marker::Model;
@@ -35,14 +38,17 @@ fn zeros(alloc: Global, len: usize) -> Result<Vec<u8>, AllocError>
 
 impl PortMemory {
     ghost use Rattle.std.specs.Prelude.{◌≡◌, ◌+◌, ◌*◌, ◌≤◌, ◌<◌, ◌%◌, ◌↔◌, ℕ, List, Bool, true, IfOk, IfSome, IsSome, Ok, Some, None, length, slice_index, if◌then◌else◌};
-    ghost use Rattle.slots.specs.Layout.{memory_size, laid, part, header_place, table_place, buffer_place, received_place, buffer_size};
+    ghost use Rattle.slots.specs.Layout.{memory_size, header_size, received_at, received_size, table_size, buffer_size, descriptors_at, descriptor_size, laid, part, header_place, table_place, buffer_place, received_place};
     ghost use Rattle.slots.specs.Fetch.{fetched, placed, transfer, command_fis, Holds, AreApart};
     ghost use Rattle.slots.specs.Table.{is_command};
+    ghost use Rattle.fis.specs.Types.{h2d_length};
     ghost use Rattle.fis.specs.Fis.{IsSpelling};
+    ghost use Rattle.std.specs.Borrow.{sem};
+    ghost use Rattle.slots.specs.Lending.{with_part, LendsPart};
 
     /// A memory of zeros.
     pub fn new(alloc: Global) -> Result<PortMemory, AllocError>
-        ensures { IfOk result (λ m. (k : ℕ) → slice_index m k ≡ 0) }
+        ensures { IfOk result (λ m. (length m ≡ memory_size) × ((k : ℕ) → slice_index m k ≡ 0)) }
     {
         Ok(PortMemory {
             bytes: zeros(alloc, MEMORY)?,
@@ -69,6 +75,17 @@ impl PortMemory {
         &self.bytes[at..at + len]
     }
 
+    fn part_mut(&mut self, at: usize, len: usize) -> &mut [u8]
+        requires { at + len ≤ memory_size }
+        ensures* writes_back { sem 𝓛 (LendsPart self.entry at result) }
+        ensures value { result.now ≡ part self.old at len }
+        ensures len { length result.now ≡ len }
+        ensures whole { (bytes : List ℕ) → length bytes ≡ len → with_part self.old at bytes ≡ laid self.old at bytes }
+        ensures inside { (i : ℕ) (bytes : List ℕ) → i + length bytes ≤ len → with_part self.old at (laid (part self.old at len) i bytes) ≡ laid self.old (at + i) bytes }
+    {
+        self.bytes.slice_mut(at..at + len)
+    }
+
     fn lay(&mut self, at: usize, bytes: &[u8])
         requires { at + length bytes.now ≤ memory_size }
         ensures { self.new ≡ laid self.old at bytes.now }
@@ -79,21 +96,21 @@ impl PortMemory {
     /// Lays a command with `len` bytes of data in its slot. What no field names is 0.
     pub fn place(&mut self, tag: Tag, command: &CommandBlock, write: bool, len: u32)
         requires even { len % 2 ≡ 0 }
-        requires fits { len ≤ 131072 }
+        requires fits { len ≤ buffer_size }
         ensures exact { self.new ≡ placed self.old tag command.now write len }
 
         // The slot holds the command then, and no other byte changes.
         ensures holds { Holds self.new tag command.now write len }
-        ensures elsewhere { (place n : ℕ) → AreApart place n (header_place tag) 32 → AreApart place n (table_place tag) 256 → part self.new place n ≡ part self.old place n }
+        ensures elsewhere { (place n : ℕ) → AreApart place n (header_place tag) header_size → AreApart place n (table_place tag) table_size → part self.new place n ≡ part self.old place n }
     {
         self.lay_command(tag, command, write, len);
     }
 
     fn lay_command(&mut self, tag: Tag, command: &CommandBlock, write: bool, len: u32)
-        requires { len ≤ 131072 }
+        requires { len ≤ buffer_size }
         ensures exact { self.new ≡ placed self.old tag command.now write len }
         ensures memory_len { length self.old ≡ memory_size }
-        ensures command_len { length command.now ≡ 20 }
+        ensures command_len { length command.now ≡ h2d_length }
         ensures tag { tag < 32 }
     {
         // There are as many bytes as a memory has: the field says so once it is used.
@@ -110,12 +127,12 @@ impl PortMemory {
     #[tactic(auto, using(crate::proofs::Sums::one_more_sound, crate::proofs::Sums::one_more_sum, crate::proofs::Sums::unsound))]
     fn transfer(&self, table: usize, entries: usize) -> Option<u32>
         requires few { entries < 65536 }
-        requires inside { table + 0x80 + 16 * entries ≤ memory_size }
+        requires inside { table + descriptors_at + descriptor_size * entries ≤ memory_size }
         ensures { result ≡ transfer self.now table entries }
     {
         let mut total = 0;
         for k in 0..entries {
-            let entry = self.part(table + 0x80 + 16 * k, 16);
+            let entry = self.part(table + DESCRIPTORS + DESCRIPTOR * k, DESCRIPTOR);
             if !parts::is_sound(entry) {
                 return None;
             }
@@ -128,15 +145,15 @@ impl PortMemory {
     }
 
     /// The FIS in a command table, or `None` where it is no command.
-    fn command_fis(&self, table: usize) -> Option<[u8; 20]>
-        requires { table + 0x80 ≤ memory_size }
+    fn command_fis(&self, table: usize) -> Option<[u8; COMMAND_FIS]>
+        requires { table + descriptors_at ≤ memory_size }
         ensures { result ≡ command_fis self.now table }
     {
-        let bytes = self.part(table, 20);
+        let bytes = self.part(table, COMMAND_FIS);
         if !is_command(bytes) {
             return None;
         }
-        let mut fis = [0; 20];
+        let mut fis = [0; COMMAND_FIS];
         fis.copy_from_slice(bytes);
         Some(fis)
     }
@@ -148,7 +165,7 @@ impl PortMemory {
         ensures exact { result ≡ fetched self.now tag }
 
         // What was placed is fetched, as long as the slot holds it.
-        ensures held { (command : List ℕ) (write : Bool) (len : ℕ) → length command ≡ 20 → is_command command ≡ true → len % 2 ≡ 0 → len ≤ 131072 → Holds self.now tag command write len → result ≡ Ok (record { fis = command; write = write; len = len }) }
+        ensures held { (command : List ℕ) (write : Bool) (len : ℕ) → length command ≡ h2d_length → is_command command ≡ true → len % 2 ≡ 0 → len ≤ buffer_size → Holds self.now tag command write len → result ≡ Ok (record { fis = command; write = write; len = len }) }
     {
         self.read_slot(tag)
     }
@@ -157,8 +174,8 @@ impl PortMemory {
         ensures exact { result ≡ fetched self.now tag }
         ensures tag { tag < 32 }
     {
-        let header = self.part(header_place(tag), 32);
-        if parts::fis_words(header) != 5 {
+        let header = self.part(header_place(tag), HEADER);
+        if parts::fis_words(header) != COMMAND_WORDS {
             return Err(FetchError::BadLength);
         }
         if !parts::has_table(header) {
@@ -181,7 +198,7 @@ impl PortMemory {
         ensures exact { (bytes : List ℕ) × IsSpelling bytes fis.now × (self.new ≡ laid self.old (received_place fis.now) bytes) }
 
         // No byte outside the received FISes changes.
-        ensures elsewhere { (place n : ℕ) → AreApart place n 0x400 0x100 → part self.new place n ≡ part self.old place n }
+        ensures elsewhere { (place n : ℕ) → AreApart place n received_at received_size → part self.new place n ≡ part self.old place n }
     {
         self.store(fis);
     }
@@ -203,11 +220,17 @@ impl PortMemory {
         self.part(buffer_place(tag), BUFFER)
     }
 
-    /// Writes bytes into the data of a slot, from a place on.
-    pub fn fill_buffer(&mut self, tag: Tag, at: usize, bytes: &[u8])
-        requires { at + length bytes.now ≤ buffer_size }
-        ensures { self.new ≡ laid self.old (buffer_place tag + at) bytes.now }
+    /// The data of a slot, to be changed.
+    pub fn buffer_mut(&mut self, tag: Tag) -> &mut [u8]
+        ensures* writes_back { sem 𝓛 (LendsPart self.entry (buffer_place tag) result) }
+        ensures value { result.now ≡ part self.old (buffer_place tag) buffer_size }
+        ensures len { length result.now ≡ buffer_size }
+
+        // The slice keeps its length, so that no byte outside the buffer changes. What is written
+        // into the slice from a place on stands in the memory.
+        ensures whole { (bytes : List ℕ) → length bytes ≡ buffer_size → with_part self.old (buffer_place tag) bytes ≡ laid self.old (buffer_place tag) bytes }
+        ensures inside { (i : ℕ) (bytes : List ℕ) → i + length bytes ≤ buffer_size → with_part self.old (buffer_place tag) (laid (part self.old (buffer_place tag) buffer_size) i bytes) ≡ laid self.old (buffer_place tag + i) bytes }
     {
-        self.lay(buffer_place(tag) + at, bytes);
+        self.part_mut(buffer_place(tag), BUFFER)
     }
 }

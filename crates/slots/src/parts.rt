@@ -1,13 +1,23 @@
 //! Command headers, tables and descriptors as bytes (AHCI 1.3.1, 4.2.2 and 4.2.3).
 
 ghost use Rattle.std.specs.Prelude.{◌≡◌, ◌≤◌, ◌<◌, ◌+◌, ◌*◌, ◌-◌, ◌^◌, length};
-ghost use Rattle.slots.specs.Layout.{zeros, laid, table_place, buffer_place};
+ghost use Rattle.slots.specs.Layout.{header_size, table_size, descriptor_size, zeros, laid, table_place, buffer_place};
 ghost use Rattle.slots.specs.Header.{header_bytes, fis_words, is_write, entries, table_at, table_upper, has_table, entries_for};
 ghost use Rattle.slots.specs.Table.{entry_bytes, table_bytes, address, upper, count, is_sound};
 
-use crate::layout::{MEMORY, buffer_place, table_place};
+use crate::command_block::COMMAND_FIS;
+use crate::layout::{DESCRIPTOR, DESCRIPTORS, HEADER, MEMORY, TABLE, buffer_place, table_place};
 use byteorder::{ByteOrder, LittleEndian};
 use fis::Tag;
+
+/// How many words of four bytes a command FIS has.
+pub(crate) const COMMAND_WORDS: u8 = (COMMAND_FIS / 4) as u8;
+
+/// A command table stands at a multiple of this (AHCI 1.3.1, 4.2.2).
+const TABLE_ALIGNMENT: usize = 128;
+
+/// How many bytes one descriptor can name (AHCI 1.3.1, 4.2.3.3).
+const DESCRIPTOR_RANGE: u32 = 0x40_0000;
 
 /// Lays bytes among others from a place on.
 pub(crate) fn lay(memory: &mut [u8], at: usize, bytes: &[u8])
@@ -18,63 +28,66 @@ pub(crate) fn lay(memory: &mut [u8], at: usize, bytes: &[u8])
 }
 
 /// The header of a command of `len` bytes of data, none or in one piece.
-pub(crate) fn header(tag: Tag, write: bool, len: u32) -> [u8; 32]
+pub(crate) fn header(tag: Tag, write: bool, len: u32) -> [u8; HEADER]
     ensures { result ≡ header_bytes write (entries_for len) (table_place tag) }
 {
     let entries = if len == 0 { 0 } else { 1 };
-    let mut header = [0; 32];
-    LittleEndian::write_u16(&mut header[0..2], 5 + 64 * u16::from(write));
+    let mut header = [0; HEADER];
+    LittleEndian::write_u16(
+        &mut header[0..2],
+        u16::from(COMMAND_WORDS + 64 * u8::from(write)),
+    );
     LittleEndian::write_u16(&mut header[2..4], entries);
     LittleEndian::write_u32(&mut header[8..12], table_place(tag) as u32);
     header
 }
 
 /// The descriptor of the data in one piece.
-fn entry(tag: Tag, len: u32) -> [u8; 16]
+fn entry(tag: Tag, len: u32) -> [u8; DESCRIPTOR]
     requires { 0 < len }
     ensures { result ≡ entry_bytes (buffer_place tag) len }
 {
-    let mut entry = [0; 16];
+    let mut entry = [0; DESCRIPTOR];
     LittleEndian::write_u32(&mut entry[0..4], buffer_place(tag) as u32);
     LittleEndian::write_u32(&mut entry[12..16], len - 1);
     entry
 }
 
 #[tactic(auto, unfolding(crate::specs::Layout::zeros))]
-fn zeros() -> [u8; 256]
-    ensures { result ≡ zeros 256 }
+fn zeros() -> [u8; TABLE]
+    ensures { result ≡ zeros table_size }
 {
-    [0; 256]
+    [0; TABLE]
 }
 
 /// The command table: the FIS, and the descriptor of the data where there are any.
-pub(crate) fn table(tag: Tag, command: &[u8; 20], len: u32) -> [u8; 256]
+pub(crate) fn table(tag: Tag, command: &[u8; COMMAND_FIS], len: u32) -> [u8; TABLE]
     ensures { result ≡ table_bytes (buffer_place tag) command.now len }
 {
     let mut table = zeros();
     lay(&mut table, 0, command);
     if len != 0 {
-        lay(&mut table, 0x80, &entry(tag, len));
+        lay(&mut table, DESCRIPTORS, &entry(tag, len));
     }
     table
 }
 
 pub(crate) fn fis_words(header: &[u8]) -> u8
-    requires { 32 ≤ length header.now }
+    requires { header_size ≤ length header.now }
     ensures { result ≡ fis_words header.now }
 {
     header[0] % 32
 }
 
 pub(crate) fn is_write(header: &[u8]) -> bool
-    requires { 32 ≤ length header.now }
+    requires { header_size ≤ length header.now }
     ensures { result ≡ is_write header.now }
 {
     header[0] / 64 % 2 == 1
 }
 
 pub(crate) fn entries(header: &[u8]) -> usize
-    requires { 32 ≤ length header.now }
+    requires { header_size ≤ length header.now }
     ensures value { result ≡ entries header.now }
     ensures fits { result < 65536 }
 {
@@ -82,7 +95,7 @@ pub(crate) fn entries(header: &[u8]) -> usize
 }
 
 pub(crate) fn table_at(header: &[u8]) -> usize
-    requires { 32 ≤ length header.now }
+    requires { header_size ≤ length header.now }
     ensures value { result ≡ table_at header.now }
     ensures fits { result < 2 ^ 32 }
 {
@@ -90,7 +103,7 @@ pub(crate) fn table_at(header: &[u8]) -> usize
 }
 
 fn table_upper(header: &[u8]) -> u32
-    requires { 32 ≤ length header.now }
+    requires { header_size ≤ length header.now }
     ensures { result ≡ table_upper header.now }
 {
     LittleEndian::read_u32(&header[12..])
@@ -98,15 +111,17 @@ fn table_upper(header: &[u8]) -> u32
 
 /// Whether the table that the header names stands in the memory, its entries included.
 pub(crate) fn has_table(header: &[u8]) -> bool
-    requires { 32 ≤ length header.now }
+    requires { header_size ≤ length header.now }
     ensures { result ≡ has_table header.now }
 {
     let at = table_at(header);
-    at % 128 == 0 && table_upper(header) == 0 && at + 0x80 + 16 * entries(header) <= MEMORY
+    at % TABLE_ALIGNMENT == 0
+        && table_upper(header) == 0
+        && at + DESCRIPTORS + DESCRIPTOR * entries(header) <= MEMORY
 }
 
 fn address(entry: &[u8]) -> u64
-    requires { 16 ≤ length entry.now }
+    requires { descriptor_size ≤ length entry.now }
     ensures value { result ≡ address entry.now }
     ensures fits { result < 2 ^ 32 }
 {
@@ -114,7 +129,7 @@ fn address(entry: &[u8]) -> u64
 }
 
 fn upper(entry: &[u8]) -> u32
-    requires { 16 ≤ length entry.now }
+    requires { descriptor_size ≤ length entry.now }
     ensures { result ≡ upper entry.now }
 {
     LittleEndian::read_u32(&entry[4..])
@@ -122,16 +137,16 @@ fn upper(entry: &[u8]) -> u32
 
 /// How many bytes the descriptor is of.
 pub(crate) fn count(entry: &[u8]) -> u64
-    requires { 16 ≤ length entry.now }
+    requires { descriptor_size ≤ length entry.now }
     ensures value { result ≡ count entry.now }
     ensures fits { result ≤ 4194304 }
 {
-    u64::from(LittleEndian::read_u32(&entry[12..]) % 0x40_0000) + 1
+    u64::from(LittleEndian::read_u32(&entry[12..]) % DESCRIPTOR_RANGE) + 1
 }
 
 /// Whether the bytes that the descriptor names stand in the memory.
 pub(crate) fn is_sound(entry: &[u8]) -> bool
-    requires { 16 ≤ length entry.now }
+    requires { descriptor_size ≤ length entry.now }
     ensures { result ≡ is_sound entry.now }
 {
     address(entry) % 2 == 0

@@ -82,7 +82,8 @@ fn keeps_what_it_received(rt: HostRuntime) -> Result<(), Fail> {
     let mut memory = PortMemory::new(rt.alloc())?;
     memory.post(&Fis::read(&received)?);
     assert_eq!(rt; memory.part(0x458, 8), received.as_slice());
-    memory.fill_buffer(Tag::low_bits(31), BUFFER - 2, &[1, 2]);
+    let buffer = memory.buffer_mut(Tag::low_bits(31));
+    buffer[BUFFER - 2..].copy_from_slice(&[1, 2]);
     assert_eq!(rt; memory.buffer(Tag::low_bits(31)).last(), Some(&2));
     Ok(())
 }

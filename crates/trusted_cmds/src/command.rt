@@ -1,11 +1,29 @@
 use thiserror::Error;
 
+/// READ FPDMA QUEUED (ACS-3).
+pub(crate) const READ_QUEUED: u8 = 0x60;
+
+/// WRITE FPDMA QUEUED (ACS-3).
+pub(crate) const WRITE_QUEUED: u8 = 0x61;
+
+/// WRITE DMA EXT (ACS-3).
+pub(crate) const WRITE_DMA: u8 = 0x35;
+
+/// TRUSTED SEND (ACS-3).
+pub(crate) const TRUSTED_SEND: u8 = 0x5e;
+
+/// TRUSTED SEND DMA (ACS-3).
+pub(crate) const TRUSTED_SEND_DMA: u8 = 0x5f;
+
+/// How many sectors a command moves at most.
+pub(crate) const MOST_SECTORS: u32 = 65_536;
+
 /// A command of the drive. Addresses are below 2^48; counts are of sectors, 1 to 65,536.
 #[derive(Clone, Copy, Debug, PartialEq, Eq)]
 pub enum Command {
-    /// READ FPDMA QUEUED, 60h (ACS-3, "READ FPDMA QUEUED").
+    /// READ FPDMA QUEUED (ACS-3, "READ FPDMA QUEUED").
     ReadQueued { lba: u64, count: u32 },
-    /// WRITE FPDMA QUEUED, 61h (ACS-3, "WRITE FPDMA QUEUED").
+    /// WRITE FPDMA QUEUED (ACS-3, "WRITE FPDMA QUEUED").
     WriteQueued { lba: u64, count: u32 },
 }
 

@@ -4,8 +4,12 @@ ghost use Rattle.std.specs.Prelude.{◌≡◌, ◌≤◌, ◌%◌};
 ghost use Rattle.trusted_cmds.specs.Commands.{sectors, blocks, payload_length};
 ghost use Rattle.fis.specs.declared.h2d.RegH2d.{RegH2d};
 
+use crate::command::{TRUSTED_SEND, TRUSTED_SEND_DMA, WRITE_DMA};
 use crate::convert::sectors;
 use fis::RegH2d;
+
+/// How many bytes a sector has, and a block of a trusted command.
+const SECTOR: usize = 512;
 
 /// The blocks of a trusted command: their number has its low byte in Count, its high byte in LBA.
 fn blocks(h: &RegH2d) -> u32
@@ -24,9 +28,9 @@ pub fn payload_len(h: &RegH2d) -> usize
     ensures { result ≡ payload_length h.now }
 {
     match h.command {
-        0x35 => 512 * sectors(h.count) as usize,
-        0x5e => 512 * blocks(h) as usize,
-        0x5f => 512 * blocks(h) as usize,
+        WRITE_DMA => SECTOR * sectors(h.count) as usize,
+        TRUSTED_SEND => SECTOR * blocks(h) as usize,
+        TRUSTED_SEND_DMA => SECTOR * blocks(h) as usize,
         _ => 0,
     }
 }
