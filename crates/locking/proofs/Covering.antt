@@ -12,9 +12,9 @@ found_in (row ∷ rows) global sector =
     elim (cases_Bool (covers row sector)) [
       | inl held ↦ rw held (inl (Contains-append_left (row ∷ []) rows row (Contains-push [] row), held))
       | inr free ↦ rw free (elim (found_in rows global sector) [
-          | inl found ↦ inl (Contains-append_right (row ∷ []) rows (row_in rows global sector) found.0, found.1)
-          | inr none ↦ inr (All-cons (λ other. covers other sector ≡ false) row rows free none.0, none.1)
-        ])
+        | inl found ↦ inl (Contains-append_right (row ∷ []) rows (row_in rows global sector) found.0, found.1)
+        | inr none ↦ inr (All-cons (λ other. covers other sector ≡ false) row rows free none.0, none.1)
+      ])
     ]
 
 pub is_range_of : (rows : RangeRows) (sector : ℕ) → IsRangeOf rows sector (row_at rows sector)
