@@ -1,7 +1,6 @@
 -- Which entry is found.
-use Rattle.std.proofs.Common.{◌≡◌, ◌==◌, ◌||◌, Bool, true, false, cond, ◌⊎◌, inl, inr, List, [], ◌∷◌, Option, None, Some, refl, sym, ◌∙◌, ap, ◌↔◌, IsTrue, arith}
+use Rattle.std.proofs.Common.{◌≡◌, ◌||◌, Bool, true, false, cond, ◌⊎◌, inl, inr, List, [], ◌∷◌, Option, None, Some, refl, sym, ◌∙◌, ap, ◌↔◌, arith}
 use Rattle.std.specs.Prelude.{filter, unwrap_or, is_some, Result, Ok, Err, IsOk, MatchResult, if◌then◌else◌}
-use Rattle.std.proofs.lemmas.Bool.{eqb-true, eq-eqb}
 use Rattle.std.proofs.lemmas.Bool.Decides.{nat_tests, eqb_tells}
 use Rattle.sp_tables.specs.declared.names.Uid.{Uid}
 use Rattle.sp_tables.specs.declared.names.Sp.{Sp}

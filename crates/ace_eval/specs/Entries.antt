@@ -1,5 +1,5 @@
 -- Which access entry allows a method (Core 2.01, section 5.3, tables AccessControl and ACE).
-use Rattle.std.specs.Prelude.{◌≡◌, ◌==◌, Bool, true, false, ◌||◌, List, [], ◌∷◌, Option, None, Some, unwrap_or, filter, if◌then◌else◌}
+use Rattle.std.specs.Prelude.{◌≡◌, ◌==◌, Bool, true, false, List, [], ◌∷◌, Option, None, Some, unwrap_or, filter, if◌then◌else◌}
 use Rattle.std.specs.List.{list_any}
 use Rattle.sp_tables.specs.declared.names.Uid.{Uid}
 use Rattle.sp_tables.specs.declared.names.Sp.{Sp}

@@ -5,7 +5,7 @@ pub mod authorities;
 pub mod entries;
 pub mod expressions;
 
-pub use authorities::Authorities;
+pub use authorities::{Authorities, MOST_AUTHORITIES};
 pub use entries::{Missing, entry};
 pub use expressions::holds;
 

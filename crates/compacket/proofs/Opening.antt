@@ -7,9 +7,11 @@ use Rattle.compacket.specs.Spelling.{com_packet_header, packet_header, subpacket
 use Rattle.compacket.specs.Frames.{reading}
 use Rattle.compacket.proofs.Readings.{frame_is_read}
 use Rattle.std.proofs.Common.{Ok}
+use Rattle.compacket.specs.declared.headers.TheConstants.{MAX_COM_PACKET}
 use Rattle.compacket.specs.declared.session.Session.{Session}
+use Rattle.compacket.specs.declared.writer.TheConstants.{MAX_PAYLOAD}
 
-com_packet_written : (com_id : ℕ) (content rest : List ℕ) (n : ℕ) → com_id < 2 ^ 16 → n ≡ length content → n ≤ 65516 → IsComPacket (com_packet_header com_id 0 0 n ++ content ++ rest) com_id content
+com_packet_written : (com_id : ℕ) (content rest : List ℕ) (n : ℕ) → com_id < 2 ^ 16 → n ≡ length content → 20 + n ≤ MAX_COM_PACKET → IsComPacket (com_packet_header com_id 0 0 n ++ content ++ rest) com_id content
 com_packet_written com_id content rest n fits is long =
     let len : com_packet_length (com_packet_header com_id 0 0 n ++ content ++ rest) ≡ n =
     big_number-reads_back 4 n (content ++ rest) (omega arith) in
@@ -49,7 +51,7 @@ regroup : (a b c d e r : List ℕ) → a ++ b ++ c ++ d ++ e ++ r ≡ a ++ (b ++
 regroup a b c d e r = simp append_assoc
 
 -- The frame of a payload, whatever follows, is a frame that carries it.
-pub frame_written : (com_id : ℕ) (session : Session) (payload rest : List ℕ) → com_id < 2 ^ 16 → session.tsn < 2 ^ 32 → session.hsn < 2 ^ 32 → 0 < length payload → length payload ≤ 65480 → IsFrame (frame_bytes com_id session payload ++ rest) (record { com_id = com_id; session = session; payload = payload })
+pub frame_written : (com_id : ℕ) (session : Session) (payload rest : List ℕ) → com_id < 2 ^ 16 → session.tsn < 2 ^ 32 → session.hsn < 2 ^ 32 → 0 < length payload → length payload ≤ MAX_PAYLOAD → IsFrame (frame_bytes com_id session payload ++ rest) (record { com_id = com_id; session = session; payload = payload })
 frame_written com_id session payload rest fits tsn hsn some long =
     let n : ℕ = length payload in
     let subpacket : List ℕ = subpacket_header n ++ payload ++ padding n in
@@ -68,6 +70,6 @@ frame_written com_id session payload rest fits tsn hsn some long =
       is_subpacket = carried;
     }
 
-pub frame_reads : (com_id : ℕ) (session : Session) (payload rest : List ℕ) → com_id < 2 ^ 16 → session.tsn < 2 ^ 32 → session.hsn < 2 ^ 32 → 0 < length payload → length payload ≤ 65480 → reading (frame_bytes com_id session payload ++ rest) ≡ Ok (record { com_id = com_id; session = session; payload = payload })
+pub frame_reads : (com_id : ℕ) (session : Session) (payload rest : List ℕ) → com_id < 2 ^ 16 → session.tsn < 2 ^ 32 → session.hsn < 2 ^ 32 → 0 < length payload → length payload ≤ MAX_PAYLOAD → reading (frame_bytes com_id session payload ++ rest) ≡ Ok (record { com_id = com_id; session = session; payload = payload })
 frame_reads com_id session payload rest fits tsn hsn some long =
     frame_is_read _ _ (frame_written com_id session payload rest fits tsn hsn some long)

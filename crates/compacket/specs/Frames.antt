@@ -4,6 +4,7 @@ use Rattle.byteorder.specs.Endian.{big_number}
 use Rattle.compacket.specs.declared.session.Session.{Session}
 use Rattle.compacket.specs.declared.error.FrameError.{FrameError}
 use Rattle.compacket.specs.declared.error.FrameError.TheVariants as errors
+use Rattle.compacket.specs.declared.headers.TheConstants.{MAX_COM_PACKET}
 
 -- What a frame carries.
 pub record Frame : Type 0 where
@@ -14,11 +15,6 @@ pub record Frame : Type 0 where
 -- The number in so many bytes from a place on, the highest byte first.
 abbrev pub number_at : ℕ → List ℕ → ℕ → ℕ
 number_at size bytes place = big_number size (drop place bytes)
-
--- The most bytes that a ComPacket may have: a TPer names them among its Properties, as
--- MaxComPacketSize.
-abbrev pub max_com_packet : ℕ
-max_com_packet = 65536
 
 -- A subpacket's data are padded to a multiple of four bytes; its Length leaves the padding out.
 abbrev pub padded : ℕ → ℕ
@@ -49,7 +45,7 @@ subpacket_length subpacket = number_at 4 subpacket 8
 -- the fields that are not named, may have any value.
 pub record IsComPacket (bytes : List ℕ) (com_id : ℕ) (content : List ℕ) : Type 0 where
   pub is_whole : 20 + com_packet_length bytes ≤ length bytes
-  pub is_small : 20 + com_packet_length bytes ≤ max_com_packet
+  pub is_small : 20 + com_packet_length bytes ≤ MAX_COM_PACKET
   pub names : com_id_of bytes ≡ com_id
   pub carries : take (com_packet_length bytes) (drop 20 bytes) ≡ content
 
@@ -92,7 +88,7 @@ com_packet_fault bytes =
     else (if nat_lt (length bytes) (20 + com_packet_length bytes) then Some errors.Short
     else (if com_packet_length bytes == 0 then Some errors.Empty
     else (if nat_lt (com_packet_length bytes) 24 then Some errors.Length
-    else (if nat_lt max_com_packet (20 + com_packet_length bytes) then Some errors.Length
+    else (if nat_lt MAX_COM_PACKET (20 + com_packet_length bytes) then Some errors.Length
     else None))))
 
 abbrev pub packet_fault : List ℕ → Option FrameError

@@ -27,11 +27,12 @@ fn fault_at(place: usize, byte: u8) -> Option<FrameError> {
 
 #[test]
 fn frames_the_vector(rt: HostRuntime) -> Result<(), Fail> {
-    match frame(rt.alloc(), 0x1000, SESSION, &VECTOR[56..93]) {
-        Ok(bytes) => assert_eq!(rt; bytes.as_slice(), VECTOR.as_slice()),
-        // Where memory is refused, no frame is made.
-        Err(_) => println!(rt; "refused")?,
-    }
+    // Where memory is refused once, the frame is made again.
+    let bytes = match frame(rt.alloc(), 0x1000, SESSION, &VECTOR[56..93]) {
+        Ok(bytes) => bytes,
+        Err(_) => frame(rt.alloc(), 0x1000, SESSION, &VECTOR[56..93])?,
+    };
+    assert_eq!(rt; bytes.as_slice(), VECTOR.as_slice());
     let mut response = Vec::with_capacity(rt.alloc(), 100)?;
     frame_into(0x1000, SESSION, &VECTOR[56..93], &mut response);
     assert_eq!(rt; response.as_slice(), VECTOR.as_slice());

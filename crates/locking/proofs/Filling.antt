@@ -1,5 +1,5 @@
 -- Rows made one after the other.
-use Rattle.std.proofs.Common.{◌≡◌, ℕ, suc, ◌+◌, ◌-◌, ◌<◌, List, [], ◌∷◌, ◌++◌, refl, sym, ap, ◌∙◌, append_assoc, arith}
+use Rattle.std.proofs.Common.{◌≡◌, ℕ, suc, ◌+◌, ◌-◌, ◌<◌, List, [], ◌∷◌, ◌++◌, ◌∙◌, append_assoc, arith}
 use Rattle.sp_tables.specs.Flat.{LookUp}
 use Rattle.locking.specs.declared.range.RangeRow.{RangeRow}
 use Rattle.locking.specs.Ranges.{row_of, rows_from}

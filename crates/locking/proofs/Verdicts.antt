@@ -1,10 +1,10 @@
 -- The verdict of the relation is the one that the function gives.
-use Rattle.std.proofs.Common.{◌≡◌, ℕ, zero, suc, ◌+◌, ◌≤◌, ◌<◌, Bool, true, false, Option, Some, None, refl, sym, ap, ◌∙◌, arith, inl, inr, ◌⊎◌}
+use Rattle.std.proofs.Common.{◌≡◌, ℕ, zero, suc, ◌+◌, ◌≤◌, ◌<◌, Bool, true, false, Option, Some, None, refl, sym, ap, arith, inl, inr}
 use Rattle.std.proofs.lemmas.Bool.{cases_lt}
 use Rattle.locking.specs.declared.range.Op.{Op}
 use Rattle.locking.specs.declared.ranges.Verdict.{Verdict}
 use Rattle.locking.specs.declared.ranges.Verdict.TheVariants.{Serve, Denied}
-use Rattle.locking.specs.Range.{RangeRows, row_at}
+use Rattle.locking.specs.Range.{RangeRows}
 use Rattle.locking.specs.Verdict.{is_permitted, ArePermitted, IsLeastDenied, IsVerdict, first_denied, verdict_at, verdict_of}
 
 none_denied : (rows : RangeRows) (op : Op) (first count : ℕ) → ArePermitted rows op first (first + count) → first_denied rows op first count ≡ None

@@ -1,5 +1,6 @@
 -- What a range covers and permits (Opal SSC, Locking table).
-use Rattle.std.specs.Prelude.{ℕ, ◌+◌, Bool, not, ◌&&◌, nat_le, nat_lt, List, [], ◌∷◌, if◌then◌else◌}
+use Rattle.std.specs.Prelude.{ℕ, ◌≡◌, ◌⊎◌, ◌+◌, Bool, true, false, not, ◌&&◌, nat_le, nat_lt, List, [], ◌∷◌, if◌then◌else◌}
+use Rattle.std.specs.List.{All, Contains}
 use Rattle.locking.specs.declared.range.Op.{Op}
 use Rattle.locking.specs.declared.range.Op.TheVariants.{Read, Write}
 use Rattle.locking.specs.declared.range.RangeRow.{RangeRow}
@@ -26,3 +27,9 @@ pub record RangeRows : Type 0 where
 -- The range of a sector: the numbered range that covers it, else the global range.
 abbrev pub row_at : RangeRows → ℕ → RangeRow
 row_at rows sector = row_in rows.numbered rows.global sector
+
+-- The same by what is covered: a numbered range that covers the sector, or the global range where none does.
+abbrev pub IsRangeOf : RangeRows → ℕ → RangeRow → Type 0
+IsRangeOf rows sector row =
+    (Contains rows.numbered row × (covers row sector ≡ true))
+    ⊎ (All (λ other. covers other sector ≡ false) rows.numbered × (row ≡ rows.global))

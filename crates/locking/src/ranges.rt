@@ -38,7 +38,8 @@ impl Model for Ranges {
 impl Ranges {
     ghost use Rattle.std.specs.Prelude.{◌≡◌, ◌+◌, ◌<◌, ◌≤◌, ◌^◌, IfOk};
     ghost use Rattle.locking.specs.Ranges.{ranges_in};
-    ghost use Rattle.locking.specs.Range.{row_at};
+    ghost use Rattle.locking.specs.Range.{row_at, IsRangeOf};
+    ghost use Rattle.locking.specs.declared.range.RangeRow.{RangeRow};
     ghost use Rattle.locking.specs.Verdict.{IsVerdict, verdict_of};
 
     /// The ranges that the rows describe.
@@ -62,8 +63,10 @@ impl Ranges {
     }
 
     /// The number of the range that a sector belongs to, 0 for the global range.
+    #[tactic(auto, using(crate::proofs::Covering::is_range_of))]
     pub fn range_of(&self, sector: u64) -> u8
-        ensures { result ≡ (row_at self.now sector).range }
+        ensures exact { result ≡ (row_at self.now sector).range }
+        ensures covering { (row : RangeRow) × IsRangeOf self.now sector row × (result ≡ row.range) }
     {
         self.row_at(sector).range
     }
@@ -116,10 +119,10 @@ fn row_in(rows: &[RangeRow], global: RangeRow, sector: u64) -> RangeRow
 }
 
 /// The number in a column of a range, 0 where there is none.
-fn number_of<R: Rows>(rows: &R, range: u8, column: u64) -> u64
-    ensures { result ≡ of_range (R.look_up rows.now) range column }
+fn number_of<R: Rows>(rows: &R, range: u8, column: Column) -> u64
+    ensures { result ≡ of_range (R.look_up rows.now) range column.0 }
 {
-    number_at(rows, Sp::Locking, Uid::range(range), Column(column))
+    number_at(rows, Sp::Locking, Uid::range(range), column)
 }
 
 fn row_of<R: Rows>(rows: &R, range: u8) -> RangeRow
@@ -127,12 +130,12 @@ fn row_of<R: Rows>(rows: &R, range: u8) -> RangeRow
 {
     RangeRow {
         range,
-        start: number_of(rows, range, 3),
-        length: number_of(rows, range, 4),
-        read_enabled: number_of(rows, range, 5) == 1,
-        write_enabled: number_of(rows, range, 6) == 1,
-        read_locked: number_of(rows, range, 7) == 1,
-        write_locked: number_of(rows, range, 8) == 1,
+        start: number_of(rows, range, Column::RANGE_START),
+        length: number_of(rows, range, Column::RANGE_LENGTH),
+        read_enabled: number_of(rows, range, Column::READ_LOCK_ENABLED) == 1,
+        write_enabled: number_of(rows, range, Column::WRITE_LOCK_ENABLED) == 1,
+        read_locked: number_of(rows, range, Column::READ_LOCKED) == 1,
+        write_locked: number_of(rows, range, Column::WRITE_LOCKED) == 1,
     }
 }
 

@@ -19,13 +19,13 @@ impl Model for Mbr {
 }
 
 impl Mbr {
-    ghost use Rattle.std.specs.Prelude.{◌≡◌, ◌+◌, ◌*◌, ◌≤◌, ◌<◌, ◌↔◌, ℕ, length, IsTrue, is_some, ◌||◌, OnOk, OnErr, [], slice_index};
+    ghost use Rattle.std.specs.Prelude.{◌≡◌, ◌+◌, ◌*◌, ◌^◌, ◌≤◌, ◌<◌, ◌↔◌, ℕ, length, IsTrue, is_some, ◌||◌, OnOk, OnErr, [], slice_index};
     ghost use Rattle.shadow_mbr.specs.Stored.{AreKept, kept_at, has_byte, byte_at, byte_after};
 
     /// A table of so many sectors of 512 zeros.
     #[tactic(auto, using(crate::proofs::Zeros::blank_byte))]
     pub fn new(alloc: Global, sectors: u64) -> Mbr
-        requires { sectors ≤ 262144 }
+        requires { sectors ≤ 2 ^ 48 }
         ensures exact { result ≡ record { sectors = sectors; kept = [] } }
         ensures zero { (place : ℕ) → byte_at result place ≡ 0 }
     {
