@@ -2,13 +2,13 @@
 use Rattle.std.proofs.Common.{◌≡◌, ◌||◌, Bool, true, false, cond, ◌⊎◌, inl, inr, List, [], ◌∷◌, Option, None, Some, refl, sym, ◌∙◌, ap, ◌↔◌, arith}
 use Rattle.std.specs.Prelude.{filter, unwrap_or, is_some, Result, Ok, Err, IsOk, MatchResult, if◌then◌else◌}
 use Rattle.std.proofs.lemmas.Bool.Decides.{nat_tests, eqb_tells}
-use Rattle.sp_tables.specs.declared.names.Uid.{Uid}
-use Rattle.sp_tables.specs.declared.names.Sp.{Sp}
-use Rattle.sp_tables.specs.declared.names.Column.{Column}
-use Rattle.sp_tables.specs.declared.cells.Cell.{Cell}
-use Rattle.sp_tables.specs.declared.cells.Cell.TheVariants.{Number, Bytes, Uid as Object, Numbers, Expr, Columns}
-use Rattle.sp_tables.specs.Names.{uid, col}
-use Rattle.sp_tables.specs.Flat.{LookUp}
+use Rattle.sp_cells.specs.declared.names.Uid.{Uid}
+use Rattle.sp_cells.specs.declared.names.Sp.{Sp}
+use Rattle.sp_cells.specs.declared.names.Column.{Column}
+use Rattle.sp_cells.specs.declared.cells.Cell.{Cell}
+use Rattle.sp_cells.specs.declared.cells.Cell.TheVariants.{Number, Bytes, Uid as Object, Numbers, Expr, Columns}
+use Rattle.sp_cells.specs.Names.{uid, col}
+use Rattle.sp_cells.specs.Flat.{LookUp}
 use Rattle.ace_eval.specs.declared.entries.Missing.{Missing}
 use Rattle.ace_eval.specs.Truth.{has}
 use Rattle.ace_eval.specs.Entries.{HasEntry, HoldsIn, holds_in, holds_at, names, naming, first_holding, row_of, entry_of}

@@ -1,10 +1,10 @@
 -- What is computed is the truth of the tree.
 use Rattle.std.proofs.Common.{suc, ◌≡◌, Bool, true, List, [], ◌∷◌, ◌++◌, Option, None, Some, option_and_then, append_assoc, append-nil, refl, sym, ◌∙◌, ap, map, ◌↔◌, IsTrue, ℕ, ◌<◌, ◌≤◌, length, drop, get_or, drop-cons}
 use Rattle.std.proofs.lemmas.List.{drop_all}
-use Rattle.sp_tables.specs.declared.names.Uid.{Uid}
-use Rattle.sp_tables.specs.declared.cells.Element.{Element}
-use Rattle.sp_tables.specs.declared.cells.Element.TheVariants.{Authority, And, Or}
-use Rattle.sp_tables.specs.Expressions.{Tree, leaf, both, either, postorder}
+use Rattle.sp_cells.specs.declared.names.Uid.{Uid}
+use Rattle.sp_cells.specs.declared.cells.Element.{Element}
+use Rattle.sp_cells.specs.declared.cells.Element.TheVariants.{Authority, And, Or}
+use Rattle.sp_cells.specs.Expressions.{Tree, leaf, both, either, postorder}
 use Rattle.ace_eval.specs.Truth.{truth, Holds}
 use Rattle.ace_eval.specs.Evaluation.{step, run, is_true, is_satisfied}
 

@@ -1,14 +1,14 @@
 -- Which access entry allows a method (Core 2.01, section 5.3, tables AccessControl and ACE).
 use Rattle.std.specs.Prelude.{◌≡◌, ◌==◌, Bool, true, false, List, [], ◌∷◌, Option, None, Some, unwrap_or, filter, if◌then◌else◌}
 use Rattle.std.specs.List.{list_any}
-use Rattle.sp_tables.specs.declared.names.Uid.{Uid}
-use Rattle.sp_tables.specs.declared.names.Sp.{Sp}
-use Rattle.sp_tables.specs.declared.names.Column.{Column}
-use Rattle.sp_tables.specs.declared.cells.Cell.{Cell}
-use Rattle.sp_tables.specs.declared.cells.Cell.TheVariants.{Expr, Columns}
-use Rattle.sp_tables.specs.Names.{col}
-use Rattle.sp_tables.specs.Flat.{LookUp}
-use Rattle.sp_tables.specs.Access.{access_list, allowing_in}
+use Rattle.sp_cells.specs.declared.names.Uid.{Uid}
+use Rattle.sp_cells.specs.declared.names.Sp.{Sp}
+use Rattle.sp_cells.specs.declared.names.Column.{Column}
+use Rattle.sp_cells.specs.declared.cells.Cell.{Cell}
+use Rattle.sp_cells.specs.declared.cells.Cell.TheVariants.{Expr, Columns}
+use Rattle.sp_cells.specs.Names.{col}
+use Rattle.sp_cells.specs.Flat.{LookUp}
+use Rattle.access_list.specs.Access.{access_list, allowing_in}
 use Rattle.ace_eval.specs.Truth.{has, Holds}
 use Rattle.ace_eval.specs.Evaluation.{is_satisfied}
 

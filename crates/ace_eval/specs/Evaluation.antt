@@ -1,8 +1,8 @@
 -- The same as a function that can be computed: by the truths of the trees that are written so far, the latest first.
 use Rattle.std.specs.Prelude.{Bool, false, ◌&&◌, ◌||◌, List, [], ◌∷◌, Option, None, Some, option_and_then}
-use Rattle.sp_tables.specs.declared.names.Uid.{Uid}
-use Rattle.sp_tables.specs.declared.cells.Element.{Element}
-use Rattle.sp_tables.specs.declared.cells.Element.TheVariants.{Authority, And, Or}
+use Rattle.sp_cells.specs.declared.names.Uid.{Uid}
+use Rattle.sp_cells.specs.declared.cells.Element.{Element}
+use Rattle.sp_cells.specs.declared.cells.Element.TheVariants.{Authority, And, Or}
 use Rattle.ace_eval.specs.Truth.{has}
 
 -- one element more; None where an operator lacks an operand

@@ -1,9 +1,9 @@
 -- When an expression holds (Core 2.01, section 5.1.3, the type ACE_expression; section 5.3, on access control).
 use Rattle.std.specs.Prelude.{◌≡◌, ◌==◌, Bool, true, ◌&&◌, ◌||◌, List}
 use Rattle.std.specs.List.{list_any}
-use Rattle.sp_tables.specs.declared.names.Uid.{Uid}
-use Rattle.sp_tables.specs.declared.cells.Element.{Element}
-use Rattle.sp_tables.specs.Expressions.{Tree, leaf, both, either, postorder}
+use Rattle.sp_cells.specs.declared.names.Uid.{Uid}
+use Rattle.sp_cells.specs.declared.cells.Element.{Element}
+use Rattle.sp_cells.specs.Expressions.{Tree, leaf, both, either, postorder}
 
 -- the authority is among those held
 abbrev pub has : List Uid → Uid → Bool

@@ -1,10 +1,10 @@
 ghost use Rattle.std.specs.Prelude.{◌≡◌, ◌≤◌, ◌<◌, ◌↔◌, ◌⊎◌, ◌==◌, ◌||◌, List, [], ◌∷◌, ◌++◌, length, IsTrue, if◌then◌else◌};
-ghost use Rattle.sp_tables.specs.declared.names.Uid.{Uid as UidValue};
+ghost use Rattle.sp_cells.specs.declared.names.Uid.{Uid as UidValue};
 ghost use Rattle.ace_eval.specs.Truth.{has};
 ghost use Rattle.ace_eval.specs.declared.authorities.TheConstants.{MOST_AUTHORITIES};
 
 use arrayvec::ArrayVec;
-use sp_tables::Uid;
+use sp_cells::Uid;
 use std::marker::Model;
 
 /// How many authorities a set has room for.
@@ -19,7 +19,7 @@ pub struct Authorities {
 impl Model for Authorities {
     ghost use Rattle.std.specs.Prelude.{List, length, ◌≤◌};
     ghost use Rattle.ace_eval.specs.declared.authorities.TheConstants.{MOST_AUTHORITIES};
-    ghost use Rattle.sp_tables.specs.declared.names.Uid.{Uid};
+    ghost use Rattle.sp_cells.specs.declared.names.Uid.{Uid};
 
     ghost Value = { List Uid };
 

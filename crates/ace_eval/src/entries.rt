@@ -1,11 +1,12 @@
 ghost use Rattle.std.specs.Prelude.{◌≡◌, ◌≤◌, ◌<◌, ◌↔◌, ◌+◌, [], ◌∷◌, ◌++◌, length, filter, IsOk, MatchResult, Some, None, is_some, unwrap_or};
-ghost use Rattle.sp_tables.specs.Names.{col};
+ghost use Rattle.sp_cells.specs.Names.{col};
 ghost use Rattle.ace_eval.specs.Entries.{has_column, names, names_in, holds_in, holds_at, naming, first_holding, row_of, entry_of, HasEntry};
 
 use crate::authorities::Authorities;
 use crate::expressions::holds;
+use access_list::access_row;
 use arrayvec::ArrayVec;
-use sp_tables::{Cell, Column, Rows, Sp, Uid, access_row};
+use sp_cells::{Cell, Column, Rows, Sp, Uid};
 
 /// Why a column has no entry.
 #[derive(Debug, Drop)]

@@ -4,7 +4,7 @@ ghost use Rattle.ace_eval.specs.Evaluation.{step, is_true, is_satisfied};
 
 use crate::authorities::Authorities;
 use arrayvec::ArrayVec;
-use sp_tables::{Element, Expr};
+use sp_cells::{Element, Expr};
 use std::marker::Model;
 
 /// The truths of the trees that wait for an operator, seen with the latest first.

@@ -1,6 +1,7 @@
 use super::*;
 use arrayvec::ArrayVec;
-use sp_tables::{Cell, Column, DriveConfig, Element, Expr, Sp, Tables, Uid};
+use sp_cells::{Cell, Column, DriveConfig, Element, Expr, Sp, Uid};
+use sp_tables::Tables;
 use std::alloc::Global;
 use std::test::Fail;
 

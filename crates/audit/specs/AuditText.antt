@@ -12,9 +12,9 @@
 --   S C deny auth SP AUTH disabled
 --   S C deny auth SP AUTH unknown
 use Rattle.std.specs.Prelude.{ℕ, List, ◌++◌, Option, None, Some, codes, decimal}
-use Rattle.sp_tables.specs.declared.names.Sp.{Sp}
-use Rattle.sp_tables.specs.declared.names.Uid.{Uid}
-use Rattle.sp_tables.specs.declared.names.Column.{Column}
+use Rattle.sp_cells.specs.declared.names.Sp.{Sp}
+use Rattle.sp_cells.specs.declared.names.Uid.{Uid}
+use Rattle.sp_cells.specs.declared.names.Column.{Column}
 use Rattle.audit.specs.Names.{sp_text, uid_text, method_text, uids_text}
 use Rattle.audit.specs.declared.reason.AttemptFailure.{AttemptFailure}
 use Rattle.audit.specs.declared.reason.AttemptFailure.TheVariants.{WrongPin, LockedOut, Disabled, Unknown}

@@ -4,7 +4,7 @@ ghost use Rattle.audit.specs.declared.reason.Why.TheVariants.{AttemptFailed};
 
 use crate::names::{append_method, append_uid, append_uids, sp_name};
 use crate::reason::{AttemptFailure, AuditLine, Why};
-use sp_tables::{Column, Sp, Uid};
+use sp_cells::{Column, Sp, Uid};
 use std::alloc::{AllocError, Global};
 
 /// The text of the line, without a line end, as `3 7 deny read 95+6 range 1 ReadLocked`.

@@ -1,7 +1,7 @@
 ghost use Rattle.std.specs.Prelude.{◌≡◌, ◌++◌, OnOk};
 ghost use Rattle.audit.specs.Names.{sp_text, uid_text, method_text, others_text, uids_text};
 
-use sp_tables::{Sp, Uid};
+use sp_cells::{Sp, Uid};
 use std::alloc::{AllocError, Global};
 
 /// The name of a security provider.

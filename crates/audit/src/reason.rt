@@ -1,5 +1,5 @@
 use arrayvec::ArrayVec;
-use sp_tables::{Column, Sp, Uid};
+use sp_cells::{Column, Sp, Uid};
 
 /// How an attempt to authenticate failed (Core 2.01, section 5.3.4.1).
 #[derive(Clone, Copy, Debug, PartialEq, Eq)]

@@ -1,6 +1,6 @@
 use super::*;
 use arrayvec::ArrayVec;
-use sp_tables::{Column, Sp, Uid};
+use sp_cells::{Column, Sp, Uid};
 use std::alloc::Global;
 use std::test::Fail;
 

@@ -1,12 +1,12 @@
 -- The error of a refused setting is the fault that the definitions name, or want of memory.
 use Rattle.std.proofs.Common.{◌≡◌, ℕ, List, ◌∷◌, Option, Some, None, Result, Ok, Err, sym, ap, inl, inr, ◌⊎◌, refl, ◌∙◌}
-use Rattle.sp_tables.specs.Config.{Config}
+use Rattle.sp_cells.specs.Config.{Config}
 use Rattle.sp_tables.specs.Contents.{Contents, with_row, factory_contents}
 use Rattle.sp_tables.specs.Faults.{fault_of, IsFault}
-use Rattle.sp_tables.specs.Names.{range_uid, admin_pin_uid}
-use Rattle.sp_tables.specs.declared.names.Sp.TheVariants.{Admin, Locking}
-use Rattle.sp_tables.specs.declared.error.SetError.{SetError}
-use Rattle.sp_tables.specs.declared.error.SetError.TheVariants.{OutOfMemory}
+use Rattle.sp_cells.specs.Names.{range_uid, admin_pin_uid}
+use Rattle.sp_cells.specs.declared.names.Sp.TheVariants.{Admin, Locking}
+use Rattle.sp_cells.specs.declared.error.SetError.{SetError}
+use Rattle.sp_cells.specs.declared.error.SetError.TheVariants.{OutOfMemory}
 use Rattle.locking.specs.declared.range.RangeRow.{RangeRow}
 use Rattle.drive.specs.Opening.{unless, locking_sp, life_cycle, pin, changes_of, set_ranges, opened_tables}
 

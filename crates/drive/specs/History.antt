@@ -1,6 +1,6 @@
 -- What a drive owes after a list of acts, by looking back over the list. The newest act comes first, so "before" is the tail.
 use Rattle.std.specs.Prelude.{ℕ, ◌+◌, ◌-◌, ◌*◌, ◌/◌, length, Bool, true, false, ◌==◌, ◌&&◌, nat_le, nat_lt, List, [], ◌∷◌, take, drop, is_some, unwrap_or, Option, Some, None, if◌then◌else◌}
-use Rattle.sp_tables.specs.Flat.{LookUp}
+use Rattle.sp_cells.specs.Flat.{LookUp}
 use Rattle.sp_tables.specs.Contents.{look_up}
 use Rattle.locking.specs.Ranges.{ranges_in}
 use Rattle.trusted_cmds.specs.declared.command.Command.{Command}

@@ -1,16 +1,16 @@
 -- What a drive starts from: the tables of its SPs. Its media are zeros, and nothing is held.
 use Rattle.std.specs.Prelude.{ℕ, Bool, true, false, List, [], ◌∷◌, Option, Some, None, Result, Ok, Err}
-use Rattle.sp_tables.specs.Config.{Config}
+use Rattle.sp_cells.specs.Config.{Config}
 use Rattle.sp_tables.specs.Contents.{Contents, factory_contents, with_row}
 use Rattle.sp_tables.specs.Faults.{fault_of}
-use Rattle.sp_tables.specs.Names.{uid, col, range_uid, admin_pin_uid}
-use Rattle.sp_tables.specs.declared.names.Sp.{Sp}
-use Rattle.sp_tables.specs.declared.names.Sp.TheVariants.{Admin, Locking}
-use Rattle.sp_tables.specs.declared.names.Uid.{Uid}
-use Rattle.sp_tables.specs.declared.names.Column.{Column}
-use Rattle.sp_tables.specs.declared.cells.Cell.{Cell}
-use Rattle.sp_tables.specs.declared.cells.Cell.TheVariants.{Number, Bytes}
-use Rattle.sp_tables.specs.declared.error.SetError.{SetError}
+use Rattle.sp_cells.specs.Names.{uid, col, range_uid, admin_pin_uid}
+use Rattle.sp_cells.specs.declared.names.Sp.{Sp}
+use Rattle.sp_cells.specs.declared.names.Sp.TheVariants.{Admin, Locking}
+use Rattle.sp_cells.specs.declared.names.Uid.{Uid}
+use Rattle.sp_cells.specs.declared.names.Column.{Column}
+use Rattle.sp_cells.specs.declared.cells.Cell.{Cell}
+use Rattle.sp_cells.specs.declared.cells.Cell.TheVariants.{Number, Bytes}
+use Rattle.sp_cells.specs.declared.error.SetError.{SetError}
 use Rattle.locking.specs.declared.range.RangeRow.{RangeRow}
 
 pub record Opening : Type 0 where

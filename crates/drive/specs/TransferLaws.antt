@@ -1,7 +1,7 @@
 -- Laws over every list of acts.
 use Rattle.std.specs.Prelude.{◌≡◌, ℕ, ◌+◌, ◌≤◌, ◌==◌, ◌↔◌, Bool, true, false, is_some, List, [], ◌∷◌, ◌++◌, slice_index, Option, Some, None, Result, Ok}
 use Rattle.fis.specs.H2d.{h2d_at}
-use Rattle.sp_tables.specs.Flat.{LookUp}
+use Rattle.sp_cells.specs.Flat.{LookUp}
 use Rattle.locking.specs.Ranges.{ranges_in}
 use Rattle.locking.specs.Verdict.{ArePermitted}
 use Rattle.locking.specs.declared.range.Op.{Op}

@@ -12,7 +12,8 @@ use crate::queue::{no_commands, settle};
 use fis::Tag;
 use locking::{RangeRow, Ranges};
 use shadow_mbr::Media;
-use sp_tables::{DriveConfig, SetError, Tables};
+use sp_cells::{DriveConfig, SetError};
+use sp_tables::Tables;
 use std::alloc::{AllocError, Global};
 use std::marker::Model;
 use thiserror::Error;
@@ -114,7 +115,7 @@ impl Model for Drive {
 impl Drive {
     ghost use Rattle.std.specs.Prelude.{◌≡◌, ◌≤◌, ◌^◌, ◌⊎◌, [], ◌∷◌, ◌++◌, List, ◌<◌, ◌↔◌, OnOk, OnErr, IfOk, IfErr, IsErrOf, IsOkUnless, None, Ok, Err, length};
     ghost use Rattle.locking.specs.declared.range.RangeRow.{RangeRow};
-    ghost use Rattle.sp_tables.specs.declared.error.SetError.{SetError};
+    ghost use Rattle.sp_cells.specs.declared.error.SetError.{SetError};
     ghost use Rattle.drive.specs.Opening.{Opening, factory, opened};
     ghost use Rattle.drive.specs.Decisions.{NamesSlot, held_at};
     ghost use Rattle.shadow_mbr.specs.Stored.{sector_at};

@@ -17,7 +17,7 @@ pub use failure::Failure;
 pub use laws::laws_of_transfers;
 pub use locking::RangeRow;
 pub use opening::set_range;
-pub use sp_tables::{DriveConfig, SetError};
+pub use sp_cells::{DriveConfig, SetError};
 
 #[cfg(test)]
 mod tests;

@@ -1,6 +1,6 @@
 -- Rows made one after the other.
 use Rattle.std.proofs.Common.{◌≡◌, ℕ, suc, ◌+◌, ◌-◌, ◌<◌, List, [], ◌∷◌, ◌++◌, ◌∙◌, append_assoc, arith}
-use Rattle.sp_tables.specs.Flat.{LookUp}
+use Rattle.sp_cells.specs.Flat.{LookUp}
 use Rattle.locking.specs.declared.range.RangeRow.{RangeRow}
 use Rattle.locking.specs.Ranges.{row_of, rows_from}
 

@@ -1,8 +1,8 @@
 -- The ranges that rows describe (Opal SSC, Locking table).
 use Rattle.std.specs.Prelude.{ℕ, zero, suc, ◌==◌, List, [], ◌∷◌}
-use Rattle.sp_tables.specs.declared.names.TheConstants.{RANGES}
-use Rattle.sp_tables.specs.Flat.{LookUp}
-use Rattle.sp_tables.specs.Ranges.{range_start, range_length, read_lock_enabled, write_lock_enabled, read_locked, write_locked}
+use Rattle.sp_cells.specs.declared.names.TheConstants.{RANGES}
+use Rattle.sp_cells.specs.Flat.{LookUp}
+use Rattle.sp_cells.specs.Ranges.{range_start, range_length, read_lock_enabled, write_lock_enabled, read_locked, write_locked}
 use Rattle.locking.specs.declared.range.RangeRow.{RangeRow}
 use Rattle.locking.specs.Range.{RangeRows}
 

@@ -1,13 +1,13 @@
 ghost use Rattle.std.specs.Prelude.{◌≡◌, ◌≤◌, IfOk};
 ghost use Rattle.locking.specs.Range.{row_in};
-ghost use Rattle.sp_tables.specs.Ranges.{of_range};
-ghost use Rattle.sp_tables.specs.declared.names.TheConstants.{RANGES};
+ghost use Rattle.sp_cells.specs.Ranges.{of_range};
+ghost use Rattle.sp_cells.specs.declared.names.TheConstants.{RANGES};
 ghost use Rattle.locking.specs.Ranges.{row_of, rows_from};
 ghost use Rattle.locking.specs.Verdict.{why_of};
 
 use crate::range::{Op, RangeRow};
 use audit::Why;
-use sp_tables::{Column, RANGES, Rows, Sp, Uid, number_at};
+use sp_cells::{Column, RANGES, Rows, Sp, Uid, number_at};
 use std::alloc::{AllocError, Global};
 use std::marker::Model;
 

@@ -6,16 +6,16 @@ use Rattle.std.proofs.lemmas.Bool.{cases_lt, eqb-true, eq-eqb}
 use Rattle.std.proofs.lemmas.Bool.Decides.{nat_tests, eqb_tells}
 use Rattle.std.proofs.lemmas.List.{take_more}
 use Rattle.std.proofs.Math.Nat.{not-suc-le-zero}
-use Rattle.sp_tables.specs.declared.names.Uid.{Uid}
-use Rattle.sp_tables.specs.declared.names.Sp.{Sp}
-use Rattle.sp_tables.specs.declared.names.Sp.TheVariants.{Admin, Locking}
-use Rattle.sp_tables.specs.declared.names.Column.{Column}
-use Rattle.sp_tables.specs.declared.names.TheConstants.{RANGES}
-use Rattle.sp_tables.specs.declared.cells.Cell.{Cell}
-use Rattle.sp_tables.specs.Names.{uid, col, range_uid}
-use Rattle.sp_tables.specs.Flat.{LookUp, has_each}
-use Rattle.sp_tables.specs.Items.{Item, item_at, with_item, with_items}
-use Rattle.sp_tables.specs.Ranges.{AreApart, number, number_in, of_range, meets, ranges_meet}
+use Rattle.sp_cells.specs.declared.names.Uid.{Uid}
+use Rattle.sp_cells.specs.declared.names.Sp.{Sp}
+use Rattle.sp_cells.specs.declared.names.Sp.TheVariants.{Admin, Locking}
+use Rattle.sp_cells.specs.declared.names.Column.{Column}
+use Rattle.sp_cells.specs.declared.names.TheConstants.{RANGES}
+use Rattle.sp_cells.specs.declared.cells.Cell.{Cell}
+use Rattle.sp_cells.specs.Names.{uid, col, range_uid}
+use Rattle.sp_cells.specs.Flat.{LookUp, has_each}
+use Rattle.sp_rows.specs.Items.{Item, item_at, with_item, with_items}
+use Rattle.sp_cells.specs.Ranges.{AreApart, number, number_in, of_range, meets, ranges_meet}
 use Rattle.sp_tables.specs.Contents.{Contents, look_up, with_row}
 use Rattle.sp_tables.specs.Faults.{any_to, range_number, is_overlap}
 use Rattle.sp_tables.proofs.ContentLemmas.{look_up-half}

@@ -1,8 +1,3 @@
-pub mod Joins
-pub mod ItemLemmas
-pub mod RunLemmas
-pub mod FamilyLemmas
-pub mod TreeLemmas
 pub mod ContentLemmas
 pub mod ChangeLemmas
-pub mod ExchangeLemmas
+pub mod TableLemmas

@@ -1,19 +1,19 @@
 -- Why cells of a row are not set (Opal SSC 2.01, section 4.3.5.2, on ranges; the order is this drive's own).
 use Rattle.std.specs.Prelude.{◌≡◌, ◌==◌, ◌+◌, ◌-◌, ℕ, zero, suc, Bool, true, false, not, ◌&&◌, ◌||◌, nat_lt, nat_le, List, [], ◌∷◌, Option, Some, None, if◌then◌else◌}
 use Rattle.std.specs.List.{list_all}
-use Rattle.sp_tables.specs.declared.names.TheConstants.{RANGES}
-use Rattle.sp_tables.specs.declared.names.Uid.{Uid}
-use Rattle.sp_tables.specs.declared.names.Sp.{Sp}
-use Rattle.sp_tables.specs.declared.names.Sp.TheVariants.{Admin, Locking}
-use Rattle.sp_tables.specs.declared.names.Column.{Column}
-use Rattle.sp_tables.specs.declared.cells.Cell.{Cell}
-use Rattle.sp_tables.specs.declared.cells.Cell.TheVariants.{Expr}
-use Rattle.sp_tables.specs.declared.error.SetError.{SetError}
-use Rattle.sp_tables.specs.declared.error.SetError.TheVariants as faults
-use Rattle.sp_tables.specs.Flat.{LookUp, has_each}
-use Rattle.sp_tables.specs.Ranges.{range_start, range_length, ranges_meet}
-use Rattle.sp_tables.specs.Expressions.{completes, are_known}
-use Rattle.sp_tables.specs.Values.{takes_each}
+use Rattle.sp_cells.specs.declared.names.TheConstants.{RANGES}
+use Rattle.sp_cells.specs.declared.names.Uid.{Uid}
+use Rattle.sp_cells.specs.declared.names.Sp.{Sp}
+use Rattle.sp_cells.specs.declared.names.Sp.TheVariants.{Admin, Locking}
+use Rattle.sp_cells.specs.declared.names.Column.{Column}
+use Rattle.sp_cells.specs.declared.cells.Cell.{Cell}
+use Rattle.sp_cells.specs.declared.cells.Cell.TheVariants.{Expr}
+use Rattle.sp_cells.specs.declared.error.SetError.{SetError}
+use Rattle.sp_cells.specs.declared.error.SetError.TheVariants as faults
+use Rattle.sp_cells.specs.Flat.{LookUp, has_each}
+use Rattle.sp_cells.specs.Ranges.{range_start, range_length, ranges_meet}
+use Rattle.sp_cells.specs.Expressions.{completes, are_known}
+use Rattle.sp_cells.specs.Values.{takes_each}
 use Rattle.sp_tables.specs.Contents.{Contents, look_up, with_row}
 
 -- one of the numbers from 1 to n passes

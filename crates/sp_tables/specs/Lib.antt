@@ -1,15 +1,2 @@
-pub mod Names
-pub mod Config
-pub mod Flat
-pub mod Items
-pub mod Columns
-pub mod Runs
-pub mod Halves
-pub mod Factory
-pub mod Expressions
 pub mod Contents
-pub mod Values
-pub mod Ranges
-pub mod Resets
-pub mod Access
 pub mod Faults

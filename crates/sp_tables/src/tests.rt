@@ -56,28 +56,6 @@ fn has_columns(tables: &Tables, sp: Sp, entry: u64, columns: &[Column]) -> bool 
 }
 
 #[test]
-fn limits_of_a_configuration(rt: HostRuntime) {
-    let long = [7u8; 33];
-    for (sectors, mbr_sectors, msid_len, within) in [
-        (1, 0, 1, true),
-        (0, 0, 1, false),
-        (0x1_0000_0000_0000, 262_144, 32, true),
-        (0x1_0000_0000_0001, 0, 1, false),
-        (1_000_000, 262_145, 1, false),
-        (4, 4, 1, true),
-        (4, 5, 1, false),
-        (4, 4, 0, false),
-        (4, 4, 33, false),
-    ] {
-        let msid = long.get(..msid_len).unwrap_or(&long);
-        assert_eq!(rt;
-            DriveConfig::new(sectors, mbr_sectors, msid).is_some(),
-            within
-        );
-    }
-}
-
-#[test]
 fn names_of_a_new_drive(rt: HostRuntime) -> Result<(), Fail> {
     let tables = new_tables(rt.alloc())?;
     for (sp, object, name) in [
@@ -161,7 +139,7 @@ fn cells_of_a_new_drive(rt: HostRuntime) -> Result<(), Fail> {
     assert!(rt; has_columns(&tables, Sp::Locking, 1, &[]));
     assert!(rt;
         tables
-            .get_cell(Sp::Locking, Uid::range(9), Column::UID)
+            .get_cell(Sp::Locking, Uid::range(RANGES + 1), Column::UID)
             .is_none()
     );
     assert!(rt;
@@ -200,7 +178,7 @@ fn bounds_of_ranges(rt: HostRuntime) -> Result<(), Fail> {
         (2, 110, 891, Some(SetError::Beyond)),
         (2, 100, 901, Some(SetError::Overlap)),
         (0, 0, 1, Some(SetError::Beyond)),
-        (9, 0, 0, Some(SetError::NoCell)),
+        (RANGES + 1, 0, 0, Some(SetError::NoCell)),
         (2, u64::MAX, u64::MAX, Some(SetError::Beyond)),
         (2, 105, 0, None),
         (2, 110, 890, None),
@@ -347,6 +325,12 @@ fn values_of_each_type(rt: HostRuntime) -> Result<(), Fail> {
             expr(alloc, &[user, user, Element::And])?,
             None,
         ),
+        (
+            entry,
+            Column::COLUMNS,
+            Cell::Columns(Columns::from_vec([Column(7), Column(8)].to_vec(alloc)?)),
+            None,
+        ),
         (entry, Column(5), Cell::Number(0), Some(SetError::NoCell)),
     ] {
         assert_eq!(rt;
@@ -418,66 +402,4 @@ fn refused_memory(rt: HostRuntime) -> Result<(), Fail> {
     assert!(rt; error.is_none() || error == Some(SetError::OutOfMemory));
     assert!(rt; locked == error.is_none() && named == error.is_none());
     Ok(())
-}
-
-#[test]
-fn access_rows(rt: HostRuntime) {
-    let entries = Uid(0x0000_0008_0000_0000);
-    for (sp, object, method, want) in [
-        (Sp::Admin, Uid::THIS_SP, Uid::AUTHENTICATE, [1, 0, 0]),
-        (Sp::Admin, Uid::LOCKING_SP, Uid::ACTIVATE, [0x3_0002, 0, 0]),
-        (Sp::Admin, Uid::ADMIN_SP, Uid::ACTIVATE, [0, 0, 0]),
-        (Sp::Locking, Uid::admin(1), Uid::SET, [0, 0, 0]),
-        (Sp::Locking, Uid::admin(2), Uid::SET, [0x3_9001, 0, 0]),
-        (Sp::Locking, Uid::pin_of_user(8), Uid::SET, [0x3_a808, 0, 0]),
-        (
-            Sp::Locking,
-            Uid::range(0),
-            Uid::SET,
-            [0x3_f000, 0x3_e000, 0x3_e800],
-        ),
-        (
-            Sp::Locking,
-            Uid::range(1),
-            Uid::SET,
-            [0x3_f001, 0x3_e001, 0x3_e801],
-        ),
-        (Sp::Locking, Uid::range(8), Uid::GET, [0x3_d000, 3, 0]),
-        (Sp::Locking, Uid::MBR_TABLE, Uid::SET, [2, 0, 0]),
-        (
-            Sp::Locking,
-            Uid(0x0000_0008_0003_f801),
-            Uid::SET,
-            [0x3_8001, 0, 0],
-        ),
-        (Sp::Admin, Uid::range(1), Uid::GET, [0, 0, 0]),
-    ] {
-        let row = access_row(sp, object, method);
-        let found = row.is_some();
-        assert_eq!(rt; found, want != [0, 0, 0]);
-        if let Some(row) = row {
-            for (uid, number) in row.as_slice().iter().zip(want.iter()) {
-                assert_eq!(rt; uid.0 ^ entries.0, *number);
-            }
-        }
-    }
-}
-
-#[test]
-fn sets_of_resets(rt: HostRuntime) {
-    for (numbers, known) in [
-        ([0u64, 1].as_slice(), true),
-        ([1, 0].as_slice(), true),
-        ([0, 0].as_slice(), false),
-        ([2].as_slice(), false),
-        ([].as_slice(), true),
-    ] {
-        assert_eq!(rt; ResetTypes::from_numbers(numbers).is_some(), known);
-    }
-    let both = ResetTypes {
-        power_cycle: true,
-        hardware: true,
-    };
-    assert_eq!(rt; both.numbers().as_slice(), [0, 1].as_slice());
-    assert!(rt; both.contains(1) && !both.contains(3));
 }

@@ -1,18 +1,13 @@
 ghost use Rattle.std.specs.Prelude.{◌≡◌, [], ◌∷◌, IfOk, OnOk, OnErr, MatchResult, None, Some, option_copied, unwrap_or};
-ghost use Rattle.sp_tables.specs.Flat.{with_cells};
-ghost use Rattle.sp_tables.specs.Items.{replaced};
+ghost use Rattle.sp_cells.specs.Flat.{with_cells};
+ghost use Rattle.sp_rows.specs.Items.{replaced};
 ghost use Rattle.sp_tables.specs.Contents.{Contents, items_of, flat as flat_list, look_up as look_up_in, with_row, factory_contents};
 ghost use Rattle.sp_tables.specs.Faults.{fault_of, IsFault};
-ghost use Rattle.sp_tables.specs.Ranges.{AreApart};
+ghost use Rattle.sp_cells.specs.Ranges.{AreApart};
 
-use crate::cells::Cell;
-use crate::config::DriveConfig;
-use crate::error::SetError;
-use crate::exchange::{exchange, new_cells};
-use crate::factory::{new_admin_sp, new_locking_sp};
-use crate::halves::SpTables;
-use crate::look::Rows;
-use crate::names::{Column, Sp, Uid};
+use sp_cells::{Cell, Column, DriveConfig, Rows, SetError, Sp, Uid};
+use sp_factory::{new_admin_sp, new_locking_sp};
+use sp_rows::{SpTables, exchange_all, new_cells};
 use std::alloc::{AllocError, Global};
 use std::marker::Model;
 
@@ -28,11 +23,11 @@ pub struct Tables {
 
 impl Model for Tables {
     ghost use Rattle.sp_tables.specs.Contents.{Contents, look_up};
-    ghost use Rattle.sp_tables.specs.Ranges.{AreApart};
+    ghost use Rattle.sp_cells.specs.Ranges.{AreApart};
 
     ghost Value = { Contents };
 
-    ghost use Rattle.sp_tables.specs.Halves.{half_items};
+    ghost use Rattle.sp_rows.specs.Halves.{half_items};
 
     ghost view = { λ t. record { admin = half_items t.admin; locking = half_items t.locking; config = t.config } };
 
@@ -76,7 +71,7 @@ impl Tables {
 impl Tables {
     /// Sets these cells of an object, all or none, and gives the old ones in the same order. Where a column is
     /// named twice, the later value counts.
-    #[tactic(auto, using(crate::proofs::ExchangeLemmas::flattened))]
+    #[tactic(auto, using(crate::proofs::TableLemmas::flattened))]
     pub fn set_row(
         &mut self,
         sp: Sp,
@@ -110,8 +105,8 @@ impl Tables {
         }
         let mut cells = new_cells(self.alloc, changes)?;
         match sp {
-            Sp::Admin => exchange(&mut self.admin, object, changes, &mut cells),
-            Sp::Locking => exchange(&mut self.locking, object, changes, &mut cells),
+            Sp::Admin => exchange_all(&mut self.admin, object, changes, &mut cells),
+            Sp::Locking => exchange_all(&mut self.locking, object, changes, &mut cells),
         }
         Ok(cells)
     }

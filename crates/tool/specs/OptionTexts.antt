@@ -1,7 +1,7 @@
 -- What the options of the command line write.
 use Rattle.std.specs.Prelude.{◌≡◌, ℕ, List, Some, Ok}
 use Rattle.hex.specs.Hex.{decode_of}
-use Rattle.sp_tables.specs.Config.{Config}
+use Rattle.sp_cells.specs.Config.{Config}
 use Rattle.tool.specs.Numbers.{number_up_to}
 
 -- the largest number of 64 bits

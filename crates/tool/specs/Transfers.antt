@@ -1,12 +1,16 @@
 -- What a queued transfer of a script does to the script's drive, and what it prints.
-use Rattle.std.specs.Prelude.{◌≡◌, ℕ, ◌%◌, ◌^◌, Bool, true, false, if◌then◌else◌, List, [], ◌∷◌, ◌++◌, All, length, unwrap_or, ⊤, Option, Some, None, Ok}
+use Rattle.std.specs.Prelude.{◌≡◌, ℕ, ◌%◌, ◌^◌, Bool, true, false, if◌then◌else◌, List, [], ◌∷◌, ◌++◌, All, length, unwrap_or, Option, Some, None, Ok}
 use Rattle.std.specs.Str.{bytes_eq}
 use Rattle.fis.specs.H2d.{IsH2dSpelling}
 use Rattle.audit.specs.declared.reason.Why.{Why}
 use Rattle.trusted_cmds.specs.Commands.{sectors, fis_of}
 use Rattle.trusted_cmds.specs.declared.command.Command.{Command}
 use Rattle.trusted_cmds.specs.declared.command.Command.TheVariants.{ReadQueued, WriteQueued}
-use Rattle.drive.specs.Opening.{Opening, opened}
+use Rattle.sp_cells.specs.Names.{range_uid}
+use Rattle.sp_cells.specs.declared.names.Sp.TheVariants.{Locking}
+use Rattle.sp_tables.specs.Contents.{Contents, with_row}
+use Rattle.sp_tables.specs.Faults.{fault_of, IsFault}
+use Rattle.drive.specs.Opening.{Opening, opened, changes_of}
 use Rattle.drive.specs.Completions.{expected, data_of}
 use Rattle.drive.specs.Events.{Event}
 use Rattle.drive.specs.History.{Act, Accept, Complete, log, event, held, sector}
@@ -17,8 +21,9 @@ use Rattle.tool.specs.Reports.{data_text, failure_text, audit_text}
 use Rattle.locking.specs.declared.range.RangeRow.{RangeRow}
 use Rattle.tool.specs.Readings.{expected_text}
 use Rattle.tool.specs.declared.fault.Transfer.{Transfer}
-use Rattle.tool.specs.declared.line.Line.{Line}
+use Rattle.tool.specs.declared.line.Line as told
 use Rattle.tool.specs.declared.line.Line.TheVariants as lines
+use Rattle.tool.specs.declared.session.Fault.TheVariants.{Line, LateRange, RefusedRow}
 use Rattle.tool.specs.declared.session.Turn.{Turn}
 use Rattle.tool.specs.declared.session.Turn.TheVariants.{Goes, ExpectationFailed, Bad}
 use Rattle.tool.specs.declared.session.RangeLines.{RangeLines}
@@ -86,27 +91,29 @@ Transfers old new o acts command transfer byte =
     (fis : List ℕ) × IsH2dSpelling fis (fis_of command transfer.tag)
     × Follows (holds (event o (log o acts) (Accept fis [])).deed) old new o (Accept fis [] ∷ acts) transfer byte (event o (log o acts) (Accept fis []))
 
-abbrev pub IsBad : Turn → Type 0
-IsBad Goes = ⊥
-IsBad ExpectationFailed = ⊥
-IsBad (Bad fault) = ⊤
+-- the row is set, whole, over the rows before it
+abbrev pub SetsRow : RangeRow → Contents → Contents → Type 0
+SetsRow row old new =
+    (fault_of old Locking (range_uid row.range) (changes_of row) ≡ None) × (new ≡ with_row Locking (range_uid row.range) (changes_of row) old)
 
--- a range line that is taken adds its row to those that the drive will be opened with; one that is not ends the script
+-- a range line that is taken adds its row to those that the drive will be opened with; one that is not is told by its first fault
 abbrev pub AddsTo : Turn → RangeRow → RangeLines → RangeLines → Type 0
-AddsTo Goes row old new = (new.config ≡ old.config) × (new.rows.items ≡ old.rows.items ++ row ∷ [])
+AddsTo Goes row old new = (new.config ≡ old.config) × (new.rows.items ≡ old.rows.items ++ row ∷ []) × SetsRow row old.tables new.tables
 AddsTo ExpectationFailed row old new = ⊥
-AddsTo (Bad fault) row old new = ⊤
+AddsTo (Bad (RefusedRow error)) row old new = IsFault (fault_of old.tables Locking (range_uid row.range) (changes_of row)) error
+AddsTo (Bad LateRange) row old new = ⊥
+AddsTo (Bad (Line fault)) row old new = ⊥
 
 abbrev pub AddsRow : Turn → RangeRow → Stage → Stage → Type 0
 AddsRow turn row (stages.Opening old) (stages.Opening new) = AddsTo turn row old new
 AddsRow turn row (stages.Opening old) (stages.Running drive) = ⊥
 AddsRow turn row (stages.Opening old) stages.Lost = ⊥
-AddsRow turn row (stages.Running drive) new = IsBad turn
-AddsRow turn row stages.Lost new = IsBad turn
+AddsRow turn row (stages.Running drive) new = turn ≡ Bad LateRange
+AddsRow turn row stages.Lost new = turn ≡ Bad LateRange
 
 -- what a line does: a read or a write is a queued transfer, an expectation is held against the last printed line, and neither a range line nor
 -- an expectation prints
-abbrev pub Does : Line → List ℕ → Turn → Session → Session → Opening → List Act → Type 0
+abbrev pub Does : told.Line → List ℕ → Turn → Session → Session → Opening → List Act → Type 0
 Does (lines.Read transfer) text turn old new o acts = Transfers old new o acts (read_of transfer) transfer 0
 Does (lines.Write transfer byte) text turn old new o acts = Transfers old new o acts (write_of transfer) transfer byte
 Does lines.Expect text turn old new o acts =

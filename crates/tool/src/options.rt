@@ -1,7 +1,7 @@
 //! What a drive is opened with.
 
 use crate::number::number_up_to;
-use sp_tables::DriveConfig;
+use sp_cells::DriveConfig;
 use std::alloc::Global;
 use std::marker::Model;
 use thiserror::Error;
@@ -30,7 +30,7 @@ pub struct Options {
 }
 
 impl Model for Options {
-    ghost use Rattle.sp_tables.specs.Config.{Config, IsWithinLimits};
+    ghost use Rattle.sp_cells.specs.Config.{Config, IsWithinLimits};
 
     ghost Value = { Config };
 
@@ -41,7 +41,7 @@ impl Model for Options {
 
 impl Options {
     ghost use Rattle.std.specs.Prelude.{◌≡◌, ◌↔◌, ℕ, List, None, Ok, Err, IfOk, IsErrOf};
-    ghost use Rattle.sp_tables.specs.Config.{Config, IsWithinLimits};
+    ghost use Rattle.sp_cells.specs.Config.{Config, IsWithinLimits};
     ghost use Rattle.hex.specs.Hex.{decode_of};
     ghost use Rattle.tool.specs.Numbers.{number_up_to};
     ghost use Rattle.tool.specs.OptionTexts.{WritesConfig, most};

@@ -1,5 +1,5 @@
 use Rattle.std.proofs.Common.{◌+◌}
-use Rattle.sp_tables.specs.declared.names.TheConstants.{RANGES}
+use Rattle.sp_cells.specs.declared.names.TheConstants.{RANGES}
 use Rattle.locking.proofs.Filling.{goes_on}
 use Rattle.locking.proofs.ranges.numbered_rows.Goals as goal
 

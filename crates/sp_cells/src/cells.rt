@@ -1,0 +1,258 @@
+ghost use Rattle.std.specs.Prelude.{◌≡◌, ◌≤◌, ◌<◌, ◌==◌, List, [], ◌∷◌, ◌++◌, length, IsTrue, IfOk, IfSome, IsSome, ◌↔◌, ◌||◌, SomeIff, count_by};
+ghost use Rattle.std.specs.List.{list_any, list_all};
+ghost use Rattle.sp_cells.specs.Resets.{is_reset_set as is_reset_set_of, reset_set, reset_numbers};
+
+use crate::names::{Column, Uid};
+use arrayvec::ArrayVec;
+use std::alloc::{AllocError, Global};
+use std::marker::Model;
+
+/// Bytes of any length, seen as their list.
+#[derive(Drop)]
+pub struct Bytes {
+    items: Vec<u8>,
+}
+
+impl Model for Bytes {
+    ghost use Rattle.std.specs.Prelude.{List, ℕ};
+
+    ghost Value = { List ℕ };
+
+    ghost view = { λ a. a.items.items };
+}
+
+impl Bytes {
+    /// These bytes, kept as they are.
+    pub fn from_vec(items: Vec<u8>) -> Bytes
+        ensures { result ≡ items.items }
+    {
+        Bytes { items }
+    }
+
+    /// The bytes, without taking memory.
+    pub fn into_vec(self) -> Vec<u8>
+        ensures { result.items ≡ self }
+    {
+        self.items
+    }
+
+    /// The bytes.
+    pub fn as_slice(&self) -> &[u8]
+        ensures { result.now ≡ self.now }
+    {
+        self.items.as_slice()
+    }
+
+    /// The same bytes once more.
+    pub fn copy(&self) -> Result<Bytes, AllocError>
+        ensures { IfOk result (λ b. b ≡ self.now) }
+    {
+        let items = self.items.clone()?;
+        Ok(Bytes { items })
+    }
+}
+
+/// The resets that a column names (Core 2.01, section 5.1.3, `reset_types`): a set of numbers of resets, of which
+/// this drive has two, 0 and 1.
+#[derive(Clone, Copy, Debug, Default, PartialEq, Eq)]
+pub struct ResetTypes {
+    /// Number 0.
+    pub power_cycle: bool,
+
+    /// Number 1.
+    pub hardware: bool,
+}
+
+impl ResetTypes {
+    /// The set that these numbers write, in any order; none where a number is no reset of this drive or stands
+    /// there twice.
+    pub fn from_numbers(numbers: &[u64]) -> Option<ResetTypes>
+        ensures { SomeIff result (IsTrue (is_reset_set_of numbers.now)) (reset_set numbers.now) }
+    {
+        if !is_reset_set(numbers) {
+            return None;
+        }
+        Some(ResetTypes {
+            power_cycle: numbers.contains(&0),
+            hardware: numbers.contains(&1),
+        })
+    }
+
+    /// The numbers of the set, rising.
+    pub fn numbers(&self) -> ArrayVec<u64, 2>
+        ensures { result.items ≡ reset_numbers self.now }
+    {
+        let mut numbers = ArrayVec::new();
+        if self.power_cycle {
+            numbers.push(0);
+        }
+        if self.hardware {
+            numbers.push(1);
+        }
+        numbers
+    }
+
+    /// Whether the set has the reset of this number.
+    pub fn contains(&self, number: u64) -> bool
+        ensures { result ≡ list_any (λ n. n == number) (reset_numbers self.now) }
+    {
+        match number {
+            0 => self.power_cycle,
+            1 => self.hardware,
+            _ => false,
+        }
+    }
+}
+
+/// Each number is a reset of this drive, and none stands there twice.
+fn is_reset_set(numbers: &[u64]) -> bool
+    ensures { result ≡ is_reset_set_of numbers.now }
+{
+    count_of(numbers, 0) <= 1 && count_of(numbers, 1) <= 1 && are_resets(numbers)
+}
+
+/// How often a number stands there.
+fn count_of(numbers: &[u64], number: u64) -> usize
+    ensures { result ≡ count_by (λ n. n == number) numbers.now }
+{
+    numbers.iter().filter(|n| **n == number).count()
+}
+
+/// Each number is a reset of this drive.
+fn are_resets(numbers: &[u64]) -> bool
+    ensures { result ≡ list_all (λ n. (n == 0) || (n == 1)) numbers.now }
+{
+    numbers.iter().all(|n| *n == 0 || *n == 1)
+}
+
+/// One element of an expression in postorder (Core 2.01, section 5.1.3, `ACE_expression`).
+#[derive(Clone, Copy, Debug, Default, PartialEq, Eq)]
+pub enum Element {
+    /// True where the authority is held.
+    Authority(Uid),
+
+    #[default]
+    And,
+
+    Or,
+}
+
+/// An expression over authorities, of at most 31 elements, seen as their list.
+#[derive(Drop)]
+pub struct Expr {
+    elements: Box<ArrayVec<Element, 31>>,
+}
+
+impl Model for Expr {
+    ghost use Rattle.std.specs.Prelude.{List, length, ◌≤◌};
+    ghost use Rattle.sp_cells.specs.declared.cells.Element.{Element};
+
+    ghost Value = { List Element };
+
+    ghost view = { λ a. a.elements.value.items };
+
+    ghost invariant = { λ a. length a.elements.value.items ≤ 31 };
+}
+
+impl Expr {
+    /// The expression of these elements.
+    pub fn new(alloc: Global, elements: ArrayVec<Element, 31>) -> Result<Expr, AllocError>
+        ensures { IfOk result (λ e. e ≡ elements.items) }
+    {
+        let elements = Box::new(alloc, elements)?;
+        Ok(Expr { elements })
+    }
+
+    /// The elements.
+    pub fn as_slice(&self) -> &[Element]
+        ensures value { result.now ≡ self.now }
+        ensures short { length self.now ≤ 31 }
+    {
+        self.elements.as_slice()
+    }
+
+    /// The same expression once more.
+    pub fn copy(&self) -> Result<Expr, AllocError>
+        ensures { IfOk result (λ e. e ≡ self.now) }
+    {
+        let elements = self.elements.clone()?;
+        Ok(Expr { elements })
+    }
+}
+
+/// The columns that an access entry speaks of, seen as their list; the empty list stands for all.
+#[derive(Drop)]
+pub struct Columns {
+    items: Vec<Column>,
+}
+
+impl Model for Columns {
+    ghost use Rattle.std.specs.Prelude.{List};
+    ghost use Rattle.sp_cells.specs.declared.names.Column.{Column};
+
+    ghost Value = { List Column };
+
+    ghost view = { λ a. a.items.items };
+}
+
+impl Columns {
+    /// These columns.
+    pub fn from_vec(items: Vec<Column>) -> Columns
+        ensures { result ≡ items.items }
+    {
+        Columns { items }
+    }
+
+    /// The columns.
+    pub fn as_slice(&self) -> &[Column]
+        ensures { result.now ≡ self.now }
+    {
+        self.items.as_slice()
+    }
+
+    /// The same columns once more.
+    pub fn copy(&self) -> Result<Columns, AllocError>
+        ensures { IfOk result (λ c. c ≡ self.now) }
+    {
+        let items = self.items.clone()?;
+        Ok(Columns { items })
+    }
+}
+
+/// What a row keeps in a column.
+#[derive(Drop)]
+pub enum Cell {
+    /// A number, a state, or a flag as 0 or 1.
+    Number(u64),
+
+    /// A name or a secret.
+    Bytes(Bytes),
+
+    /// The name of another object.
+    Uid(Uid),
+
+    /// A set of resets.
+    Numbers(ResetTypes),
+
+    /// The expression of an access entry.
+    Expr(Expr),
+
+    /// The columns of an access entry.
+    Columns(Columns),
+}
+
+impl Cell {
+    /// The same value once more.
+    pub fn copy(&self) -> Result<Cell, AllocError>
+        ensures { IfOk result (λ c. c ≡ self.now) }
+    {
+        Ok(match self {
+            Cell::Number(number) => Cell::Number(*number),
+            Cell::Bytes(bytes) => Cell::Bytes(bytes.copy()?),
+            Cell::Uid(uid) => Cell::Uid(*uid),
+            Cell::Numbers(resets) => Cell::Numbers(*resets),
+            Cell::Expr(expr) => Cell::Expr(expr.copy()?),
+            Cell::Columns(columns) => Cell::Columns(columns.copy()?),
+        })
+    }
+}

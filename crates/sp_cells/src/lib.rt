@@ -1,0 +1,23 @@
+//! The cells of a self-locking drive's tables: the names of objects and columns, the values that columns take, what a
+//! drive is made with, and how rows are read.
+#![tactic(auto)]
+
+pub mod authorities;
+pub mod cells;
+pub mod config;
+pub mod error;
+pub mod look;
+pub mod names;
+mod trees;
+pub mod values;
+
+pub use authorities::is_locking_authority;
+pub use cells::{Bytes, Cell, Columns, Element, Expr, ResetTypes};
+pub use config::DriveConfig;
+pub use error::SetError;
+pub use look::{Rows, number_at};
+pub use names::{ADMINS, Column, RANGES, Sp, USERS, Uid};
+pub use values::are_values;
+
+#[cfg(test)]
+mod tests;

@@ -1,0 +1,32 @@
+ghost use Rattle.std.specs.Prelude.{◌≡◌, ℕ, option_copied};
+ghost use Rattle.sp_cells.specs.Flat.{LookUp};
+ghost use Rattle.sp_cells.specs.Ranges.{AreApart, number};
+
+use crate::cells::Cell;
+use crate::names::{Column, Sp, Uid};
+
+/// Rows that can be read: those in force, or those that a session sees.
+pub trait Rows {
+    ghost look_up: { Self → LookUp };
+
+    ghost shadow_sectors: { Self → ℕ };
+
+    /// The cell at a place, where there is one. No two numbered ranges of the rows have a sector in common.
+    fn cell(&self, sp: Sp, object: Uid, column: Column) -> Option<&Cell>
+        ensures value { option_copied result ≡ look_up self.now sp object column }
+        ensures apart { AreApart (look_up self.now) };
+
+    /// The sectors of the drive that can be shadowed.
+    fn mbr_sectors(&self) -> u64
+        ensures { result ≡ shadow_sectors self.now };
+}
+
+/// The number at a place; 0 where there is none.
+pub fn number_at<R: Rows>(rows: &R, sp: Sp, object: Uid, column: Column) -> u64
+    ensures { result ≡ number (R.look_up rows.now) sp object column }
+{
+    match rows.cell(sp, object, column) {
+        Some(Cell::Number(number)) => *number,
+        _ => 0,
+    }
+}

@@ -1,0 +1,175 @@
+-- The cells of a new drive (Opal SSC 2.01, sections 4.2 and 4.3).
+use Rattle.std.specs.Prelude.{◌+◌, ◌==◌, ℕ, true, false, List, [], ◌∷◌, ◌++◌, zero, suc, codes, map, if◌then◌else◌}
+use Rattle.std.specs.Fmt.{decimal}
+use Rattle.sp_cells.specs.declared.names.TheConstants.{RANGES, USERS, ADMINS}
+use Rattle.sp_cells.specs.declared.names.Uid.{Uid}
+use Rattle.sp_cells.specs.declared.names.Column.{Column}
+use Rattle.sp_cells.specs.declared.cells.Cell.{Cell}
+use Rattle.sp_cells.specs.declared.cells.Cell.TheVariants.{Number, Bytes, Uid as Object, Numbers, Expr, Columns}
+use Rattle.sp_cells.specs.declared.cells.Element.{Element}
+use Rattle.sp_cells.specs.declared.cells.Element.TheVariants.{Authority, Or}
+use Rattle.sp_cells.specs.Names.{uid, col, range_uid, admin_uid, user_uid, admin_pin_uid, user_pin_uid, entry_uid, user_entry_uid, read_entry_uid, write_entry_uid}
+use Rattle.sp_rows.specs.Items.{Item, row_items}
+
+abbrev pub none : Uid
+none = uid 0
+
+abbrev pub anybody : Uid
+anybody = uid 0x0000000900000001
+
+abbrev pub sid : Uid
+sid = uid 0x0000000900000006
+
+abbrev pub admins_class : Uid
+admins_class = uid 0x0000000900000002
+
+abbrev pub users_class : Uid
+users_class = user_uid 0
+
+abbrev pub sid_pin : Uid
+sid_pin = uid 0x0000000b00000001
+
+abbrev pub msid_pin : Uid
+msid_pin = uid 0x0000000b00008402
+
+-- the columns of a new row of each table
+
+abbrev pub new_sp : Uid → List ℕ → ℕ → List (Column × Cell)
+new_sp object name state = (col 0, Object object) ∷ (col 1, Bytes name) ∷ (col 6, Number state) ∷ []
+
+abbrev pub new_authority : Uid → List ℕ → ℕ → Uid → ℕ → ℕ → Uid → List (Column × Cell)
+new_authority object name is_class class enabled operation credential = (col 0, Object object) ∷ (col 1, Bytes name) ∷ (col 2, Bytes []) ∷ (col 3, Number is_class) ∷ (col 4, Object class) ∷ (col 5, Number enabled) ∷ (col 9, Number operation) ∷ (col 10, Object credential) ∷ []
+
+-- Anybody and the classes have no PIN
+abbrev pub new_group : Uid → List ℕ → ℕ → List (Column × Cell)
+new_group object name is_class = new_authority object name is_class none 1 0 none
+
+-- who has one signs in with it
+abbrev pub new_member : Uid → List ℕ → Uid → ℕ → Uid → List (Column × Cell)
+new_member object name class enabled credential = new_authority object name 0 class enabled 1 credential
+
+abbrev pub new_pin : Uid → List ℕ → List ℕ → ℕ → List (Column × Cell)
+new_pin object name secret limit = (col 0, Object object) ∷ (col 1, Bytes name) ∷ (col 2, Bytes []) ∷ (col 3, Bytes secret) ∷ (col 4, Object none) ∷ (col 5, Number limit) ∷ (col 6, Number 0) ∷ (col 7, Number 0) ∷ []
+
+-- the set that has the power cycle alone
+abbrev pub power_cycle_alone : Cell
+power_cycle_alone = Numbers (record { power_cycle = true; hardware = false })
+
+abbrev pub new_range : Uid → List ℕ → List (Column × Cell)
+new_range object name = (col 0, Object object) ∷ (col 1, Bytes name) ∷ (col 2, Bytes []) ∷ (col 3, Number 0) ∷ (col 4, Number 0) ∷ (col 5, Number 0) ∷ (col 6, Number 0) ∷ (col 7, Number 0) ∷ (col 8, Number 0) ∷ (col 9, power_cycle_alone) ∷ []
+
+abbrev pub new_mbr_control : Uid → List (Column × Cell)
+new_mbr_control object = (col 0, Object object) ∷ (col 1, Number 0) ∷ (col 2, Number 0) ∷ (col 3, power_cycle_alone) ∷ []
+
+abbrev pub new_entry : Uid → List ℕ → List Element → List Column → List (Column × Cell)
+new_entry object name expr columns = (col 0, Object object) ∷ (col 1, Bytes name) ∷ (col 2, Bytes []) ∷ (col 3, Expr expr) ∷ (col 4, Columns columns) ∷ []
+
+-- an entry that one authority, or one class, fulfils
+abbrev pub entry_row : ℕ → List ℕ → Uid → List ℕ → List Item
+entry_row number name authority columns = row_items (entry_uid number) (new_entry (entry_uid number) name (Authority authority ∷ []) (map col columns))
+
+-- the rows of the numbers 1 to n, each named by its base and its number
+abbrev pub family : ℕ → (ℕ → List (Column × Cell)) → ℕ → List Item
+family base values zero = []
+family base values (suc n) = family base values n ++ row_items (uid (base + suc n)) (values (suc n))
+
+-- SPs: the Admin SP is Manufactured, the Locking SP Manufactured-Inactive
+unfoldable pub admin_sps : List Item
+admin_sps = row_items (uid 0x0000020500000001) (new_sp (uid 0x0000020500000001) (codes "Admin") 9) ++ row_items (uid 0x0000020500000002) (new_sp (uid 0x0000020500000002) (codes "Locking") 8)
+
+-- authorities
+unfoldable pub admin_authorities : List Item
+admin_authorities = row_items anybody (new_group anybody (codes "Anybody") 0) ++ row_items sid (new_member sid (codes "SID") none 1 sid_pin)
+
+abbrev pub admin_authority : ℕ → List (Column × Cell)
+admin_authority n = new_member (admin_uid n) (codes "Admin" ++ decimal n) admins_class (if n == 1 then 1 else 0) (admin_pin_uid n)
+
+abbrev pub user_authority : ℕ → List (Column × Cell)
+user_authority n = new_member (user_uid n) (codes "User" ++ decimal n) users_class 0 (user_pin_uid n)
+
+unfoldable pub locking_authorities : List Item
+locking_authorities =
+    row_items anybody (new_group anybody (codes "Anybody") 0)
+    ++ row_items admins_class (new_group admins_class (codes "Admins") 1)
+    ++ family 0x0000000900010000 admin_authority ADMINS
+    ++ row_items users_class (new_group users_class (codes "Users") 1)
+    ++ family 0x0000000900030000 user_authority USERS
+
+-- C_PIN rows
+unfoldable pub admin_pins : List ℕ → List Item
+admin_pins msid = row_items sid_pin (new_pin sid_pin (codes "C_PIN_SID") msid 5) ++ row_items msid_pin (new_pin msid_pin (codes "C_PIN_MSID") msid 0)
+
+abbrev pub admin_pin : ℕ → List (Column × Cell)
+admin_pin n = new_pin (admin_pin_uid n) (codes "C_PIN_Admin" ++ decimal n) [] 5
+
+abbrev pub user_pin : ℕ → List (Column × Cell)
+user_pin n = new_pin (user_pin_uid n) (codes "C_PIN_User" ++ decimal n) [] 5
+
+unfoldable pub locking_pins : List Item
+locking_pins = family 0x0000000b00010000 admin_pin ADMINS ++ family 0x0000000b00030000 user_pin USERS
+
+-- ranges
+abbrev pub numbered_range : ℕ → List (Column × Cell)
+numbered_range n = new_range (uid (0x0000080200030000 + n)) (codes "Locking_Range" ++ decimal n)
+
+unfoldable pub locking_ranges : List Item
+locking_ranges = row_items (range_uid 0) (new_range (range_uid 0) (codes "Locking_GlobalRange")) ++ family 0x0000080200030000 numbered_range RANGES
+
+-- the shadow MBR
+unfoldable pub locking_mbr_controls : List Item
+locking_mbr_controls = row_items (uid 0x0000080300000001) (new_mbr_control (uid 0x0000080300000001))
+
+-- access entries
+unfoldable pub admin_entries : List Item
+admin_entries =
+    entry_row 1 (codes "Anybody") anybody []
+    ++ entry_row 0x8c02 (codes "C_PIN_SID_Get_NOPIN") sid (0 ∷ 4 ∷ 5 ∷ 6 ∷ 7 ∷ [])
+    ++ entry_row 0x8c03 (codes "C_PIN_SID_Set_PIN") sid (3 ∷ [])
+    ++ entry_row 0x8c04 (codes "C_PIN_MSID_Get_PIN") anybody (0 ∷ 3 ∷ [])
+    ++ entry_row 0x30002 (codes "SP_SID") sid []
+
+unfoldable pub authority_entries : List Item
+authority_entries =
+    entry_row 1 (codes "Anybody") anybody []
+    ++ entry_row 2 (codes "Admins") admins_class []
+    ++ entry_row 3 (codes "Anybody_Get_CommonName") anybody (0 ∷ 2 ∷ [])
+    ++ entry_row 0x38001 (codes "ACE_Set_BooleanExpr") admins_class (3 ∷ [])
+    ++ entry_row 0x39001 (codes "Authority_Set_Enabled") admins_class (5 ∷ [])
+
+abbrev pub user_entry : ℕ → List (Column × Cell)
+user_entry n = new_entry (user_entry_uid n) (codes "C_PIN_User" ++ decimal n ++ codes "_Set_PIN") (Authority admins_class ∷ Authority (user_uid n) ∷ Or ∷ []) (col 3 ∷ [])
+
+unfoldable pub pin_entries : List Item
+pin_entries =
+    entry_row 0x3a000 (codes "C_PIN_Get_NOPIN") admins_class (0 ∷ 4 ∷ 5 ∷ 6 ∷ 7 ∷ [])
+    ++ entry_row 0x3a001 (codes "C_PIN_Admins_Set_PIN") admins_class (3 ∷ [])
+    ++ family 0x000000080003a800 user_entry USERS
+
+abbrev pub read_entry : ℕ → List (Column × Cell)
+read_entry n = new_entry (read_entry_uid n) (codes "Range_" ++ decimal n ++ codes "_Set_RdLocked") (Authority admins_class ∷ []) (col 7 ∷ [])
+
+abbrev pub write_entry : ℕ → List (Column × Cell)
+write_entry n = new_entry (write_entry_uid n) (codes "Range_" ++ decimal n ++ codes "_Set_WrLocked") (Authority admins_class ∷ []) (col 8 ∷ [])
+
+unfoldable pub range_entries : List Item
+range_entries =
+    entry_row 0x3d000 (codes "Locking_Get") admins_class (3 ∷ 4 ∷ 5 ∷ 6 ∷ 7 ∷ 8 ∷ 9 ∷ [])
+    ++ row_items (read_entry_uid 0) (read_entry 0)
+    ++ family 0x000000080003e000 read_entry RANGES
+    ++ row_items (write_entry_uid 0) (write_entry 0)
+    ++ family 0x000000080003e800 write_entry RANGES
+    ++ entry_row 0x3f000 (codes "Locking_Global_Set") admins_class (5 ∷ 6 ∷ 7 ∷ 8 ∷ 9 ∷ [])
+    ++ entry_row 0x3f001 (codes "Locking_Range_Set") admins_class (3 ∷ 4 ∷ 5 ∷ 6 ∷ 7 ∷ 8 ∷ 9 ∷ [])
+
+unfoldable pub mbr_entries : List Item
+mbr_entries =
+    entry_row 0x3f800 (codes "MBRControl_Set") admins_class (1 ∷ 2 ∷ 3 ∷ [])
+    ++ entry_row 0x3f801 (codes "MBRControl_Set_DoneToDOR") admins_class (2 ∷ 3 ∷ [])
+
+-- the Admin SP of a drive with this MSID
+abbrev pub admin_factory : List ℕ → List Item
+admin_factory msid = admin_sps ++ (admin_authorities ++ (admin_pins msid ++ admin_entries))
+
+-- the Locking SP
+abbrev pub locking_factory : List Item
+locking_factory = locking_authorities ++ (locking_pins ++ (locking_ranges ++ (locking_mbr_controls ++ (authority_entries ++ pin_entries ++ range_entries ++ mbr_entries))))

@@ -1,0 +1,211 @@
+ghost use Rattle.std.specs.Prelude.{◌≡◌, ◌+◌, ◌<◌, ◌≤◌, ◌^◌, [], ◌∷◌, ◌++◌, IfOk, OnOk, string_bytes};
+ghost use Rattle.sp_cells.specs.Names.{entry_uid};
+ghost use Rattle.sp_rows.specs.Items.{rows_from};
+ghost use Rattle.sp_rows.specs.Columns.{authority_columns, pin_columns, range_columns, entry_columns};
+ghost use Rattle.sp_factory.specs.Factory.{family, admin_authority, user_authority, admin_pin, user_pin, numbered_range, user_entry, read_entry, write_entry};
+
+use crate::new_rows::{either, entry, member, only, pin, push_row, range};
+use sp_cells::{ADMINS, Column, RANGES, USERS, Uid};
+use sp_rows::{AuthorityRow, EntryRow, PinRow, RangeRow};
+use std::alloc::{AllocError, Global};
+
+/// An access entry by its number.
+pub fn entry_of(number: u64) -> Uid
+    requires { number < 2 ^ 32 }
+    ensures { result ≡ entry_uid number }
+{
+    Uid(0x0000_0008_0000_0000 + number)
+}
+
+/// An Admin; the first alone is enabled.
+fn admin_row(alloc: Global, n: u8) -> Result<AuthorityRow, AllocError>
+    ensures { IfOk result (λ r. authority_columns r ≡ admin_authority n) }
+{
+    let name = format!(in alloc; "Admin{n}")?;
+    let enabled = if n == 1 { 1 } else { 0 };
+    Ok(member(
+        alloc,
+        Uid::admin(n),
+        name,
+        Uid::ADMINS,
+        enabled,
+        Uid::pin_of_admin(n),
+    ))
+}
+
+/// All of them, by number.
+pub fn admin_rows(alloc: Global) -> Result<Vec<AuthorityRow>, AllocError>
+    ensures { IfOk result (λ rows. rows_from authority_columns (0x0000000900010000 + 1) rows.items ≡ family 0x0000000900010000 admin_authority ADMINS) }
+{
+    let mut rows = Vec::with_capacity(alloc, usize::from(ADMINS))?;
+    for i in 0..ADMINS {
+        push_row(&mut rows, admin_row(alloc, i + 1)?)?;
+    }
+    Ok(rows)
+}
+
+/// A User, who is not enabled.
+fn user_row(alloc: Global, n: u8) -> Result<AuthorityRow, AllocError>
+    ensures { IfOk result (λ r. authority_columns r ≡ user_authority n) }
+{
+    let name = format!(in alloc; "User{n}")?;
+    Ok(member(
+        alloc,
+        Uid::user(n),
+        name,
+        Uid::USERS,
+        0,
+        Uid::pin_of_user(n),
+    ))
+}
+
+/// All of them, by number.
+pub fn user_rows(alloc: Global) -> Result<Vec<AuthorityRow>, AllocError>
+    ensures { IfOk result (λ rows. rows_from authority_columns (0x0000000900030000 + 1) rows.items ≡ family 0x0000000900030000 user_authority USERS) }
+{
+    let mut rows = Vec::with_capacity(alloc, usize::from(USERS))?;
+    for i in 0..USERS {
+        push_row(&mut rows, user_row(alloc, i + 1)?)?;
+    }
+    Ok(rows)
+}
+
+/// The empty PIN of an Admin.
+fn admin_pin_row(alloc: Global, n: u8) -> Result<PinRow, AllocError>
+    ensures { IfOk result (λ r. pin_columns r ≡ admin_pin n) }
+{
+    let name = format!(in alloc; "C_PIN_Admin{n}")?;
+    let row = pin(alloc, Uid::pin_of_admin(n), name, &[], 5)?;
+    Ok(row)
+}
+
+/// All of them, by number.
+pub fn admin_pin_rows(alloc: Global) -> Result<Vec<PinRow>, AllocError>
+    ensures { IfOk result (λ rows. rows_from pin_columns (0x0000000b00010000 + 1) rows.items ≡ family 0x0000000b00010000 admin_pin ADMINS) }
+{
+    let mut rows = Vec::with_capacity(alloc, usize::from(ADMINS))?;
+    for i in 0..ADMINS {
+        push_row(&mut rows, admin_pin_row(alloc, i + 1)?)?;
+    }
+    Ok(rows)
+}
+
+/// The empty PIN of a User.
+fn user_pin_row(alloc: Global, n: u8) -> Result<PinRow, AllocError>
+    ensures { IfOk result (λ r. pin_columns r ≡ user_pin n) }
+{
+    let name = format!(in alloc; "C_PIN_User{n}")?;
+    let row = pin(alloc, Uid::pin_of_user(n), name, &[], 5)?;
+    Ok(row)
+}
+
+/// All of them, by number.
+pub fn user_pin_rows(alloc: Global) -> Result<Vec<PinRow>, AllocError>
+    ensures { IfOk result (λ rows. rows_from pin_columns (0x0000000b00030000 + 1) rows.items ≡ family 0x0000000b00030000 user_pin USERS) }
+{
+    let mut rows = Vec::with_capacity(alloc, usize::from(USERS))?;
+    for i in 0..USERS {
+        push_row(&mut rows, user_pin_row(alloc, i + 1)?)?;
+    }
+    Ok(rows)
+}
+
+/// A numbered range.
+fn range_row(alloc: Global, n: u8) -> Result<RangeRow, AllocError>
+    ensures { IfOk result (λ r. range_columns r ≡ numbered_range n) }
+{
+    let name = format!(in alloc; "Locking_Range{n}")?;
+    Ok(range(alloc, Uid(0x0000_0802_0003_0000 + u64::from(n)), name))
+}
+
+/// All of them, by number.
+pub fn range_rows(alloc: Global) -> Result<Vec<RangeRow>, AllocError>
+    ensures { IfOk result (λ rows. rows_from range_columns (0x0000080200030000 + 1) rows.items ≡ family 0x0000080200030000 numbered_range RANGES) }
+{
+    let mut rows = Vec::with_capacity(alloc, usize::from(RANGES))?;
+    for i in 0..RANGES {
+        push_row(&mut rows, range_row(alloc, i + 1)?)?;
+    }
+    Ok(rows)
+}
+
+/// Who may set a User's PIN.
+fn user_entry_row(alloc: Global, n: u8) -> Result<EntryRow, AllocError>
+    ensures { IfOk result (λ r. entry_columns r ≡ user_entry n) }
+{
+    let name = format!(in alloc; "C_PIN_User{n}_Set_PIN")?;
+    let expr = either(alloc, Uid::ADMINS, Uid::user(n))?;
+    let row = entry(
+        alloc,
+        entry_of(0x3_a800 + u64::from(n)),
+        name,
+        expr,
+        &[Column(3)],
+    )?;
+    Ok(row)
+}
+
+/// All of them, by number.
+pub fn user_entry_rows(alloc: Global) -> Result<Vec<EntryRow>, AllocError>
+    ensures { IfOk result (λ rows. rows_from entry_columns (0x000000080003a800 + 1) rows.items ≡ family 0x000000080003a800 user_entry USERS) }
+{
+    let mut rows = Vec::with_capacity(alloc, usize::from(USERS))?;
+    for i in 0..USERS {
+        push_row(&mut rows, user_entry_row(alloc, i + 1)?)?;
+    }
+    Ok(rows)
+}
+
+/// Who may set a range's ReadLocked flag.
+pub fn read_entry_row(alloc: Global, n: u8) -> Result<EntryRow, AllocError>
+    ensures { IfOk result (λ r. entry_columns r ≡ read_entry n) }
+{
+    let name = format!(in alloc; "Range_{n}_Set_RdLocked")?;
+    let expr = only(alloc, Uid::ADMINS)?;
+    let row = entry(
+        alloc,
+        entry_of(0x3_e000 + u64::from(n)),
+        name,
+        expr,
+        &[Column(7)],
+    )?;
+    Ok(row)
+}
+
+/// All of them, by number.
+pub fn read_entry_rows(alloc: Global) -> Result<Vec<EntryRow>, AllocError>
+    ensures { IfOk result (λ rows. rows_from entry_columns (0x000000080003e000 + 1) rows.items ≡ family 0x000000080003e000 read_entry RANGES) }
+{
+    let mut rows = Vec::with_capacity(alloc, usize::from(RANGES))?;
+    for i in 0..RANGES {
+        push_row(&mut rows, read_entry_row(alloc, i + 1)?)?;
+    }
+    Ok(rows)
+}
+
+/// Who may set a range's WriteLocked flag.
+pub fn write_entry_row(alloc: Global, n: u8) -> Result<EntryRow, AllocError>
+    ensures { IfOk result (λ r. entry_columns r ≡ write_entry n) }
+{
+    let name = format!(in alloc; "Range_{n}_Set_WrLocked")?;
+    let expr = only(alloc, Uid::ADMINS)?;
+    let row = entry(
+        alloc,
+        entry_of(0x3_e800 + u64::from(n)),
+        name,
+        expr,
+        &[Column(8)],
+    )?;
+    Ok(row)
+}
+
+/// All of them, by number.
+pub fn write_entry_rows(alloc: Global) -> Result<Vec<EntryRow>, AllocError>
+    ensures { IfOk result (λ rows. rows_from entry_columns (0x000000080003e800 + 1) rows.items ≡ family 0x000000080003e800 write_entry RANGES) }
+{
+    let mut rows = Vec::with_capacity(alloc, usize::from(RANGES))?;
+    for i in 0..RANGES {
+        push_row(&mut rows, write_entry_row(alloc, i + 1)?)?;
+    }
+    Ok(rows)
+}

@@ -1,0 +1,4 @@
+pub mod Items
+pub mod Columns
+pub mod Runs
+pub mod Halves

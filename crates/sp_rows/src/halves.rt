@@ -1,0 +1,60 @@
+ghost use Rattle.std.specs.Prelude.{◌≡◌, option_copied, is_some, Some, IsTrue};
+ghost use Rattle.std.specs.Bool.{OnTrue, OnFalse};
+ghost use Rattle.sp_rows.specs.Items.{item_at, with_item};
+
+use crate::rows::{AuthorityRow, EntryRow, MbrControlRow, PinRow, RangeRow, SpRow};
+use crate::runs::{Run, find_cell, swap_in};
+use sp_cells::{Cell, Column, Uid};
+
+/// The tables of one SP. A table that the SP lacks is empty.
+#[derive(Drop)]
+pub struct SpTables {
+    pub sps: Vec<Run<SpRow>>,
+    pub authorities: Vec<Run<AuthorityRow>>,
+    pub pins: Vec<Run<PinRow>>,
+    pub ranges: Vec<Run<RangeRow>>,
+    pub mbr_controls: Vec<Run<MbrControlRow>>,
+    pub entries: Vec<Run<EntryRow>>,
+}
+
+#[tactic(auto, using(crate::proofs::ItemLemmas::joined))]
+impl SpTables {
+    ghost use Rattle.sp_rows.specs.Halves.{half_items};
+
+    /// The cell at a place.
+    pub fn cell(&self, object: Uid, column: Column) -> Option<&Cell>
+        ensures { option_copied result ≡ item_at (half_items self.now) object column }
+    {
+        if let Some(cell) = find_cell(self.sps.as_slice(), object, column) {
+            return Some(cell);
+        }
+        if let Some(cell) = find_cell(self.authorities.as_slice(), object, column) {
+            return Some(cell);
+        }
+        if let Some(cell) = find_cell(self.pins.as_slice(), object, column) {
+            return Some(cell);
+        }
+        if let Some(cell) = find_cell(self.ranges.as_slice(), object, column) {
+            return Some(cell);
+        }
+        if let Some(cell) = find_cell(self.mbr_controls.as_slice(), object, column) {
+            return Some(cell);
+        }
+        find_cell(self.entries.as_slice(), object, column)
+    }
+
+    /// Exchanges the cell at a place, where there is one.
+    pub fn swap(&mut self, object: Uid, column: Column, cell: &mut Cell) -> bool
+        ensures found { result ≡ is_some (item_at (half_items self.old) object column) }
+        ensures old { OnTrue result (item_at (half_items self.old) object column ≡ Some cell.new) }
+        ensures unchanged { OnFalse result (cell.new ≡ cell.old) }
+        ensures changed { half_items self.new ≡ with_item (half_items self.old) object column cell.old }
+    {
+        swap_in(&mut self.sps, object, column, cell)
+            || swap_in(&mut self.authorities, object, column, cell)
+            || swap_in(&mut self.pins, object, column, cell)
+            || swap_in(&mut self.ranges, object, column, cell)
+            || swap_in(&mut self.mbr_controls, object, column, cell)
+            || swap_in(&mut self.entries, object, column, cell)
+    }
+}

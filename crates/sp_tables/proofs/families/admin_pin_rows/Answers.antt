@@ -1,7 +1,0 @@
-use Rattle.sp_tables.specs.Columns.{pin_columns}
-use Rattle.sp_tables.specs.Factory.{admin_pin}
-use Rattle.sp_tables.proofs.FamilyLemmas.{family-step}
-use Rattle.sp_tables.proofs.families.admin_pin_rows.Goals as goal
-
-pub loop-i-preserved : goal.loop-i-preserved
-loop-i-preserved c = family-step pin_columns 0x0000000b00010000 admin_pin _ _ _ _ c.in_ok-push_row.ensures c.in_ok-admin_pin_row.ensures c.loop-i.invariant

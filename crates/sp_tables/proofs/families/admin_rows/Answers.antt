@@ -1,7 +1,0 @@
-use Rattle.sp_tables.specs.Columns.{authority_columns}
-use Rattle.sp_tables.specs.Factory.{admin_authority}
-use Rattle.sp_tables.proofs.FamilyLemmas.{family-step}
-use Rattle.sp_tables.proofs.families.admin_rows.Goals as goal
-
-pub loop-i-preserved : goal.loop-i-preserved
-loop-i-preserved c = family-step authority_columns 0x0000000900010000 admin_authority _ _ _ _ c.in_ok-push_row.ensures c.in_ok-admin_row.ensures c.loop-i.invariant
