@@ -92,3 +92,12 @@ fn ends_at_the_first_wrong_line(rt: HostRuntime) -> Result<(), Fail> {
     );
     Ok(())
 }
+
+/// The text of token bytes that end too early.
+#[test]
+fn tells_what_is_wrong_with_tokens(rt: HostRuntime) -> Result<(), Fail> {
+    let mut output = Vec::new(rt.alloc());
+    assert_eq!(rt; run_tokens(rt.alloc(), "f0f0f1", &mut output), Ok(0));
+    assert_eq!(rt; output.as_slice(), b"malformed 1 Truncated\n".as_slice());
+    Ok(())
+}
