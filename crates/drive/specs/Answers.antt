@@ -7,12 +7,20 @@ use Rattle.trusted_cmds.specs.Commands.{count_of}
 use Rattle.trusted_cmds.specs.declared.command.Command.{Command}
 use Rattle.drive.specs.declared.answer.Accepted.{Accepted}
 use Rattle.drive.specs.declared.answer.Completed.{Completed}
+use Rattle.shadow_mbr.specs.Stored.{sector_size}
 use Rattle.drive.specs.Completions.{data_of, is_read}
 use Rattle.drive.specs.Events.{Event, Deed, Nothing, OfQueue, Held, Completed as CompletedRead, CompletedWrite, QueueFailed}
 
+-- The Status field: DRDY, with the bit that ACS-3 calls command dependent, and beside them ERR.
+abbrev pub ready : ℕ
+ready = 0x50
+
+abbrev pub failed : ℕ
+failed = 0x51
+
 abbrev pub status_of : Option ℕ → ℕ
-status_of None = 0x50
-status_of (Some error) = 0x51
+status_of None = ready
+status_of (Some error) = failed
 
 -- The act holds its command.
 abbrev pub holds : Deed → Bool
@@ -41,14 +49,14 @@ abbrev pub setup_fis : Bool → ℕ → ℕ → Fis
 setup_fis to_host tag bytes =
     fises.DmaSetup (record { auto_activate = false; interrupt = false; to_host = to_host; port = 0; buffer_low = tag; buffer_high = 0; offset = 0; count = bytes })
 
--- A Set Device Bits FIS with bit I, status 50h and the tag's bit of SActive.
+-- A Set Device Bits FIS with bit I, the status of a device that is ready and the tag's bit of SActive.
 abbrev pub moved_fis : ℕ → Fis
 moved_fis tag =
-    fises.SetDeviceBits (record { notification = false; interrupt = true; port = 0; status = 0x50; error = 0; active = 2 ^ tag })
+    fises.SetDeviceBits (record { notification = false; interrupt = true; port = 0; status = ready; error = 0; active = 2 ^ tag })
 
 abbrev pub completion_fises : ℕ → Option Command → List Fis
 completion_fises tag None = []
-completion_fises tag (Some command) = setup_fis (is_read command) tag (512 * count_of command) ∷ moved_fis tag ∷ []
+completion_fises tag (Some command) = setup_fis (is_read command) tag (sector_size * count_of command) ∷ moved_fis tag ∷ []
 
 -- What the completion of a held command gives, on media whose sectors hold these bytes.
 pub record IsCompletion (at : ℕ → List ℕ) (tag : ℕ) (command : Option Command) (done : Completed) : Type 0 where

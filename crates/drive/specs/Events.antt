@@ -3,6 +3,7 @@ use Rattle.std.specs.Prelude.{ℕ, Bool, List, [], ◌∷◌, Option, Some, None
 use Rattle.audit.specs.declared.reason.Why.{Why}
 use Rattle.trusted_cmds.specs.declared.command.Command.{Command}
 use Rattle.drive.specs.declared.failure.Failure.{Failure}
+use Rattle.drive.specs.Decisions.{aborted}
 use Rattle.drive.specs.declared.decision.Decision.{Decision}
 use Rattle.drive.specs.declared.decision.Decision.TheVariants.{Refused, Fails, Holds}
 
@@ -27,7 +28,7 @@ pub record Event : Type 0 where
 
 -- The event of an accepted FIS.
 abbrev pub event_of : Decision → Event
-event_of Refused = record { failed = Some 0x04; deed = Nothing; denied = None }
+event_of Refused = record { failed = Some aborted; deed = Nothing; denied = None }
 event_of (Fails failure denied) = record { failed = Some failure.error; deed = OfQueue (QueueFailed failure); denied = denied }
 event_of (Holds tag command) = record { failed = None; deed = OfQueue (Held tag command); denied = None }
 

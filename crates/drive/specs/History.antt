@@ -1,5 +1,6 @@
 -- What a drive owes after a list of acts, by looking back over the list. The newest act comes first, so "before" is the tail.
 use Rattle.std.specs.Prelude.{ℕ, ◌+◌, ◌-◌, ◌*◌, ◌/◌, length, Bool, true, false, ◌==◌, ◌&&◌, nat_le, nat_lt, List, [], ◌∷◌, take, drop, is_some, unwrap_or, Option, Some, None, if◌then◌else◌}
+use Rattle.fis.specs.Tags.{slot_count}
 use Rattle.sp_cells.specs.Flat.{LookUp}
 use Rattle.sp_tables.specs.Contents.{look_up}
 use Rattle.locking.specs.Ranges.{ranges_in}
@@ -9,7 +10,7 @@ use Rattle.drive.specs.declared.failure.Failure.{Failure}
 use Rattle.drive.specs.declared.decision.Decision.{Decision}
 use Rattle.drive.specs.Opening.{Opening}
 use Rattle.drive.specs.Decisions.{any_below, decision}
-use Rattle.shadow_mbr.specs.Stored.{zeros}
+use Rattle.shadow_mbr.specs.Stored.{sector_size, zeros}
 use Rattle.drive.specs.Events.{Event, Deed, Nothing, OfQueue, QueueDeed, Held, Completed, CompletedWrite, QueueFailed, event_of, did, latest}
 
 -- A call that was not refused.
@@ -49,7 +50,7 @@ failure past = unwrap_or (latest failing past) None
 -- Media: a sector holds what the latest act that moved data over it wrote there, else zeros.
 abbrev pub writing : ℕ → Deed → Option (List ℕ)
 writing sector (OfQueue (CompletedWrite tag lba bytes)) =
-    if nat_le lba sector && nat_lt sector (lba + length bytes / 512) then Some (take 512 (drop (512 * (sector - lba)) bytes)) else None
+    if nat_le lba sector && nat_lt sector (lba + length bytes / sector_size) then Some (take sector_size (drop (sector_size * (sector - lba)) bytes)) else None
 writing sector (OfQueue (Held tag command)) = None
 writing sector (OfQueue (Completed tag)) = None
 writing sector (OfQueue (QueueFailed failure)) = None
@@ -61,7 +62,7 @@ sector past place = unwrap_or (latest (writing place) past) zeros
 -- What the drive does with a FIS after these events.
 abbrev pub decision_after : Opening → List Event → List ℕ → Decision
 decision_after o past fis =
-    decision o.tables.config.sectors (ranges_in (in_force o past)) (is_some (failure past)) (any_below (is_held past) 32) (is_held past) fis
+    decision o.tables.config.sectors (ranges_in (in_force o past)) (is_some (failure past)) (any_below (is_held past) slot_count) (is_held past) fis
 
 -- A completion moves the data of what is held.
 abbrev pub completed : ℕ → List ℕ → Option Command → Event

@@ -1,5 +1,6 @@
 -- When a drive stands as a list of acts leaves it.
 use Rattle.std.specs.Prelude.{◌≡◌, ℕ, Bool, List, [], length, reverse, slice_set, is_some, Option, Some, None}
+use Rattle.fis.specs.Tags.{slot_count}
 use Rattle.sp_tables.specs.Contents.{look_up}
 use Rattle.locking.specs.Ranges.{ranges_in}
 use Rattle.trusted_cmds.specs.declared.command.Command.{Command}
@@ -22,7 +23,7 @@ pub record State : Type 0 where
 -- The drive stands as these events leave it, part by part.
 pub record StandsAs (drive : State) (o : Opening) (past : List Event) : Type 0 where
   pub opening : drive.opening ≡ o
-  pub slots : length drive.held ≡ 32
+  pub slots : length drive.held ≡ slot_count
   pub held_commands : (tag : ℕ) → held_at drive.held tag ≡ held past tag
   pub failed_queue : drive.failure ≡ failure past
   pub sectors : (place : ℕ) → sector_at drive.media place ≡ sector past place
@@ -38,7 +39,7 @@ AgreesInOrder drive o acts = Agrees drive o (reverse acts)
 -- What the drive does with a FIS, by how it stands.
 abbrev pub decision_on : State → List ℕ → Decision
 decision_on drive fis =
-    decision drive.opening.tables.config.sectors (ranges_in (look_up drive.opening.tables)) (is_some drive.failure) (any_below (is_held_at drive.held) 32) (is_held_at drive.held) fis
+    decision drive.opening.tables.config.sectors (ranges_in (look_up drive.opening.tables)) (is_some drive.failure) (any_below (is_held_at drive.held) slot_count) (is_held_at drive.held) fis
 
 -- How the drive stands after a decision.
 abbrev pub decided : State → Decision → State

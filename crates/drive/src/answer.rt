@@ -1,11 +1,17 @@
 ghost use Rattle.std.specs.Prelude.{◌≡◌, ◌^◌, ◌<◌, ◌≤◌, [], ◌∷◌};
 ghost use Rattle.drive.specs.Answers.{answer_fis, setup_fis, moved_fis};
 
-use crate::decision::Decision;
+use crate::decision::{ABORTED, Decision};
 use arrayvec::ArrayVec;
 use audit::Why;
 use fis::{DmaSetup, Fis, RegD2h, SetDeviceBits, StatusBits, Tag};
 use std::alloc::Global;
+
+/// The status of a device that is ready (ACS-3, Status field).
+const READY: u8 = 0x50;
+
+/// The status beside an error.
+const FAILED: u8 = 0x51;
 
 /// What the drive answers to an accepted FIS.
 #[derive(Drop)]
@@ -53,14 +59,14 @@ impl Accepted {
         ensures { IsAnswer (event_of decision) result }
     {
         let (error, held, denied) = match decision {
-            Decision::Refused => (Some(0x04), false, None),
+            Decision::Refused => (Some(ABORTED), false, None),
             Decision::Fails { failure, denied } => (Some(failure.error), false, denied),
             Decision::Holds { .. } => (None, true, None),
         };
         let mut fises = ArrayVec::new();
         let status = match error {
-            None => 0x50,
-            Some(_) => 0x51,
+            None => READY,
+            Some(_) => FAILED,
         };
         let error = error.unwrap_or(0);
         fises.push(answer_fis(!held, status, error));
@@ -93,7 +99,7 @@ fn moved_fis(tag: Tag) -> Fis
 {
     Fis::SetDeviceBits(SetDeviceBits {
         interrupt: true,
-        status: StatusBits::new(0x50).unwrap(),
+        status: StatusBits::new(READY).unwrap(),
         active: 1 << u32::from(tag.number()),
         ..SetDeviceBits::default()
     })

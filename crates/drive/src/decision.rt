@@ -1,17 +1,18 @@
 ghost use Rattle.std.specs.Prelude.{◌≡◌, ◌<◌, ◌≤◌, ◌^◌};
+ghost use Rattle.fis.specs.Tags.{slot_count};
 ghost use Rattle.fis.specs.declared.h2d.RegH2d.{RegH2d};
-ghost use Rattle.trusted_cmds.specs.Commands.{count_of};
+ghost use Rattle.trusted_cmds.specs.Commands.{count_of, most_sectors};
 ghost use Rattle.drive.specs.Decisions.{fails, admitted, any_below, is_held_at, decision, NamesSlot};
 
 use crate::failure::Failure;
 use crate::queue::is_busy;
 use audit::Why;
-use fis::{RegH2d, Tag};
+use fis::{H2D_TYPE, RegH2d, SLOT_COUNT, Tag};
 use locking::{Op, Ranges, Verdict};
 use trusted_cmds::{Command, CommandError, is_queued, of_fis, tag_of};
 
 /// The error of a command that is aborted or denied (ACS-3, ABRT).
-const ABORTED: u8 = 0x04;
+pub(crate) const ABORTED: u8 = 0x04;
 
 /// The error of a command whose sectors are not all on the drive (ACS-3, IDNF).
 const NOT_FOUND: u8 = 0x10;
@@ -54,8 +55,8 @@ fn admit(
 ) -> Decision
     requires small { sectors ≤ 2 ^ 48 }
     requires some { 0 < count_of command }
-    requires most { count_of command ≤ 65536 }
-    requires slot { tag < 32 }
+    requires most { count_of command ≤ most_sectors }
+    requires slot { tag < slot_count }
     ensures slot { NamesSlot sectors result }
     ensures value { result ≡ admitted sectors ranges.now is_held h.now tag command }
 {
@@ -80,14 +81,14 @@ pub(crate) fn decide(
     sectors: u64,
     ranges: &Ranges,
     failed: bool,
-    held: &[Option<Command>; 32],
+    held: &[Option<Command>; SLOT_COUNT],
     fis: &[u8; 20],
 ) -> Decision
     requires { sectors ≤ 2 ^ 48 }
     ensures slot { NamesSlot sectors result }
-    ensures value { result ≡ decision sectors ranges.now failed (any_below (is_held_at held.now) 32) (is_held_at held.now) fis.now }
+    ensures value { result ≡ decision sectors ranges.now failed (any_below (is_held_at held.now) slot_count) (is_held_at held.now) fis.now }
 {
-    if fis[0] != 0x27 {
+    if fis[0] != H2D_TYPE {
         return Decision::Refused;
     }
     let h = RegH2d::read(fis);

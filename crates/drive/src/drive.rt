@@ -1,7 +1,7 @@
 ghost use Rattle.std.specs.Prelude.{◌≡◌, ◌+◌, ◌≤◌, ◌^◌, ℕ, ◌*◌, length, Some, OnOk, OnErr, IfOk, IsOkUnless};
-ghost use Rattle.trusted_cmds.specs.Commands.{lba_of, count_of};
-ghost use Rattle.shadow_mbr.specs.Stored.{sector_at};
-ghost use Rattle.shadow_mbr.specs.Stored.{sectors_from};
+ghost use Rattle.trusted_cmds.specs.Commands.{lba_of, count_of, most_sectors};
+ghost use Rattle.shadow_mbr.specs.Stored.{sector_size, sector_at, sectors_from};
+ghost use Rattle.fis.specs.Tags.{slot_count};
 ghost use Rattle.drive.specs.Completions.{expected, data_of, sector_then, is_read};
 
 use crate::answer::{Accepted, Completed, completion_fises};
@@ -9,9 +9,9 @@ use crate::decision::{Decision, decide};
 use crate::failure::Failure;
 use crate::opening::tables_with;
 use crate::queue::{no_commands, settle};
-use fis::Tag;
+use fis::{SLOT_COUNT, Tag};
 use locking::{RangeRow, Ranges};
-use shadow_mbr::Media;
+use shadow_mbr::{Media, SECTOR_SIZE};
 use sp_cells::{DriveConfig, SetError};
 use sp_tables::Tables;
 use std::alloc::{AllocError, Global};
@@ -50,7 +50,7 @@ fn transfer(
 ) -> Result<Vec<u8>, AllocError>
     requires length { length payload.now ≡ expected (Some command) }
     requires fits { lba_of command + count_of command ≤ media.old.sectors }
-    requires few { count_of command ≤ 65536 }
+    requires few { count_of command ≤ most_sectors }
     ensures data { IfOk result (λ v. v.items ≡ data_of (sector_at media.old) (Some command)) }
     ensures size { media.new.sectors ≡ media.old.sectors }
     ensures media { OnOk result ((s : ℕ) → sector_at media.new s ≡ sector_then (Some command) payload.now (sector_at media.old s) s) }
@@ -68,22 +68,22 @@ fn transfer(
 /// The bytes of so many sectors.
 fn read(media: &Media, alloc: Global, lba: u64, count: u32) -> Result<Vec<u8>, AllocError>
     requires fits { lba + count ≤ media.now.sectors }
-    requires few { count ≤ 65536 }
+    requires few { count ≤ most_sectors }
     ensures { IfOk result (λ v. v.items ≡ sectors_from (sector_at media.now) lba count) }
 {
-    let mut bytes = vec![in alloc; 0; 512 * count as usize]?;
+    let mut bytes = vec![in alloc; 0; SECTOR_SIZE * count as usize]?;
     media.read(lba, &mut bytes);
     Ok(bytes)
 }
 
 /// The direction of a command's data, and how many bytes it moves.
 fn shape(command: Command) -> (bool, u32)
-    requires { count_of command ≤ 65536 }
-    ensures { result ≡ (is_read command, 512 * count_of command) }
+    requires { count_of command ≤ most_sectors }
+    ensures { result ≡ (is_read command, sector_size * count_of command) }
 {
     match command {
-        Command::ReadQueued { lba: _, count } => (true, 512 * count),
-        Command::WriteQueued { lba: _, count } => (false, 512 * count),
+        Command::ReadQueued { lba: _, count } => (true, SECTOR_SIZE as u32 * count),
+        Command::WriteQueued { lba: _, count } => (false, SECTOR_SIZE as u32 * count),
     }
 }
 
@@ -94,7 +94,7 @@ pub struct Drive {
     tables: Tables,
     ranges: Ranges,
     media: Media,
-    held: [Option<Command>; 32],
+    held: [Option<Command>; SLOT_COUNT],
     failure: Option<Failure>,
 }
 
@@ -215,7 +215,7 @@ impl Drive {
     {
         let held = self.held[usize::from(tag.number())];
         match held {
-            Some(Command::WriteQueued { lba: _, count }) => 512 * count as usize,
+            Some(Command::WriteQueued { lba: _, count }) => SECTOR_SIZE * count as usize,
             Some(Command::ReadQueued { .. }) | None => 0,
         }
     }
@@ -236,7 +236,7 @@ impl Drive {
 
     fn finish(&mut self, tag: Tag, payload: &[u8]) -> Result<Completed, DriveError>
         requires { length payload.now ≡ expected (held_at self.old.held tag) }
-        ensures slot { tag < 32 }
+        ensures slot { tag < slot_count }
         ensures state { OnOk result (IsMoved self.old self.new tag payload.now) }
         ensures answer { IfOk result (λ done. IsCompletion (sector_at self.old.media) tag (held_at self.old.held tag) done) }
         ensures not_held { IsErrOf result DriveError.NotHeld ↔ (held_at self.old.held tag ≡ None) }

@@ -1,18 +1,20 @@
 //! The slots of held commands.
 
 ghost use Rattle.std.specs.Prelude.{◌≡◌, ℕ};
+ghost use Rattle.fis.specs.Tags.{slot_count};
 ghost use Rattle.drive.specs.Decisions.{any_below, is_held_at, NamesSlot, AllFit, none_held, held_then, failed_then};
 
 use crate::decision::Decision;
 use crate::failure::Failure;
+use fis::SLOT_COUNT;
 use trusted_cmds::Command;
 
 /// Whether a command is held.
 #[tactic(auto, using(crate::proofs::Below::any_below_at, crate::proofs::Below::none_below))]
-pub(crate) fn is_busy(held: &[Option<Command>; 32]) -> bool
-    ensures { result ≡ any_below (is_held_at held.now) 32 }
+pub(crate) fn is_busy(held: &[Option<Command>; SLOT_COUNT]) -> bool
+    ensures { result ≡ any_below (is_held_at held.now) slot_count }
 {
-    for tag in 0..32 {
+    for tag in 0..SLOT_COUNT {
         if held[tag].is_some() {
             return true;
         }
@@ -23,7 +25,7 @@ pub(crate) fn is_busy(held: &[Option<Command>; 32]) -> bool
 /// What a decision leaves in the slots, and how the queue has failed then.
 #[tactic(auto, using(crate::proofs::Slots::fit_then))]
 pub(crate) fn settle(
-    held: &mut [Option<Command>; 32],
+    held: &mut [Option<Command>; SLOT_COUNT],
     failure: &mut Option<Failure>,
     decision: &Decision,
 )
@@ -46,16 +48,16 @@ pub(crate) fn settle(
 
 /// Slots that hold no command.
 #[tactic(auto, unfolding(crate::specs::Decisions::none_held), using(crate::proofs::Slots::none_fit))]
-pub(crate) fn no_commands() -> [Option<Command>; 32]
+pub(crate) fn no_commands() -> [Option<Command>; SLOT_COUNT]
     ensures none { result ≡ none_held }
     ensures fit { (sectors : ℕ) → AllFit sectors result }
 {
-    [None; 32]
+    [None; SLOT_COUNT]
 }
 
 #[tactic(auto, unfolding(crate::specs::Decisions::none_held))]
-fn release_all(held: &mut [Option<Command>; 32])
+fn release_all(held: &mut [Option<Command>; SLOT_COUNT])
     ensures { held.new ≡ none_held }
 {
-    *held = [None; 32];
+    *held = [None; SLOT_COUNT];
 }

@@ -1,5 +1,6 @@
 pub mod Bytes
 pub mod Types
+pub mod Tags
 pub mod D2h
 pub mod H2d
 pub mod SetDeviceBits

@@ -1,8 +1,8 @@
 use crate::bytes::u16_at;
 use crate::fields::{Lba, PortNumber};
 
-/// The first byte of the FIS.
-pub(crate) const H2D_TYPE: u8 = 0x27;
+/// The first byte of a Register FIS from the host to the device.
+pub const H2D_TYPE: u8 = 0x27;
 
 /// How many bytes the FIS has.
 pub(crate) const H2D_LENGTH: usize = 20;

@@ -11,9 +11,13 @@ pub record Stored : Type 0 where
   pub sectors : ℕ
   pub kept : List (ℕ × List ℕ)
 
+-- how many bytes a sector has
+abbrev pub sector_size : ℕ
+sector_size = 512
+
 -- a sector of zeros
 unfoldable pub zeros : List ℕ
-zeros = replicate 512 0
+zeros = replicate sector_size 0
 
 -- what is kept of a sector
 abbrev pub kept_at : Stored → ℕ → Option (List ℕ)
@@ -25,7 +29,7 @@ sector_at stored sector = unwrap_or (kept_at stored sector) zeros
 
 -- What a place holds: a byte of its sector.
 abbrev pub byte_at : Stored → ℕ → ℕ
-byte_at stored place = slice_index (sector_at stored (place / 512)) (place % 512)
+byte_at stored place = slice_index (sector_at stored (place / sector_size)) (place % sector_size)
 
 -- The byte at a place after bytes were written from `at` on, where it was `before`.
 abbrev pub byte_after : ℕ → List ℕ → ℕ → ℕ → ℕ
@@ -36,7 +40,7 @@ byte_after at bytes before place =
 -- What a sector holds after whole sectors were written from `lba` on, where it held `before`.
 abbrev pub sector_after : ℕ → List ℕ → List ℕ → ℕ → List ℕ
 sector_after lba bytes before sector =
-    if nat_le lba sector && nat_lt sector (lba + length bytes / 512) then take 512 (drop (512 * (sector - lba)) bytes)
+    if nat_le lba sector && nat_lt sector (lba + length bytes / sector_size) then take sector_size (drop (sector_size * (sector - lba)) bytes)
     else before
 
 -- The bytes of so many sectors from `lba` on.
@@ -47,21 +51,25 @@ sectors_from holds lba (suc n) = holds lba ++ sectors_from holds (lba + 1) n
 -- The sector of each of so many bytes from `at` on is kept.
 abbrev pub AreKept : Stored → ℕ → ℕ → Type 0
 AreKept stored at len =
-    (place : ℕ) → at ≤ place → place < at + len → is_some (kept_at stored (place / 512)) ≡ true
+    (place : ℕ) → at ≤ place → place < at + len → is_some (kept_at stored (place / sector_size)) ≡ true
 
 -- Whether a sector has one of so many bytes from `at` on.
 abbrev pub has_byte : ℕ → ℕ → ℕ → Bool
 has_byte at len sector =
-    nat_lt 0 len && nat_lt (512 * sector) (at + len) && nat_lt at (512 * sector + 512)
+    nat_lt 0 len && nat_lt (sector_size * sector) (at + len) && nat_lt at (sector_size * sector + sector_size)
 
 -- The sectors that have one of so many bytes from `at` on, and that are not kept, are listed.
 abbrev pub ListsMissing : Stored → ℕ → ℕ → List ℕ → Type 0
 ListsMissing stored at len sectors =
     (sector : ℕ) → list_any (nat_eq sector) sectors ≡ (has_byte at len sector && not (is_some (kept_at stored sector)))
 
+-- How many sectors a drive can have: as many as a 48-bit address can name (ACS-3).
+abbrev pub sector_limit : ℕ
+sector_limit = 2 ^ 48
+
 -- There are no more sectors than a drive can have, the sectors that are kept ascend, and each
--- sector is 512 bytes.
+-- sector is whole.
 pub record IsSound (stored : Stored) : Type 0 where
-  pub few : stored.sectors ≤ 2 ^ 48
+  pub few : stored.sectors ≤ sector_limit
   pub sorted : IsStrictlySortedBy nat_cmp (keys_of stored.kept)
-  pub whole : (sector : ℕ) → length (sector_at stored sector) ≡ 512
+  pub whole : (sector : ℕ) → length (sector_at stored sector) ≡ sector_size

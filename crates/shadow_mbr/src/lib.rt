@@ -10,7 +10,7 @@ mod sectors;
 
 pub use mbr::Mbr;
 pub use media::Media;
-pub use sectors::Block;
+pub use sectors::{Block, SECTOR_SIZE};
 
 #[cfg(test)]
 mod tests;

@@ -20,12 +20,12 @@ impl Model for Mbr {
 
 impl Mbr {
     ghost use Rattle.std.specs.Prelude.{◌≡◌, ◌+◌, ◌*◌, ◌^◌, ◌≤◌, ◌<◌, ◌↔◌, ℕ, length, IsTrue, is_some, ◌||◌, OnOk, OnErr, [], slice_index};
-    ghost use Rattle.shadow_mbr.specs.Stored.{AreKept, kept_at, has_byte, byte_at, byte_after};
+    ghost use Rattle.shadow_mbr.specs.Stored.{sector_size, sector_limit, AreKept, kept_at, has_byte, byte_at, byte_after};
 
     /// A table of so many sectors of 512 zeros.
     #[tactic(auto, using(crate::proofs::Zeros::blank_byte))]
     pub fn new(alloc: Global, sectors: u64) -> Mbr
-        requires { sectors ≤ 2 ^ 48 }
+        requires { sectors ≤ sector_limit }
         ensures exact { result ≡ record { sectors = sectors; kept = [] } }
         ensures zero { (place : ℕ) → byte_at result place ≡ 0 }
     {
@@ -43,7 +43,7 @@ impl Mbr {
 
     /// Fills the buffer with the bytes from a place on.
     pub fn read(&self, at: u64, buffer: &mut [u8])
-        requires { at + length buffer.old ≤ 512 * self.now.sectors }
+        requires { at + length buffer.old ≤ sector_size * self.now.sectors }
         ensures { (k : ℕ) → k < length buffer.new → slice_index buffer.new k ≡ byte_at self.now (at + k) }
     {
         self.held.read(at, buffer);
@@ -52,7 +52,7 @@ impl Mbr {
     /// Writes bytes from a place on. Where memory is refused, nothing changes.
     #[tactic(auto, using(crate::proofs::Touched::touched))]
     pub fn write(&mut self, at: u64, bytes: &[u8]) -> Result<(), AllocError>
-        requires { at + length bytes.now ≤ 512 * self.old.sectors }
+        requires { at + length bytes.now ≤ sector_size * self.old.sectors }
         ensures size { self.new.sectors ≡ self.old.sectors }
         ensures bytes { OnOk result ((place : ℕ) → byte_at self.new place ≡ byte_after at bytes.now (byte_at self.old place) place) }
 
@@ -69,7 +69,7 @@ impl Mbr {
     /// Whether `overwrite` may write so many bytes from a place on: each sector that has one of
     /// them was written before.
     pub fn covers(&self, at: u64, len: usize) -> bool
-        requires { at + len ≤ 512 * self.now.sectors }
+        requires { at + len ≤ sector_size * self.now.sectors }
         ensures { IsTrue result ↔ AreKept self.now at len }
     {
         self.held.covers(at, len)
@@ -77,7 +77,7 @@ impl Mbr {
 
     /// Writes bytes from a place on where the table covers them, without taking memory.
     pub fn overwrite(&mut self, at: u64, bytes: &[u8])
-        requires inside { at + length bytes.now ≤ 512 * self.old.sectors }
+        requires inside { at + length bytes.now ≤ sector_size * self.old.sectors }
         requires covered { AreKept self.old at (length bytes.now) }
         ensures size { self.new.sectors ≡ self.old.sectors }
         ensures bytes { (place : ℕ) → byte_at self.new place ≡ byte_after at bytes.now (byte_at self.old place) place }

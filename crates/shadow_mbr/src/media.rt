@@ -21,12 +21,12 @@ impl Model for Media {
 
 impl Media {
     ghost use Rattle.std.specs.Prelude.{◌≡◌, ◌+◌, ◌*◌, ◌/◌, ◌%◌, ◌≤◌, ◌<◌, ◌^◌, ℕ, length, is_some, ◌||◌, OnOk, OnErr, [], slice_index, slice_range};
-    ghost use Rattle.shadow_mbr.specs.Stored.{zeros, kept_at, has_byte, sector_at, byte_at, byte_after, sector_after, sectors_from};
+    ghost use Rattle.shadow_mbr.specs.Stored.{sector_size, sector_limit, zeros, kept_at, has_byte, sector_at, byte_at, byte_after, sector_after, sectors_from};
 
     /// So many sectors of zeros.
     #[tactic(auto, using(crate::proofs::Zeros::blank_byte))]
     pub fn new(alloc: Global, sectors: u64) -> Media
-        requires { sectors ≤ 2 ^ 48 }
+        requires { sectors ≤ sector_limit }
         ensures exact { result ≡ record { sectors = sectors; kept = [] } }
         ensures blank { (sector : ℕ) → sector_at result sector ≡ zeros }
         ensures zero { (place : ℕ) → byte_at result place ≡ 0 }
@@ -47,7 +47,7 @@ impl Media {
     pub fn sector(&self, sector: u64) -> &Block
         requires { sector < self.now.sectors }
         ensures value { result.now ≡ sector_at self.now sector }
-        ensures len { length result.now ≡ 512 }
+        ensures len { length result.now ≡ sector_size }
     {
         self.held.sector(sector)
     }
@@ -55,12 +55,12 @@ impl Media {
     /// Fills the buffer with whole sectors from `lba` on.
     #[tactic(auto, using(crate::proofs::Whole::read_chunks, crate::proofs::Whole::read_exact))]
     pub fn read(&self, lba: u64, buffer: &mut [u8])
-        requires whole { length buffer.old % 512 ≡ 0 }
-        requires inside { 512 * lba + length buffer.old ≤ 512 * self.now.sectors }
-        ensures bytes { (k : ℕ) → k < length buffer.new → slice_index buffer.new k ≡ byte_at self.now (512 * lba + k) }
-        ensures chunks { (k : ℕ) → 512 * k < length buffer.new → slice_range buffer.new (512 * k) (512 * k + 512) ≡ sector_at self.now (lba + k) }
-        ensures exact { buffer.new ≡ sectors_from (sector_at self.now) lba (length buffer.old / 512) }
-        ensures each { (sector : ℕ) → length (sector_at self.now sector) ≡ 512 }
+        requires whole { length buffer.old % sector_size ≡ 0 }
+        requires inside { sector_size * lba + length buffer.old ≤ sector_size * self.now.sectors }
+        ensures bytes { (k : ℕ) → k < length buffer.new → slice_index buffer.new k ≡ byte_at self.now (sector_size * lba + k) }
+        ensures chunks { (k : ℕ) → sector_size * k < length buffer.new → slice_range buffer.new (sector_size * k) (sector_size * k + sector_size) ≡ sector_at self.now (lba + k) }
+        ensures exact { buffer.new ≡ sectors_from (sector_at self.now) lba (length buffer.old / sector_size) }
+        ensures each { (sector : ℕ) → length (sector_at self.now sector) ≡ sector_size }
     {
         self.held.read(SECTOR * lba, buffer);
     }
@@ -68,12 +68,12 @@ impl Media {
     /// Writes whole sectors from `lba` on. Where memory is refused, nothing changes.
     #[tactic(auto, using(crate::proofs::Whole::write_sectors))]
     pub fn write(&mut self, lba: u64, bytes: &[u8]) -> Result<(), AllocError>
-        requires whole { length bytes.now % 512 ≡ 0 }
-        requires inside { 512 * lba + length bytes.now ≤ 512 * self.old.sectors }
+        requires whole { length bytes.now % sector_size ≡ 0 }
+        requires inside { sector_size * lba + length bytes.now ≤ sector_size * self.old.sectors }
         ensures size { self.new.sectors ≡ self.old.sectors }
         ensures sectors { OnOk result ((sector : ℕ) → sector_at self.new sector ≡ sector_after lba bytes.now (sector_at self.old sector) sector) }
-        ensures bytes { OnOk result ((place : ℕ) → byte_at self.new place ≡ byte_after (512 * lba) bytes.now (byte_at self.old place) place) }
-        ensures kept { OnOk result ((sector : ℕ) → is_some (kept_at self.new sector) ≡ (is_some (kept_at self.old sector) || has_byte (512 * lba) (length bytes.now) sector)) }
+        ensures bytes { OnOk result ((place : ℕ) → byte_at self.new place ≡ byte_after (sector_size * lba) bytes.now (byte_at self.old place) place) }
+        ensures kept { OnOk result ((sector : ℕ) → is_some (kept_at self.new sector) ≡ (is_some (kept_at self.old sector) || has_byte (sector_size * lba) (length bytes.now) sector)) }
         ensures err { OnErr result (self.new ≡ self.old) }
     {
         self.held.write(SECTOR * lba, bytes)?;

@@ -1,17 +1,19 @@
 ghost use Rattle.std.specs.Prelude.{◌≡◌, ◌+◌, ◌%◌, ◌<◌, ◌≤◌};
-ghost use Rattle.shadow_mbr.specs.Stored.{zeros};
+ghost use Rattle.shadow_mbr.specs.Stored.{sector_size, zeros};
 
 use std::alloc::{AllocError, Global};
 use std::collections::BTreeMap;
 use std::marker::Model;
 
-/// The bytes of a sector (ACS-3, IDENTIFY DEVICE word 106).
-pub(crate) const SECTOR: u64 = 512;
+/// How many bytes a sector has (ACS-3, IDENTIFY DEVICE word 106).
+pub const SECTOR_SIZE: usize = 512;
+
+pub(crate) const SECTOR: u64 = SECTOR_SIZE as u64;
 
 /// What a sector holds.
-pub type Block = [u8; 512];
+pub type Block = [u8; SECTOR_SIZE];
 
-static ZEROS: Block = [0; 512];
+static ZEROS: Block = [0; SECTOR_SIZE];
 
 /// So many sectors, of which those that were never written are not kept.
 #[derive(Drop)]
@@ -42,7 +44,7 @@ fn zeros() -> &'static Block
 /// How many of the bytes from a place on are in its sector.
 fn piece_len(place: u64, len: usize) -> usize
     requires { 0 < len }
-    ensures fits { place % 512 + result ≤ 512 }
+    ensures fits { place % sector_size + result ≤ sector_size }
     ensures within { result ≤ len }
     ensures some { 0 < result }
 {
@@ -53,10 +55,10 @@ impl Sectors {
     ghost use Rattle.std.specs.Prelude.{◌≡◌, ◌+◌, ◌*◌, ◌/◌, ◌%◌, ◌≤◌, ◌<◌, ◌^◌, ◌==◌, ◌++◌, ℕ, length, OnOk, OnErr, IfOk, IsTrue, ◌↔◌, [], true, is_some, slice_index, take, drop, if◌then◌else◌};
     ghost use Rattle.std.specs.Prelude.{nat_eq, ◌||◌, None, Some};
     ghost use Rattle.std.specs.List.{list_any};
-    ghost use Rattle.shadow_mbr.specs.Stored.{IsSound, AreKept, ListsMissing, zeros, kept_at, sector_at, byte_at, byte_after, has_byte};
+    ghost use Rattle.shadow_mbr.specs.Stored.{IsSound, AreKept, ListsMissing, sector_size, sector_limit, zeros, kept_at, sector_at, byte_at, byte_after, has_byte};
 
     pub(crate) fn new(alloc: Global, sectors: u64) -> Sectors
-        requires { sectors ≤ 2 ^ 48 }
+        requires { sectors ≤ sector_limit }
         ensures exact { result ≡ record { sectors = sectors; kept = [] } }
         ensures sound { IsSound result }
     {
@@ -98,7 +100,7 @@ impl Sectors {
 
     fn put(&mut self, sector: u64, from: usize, bytes: &[u8])
         requires kept { is_some (kept_at self.old sector) ≡ true }
-        requires fits { from + length bytes.now ≤ 512 }
+        requires fits { from + length bytes.now ≤ sector_size }
         ensures size { self.new.sectors ≡ self.old.sectors }
         ensures kept { (s : ℕ) → is_some (kept_at self.new s) ≡ is_some (kept_at self.old s) }
         ensures bytes { (s : ℕ) → sector_at self.new s ≡ (if s == sector then take from (sector_at self.old s) ++ bytes.now ++ drop (from + length bytes.now) (sector_at self.old s) else sector_at self.old s) }
@@ -112,7 +114,7 @@ impl Sectors {
     /// Some bytes of one sector, from a place on.
     #[tactic(auto, using(crate::proofs::Pieces::part_of_sector))]
     fn part(&self, place: u64, len: usize) -> &[u8]
-        requires { place % 512 + len ≤ 512 }
+        requires { place % sector_size + len ≤ sector_size }
         ensures len { length result.now ≡ len }
         ensures bytes { (i : ℕ) → i < len → slice_index result.now i ≡ byte_at self.now (place + i) }
     {
@@ -123,7 +125,7 @@ impl Sectors {
 
     /// The bytes from a place on.
     pub(crate) fn read(&self, at: u64, buffer: &mut [u8])
-        requires { at + length buffer.old ≤ 512 * self.now.sectors }
+        requires { at + length buffer.old ≤ sector_size * self.now.sectors }
         ensures bytes { (k : ℕ) → k < length buffer.new → slice_index buffer.new k ≡ byte_at self.now (at + k) }
         ensures sound { IsSound self.now }
     {
@@ -140,8 +142,8 @@ impl Sectors {
 
     /// Writes some bytes of one sector that is kept, from a place on.
     fn write_part(&mut self, place: u64, bytes: &[u8])
-        requires fits { place % 512 + length bytes.now ≤ 512 }
-        requires kept { is_some (kept_at self.old (place / 512)) ≡ true }
+        requires fits { place % sector_size + length bytes.now ≤ sector_size }
+        requires kept { is_some (kept_at self.old (place / sector_size)) ≡ true }
         ensures size { self.new.sectors ≡ self.old.sectors }
         ensures kept { (s : ℕ) → is_some (kept_at self.new s) ≡ is_some (kept_at self.old s) }
         ensures bytes { (p : ℕ) → byte_at self.new p ≡ byte_after place bytes.now (byte_at self.old p) p }
@@ -154,7 +156,7 @@ impl Sectors {
 
     /// Writes bytes from a place on, into sectors that are kept.
     pub(crate) fn overwrite(&mut self, at: u64, bytes: &[u8])
-        requires inside { at + length bytes.now ≤ 512 * self.old.sectors }
+        requires inside { at + length bytes.now ≤ sector_size * self.old.sectors }
         requires kept { AreKept self.old at (length bytes.now) }
         ensures size { self.new.sectors ≡ self.old.sectors }
         ensures kept { (s : ℕ) → is_some (kept_at self.new s) ≡ is_some (kept_at self.old s) }
@@ -174,7 +176,7 @@ impl Sectors {
 
     /// Whether each sector that has one of so many bytes is kept.
     pub(crate) fn covers(&self, at: u64, len: usize) -> bool
-        requires { at + len ≤ 512 * self.now.sectors }
+        requires { at + len ≤ sector_size * self.now.sectors }
         ensures { IsTrue result ↔ AreKept self.now at len }
     {
         // The sectors are whole: the fields say so once they are used.
@@ -193,7 +195,7 @@ impl Sectors {
     /// The sectors that have one of so many bytes and that are not kept.
     #[tactic(auto, using(crate::proofs::Touched::one_piece))]
     fn missing(&self, at: u64, len: usize) -> Result<Vec<u64>, AllocError>
-        requires { at + len ≤ 512 * self.now.sectors }
+        requires { at + len ≤ sector_size * self.now.sectors }
         ensures lists { IfOk result (λ v. ListsMissing self.now at len v.items) }
         ensures sound { IsSound self.now }
     {
@@ -267,7 +269,7 @@ impl Sectors {
 
     /// Keeps each sector that has one of so many bytes.
     fn prepare(&mut self, at: u64, len: usize) -> Result<(), AllocError>
-        requires { at + len ≤ 512 * self.old.sectors }
+        requires { at + len ≤ sector_size * self.old.sectors }
         ensures size { self.new.sectors ≡ self.old.sectors }
         ensures kept { OnOk result ((s : ℕ) → is_some (kept_at self.new s) ≡ (is_some (kept_at self.old s) || has_byte at len s)) }
         ensures bytes { (s : ℕ) → sector_at self.new s ≡ sector_at self.old s }
@@ -282,7 +284,7 @@ impl Sectors {
     /// Writes bytes from a place on. Where memory is refused, nothing changes.
     #[tactic(auto, using(crate::proofs::Touched::touched))]
     pub(crate) fn write(&mut self, at: u64, bytes: &[u8]) -> Result<(), AllocError>
-        requires { at + length bytes.now ≤ 512 * self.old.sectors }
+        requires { at + length bytes.now ≤ sector_size * self.old.sectors }
         ensures size { self.new.sectors ≡ self.old.sectors }
         ensures kept { OnOk result ((s : ℕ) → is_some (kept_at self.new s) ≡ (is_some (kept_at self.old s) || has_byte at (length bytes.now) s)) }
         ensures bytes { OnOk result ((p : ℕ) → byte_at self.new p ≡ byte_after at bytes.now (byte_at self.old p) p) }
