@@ -4,7 +4,7 @@ use Rattle.hex.specs.Hex.{decode_sized}
 use Rattle.hex.specs.declared.error.FromHexError.{FromHexError}
 use Rattle.locking.specs.declared.range.RangeRow.{RangeRow}
 use Rattle.tool.specs.Words.{word, after_words, first_word, after_word}
-use Rattle.tool.specs.Numbers.{number_up_to}
+use Rattle.tool.specs.Numbers.{number_up_to, largest}
 use Rattle.tool.specs.declared.fault.LineFault.{LineFault}
 use Rattle.tool.specs.declared.fault.LineFault.TheVariants.{UnknownWord, Number, Hex, Extra}
 use Rattle.tool.specs.declared.fault.Transfer.{Transfer}
@@ -42,18 +42,18 @@ byte_of word = byte_or_fault (decode_sized word 1)
 -- what the words of a transfer say
 abbrev pub transfer_in : List ℕ → Result Transfer LineFault
 transfer_in text = do
-  client ← number_at 0 4294967295 text
-  tag ← number_at 1 31 text
-  lba ← number_at 2 281474976710655 text
-  count ← number_at 3 65535 text
+  client ← number_at 0 (largest 32) text
+  tag ← number_at 1 (largest 5) text
+  lba ← number_at 2 (largest 48) text
+  count ← number_at 3 (largest 16) text
   Ok (record { client = client; tag = tag; lba = lba; count = count })
 
 -- what the words of a range row say
 abbrev pub range_in : List ℕ → Result RangeRow LineFault
 range_in text = do
-  range ← number_at 0 255 text
-  start ← number_at 1 18446744073709551615 text
-  length ← number_at 2 18446744073709551615 text
+  range ← number_at 0 (largest 8) text
+  start ← number_at 1 (largest 64) text
+  length ← number_at 2 (largest 64) text
   read_enabled ← flag_at 3 text
   write_enabled ← flag_at 4 text
   read_locked ← flag_at 5 text

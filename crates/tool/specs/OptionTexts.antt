@@ -1,15 +1,30 @@
 -- What the options of the command line write.
-use Rattle.std.specs.Prelude.{◌≡◌, ℕ, List, Some, Ok}
+use Rattle.std.specs.Prelude.{◌≡◌, ◌≢◌, ℕ, List, None, Some, Ok}
 use Rattle.hex.specs.Hex.{decode_of}
-use Rattle.sp_cells.specs.Config.{Config}
-use Rattle.tool.specs.Numbers.{number_up_to}
+use Rattle.sp_cells.specs.Config.{Config, IsWithinLimits}
+use Rattle.tool.specs.Numbers.{number_up_to, largest}
+use Rattle.tool.specs.declared.options.OptionsFault.{OptionsFault}
+use Rattle.tool.specs.declared.options.OptionsFault.TheVariants.{Sectors, Shadow, Msid, NoDrive, OutOfMemory}
 
--- the largest number of 64 bits
-abbrev pub most : ℕ
-most = 18446744073709551615
-
--- The texts write the configuration: two decimal numbers, and hex.
+-- The texts write the configuration: two decimal numbers of 64 bits, and hex.
 pub record WritesConfig (sectors shadow msid : List ℕ) (config : Config) : Type 0 where
-  pub sectors_written : number_up_to most sectors ≡ Some config.sectors
-  pub shadow_written : number_up_to most shadow ≡ Some config.mbr_sectors
+  pub sectors_written : number_up_to (largest 64) sectors ≡ Some config.sectors
+  pub shadow_written : number_up_to (largest 64) shadow ≡ Some config.mbr_sectors
   pub msid_written : decode_of msid ≡ Ok config.msid
+
+-- the text is no such number
+abbrev pub IsNoNumber : List ℕ → Type 0
+IsNoNumber text = number_up_to (largest 64) text ≡ None
+
+-- the text is no hex
+abbrev pub IsNoHex : List ℕ → Type 0
+IsNoHex text = (bytes : List ℕ) → decode_of text ≢ Ok bytes
+
+-- The fault is the first one of the texts: each text is looked at in turn, and then what they write.
+abbrev pub IsFirstFault : List ℕ → List ℕ → List ℕ → OptionsFault → Type 0
+IsFirstFault sectors shadow msid Sectors = IsNoNumber sectors
+IsFirstFault sectors shadow msid Shadow = (IsNoNumber sectors → ⊥) × IsNoNumber shadow
+IsFirstFault sectors shadow msid Msid = (IsNoNumber sectors → ⊥) × (IsNoNumber shadow → ⊥) × IsNoHex msid
+IsFirstFault sectors shadow msid NoDrive =
+    (config : Config) × WritesConfig sectors shadow msid config × (IsWithinLimits config.sectors config.mbr_sectors config.msid → ⊥)
+IsFirstFault sectors shadow msid OutOfMemory = (IsNoNumber sectors → ⊥) × (IsNoNumber shadow → ⊥)

@@ -40,12 +40,8 @@ impl Model for Options {
 }
 
 impl Options {
-    ghost use Rattle.std.specs.Prelude.{◌≡◌, ◌↔◌, ℕ, List, None, Ok, Err, IfOk, IsErrOf};
-    ghost use Rattle.sp_cells.specs.Config.{Config, IsWithinLimits};
-    ghost use Rattle.hex.specs.Hex.{decode_of};
-    ghost use Rattle.tool.specs.Numbers.{number_up_to};
-    ghost use Rattle.tool.specs.OptionTexts.{WritesConfig, most};
-    ghost use Rattle.tool.specs.declared.options.OptionsFault.{OptionsFault};
+    ghost use Rattle.std.specs.Prelude.{◌≡◌, IfOk, IfErr};
+    ghost use Rattle.tool.specs.OptionTexts.{WritesConfig, IsFirstFault};
 
     /// Reads the values as they are written on the command line: two decimal numbers, and hex. The
     /// first fault is told: `Sectors`, `Shadow`, `Msid`, `NoDrive`.
@@ -56,10 +52,7 @@ impl Options {
         msid: &[u8],
     ) -> Result<Options, OptionsFault>
         ensures read { IfOk result (λ options. WritesConfig sectors.now shadow.now msid.now options) }
-        ensures sectors { IsErrOf result OptionsFault.Sectors ↔ (number_up_to most sectors.now ≡ None) }
-        ensures shadow { result ≡ Err OptionsFault.Shadow → number_up_to most shadow.now ≡ None }
-        ensures msid { result ≡ Err OptionsFault.Msid → (bytes : List ℕ) → decode_of msid.now ≡ Ok bytes → ⊥ }
-        ensures no_drive { result ≡ Err OptionsFault.NoDrive → (config : Config) → WritesConfig sectors.now shadow.now msid.now config → IsWithinLimits config.sectors config.mbr_sectors config.msid → ⊥ }
+        ensures fault { IfErr result (λ fault. IsFirstFault sectors.now shadow.now msid.now fault) }
     {
         let sectors = number_up_to(u64::MAX, sectors).ok_or(OptionsFault::Sectors)?;
         let shadow = number_up_to(u64::MAX, shadow).ok_or(OptionsFault::Shadow)?;

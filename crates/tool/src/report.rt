@@ -6,6 +6,7 @@ ghost use Rattle.tool.specs.Reports.{sectors_text};
 
 use audit::{AuditLine, line_bytes};
 use std::alloc::{AllocError, Global};
+use trusted_cmds::SECTOR_SIZE;
 
 /// Lines that are printed and not handed on yet, and the last of all.
 #[derive(Drop)]
@@ -83,9 +84,12 @@ impl Report {
 fn append_sectors(line: &mut Vec<u8>, sectors: &[u8]) -> Result<(), AllocError>
     ensures { OnOk result (line.new.items ≡ line.old.items ++ sectors_text sectors.now) }
 {
-    for sector in 0..sectors.len() / 512 {
+    for sector in 0..sectors.len() / SECTOR_SIZE {
         line.push(b' ')?;
-        append_four(line, &sectors[512 * sector..512 * sector + 4])?;
+        append_four(
+            line,
+            &sectors[SECTOR_SIZE * sector..SECTOR_SIZE * sector + 4],
+        )?;
     }
     Ok(())
 }

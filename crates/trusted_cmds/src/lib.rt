@@ -7,7 +7,7 @@ mod payload;
 
 pub use command::{Command, CommandError};
 pub use convert::{is_queued, of_fis, tag_of, to_fis};
-pub use payload::payload_len;
+pub use payload::{SECTOR_SIZE, payload_len};
 
 #[cfg(test)]
 mod tests;

@@ -9,7 +9,7 @@ use crate::convert::sectors;
 use fis::RegH2d;
 
 /// How many bytes a sector has, and a block of a trusted command.
-const SECTOR: usize = 512;
+pub const SECTOR_SIZE: usize = 512;
 
 /// The blocks of a trusted command: their number has its low byte in Count, its high byte in LBA.
 fn blocks(h: &RegH2d) -> u32
@@ -28,9 +28,9 @@ pub fn payload_len(h: &RegH2d) -> usize
     ensures { result ≡ payload_length h.now }
 {
     match h.command {
-        WRITE_DMA => SECTOR * sectors(h.count) as usize,
-        TRUSTED_SEND => SECTOR * blocks(h) as usize,
-        TRUSTED_SEND_DMA => SECTOR * blocks(h) as usize,
+        WRITE_DMA => SECTOR_SIZE * sectors(h.count) as usize,
+        TRUSTED_SEND => SECTOR_SIZE * blocks(h) as usize,
+        TRUSTED_SEND_DMA => SECTOR_SIZE * blocks(h) as usize,
         _ => 0,
     }
 }
