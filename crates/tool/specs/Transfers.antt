@@ -1,5 +1,6 @@
 -- What a queued transfer of a script does to the script's drive, and what it prints.
 use Rattle.std.specs.Prelude.{◌≡◌, ℕ, ◌%◌, ◌^◌, Bool, true, false, if◌then◌else◌, List, [], ◌∷◌, ◌++◌, All, length, unwrap_or, Option, Some, None, Ok}
+use Rattle.std.specs.List.{flat_map}
 use Rattle.std.specs.Str.{bytes_eq}
 use Rattle.fis.specs.H2d.{IsH2dSpelling}
 use Rattle.audit.specs.declared.reason.Why.{Why}
@@ -21,6 +22,7 @@ use Rattle.tool.specs.Reports.{data_text, failure_text, audit_text}
 use Rattle.locking.specs.declared.range.RangeRow.{RangeRow}
 use Rattle.tool.specs.Readings.{expected_text}
 use Rattle.tool.specs.declared.fault.Transfer.{Transfer}
+use Rattle.tool.specs.declared.report.Report.{Report}
 use Rattle.tool.specs.declared.line.Line as told
 use Rattle.tool.specs.declared.line.Line.TheVariants as lines
 use Rattle.tool.specs.declared.session.Fault.TheVariants.{Line, LateRange, RefusedRow}
@@ -48,18 +50,28 @@ StageRuns stages.Lost o acts = ⊥
 abbrev pub RunsOn : Session → Opening → List Act → Type 0
 RunsOn session o acts = StageRuns session.stage o acts × (session.acts ≡ length acts % 2 ^ 64)
 
--- a line that is printed
-abbrev pub printed : List ℕ → List ℕ
-printed line = line ++ 10 ∷ []
+-- lines as they are printed, each with its line feed
+abbrev pub printed : List (List ℕ) → List ℕ
+printed lines = flat_map (λ line. line ++ 10 ∷ []) lines
+
+-- the last of these lines, or the one before them where there are none
+abbrev pub last_of : List ℕ → List (List ℕ) → List ℕ
+last_of before [] = before
+last_of before (line ∷ lines) = last_of line lines
+
+-- these lines are printed behind what was printed before
+pub record Prints (old new : Report) (lines : List (List ℕ)) : Type 0 where
+  pub pending : new.pending.items ≡ old.pending.items ++ printed lines
+  pub last : new.last.items ≡ last_of old.last.items lines
 
 -- the audit line of a denial
-abbrev pub denial_text : ℕ → ℕ → Option Why → List ℕ
-denial_text step client None = []
-denial_text step client (Some why) = printed (audit_text (record { step = step; client = client; why = why }))
+abbrev pub denial_lines : ℕ → ℕ → Option Why → List (List ℕ)
+denial_lines step client None = []
+denial_lines step client (Some why) = audit_text (record { step = step; client = client; why = why }) ∷ []
 
 -- what a command that failed prints
-abbrev pub refusal_text : ℕ → ℕ → ℕ → ℕ → Option Why → List ℕ
-refusal_text step client status error denied = printed (failure_text status error) ++ denial_text step client denied
+abbrev pub refusal_lines : ℕ → ℕ → ℕ → ℕ → Option Why → List (List ℕ)
+refusal_lines step client status error denied = failure_text status error ∷ denial_lines step client denied
 
 -- an acceptance: one act more, and what the definitions answer to it
 abbrev pub Accepts : Session → Opening → List Act → Command → ℕ → Accepted → Type 0
@@ -71,14 +83,13 @@ Accepts new o acts command tag accepted =
 abbrev pub Serves : Session → Session → Opening → List Act → ℕ → ℕ → Type 0
 Serves old new o acts tag byte =
     (payload : List ℕ) × All (λ each. each ≡ byte) payload × (length payload ≡ expected (held (log o acts) tag)) × RunsOn new o (Complete tag payload ∷ acts)
-    × (new.report.pending.items ≡ old.report.pending.items ++ printed (data_text (data_of (sector (log o acts)) (held (log o acts) tag))))
+    × Prints old.report new.report (data_text (data_of (sector (log o acts)) (held (log o acts) tag)) ∷ [])
 
 -- a command that failed: nothing more is done, and its failure is printed with what denied it, under the number of the act
 abbrev pub Fails : Session → Session → Opening → List Act → ℕ → Event → Type 0
 Fails old new o acts client made =
     RunsOn new o acts
-    × (new.report.pending.items ≡ old.report.pending.items
-    ++ refusal_text (length acts % 2 ^ 64) client (status_of made.failed) (unwrap_or made.failed 0) made.denied)
+    × Prints old.report new.report (refusal_lines (length acts % 2 ^ 64) client (status_of made.failed) (unwrap_or made.failed 0) made.denied)
 
 -- what follows the acceptance
 abbrev pub Follows : Bool → Session → Session → Opening → List Act → Transfer → ℕ → Event → Type 0

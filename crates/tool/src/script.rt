@@ -68,6 +68,9 @@ fn without_end(line: &[u8]) -> &[u8]
 fn hand_on<W: Write>(session: &mut Session, output: &mut W) -> Result<(), RunError>
     ensures written { OnOk result (Appends (W.contents output.old) (W.contents output.new) session.old.report.pending.items) }
     ensures cleared { OnOk result (session.new.report.pending.items ≡ []) }
+    ensures last { session.new.report.last ≡ session.old.report.last }
+    ensures stage { session.new.stage ≡ session.old.stage }
+    ensures acts { session.new.acts ≡ session.old.acts }
 {
     if session.report.pending.is_empty() {
         return Ok(());

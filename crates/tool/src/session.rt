@@ -1,10 +1,6 @@
 //! A drive, and what the lines of a script do with it.
 
 ghost use Rattle.std.specs.Prelude.{◌≡◌, All, OnOk, length};
-ghost use Rattle.trusted_cmds.specs.Commands.{sectors};
-ghost use Rattle.tool.specs.Transfers.{read_of, write_of};
-ghost use Rattle.std.specs.Prelude.{◌≡◌, All, OnOk, length};
-ghost use Rattle.trusted_cmds.specs.Commands.{sectors};
 ghost use Rattle.tool.specs.Transfers.{read_of, write_of};
 
 use crate::fault::{LineFault, Transfer};
@@ -19,7 +15,7 @@ use sp_cells::{DriveConfig, SetError};
 use sp_tables::Tables;
 use std::alloc::{AllocError, Global};
 use thiserror::Error;
-use trusted_cmds::{Command, to_fis};
+use trusted_cmds::{Command, sectors, to_fis};
 
 /// What ends a script with status 2.
 #[derive(Clone, Copy, Debug, PartialEq, Eq, Error)]
@@ -85,16 +81,6 @@ pub struct Session {
     pub report: Report,
 }
 
-/// The count of sectors that a count field writes.
-fn sectors(count: u16) -> u32
-    ensures { result ≡ sectors count }
-{
-    match count {
-        0 => 65_536,
-        count => u32::from(count),
-    }
-}
-
 /// The queued read that a line asks for.
 fn read_of(transfer: &Transfer) -> Command
     ensures { result ≡ read_of transfer.now }
@@ -129,10 +115,10 @@ impl Session {
     ghost use Rattle.std.specs.Prelude.{◌≡◌, ◌<◌, ◌≤◌, ◌^◌, ◌++◌, [], List, IfOk, OnOk, Ok, Err};
     ghost use Rattle.tool.specs.Readings.{line_of};
     ghost use Rattle.tool.specs.Scripts.{GoesOn, Says};
-    ghost use Rattle.trusted_cmds.specs.Commands.{lba_of, count_of};
+    ghost use Rattle.trusted_cmds.specs.Commands.{lba_of, count_of, most_sectors};
     ghost use Rattle.drive.specs.Opening.{Opening, opened};
     ghost use Rattle.drive.specs.History.{Act};
-    ghost use Rattle.tool.specs.Transfers.{RunsOn, Accepts, Serves, Transfers, Does, AddsRow, refusal_text};
+    ghost use Rattle.tool.specs.Transfers.{RunsOn, Accepts, Serves, Transfers, Does, AddsRow, Prints, refusal_lines};
     ghost use Rattle.tool.specs.declared.line.Line.{Line};
     ghost use Rattle.tool.specs.declared.session.Fault.{Fault};
     ghost use Rattle.tool.specs.declared.session.Turn.{Turn};
@@ -140,7 +126,8 @@ impl Session {
 
     pub fn new(alloc: Global, options: &Options) -> Result<Session, AllocError>
         ensures runs { IfOk result (λ session. (o : Opening) → opened options.now [] ≡ Ok o → RunsOn session o []) }
-        ensures report { IfOk result (λ session. session.report.pending.items ≡ []) }
+        ensures pending { IfOk result (λ session. session.report.pending.items ≡ []) }
+        ensures last { IfOk result (λ session. session.report.last.items ≡ []) }
     {
         let config = options.config();
         let tables = Tables::factory(alloc, &config)?;
@@ -227,7 +214,7 @@ impl Session {
 
     /// Prints that a command failed, and what denied it.
     fn print_refusal(&mut self, client: u32, accepted: Accepted) -> Result<(), AllocError>
-        ensures text { OnOk result (self.new.report.pending.items ≡ self.old.report.pending.items ++ refusal_text self.old.acts client accepted.status accepted.error accepted.denied) }
+        ensures text { OnOk result (Prints self.old.report self.new.report (refusal_lines self.old.acts client accepted.status accepted.error accepted.denied)) }
         ensures stage { self.new.stage ≡ self.old.stage }
         ensures acts { self.new.acts ≡ self.old.acts }
     {
@@ -266,7 +253,7 @@ impl Session {
     fn accept(&mut self, command: &Command, tag: Tag) -> Result<Accepted, AllocError>
         requires address { lba_of command.now < 2 ^ 48 }
         requires some { 0 < count_of command.now }
-        requires count { count_of command.now ≤ 65536 }
+        requires count { count_of command.now ≤ most_sectors }
         ensures answer { IfOk result (λ accepted. (o : Opening) (acts : List Act) → RunsOn self.old o acts → Accepts self.new o acts command.now tag accepted) }
         ensures report { self.new.report ≡ self.old.report }
     {
@@ -289,7 +276,7 @@ impl Session {
     ) -> Result<(), AllocError>
         requires address { lba_of command.now < 2 ^ 48 }
         requires some { 0 < count_of command.now }
-        requires count { count_of command.now ≤ 65536 }
+        requires count { count_of command.now ≤ most_sectors }
         ensures { OnOk result ((o : Opening) (acts : List Act) → RunsOn self.old o acts → Transfers self.old self.new o acts command.now transfer.now byte) }
     {
         self.open_drive()?;

@@ -9,8 +9,8 @@ use fis::{Lba, PortNumber, RegH2d, Tag};
 /// The field Device of a command that wants its bit 6 set.
 const LBA_DEVICE: u8 = 0x40;
 
-/// How many sectors a count field stands for.
-pub(crate) fn sectors(field: u16) -> u32
+/// How many sectors a count field stands for: 65,536 for 0.
+pub fn sectors(field: u16) -> u32
     ensures value { result ≡ sectors field }
     ensures some { 0 < result }
     ensures most { result ≤ most_sectors }
