@@ -1,5 +1,5 @@
 -- Frames as they are read: TCG Core 2.01, 3.2.3, "ComPackets, Packets and Subpackets".
-use Rattle.std.specs.Prelude.{◌≡◌, ℕ, ◌+◌, ◌*◌, ◌/◌, ◌<◌, ◌≤◌, ◌==◌, nat_lt, not, List, length, take, drop, Option, Some, None, Result, Ok, Err, if◌then◌else◌}
+use Rattle.std.specs.Prelude.{◌≡◌, ℕ, ◌+◌, ◌-◌, ◌*◌, ◌/◌, ◌<◌, ◌≤◌, ◌==◌, nat_lt, not, List, length, take, drop, Option, Some, None, Result, Ok, Err, if◌then◌else◌}
 use Rattle.byteorder.specs.Endian.{big_number}
 use Rattle.compacket.specs.declared.session.Session.{Session}
 use Rattle.compacket.specs.declared.error.FrameError.{FrameError}
@@ -16,9 +16,29 @@ pub record Frame : Type 0 where
 abbrev pub number_at : ℕ → List ℕ → ℕ → ℕ
 number_at size bytes place = big_number size (drop place bytes)
 
--- A subpacket's data are padded to a multiple of four bytes; its Length leaves the padding out.
+-- how many bytes the header of a ComPacket has, that of a packet, that of a subpacket, and all three
+abbrev pub com_packet_header_size : ℕ
+com_packet_header_size = 20
+
+abbrev pub packet_header_size : ℕ
+packet_header_size = 24
+
+abbrev pub subpacket_header_size : ℕ
+subpacket_header_size = 12
+
+abbrev pub headers_size : ℕ
+headers_size = com_packet_header_size + packet_header_size + subpacket_header_size
+
+-- the Kind of a data subpacket
+abbrev pub data_kind : ℕ
+data_kind = 0
+
+-- A subpacket's data are padded to a multiple of this; its Length leaves the padding out.
+abbrev pub padding_unit : ℕ
+padding_unit = 4
+
 abbrev pub padded : ℕ → ℕ
-padded n = (n + 3) / 4 * 4
+padded n = (n + (padding_unit - 1)) / padding_unit * padding_unit
 
 -- The fields of a ComPacket header: reserved 4, ComID 2, ComID extension 2, OutstandingData 4,
 -- MinTransfer 4, Length 4. Of a packet header: TSN 4, HSN 4, SeqNumber 4, reserved 2, AckType 2,
@@ -44,23 +64,23 @@ subpacket_length subpacket = number_at 4 subpacket 8
 -- The bytes begin with a ComPacket for this ComID, with this content. What stands behind it, and
 -- the fields that are not named, may have any value.
 pub record IsComPacket (bytes : List ℕ) (com_id : ℕ) (content : List ℕ) : Type 0 where
-  pub is_whole : 20 + com_packet_length bytes ≤ length bytes
-  pub is_small : 20 + com_packet_length bytes ≤ MAX_COM_PACKET
+  pub is_whole : com_packet_header_size + com_packet_length bytes ≤ length bytes
+  pub is_small : com_packet_header_size + com_packet_length bytes ≤ MAX_COM_PACKET
   pub names : com_id_of bytes ≡ com_id
-  pub carries : take (com_packet_length bytes) (drop 20 bytes) ≡ content
+  pub carries : take (com_packet_length bytes) (drop com_packet_header_size bytes) ≡ content
 
 -- The bytes are one packet of this session, with this content.
 pub record IsPacket (bytes : List ℕ) (session : Session) (content : List ℕ) : Type 0 where
-  pub is_whole : 24 + packet_length bytes ≡ length bytes
+  pub is_whole : packet_header_size + packet_length bytes ≡ length bytes
   pub names : session_of bytes ≡ session
-  pub carries : drop 24 bytes ≡ content
+  pub carries : drop packet_header_size bytes ≡ content
 
--- The bytes are one data subpacket (Kind 0) with this payload, of one byte at least.
+-- The bytes are one data subpacket with this payload, of one byte at least.
 pub record IsDataSubpacket (bytes payload : List ℕ) : Type 0 where
-  pub is_whole : 12 + padded (subpacket_length bytes) ≡ length bytes
-  pub is_data : subpacket_kind bytes ≡ 0
+  pub is_whole : subpacket_header_size + padded (subpacket_length bytes) ≡ length bytes
+  pub is_data : subpacket_kind bytes ≡ data_kind
   pub is_some : 0 < subpacket_length bytes
-  pub carries : take (subpacket_length bytes) (drop 12 bytes) ≡ payload
+  pub carries : take (subpacket_length bytes) (drop subpacket_header_size bytes) ≡ payload
 
 -- The bytes begin with a frame: a ComPacket that carries one packet that carries one data
 -- subpacket that carries the payload.
@@ -73,38 +93,38 @@ pub record IsFrame (bytes : List ℕ) (frame : Frame) : Type 0 where
 
 -- What each carries, by the Length in its header.
 abbrev pub com_packet_content : List ℕ → List ℕ
-com_packet_content bytes = take (com_packet_length bytes) (drop 20 bytes)
+com_packet_content bytes = take (com_packet_length bytes) (drop com_packet_header_size bytes)
 
 abbrev pub packet_content : List ℕ → List ℕ
-packet_content bytes = drop 24 bytes
+packet_content bytes = drop packet_header_size bytes
 
 abbrev pub subpacket_content : List ℕ → List ℕ
-subpacket_content bytes = take (subpacket_length bytes) (drop 12 bytes)
+subpacket_content bytes = take (subpacket_length bytes) (drop subpacket_header_size bytes)
 
 -- The order of the checks. Each sum is one of natural numbers, so none wraps.
 abbrev pub com_packet_fault : List ℕ → Option FrameError
 com_packet_fault bytes =
-    if nat_lt (length bytes) 20 then Some errors.Short
-    else (if nat_lt (length bytes) (20 + com_packet_length bytes) then Some errors.Short
+    if nat_lt (length bytes) com_packet_header_size then Some errors.Short
+    else (if nat_lt (length bytes) (com_packet_header_size + com_packet_length bytes) then Some errors.Short
     else (if com_packet_length bytes == 0 then Some errors.Empty
-    else (if nat_lt (com_packet_length bytes) 24 then Some errors.Length
-    else (if nat_lt MAX_COM_PACKET (20 + com_packet_length bytes) then Some errors.Length
+    else (if nat_lt (com_packet_length bytes) packet_header_size then Some errors.Length
+    else (if nat_lt MAX_COM_PACKET (com_packet_header_size + com_packet_length bytes) then Some errors.Length
     else None))))
 
 abbrev pub packet_fault : List ℕ → Option FrameError
 packet_fault bytes =
-    if nat_lt (length bytes) (24 + packet_length bytes) then Some errors.Length
-    else (if nat_lt (24 + packet_length bytes) (length bytes) then Some errors.Many
+    if nat_lt (length bytes) (packet_header_size + packet_length bytes) then Some errors.Length
+    else (if nat_lt (packet_header_size + packet_length bytes) (length bytes) then Some errors.Many
     else (if packet_length bytes == 0 then Some errors.Empty
-    else (if nat_lt (packet_length bytes) 12 then Some errors.Length
+    else (if nat_lt (packet_length bytes) subpacket_header_size then Some errors.Length
     else None)))
 
 abbrev pub subpacket_fault : List ℕ → Option FrameError
 subpacket_fault bytes =
-    if not (subpacket_kind bytes == 0) then Some errors.Kind
+    if not (subpacket_kind bytes == data_kind) then Some errors.Kind
     else (if subpacket_length bytes == 0 then Some errors.Empty
-    else (if nat_lt (length bytes) (12 + padded (subpacket_length bytes)) then Some errors.Length
-    else (if nat_lt (12 + padded (subpacket_length bytes)) (length bytes) then Some errors.Many
+    else (if nat_lt (length bytes) (subpacket_header_size + padded (subpacket_length bytes)) then Some errors.Length
+    else (if nat_lt (subpacket_header_size + padded (subpacket_length bytes)) (length bytes) then Some errors.Many
     else None)))
 
 -- The first fault, if there is one.

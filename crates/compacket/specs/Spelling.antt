@@ -2,7 +2,7 @@
 use Rattle.std.specs.Prelude.{ℕ, ◌+◌, ◌-◌, List, ◌++◌, length, replicate}
 use Rattle.byteorder.specs.Endian.{big_bytes}
 use Rattle.compacket.specs.declared.session.Session.{Session}
-use Rattle.compacket.specs.Frames.{padded}
+use Rattle.compacket.specs.Frames.{packet_header_size, subpacket_header_size, headers_size, data_kind, padded}
 
 -- Reserved, ComID, ComID extension, OutstandingData, MinTransfer, Length.
 abbrev pub com_packet_header : ℕ → ℕ → ℕ → ℕ → List ℕ
@@ -18,19 +18,19 @@ packet_header session len =
 
 -- Reserved, Kind, Length.
 abbrev pub subpacket_header : ℕ → List ℕ
-subpacket_header len = big_bytes 6 0 ++ big_bytes 2 0 ++ big_bytes 4 len
+subpacket_header len = big_bytes 6 0 ++ big_bytes 2 data_kind ++ big_bytes 4 len
 
--- Zeros up to a multiple of four bytes.
+-- Zeros up to a multiple of the unit.
 abbrev pub padding : ℕ → List ℕ
 padding n = replicate (padded n - n) 0
 
 -- How many bytes the frame of a payload of n bytes has.
 abbrev pub frame_length : ℕ → ℕ
-frame_length n = 20 + 24 + 12 + padded n
+frame_length n = headers_size + padded n
 
 -- The frame of a payload.
 abbrev pub frame_bytes : ℕ → Session → List ℕ → List ℕ
 frame_bytes com_id session payload =
-    com_packet_header com_id 0 0 (24 + 12 + padded (length payload))
-    ++ packet_header session (12 + padded (length payload))
+    com_packet_header com_id 0 0 (packet_header_size + subpacket_header_size + padded (length payload))
+    ++ packet_header session (subpacket_header_size + padded (length payload))
     ++ subpacket_header (length payload) ++ payload ++ padding (length payload)

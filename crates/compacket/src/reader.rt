@@ -1,8 +1,10 @@
-ghost use Rattle.std.specs.Prelude.{◌≡◌, ◌+◌, ◌<◌, ◌≤◌, IfOk, IsOkAnd, MatchResult, Ok, Err, Some, None, length, drop, slice_range};
-ghost use Rattle.compacket.specs.Frames.{Frame, IsComPacket, IsPacket, IsDataSubpacket, IsFrame, reading, fault_of, com_packet_fault, com_packet_content, packet_fault, packet_content, subpacket_fault, subpacket_content, com_id_of, session_of, number_at, padded};
+ghost use Rattle.std.specs.Prelude.{◌≡◌, ◌+◌, ◌^◌, ◌<◌, ◌≤◌, IfOk, IsOkAnd, MatchResult, Ok, Err, Some, None, length, drop, slice_range};
+ghost use Rattle.compacket.specs.Frames.{Frame, IsComPacket, IsPacket, IsDataSubpacket, IsFrame, reading, fault_of, com_packet_fault, com_packet_content, packet_fault, packet_content, subpacket_fault, subpacket_content, com_id_of, session_of, number_at, com_packet_header_size, packet_header_size, subpacket_header_size, headers_size};
 
 use crate::error::FrameError;
-use crate::headers::MAX_COM_PACKET;
+use crate::headers::{
+    COM_PACKET_HEADER, DATA_KIND, MAX_COM_PACKET, PACKET_HEADER, SUBPACKET_HEADER,
+};
 use crate::padding::padded;
 use crate::session::{ComId, Opened, Session};
 use byteorder::{BigEndian, ByteOrder};
@@ -10,7 +12,7 @@ use byteorder::{BigEndian, ByteOrder};
 fn length_at(bytes: &[u8], place: usize) -> usize
     requires { place + 4 ≤ length bytes.now }
     ensures value { result ≡ number_at 4 bytes.now place }
-    ensures fits { result < 4294967296 }
+    ensures fits { result < 2 ^ 32 }
 {
     BigEndian::read_u32(&bytes[place..]) as usize
 }
@@ -19,76 +21,76 @@ fn length_at(bytes: &[u8], place: usize) -> usize
 fn com_packet(bytes: &[u8]) -> Result<&[u8], FrameError>
     ensures found { IfOk result (λ content. IsComPacket bytes.now (com_id_of bytes.now) content.now) }
     ensures exact { MatchResult result (λ content. (com_packet_fault bytes.now ≡ None) × (content.now ≡ com_packet_content bytes.now)) (λ e. com_packet_fault bytes.now ≡ Some e) }
-    ensures room { IfOk result (λ content. (20 ≤ length bytes.now) × (24 ≤ length content.now)) }
+    ensures room { IfOk result (λ content. (com_packet_header_size ≤ length bytes.now) × (packet_header_size ≤ length content.now)) }
 {
-    if bytes.len() < 20 {
+    if bytes.len() < COM_PACKET_HEADER {
         return Err(FrameError::Short);
     }
     let len = length_at(bytes, 16);
-    if bytes.len() < 20 + len {
+    if bytes.len() < COM_PACKET_HEADER + len {
         return Err(FrameError::Short);
     }
     if len == 0 {
         return Err(FrameError::Empty);
     }
-    if len < 24 {
+    if len < PACKET_HEADER {
         return Err(FrameError::Length);
     }
-    if 20 + len > MAX_COM_PACKET {
+    if COM_PACKET_HEADER + len > MAX_COM_PACKET {
         return Err(FrameError::Length);
     }
-    Ok(&bytes[20..20 + len])
+    Ok(&bytes[COM_PACKET_HEADER..COM_PACKET_HEADER + len])
 }
 
 /// What the one packet of a ComPacket carries.
 fn packet(bytes: &[u8]) -> Result<&[u8], FrameError>
-    requires { 24 ≤ length bytes.now }
+    requires { packet_header_size ≤ length bytes.now }
     ensures found { IfOk result (λ content. IsPacket bytes.now (session_of bytes.now) content.now) }
     ensures exact { MatchResult result (λ content. (packet_fault bytes.now ≡ None) × (content.now ≡ packet_content bytes.now)) (λ e. packet_fault bytes.now ≡ Some e) }
-    ensures room { IfOk result (λ content. 12 ≤ length content.now) }
+    ensures room { IfOk result (λ content. subpacket_header_size ≤ length content.now) }
 {
     let len = length_at(bytes, 20);
-    if 24 + len > bytes.len() {
+    if PACKET_HEADER + len > bytes.len() {
         return Err(FrameError::Length);
     }
-    if 24 + len < bytes.len() {
+    if PACKET_HEADER + len < bytes.len() {
         return Err(FrameError::Many);
     }
     if len == 0 {
         return Err(FrameError::Empty);
     }
-    if len < 12 {
+    if len < SUBPACKET_HEADER {
         return Err(FrameError::Length);
     }
-    Ok(&bytes[24..])
+    Ok(&bytes[PACKET_HEADER..])
 }
 
 /// The data of the one subpacket of a packet.
 fn subpacket(bytes: &[u8]) -> Result<&[u8], FrameError>
-    requires { 12 ≤ length bytes.now }
+    requires { subpacket_header_size ≤ length bytes.now }
     ensures found { IfOk result (λ payload. IsDataSubpacket bytes.now payload.now) }
     ensures exact { MatchResult result (λ content. (subpacket_fault bytes.now ≡ None) × (content.now ≡ subpacket_content bytes.now)) (λ e. subpacket_fault bytes.now ≡ Some e) }
 {
-    if BigEndian::read_u16(&bytes[6..]) != 0 {
+    if BigEndian::read_u16(&bytes[6..]) != DATA_KIND {
         return Err(FrameError::Kind);
     }
     let len = length_at(bytes, 8);
     if len == 0 {
         return Err(FrameError::Empty);
     }
-    let end = 12 + padded(len);
+    let end = SUBPACKET_HEADER + padded(len);
     if end > bytes.len() {
         return Err(FrameError::Length);
     }
     if end < bytes.len() {
         return Err(FrameError::Many);
     }
-    Ok(&bytes[12..12 + len])
+    Ok(&bytes[SUBPACKET_HEADER..SUBPACKET_HEADER + len])
 }
 
 /// The session that a packet names.
 fn session_of(packet: &[u8]) -> Session
-    requires { 24 ≤ length packet.now }
+    requires { packet_header_size ≤ length packet.now }
     ensures { result ≡ session_of packet.now }
 {
     Session {
@@ -99,7 +101,7 @@ fn session_of(packet: &[u8]) -> Session
 
 /// The ComID of a ComPacket.
 fn com_id_of(com_packet: &[u8]) -> ComId
-    requires { 20 ≤ length com_packet.now }
+    requires { com_packet_header_size ≤ length com_packet.now }
     ensures { result ≡ com_id_of com_packet.now }
 {
     BigEndian::read_u16(&com_packet[4..])
@@ -123,7 +125,7 @@ pub fn open(bytes: &[u8]) -> Result<Opened<'_>, FrameError>
     ensures fault { MatchResult result (λ _. fault_of bytes.now ≡ None) (λ e. fault_of bytes.now ≡ Some e) }
 
     // The payload is the part of the bytes behind the three headers.
-    ensures place { IfOk result (λ o. o.payload.now ≡ slice_range bytes.now 56 (56 + length o.payload.now)) }
+    ensures place { IfOk result (λ o. o.payload.now ≡ slice_range bytes.now headers_size (headers_size + length o.payload.now)) }
 
     // The same as one function of the bytes, for the crates above.
     ensures exact { MatchResult result (λ o. reading bytes.now ≡ Ok (record { com_id = o.com_id; session = o.session; payload = o.payload.now })) (λ e. reading bytes.now ≡ Err e) }

@@ -2,20 +2,23 @@ ghost use Rattle.std.specs.Prelude.{ℕ, List, Ok, ◌≡◌, ◌+◌, ◌-◌, 
 ghost use Rattle.compacket.specs.Frames.{IsFrame, reading};
 ghost use Rattle.compacket.specs.Spelling.{frame_bytes, frame_length, padding};
 
-use crate::headers::{MAX_COM_PACKET, com_packet_header, packet_header, subpacket_header};
+use crate::headers::{
+    HEADERS, MAX_COM_PACKET, PACKET_HEADER, SUBPACKET_HEADER, com_packet_header, packet_header,
+    subpacket_header,
+};
 use crate::padding::{padded, padding};
 use crate::session::{ComId, Session};
 use std::alloc::{AllocError, Global};
 
 /// The most bytes that a frame can carry: those of a ComPacket less its three headers.
-pub const MAX_PAYLOAD: usize = MAX_COM_PACKET - 56;
+pub const MAX_PAYLOAD: usize = MAX_COM_PACKET - HEADERS;
 
 /// How many bytes the frame of so many has.
 pub fn frame_len(payload: usize) -> usize
     requires { payload ≤ MAX_PAYLOAD }
     ensures { result ≡ frame_length payload }
 {
-    56 + padded(payload)
+    HEADERS + padded(payload)
 }
 
 /// Adds bytes for which there is room.
@@ -43,8 +46,12 @@ pub fn frame_into(com_id: ComId, session: Session, payload: &[u8], out: &mut Vec
 {
     let len = payload.len();
     let whole = padded(len);
-    append(out, &com_packet_header(com_id, 0, 0, (36 + whole) as u32));
-    append(out, &packet_header(session, (12 + whole) as u32));
+    let content = PACKET_HEADER + SUBPACKET_HEADER + whole;
+    append(out, &com_packet_header(com_id, 0, 0, content as u32));
+    append(
+        out,
+        &packet_header(session, (SUBPACKET_HEADER + whole) as u32),
+    );
     append(out, &subpacket_header(len as u32));
     append(out, payload);
     append(out, padding(len));

@@ -9,7 +9,7 @@ use Rattle.byteorder.specs.Endian.{little_bytes}
 use Rattle.byteorder.specs.Numbers.{little_number-reads_back}
 use Rattle.slots.specs.Layout.{memory_size, buffer_size, table_place, buffer_place, part, laid, zeros}
 use Rattle.slots.specs.Header.{header_bytes, entries_for, fis_words, is_write, entries, table_at, has_table}
-use Rattle.slots.specs.Table.{entry_bytes, table_bytes, is_command, is_sound, address, count, entry_at}
+use Rattle.slots.specs.Table.{entry_bytes, table_bytes, is_command, is_sound, address, count, entry_at, descriptors}
 use Rattle.slots.specs.Fetch.{Holds, fetched, transfer, command_fis}
 use Rattle.slots.proofs.Splices.{inside, before, length_laid, part_of_part}
 
@@ -74,12 +74,12 @@ fis_read memory tag command write len size is holds =
     let here : part memory (table_place tag) 20 ≡ command = sym (rw at at found) ∙ front in
     rw (here, is) refl
 
-one_entry : (memory : List ℕ) (table a len : ℕ) → entry_at memory table 0 ≡ entry_bytes a len → a % 2 ≡ 0 → len % 2 ≡ 0 → 0 < len → len ≤ 131072 → a + len ≤ memory_size → transfer memory table 1 ≡ Some len
+one_entry : (memory : List ℕ) (table a len : ℕ) → entry_at memory table 0 ≡ entry_bytes a len → a % 2 ≡ 0 → len % 2 ≡ 0 → 0 < len → len ≤ 131072 → a + len ≤ memory_size → transfer (descriptors memory table 1) ≡ Some len
 one_entry memory table a len here even pairs some fits within =
     let sum : 0 + len ≡ len = omega arith in
     rw (here, entry_sound a len even pairs some fits within, count_read a len some fits, sum, le-leb len buffer_size fits) refl
 
-transfer_read : (memory : List ℕ) (tag : ℕ) (command : List ℕ) (write : Bool) (len : ℕ) → tag < 32 → length command ≡ 20 → len % 2 ≡ 0 → len ≤ 131072 → Holds memory tag command write len → transfer memory (table_place tag) (entries_for len) ≡ Some len
+transfer_read : (memory : List ℕ) (tag : ℕ) (command : List ℕ) (write : Bool) (len : ℕ) → tag < 32 → length command ≡ 20 → len % 2 ≡ 0 → len ≤ 131072 → Holds memory tag command write len → transfer (descriptors memory (table_place tag) (entries_for len)) ≡ Some len
 transfer_read memory tag command write len below size pairs fits holds =
     ⊎_elim
     (λ e. rw (e.0, e.1) refl)

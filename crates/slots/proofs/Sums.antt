@@ -1,20 +1,25 @@
 -- The descriptors of a table, one after the other.
-use Rattle.std.proofs.Common.{◌≡◌, ℕ, zero, suc, ◌+◌, ◌<◌, true, false, List, refl, arith}
-use Rattle.std.proofs.Common.{⊎_elim}
-use Rattle.std.proofs.lemmas.Bool.{cases_lt}
-use Rattle.std.proofs.Math.Bool.{and-false}
-use Rattle.std.proofs.Math.Numerals.{add-one}
-use Rattle.slots.specs.Table.{is_sound, count, entry_at, are_sound, bytes_of}
+use Rattle.std.proofs.Common.{◌≡◌, ℕ, ◌+◌, ◌<◌, true, false, List, [], ◌∷◌, ◌++◌, refl, sym, ap, ◌∙◌, arith}
+use Rattle.std.specs.List.{list_all}
+use Rattle.std.proofs.lemmas.List.Folds.{list_all-append, list_all_at}
+use Rattle.std.proofs.lemmas.List.FromFn.{map-range_with_len_more, length-map-range_with_len, get_or-map-range_with_len, sum_by-map-range_with_len_more}
+use Rattle.std.proofs.lemmas.List.Sums.{sum-map}
+use Rattle.slots.specs.Table.{is_sound, count, entry_at, descriptors, bytes_of}
 
-pub one_more_sound : (memory : List ℕ) (table k : ℕ) → are_sound memory table k ≡ true → is_sound (entry_at memory table k) ≡ true → are_sound memory table (k + 1) ≡ true
-one_more_sound memory table k before here = rw (add-one k, before, here) refl
+one_more : (memory : List ℕ) (table k : ℕ) → descriptors memory table (k + 1) ≡ descriptors memory table k ++ entry_at memory table k ∷ []
+one_more memory table k = map-range_with_len_more (entry_at memory table) 0 k k (omega arith)
 
-pub one_more_sum : (memory : List ℕ) (table k : ℕ) → bytes_of memory table (k + 1) ≡ bytes_of memory table k + count (entry_at memory table k)
-one_more_sum memory table k = rw (add-one k) refl
+pub one_more_sound : (memory : List ℕ) (table k : ℕ) → list_all is_sound (descriptors memory table k) ≡ true → is_sound (entry_at memory table k) ≡ true → list_all is_sound (descriptors memory table (k + 1)) ≡ true
+one_more_sound memory table k before here =
+    ap (list_all is_sound) (one_more memory table k) ∙ list_all-append is_sound (descriptors memory table k) (entry_at memory table k ∷ []) ∙ rw (before, here) refl
 
-pub unsound : (memory : List ℕ) (table k n : ℕ) → k < n → is_sound (entry_at memory table k) ≡ false → are_sound memory table n ≡ false
-unsound memory table k zero below bad = absurd (omega arith)
-unsound memory table k (suc n) below bad = ⊎_elim
-    (λ under. rw (unsound memory table k n under bad) refl)
-    (λ over. let here : n ≡ k = omega arith in rw (here, bad) (and-false (are_sound memory table k)))
-    (cases_lt k n)
+pub one_more_sum : (memory : List ℕ) (table k : ℕ) → bytes_of (descriptors memory table (k + 1)) ≡ bytes_of (descriptors memory table k) + count (entry_at memory table k)
+one_more_sum memory table k =
+    sum-map count (descriptors memory table (k + 1))
+    ∙ sum_by-map-range_with_len_more count (entry_at memory table) 0 k k (omega arith)
+    ∙ ap (λ (s : ℕ). s + count (entry_at memory table k)) (sym (sum-map count (descriptors memory table k)))
+
+pub unsound : (memory : List ℕ) (table k n : ℕ) → k < n → is_sound (entry_at memory table k) ≡ false → list_all is_sound (descriptors memory table n) ≡ false
+unsound memory table k n below bad =
+    list_all_at is_sound (descriptors memory table n) k [] (omega (arith, length-map-range_with_len (entry_at memory table) 0 n))
+    (ap is_sound (get_or-map-range_with_len (entry_at memory table) 0 n k k [] below (omega arith)) ∙ bad)

@@ -1,12 +1,13 @@
 -- The command in a slot (AHCI 1.3.1, 5.5.1), over any bytes.
 use Rattle.std.specs.Prelude.{◌≡◌, ◌≤◌, ◌⊎◌, ℕ, ◌+◌, ◌==◌, ◌&&◌, nat_le, not, Bool, List, Option, Some, None, Result, Ok, Err, if◌then◌else◌}
+use Rattle.std.specs.List.{list_all}
 use Rattle.fis.specs.Types.{h2d_length}
 use Rattle.slots.specs.declared.error.FetchError.{FetchError}
 use Rattle.slots.specs.declared.error.FetchError.TheVariants.{BadLength, BadAddress, BadPrdt, BadFis}
 use Rattle.slots.specs.declared.fetched.Fetched.{Fetched}
 use Rattle.slots.specs.Layout.{header_size, table_size, buffer_size, laid, part, header_place, table_place, buffer_place}
 use Rattle.slots.specs.Header.{command_words, header_bytes, entries_for, fis_words, is_write, entries, table_at, has_table}
-use Rattle.slots.specs.Table.{table_bytes, is_command, are_sound, bytes_of}
+use Rattle.slots.specs.Table.{table_bytes, is_command, is_sound, descriptors, bytes_of}
 
 -- The memory with a command in a slot.
 abbrev pub placed : List ℕ → ℕ → List ℕ → Bool → ℕ → List ℕ
@@ -14,10 +15,9 @@ placed memory tag command write len =
     laid (laid memory (header_place tag) (header_bytes write (entries_for len) (table_place tag)))
     (table_place tag) (table_bytes (buffer_place tag) command len)
 
--- How many bytes the descriptors of a table name: a slot moves no more than a buffer has.
-abbrev pub transfer : List ℕ → ℕ → ℕ → Option ℕ
-transfer memory table n =
-    if are_sound memory table n && nat_le (bytes_of memory table n) buffer_size then Some (bytes_of memory table n) else None
+-- How many bytes descriptors name, where each is sound: a slot moves no more than a buffer has.
+abbrev pub transfer : List (List ℕ) → Option ℕ
+transfer regions = if list_all is_sound regions && nat_le (bytes_of regions) buffer_size then Some (bytes_of regions) else None
 
 -- The FIS in a table.
 abbrev pub command_fis : List ℕ → ℕ → Option (List ℕ)
@@ -36,7 +36,7 @@ abbrev pub header_fetched : List ℕ → List ℕ → Result Fetched FetchError
 header_fetched memory header =
     if not (fis_words header == command_words) then Err BadLength
     else (if not (has_table header) then Err BadAddress
-    else table_fetched (transfer memory (table_at header) (entries header)) (command_fis memory (table_at header)) (is_write header))
+    else table_fetched (transfer (descriptors memory (table_at header) (entries header))) (command_fis memory (table_at header)) (is_write header))
 
 -- What a slot holds.
 abbrev pub fetched : List ℕ → ℕ → Result Fetched FetchError

@@ -17,11 +17,15 @@ command_words = h2d_length / 4
 abbrev pub table_alignment : ℕ
 table_alignment = 128
 
+-- W, a bit of the header's first byte
+abbrev pub write_bit : ℕ
+write_bit = 64
+
 -- The writing: the words of a command FIS, W where the data go to the device, so many entries,
 -- the place of the command table, and zeros.
 abbrev pub header_bytes : Bool → ℕ → ℕ → List ℕ
 header_bytes write entries table =
-    little_bytes 2 (command_words + 64 * bit write) ++ little_bytes 2 entries ++ little_bytes 4 0
+    little_bytes 2 (command_words + write_bit * bit write) ++ little_bytes 2 entries ++ little_bytes 4 0
     ++ little_bytes 4 table ++ little_bytes 4 0 ++ little_bytes 16 0
 
 -- Data in one piece have one entry, no data have none.
@@ -34,7 +38,7 @@ fis_words header = slice_index header 0 % 32
 
 -- W
 abbrev pub is_write : List ℕ → Bool
-is_write header = slice_index header 0 / 64 % 2 == 1
+is_write header = slice_index header 0 / write_bit % 2 == 1
 
 -- PRDTL: how many entries the table has
 abbrev pub entries : List ℕ → ℕ

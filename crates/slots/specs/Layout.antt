@@ -4,6 +4,10 @@ use Rattle.std.specs.Prelude.{ℕ, ◌+◌, ◌*◌, List, ◌++◌, length, tak
 use Rattle.fis.specs.declared.any.Fis.{Fis}
 use Rattle.fis.specs.declared.any.Fis.TheVariants as fises
 
+-- how many slots a port can have (3.1.1, NCS)
+abbrev pub slot_count : ℕ
+slot_count = 32
+
 -- The command list stands at 0, and has a header for each slot (4.2.2).
 abbrev pub header_size : ℕ
 header_size = 32
@@ -36,9 +40,9 @@ buffers_at = 0x10000
 abbrev pub buffer_size : ℕ
 buffer_size = 0x20000
 
--- How many bytes there are in all: the 32 buffers stand last.
+-- How many bytes there are in all: the buffers stand last.
 abbrev pub memory_size : ℕ
-memory_size = buffers_at + 32 * buffer_size
+memory_size = buffers_at + slot_count * buffer_size
 
 abbrev pub header_place : ℕ → ℕ
 header_place tag = header_size * tag

@@ -1,6 +1,7 @@
 -- A command table (AHCI 1.3.1, 4.2.3): the command FIS, and behind it the physical region
 -- descriptors (4.2.3.3).
-use Rattle.std.specs.Prelude.{ℕ, zero, suc, ◌+◌, ◌-◌, ◌*◌, ◌%◌, ◌==◌, ◌&&◌, nat_le, Bool, true, List, ◌++◌, slice_index, if◌then◌else◌}
+use Rattle.std.specs.Prelude.{ℕ, ◌+◌, ◌-◌, ◌*◌, ◌%◌, ◌==◌, ◌&&◌, nat_le, Bool, List, ◌++◌, map, sum, slice_index, if◌then◌else◌}
+use Rattle.std.specs.List.{range_with_len}
 use Rattle.byteorder.specs.Endian.{little_bytes}
 use Rattle.fis.specs.Types.{h2d_type}
 use Rattle.slots.specs.Layout.{memory_size, table_size, descriptors_at, descriptor_size, laid, part, zeros}
@@ -45,11 +46,10 @@ is_sound entry =
 abbrev pub entry_at : List ℕ → ℕ → ℕ → List ℕ
 entry_at memory table k = part memory (table + descriptors_at + descriptor_size * k) descriptor_size
 
--- whether each of the first n descriptors is sound, and how many bytes they are of
-abbrev pub are_sound : List ℕ → ℕ → ℕ → Bool
-are_sound memory table zero = true
-are_sound memory table (suc n) = are_sound memory table n && is_sound (entry_at memory table n)
+-- the first n descriptors of a table, in order
+abbrev pub descriptors : List ℕ → ℕ → ℕ → List (List ℕ)
+descriptors memory table n = map (entry_at memory table) (range_with_len 0 n)
 
-abbrev pub bytes_of : List ℕ → ℕ → ℕ → ℕ
-bytes_of memory table zero = 0
-bytes_of memory table (suc n) = bytes_of memory table n + count (entry_at memory table n)
+-- how many bytes descriptors name in all
+abbrev pub bytes_of : List (List ℕ) → ℕ
+bytes_of regions = sum (map count regions)

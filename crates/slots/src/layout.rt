@@ -2,9 +2,13 @@
 
 ghost use Rattle.std.specs.Prelude.{◌≡◌, ◌≤◌, ◌+◌};
 ghost use Rattle.slots.specs.Layout.{header_place, table_place, buffer_place, received_place, memory_size, received_at, received_size, buffers_at};
+ghost use Rattle.fis.specs.Types.{dma_setup_length};
 ghost use Rattle.fis.specs.declared.any.Fis.{Fis};
 
 use fis::{Fis, Tag};
+
+/// How many slots there are (AHCI 1.3.1, 3.1.1).
+const SLOTS: usize = 32;
 
 /// How many bytes a command header has (AHCI 1.3.1, 4.2.2). The command list stands at 0.
 pub(crate) const HEADER: usize = 32;
@@ -31,7 +35,7 @@ const BUFFERS: usize = 0x1_0000;
 pub const BUFFER: usize = 0x2_0000;
 
 /// How many bytes the memory of a port has: the buffers stand last.
-pub const MEMORY: usize = BUFFERS + 32 * BUFFER;
+pub const MEMORY: usize = BUFFERS + SLOTS * BUFFER;
 
 pub(crate) fn header_place(tag: Tag) -> usize
     ensures value { result ≡ header_place tag }
@@ -57,7 +61,7 @@ pub(crate) fn buffer_place(tag: Tag) -> usize
 /// Where a FIS of this type is received. One that no device sends is stored as unknown.
 pub(crate) fn received_place(fis: &Fis) -> usize
     ensures value { result ≡ received_place fis.now }
-    ensures inside { result + 28 ≤ received_at + received_size }
+    ensures inside { result + dma_setup_length ≤ received_at + received_size }
 {
     match fis {
         Fis::DmaSetup(_) => RECEIVED,

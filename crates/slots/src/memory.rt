@@ -37,10 +37,10 @@ fn zeros(alloc: Global, len: usize) -> Result<Vec<u8>, AllocError>
 }
 
 impl PortMemory {
-    ghost use Rattle.std.specs.Prelude.{◌≡◌, ◌+◌, ◌*◌, ◌≤◌, ◌<◌, ◌%◌, ◌↔◌, ℕ, List, Bool, true, IfOk, IfSome, IsSome, Ok, Some, None, length, slice_index, if◌then◌else◌};
-    ghost use Rattle.slots.specs.Layout.{memory_size, header_size, received_at, received_size, table_size, buffer_size, descriptors_at, descriptor_size, laid, part, header_place, table_place, buffer_place, received_place};
+    ghost use Rattle.std.specs.Prelude.{◌≡◌, ◌+◌, ◌*◌, ◌≤◌, ◌<◌, ◌%◌, ◌^◌, ◌↔◌, ℕ, List, Bool, true, IfOk, IfSome, IsSome, Ok, Some, None, length, slice_index, if◌then◌else◌};
+    ghost use Rattle.slots.specs.Layout.{slot_count, memory_size, header_size, received_at, received_size, table_size, buffer_size, descriptors_at, descriptor_size, laid, part, header_place, table_place, buffer_place, received_place};
     ghost use Rattle.slots.specs.Fetch.{fetched, placed, transfer, command_fis, Holds, AreApart};
-    ghost use Rattle.slots.specs.Table.{is_command};
+    ghost use Rattle.slots.specs.Table.{is_command, descriptors};
     ghost use Rattle.fis.specs.Types.{h2d_length};
     ghost use Rattle.fis.specs.Fis.{IsSpelling};
     ghost use Rattle.std.specs.Borrow.{sem};
@@ -111,7 +111,7 @@ impl PortMemory {
         ensures exact { self.new ≡ placed self.old tag command.now write len }
         ensures memory_len { length self.old ≡ memory_size }
         ensures command_len { length command.now ≡ h2d_length }
-        ensures tag { tag < 32 }
+        ensures tag { tag < slot_count }
     {
         // There are as many bytes as a memory has: the field says so once it is used.
         let _ = &self.bytes;
@@ -126,9 +126,9 @@ impl PortMemory {
     /// too many.
     #[tactic(auto, using(crate::proofs::Sums::one_more_sound, crate::proofs::Sums::one_more_sum, crate::proofs::Sums::unsound))]
     fn transfer(&self, table: usize, entries: usize) -> Option<u32>
-        requires few { entries < 65536 }
+        requires few { entries < 2 ^ 16 }
         requires inside { table + descriptors_at + descriptor_size * entries ≤ memory_size }
-        ensures { result ≡ transfer self.now table entries }
+        ensures { result ≡ transfer (descriptors self.now table entries) }
     {
         let mut total = 0;
         for k in 0..entries {
@@ -172,7 +172,7 @@ impl PortMemory {
 
     fn read_slot(&self, tag: Tag) -> Result<Fetched, FetchError>
         ensures exact { result ≡ fetched self.now tag }
-        ensures tag { tag < 32 }
+        ensures tag { tag < slot_count }
     {
         let header = self.part(header_place(tag), HEADER);
         if parts::fis_words(header) != COMMAND_WORDS {

@@ -3,7 +3,7 @@
 ghost use Rattle.std.specs.Prelude.{◌≡◌, ◌≤◌, ◌<◌, ◌+◌, ◌*◌, ◌-◌, ◌^◌, length};
 ghost use Rattle.slots.specs.Layout.{header_size, table_size, descriptor_size, zeros, laid, table_place, buffer_place};
 ghost use Rattle.slots.specs.Header.{header_bytes, fis_words, is_write, entries, table_at, table_upper, has_table, entries_for};
-ghost use Rattle.slots.specs.Table.{entry_bytes, table_bytes, address, upper, count, is_sound};
+ghost use Rattle.slots.specs.Table.{entry_bytes, table_bytes, address, upper, descriptor_range, count, is_sound};
 
 use crate::command_block::COMMAND_FIS;
 use crate::layout::{DESCRIPTOR, DESCRIPTORS, HEADER, MEMORY, TABLE, buffer_place, table_place};
@@ -12,6 +12,9 @@ use fis::Tag;
 
 /// How many words of four bytes a command FIS has.
 pub(crate) const COMMAND_WORDS: u8 = (COMMAND_FIS / 4) as u8;
+
+/// W, a bit of a header's first byte (AHCI 1.3.1, 4.2.2).
+const WRITE_BIT: u8 = 64;
 
 /// A command table stands at a multiple of this (AHCI 1.3.1, 4.2.2).
 const TABLE_ALIGNMENT: usize = 128;
@@ -35,7 +38,7 @@ pub(crate) fn header(tag: Tag, write: bool, len: u32) -> [u8; HEADER]
     let mut header = [0; HEADER];
     LittleEndian::write_u16(
         &mut header[0..2],
-        u16::from(COMMAND_WORDS + 64 * u8::from(write)),
+        u16::from(COMMAND_WORDS + WRITE_BIT * u8::from(write)),
     );
     LittleEndian::write_u16(&mut header[2..4], entries);
     LittleEndian::write_u32(&mut header[8..12], table_place(tag) as u32);
@@ -83,13 +86,13 @@ pub(crate) fn is_write(header: &[u8]) -> bool
     requires { header_size ≤ length header.now }
     ensures { result ≡ is_write header.now }
 {
-    header[0] / 64 % 2 == 1
+    header[0] / WRITE_BIT % 2 == 1
 }
 
 pub(crate) fn entries(header: &[u8]) -> usize
     requires { header_size ≤ length header.now }
     ensures value { result ≡ entries header.now }
-    ensures fits { result < 65536 }
+    ensures fits { result < 2 ^ 16 }
 {
     usize::from(LittleEndian::read_u16(&header[2..]))
 }
@@ -139,7 +142,7 @@ fn upper(entry: &[u8]) -> u32
 pub(crate) fn count(entry: &[u8]) -> u64
     requires { descriptor_size ≤ length entry.now }
     ensures value { result ≡ count entry.now }
-    ensures fits { result ≤ 4194304 }
+    ensures fits { result ≤ descriptor_range }
 {
     u64::from(LittleEndian::read_u32(&entry[12..]) % DESCRIPTOR_RANGE) + 1
 }

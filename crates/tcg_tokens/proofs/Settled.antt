@@ -1,5 +1,5 @@
 -- A fault other than Truncated stays, whatever bytes follow.
-use Rattle.std.proofs.Common.{◌≡◌, ℕ, zero, suc, ◌/◌, ◌%◌, ◌^◌, ◌≤◌, Bool, true, false, cond, ltb, eqb, List, [], ◌∷◌, ◌++◌, length, take, drop, Result, Ok, Err, refl, sym, subst, arith, inl, inr}
+use Rattle.std.proofs.Common.{◌≡◌, ℕ, zero, suc, ◌%◌, ◌^◌, ◌≤◌, Bool, true, false, cond, ltb, eqb, List, [], ◌∷◌, ◌++◌, length, take, drop, Option, Some, None, Result, Ok, Err, refl, sym, subst, arith, inl, inr}
 use Rattle.std.specs.Prelude.{◌≢◌, if◌then◌else◌}
 use Rattle.std.proofs.lemmas.Bool.{ltb-false, le-ltb}
 use Rattle.std.proofs.lemmas.Bool.Decides.{nat_tests}
@@ -8,10 +8,13 @@ use Rattle.tcg_tokens.specs.declared.error.TokenError.{TokenError}
 use Rattle.tcg_tokens.specs.declared.error.TokenError.TheVariants.{Truncated, Reserved, Signed, Continued, TooBig, Unbalanced, Extra, Deep, OutOfMemory}
 use Rattle.tcg_tokens.specs.declared.token.Mark.{Mark}
 use Rattle.tcg_tokens.specs.declared.token.Mark.TheVariants.{StartList, EndList, StartName, EndName, Call, EndOfData, EndOfSession, StartTransaction, EndTransaction}
+use Rattle.tcg_tokens.specs.declared.form.Form.{Form}
+use Rattle.tcg_tokens.specs.declared.form.Form.TheVariants.{Short, Medium, Long}
+use Rattle.tcg_tokens.specs.Atoms.{tiny_limit, least, upper_range, length_bytes, sign_bit, kind_bit, end_of, has_bit}
 use Rattle.tcg_tokens.specs.Grammar.{room_inside}
 use Rattle.tcg_tokens.specs.Lexeme.{Lexeme, number_from, same, is_mark}
 use Rattle.tcg_tokens.specs.Lexeme as lexeme
-use Rattle.tcg_tokens.specs.Lex.{◌>>=◌, content_lexeme, content_at, atom_at, mark_at, lexeme_at, first_lexeme, token_at}
+use Rattle.tcg_tokens.specs.Lex.{◌>>=◌, content_lexeme, content_at, atom_at, form_at, mark_of, marked, mark_at, lexeme_at, first_lexeme, token_at}
 use Rattle.tcg_tokens.specs.Tree.{Tree}
 use Rattle.tcg_tokens.specs.declared.value.Item.{Item}
 use Rattle.tcg_tokens.specs.Gives.{Fails, Gives}
@@ -87,17 +90,21 @@ module _ (more : List ℕ) where
       ]
 
   mark_keeps : (b : ℕ) (rest : List ℕ) → Keeps (mark_at b rest) (mark_at b (rest ++ more))
-  mark_keeps b rest =
-      choice (longer more) (eqb b 0xf0) _ _ _ _ refl (choice (longer more) (eqb b 0xf1) _ _ _ _ refl (choice (longer more) (eqb b 0xf2) _ _ _ _ refl (choice (longer more) (eqb b 0xf3) _ _ _ _ refl
-      (choice (longer more) (eqb b 0xf8) _ _ _ _ refl (choice (longer more) (eqb b 0xf9) _ _ _ _ refl (choice (longer more) (eqb b 0xfa) _ _ _ _ refl (choice (longer more) (eqb b 0xfb) _ _ _ _ refl
-      (choice (longer more) (eqb b 0xfc) _ _ _ _ refl refl))))))))
+  mark_keeps b rest = kept (mark_of b)
+    where
+      kept : (o : Option Mark) → Keeps (marked o rest) (marked o (rest ++ more))
+      kept None = refl
+      kept (Some m) = refl
+
+  form_keeps : (form : Form) (b : ℕ) (rest : List ℕ) → Keeps (form_at form b rest) (form_at form b (rest ++ more))
+  form_keeps form b rest = atom_keeps (has_bit (kind_bit form) b) (has_bit (sign_bit form) b) (b % upper_range form) (length_bytes form) rest
 
   lexeme_keeps : (b : ℕ) (rest : List ℕ) → Keeps (lexeme_at b rest) (lexeme_at b (rest ++ more))
   lexeme_keeps b rest =
-      choice (longer more) (ltb b 0x40) _ _ _ _ refl (choice (longer more) (ltb b 0x80) _ _ _ _ refl
-      (choice (longer more) (ltb b 0xc0) _ _ _ _ (atom_keeps (eqb (b / 32 % 2) 1) (eqb (b / 16 % 2) 1) (b % 16) 0 rest)
-      (choice (longer more) (ltb b 0xe0) _ _ _ _ (atom_keeps (eqb (b / 16 % 2) 1) (eqb (b / 8 % 2) 1) (b % 8) 1 rest)
-      (choice (longer more) (ltb b 0xe4) _ _ _ _ (atom_keeps (eqb (b / 2 % 2) 1) (eqb (b % 2) 1) 0 3 rest) (mark_keeps b rest)))))
+      choice (longer more) (ltb b tiny_limit) _ _ _ _ refl (choice (longer more) (ltb b (least Short)) _ _ _ _ refl
+      (choice (longer more) (ltb b (least Medium)) _ _ _ _ (form_keeps Short b rest)
+      (choice (longer more) (ltb b (least Long)) _ _ _ _ (form_keeps Medium b rest)
+      (choice (longer more) (ltb b (end_of Long)) _ _ _ _ (form_keeps Long b rest) (mark_keeps b rest)))))
 
   token_keeps : (text : List ℕ) → Keeps (token_at text) (token_at (text ++ more))
   unfolding first_lexeme

@@ -1,15 +1,18 @@
 -- What is read as a token is spelled so, and what is spelled so is read as that token.
-use Rattle.std.proofs.Common.{◌≡◌, ℕ, zero, suc, ◌+◌, ◌*◌, ◌/◌, ◌%◌, ◌^◌, ◌<◌, ◌≤◌, Bool, true, false, cond, ltb, eqb, List, [], ◌∷◌, ◌++◌, length, get_or, take, drop, Result, Ok, Err, refl, sym, ap, subst, ◌∙◌, append_assoc, arith, ◌⊎◌, inl, inr, eqb-true, zero-add}
+use Rattle.std.proofs.Common.{◌≡◌, ℕ, zero, suc, ◌+◌, ◌*◌, ◌/◌, ◌%◌, ◌^◌, ◌<◌, ◌≤◌, Bool, true, false, cond, ltb, eqb, List, [], ◌∷◌, ◌++◌, length, get_or, take, drop, Option, Some, None, Result, Ok, Err, refl, sym, ap, subst, ◌∙◌, append_assoc, arith, ◌⊎◌, inl, inr, eqb-true, zero-add}
 use Rattle.std.proofs.lemmas.Bool.{ltb-false, ltb-true, lt-ltb, le-ltb}
 use Rattle.std.proofs.lemmas.Bool.Decides.{nat_tests}
 use Rattle.std.proofs.lemmas.List.{take_at, drop_at, take-append-drop, length-append, length-take}
-use Rattle.tcg_tokens.specs.Lexeme.{AreBytes, Lexeme, bytes, code_of, mark, number, number_from}
+use Rattle.tcg_tokens.specs.Lexeme.{AreBytes, Lexeme, bytes, code_of, mark, marks, number, number_from}
 use Rattle.tcg_tokens.specs.declared.error.TokenError.{TokenError}
-use Rattle.tcg_tokens.specs.declared.error.TokenError.TheVariants.{Truncated, Reserved, Signed, TooBig}
+use Rattle.tcg_tokens.specs.declared.error.TokenError.TheVariants.{Truncated, Signed, TooBig}
 use Rattle.tcg_tokens.specs.declared.token.Mark.{Mark}
 use Rattle.tcg_tokens.specs.declared.token.Mark.TheVariants.{StartList, EndList, StartName, EndName, Call, EndOfData, EndOfSession, StartTransaction, EndTransaction}
-use Rattle.tcg_tokens.specs.Lex.{content_lexeme, content_at, atom_at, mark_at, lexeme_at, first_lexeme, token_at}
-use Rattle.tcg_tokens.specs.Grammar.{bit, IsHeader, short, medium, long, IsSpelling, tiny, number_atom, bytes_atom, mark_byte, IsToken, plain, filled}
+use Rattle.tcg_tokens.specs.Lex.{content_lexeme, content_at, atom_at, form_at, mark_of, marked, mark_at, lexeme_at, first_lexeme, token_at}
+use Rattle.std.specs.List.{find}
+use Rattle.tcg_tokens.specs.declared.form.Form.TheVariants.{Short, Medium, Long}
+use Rattle.tcg_tokens.specs.Atoms.{bit}
+use Rattle.tcg_tokens.specs.Grammar.{IsHeader, short, medium, long, IsSpelling, tiny, number_atom, bytes_atom, mark_byte, IsToken, plain, filled}
 
 bytes_behind : (front rest : List ℕ) → AreBytes (front ++ rest) → AreBytes rest
 bytes_behind [] rest ok = ok
@@ -195,7 +198,7 @@ no_bit zero h e = refl
 no_bit (suc zero) h e = absurd cc
 no_bit (suc (suc n)) h e = absurd (omega arith)
 
-short_spelled : (b : ℕ) (body rest : List ℕ) (t : Lexeme) → 128 ≤ b → b < 192 → atom_at (eqb (b / 32 % 2) 1) (eqb (b / 16 % 2) 1) (b % 16) 0 body ≡ Ok (t, rest) → SpelledAt (b ∷ body) t rest
+short_spelled : (b : ℕ) (body rest : List ℕ) (t : Lexeme) → 128 ≤ b → b < 192 → form_at Short b body ≡ Ok (t, rest) → SpelledAt (b ∷ body) t rest
 short_spelled b body rest t low high e =
     atom_spelled (eqb (b / 32 % 2) 1) (eqb (b / 16 % 2) 1) (b % 16) 0 b body rest t (λ plain_atom _.
     let no_sign : b / 16 % 2 ≡ 0 = no_bit _ (omega arith) plain_atom in
@@ -203,7 +206,7 @@ short_spelled b body rest t low high e =
     let first : 0x80 + 32 * bit (eqb (b / 32 % 2) 1) + b % 16 ≡ b = omega arith in
     subst (λ (x : ℕ). IsHeader (eqb (b / 32 % 2) 1) (x ∷ []) (b % 16)) first (short (eqb (b / 32 % 2) 1) (b % 16) (omega arith))) e
 
-medium_spelled : (b : ℕ) (body rest : List ℕ) (t : Lexeme) → AreBytes body → 192 ≤ b → b < 224 → atom_at (eqb (b / 16 % 2) 1) (eqb (b / 8 % 2) 1) (b % 8) 1 body ≡ Ok (t, rest) → SpelledAt (b ∷ body) t rest
+medium_spelled : (b : ℕ) (body rest : List ℕ) (t : Lexeme) → AreBytes body → 192 ≤ b → b < 224 → form_at Medium b body ≡ Ok (t, rest) → SpelledAt (b ∷ body) t rest
 medium_spelled b [] rest t ok low high e =
     atom_spelled (eqb (b / 16 % 2) 1) (eqb (b / 8 % 2) 1) (b % 8) 1 b [] rest t (λ plain_atom some. absurd (omega arith)) e
 medium_spelled b (x ∷ body) rest t ok low high e =
@@ -213,62 +216,38 @@ medium_spelled b (x ∷ body) rest t ok low high e =
     let first : 0xc0 + 16 * bit (eqb (b / 16 % 2) 1) + b % 8 ≡ b = omega arith in
     subst (λ (y : ℕ). IsHeader (eqb (b / 16 % 2) 1) (y ∷ x ∷ []) (256 * (b % 8) + x)) first (medium (eqb (b / 16 % 2) 1) (b % 8) x (omega arith) ok.0)) e
 
-long_spelled : (b : ℕ) (body rest : List ℕ) (t : Lexeme) → AreBytes body → 224 ≤ b → b < 228 → atom_at (eqb (b / 2 % 2) 1) (eqb (b % 2) 1) 0 3 body ≡ Ok (t, rest) → SpelledAt (b ∷ body) t rest
+long_spelled : (b : ℕ) (body rest : List ℕ) (t : Lexeme) → AreBytes body → 224 ≤ b → b < 228 → form_at Long b body ≡ Ok (t, rest) → SpelledAt (b ∷ body) t rest
 long_spelled b (x ∷ y ∷ z ∷ body) rest t ok low high e =
-    atom_spelled (eqb (b / 2 % 2) 1) (eqb (b % 2) 1) 0 3 b (x ∷ y ∷ z ∷ body) rest t (λ plain_atom _.
-    let no_sign : b % 2 ≡ 0 = no_bit _ (omega arith) plain_atom in
+    atom_spelled (eqb (b / 2 % 2) 1) (eqb (b / 1 % 2) 1) (b % 1) 3 b (x ∷ y ∷ z ∷ body) rest t (λ plain_atom _.
+    let no_sign : b / 1 % 2 ≡ 0 = no_bit _ (omega arith) plain_atom in
+    let no_upper : 256 * (b % 1) + x ≡ x = omega arith in
     let kind : bit (eqb (b / 2 % 2) 1) ≡ b / 2 % 2 = bit_is _ (omega arith) in
     let first : 0xe0 + 2 * bit (eqb (b / 2 % 2) 1) ≡ b = omega arith in
-    let header : IsHeader (eqb (b / 2 % 2) 1) ((0xe0 + 2 * bit (eqb (b / 2 % 2) 1)) ∷ x ∷ y ∷ z ∷ []) (256 * (256 * (0 + x) + y) + z) = rw (zero-add x) (long (eqb (b / 2 % 2) 1) x y z ok.0 ok.1.0 ok.1.1.0) in
-    subst (λ (w : ℕ). IsHeader (eqb (b / 2 % 2) 1) (w ∷ x ∷ y ∷ z ∷ []) (256 * (256 * (0 + x) + y) + z)) first header) e
-long_spelled b [] rest t ok low high e = atom_spelled _ _ 0 3 b [] rest t (λ plain_atom some. absurd (omega arith)) e
-long_spelled b (x ∷ []) rest t ok low high e = atom_spelled _ _ 0 3 b (x ∷ []) rest t (λ plain_atom some. absurd (omega arith)) e
-long_spelled b (x ∷ y ∷ []) rest t ok low high e = atom_spelled _ _ 0 3 b (x ∷ y ∷ []) rest t (λ plain_atom some. absurd (omega arith)) e
+    let header : IsHeader (eqb (b / 2 % 2) 1) ((0xe0 + 2 * bit (eqb (b / 2 % 2) 1)) ∷ x ∷ y ∷ z ∷ []) (256 * (256 * (256 * (b % 1) + x) + y) + z) = rw no_upper (long (eqb (b / 2 % 2) 1) x y z ok.0 ok.1.0 ok.1.1.0) in
+    subst (λ (w : ℕ). IsHeader (eqb (b / 2 % 2) 1) (w ∷ x ∷ y ∷ z ∷ []) (256 * (256 * (256 * (b % 1) + x) + y) + z)) first header) e
+long_spelled b [] rest t ok low high e = atom_spelled _ _ (b % 1) 3 b [] rest t (λ plain_atom some. absurd (omega arith)) e
+long_spelled b (x ∷ []) rest t ok low high e = atom_spelled _ _ (b % 1) 3 b (x ∷ []) rest t (λ plain_atom some. absurd (omega arith)) e
+long_spelled b (x ∷ y ∷ []) rest t ok low high e = atom_spelled _ _ (b % 1) 3 b (x ∷ y ∷ []) rest t (λ plain_atom some. absurd (omega arith)) e
 
 mark_is : (m : Mark) (b : ℕ) (body rest : List ℕ) (t : Lexeme) → b ≡ code_of m → read (mark m) body ≡ read t rest → SpelledAt (b ∷ body) t rest
 mark_is m b body rest t code e =
     let p = ok_is (mark m) t body rest e in
     (b ∷ [], ap (λ (x : List ℕ). b ∷ x) p.1, subst (IsSpelling (b ∷ [])) p.0 (subst (λ (x : ℕ). IsSpelling (x ∷ []) (mark m)) (sym code) (mark_byte m)))
 
-mark_spelled : (b : ℕ) (body rest : List ℕ) (t : Lexeme) → mark_at b body ≡ Ok (t, rest) → SpelledAt (b ∷ body) t rest
-mark_spelled b body rest t e =
-    elim (chosen (eqb b 0xf0) (Ok (mark StartList, body)) _ _ e) [
-      | inl w ↦ mark_is StartList b body rest t (eqb-true _ _ w.0) w.1
-      | inr w1 ↦
-          elim (chosen (eqb b 0xf1) (Ok (mark EndList, body)) _ _ w1.1) [
-            | inl w ↦ mark_is EndList b body rest t (eqb-true _ _ w.0) w.1
-            | inr w2 ↦
-                elim (chosen (eqb b 0xf2) (Ok (mark StartName, body)) _ _ w2.1) [
-                  | inl w ↦ mark_is StartName b body rest t (eqb-true _ _ w.0) w.1
-                  | inr w3 ↦
-                      elim (chosen (eqb b 0xf3) (Ok (mark EndName, body)) _ _ w3.1) [
-                        | inl w ↦ mark_is EndName b body rest t (eqb-true _ _ w.0) w.1
-                        | inr w4 ↦
-                            elim (chosen (eqb b 0xf8) (Ok (mark Call, body)) _ _ w4.1) [
-                              | inl w ↦ mark_is Call b body rest t (eqb-true _ _ w.0) w.1
-                              | inr w5 ↦
-                                  elim (chosen (eqb b 0xf9) (Ok (mark EndOfData, body)) _ _ w5.1) [
-                                    | inl w ↦ mark_is EndOfData b body rest t (eqb-true _ _ w.0) w.1
-                                    | inr w6 ↦
-                                        elim (chosen (eqb b 0xfa) (Ok (mark EndOfSession, body)) _ _ w6.1) [
-                                          | inl w ↦ mark_is EndOfSession b body rest t (eqb-true _ _ w.0) w.1
-                                          | inr w7 ↦
-                                              elim (chosen (eqb b 0xfb) (Ok (mark StartTransaction, body)) _ _ w7.1) [
-                                                | inl w ↦ mark_is StartTransaction b body rest t (eqb-true _ _ w.0) w.1
-                                                | inr w8 ↦
-                                                    elim (chosen (eqb b 0xfc) (Ok (mark EndTransaction, body)) _ _ w8.1) [
-                                                      | inl w ↦ mark_is EndTransaction b body rest t (eqb-true _ _ w.0) w.1
-                                                      | inr w9 ↦
-                                                          absurd (let h : Err Reserved ≡ read t rest = w9.1 in cc)
-                                                    ]
-                                              ]
-                                        ]
-                                  ]
-                            ]
-                      ]
-                ]
-          ]
+mark_found : (b : ℕ) (ms : List Mark) (m : Mark) → find (λ n. eqb b (code_of n)) ms ≡ Some m → b ≡ code_of m
+mark_found b [] m e = absurd cc
+mark_found b (n ∷ ms) m e =
+    elim (chosen (eqb b (code_of n)) (Some n) (find (λ k. eqb b (code_of k)) ms) (Some m) e) [
+      | inl w ↦ let here : n ≡ m = cc in eqb-true _ _ w.0 ∙ ap code_of here
+      | inr w ↦ mark_found b ms m w.1
     ]
+
+mark_spelled : (b : ℕ) (body rest : List ℕ) (t : Lexeme) → mark_at b body ≡ Ok (t, rest) → SpelledAt (b ∷ body) t rest
+mark_spelled b body rest t e = go (mark_of b) refl e
+  where
+    go : (o : Option Mark) → mark_of b ≡ o → marked o body ≡ Ok (t, rest) → SpelledAt (b ∷ body) t rest
+    go None found e = absurd cc
+    go (Some m) found e = mark_is m b body rest t (mark_found b marks m found) e
 
 spelled : (b : ℕ) (body rest : List ℕ) (t : Lexeme) → AreBytes body → lexeme_at b body ≡ Ok (t, rest) → SpelledAt (b ∷ body) t rest
 spelled b body rest t ok e =
@@ -280,13 +259,13 @@ spelled b body rest t ok e =
           elim (chosen (ltb b 0x80) (Err Signed) _ _ w1.1) [
             | inl w ↦ absurd (let h : Err Signed ≡ read t rest = w.1 in cc)
             | inr w2 ↦
-                elim (chosen (ltb b 0xc0) (atom_at (eqb (b / 32 % 2) 1) (eqb (b / 16 % 2) 1) (b % 16) 0 body) _ _ w2.1) [
+                elim (chosen (ltb b 0xc0) (form_at Short b body) _ _ w2.1) [
                   | inl w ↦ short_spelled b body rest t (ltb-false _ _ w2.0) (ltb-true _ _ w.0) w.1
                   | inr w3 ↦
-                      elim (chosen (ltb b 0xe0) (atom_at (eqb (b / 16 % 2) 1) (eqb (b / 8 % 2) 1) (b % 8) 1 body) _ _ w3.1) [
+                      elim (chosen (ltb b 0xe0) (form_at Medium b body) _ _ w3.1) [
                         | inl w ↦ medium_spelled b body rest t ok (ltb-false _ _ w3.0) (ltb-true _ _ w.0) w.1
                         | inr w4 ↦
-                            elim (chosen (ltb b 0xe4) (atom_at (eqb (b / 2 % 2) 1) (eqb (b % 2) 1) 0 3 body) _ _ w4.1) [
+                            elim (chosen (ltb b 0xe4) (form_at Long b body) _ _ w4.1) [
                               | inl w ↦ long_spelled b body rest t ok (ltb-false _ _ w4.0) (ltb-true _ _ w.0) w.1
                               | inr w5 ↦
                                   mark_spelled b body rest t w5.1

@@ -12,7 +12,8 @@ use Rattle.tcg_tokens.specs.Lexeme.{Lexeme, code_of, number_from}
 use Rattle.tcg_tokens.specs.Lexeme as lexeme
 use Rattle.tcg_tokens.specs.Tree.{Tree, Trees, number, bytes, list, named, empty, more}
 use Rattle.tcg_tokens.specs.Message.{Message, call, reply, end_session, begin, end}
-use Rattle.tcg_tokens.specs.Grammar.{bit, IsHeader, short, medium, long, IsSpelling, tiny, number_atom, bytes_atom, mark_byte, IsToken, plain, filled, IsName, number_name, bytes_name, IsValue, a_number, some_bytes, a_list, a_name, AreValues, no_more, one_more, IsStatus, three_numbers, room_inside, IsItem, a_call, a_reply, an_end_session, a_begin, an_end, IsFill, nothing, Spells}
+use Rattle.tcg_tokens.specs.Atoms.{bit}
+use Rattle.tcg_tokens.specs.Grammar.{IsHeader, short, medium, long, IsSpelling, tiny, number_atom, bytes_atom, mark_byte, IsToken, plain, filled, IsName, number_name, bytes_name, IsValue, a_number, some_bytes, a_list, a_name, AreValues, no_more, one_more, IsStatus, three_numbers, room_inside, IsItem, a_call, a_reply, an_end_session, a_begin, an_end, IsFill, nothing, Spells}
 use Rattle.tcg_tokens.specs.Spelling.{header, significant, number_spelling, bytes_spelling, spelling_of, spellings_of, status_spelling, item_spelling_of}
 use Rattle.tcg_tokens.specs.Writable.{fits_number, is_name, is_writable_value, are_writable_values, is_writable, IsShaped}
 use Rattle.tcg_tokens.proofs.Tokens.{bool_cases}

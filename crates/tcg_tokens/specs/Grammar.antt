@@ -4,34 +4,31 @@ use Rattle.std.specs.Prelude.{◌≡◌, ℕ, suc, ◌+◌, ◌-◌, ◌*◌, �
 use Rattle.tcg_tokens.specs.declared.limits.TheConstants.{NESTING_LIMIT, NUMBER_BITS}
 use Rattle.tcg_tokens.specs.declared.token.Mark.{Mark}
 use Rattle.tcg_tokens.specs.declared.token.Mark.TheVariants.{StartList, EndList, StartName, EndName, Call, EndOfData, EndOfSession, StartTransaction, EndTransaction}
+use Rattle.tcg_tokens.specs.declared.form.Form.TheVariants.{Short, Medium, Long}
+use Rattle.tcg_tokens.specs.Atoms.{empty_atom, tiny_limit, upper_range, first_byte}
 use Rattle.tcg_tokens.specs.Lexeme.{Lexeme, code_of, number_from}
 use Rattle.tcg_tokens.specs.Lexeme as lexeme
 use Rattle.tcg_tokens.specs.Tree.{Tree, Trees, number, bytes, list, named, empty, more}
-use Rattle.tcg_tokens.specs.Message.{Message, call, reply, end_session, begin, end}
-
--- the bit of an atom's first byte that tells bytes from numbers
-abbrev pub bit : Bool → ℕ
-bit true = 1
-bit false = 0
+use Rattle.tcg_tokens.specs.Message.{Message, uid_size, call, reply, end_session, begin, end}
 
 -- the bytes before the content of an atom, and the length of the content: a short, a medium, a long atom
 pub data IsHeader : Bool → List ℕ → ℕ → Type 0 where
-  short : (is_bytes : Bool) (len : ℕ) → len < 16 → IsHeader is_bytes ((0x80 + 32 * bit is_bytes + len) ∷ []) len
-  medium : (is_bytes : Bool) (high low : ℕ) → high < 8 → low < 256 → IsHeader is_bytes ((0xc0 + 16 * bit is_bytes + high) ∷ low ∷ []) (256 * high + low)
-  long : (is_bytes : Bool) (high middle low : ℕ) → high < 256 → middle < 256 → low < 256 → IsHeader is_bytes ((0xe0 + 2 * bit is_bytes) ∷ high ∷ middle ∷ low ∷ []) (256 * (256 * high + middle) + low)
+  short : (is_bytes : Bool) (len : ℕ) → len < upper_range Short → IsHeader is_bytes ((first_byte Short is_bytes + len) ∷ []) len
+  medium : (is_bytes : Bool) (high low : ℕ) → high < upper_range Medium → low < 256 → IsHeader is_bytes ((first_byte Medium is_bytes + high) ∷ low ∷ []) (256 * high + low)
+  long : (is_bytes : Bool) (high middle low : ℕ) → high < 256 → middle < 256 → low < 256 → IsHeader is_bytes (first_byte Long is_bytes ∷ high ∷ middle ∷ low ∷ []) (256 * (256 * high + middle) + low)
 
 -- a token: a tiny atom, an atom that is a number of any length whose value fits, one that is bytes, a mark
 pub data IsSpelling : List ℕ → Lexeme → Type 0 where
-  tiny : (n : ℕ) → n < 64 → IsSpelling (n ∷ []) (lexeme.number n)
+  tiny : (n : ℕ) → n < tiny_limit → IsSpelling (n ∷ []) (lexeme.number n)
   number_atom : (head content : List ℕ) → IsHeader false head (length content) → number_from 0 content < 2 ^ NUMBER_BITS
       → IsSpelling (head ++ content) (lexeme.number (number_from 0 content))
   bytes_atom : (head content : List ℕ) → IsHeader true head (length content) → IsSpelling (head ++ content) (lexeme.bytes content)
   mark_byte : (m : Mark) → IsSpelling (code_of m ∷ []) (lexeme.mark m)
 
--- a token behind any number of FF, which stands for nothing
+-- a token behind any number of empty atoms
 pub data IsToken : List ℕ → Lexeme → Type 0 where
   plain : {text : List ℕ} {t : Lexeme} → IsSpelling text t → IsToken text t
-  filled : {text : List ℕ} {t : Lexeme} → IsToken text t → IsToken (0xff ∷ text) t
+  filled : {text : List ℕ} {t : Lexeme} → IsToken text t → IsToken (empty_atom ∷ text) t
 
 -- the name of a named value
 pub data IsName : List ℕ → Tree → Type 0 where
@@ -63,7 +60,7 @@ room_inside = NESTING_LIMIT - 1
 
 -- a call, a reply, the end of the session, the begin or the end of a transaction
 pub data IsItem : List ℕ → Message → Type 0 where
-  a_call : {first object method start args data_end status o m s : List ℕ} {vs : Trees} → IsToken first (lexeme.mark Call) → IsToken object (lexeme.bytes o) → length o ≡ 8 → IsToken method (lexeme.bytes m) → length m ≡ 8
+  a_call : {first object method start args data_end status o m s : List ℕ} {vs : Trees} → IsToken first (lexeme.mark Call) → IsToken object (lexeme.bytes o) → length o ≡ uid_size → IsToken method (lexeme.bytes m) → length m ≡ uid_size
       → IsToken start (lexeme.mark StartList) → AreValues room_inside args vs → IsToken data_end (lexeme.mark EndOfData) → IsStatus status s
       → IsItem (first ++ (object ++ (method ++ (start ++ (args ++ (data_end ++ status)))))) (call o m vs s)
   a_reply : {start results data_end status s : List ℕ} {vs : Trees} → IsToken start (lexeme.mark StartList) → AreValues room_inside results vs → IsToken data_end (lexeme.mark EndOfData) → IsStatus status s
@@ -72,11 +69,11 @@ pub data IsItem : List ℕ → Message → Type 0 where
   a_begin : {first text : List ℕ} {n : ℕ} → IsToken first (lexeme.mark StartTransaction) → IsToken text (lexeme.number n) → IsItem (first ++ text) (begin n)
   an_end : {first text : List ℕ} {n : ℕ} → IsToken first (lexeme.mark EndTransaction) → IsToken text (lexeme.number n) → IsItem (first ++ text) (end n)
 
--- any number of FF
+-- any number of empty atoms
 pub data IsFill : List ℕ → Type 0 where
   nothing : IsFill []
-  one_fill : {text : List ℕ} → IsFill text → IsFill (0xff ∷ text)
+  one_fill : {text : List ℕ} → IsFill text → IsFill (empty_atom ∷ text)
 
--- the bytes are an item, and FF behind it
+-- the bytes are an item, and empty atoms behind it
 abbrev pub Spells : List ℕ → Message → Type 0
 Spells text m = (item : List ℕ) × (fill : List ℕ) × (text ≡ item ++ fill) × IsItem item m × IsFill fill

@@ -1,10 +1,14 @@
 -- The token at the front of bytes, or the fault that it earns (TCG Core 2.01, section 3.2.2).
-use Rattle.std.specs.Prelude.{ℕ, ◌/◌, ◌%◌, ◌^◌, List, [], ◌∷◌, length, take, drop, Result, Ok, Err, Bool, nat_lt, ◌==◌, if◌then◌else◌}
+use Rattle.std.specs.Prelude.{ℕ, ◌%◌, ◌^◌, List, [], ◌∷◌, length, take, drop, Option, Some, None, Result, Ok, Err, Bool, nat_lt, ◌==◌, if◌then◌else◌}
+use Rattle.std.specs.List.{find}
 use Rattle.tcg_tokens.specs.declared.error.TokenError.{TokenError}
 use Rattle.tcg_tokens.specs.declared.error.TokenError.TheVariants.{Truncated, Reserved, Signed, Continued, TooBig}
 use Rattle.tcg_tokens.specs.declared.limits.TheConstants.{NUMBER_BITS}
-use Rattle.tcg_tokens.specs.declared.token.Mark.TheVariants.{StartList, EndList, StartName, EndName, Call, EndOfData, EndOfSession, StartTransaction, EndTransaction}
-use Rattle.tcg_tokens.specs.Lexeme.{Lexeme, number, bytes, mark, number_from}
+use Rattle.tcg_tokens.specs.declared.token.Mark.{Mark}
+use Rattle.tcg_tokens.specs.declared.form.Form.{Form}
+use Rattle.tcg_tokens.specs.declared.form.Form.TheVariants.{Short, Medium, Long}
+use Rattle.tcg_tokens.specs.Atoms.{empty_atom, tiny_limit, least, upper_range, length_bytes, sign_bit, kind_bit, end_of, has_bit}
+use Rattle.tcg_tokens.specs.Lexeme.{Lexeme, number, bytes, mark, marks, code_of, number_from}
 
 -- what is read, and the bytes behind it; or the first fault
 infixl 10 ◌>>=◌
@@ -30,34 +34,35 @@ atom_at is_bytes is_signed upper width rest =
     else (if nat_lt (length rest) width then Err Truncated
     else content_at is_bytes (number_from upper (take width rest)) (drop width rest))
 
--- the marks, by their bytes
+-- an atom of a form, from its first byte on
+abbrev pub form_at : Form → ℕ → List ℕ → Result (Lexeme × List ℕ) TokenError
+form_at form b rest = atom_at (has_bit (kind_bit form) b) (has_bit (sign_bit form) b) (b % upper_range form) (length_bytes form) rest
+
+-- the mark that a byte is
+abbrev pub mark_of : ℕ → Option Mark
+mark_of b = find (λ m. b == code_of m) marks
+
+abbrev pub marked : Option Mark → List ℕ → Result (Lexeme × List ℕ) TokenError
+marked None rest = Err Reserved
+marked (Some m) rest = Ok (mark m, rest)
+
 abbrev pub mark_at : ℕ → List ℕ → Result (Lexeme × List ℕ) TokenError
-mark_at b rest =
-    if b == 0xf0 then Ok (mark StartList, rest)
-    else (if b == 0xf1 then Ok (mark EndList, rest)
-    else (if b == 0xf2 then Ok (mark StartName, rest)
-    else (if b == 0xf3 then Ok (mark EndName, rest)
-    else (if b == 0xf8 then Ok (mark Call, rest)
-    else (if b == 0xf9 then Ok (mark EndOfData, rest)
-    else (if b == 0xfa then Ok (mark EndOfSession, rest)
-    else (if b == 0xfb then Ok (mark StartTransaction, rest)
-    else (if b == 0xfc then Ok (mark EndTransaction, rest)
-    else Err Reserved))))))))
+mark_at b rest = marked (mark_of b) rest
 
 -- a token whose first byte is b: tiny, tiny and signed, short, medium, long, or a mark
 abbrev pub lexeme_at : ℕ → List ℕ → Result (Lexeme × List ℕ) TokenError
 lexeme_at b rest =
-    if nat_lt b 0x40 then Ok (number b, rest)
-    else (if nat_lt b 0x80 then Err Signed
-    else (if nat_lt b 0xc0 then atom_at (b / 32 % 2 == 1) (b / 16 % 2 == 1) (b % 16) 0 rest
-    else (if nat_lt b 0xe0 then atom_at (b / 16 % 2 == 1) (b / 8 % 2 == 1) (b % 8) 1 rest
-    else (if nat_lt b 0xe4 then atom_at (b / 2 % 2 == 1) (b % 2 == 1) 0 3 rest
+    if nat_lt b tiny_limit then Ok (number b, rest)
+    else (if nat_lt b (least Short) then Err Signed
+    else (if nat_lt b (least Medium) then form_at Short b rest
+    else (if nat_lt b (least Long) then form_at Medium b rest
+    else (if nat_lt b (end_of Long) then form_at Long b rest
     else mark_at b rest))))
 
--- FF stands for nothing before any token
+-- what is behind the empty atoms
 abbrev pub skip : List ℕ → List ℕ
 skip [] = []
-skip (b ∷ bs) = if b == 0xff then skip bs else b ∷ bs
+skip (b ∷ bs) = if b == empty_atom then skip bs else b ∷ bs
 
 unfoldable pub first_lexeme : List ℕ → Result (Lexeme × List ℕ) TokenError
 first_lexeme [] = Err Truncated

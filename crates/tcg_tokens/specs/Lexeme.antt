@@ -23,6 +23,10 @@ code_of EndOfSession = 0xfa
 code_of StartTransaction = 0xfb
 code_of EndTransaction = 0xfc
 
+-- all of them
+abbrev pub marks : List Mark
+marks = StartList ∷ EndList ∷ StartName ∷ EndName ∷ Call ∷ EndOfData ∷ EndOfSession ∷ StartTransaction ∷ EndTransaction ∷ []
+
 -- the bytes as one number, the highest first, behind what stands before them
 abbrev pub number_from : ℕ → List ℕ → ℕ
 number_from before [] = before

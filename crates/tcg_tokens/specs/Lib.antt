@@ -1,5 +1,6 @@
 pub mod Fault
 pub mod Length
+pub mod Atoms
 pub mod Lexeme
 pub mod Tree
 pub mod Message

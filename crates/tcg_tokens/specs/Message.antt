@@ -4,6 +4,10 @@ use Rattle.tcg_tokens.specs.declared.value.Item.{Item}
 use Rattle.tcg_tokens.specs.declared.value.Item.TheVariants.{Call, Reply, EndSession, Begin, End}
 use Rattle.tcg_tokens.specs.Tree.{Trees, trees}
 
+-- how many bytes a UID has
+abbrev pub uid_size : ℕ
+uid_size = 8
+
 pub data Message : Type 0 where
   call : (object method : List ℕ) → Trees → (status : List ℕ) → Message
   reply : Trees → (status : List ℕ) → Message

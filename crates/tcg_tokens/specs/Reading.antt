@@ -10,7 +10,7 @@ use Rattle.tcg_tokens.specs.Lex.{◌>>=◌, skip, token_at}
 use Rattle.tcg_tokens.specs.Lexeme.{Lexeme, same, is_mark}
 use Rattle.tcg_tokens.specs.Lexeme as lexeme
 use Rattle.tcg_tokens.specs.Tree.{Tree, Trees, number, bytes, list, named, empty, more}
-use Rattle.tcg_tokens.specs.Message.{Message, call, reply, end_session, begin, end}
+use Rattle.tcg_tokens.specs.Message.{Message, uid_size, call, reply, end_session, begin, end}
 
 -- that mark, and nothing else
 unfoldable pub expect : Mark → List ℕ → Result (List ℕ) TokenError
@@ -32,7 +32,7 @@ number_at text = do
 -- eight bytes, where a UID must stand
 abbrev pub uid_of : Lexeme → List ℕ → Result (List ℕ × List ℕ) TokenError
 uid_of (lexeme.number n) rest = Err Unbalanced
-uid_of (lexeme.bytes b) rest = if length b == 8 then Ok (b, rest) else Err Unbalanced
+uid_of (lexeme.bytes b) rest = if length b == uid_size then Ok (b, rest) else Err Unbalanced
 uid_of (lexeme.mark m) rest = Err Unbalanced
 
 unfoldable pub uid_at : List ℕ → Result (List ℕ × List ℕ) TokenError
@@ -146,11 +146,11 @@ message_at text = do
   t ← token_at text
   message_of t.0 t.1
 
--- nothing but FF
+-- nothing but empty atoms
 abbrev pub is_blank : List ℕ → Bool
 is_blank text = length (skip text) == 0
 
--- one item, and nothing but FF behind it
+-- one item, and nothing but empty atoms behind it
 unfoldable pub reading : List ℕ → Result Message TokenError
 reading text = do
   i ← message_at text

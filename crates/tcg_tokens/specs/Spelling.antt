@@ -1,29 +1,30 @@
--- The one spelling that the writer gives: the shortest atoms, and no FF (TCG Core 2.01, section 3.2.2).
+-- The one spelling that the writer gives: the shortest atoms, none of them empty (TCG Core 2.01, section 3.2.2).
 use Rattle.std.specs.Prelude.{ℕ, ◌+◌, ◌*◌, ◌/◌, ◌%◌, List, [], ◌∷◌, ◌++◌, length, Bool, true, false, nat_lt, ◌==◌, if◌then◌else◌}
 use Rattle.std.specs.Int.{w64, to_be_bytes}
 use Rattle.std.specs.List.{flat_map}
 use Rattle.tcg_tokens.specs.declared.token.Mark.TheVariants.{StartList, EndList, StartName, EndName, Call, EndOfData, EndOfSession, StartTransaction, EndTransaction}
 use Rattle.tcg_tokens.specs.Lexeme.{code_of}
-use Rattle.tcg_tokens.specs.Grammar.{bit}
+use Rattle.tcg_tokens.specs.declared.form.Form.TheVariants.{Short, Medium, Long}
+use Rattle.tcg_tokens.specs.Atoms.{tiny_limit, upper_range, first_byte}
 use Rattle.tcg_tokens.specs.Tree.{Tree, Trees, number, bytes, list, named, empty, more}
 use Rattle.tcg_tokens.specs.Message.{Message, call, reply, end_session, begin, end}
 
 -- what stands before the content of an atom: a short, a medium or a long one, by the length
 abbrev pub header : Bool → ℕ → List ℕ
 header is_bytes len =
-    if nat_lt len 16 then (0x80 + 32 * bit is_bytes + len) ∷ []
-    else (if nat_lt len 2048 then (0xc0 + 16 * bit is_bytes + len / 256) ∷ len % 256 ∷ []
-    else (0xe0 + 2 * bit is_bytes) ∷ len / 65536 ∷ len / 256 % 256 ∷ len % 256 ∷ [])
+    if nat_lt len (upper_range Short) then (first_byte Short is_bytes + len) ∷ []
+    else (if nat_lt len (256 * upper_range Medium) then (first_byte Medium is_bytes + len / 256) ∷ len % 256 ∷ []
+    else first_byte Long is_bytes ∷ len / 65536 ∷ len / 256 % 256 ∷ len % 256 ∷ [])
 
 -- bytes without the zeros in front
 abbrev pub significant : List ℕ → List ℕ
 significant [] = []
 significant (b ∷ bs) = if b == 0 then significant bs else b ∷ bs
 
--- a tiny atom below 64, else its bytes, the highest first and not 0
+-- a tiny atom where that is enough, else its bytes, the highest first and not 0
 unfoldable pub number_spelling : ℕ → List ℕ
 number_spelling n =
-    if nat_lt n 64 then n ∷ []
+    if nat_lt n tiny_limit then n ∷ []
     else header false (length (significant (to_be_bytes w64 n))) ++ significant (to_be_bytes w64 n)
 
 unfoldable pub bytes_spelling : List ℕ → List ℕ

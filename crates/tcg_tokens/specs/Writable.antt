@@ -4,7 +4,7 @@ use Rattle.std.specs.List.{list_all}
 use Rattle.tcg_tokens.specs.declared.limits.TheConstants.{NUMBER_BITS, LENGTH_BITS}
 use Rattle.tcg_tokens.specs.Grammar.{room_inside}
 use Rattle.tcg_tokens.specs.Tree.{Tree, Trees, number, bytes, list, named, empty, more}
-use Rattle.tcg_tokens.specs.Message.{Message, call, reply, end_session, begin, end}
+use Rattle.tcg_tokens.specs.Message.{Message, uid_size, call, reply, end_session, begin, end}
 
 -- is it a number of 64 bits?
 abbrev pub fits_number : ℕ → Bool
@@ -42,9 +42,9 @@ is_writable end_session = true
 is_writable (begin n) = fits_number n
 is_writable (end n) = fits_number n
 
--- The shape that an item has by its type: UIDs of eight bytes, and a status of three numbers.
+-- The shape that an item has by its type: UIDs, and a status of three numbers.
 abbrev pub IsShaped : Message → Type 0
-IsShaped (call object method args status) = (length object ≡ 8) × (length method ≡ 8) × (length status ≡ 3)
+IsShaped (call object method args status) = (length object ≡ uid_size) × (length method ≡ uid_size) × (length status ≡ 3)
 IsShaped (reply results status) = length status ≡ 3
 IsShaped end_session = Unit {0}
 IsShaped (begin n) = Unit {0}

@@ -6,6 +6,7 @@ ghost use Rattle.tcg_tokens.specs.Message.{message};
 ghost use Rattle.tcg_tokens.specs.Spelling.{number_spelling, bytes_spelling, spelling_of, status_spelling};
 ghost use Rattle.tcg_tokens.specs.Tree.{tree, trees, list};
 
+use crate::form::{Form, TINY_LIMIT};
 use crate::value::{Call, Item, Reply, Value};
 use crate::write::without_zeros;
 
@@ -47,7 +48,7 @@ fn number_len(number: u64) -> usize
     ensures value { result ≡ length (number_spelling number) }
     ensures bound { result ≤ 9 }
 {
-    if number < 64 {
+    if number < u64::from(TINY_LIMIT) {
         return 1;
     }
     1 + without_zeros(&number.to_be_bytes()).len()
@@ -59,9 +60,9 @@ fn bytes_len(content: &[u8]) -> usize
     ensures { result ≡ capped (length (bytes_spelling content.now)) }
 {
     let len = content.len();
-    let header = if len < 16 {
+    let header = if len < usize::from(Form::Short.upper_range()) {
         1
-    } else if len < 2048 {
+    } else if len < 256 * usize::from(Form::Medium.upper_range()) {
         2
     } else {
         4

@@ -8,6 +8,7 @@
 
 mod condition;
 mod error;
+mod form;
 mod length;
 pub mod limits;
 mod read;

@@ -1,9 +1,9 @@
 //! Values, items and faults as text.
 
-ghost use Rattle.std.specs.Prelude.{◌≡◌, ◌++◌, string_bytes, OnOk, IfOk, codes, decimal};
+ghost use Rattle.std.specs.Prelude.{◌≡◌, ◌++◌, string_bytes, OnOk, IfOk, codes, decimal, if◌then◌else◌};
 ghost use Rattle.hex.specs.Hex.{encode_lower};
 ghost use Rattle.tcg_tokens.specs.Message.{message};
-ghost use Rattle.tcg_tokens.specs.Text.{text_of, gap_of, status_text, item_text_of, fault_text_of};
+ghost use Rattle.tcg_tokens.specs.Text.{text_of, status_text, item_text_of, fault_text_of};
 ghost use Rattle.tcg_tokens.specs.Tree.{tree, trees, list};
 
 use crate::error::TokenError;
@@ -101,7 +101,7 @@ fn show_value(alloc: Global, value: &Value, text: &mut String) -> Result<(), All
 
 /// What stands before a value of a list: a blank between each two.
 fn gap(is_first: bool) -> &'static str
-    ensures { result.now ≡ gap_of is_first }
+    ensures { result.now ≡ (if is_first then codes "" else codes " ") }
 {
     if is_first { "" } else { " " }
 }

@@ -2,11 +2,12 @@
 
 ghost use Rattle.std.specs.Prelude.{◌≡◌, ◌≤◌, ◌<◌, ◌^◌, length, nat_lt, Some, None, if◌then◌else◌};
 ghost use Rattle.tcg_tokens.specs.Gives.{Gives};
-ghost use Rattle.tcg_tokens.specs.Lex.{content_at, atom_at, mark_at, lexeme_at, token_at, skip};
+ghost use Rattle.tcg_tokens.specs.Lex.{content_at, atom_at, form_at, mark_of, mark_at, lexeme_at, token_at, skip};
 ghost use Rattle.tcg_tokens.specs.Lexeme.{code_of, number_from, same, is_mark, seen};
 ghost use Rattle.tcg_tokens.specs.declared.token.Mark.TheVariants.{EndList};
 
 use crate::error::TokenError;
+use crate::form::{EMPTY_ATOM, Form, TINY_LIMIT};
 use crate::limits::NUMBER_BITS;
 
 /// A token that is one byte.
@@ -22,6 +23,19 @@ pub(crate) enum Mark {
     StartTransaction,
     EndTransaction,
 }
+
+/// All of them.
+const MARKS: [Mark; 9] = [
+    Mark::StartList,
+    Mark::EndList,
+    Mark::StartName,
+    Mark::EndName,
+    Mark::Call,
+    Mark::EndOfData,
+    Mark::EndOfSession,
+    Mark::StartTransaction,
+    Mark::EndTransaction,
+];
 
 /// A token. The bytes of an atom lie in the input.
 #[derive(Clone, Copy)]
@@ -107,31 +121,45 @@ fn atom(
     content(is_bytes, length_of(upper, len), rest)
 }
 
+/// An atom of a form, from its first byte on.
+fn form_at(form: Form, first: u8, rest: &[u8]) -> Result<(Token<'_>, &[u8]), TokenError>
+    ensures { Gives (λ x. (seen x.0, x.1.now)) result (form_at form first rest.now) }
+{
+    let sign_bit = form.upper_range();
+    let is_bytes = first / (2 * sign_bit) % 2 == 1;
+    let is_signed = first / sign_bit % 2 == 1;
+    atom(
+        is_bytes,
+        is_signed,
+        first % form.upper_range(),
+        form.length_bytes(),
+        rest,
+    )
+}
+
+/// The mark that a byte is.
+fn mark_of(byte: u8) -> Option<Mark>
+    ensures { result ≡ mark_of byte }
+{
+    MARKS.iter().copied().find(|mark| byte == mark.code())
+}
+
 /// The mark that a byte is, and what is behind it.
 fn mark_from(byte: u8, rest: &[u8]) -> Result<(Token<'_>, &[u8]), TokenError>
     ensures { Gives (λ x. (seen x.0, x.1.now)) result (mark_at byte rest.now) }
 {
-    let mark = match byte {
-        0xf0 => Mark::StartList,
-        0xf1 => Mark::EndList,
-        0xf2 => Mark::StartName,
-        0xf3 => Mark::EndName,
-        0xf8 => Mark::Call,
-        0xf9 => Mark::EndOfData,
-        0xfa => Mark::EndOfSession,
-        0xfb => Mark::StartTransaction,
-        0xfc => Mark::EndTransaction,
-        _ => return Err(TokenError::Reserved),
-    };
-    Ok((Token::Mark(mark), rest))
+    match mark_of(byte) {
+        Some(mark) => Ok((Token::Mark(mark), rest)),
+        None => Err(TokenError::Reserved),
+    }
 }
 
-/// The bytes without the FF in front, which stands for nothing.
+/// The bytes without the empty atoms in front.
 pub(crate) fn skipped(bytes: &[u8]) -> &[u8]
     ensures { result.now ≡ skip bytes.now }
 {
     let mut rest = bytes;
-    while let [0xff, after @ ..] = rest {
+    while let [EMPTY_ATOM, after @ ..] = rest {
         rest = after;
     }
     rest
@@ -141,26 +169,20 @@ pub(crate) fn skipped(bytes: &[u8]) -> &[u8]
 fn token_from(first: u8, rest: &[u8]) -> Result<(Token<'_>, &[u8]), TokenError>
     ensures { Gives (λ x. (seen x.0, x.1.now)) result (lexeme_at first rest.now) }
 {
-    if first < 0x40 {
+    if first < TINY_LIMIT {
         return Ok((Token::Number(u64::from(first)), rest));
     }
-    if first < 0x80 {
+    if first < Form::Short.least() {
         return Err(TokenError::Signed);
     }
-    if first < 0xc0 {
-        return atom(
-            first / 32 % 2 == 1,
-            first / 16 % 2 == 1,
-            first % 16,
-            0,
-            rest,
-        );
+    if first < Form::Medium.least() {
+        return form_at(Form::Short, first, rest);
     }
-    if first < 0xe0 {
-        return atom(first / 16 % 2 == 1, first / 8 % 2 == 1, first % 8, 1, rest);
+    if first < Form::Long.least() {
+        return form_at(Form::Medium, first, rest);
     }
-    if first < 0xe4 {
-        return atom(first / 2 % 2 == 1, first % 2 == 1, 0, 3, rest);
+    if first < Form::Long.least() + 4 * Form::Long.upper_range() {
+        return form_at(Form::Long, first, rest);
     }
     mark_from(first, rest)
 }

@@ -12,6 +12,7 @@ ghost use Rattle.tcg_tokens.specs.Spelling.{header, significant, number_spelling
 ghost use Rattle.tcg_tokens.specs.Tree.{tree, trees, list};
 ghost use Rattle.tcg_tokens.specs.Writable.{has_short_atoms, have_short_atoms, is_writable, IsShaped};
 
+use crate::form::{Form, TINY_LIMIT};
 use crate::length::item_len;
 use crate::token::Mark;
 use crate::value::{Call, Item, Reply, Value};
@@ -90,22 +91,24 @@ fn put_header(out: &mut Vec<u8>, is_bytes: bool, len: usize)
     ensures len { vec_len out.new ≡ vec_len out.old + length (header is_bytes len) }
     ensures kept { vec_capacity out.old ≤ vec_capacity out.new }
 {
-    let kind = u8::from(is_bytes);
-    if len < 16 {
-        put(out, 0x80 + 32 * kind + len as u8);
+    if len < usize::from(Form::Short.upper_range()) {
+        put(out, Form::Short.first_byte(is_bytes) + len as u8);
         return;
     }
-    if len < 2048 {
+    if len < 256 * usize::from(Form::Medium.upper_range()) {
         put_all(
             out,
-            &[0xc0 + 16 * kind + (len / 256) as u8, (len % 256) as u8],
+            &[
+                Form::Medium.first_byte(is_bytes) + (len / 256) as u8,
+                (len % 256) as u8,
+            ],
         );
         return;
     }
     put_all(
         out,
         &[
-            0xe0 + 2 * kind,
+            Form::Long.first_byte(is_bytes),
             (len / 65536) as u8,
             (len / 256 % 256) as u8,
             (len % 256) as u8,
@@ -132,7 +135,7 @@ fn put_number(out: &mut Vec<u8>, number: u64)
     ensures len { vec_len out.new ≡ vec_len out.old + length (number_spelling number) }
     ensures kept { vec_capacity out.old ≤ vec_capacity out.new }
 {
-    if number < 64 {
+    if number < u64::from(TINY_LIMIT) {
         put(out, number as u8);
         return;
     }

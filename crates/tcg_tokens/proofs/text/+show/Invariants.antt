@@ -1,7 +1,13 @@
-use Rattle.std.proofs.Common.{◌≡◌, ◌++◌, string_bytes, drop, true, codes}
-use Rattle.tcg_tokens.specs.Text.{texts_of}
+use Rattle.std.proofs.Common.{◌≡◌, ◌++◌, Bool, true, false, List, ℕ, string_bytes, drop, codes}
+use Rattle.std.specs.List.{flat_map}
+use Rattle.tcg_tokens.specs.Text.{with_blanks, texts_of}
 use Rattle.tcg_tokens.specs.Tree.{trees}
 use Rattle.tcg_tokens.proofs.text.+show.Given as goal
 
+-- the texts that are left, a blank before each later one
+abbrev rest_of : (is_first : Bool) → List (List ℕ) → List ℕ
+rest_of true texts = with_blanks texts
+rest_of false texts = flat_map (λ text. codes " " ++ text) texts
+
 abbrev pub invariant-show_list-loop-item : goal.invariant-show_list-loop-item
-invariant-show_list-loop-item l = string_bytes l.text ++ texts_of l.is_first (trees (drop l.item-index l.items.items)) ≡ (string_bytes l.fn.text ++ codes "[") ++ texts_of true (trees l.items.items)
+invariant-show_list-loop-item l = string_bytes l.text ++ rest_of l.is_first (texts_of (trees (drop l.item-index l.items.items))) ≡ (string_bytes l.fn.text ++ codes "[") ++ with_blanks (texts_of (trees l.items.items))

@@ -1,5 +1,5 @@
 -- What is written behind the reference stands in the memory.
-use Rattle.std.proofs.Common.{◌≡◌, ◌≤◌, ◌+◌, length, rules, refl, sym, ap, ◌∙◌, arith, take}
+use Rattle.std.proofs.Common.{◌≡◌, length, rules, refl, sym, ap, ◌∙◌, arith, take}
 use Rattle.std.proofs.lemmas.List.{places}
 use Rattle.slots.specs.Layout.{memory_size, laid, part}
 use Rattle.slots.proofs.Lending.{lent_part, whole_part, part_filled}
