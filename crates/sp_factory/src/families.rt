@@ -1,10 +1,11 @@
 ghost use Rattle.std.specs.Prelude.{◌≡◌, ◌+◌, ◌<◌, ◌≤◌, ◌^◌, [], ◌∷◌, ◌++◌, IfOk, OnOk, string_bytes};
-ghost use Rattle.sp_cells.specs.Names.{entry_uid};
+ghost use Rattle.sp_cells.specs.Names.{admin_base, user_base, admin_pin_base, user_pin_base, range_base, entry_uid, user_entry_base, read_entry_base, write_entry_base};
 ghost use Rattle.sp_rows.specs.Items.{rows_from};
 ghost use Rattle.sp_rows.specs.Columns.{authority_columns, pin_columns, range_columns, entry_columns};
 ghost use Rattle.sp_factory.specs.Factory.{family, admin_authority, user_authority, admin_pin, user_pin, numbered_range, user_entry, read_entry, write_entry};
 
 use crate::new_rows::{either, entry, member, only, pin, push_row, range};
+use sp_cells::limits::NEW_TRY_LIMIT;
 use sp_cells::{ADMINS, Column, RANGES, USERS, Uid};
 use sp_rows::{AuthorityRow, EntryRow, PinRow, RangeRow};
 use std::alloc::{AllocError, Global};
@@ -35,7 +36,7 @@ fn admin_row(alloc: Global, n: u8) -> Result<AuthorityRow, AllocError>
 
 /// All of them, by number.
 pub fn admin_rows(alloc: Global) -> Result<Vec<AuthorityRow>, AllocError>
-    ensures { IfOk result (λ rows. rows_from authority_columns (0x0000000900010000 + 1) rows.items ≡ family 0x0000000900010000 admin_authority ADMINS) }
+    ensures { IfOk result (λ rows. rows_from authority_columns (admin_base + 1) rows.items ≡ family admin_base admin_authority ADMINS) }
 {
     let mut rows = Vec::with_capacity(alloc, usize::from(ADMINS))?;
     for i in 0..ADMINS {
@@ -61,7 +62,7 @@ fn user_row(alloc: Global, n: u8) -> Result<AuthorityRow, AllocError>
 
 /// All of them, by number.
 pub fn user_rows(alloc: Global) -> Result<Vec<AuthorityRow>, AllocError>
-    ensures { IfOk result (λ rows. rows_from authority_columns (0x0000000900030000 + 1) rows.items ≡ family 0x0000000900030000 user_authority USERS) }
+    ensures { IfOk result (λ rows. rows_from authority_columns (user_base + 1) rows.items ≡ family user_base user_authority USERS) }
 {
     let mut rows = Vec::with_capacity(alloc, usize::from(USERS))?;
     for i in 0..USERS {
@@ -75,13 +76,13 @@ fn admin_pin_row(alloc: Global, n: u8) -> Result<PinRow, AllocError>
     ensures { IfOk result (λ r. pin_columns r ≡ admin_pin n) }
 {
     let name = format!(in alloc; "C_PIN_Admin{n}")?;
-    let row = pin(alloc, Uid::pin_of_admin(n), name, &[], 5)?;
+    let row = pin(alloc, Uid::pin_of_admin(n), name, &[], NEW_TRY_LIMIT)?;
     Ok(row)
 }
 
 /// All of them, by number.
 pub fn admin_pin_rows(alloc: Global) -> Result<Vec<PinRow>, AllocError>
-    ensures { IfOk result (λ rows. rows_from pin_columns (0x0000000b00010000 + 1) rows.items ≡ family 0x0000000b00010000 admin_pin ADMINS) }
+    ensures { IfOk result (λ rows. rows_from pin_columns (admin_pin_base + 1) rows.items ≡ family admin_pin_base admin_pin ADMINS) }
 {
     let mut rows = Vec::with_capacity(alloc, usize::from(ADMINS))?;
     for i in 0..ADMINS {
@@ -95,13 +96,13 @@ fn user_pin_row(alloc: Global, n: u8) -> Result<PinRow, AllocError>
     ensures { IfOk result (λ r. pin_columns r ≡ user_pin n) }
 {
     let name = format!(in alloc; "C_PIN_User{n}")?;
-    let row = pin(alloc, Uid::pin_of_user(n), name, &[], 5)?;
+    let row = pin(alloc, Uid::pin_of_user(n), name, &[], NEW_TRY_LIMIT)?;
     Ok(row)
 }
 
 /// All of them, by number.
 pub fn user_pin_rows(alloc: Global) -> Result<Vec<PinRow>, AllocError>
-    ensures { IfOk result (λ rows. rows_from pin_columns (0x0000000b00030000 + 1) rows.items ≡ family 0x0000000b00030000 user_pin USERS) }
+    ensures { IfOk result (λ rows. rows_from pin_columns (user_pin_base + 1) rows.items ≡ family user_pin_base user_pin USERS) }
 {
     let mut rows = Vec::with_capacity(alloc, usize::from(USERS))?;
     for i in 0..USERS {
@@ -120,7 +121,7 @@ fn range_row(alloc: Global, n: u8) -> Result<RangeRow, AllocError>
 
 /// All of them, by number.
 pub fn range_rows(alloc: Global) -> Result<Vec<RangeRow>, AllocError>
-    ensures { IfOk result (λ rows. rows_from range_columns (0x0000080200030000 + 1) rows.items ≡ family 0x0000080200030000 numbered_range RANGES) }
+    ensures { IfOk result (λ rows. rows_from range_columns (range_base + 1) rows.items ≡ family range_base numbered_range RANGES) }
 {
     let mut rows = Vec::with_capacity(alloc, usize::from(RANGES))?;
     for i in 0..RANGES {
@@ -147,7 +148,7 @@ fn user_entry_row(alloc: Global, n: u8) -> Result<EntryRow, AllocError>
 
 /// All of them, by number.
 pub fn user_entry_rows(alloc: Global) -> Result<Vec<EntryRow>, AllocError>
-    ensures { IfOk result (λ rows. rows_from entry_columns (0x000000080003a800 + 1) rows.items ≡ family 0x000000080003a800 user_entry USERS) }
+    ensures { IfOk result (λ rows. rows_from entry_columns (user_entry_base + 1) rows.items ≡ family user_entry_base user_entry USERS) }
 {
     let mut rows = Vec::with_capacity(alloc, usize::from(USERS))?;
     for i in 0..USERS {
@@ -174,7 +175,7 @@ pub fn read_entry_row(alloc: Global, n: u8) -> Result<EntryRow, AllocError>
 
 /// All of them, by number.
 pub fn read_entry_rows(alloc: Global) -> Result<Vec<EntryRow>, AllocError>
-    ensures { IfOk result (λ rows. rows_from entry_columns (0x000000080003e000 + 1) rows.items ≡ family 0x000000080003e000 read_entry RANGES) }
+    ensures { IfOk result (λ rows. rows_from entry_columns (read_entry_base + 1) rows.items ≡ family read_entry_base read_entry RANGES) }
 {
     let mut rows = Vec::with_capacity(alloc, usize::from(RANGES))?;
     for i in 0..RANGES {
@@ -201,7 +202,7 @@ pub fn write_entry_row(alloc: Global, n: u8) -> Result<EntryRow, AllocError>
 
 /// All of them, by number.
 pub fn write_entry_rows(alloc: Global) -> Result<Vec<EntryRow>, AllocError>
-    ensures { IfOk result (λ rows. rows_from entry_columns (0x000000080003e800 + 1) rows.items ≡ family 0x000000080003e800 write_entry RANGES) }
+    ensures { IfOk result (λ rows. rows_from entry_columns (write_entry_base + 1) rows.items ≡ family write_entry_base write_entry RANGES) }
 {
     let mut rows = Vec::with_capacity(alloc, usize::from(RANGES))?;
     for i in 0..RANGES {
