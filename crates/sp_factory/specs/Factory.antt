@@ -1,5 +1,5 @@
 -- The cells of a new drive (Opal SSC 2.01, sections 4.2 and 4.3).
-use Rattle.std.specs.Prelude.{◌+◌, ◌==◌, ℕ, true, false, List, [], ◌∷◌, ◌++◌, zero, suc, codes, map, if◌then◌else◌}
+use Rattle.std.specs.Prelude.{◌≡◌, ◌≤◌, ◌+◌, ◌==◌, ℕ, true, false, List, [], ◌∷◌, ◌++◌, zero, suc, codes, map, if◌then◌else◌}
 use Rattle.std.specs.Fmt.{decimal}
 use Rattle.sp_cells.specs.declared.names.TheConstants.{RANGES, USERS, ADMINS}
 use Rattle.sp_cells.specs.declared.names.Uid.{Uid}
@@ -11,7 +11,7 @@ use Rattle.sp_cells.specs.declared.cells.Element.TheVariants.{Authority, Or}
 use Rattle.sp_cells.specs.Limits.{new_try_limit, no_try_limit, manufactured, manufactured_inactive}
 use Rattle.sp_cells.specs.Names.{uid, col, none, admin_sp, locking_sp, anybody, sid, admins_class, admin_base, admin_uid, users_class, user_base, user_uid, sid_pin, msid_pin, admin_pin_base, admin_pin_uid, user_pin_base, user_pin_uid, global_range, range_base, mbr_control}
 use Rattle.sp_cells.specs.Names.{anybody_entry, admins_entry, common_name_entry, get_sid_pin_entry, set_sid_pin_entry, get_msid_entry, sps_entry, set_expression_entry, set_enabled_entry, get_pins_entry, set_admin_pins_entry, user_entry_base, user_entry_uid, get_ranges_entry, read_entry_base, read_entry_uid, write_entry_base, write_entry_uid, set_global_range_entry, set_ranges_entry, set_mbr_control_entry, set_mbr_done_entry}
-use Rattle.sp_rows.specs.Items.{Item, row_items}
+use Rattle.sp_rows.specs.Items.{Item, row_items, rows_from}
 
 -- the columns of a new row of each table
 
@@ -53,6 +53,10 @@ entry_row entry name authority columns = row_items entry (new_entry entry name (
 abbrev pub family : ℕ → (ℕ → List (Column × Cell)) → ℕ → List Item
 family base values zero = []
 family base values (suc n) = family base values n ++ row_items (uid (base + suc n)) (values (suc n))
+
+-- these rows are a family wherever P says what the row of each number is
+abbrev pub IsFamilyOf : {R : Type 0} → (R → List (Column × Cell)) → (ℕ → R → Type 0) → ℕ → List R → Type 0
+IsFamilyOf columns P count rows = (base : ℕ) (values : ℕ → List (Column × Cell)) → ((n : ℕ) (r : _) → n ≤ count → P n r → columns r ≡ values n) → rows_from columns (base + 1) rows ≡ family base values count
 
 -- SPs: the Admin SP is Manufactured, the Locking SP Manufactured-Inactive
 unfoldable pub admin_sps : List Item

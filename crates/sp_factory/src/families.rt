@@ -1,13 +1,13 @@
-ghost use Rattle.std.specs.Prelude.{◌≡◌, ◌+◌, ◌<◌, ◌≤◌, ◌^◌, [], ◌∷◌, ◌++◌, IfOk, OnOk, string_bytes};
+ghost use Rattle.std.specs.Prelude.{◌≡◌, ◌+◌, ◌<◌, ◌≤◌, ◌^◌, [], ◌∷◌, ◌++◌, IfOk, OnOk, Ok, string_bytes};
 ghost use Rattle.sp_cells.specs.Names.{admin_base, user_base, admin_pin_base, user_pin_base, range_base, entry_uid, user_entry_base, read_entry_base, write_entry_base};
 ghost use Rattle.sp_rows.specs.Items.{rows_from};
 ghost use Rattle.sp_rows.specs.Columns.{authority_columns, pin_columns, range_columns, entry_columns};
-ghost use Rattle.sp_factory.specs.Factory.{family, admin_authority, user_authority, admin_pin, user_pin, numbered_range, user_entry, read_entry, write_entry};
+ghost use Rattle.sp_factory.specs.Factory.{family, IsFamilyOf, admin_authority, user_authority, admin_pin, user_pin, numbered_range, user_entry, read_entry, write_entry};
 
 use crate::new_rows::{either, entry, member, only, pin, push_row, range};
 use sp_cells::limits::NEW_TRY_LIMIT;
 use sp_cells::{ADMINS, Column, RANGES, USERS, Uid};
-use sp_rows::{AuthorityRow, EntryRow, PinRow, RangeRow};
+use sp_rows::{AuthorityRow, EntryRow, PinRow, RangeRow, Row};
 use std::alloc::{AllocError, Global};
 
 /// An access entry by its number.
@@ -16,6 +16,22 @@ pub fn entry_of(number: u64) -> Uid
     ensures { result ≡ entry_uid number }
 {
     Uid(0x0000_0008_0000_0000 + number)
+}
+
+/// The rows of the numbers 1 to `count`.
+fn numbered<R: Row + Drop, F: Fn(Global, u8) -> Result<R, AllocError>>(
+    alloc: Global,
+    count: u8,
+    row: F,
+) -> Result<Vec<R>, AllocError>
+    requires { F.IsAlwaysCallable row }
+    ensures { IfOk result (λ rows. IsFamilyOf R.held (λ n r. F.post row alloc n (Ok r)) count rows.items) }
+{
+    let mut rows = Vec::with_capacity(alloc, usize::from(count))?;
+    for i in 0..count {
+        push_row(&mut rows, row(alloc, i + 1)?)?;
+    }
+    Ok(rows)
 }
 
 /// An Admin; the first alone is enabled.
@@ -38,10 +54,7 @@ fn admin_row(alloc: Global, n: u8) -> Result<AuthorityRow, AllocError>
 pub fn admin_rows(alloc: Global) -> Result<Vec<AuthorityRow>, AllocError>
     ensures { IfOk result (λ rows. rows_from authority_columns (admin_base + 1) rows.items ≡ family admin_base admin_authority ADMINS) }
 {
-    let mut rows = Vec::with_capacity(alloc, usize::from(ADMINS))?;
-    for i in 0..ADMINS {
-        push_row(&mut rows, admin_row(alloc, i + 1)?)?;
-    }
+    let rows = numbered(alloc, ADMINS, admin_row)?;
     Ok(rows)
 }
 
@@ -64,10 +77,7 @@ fn user_row(alloc: Global, n: u8) -> Result<AuthorityRow, AllocError>
 pub fn user_rows(alloc: Global) -> Result<Vec<AuthorityRow>, AllocError>
     ensures { IfOk result (λ rows. rows_from authority_columns (user_base + 1) rows.items ≡ family user_base user_authority USERS) }
 {
-    let mut rows = Vec::with_capacity(alloc, usize::from(USERS))?;
-    for i in 0..USERS {
-        push_row(&mut rows, user_row(alloc, i + 1)?)?;
-    }
+    let rows = numbered(alloc, USERS, user_row)?;
     Ok(rows)
 }
 
@@ -84,10 +94,7 @@ fn admin_pin_row(alloc: Global, n: u8) -> Result<PinRow, AllocError>
 pub fn admin_pin_rows(alloc: Global) -> Result<Vec<PinRow>, AllocError>
     ensures { IfOk result (λ rows. rows_from pin_columns (admin_pin_base + 1) rows.items ≡ family admin_pin_base admin_pin ADMINS) }
 {
-    let mut rows = Vec::with_capacity(alloc, usize::from(ADMINS))?;
-    for i in 0..ADMINS {
-        push_row(&mut rows, admin_pin_row(alloc, i + 1)?)?;
-    }
+    let rows = numbered(alloc, ADMINS, admin_pin_row)?;
     Ok(rows)
 }
 
@@ -104,10 +111,7 @@ fn user_pin_row(alloc: Global, n: u8) -> Result<PinRow, AllocError>
 pub fn user_pin_rows(alloc: Global) -> Result<Vec<PinRow>, AllocError>
     ensures { IfOk result (λ rows. rows_from pin_columns (user_pin_base + 1) rows.items ≡ family user_pin_base user_pin USERS) }
 {
-    let mut rows = Vec::with_capacity(alloc, usize::from(USERS))?;
-    for i in 0..USERS {
-        push_row(&mut rows, user_pin_row(alloc, i + 1)?)?;
-    }
+    let rows = numbered(alloc, USERS, user_pin_row)?;
     Ok(rows)
 }
 
@@ -123,10 +127,7 @@ fn range_row(alloc: Global, n: u8) -> Result<RangeRow, AllocError>
 pub fn range_rows(alloc: Global) -> Result<Vec<RangeRow>, AllocError>
     ensures { IfOk result (λ rows. rows_from range_columns (range_base + 1) rows.items ≡ family range_base numbered_range RANGES) }
 {
-    let mut rows = Vec::with_capacity(alloc, usize::from(RANGES))?;
-    for i in 0..RANGES {
-        push_row(&mut rows, range_row(alloc, i + 1)?)?;
-    }
+    let rows = numbered(alloc, RANGES, range_row)?;
     Ok(rows)
 }
 
@@ -150,10 +151,7 @@ fn user_entry_row(alloc: Global, n: u8) -> Result<EntryRow, AllocError>
 pub fn user_entry_rows(alloc: Global) -> Result<Vec<EntryRow>, AllocError>
     ensures { IfOk result (λ rows. rows_from entry_columns (user_entry_base + 1) rows.items ≡ family user_entry_base user_entry USERS) }
 {
-    let mut rows = Vec::with_capacity(alloc, usize::from(USERS))?;
-    for i in 0..USERS {
-        push_row(&mut rows, user_entry_row(alloc, i + 1)?)?;
-    }
+    let rows = numbered(alloc, USERS, user_entry_row)?;
     Ok(rows)
 }
 
@@ -177,10 +175,7 @@ pub fn read_entry_row(alloc: Global, n: u8) -> Result<EntryRow, AllocError>
 pub fn read_entry_rows(alloc: Global) -> Result<Vec<EntryRow>, AllocError>
     ensures { IfOk result (λ rows. rows_from entry_columns (read_entry_base + 1) rows.items ≡ family read_entry_base read_entry RANGES) }
 {
-    let mut rows = Vec::with_capacity(alloc, usize::from(RANGES))?;
-    for i in 0..RANGES {
-        push_row(&mut rows, read_entry_row(alloc, i + 1)?)?;
-    }
+    let rows = numbered(alloc, RANGES, read_entry_row)?;
     Ok(rows)
 }
 
@@ -204,9 +199,6 @@ pub fn write_entry_row(alloc: Global, n: u8) -> Result<EntryRow, AllocError>
 pub fn write_entry_rows(alloc: Global) -> Result<Vec<EntryRow>, AllocError>
     ensures { IfOk result (λ rows. rows_from entry_columns (write_entry_base + 1) rows.items ≡ family write_entry_base write_entry RANGES) }
 {
-    let mut rows = Vec::with_capacity(alloc, usize::from(RANGES))?;
-    for i in 0..RANGES {
-        push_row(&mut rows, write_entry_row(alloc, i + 1)?)?;
-    }
+    let rows = numbered(alloc, RANGES, write_entry_row)?;
     Ok(rows)
 }

@@ -1,9 +1,0 @@
-use Rattle.std.proofs.Common.{◌≡◌, ◌+◌, length}
-use Rattle.sp_cells.specs.Names.{user_base}
-use Rattle.sp_rows.specs.Items.{rows_from}
-use Rattle.sp_rows.specs.Columns.{authority_columns}
-use Rattle.sp_factory.specs.Factory.{family, user_authority}
-use Rattle.sp_factory.proofs.families.user_rows.Given as goal
-
-abbrev pub invariant-loop-i : goal.invariant-loop-i
-invariant-loop-i l = (length l.rows.items ≡ l.i) × (rows_from authority_columns (user_base + 1) l.rows.items ≡ family user_base user_authority l.i)
