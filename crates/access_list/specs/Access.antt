@@ -4,7 +4,8 @@ use Rattle.arrayvec.specs.ArrayVec.{ArrayVec}
 use Rattle.sp_cells.specs.declared.names.Uid.{Uid}
 use Rattle.sp_cells.specs.declared.names.Sp.{Sp}
 use Rattle.sp_cells.specs.declared.names.Sp.TheVariants.{Admin, Locking}
-use Rattle.sp_cells.specs.Names.{uid, get, set, authenticate, revert, activate, range_uid, admin_uid, user_uid, admin_pin_uid, user_pin_uid, entry_uid, user_entry_uid, read_entry_uid, write_entry_uid}
+use Rattle.sp_cells.specs.Names.{get, set, authenticate, revert, activate, this_sp, admin_sp, locking_sp, anybody, sid, admin_uid, user_uid, sid_pin, msid_pin, admin_pin_uid, user_pin_uid, global_range, range_uid, mbr_control, mbr_table}
+use Rattle.sp_cells.specs.Names.{anybody_entry, admins_entry, common_name_entry, get_sid_pin_entry, set_sid_pin_entry, get_msid_entry, sps_entry, set_expression_entry, set_enabled_entry, get_pins_entry, set_admin_pins_entry, user_entry_uid, get_ranges_entry, read_entry_uid, write_entry_uid, set_global_range_entry, set_ranges_entry, set_mbr_control_entry, set_mbr_done_entry}
 use Rattle.sp_cells.specs.Authorities.{admins, users, numbered_ranges, all_ranges, authorities_of_locking}
 use Rattle.sp_cells.specs.Flat.{sp_eq}
 
@@ -24,36 +25,36 @@ grants sp objects method allowing = map (λ object. grant sp object method allow
 
 -- the SPs themselves
 unfoldable pub this_sp_grants : List Grant
-this_sp_grants = grant Admin (uid 1) authenticate (entry_uid 1 ∷ []) ∷ grant Locking (uid 1) authenticate (entry_uid 1 ∷ []) ∷ []
+this_sp_grants = grant Admin this_sp authenticate (anybody_entry ∷ []) ∷ grant Locking this_sp authenticate (anybody_entry ∷ []) ∷ []
 
 -- the Admin SP
 unfoldable pub admin_grants : List Grant
 admin_grants =
-    grants Admin (uid 0x0000020500000001 ∷ uid 0x0000020500000002 ∷ uid 0x0000000900000001 ∷ uid 0x0000000900000006 ∷ entry_uid 1 ∷ entry_uid 0x8c02 ∷ entry_uid 0x8c03 ∷ entry_uid 0x8c04 ∷ entry_uid 0x30002 ∷ []) get (entry_uid 1 ∷ [])
-    ++ grant Admin (uid 0x0000000b00000001) get (entry_uid 0x8c02 ∷ [])
-    ∷ grant Admin (uid 0x0000000b00000001) set (entry_uid 0x8c03 ∷ [])
-    ∷ grant Admin (uid 0x0000000b00008402) get (entry_uid 0x8c04 ∷ [])
-    ∷ grant Admin (uid 0x0000020500000002) activate (entry_uid 0x30002 ∷ [])
-    ∷ grant Admin (uid 0x0000020500000002) revert (entry_uid 0x30002 ∷ [])
-    ∷ grant Admin (uid 0x0000020500000001) revert (entry_uid 0x30002 ∷ [])
+    grants Admin (admin_sp ∷ locking_sp ∷ anybody ∷ sid ∷ anybody_entry ∷ get_sid_pin_entry ∷ set_sid_pin_entry ∷ get_msid_entry ∷ sps_entry ∷ []) get (anybody_entry ∷ [])
+    ++ grant Admin sid_pin get (get_sid_pin_entry ∷ [])
+    ∷ grant Admin sid_pin set (set_sid_pin_entry ∷ [])
+    ∷ grant Admin msid_pin get (get_msid_entry ∷ [])
+    ∷ grant Admin locking_sp activate (sps_entry ∷ [])
+    ∷ grant Admin locking_sp revert (sps_entry ∷ [])
+    ∷ grant Admin admin_sp revert (sps_entry ∷ [])
     ∷ []
 
 unfoldable pub authority_grants : List Grant
 authority_grants =
-    grants Locking authorities_of_locking get (entry_uid 2 ∷ entry_uid 3 ∷ [])
-    ++ grants Locking (map admin_uid (drop 1 admins)) set (entry_uid 0x39001 ∷ [])
-    ++ grants Locking (map user_uid users) set (entry_uid 0x39001 ∷ [])
+    grants Locking authorities_of_locking get (admins_entry ∷ common_name_entry ∷ [])
+    ++ grants Locking (map admin_uid (drop 1 admins)) set (set_enabled_entry ∷ [])
+    ++ grants Locking (map user_uid users) set (set_enabled_entry ∷ [])
 
 -- entries whose expression can be set
 abbrev pub settable : List Uid → List Grant
-settable entries = grants Locking entries get (entry_uid 2 ∷ entry_uid 3 ∷ []) ++ grants Locking entries set (entry_uid 0x38001 ∷ [])
+settable entries = grants Locking entries get (admins_entry ∷ common_name_entry ∷ []) ++ grants Locking entries set (set_expression_entry ∷ [])
 
 -- the entries of the Locking SP whose expression stays
 abbrev pub fixed_entries : List Uid
-fixed_entries = entry_uid 1 ∷ entry_uid 2 ∷ entry_uid 3 ∷ entry_uid 0x38001 ∷ entry_uid 0x39001 ∷ entry_uid 0x3a000 ∷ entry_uid 0x3a001 ∷ entry_uid 0x3d000 ∷ entry_uid 0x3f000 ∷ entry_uid 0x3f001 ∷ entry_uid 0x3f800 ∷ []
+fixed_entries = anybody_entry ∷ admins_entry ∷ common_name_entry ∷ set_expression_entry ∷ set_enabled_entry ∷ get_pins_entry ∷ set_admin_pins_entry ∷ get_ranges_entry ∷ set_global_range_entry ∷ set_ranges_entry ∷ set_mbr_control_entry ∷ []
 
 unfoldable pub fixed_entry_gets : List Grant
-fixed_entry_gets = grants Locking fixed_entries get (entry_uid 2 ∷ entry_uid 3 ∷ [])
+fixed_entry_gets = grants Locking fixed_entries get (admins_entry ∷ common_name_entry ∷ [])
 
 unfoldable pub user_entry_grants : List Grant
 user_entry_grants = settable (map user_entry_uid users)
@@ -65,25 +66,25 @@ unfoldable pub write_entry_grants : List Grant
 write_entry_grants = settable (map write_entry_uid all_ranges)
 
 unfoldable pub done_entry_grants : List Grant
-done_entry_grants = settable (entry_uid 0x3f801 ∷ [])
+done_entry_grants = settable (set_mbr_done_entry ∷ [])
 
 -- its C_PIN rows
 unfoldable pub pin_grants : List Grant
 pin_grants =
-    grants Locking (map admin_pin_uid admins ++ map user_pin_uid users) get (entry_uid 0x3a000 ∷ [])
-    ++ grants Locking (map admin_pin_uid admins) set (entry_uid 0x3a001 ∷ [])
+    grants Locking (map admin_pin_uid admins ++ map user_pin_uid users) get (get_pins_entry ∷ [])
+    ++ grants Locking (map admin_pin_uid admins) set (set_admin_pins_entry ∷ [])
     ++ map (λ n. grant Locking (user_pin_uid n) set (user_entry_uid n ∷ [])) users
 
 -- its ranges and the shadow MBR
 unfoldable pub range_grants : List Grant
 range_grants =
-    grants Locking (map range_uid all_ranges) get (entry_uid 0x3d000 ∷ entry_uid 3 ∷ [])
-    ++ grant Locking (range_uid 0) set (entry_uid 0x3f000 ∷ read_entry_uid 0 ∷ write_entry_uid 0 ∷ [])
-    ∷ map (λ n. grant Locking (range_uid n) set (entry_uid 0x3f001 ∷ read_entry_uid n ∷ write_entry_uid n ∷ [])) numbered_ranges
-    ++ grant Locking (uid 0x0000080300000001) get (entry_uid 1 ∷ [])
-    ∷ grant Locking (uid 0x0000080300000001) set (entry_uid 0x3f800 ∷ entry_uid 0x3f801 ∷ [])
-    ∷ grant Locking (uid 0x0000080400000000) get (entry_uid 1 ∷ [])
-    ∷ grant Locking (uid 0x0000080400000000) set (entry_uid 2 ∷ [])
+    grants Locking (map range_uid all_ranges) get (get_ranges_entry ∷ common_name_entry ∷ [])
+    ++ grant Locking global_range set (set_global_range_entry ∷ read_entry_uid 0 ∷ write_entry_uid 0 ∷ [])
+    ∷ map (λ n. grant Locking (range_uid n) set (set_ranges_entry ∷ read_entry_uid n ∷ write_entry_uid n ∷ [])) numbered_ranges
+    ++ grant Locking mbr_control get (anybody_entry ∷ [])
+    ∷ grant Locking mbr_control set (set_mbr_control_entry ∷ set_mbr_done_entry ∷ [])
+    ∷ grant Locking mbr_table get (anybody_entry ∷ [])
+    ∷ grant Locking mbr_table set (admins_entry ∷ [])
     ∷ []
 
 -- the Locking SP

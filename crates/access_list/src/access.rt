@@ -1,5 +1,5 @@
 ghost use Rattle.std.specs.Prelude.{◌≡◌, ◌+◌, ◌<◌, ◌≤◌, ◌^◌, ◌==◌, [], ◌∷◌, map, option_map, Some, None, if◌then◌else◌};
-ghost use Rattle.sp_cells.specs.Names.{entry_uid};
+ghost use Rattle.sp_cells.specs.Names.{get, set, entry_uid, admins_entry, common_name_entry, set_expression_entry};
 ghost use Rattle.sp_cells.specs.Authorities.{authorities_of_locking};
 ghost use Rattle.access_list.specs.Access.{Answers, admin_grants, authority_grants, fixed_entry_gets, user_entry_grants, read_entry_grants, write_entry_grants, done_entry_grants, pin_grants, range_grants, locking_grants, access_list};
 ghost use Rattle.sp_cells.specs.declared.names.Sp.TheVariants.{Admin, Locking};
@@ -173,7 +173,7 @@ fn fixed_entry(object: Uid, method: Uid) -> Option<ArrayVec<Uid, 4>>
 
 /// The entries of a method of an entry whose expression can be set.
 fn settable(method: Uid) -> Option<ArrayVec<Uid, 4>>
-    ensures { option_map (λ v. v.items) result ≡ (if method.0 == GET then Some (entry_uid 2 ∷ entry_uid 3 ∷ []) else (if method.0 == SET then Some (entry_uid 0x38001 ∷ []) else None)) }
+    ensures { option_map (λ v. v.items) result ≡ (if method.0 == get.0 then Some (admins_entry ∷ common_name_entry ∷ []) else (if method.0 == set.0 then Some (set_expression_entry ∷ []) else None)) }
 {
     match method.0 {
         GET => Some(two(2, 3)),

@@ -1,26 +1,29 @@
 ghost use Rattle.std.specs.Prelude.{◌≡◌, ◌≤◌, ◌<◌, ◌↔◌, List, [], ◌∷◌, length, IsTrue, IfSome, IfNone, reverse, Bool, if◌then◌else◌, None, Some, true};
+ghost use Rattle.sp_cells.specs.Limits.{most_elements};
 ghost use Rattle.ace_eval.specs.Truth.{Holds};
 ghost use Rattle.ace_eval.specs.Evaluation.{step, is_true, is_satisfied};
 
 use crate::authorities::Authorities;
 use arrayvec::ArrayVec;
+use sp_cells::limits::MOST_ELEMENTS;
 use sp_cells::{Element, Expr};
 use std::marker::Model;
 
 /// The truths of the trees that wait for an operator, seen with the latest first.
 #[derive(Drop)]
 struct Stack {
-    values: ArrayVec<bool, 31>,
+    values: ArrayVec<bool, MOST_ELEMENTS>,
 }
 
 impl Model for Stack {
     ghost use Rattle.std.specs.Prelude.{List, length, ◌≤◌, Bool, reverse};
+    ghost use Rattle.sp_cells.specs.Limits.{most_elements};
 
     ghost Value = { List Bool };
 
     ghost view = { λ a. reverse a.values.items };
 
-    ghost invariant = { λ a. length a.values.items ≤ 31 };
+    ghost invariant = { λ a. length a.values.items ≤ most_elements };
 }
 
 impl Stack {
@@ -33,7 +36,7 @@ impl Stack {
     }
 
     fn push(&mut self, value: bool)
-        requires { length self.old < 31 }
+        requires { length self.old < most_elements }
         ensures { self.new ≡ value ∷ self.old }
     {
         self.values.push(value);
@@ -56,7 +59,7 @@ impl Stack {
 
 /// One element more; false where an operator lacks an operand.
 fn apply(stack: &mut Stack, element: Element, held: &Authorities) -> bool
-    requires { length stack.old < 31 }
+    requires { length stack.old < most_elements }
     ensures { step held.now element stack.old ≡ (if result then Some stack.new else None) }
 {
     match element {
@@ -88,7 +91,7 @@ pub fn holds(expr: &Expr, held: &Authorities) -> bool
 }
 
 fn evaluate(elements: &[Element], held: &Authorities) -> bool
-    requires { length elements.now ≤ 31 }
+    requires { length elements.now ≤ most_elements }
     ensures { result ≡ is_satisfied held.now elements.now }
 {
     let mut stack = Stack::new();

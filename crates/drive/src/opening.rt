@@ -4,10 +4,10 @@ ghost use Rattle.std.specs.Prelude.{◌≡◌, ◌⊎◌, List, [], ◌∷◌, N
 ghost use Rattle.locking.specs.declared.range.RangeRow.{RangeRow};
 ghost use Rattle.sp_tables.specs.Contents.{factory_contents, with_row};
 ghost use Rattle.sp_tables.specs.Faults.{fault_of, IsFault};
-ghost use Rattle.sp_cells.specs.Names.{range_uid, admin_pin_uid};
+ghost use Rattle.sp_cells.specs.Names.{locking_sp, range_uid, admin_pin_uid};
 ghost use Rattle.sp_cells.specs.declared.error.SetError.{SetError};
 ghost use Rattle.sp_cells.specs.declared.names.Sp.TheVariants.{Admin, Locking};
-ghost use Rattle.drive.specs.Opening.{changes_of, flag, life_cycle, pin, locking_sp, set_ranges, opened_tables};
+ghost use Rattle.drive.specs.Opening.{changes_of, flag, life_cycle, pin, set_ranges, opened_tables};
 
 use locking::RangeRow;
 use sp_cells::{Bytes, Cell, Column, DriveConfig, SetError, Sp, Uid};

@@ -2,7 +2,7 @@
 use Rattle.std.specs.Prelude.{ℕ, zero, suc, List, [], ◌∷◌, ◌++◌, map}
 use Rattle.sp_cells.specs.declared.names.TheConstants.{RANGES, USERS, ADMINS}
 use Rattle.sp_cells.specs.declared.names.Uid.{Uid}
-use Rattle.sp_cells.specs.Names.{uid, admin_uid, user_uid}
+use Rattle.sp_cells.specs.Names.{anybody, admins_class, admin_uid, users_class, user_uid}
 
 -- the numbers from 1 to n
 abbrev pub up_to : ℕ → List ℕ
@@ -24,4 +24,4 @@ all_ranges = 0 ∷ numbered_ranges
 
 -- the authorities of the Locking SP: Anybody, the Admins and their class, the Users and theirs
 unfoldable pub authorities_of_locking : List Uid
-authorities_of_locking = uid 0x0000000900000001 ∷ uid 0x0000000900000002 ∷ map admin_uid admins ++ user_uid 0 ∷ map user_uid users
+authorities_of_locking = anybody ∷ admins_class ∷ map admin_uid admins ++ users_class ∷ map user_uid users

@@ -1,5 +1,6 @@
 pub mod Names
 pub mod Authorities
+pub mod Limits
 pub mod Config
 pub mod Flat
 pub mod Expressions

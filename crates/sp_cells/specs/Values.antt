@@ -5,13 +5,14 @@ use Rattle.sp_cells.specs.declared.names.Uid.{Uid as UidType}
 use Rattle.sp_cells.specs.declared.names.Column.{Column}
 use Rattle.sp_cells.specs.declared.cells.Cell.{Cell}
 use Rattle.sp_cells.specs.declared.cells.Cell.TheVariants.{Number, Bytes, Uid, Numbers, Expr, Columns}
+use Rattle.sp_cells.specs.Limits.{most_pin_bytes}
 use Rattle.sp_cells.specs.declared.values.ColumnType.{ColumnType}
 use Rattle.sp_cells.specs.declared.values.ColumnType.TheVariants as types
 
 -- a cell is a value of this type
 abbrev pub is_of : ColumnType → Cell → Bool
 is_of types.Name (Bytes b) = true
-is_of types.Secret (Bytes b) = nat_le (length b) 32
+is_of types.Secret (Bytes b) = nat_le (length b) most_pin_bytes
 is_of types.Object (Uid u) = true
 is_of types.Number (Number n) = true
 is_of types.Flag (Number n) = nat_le n 1

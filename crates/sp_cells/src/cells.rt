@@ -1,7 +1,9 @@
 ghost use Rattle.std.specs.Prelude.{◌≡◌, ◌≤◌, ◌<◌, ◌==◌, List, [], ◌∷◌, ◌++◌, length, IsTrue, IfOk, IfSome, IsSome, ◌↔◌, ◌||◌, SomeIff, count_by};
 ghost use Rattle.std.specs.List.{list_any, list_all};
+ghost use Rattle.sp_cells.specs.Limits.{most_elements};
 ghost use Rattle.sp_cells.specs.Resets.{is_reset_set as is_reset_set_of, reset_set, reset_numbers};
 
+use crate::limits::MOST_ELEMENTS;
 use crate::names::{Column, Uid};
 use arrayvec::ArrayVec;
 use std::alloc::{AllocError, Global};
@@ -137,26 +139,30 @@ pub enum Element {
     Or,
 }
 
-/// An expression over authorities, of at most 31 elements, seen as their list.
+/// An expression over authorities, of at most [`MOST_ELEMENTS`] elements, seen as their list.
 #[derive(Drop)]
 pub struct Expr {
-    elements: Box<ArrayVec<Element, 31>>,
+    elements: Box<ArrayVec<Element, MOST_ELEMENTS>>,
 }
 
 impl Model for Expr {
     ghost use Rattle.std.specs.Prelude.{List, length, ◌≤◌};
     ghost use Rattle.sp_cells.specs.declared.cells.Element.{Element};
+    ghost use Rattle.sp_cells.specs.Limits.{most_elements};
 
     ghost Value = { List Element };
 
     ghost view = { λ a. a.elements.value.items };
 
-    ghost invariant = { λ a. length a.elements.value.items ≤ 31 };
+    ghost invariant = { λ a. length a.elements.value.items ≤ most_elements };
 }
 
 impl Expr {
     /// The expression of these elements.
-    pub fn new(alloc: Global, elements: ArrayVec<Element, 31>) -> Result<Expr, AllocError>
+    pub fn new(
+        alloc: Global,
+        elements: ArrayVec<Element, MOST_ELEMENTS>,
+    ) -> Result<Expr, AllocError>
         ensures { IfOk result (λ e. e ≡ elements.items) }
     {
         let elements = Box::new(alloc, elements)?;
@@ -166,7 +172,7 @@ impl Expr {
     /// The elements.
     pub fn as_slice(&self) -> &[Element]
         ensures value { result.now ≡ self.now }
-        ensures short { length self.now ≤ 31 }
+        ensures short { length self.now ≤ most_elements }
     {
         self.elements.as_slice()
     }

@@ -1,25 +1,18 @@
 ghost use Rattle.std.specs.Prelude.{◌≡◌, ◌≤◌, ◌<◌, ◌^◌, List, length, IfOk, SomeIff};
 ghost use Rattle.sp_cells.specs.Config.{Config, IsWithinLimits};
+ghost use Rattle.sp_cells.specs.Limits.{most_pin_bytes};
 
+use crate::limits::{MOST_MBR_SECTORS, MOST_PIN_BYTES, MOST_SECTORS};
 use arrayvec::ArrayVec;
 use std::alloc::AllocError;
 use std::marker::Model;
-
-/// The most sectors that a drive has: as many as a command of 48 bits can name.
-const MOST_SECTORS: u64 = 0x1_0000_0000_0000;
-
-/// The most sectors of a shadow MBR.
-const MOST_MBR_SECTORS: u64 = 262_144;
-
-/// The most bytes of an MSID.
-const MOST_MSID_BYTES: usize = 32;
 
 /// What a drive is made with.
 #[derive(Drop)]
 pub struct DriveConfig {
     sectors: u64,
     mbr_sectors: u64,
-    msid: ArrayVec<u8, MOST_MSID_BYTES>,
+    msid: ArrayVec<u8, MOST_PIN_BYTES>,
 }
 
 impl Model for DriveConfig {
@@ -44,7 +37,7 @@ impl DriveConfig {
         if mbr_sectors > MOST_MBR_SECTORS || mbr_sectors > sectors {
             return None;
         }
-        if msid.is_empty() || msid.len() > MOST_MSID_BYTES {
+        if msid.is_empty() || msid.len() > MOST_PIN_BYTES {
             return None;
         }
         Some(DriveConfig {
@@ -92,8 +85,8 @@ impl DriveConfig {
 }
 
 /// The bytes, kept.
-fn msid_of(bytes: &[u8]) -> ArrayVec<u8, MOST_MSID_BYTES>
-    requires { length bytes.now ≤ 32 }
+fn msid_of(bytes: &[u8]) -> ArrayVec<u8, MOST_PIN_BYTES>
+    requires { length bytes.now ≤ most_pin_bytes }
     ensures { result.items ≡ bytes.now }
 {
     let mut msid = ArrayVec::new();

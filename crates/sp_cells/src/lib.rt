@@ -6,6 +6,7 @@ pub mod authorities;
 pub mod cells;
 pub mod config;
 pub mod error;
+pub mod limits;
 pub mod look;
 pub mod names;
 mod trees;

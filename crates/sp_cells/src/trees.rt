@@ -1,5 +1,6 @@
 ghost use Rattle.std.specs.Prelude.{◌≡◌, ◌≤◌, ◌<◌, ◌+◌, ◌-◌, ◌↔◌, IsTrue, length};
 ghost use Rattle.sp_cells.specs.Expressions.{WritesTree, completes, are_known, is_known_element as is_known_element_of};
+ghost use Rattle.sp_cells.specs.Limits.{most_elements};
 
 use crate::authorities::is_locking_authority;
 use crate::cells::{Element, Expr};
@@ -41,7 +42,7 @@ fn is_known_element(element: Element) -> bool
 
 /// Whether the elements write one tree in postorder: none is left over, and no operator lacks an operand.
 fn is_complete(elements: &[Element]) -> bool
-    requires { length elements.now ≤ 31 }
+    requires { length elements.now ≤ most_elements }
     ensures { result ≡ completes 0 elements.now }
 {
     let mut waiting = 0u8;

@@ -2,6 +2,7 @@ ghost use Rattle.std.specs.Prelude.{◌≡◌, ◌/◌, ◌<◌, ◌≤◌};
 ghost use Rattle.sp_cells.specs.Values.{is_of, type_at, sp_types, entry_types, authority_types, pin_types, range_types, mbr_control_types, types_of, column_type as column_type_of, is_taken, takes_each};
 
 use crate::cells::Cell;
+use crate::limits::MOST_PIN_BYTES;
 use crate::names::{Column, Uid};
 
 /// What a column takes.
@@ -10,7 +11,7 @@ pub enum ColumnType {
     /// Bytes of any length.
     Name,
 
-    /// At most 32 bytes.
+    /// Bytes, at most as many as a PIN has.
     Secret,
 
     /// The name of an object.
@@ -37,7 +38,7 @@ impl ColumnType {
         match self {
             ColumnType::Name => matches!(cell, Cell::Bytes(_)),
             ColumnType::Secret => match cell {
-                Cell::Bytes(bytes) => bytes.as_slice().len() <= 32,
+                Cell::Bytes(bytes) => bytes.as_slice().len() <= MOST_PIN_BYTES,
                 _ => false,
             },
             ColumnType::Object => matches!(cell, Cell::Uid(_)),

@@ -1,5 +1,5 @@
 -- Rows that are added one after another.
-use Rattle.std.proofs.Common.{◌≡◌, ℕ, suc, ◌+◌, List, [], ◌∷◌, ◌++◌, length, refl, sym, ◌∙◌, ap, arith, append_assoc, append-nil, add-one, length-append}
+use Rattle.std.proofs.Common.{◌≡◌, ℕ, suc, ◌+◌, List, [], ◌∷◌, ◌++◌, length, refl, sym, ◌∙◌, ap, arith, append_assoc, append-nil, add-one}
 use Rattle.std.specs.List.{flat_map}
 use Rattle.std.proofs.lemmas.List.Concat.{flat_map-append}
 use Rattle.sp_cells.specs.declared.names.Column.{Column}
@@ -23,11 +23,9 @@ family-more : (base : ℕ) (values : ℕ → List (Column × Cell)) (i : ℕ) �
 family-more base values i = rw (add-one i) refl
 
 -- one more row of a family
-pub family-step : {R : Type 0} (f : R → List (Column × Cell)) (base : ℕ) (values : ℕ → List (Column × Cell)) (i : ℕ) (rows next : List R) (r : R) → next ≡ rows ++ r ∷ [] → f r ≡ values (i + 1) → (length rows ≡ i) × (rows_from f (base + 1) rows ≡ family base values i) → (length next ≡ i + 1) × (rows_from f (base + 1) next ≡ family base values (i + 1))
-family-step f base values i rows next r new is (len, now) =
-    let e : base + 1 + i ≡ base + (i + 1) = omega arith in (
-      ap length new ∙ length-append rows (r ∷ []) ∙ ap (λ n. n + 1) len,
-      ap (rows_from f (base + 1)) new ∙ rows_from-push f rows (base + 1) i r len ∙ ap (λ q. q ++ row_items (uid (base + 1 + i)) (f r)) now ∙ ap (λ n. family base values i ++ row_items (uid n) (f r)) e ∙ ap (λ v. family base values i ++ row_items (uid (base + (i + 1))) v) is ∙ sym (family-more base values i),
-    )
+pub family-step : {R : Type 0} (f : R → List (Column × Cell)) (base : ℕ) (values : ℕ → List (Column × Cell)) (i : ℕ) (rows next : List R) (r : R) → next ≡ rows ++ r ∷ [] → f r ≡ values (i + 1) → length rows ≡ i → rows_from f (base + 1) rows ≡ family base values i → rows_from f (base + 1) next ≡ family base values (i + 1)
+family-step f base values i rows next r new is len now =
+    let e : base + 1 + i ≡ base + (i + 1) = omega arith in
+    ap (rows_from f (base + 1)) new ∙ rows_from-push f rows (base + 1) i r len ∙ ap (λ q. q ++ row_items (uid (base + 1 + i)) (f r)) now ∙ ap (λ n. family base values i ++ row_items (uid n) (f r)) e ∙ ap (λ v. family base values i ++ row_items (uid (base + (i + 1))) v) is ∙ sym (family-more base values i)
 
 pub ruleset pushing = (flat_map-push, append_assoc, append-nil)

@@ -1,7 +1,7 @@
 ghost use Rattle.std.specs.Prelude.{◌≡◌, ◌+◌, ◌<◌, ◌≤◌, ◌^◌, [], ◌∷◌, ◌++◌, IfOk, OnOk, string_bytes, map};
 ghost use Rattle.std.specs.List.{flat_map};
 ghost use Rattle.sp_cells.specs.declared.cells.Element.TheVariants as elements;
-ghost use Rattle.sp_cells.specs.Names.{uid, col, entry_uid, read_entry_uid, write_entry_uid};
+ghost use Rattle.sp_cells.specs.Names.{uid, col, entry_uid, user_entry_base, read_entry_base, read_entry_uid, write_entry_base, write_entry_uid};
 ghost use Rattle.sp_rows.specs.Items.{row_items, rows_from};
 ghost use Rattle.sp_rows.specs.Runs.{run_items};
 ghost use Rattle.sp_rows.specs.Columns.{sp_columns, authority_columns, pin_columns, range_columns, mbr_control_columns, entry_columns};
@@ -12,6 +12,7 @@ use crate::families::{
     user_entry_rows, user_pin_rows, user_rows, write_entry_row, write_entry_rows,
 };
 use crate::new_rows::{entry, group, mbr_control, member, only, pin, push_row, range, sp_row};
+use sp_cells::limits::{MANUFACTURED, MANUFACTURED_INACTIVE, NEW_TRY_LIMIT, NO_TRY_LIMIT};
 use sp_cells::{Column, RANGES, USERS, Uid};
 use sp_rows::{AuthorityRow, EntryRow, MbrControlRow, PinRow, RangeRow, Row, Run, SpRow, SpTables};
 use std::alloc::{AllocError, Global};
@@ -74,14 +75,14 @@ fn admin_sps_made(alloc: Global) -> Result<Vec<Run<SpRow>>, AllocError>
         alloc,
         &mut runs,
         Uid::ADMIN_SP,
-        sp_row(Uid::ADMIN_SP, admin, 9),
+        sp_row(Uid::ADMIN_SP, admin, MANUFACTURED),
     )?;
     let locking = String::from_str(alloc, "Locking")?;
     push_one(
         alloc,
         &mut runs,
         Uid::LOCKING_SP,
-        sp_row(Uid::LOCKING_SP, locking, 8),
+        sp_row(Uid::LOCKING_SP, locking, MANUFACTURED_INACTIVE),
     )?;
     Ok(runs)
 }
@@ -141,10 +142,10 @@ fn admin_pins_made(alloc: Global, msid: &[u8]) -> Result<Vec<Run<PinRow>>, Alloc
 {
     let mut runs = Vec::new(alloc);
     let sid = String::from_str(alloc, "C_PIN_SID")?;
-    let sid_row = pin(alloc, Uid::C_PIN_SID, sid, msid, 5)?;
+    let sid_row = pin(alloc, Uid::C_PIN_SID, sid, msid, NEW_TRY_LIMIT)?;
     push_one(alloc, &mut runs, Uid::C_PIN_SID, sid_row)?;
     let public = String::from_str(alloc, "C_PIN_MSID")?;
-    let msid_row = pin(alloc, Uid::C_PIN_MSID, public, msid, 0)?;
+    let msid_row = pin(alloc, Uid::C_PIN_MSID, public, msid, NO_TRY_LIMIT)?;
     push_one(alloc, &mut runs, Uid::C_PIN_MSID, msid_row)?;
     Ok(runs)
 }
@@ -260,7 +261,7 @@ fn push_authority_entries(alloc: Global, runs: &mut Vec<Run<EntryRow>>) -> Resul
 
 /// Adds the entries on the Users' PINs.
 fn push_user_entries(alloc: Global, runs: &mut Vec<Run<EntryRow>>) -> Result<(), AllocError>
-    ensures { OnOk result (flat_map (run_items entry_columns) runs.new.items ≡ flat_map (run_items entry_columns) runs.old.items ++ family 0x000000080003a800 user_entry USERS) }
+    ensures { OnOk result (flat_map (run_items entry_columns) runs.new.items ≡ flat_map (run_items entry_columns) runs.old.items ++ family user_entry_base user_entry USERS) }
 {
     push_run(runs, entry_of(0x3_a801), user_entry_rows(alloc)?)?;
     Ok(())
@@ -268,7 +269,7 @@ fn push_user_entries(alloc: Global, runs: &mut Vec<Run<EntryRow>>) -> Result<(),
 
 /// Adds the entries on the ReadLocked flags.
 fn push_read_entries(alloc: Global, runs: &mut Vec<Run<EntryRow>>) -> Result<(), AllocError>
-    ensures { OnOk result (flat_map (run_items entry_columns) runs.new.items ≡ flat_map (run_items entry_columns) runs.old.items ++ row_items (read_entry_uid 0) (read_entry 0) ++ family 0x000000080003e000 read_entry RANGES) }
+    ensures { OnOk result (flat_map (run_items entry_columns) runs.new.items ≡ flat_map (run_items entry_columns) runs.old.items ++ row_items (read_entry_uid 0) (read_entry 0) ++ family read_entry_base read_entry RANGES) }
 {
     push_one(alloc, runs, entry_of(0x3_e000), read_entry_row(alloc, 0)?)?;
     push_run(runs, entry_of(0x3_e001), read_entry_rows(alloc)?)?;
@@ -277,7 +278,7 @@ fn push_read_entries(alloc: Global, runs: &mut Vec<Run<EntryRow>>) -> Result<(),
 
 /// Adds the entries on the WriteLocked flags.
 fn push_write_entries(alloc: Global, runs: &mut Vec<Run<EntryRow>>) -> Result<(), AllocError>
-    ensures { OnOk result (flat_map (run_items entry_columns) runs.new.items ≡ flat_map (run_items entry_columns) runs.old.items ++ row_items (write_entry_uid 0) (write_entry 0) ++ family 0x000000080003e800 write_entry RANGES) }
+    ensures { OnOk result (flat_map (run_items entry_columns) runs.new.items ≡ flat_map (run_items entry_columns) runs.old.items ++ row_items (write_entry_uid 0) (write_entry 0) ++ family write_entry_base write_entry RANGES) }
 {
     push_one(alloc, runs, entry_of(0x3_e800), write_entry_row(alloc, 0)?)?;
     push_run(runs, entry_of(0x3_e801), write_entry_rows(alloc)?)?;

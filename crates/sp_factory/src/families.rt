@@ -1,12 +1,13 @@
-ghost use Rattle.std.specs.Prelude.{◌≡◌, ◌+◌, ◌<◌, ◌≤◌, ◌^◌, [], ◌∷◌, ◌++◌, IfOk, OnOk, string_bytes};
-ghost use Rattle.sp_cells.specs.Names.{entry_uid};
+ghost use Rattle.std.specs.Prelude.{◌≡◌, ◌+◌, ◌<◌, ◌≤◌, ◌^◌, [], ◌∷◌, ◌++◌, IfOk, OnOk, Ok, string_bytes};
+ghost use Rattle.sp_cells.specs.Names.{admin_base, user_base, admin_pin_base, user_pin_base, range_base, entry_uid, user_entry_base, read_entry_base, write_entry_base};
 ghost use Rattle.sp_rows.specs.Items.{rows_from};
 ghost use Rattle.sp_rows.specs.Columns.{authority_columns, pin_columns, range_columns, entry_columns};
-ghost use Rattle.sp_factory.specs.Factory.{family, admin_authority, user_authority, admin_pin, user_pin, numbered_range, user_entry, read_entry, write_entry};
+ghost use Rattle.sp_factory.specs.Factory.{family, IsFamilyOf, admin_authority, user_authority, admin_pin, user_pin, numbered_range, user_entry, read_entry, write_entry};
 
 use crate::new_rows::{either, entry, member, only, pin, push_row, range};
+use sp_cells::limits::NEW_TRY_LIMIT;
 use sp_cells::{ADMINS, Column, RANGES, USERS, Uid};
-use sp_rows::{AuthorityRow, EntryRow, PinRow, RangeRow};
+use sp_rows::{AuthorityRow, EntryRow, PinRow, RangeRow, Row};
 use std::alloc::{AllocError, Global};
 
 /// An access entry by its number.
@@ -15,6 +16,22 @@ pub fn entry_of(number: u64) -> Uid
     ensures { result ≡ entry_uid number }
 {
     Uid(0x0000_0008_0000_0000 + number)
+}
+
+/// The rows of the numbers 1 to `count`.
+fn numbered<R: Row + Drop, F: Fn(Global, u8) -> Result<R, AllocError>>(
+    alloc: Global,
+    count: u8,
+    row: F,
+) -> Result<Vec<R>, AllocError>
+    requires { F.IsAlwaysCallable row }
+    ensures { IfOk result (λ rows. IsFamilyOf R.held (λ n r. F.post row alloc n (Ok r)) count rows.items) }
+{
+    let mut rows = Vec::with_capacity(alloc, usize::from(count))?;
+    for i in 0..count {
+        push_row(&mut rows, row(alloc, i + 1)?)?;
+    }
+    Ok(rows)
 }
 
 /// An Admin; the first alone is enabled.
@@ -35,12 +52,9 @@ fn admin_row(alloc: Global, n: u8) -> Result<AuthorityRow, AllocError>
 
 /// All of them, by number.
 pub fn admin_rows(alloc: Global) -> Result<Vec<AuthorityRow>, AllocError>
-    ensures { IfOk result (λ rows. rows_from authority_columns (0x0000000900010000 + 1) rows.items ≡ family 0x0000000900010000 admin_authority ADMINS) }
+    ensures { IfOk result (λ rows. rows_from authority_columns (admin_base + 1) rows.items ≡ family admin_base admin_authority ADMINS) }
 {
-    let mut rows = Vec::with_capacity(alloc, usize::from(ADMINS))?;
-    for i in 0..ADMINS {
-        push_row(&mut rows, admin_row(alloc, i + 1)?)?;
-    }
+    let rows = numbered(alloc, ADMINS, admin_row)?;
     Ok(rows)
 }
 
@@ -61,12 +75,9 @@ fn user_row(alloc: Global, n: u8) -> Result<AuthorityRow, AllocError>
 
 /// All of them, by number.
 pub fn user_rows(alloc: Global) -> Result<Vec<AuthorityRow>, AllocError>
-    ensures { IfOk result (λ rows. rows_from authority_columns (0x0000000900030000 + 1) rows.items ≡ family 0x0000000900030000 user_authority USERS) }
+    ensures { IfOk result (λ rows. rows_from authority_columns (user_base + 1) rows.items ≡ family user_base user_authority USERS) }
 {
-    let mut rows = Vec::with_capacity(alloc, usize::from(USERS))?;
-    for i in 0..USERS {
-        push_row(&mut rows, user_row(alloc, i + 1)?)?;
-    }
+    let rows = numbered(alloc, USERS, user_row)?;
     Ok(rows)
 }
 
@@ -75,18 +86,15 @@ fn admin_pin_row(alloc: Global, n: u8) -> Result<PinRow, AllocError>
     ensures { IfOk result (λ r. pin_columns r ≡ admin_pin n) }
 {
     let name = format!(in alloc; "C_PIN_Admin{n}")?;
-    let row = pin(alloc, Uid::pin_of_admin(n), name, &[], 5)?;
+    let row = pin(alloc, Uid::pin_of_admin(n), name, &[], NEW_TRY_LIMIT)?;
     Ok(row)
 }
 
 /// All of them, by number.
 pub fn admin_pin_rows(alloc: Global) -> Result<Vec<PinRow>, AllocError>
-    ensures { IfOk result (λ rows. rows_from pin_columns (0x0000000b00010000 + 1) rows.items ≡ family 0x0000000b00010000 admin_pin ADMINS) }
+    ensures { IfOk result (λ rows. rows_from pin_columns (admin_pin_base + 1) rows.items ≡ family admin_pin_base admin_pin ADMINS) }
 {
-    let mut rows = Vec::with_capacity(alloc, usize::from(ADMINS))?;
-    for i in 0..ADMINS {
-        push_row(&mut rows, admin_pin_row(alloc, i + 1)?)?;
-    }
+    let rows = numbered(alloc, ADMINS, admin_pin_row)?;
     Ok(rows)
 }
 
@@ -95,18 +103,15 @@ fn user_pin_row(alloc: Global, n: u8) -> Result<PinRow, AllocError>
     ensures { IfOk result (λ r. pin_columns r ≡ user_pin n) }
 {
     let name = format!(in alloc; "C_PIN_User{n}")?;
-    let row = pin(alloc, Uid::pin_of_user(n), name, &[], 5)?;
+    let row = pin(alloc, Uid::pin_of_user(n), name, &[], NEW_TRY_LIMIT)?;
     Ok(row)
 }
 
 /// All of them, by number.
 pub fn user_pin_rows(alloc: Global) -> Result<Vec<PinRow>, AllocError>
-    ensures { IfOk result (λ rows. rows_from pin_columns (0x0000000b00030000 + 1) rows.items ≡ family 0x0000000b00030000 user_pin USERS) }
+    ensures { IfOk result (λ rows. rows_from pin_columns (user_pin_base + 1) rows.items ≡ family user_pin_base user_pin USERS) }
 {
-    let mut rows = Vec::with_capacity(alloc, usize::from(USERS))?;
-    for i in 0..USERS {
-        push_row(&mut rows, user_pin_row(alloc, i + 1)?)?;
-    }
+    let rows = numbered(alloc, USERS, user_pin_row)?;
     Ok(rows)
 }
 
@@ -120,12 +125,9 @@ fn range_row(alloc: Global, n: u8) -> Result<RangeRow, AllocError>
 
 /// All of them, by number.
 pub fn range_rows(alloc: Global) -> Result<Vec<RangeRow>, AllocError>
-    ensures { IfOk result (λ rows. rows_from range_columns (0x0000080200030000 + 1) rows.items ≡ family 0x0000080200030000 numbered_range RANGES) }
+    ensures { IfOk result (λ rows. rows_from range_columns (range_base + 1) rows.items ≡ family range_base numbered_range RANGES) }
 {
-    let mut rows = Vec::with_capacity(alloc, usize::from(RANGES))?;
-    for i in 0..RANGES {
-        push_row(&mut rows, range_row(alloc, i + 1)?)?;
-    }
+    let rows = numbered(alloc, RANGES, range_row)?;
     Ok(rows)
 }
 
@@ -147,12 +149,9 @@ fn user_entry_row(alloc: Global, n: u8) -> Result<EntryRow, AllocError>
 
 /// All of them, by number.
 pub fn user_entry_rows(alloc: Global) -> Result<Vec<EntryRow>, AllocError>
-    ensures { IfOk result (λ rows. rows_from entry_columns (0x000000080003a800 + 1) rows.items ≡ family 0x000000080003a800 user_entry USERS) }
+    ensures { IfOk result (λ rows. rows_from entry_columns (user_entry_base + 1) rows.items ≡ family user_entry_base user_entry USERS) }
 {
-    let mut rows = Vec::with_capacity(alloc, usize::from(USERS))?;
-    for i in 0..USERS {
-        push_row(&mut rows, user_entry_row(alloc, i + 1)?)?;
-    }
+    let rows = numbered(alloc, USERS, user_entry_row)?;
     Ok(rows)
 }
 
@@ -174,12 +173,9 @@ pub fn read_entry_row(alloc: Global, n: u8) -> Result<EntryRow, AllocError>
 
 /// All of them, by number.
 pub fn read_entry_rows(alloc: Global) -> Result<Vec<EntryRow>, AllocError>
-    ensures { IfOk result (λ rows. rows_from entry_columns (0x000000080003e000 + 1) rows.items ≡ family 0x000000080003e000 read_entry RANGES) }
+    ensures { IfOk result (λ rows. rows_from entry_columns (read_entry_base + 1) rows.items ≡ family read_entry_base read_entry RANGES) }
 {
-    let mut rows = Vec::with_capacity(alloc, usize::from(RANGES))?;
-    for i in 0..RANGES {
-        push_row(&mut rows, read_entry_row(alloc, i + 1)?)?;
-    }
+    let rows = numbered(alloc, RANGES, read_entry_row)?;
     Ok(rows)
 }
 
@@ -201,11 +197,8 @@ pub fn write_entry_row(alloc: Global, n: u8) -> Result<EntryRow, AllocError>
 
 /// All of them, by number.
 pub fn write_entry_rows(alloc: Global) -> Result<Vec<EntryRow>, AllocError>
-    ensures { IfOk result (λ rows. rows_from entry_columns (0x000000080003e800 + 1) rows.items ≡ family 0x000000080003e800 write_entry RANGES) }
+    ensures { IfOk result (λ rows. rows_from entry_columns (write_entry_base + 1) rows.items ≡ family write_entry_base write_entry RANGES) }
 {
-    let mut rows = Vec::with_capacity(alloc, usize::from(RANGES))?;
-    for i in 0..RANGES {
-        push_row(&mut rows, write_entry_row(alloc, i + 1)?)?;
-    }
+    let rows = numbered(alloc, RANGES, write_entry_row)?;
     Ok(rows)
 }

@@ -1,7 +1,7 @@
-use Rattle.sp_rows.specs.Columns.{range_columns}
+use Rattle.std.proofs.Common.{rules}
+use Rattle.sp_cells.specs.Names.{range_base}
 use Rattle.sp_factory.specs.Factory.{numbered_range}
-use Rattle.sp_factory.proofs.FamilyLemmas.{family-step}
 use Rattle.sp_factory.proofs.families.range_rows.Goals as goal
 
-pub loop-i-preserved : goal.loop-i-preserved
-loop-i-preserved c = family-step range_columns 0x0000080200030000 numbered_range _ _ _ _ c.in_ok-push_row.ensures c.in_ok-range_row.ensures c.loop-i.invariant
+pub returns : goal.returns
+returns c = c.in_ok-rows.ensures range_base numbered_range (λ n r low made. search rules)

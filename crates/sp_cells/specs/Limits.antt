@@ -1,0 +1,32 @@
+-- The limits of a drive, and the states of an SP.
+use Rattle.std.specs.Prelude.{◌^◌, ℕ}
+
+-- as many sectors as a 48-bit address can name (ACS-3)
+abbrev pub most_sectors : ℕ
+most_sectors = 2 ^ 48
+
+-- the sectors of a shadow MBR (this drive)
+abbrev pub most_mbr_sectors : ℕ
+most_mbr_sectors = 262144
+
+-- the bytes of a PIN (Core 2.01, section 5.3, table C_PIN)
+abbrev pub most_pin_bytes : ℕ
+most_pin_bytes = 32
+
+-- the elements of an expression (this drive)
+abbrev pub most_elements : ℕ
+most_elements = 31
+
+-- the wrong attempts that a new C_PIN row allows; 0 is no limit (this drive)
+abbrev pub new_try_limit : ℕ
+new_try_limit = 5
+
+abbrev pub no_try_limit : ℕ
+no_try_limit = 0
+
+-- the life cycle states of an SP: Manufactured-Inactive and Manufactured (Opal SSC 2.01)
+abbrev pub manufactured_inactive : ℕ
+manufactured_inactive = 8
+
+abbrev pub manufactured : ℕ
+manufactured = 9

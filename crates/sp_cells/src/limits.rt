@@ -1,0 +1,23 @@
+/// The most sectors that a drive has: as many as a command of 48 bits can name.
+pub const MOST_SECTORS: u64 = 0x1_0000_0000_0000;
+
+/// The most sectors of a shadow MBR.
+pub const MOST_MBR_SECTORS: u64 = 262_144;
+
+/// The most bytes of a PIN.
+pub const MOST_PIN_BYTES: usize = 32;
+
+/// The most elements of an expression.
+pub const MOST_ELEMENTS: usize = 31;
+
+/// The wrong attempts that a new PIN row allows.
+pub const NEW_TRY_LIMIT: u64 = 5;
+
+/// The limit of a PIN row that allows any number of wrong attempts.
+pub const NO_TRY_LIMIT: u64 = 0;
+
+/// The life cycle state of an SP that is not in use yet.
+pub const MANUFACTURED_INACTIVE: u64 = 8;
+
+/// The life cycle state of an SP that is in use.
+pub const MANUFACTURED: u64 = 9;
