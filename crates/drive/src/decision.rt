@@ -7,7 +7,7 @@ ghost use Rattle.drive.specs.Decisions.{fails, admitted, any_below, is_held_at, 
 use crate::failure::Failure;
 use crate::queue::is_busy;
 use audit::Why;
-use fis::{H2D_TYPE, RegH2d, SLOT_COUNT, Tag};
+use fis::{H2D_LENGTH, H2D_TYPE, RegH2d, SLOT_COUNT, Tag};
 use locking::{Op, Ranges, Verdict};
 use trusted_cmds::{Command, CommandError, is_queued, of_fis, tag_of};
 
@@ -82,7 +82,7 @@ pub(crate) fn decide(
     ranges: &Ranges,
     failed: bool,
     held: &[Option<Command>; SLOT_COUNT],
-    fis: &[u8; 20],
+    fis: &[u8; H2D_LENGTH],
 ) -> Decision
     requires { sectors ≤ 2 ^ 48 }
     ensures slot { NamesSlot sectors result }

@@ -9,7 +9,7 @@ use crate::decision::{Decision, decide};
 use crate::failure::Failure;
 use crate::opening::tables_with;
 use crate::queue::{no_commands, settle};
-use fis::{SLOT_COUNT, Tag};
+use fis::{H2D_LENGTH, SLOT_COUNT, Tag};
 use locking::{RangeRow, Ranges};
 use shadow_mbr::{Media, SECTOR_SIZE};
 use sp_cells::{DriveConfig, SetError};
@@ -174,7 +174,7 @@ impl Drive {
     /// command whose Device bit 6 is clear and a tag that is held fail the queue (51h 04h); an unknown
     /// command is aborted; sectors beyond the drive fail the queue (51h 10h); so does a denial by a
     /// range (51h 04h), with its reason. Else the command is held (50h). A failed queue holds nothing.
-    pub fn accept(&mut self, fis: &[u8; 20], payload: &[u8]) -> Result<Accepted, DriveError>
+    pub fn accept(&mut self, fis: &[u8; H2D_LENGTH], payload: &[u8]) -> Result<Accepted, DriveError>
         ensures ok { IsOkUnless result DriveError.OutOfMemory }
         ensures agrees { OnOk result ((o : Opening) (acts : List Act) → Agrees self.old o acts → Agrees self.new o (Accept fis.now payload.now ∷ acts)) }
         ensures in_order { OnOk result ((o : Opening) (acts : List Act) → AgreesInOrder self.old o acts → AgreesInOrder self.new o (acts ++ Accept fis.now payload.now ∷ [])) }
@@ -185,7 +185,7 @@ impl Drive {
     }
 
     /// What the drive does with a FIS.
-    fn decision(&self, fis: &[u8; 20]) -> Decision
+    fn decision(&self, fis: &[u8; H2D_LENGTH]) -> Decision
         ensures slot { NamesSlot self.now.opening.tables.config.sectors result }
         ensures value { result ≡ decision_on self.now fis.now }
     {
@@ -198,7 +198,7 @@ impl Drive {
         )
     }
 
-    fn take(&mut self, fis: &[u8; 20]) -> Accepted
+    fn take(&mut self, fis: &[u8; H2D_LENGTH]) -> Accepted
         ensures slot { NamesSlot self.old.opening.tables.config.sectors (decision_on self.old fis.now) }
         ensures state { self.new ≡ decided self.old (decision_on self.old fis.now) }
         ensures answer { IsAnswer (event_of (decision_on self.old fis.now)) result }

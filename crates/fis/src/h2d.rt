@@ -5,7 +5,7 @@ use crate::fields::{Lba, PortNumber};
 pub const H2D_TYPE: u8 = 0x27;
 
 /// How many bytes the FIS has.
-pub(crate) const H2D_LENGTH: usize = 20;
+pub const H2D_LENGTH: usize = 20;
 
 /// A Register FIS from the host to the device (Serial ATA, "Register - Host to Device"). What no
 /// field names is not kept.

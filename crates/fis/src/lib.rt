@@ -17,7 +17,7 @@ pub use d2h::RegD2h;
 pub use dma_setup::DmaSetup;
 pub use error::FisError;
 pub use fields::{Lba, PortNumber, StatusBits};
-pub use h2d::{H2D_TYPE, RegH2d};
+pub use h2d::{H2D_LENGTH, H2D_TYPE, RegH2d};
 pub use pio_setup::PioSetup;
 pub use set_device_bits::SetDeviceBits;
 pub use tag::{SLOT_COUNT, Tag};

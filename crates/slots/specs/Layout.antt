@@ -1,12 +1,9 @@
 -- The memory that a host shares with a port (AHCI 1.3.1, 4.2). Where its parts stand is the host's
 -- choice; sizes, and the offsets among received FISes, are those of the standard.
 use Rattle.std.specs.Prelude.{ℕ, ◌+◌, ◌*◌, List, ◌++◌, length, take, drop, replicate, slice_range}
+use Rattle.fis.specs.Tags.{slot_count}
 use Rattle.fis.specs.declared.any.Fis.{Fis}
 use Rattle.fis.specs.declared.any.Fis.TheVariants as fises
-
--- how many slots a port can have (3.1.1, NCS)
-abbrev pub slot_count : ℕ
-slot_count = 32
 
 -- The command list stands at 0, and has a header for each slot (4.2.2).
 abbrev pub header_size : ℕ

@@ -2,18 +2,13 @@ ghost use Rattle.std.specs.Prelude.{◌≡◌, ◌≤◌, ◌↔◌, IsTrue, len
 ghost use Rattle.fis.specs.Types.{h2d_length};
 ghost use Rattle.slots.specs.Table.{is_command};
 
+use fis::{H2D_LENGTH, H2D_TYPE};
 use std::marker::Model;
-
-/// How many bytes a command FIS has (Serial ATA, "Register - Host to Device").
-pub(crate) const COMMAND_FIS: usize = 20;
-
-/// The first byte of a command FIS.
-const COMMAND_TYPE: u8 = 0x27;
 
 /// The bytes of a Register FIS to the device whose C bit is set.
 #[derive(Clone, Copy, Debug, PartialEq, Eq)]
 pub struct CommandBlock {
-    bytes: [u8; COMMAND_FIS],
+    bytes: [u8; H2D_LENGTH],
 }
 
 impl Model for CommandBlock {
@@ -34,7 +29,7 @@ pub(crate) fn is_command(bytes: &[u8]) -> bool
     requires { h2d_length ≤ length bytes.now }
     ensures { result ≡ is_command bytes.now }
 {
-    bytes[0] == COMMAND_TYPE && bytes[1] >= 0x80
+    bytes[0] == H2D_TYPE && bytes[1] >= 0x80
 }
 
 impl CommandBlock {
@@ -43,7 +38,7 @@ impl CommandBlock {
     ghost use Rattle.slots.specs.Table.{is_command};
 
     /// The command in these bytes, or `None` where they are none.
-    pub fn new(bytes: [u8; COMMAND_FIS]) -> Option<CommandBlock>
+    pub fn new(bytes: [u8; H2D_LENGTH]) -> Option<CommandBlock>
         ensures some { IsSome result ↔ (is_command bytes ≡ true) }
         ensures value { IfSome result (λ c. c ≡ bytes) }
     {
@@ -55,7 +50,7 @@ impl CommandBlock {
     }
 
     /// The bytes of the FIS.
-    pub fn bytes(&self) -> &[u8; COMMAND_FIS]
+    pub fn bytes(&self) -> &[u8; H2D_LENGTH]
         ensures value { result.now ≡ self.now }
         ensures len { length self.now ≡ h2d_length }
         ensures command { is_command self.now ≡ true }

@@ -5,10 +5,7 @@ ghost use Rattle.slots.specs.Layout.{header_place, table_place, buffer_place, re
 ghost use Rattle.fis.specs.Types.{dma_setup_length};
 ghost use Rattle.fis.specs.declared.any.Fis.{Fis};
 
-use fis::{Fis, Tag};
-
-/// How many slots there are (AHCI 1.3.1, 3.1.1).
-const SLOTS: usize = 32;
+use fis::{Fis, SLOT_COUNT, Tag};
 
 /// How many bytes a command header has (AHCI 1.3.1, 4.2.2). The command list stands at 0.
 pub(crate) const HEADER: usize = 32;
@@ -35,7 +32,7 @@ const BUFFERS: usize = 0x1_0000;
 pub const BUFFER: usize = 0x2_0000;
 
 /// How many bytes the memory of a port has: the buffers stand last.
-pub const MEMORY: usize = BUFFERS + SLOTS * BUFFER;
+pub const MEMORY: usize = BUFFERS + SLOT_COUNT * BUFFER;
 
 pub(crate) fn header_place(tag: Tag) -> usize
     ensures value { result ≡ header_place tag }

@@ -1,6 +1,6 @@
 ghost use Rattle.std.specs.Prelude.{◌≡◌, ℕ, IfOk, length, slice_index};
 
-use crate::command_block::{COMMAND_FIS, CommandBlock, is_command};
+use crate::command_block::{CommandBlock, is_command};
 use crate::error::FetchError;
 use crate::fetched::Fetched;
 use crate::layout::{
@@ -8,7 +8,7 @@ use crate::layout::{
     table_place,
 };
 use crate::parts::{self, COMMAND_WORDS};
-use fis::{Fis, Tag};
+use fis::{Fis, H2D_LENGTH, Tag};
 use std::alloc::{AllocError, Global};
 use std::marker::Model;
 
@@ -38,7 +38,8 @@ fn zeros(alloc: Global, len: usize) -> Result<Vec<u8>, AllocError>
 
 impl PortMemory {
     ghost use Rattle.std.specs.Prelude.{◌≡◌, ◌+◌, ◌*◌, ◌≤◌, ◌<◌, ◌%◌, ◌^◌, ◌↔◌, ℕ, List, Bool, true, IfOk, IfSome, IsSome, Ok, Some, None, length, slice_index, if◌then◌else◌};
-    ghost use Rattle.slots.specs.Layout.{slot_count, memory_size, header_size, received_at, received_size, table_size, buffer_size, descriptors_at, descriptor_size, laid, part, header_place, table_place, buffer_place, received_place};
+    ghost use Rattle.fis.specs.Tags.{slot_count};
+    ghost use Rattle.slots.specs.Layout.{memory_size, header_size, received_at, received_size, table_size, buffer_size, descriptors_at, descriptor_size, laid, part, header_place, table_place, buffer_place, received_place};
     ghost use Rattle.slots.specs.Fetch.{fetched, placed, transfer, command_fis, Holds, AreApart};
     ghost use Rattle.slots.specs.Table.{is_command, descriptors};
     ghost use Rattle.fis.specs.Types.{h2d_length};
@@ -145,15 +146,15 @@ impl PortMemory {
     }
 
     /// The FIS in a command table, or `None` where it is no command.
-    fn command_fis(&self, table: usize) -> Option<[u8; COMMAND_FIS]>
+    fn command_fis(&self, table: usize) -> Option<[u8; H2D_LENGTH]>
         requires { table + descriptors_at ≤ memory_size }
         ensures { result ≡ command_fis self.now table }
     {
-        let bytes = self.part(table, COMMAND_FIS);
+        let bytes = self.part(table, H2D_LENGTH);
         if !is_command(bytes) {
             return None;
         }
-        let mut fis = [0; COMMAND_FIS];
+        let mut fis = [0; H2D_LENGTH];
         fis.copy_from_slice(bytes);
         Some(fis)
     }

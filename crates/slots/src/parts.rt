@@ -5,13 +5,12 @@ ghost use Rattle.slots.specs.Layout.{header_size, table_size, descriptor_size, z
 ghost use Rattle.slots.specs.Header.{header_bytes, fis_words, is_write, entries, table_at, table_upper, has_table, entries_for};
 ghost use Rattle.slots.specs.Table.{entry_bytes, table_bytes, address, upper, descriptor_range, count, is_sound};
 
-use crate::command_block::COMMAND_FIS;
 use crate::layout::{DESCRIPTOR, DESCRIPTORS, HEADER, MEMORY, TABLE, buffer_place, table_place};
 use byteorder::{ByteOrder, LittleEndian};
-use fis::Tag;
+use fis::{H2D_LENGTH, Tag};
 
 /// How many words of four bytes a command FIS has.
-pub(crate) const COMMAND_WORDS: u8 = (COMMAND_FIS / 4) as u8;
+pub(crate) const COMMAND_WORDS: u8 = (H2D_LENGTH / 4) as u8;
 
 /// W, a bit of a header's first byte (AHCI 1.3.1, 4.2.2).
 const WRITE_BIT: u8 = 64;
@@ -64,7 +63,7 @@ fn zeros() -> [u8; TABLE]
 }
 
 /// The command table: the FIS, and the descriptor of the data where there are any.
-pub(crate) fn table(tag: Tag, command: &[u8; COMMAND_FIS], len: u32) -> [u8; TABLE]
+pub(crate) fn table(tag: Tag, command: &[u8; H2D_LENGTH], len: u32) -> [u8; TABLE]
     ensures { result ≡ table_bytes (buffer_place tag) command.now len }
 {
     let mut table = zeros();
