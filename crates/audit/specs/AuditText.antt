@@ -22,22 +22,31 @@ use Rattle.audit.specs.declared.reason.Why.{Why}
 use Rattle.audit.specs.declared.reason.Why.TheVariants.{ReadLocked, WriteLocked, ReadShadow, WriteShadow, NoEntryHolds, NoAccessRow, AttemptFailed}
 use Rattle.audit.specs.declared.reason.AuditLine.{AuditLine}
 
--- L+N
-abbrev pub span_text : ℕ → ℕ → List ℕ
-span_text lba count = decimal lba ++ codes "+" ++ decimal count
+-- `read L+N`, `write L+N`
+abbrev pub transfer_text : List ℕ → ℕ → ℕ → List ℕ
+transfer_text verb lba count = verb ++ codes " " ++ decimal lba ++ codes "+" ++ decimal count
 
--- ` range R `
-abbrev pub range_text : ℕ → List ℕ
-range_text range = codes " range " ++ decimal range ++ codes " "
+-- ` range R ReadLocked`, ` range R WriteLocked`
+abbrev pub lock_text : ℕ → List ℕ → List ℕ
+lock_text range flag = codes " range " ++ decimal range ++ codes " " ++ flag
 
--- SP OBJ METHOD
+-- `read L+N shadow MBR`, `write L+N shadow MBR`
+abbrev pub shadow_text : List ℕ → ℕ → ℕ → List ℕ
+shadow_text verb lba count = transfer_text verb lba count ++ codes " shadow MBR"
+
+-- `method SP OBJ METHOD`
 abbrev pub call_text : Sp → Uid → Uid → List ℕ
-call_text sp object method = sp_text sp ++ codes " " ++ uid_text object ++ codes " " ++ method_text method
+call_text sp object method =
+    codes "method " ++ sp_text sp ++ codes " " ++ uid_text object ++ codes " " ++ method_text method
 
 -- K
 abbrev pub column_text : Option Column → List ℕ
 column_text None = codes "-"
 column_text (Some column) = decimal column.0
+
+-- ` col K need U,U`
+abbrev pub need_text : Option Column → List Uid → List ℕ
+need_text column need = codes " col " ++ column_text column ++ codes " need " ++ uids_text need
 
 -- how an attempt to authenticate failed
 abbrev pub failure_text : AttemptFailure → List ℕ
@@ -46,17 +55,20 @@ failure_text LockedOut = codes "locked"
 failure_text Disabled = codes "disabled"
 failure_text Unknown = codes "unknown"
 
+-- `auth SP AUTH pin`, and likewise for the other failures
+abbrev pub attempt_text : Sp → Uid → AttemptFailure → List ℕ
+attempt_text sp authority failure =
+    codes "auth " ++ sp_text sp ++ codes " " ++ uid_text authority ++ codes " " ++ failure_text failure
+
 -- what stands after `deny`
 abbrev pub why_text : Why → List ℕ
-why_text (ReadLocked lba count range) = codes "read " ++ span_text lba count ++ range_text range ++ codes "ReadLocked"
-why_text (WriteLocked lba count range) = codes "write " ++ span_text lba count ++ range_text range ++ codes "WriteLocked"
-why_text (ReadShadow lba count) = codes "read " ++ span_text lba count ++ codes " shadow MBR"
-why_text (WriteShadow lba count) = codes "write " ++ span_text lba count ++ codes " shadow MBR"
-why_text (NoEntryHolds sp object method column need) =
-    codes "method " ++ call_text sp object method ++ codes " col " ++ column_text column ++ codes " need " ++ uids_text need.items
-why_text (NoAccessRow sp object method) = codes "method " ++ call_text sp object method ++ codes " no row"
-why_text (AttemptFailed sp authority failure) =
-    codes "auth " ++ sp_text sp ++ codes " " ++ uid_text authority ++ codes " " ++ failure_text failure
+why_text (ReadLocked lba count range) = transfer_text (codes "read") lba count ++ lock_text range (codes "ReadLocked")
+why_text (WriteLocked lba count range) = transfer_text (codes "write") lba count ++ lock_text range (codes "WriteLocked")
+why_text (ReadShadow lba count) = shadow_text (codes "read") lba count
+why_text (WriteShadow lba count) = shadow_text (codes "write") lba count
+why_text (NoEntryHolds sp object method column need) = call_text sp object method ++ need_text column need.items
+why_text (NoAccessRow sp object method) = call_text sp object method ++ codes " no row"
+why_text (AttemptFailed sp authority failure) = attempt_text sp authority failure
 
 abbrev pub line_text : AuditLine → List ℕ
 line_text line = decimal line.step ++ codes " " ++ decimal line.client ++ codes " deny " ++ why_text line.why

@@ -1,6 +1,5 @@
 ghost use Rattle.std.specs.Prelude.{◌≡◌, ◌++◌, OnOk, IfOk, codes, decimal};
-ghost use Rattle.audit.specs.AuditText.{span_text, range_text, call_text, column_text, failure_text, why_text, line_text};
-ghost use Rattle.audit.specs.declared.reason.Why.TheVariants.{AttemptFailed};
+ghost use Rattle.audit.specs.AuditText.{transfer_text, lock_text, shadow_text, call_text, column_text, need_text, failure_text, attempt_text, why_text, line_text};
 
 use crate::names::{append_method, append_uid, append_uids, sp_name};
 use crate::reason::{AttemptFailure, AuditLine, Why};
@@ -32,24 +31,45 @@ fn append_decimal(alloc: Global, text: &mut Vec<u8>, number: u64) -> Result<(), 
     Ok(())
 }
 
-/// Appends the sectors of a transfer, as `95+6`.
-fn append_span(alloc: Global, text: &mut Vec<u8>, lba: u64, count: u32) -> Result<(), AllocError>
-    ensures { OnOk result (text.new.items ≡ text.old.items ++ span_text lba count) }
+/// Appends what a transfer does and its sectors, as `read 95+6`.
+fn append_transfer(
+    alloc: Global,
+    text: &mut Vec<u8>,
+    verb: &[u8],
+    lba: u64,
+    count: u32,
+) -> Result<(), AllocError>
+    ensures { OnOk result (text.new.items ≡ text.old.items ++ transfer_text verb.now lba count) }
 {
+    text.extend_from_slice(verb)?;
+    text.extend_from_slice(b" ")?;
     append_decimal(alloc, text, lba)?;
     text.extend_from_slice(b"+")?;
-    append_decimal(alloc, text, u64::from(count))?;
-    Ok(())
+    append_decimal(alloc, text, u64::from(count))
 }
 
-/// Appends the range that denied, as ` range 1 `.
-fn append_range(alloc: Global, text: &mut Vec<u8>, range: u8) -> Result<(), AllocError>
-    ensures { OnOk result (text.new.items ≡ text.old.items ++ range_text range) }
+/// Appends the range that denied, and its flag, as ` range 1 ReadLocked`.
+fn append_lock(alloc: Global, text: &mut Vec<u8>, range: u8, flag: &[u8]) -> Result<(), AllocError>
+    ensures { OnOk result (text.new.items ≡ text.old.items ++ lock_text range flag.now) }
 {
     text.extend_from_slice(b" range ")?;
     append_decimal(alloc, text, u64::from(range))?;
     text.extend_from_slice(b" ")?;
-    Ok(())
+    text.extend_from_slice(flag)
+}
+
+/// Appends a transfer that the shadow MBR denied, as `read 7+2 shadow MBR`.
+fn append_shadow(
+    alloc: Global,
+    text: &mut Vec<u8>,
+    verb: &[u8],
+    lba: u64,
+    count: u32,
+) -> Result<(), AllocError>
+    ensures { OnOk result (text.new.items ≡ text.old.items ++ shadow_text verb.now lba count) }
+{
+    append_transfer(alloc, text, verb, lba, count)?;
+    text.extend_from_slice(b" shadow MBR")
 }
 
 /// Appends what was called, as `method Admin 0000000b00000001 Get`.
@@ -60,7 +80,7 @@ fn append_call(
     object: Uid,
     method: Uid,
 ) -> Result<(), AllocError>
-    ensures { OnOk result (text.new.items ≡ text.old.items ++ codes "method " ++ call_text sp object method) }
+    ensures { OnOk result (text.new.items ≡ text.old.items ++ call_text sp object method) }
 {
     text.extend_from_slice(b"method ")?;
     text.extend_from_slice(sp_name(sp))?;
@@ -86,6 +106,21 @@ fn append_column(
     Ok(())
 }
 
+/// Appends the column that was denied, and the entries that would have been needed, as ` col 7 need none`.
+fn append_need(
+    alloc: Global,
+    text: &mut Vec<u8>,
+    column: Option<Column>,
+    need: &[Uid],
+) -> Result<(), AllocError>
+    ensures { OnOk result (text.new.items ≡ text.old.items ++ need_text column need.now) }
+{
+    text.extend_from_slice(b" col ")?;
+    append_column(alloc, text, column)?;
+    text.extend_from_slice(b" need ")?;
+    append_uids(alloc, text, need)
+}
+
 /// The word for the failure of an attempt.
 fn failure_name(failure: AttemptFailure) -> &'static [u8]
     ensures { result.now ≡ failure_text failure }
@@ -106,7 +141,7 @@ fn append_attempt(
     authority: Uid,
     failure: AttemptFailure,
 ) -> Result<(), AllocError>
-    ensures { OnOk result (text.new.items ≡ text.old.items ++ why_text (AttemptFailed sp authority failure)) }
+    ensures { OnOk result (text.new.items ≡ text.old.items ++ attempt_text sp authority failure) }
 {
     text.extend_from_slice(b"auth ")?;
     text.extend_from_slice(sp_name(sp))?;
@@ -123,27 +158,15 @@ fn append_why(alloc: Global, text: &mut Vec<u8>, why: &Why) -> Result<(), AllocE
 {
     match why {
         Why::ReadLocked { lba, count, range } => {
-            text.extend_from_slice(b"read ")?;
-            append_span(alloc, text, *lba, *count)?;
-            append_range(alloc, text, *range)?;
-            text.extend_from_slice(b"ReadLocked")?;
+            append_transfer(alloc, text, b"read", *lba, *count)?;
+            append_lock(alloc, text, *range, b"ReadLocked")
         }
         Why::WriteLocked { lba, count, range } => {
-            text.extend_from_slice(b"write ")?;
-            append_span(alloc, text, *lba, *count)?;
-            append_range(alloc, text, *range)?;
-            text.extend_from_slice(b"WriteLocked")?;
+            append_transfer(alloc, text, b"write", *lba, *count)?;
+            append_lock(alloc, text, *range, b"WriteLocked")
         }
-        Why::ReadShadow { lba, count } => {
-            text.extend_from_slice(b"read ")?;
-            append_span(alloc, text, *lba, *count)?;
-            text.extend_from_slice(b" shadow MBR")?;
-        }
-        Why::WriteShadow { lba, count } => {
-            text.extend_from_slice(b"write ")?;
-            append_span(alloc, text, *lba, *count)?;
-            text.extend_from_slice(b" shadow MBR")?;
-        }
+        Why::ReadShadow { lba, count } => append_shadow(alloc, text, b"read", *lba, *count),
+        Why::WriteShadow { lba, count } => append_shadow(alloc, text, b"write", *lba, *count),
         Why::NoEntryHolds {
             sp,
             object,
@@ -152,22 +175,16 @@ fn append_why(alloc: Global, text: &mut Vec<u8>, why: &Why) -> Result<(), AllocE
             need,
         } => {
             append_call(alloc, text, *sp, *object, *method)?;
-            text.extend_from_slice(b" col ")?;
-            append_column(alloc, text, *column)?;
-            text.extend_from_slice(b" need ")?;
-            append_uids(alloc, text, need)?;
+            append_need(alloc, text, *column, need)
         }
         Why::NoAccessRow { sp, object, method } => {
             append_call(alloc, text, *sp, *object, *method)?;
-            text.extend_from_slice(b" no row")?;
+            text.extend_from_slice(b" no row")
         }
         Why::AttemptFailed {
             sp,
             authority,
             failure,
-        } => {
-            append_attempt(alloc, text, *sp, *authority, *failure)?;
-        }
+        } => append_attempt(alloc, text, *sp, *authority, *failure),
     }
-    Ok(())
 }

@@ -1,0 +1,20 @@
+-- What is read off the matches of a command line.
+use Rattle.std.proofs.Common.{◌≡◌, List, [], Option, None, Some, Bor, option_map}
+use Rattle.std.specs.Prelude.{unwrap_or}
+use Rattle.clap.specs.Words.{Row, Text}
+
+-- the subcommand that a parse entered, by its name and its rows
+pub entered_as : {S : Type 0} (name_of : S → Text) (rows_in : S → List Row) (found : Option S) (name : Text) (rows : List Row)
+    → Some name ≡ option_map name_of found
+    → Some rows ≡ option_map {T = Text × List Row} (λ p. p.1) (option_map (λ s. (name_of s, rows_in s)) found)
+    → option_map {U = Text × List Row} (λ s. (name_of s, rows_in s)) found ≡ Some (name, rows)
+entered_as name_of rows_in None name rows is_name is_rows = cc
+entered_as name_of rows_in (Some s) name rows is_name is_rows = cc
+
+-- a text, or an empty one where there is none
+pub text_or_empty : (found : Option (Bor Text)) (text : Option Text) (empty : Bor Text)
+    → option_map (λ s. s.now) found ≡ text → empty.now ≡ [] → (unwrap_or found empty).now ≡ unwrap_or text []
+text_or_empty None None empty is_text is_empty = is_empty
+text_or_empty None (Some text) empty is_text is_empty = cc
+text_or_empty (Some s) None empty is_text is_empty = cc
+text_or_empty (Some s) (Some text) empty is_text is_empty = cc

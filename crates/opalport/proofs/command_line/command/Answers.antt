@@ -1,0 +1,17 @@
+use Rattle.std.proofs.Common.{◌≡◌, ◌∙◌, rules, ap, ap₂, codes, true}
+use Rattle.std.proofs.lemmas.Result.{IfOk-weaker}
+use Rattle.clap.specs.Words.{App, app_of, new_app, with_subcommand}
+use Rattle.clap.specs.Simple.{on_top}
+use Rattle.clap.proofs.SimpleLemmas.{plain_fields}
+use Rattle.opalport.proofs.command_line.command.Goals as goal
+
+pub returns : goal.returns
+returns c =
+    let top : app_of c.arg_required_else_help.result ≡ on_top (λ s. record s { subcommand_required = true; arg_required_else_help = true }) (new_app (codes "opalport")) =
+    search rules in
+    let run_line = c.in_ok-drive_command.ensures in
+    let run_plain = plain_fields c.in_ok-drive_command.field-0 (ap (λ (a : App). a.top.is_plain) run_line) in
+    let tokens_line = c.in_ok-tokens_command.ensures in
+    let tokens_plain = plain_fields c.in_ok-tokens_command.field-0 (ap (λ (a : App). a.top.is_plain) tokens_line) in
+    let with_run = c.in_ok-subcommand.ensures.shape run_plain.globals ∙ ap₂ with_subcommand top (ap (λ (a : App). a.top) run_line) in
+    IfOk-weaker c.subcommand-2.result _ _ (λ command adds. adds.shape tokens_plain.globals ∙ ap₂ with_subcommand with_run (ap (λ (a : App). a.top) tokens_line)) c.subcommand-2.ensures

@@ -1,0 +1,16 @@
+use Rattle.std.proofs.Common.{◌≡◌, Some}
+use Rattle.clap.specs.Words.{rows_of, found_of, subcommand_rows_of}
+use Rattle.opalport.proofs.Matches.{entered_as}
+use Rattle.opalport.proofs.command_line.request_in.Goals as goal
+
+pub returns-in-run : goal.returns-in-run
+returns-in-run c =
+    let entered : subcommand_rows_of c.args.matches.now ≡ Some (c.in_ok-name.name.now, rows_of (found_of c.in_ok-name.matches.now)) =
+    entered_as _ _ _ _ _ c.in_ok-name.ensures.name c.in_ok-name.ensures.rows in
+    rw (entered, c.in-run.is) (cc)
+
+pub returns-in-tokens : goal.returns-in-tokens
+returns-in-tokens c =
+    let entered : subcommand_rows_of c.args.matches.now ≡ Some (c.in_ok-name.name.now, rows_of (found_of c.in_ok-name.matches.now)) =
+    entered_as _ _ _ _ _ c.in_ok-name.ensures.name c.in_ok-name.ensures.rows in
+    rw (entered, c.in-tokens.is) (cc)

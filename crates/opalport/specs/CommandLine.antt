@@ -1,0 +1,54 @@
+-- The command line of the program, as `clap` reads it, and what its words ask for.
+use Rattle.std.specs.Prelude.{List, [], ◌∷◌, true, Option, None, Some, codes, unwrap_or, option_and_then, if◌then◌else◌}
+use Rattle.std.specs.Str.{bytes_eq}
+use Rattle.clap.specs.Words.{App, Row, Rule, Text, first_of, new_app, new_rule, subcommand_of, with_rule, with_subcommand}
+use Rattle.clap.specs.Simple.{on_top}
+use Rattle.opalport.specs.declared.command_line.Request.{Request}
+use Rattle.opalport.specs.declared.command_line.Request.TheVariants.{Run, Tokens}
+
+-- `--name TEXT`, and the text that stands for it where it is left out
+abbrev pub option_rule : Text → Text → Rule
+option_rule name default = record (new_rule name) { long = Some name; value_names = 1; defaults = default ∷ [] }
+
+-- a command that opens a drive, with the options that say which
+abbrev pub drive_line : Text → App
+drive_line name =
+    with_rule (with_rule (with_rule (new_app name) (option_rule (codes "sectors") (codes "1000")))
+    (option_rule (codes "shadow") (codes "8"))) (option_rule (codes "msid") (codes "4f50414c4d534944"))
+
+-- `tokens HEX`
+abbrev pub tokens_line : App
+tokens_line = with_rule (new_app (codes "tokens")) (record (new_rule (codes "hex")) { value_names = 1; required = true })
+
+-- the program takes one of the two, and nothing else
+abbrev pub opalport_line : App
+opalport_line =
+    with_subcommand
+    (with_subcommand (on_top (λ s. record s { subcommand_required = true; arg_required_else_help = true }) (new_app (codes "opalport")))
+    (drive_line (codes "run")).top) tokens_line.top
+
+-- what words ask for, by the texts as they are written
+pub data Asked : Type 0 where
+  run : Text → Text → Text → Asked
+  tokens : Text → Asked
+
+-- what a request asks for
+abbrev pub asked : Request → Asked
+asked (Run drive) = run drive.sectors.now drive.shadow.now drive.msid.now
+asked (Tokens hex) = tokens hex.now
+
+-- the text of an argument; one that is required or has a default has one
+abbrev pub text_of : Text → List Row → Text
+text_of id rows = unwrap_or (first_of id rows) []
+
+-- what a subcommand with these arguments asks for
+abbrev pub asked_of : Text × List Row → Option Asked
+asked_of (name, rows) =
+    if bytes_eq name (codes "run")
+    then Some (run (text_of (codes "sectors") rows) (text_of (codes "shadow") rows) (text_of (codes "msid") rows))
+    else if bytes_eq name (codes "tokens") then Some (tokens (text_of (codes "hex") rows))
+    else None
+
+-- what the words of a command line ask for, where they are one
+abbrev pub asked_by : List Text → Option Asked
+asked_by words = option_and_then asked_of (subcommand_of opalport_line words)

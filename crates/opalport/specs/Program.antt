@@ -1,0 +1,51 @@
+-- How the program ends, by the words of its command line.
+use Rattle.std.specs.Prelude.{◌≡◌, ◌≢◌, ◌⊎◌, ℕ, List, [], ◌∷◌, ◌++◌, Option, None, Some, Ok, Err, IfSome}
+use Rattle.std.specs.Io.KnownBytes.{Appends}
+use Rattle.hex.specs.Hex.{decode_of}
+use Rattle.hex.specs.declared.error.FromHexError.{FromHexError}
+use Rattle.sp_cells.specs.Config.{Config, IsWithinLimits}
+use Rattle.tool.specs.OptionTexts.{WritesConfig}
+use Rattle.tool.specs.Scripts.{script_lines, EndsWith}
+use Rattle.tool.specs.TokenLines.{token_text}
+use Rattle.clap.specs.Words.{IsAmong, Kinds, Text, fault_of}
+use Rattle.clap.specs.declared.error.kind.ErrorKind.{ErrorKind}
+use Rattle.clap.specs.declared.error.kind.ErrorKind.TheVariants.{DisplayHelp}
+use Rattle.opalport.specs.CommandLine.{Asked, run, tokens, asked_by, opalport_line}
+
+-- the texts write a configuration within the limits
+abbrev pub Opens : Text → Text → Text → Type 0
+Opens sectors shadow msid =
+    (config : Config) × WritesConfig sectors shadow msid config × IsWithinLimits config.sectors config.mbr_sectors config.msid
+
+-- the script ends as its lines say; where the options open no drive, the status is 2, and nothing is printed
+abbrev pub RunEnds : Text → Text → Text → Option (List ℕ) → ℕ → Option (List ℕ) → Option (List ℕ) → Type 0
+RunEnds sectors shadow msid input status old new =
+    (Opens sectors shadow msid × IfSome input (λ text. EndsWith status (script_lines text)))
+    ⊎ ((Opens sectors shadow msid → ⊥) × (status ≡ 2) × (new ≡ old))
+
+-- the item is printed with status 0; where the text is no hex, the status is 2
+abbrev pub TokensEnd : Text → ℕ → Option (List ℕ) → Option (List ℕ) → Type 0
+TokensEnd hex status old new =
+    ((bytes : List ℕ) × (decode_of hex ≡ Ok bytes) × (status ≡ 0) × Appends old new (token_text bytes ++ 10 ∷ []))
+    ⊎ ((e : FromHexError) × (decode_of hex ≡ Err e) × (status ≡ 2))
+
+-- help has status 0; any other fault of the words has status 2, and nothing is printed
+pub record Told (kind : ErrorKind) (status : ℕ) (old new : Option (List ℕ)) : Type 0 where
+  pub help : kind ≡ DisplayHelp → status ≡ 0
+  pub fault : kind ≢ DisplayHelp → (status ≡ 2) × (new ≡ old)
+
+-- the words ask for something, and this is how it ends
+abbrev pub Serves : Option Asked → Option (List ℕ) → ℕ → Option (List ℕ) → Option (List ℕ) → Type 0
+Serves None input status old new = status ≡ 2
+Serves (Some (run sectors shadow msid)) input status old new = RunEnds sectors shadow msid input status old new
+Serves (Some (tokens hex)) input status old new = TokensEnd hex status old new
+
+-- the words are no command line, and one of their faults is told
+abbrev pub Refuses : Kinds → ℕ → Option (List ℕ) → Option (List ℕ) → Type 0
+Refuses kinds status old new = (kind : ErrorKind) × IsAmong kind kinds × Told kind status old new
+
+-- how the program ends on these words and this input, where the writer's bytes were the old ones and are the new ones
+abbrev pub Ends : List Text → Option (List ℕ) → ℕ → Option (List ℕ) → Option (List ℕ) → Type 0
+Ends words input status old new =
+    ((fault_of opalport_line words ≡ []) × Serves (asked_by words) input status old new)
+    ⊎ Refuses (fault_of opalport_line words) status old new

@@ -1,0 +1,134 @@
+//! The words of the command line, and what they ask for.
+
+ghost use Rattle.std.specs.Prelude.{◌≡◌, IfOk, false, map, option_map, option_and_then, string_bytes};
+ghost use Rattle.clap.specs.Words.{FailsBy, app_of, fault_of, found_of, rows_of, rule_of, subcommand_rows_of};
+ghost use Rattle.opalport.specs.CommandLine.{option_rule, drive_line, tokens_line, opalport_line, text_of, asked, asked_of, asked_by};
+
+use clap::{Arg, ArgMatches, Command, Error};
+use std::alloc::{AllocError, Global};
+
+/// The options that say which drive, as they are written.
+#[derive(Clone, Copy)]
+pub struct DriveTexts<'a> {
+    pub sectors: &'a str,
+    pub shadow: &'a str,
+    pub msid: &'a str,
+}
+
+/// What a command line asks for.
+#[derive(Clone, Copy)]
+pub enum Request<'a> {
+    /// To run a script on a drive.
+    Run(DriveTexts<'a>),
+    /// To tell a token stream, written in hex, as text.
+    Tokens(&'a str),
+}
+
+/// An option that takes a value, with the one that stands where it is left out.
+fn option<'a>(
+    alloc: Global,
+    name: &'static str,
+    value: &'static str,
+    default: &'static str,
+    help: &'static str,
+) -> Arg<'a>
+    ensures rule { rule_of result ≡ option_rule name.now default.now }
+    ensures local { result.global ≡ false }
+{
+    Arg::new(alloc, name)
+        .long(name)
+        .value_name(value)
+        .default_value(default)
+        .help(help)
+}
+
+/// A command that opens a drive, with the options that say which.
+fn drive_command<'a>(
+    alloc: Global,
+    name: &'static str,
+    about: &'static str,
+) -> Result<Command<'a>, AllocError>
+    ensures { IfOk result (λ command. app_of command ≡ drive_line name.now) }
+{
+    let sectors = option(alloc, "sectors", "N", "1000", "The number of sectors");
+    let shadow = option(
+        alloc,
+        "shadow",
+        "N",
+        "8",
+        "The number of sectors of the MBR shadow",
+    );
+    let msid = option(
+        alloc,
+        "msid",
+        "HEX",
+        "4f50414c4d534944",
+        "The manufactured PIN",
+    );
+    Command::new(alloc, name)
+        .about(about)
+        .arg(sectors)?
+        .arg(shadow)?
+        .arg(msid)
+}
+
+/// The command that tells a token stream as text.
+fn tokens_command<'a>(alloc: Global) -> Result<Command<'a>, AllocError>
+    ensures { IfOk result (λ command. app_of command ≡ tokens_line) }
+{
+    let hex = Arg::new(alloc, "hex")
+        .value_name("HEX")
+        .required(true)
+        .help("The bytes of the tokens, in hex");
+    Command::new(alloc, "tokens")
+        .about("Tells the item that a token stream spells, or what is wrong with it")
+        .arg(hex)
+}
+
+/// The whole command line.
+fn command<'a>(alloc: Global) -> Result<Command<'a>, AllocError>
+    ensures { IfOk result (λ command. app_of command ≡ opalport_line) }
+{
+    Command::new(alloc, "opalport")
+        .about("A self-locking drive behind an AHCI port, driven by a script")
+        .subcommand_required(true)
+        .arg_required_else_help(true)
+        .subcommand(drive_command(alloc, "run", "Runs a script from standard input")?)?
+        .subcommand(tokens_command(alloc)?)
+}
+
+/// The text of an argument, as it is written.
+fn text_of<'a>(matches: &ArgMatches<'a>, id: &str) -> &'a str
+    ensures { result.now ≡ text_of id.now (rows_of (found_of matches.now)) }
+{
+    matches.get_str(id).unwrap_or("")
+}
+
+/// What the matches of a command line ask for.
+fn request_in<'a>(matches: &ArgMatches<'a>) -> Option<Request<'a>>
+    ensures { option_map asked result ≡ option_and_then asked_of (subcommand_rows_of matches.now) }
+{
+    let (name, matches) = matches.subcommand()?;
+    match name {
+        "run" => Some(Request::Run(DriveTexts {
+            sectors: text_of(matches, "sectors"),
+            shadow: text_of(matches, "shadow"),
+            msid: text_of(matches, "msid"),
+        })),
+        "tokens" => Some(Request::Tokens(text_of(matches, "hex"))),
+        _ => None,
+    }
+}
+
+/// What the words of a command line ask for, the first of which names the program.
+///
+/// # Errors
+///
+/// The words ask for help, are no command line, or an allocation was refused.
+pub fn request_of<'a>(alloc: Global, words: &'a [String]) -> Result<Option<Request<'a>>, Error>
+    ensures asks { IfOk result (λ request. option_map asked request ≡ asked_by (map string_bytes words.now)) }
+    ensures fails { FailsBy (fault_of opalport_line (map string_bytes words.now)) result }
+{
+    let matches = command(alloc)?.try_get_matches_from(words)?;
+    Ok(request_in(&matches))
+}

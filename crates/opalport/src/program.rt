@@ -1,0 +1,103 @@
+//! What the program does with the words of its command line.
+
+ghost use Rattle.std.specs.Prelude.{◌≡◌, ◌≢◌, ◌≤◌, IfOk, map, string_bytes};
+ghost use Rattle.clap.specs.Words.{kind_of};
+ghost use Rattle.opalport.specs.Program.{Told, RunEnds, TokensEnd, Ends};
+
+use crate::command_line::{DriveTexts, Request, request_of};
+use clap::error::ErrorKind;
+use std::alloc::Global;
+use std::io::{Read, Write};
+use tool::{Options, OptionsFault, RunError, run_script_with_faults, run_tokens};
+
+/// Runs a script on the drive that the options open, and gives the status.
+fn run<R: Read + Drop, W: Write, E: Write>(
+    alloc: Global,
+    drive: &DriveTexts<'_>,
+    input: R,
+    output: &mut W,
+    faults: &mut E,
+) -> Result<u8, RunError>
+    ensures most { IfOk result (λ status. status ≤ 2) }
+    ensures ends { IfOk result (λ status. RunEnds drive.now.sectors.now drive.now.shadow.now drive.now.msid.now (R.remaining input) status (W.contents output.old) (W.contents output.new)) }
+{
+    match Options::parse(
+        alloc,
+        drive.sectors.as_bytes(),
+        drive.shadow.as_bytes(),
+        drive.msid.as_bytes(),
+    ) {
+        Ok(options) => run_script_with_faults(alloc, input, output, faults, &options),
+        Err(OptionsFault::OutOfMemory) => Err(RunError::Memory),
+        Err(fault) => {
+            writeln!(faults, "error: {fault}").map_err(|_| RunError::Write)?;
+            Ok(2)
+        }
+    }
+}
+
+/// Tells a token stream as text, and gives the status.
+fn tokens<W: Write, E: Write>(
+    alloc: Global,
+    hex: &str,
+    output: &mut W,
+    faults: &mut E,
+) -> Result<u8, RunError>
+    ensures { IfOk result (λ status. TokensEnd hex.now status (W.contents output.old) (W.contents output.new)) }
+{
+    let status = run_tokens(alloc, hex, output)?;
+    if status == 2 {
+        writeln!(
+            faults,
+            "error: HEX is not written in hex digits, two for each byte"
+        )
+        .map_err(|_| RunError::Write)?;
+    }
+    Ok(status)
+}
+
+/// Prints the help that the words ask for, or tells what is wrong with them, and gives the status.
+fn tell<W: Write, E: Write>(
+    error: &clap::Error,
+    output: &mut W,
+    faults: &mut E,
+) -> Result<u8, RunError>
+    ensures told { IfOk result (λ status. Told (kind_of error.now) status (W.contents output.old) (W.contents output.new)) }
+    ensures memory { IfOk result (λ _. kind_of error.now ≢ ErrorKind.OutOfMemory) }
+{
+    match error.kind() {
+        ErrorKind::OutOfMemory => Err(RunError::Memory),
+        ErrorKind::DisplayHelp => {
+            write!(output, "{error}").map_err(|_| RunError::Write)?;
+            Ok(0)
+        }
+        _ => {
+            write!(faults, "{error}").map_err(|_| RunError::Write)?;
+            Ok(2)
+        }
+    }
+}
+
+/// Does what the words of a command line ask for, and gives the status: 0 done, 1 an expectation
+/// failed, 2 a bad line or bad usage. Faults are written to `faults`, and all else to `output`.
+///
+/// # Errors
+///
+/// An allocation was refused, or the reader or a writer failed.
+pub fn ends<R: Read + Drop, W: Write, E: Write>(
+    alloc: Global,
+    words: &[String],
+    input: R,
+    output: &mut W,
+    faults: &mut E,
+) -> Result<u8, RunError>
+    ensures most { IfOk result (λ status. status ≤ 2) }
+    ensures ends { IfOk result (λ status. Ends (map string_bytes words.now) (R.remaining input) status (W.contents output.old) (W.contents output.new)) }
+{
+    match request_of(alloc, words) {
+        Ok(Some(Request::Run(drive))) => run(alloc, &drive, input, output, faults),
+        Ok(Some(Request::Tokens(hex))) => tokens(alloc, hex, output, faults),
+        Ok(None) => Ok(2),
+        Err(error) => tell(&error, output, faults),
+    }
+}

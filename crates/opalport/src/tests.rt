@@ -1,0 +1,117 @@
+use crate::command_line::{Request, request_of};
+use crate::program::ends;
+use std::alloc::{AllocError, Global};
+use std::test::Fail;
+
+/// The words of a line, with one blank between each two.
+fn words(alloc: Global, line: &str) -> Result<Vec<String>, AllocError> {
+    let mut words = Vec::new(alloc);
+    for word in line.split(' ') {
+        words.push(word.to_string(alloc)?)?;
+    }
+    Ok(words)
+}
+
+/// What a line asks for, as text, or the kind of its fault.
+fn asked(alloc: Global, line: &str) -> Result<String, AllocError> {
+    let words = words(alloc, line)?;
+    match request_of(alloc, &words) {
+        Ok(Some(Request::Run(drive))) => {
+            format!(in alloc; "run {} {} {}", drive.sectors, drive.shadow, drive.msid)
+        }
+        Ok(Some(Request::Tokens(hex))) => format!(in alloc; "tokens {hex}"),
+        Ok(None) => format!(in alloc; "nothing"),
+        Err(error) => format!(in alloc; "{:?}", error.kind()),
+    }
+}
+
+/// The status of a line with a script, what it prints, and what it tells of faults.
+fn end(rt: &HostRuntime, line: &str, script: &[u8]) -> Result<(u8, Vec<u8>, Vec<u8>), Fail> {
+    let alloc = rt.alloc();
+    let words = words(alloc, line)?;
+    let mut output = Vec::new(alloc);
+    let mut faults = Vec::new(alloc);
+    let status = ends(alloc, &words, script, &mut output, &mut faults)?;
+    Ok((status, output, faults))
+}
+
+/// Each option alone, in other places and with `=`; the defaults of the others.
+#[test]
+fn asks_what_is_written(rt: HostRuntime) -> Result<(), Fail> {
+    for (line, wanted) in [
+        ("opalport run", "run 1000 8 4f50414c4d534944"),
+        ("opalport run --sectors 70", "run 70 8 4f50414c4d534944"),
+        ("opalport run --shadow 0", "run 1000 0 4f50414c4d534944"),
+        ("opalport run --msid=00", "run 1000 8 00"),
+        (
+            "opalport run --msid 00 --shadow=2 --sectors 3",
+            "run 3 2 00",
+        ),
+        ("opalport tokens f8", "tokens f8"),
+    ] {
+        assert_eq!(rt; asked(rt.alloc(), line)?.as_str(), wanted, "at {line}");
+    }
+    Ok(())
+}
+
+/// Words that are no command line, and those that ask for help.
+#[test]
+fn tells_what_is_wrong_with_words(rt: HostRuntime) -> Result<(), Fail> {
+    for (line, wanted) in [
+        ("opalport --help", "DisplayHelp"),
+        ("opalport help", "DisplayHelp"),
+        ("opalport run --help", "DisplayHelp"),
+        ("opalport", "DisplayHelpOnMissingArgumentOrSubcommand"),
+        ("opalport walk", "InvalidSubcommand"),
+        ("opalport --sectors 70", "UnknownArgument"),
+        ("opalport run 70", "UnknownArgument"),
+        ("opalport run --size 70", "UnknownArgument"),
+        ("opalport run --sectors", "InvalidValue"),
+        ("opalport run --sectors 1 --sectors 2", "ArgumentConflict"),
+        ("opalport tokens", "MissingRequiredArgument"),
+        ("opalport tokens f8 f9", "UnknownArgument"),
+    ] {
+        assert_eq!(rt; asked(rt.alloc(), line)?.as_str(), wanted, "at {line}");
+    }
+    Ok(())
+}
+
+/// The status of each end, and whether anything is printed and anything is told.
+#[test]
+fn ends_with_a_status(rt: HostRuntime) -> Result<(), Fail> {
+    let reads = b"read 1 0 5 1\n".as_slice();
+    for (line, script, wanted) in [
+        ("opalport run", reads, (0, true, false)),
+        ("opalport run", b"expect ok\n".as_slice(), (1, false, false)),
+        ("opalport run", b"walk\n".as_slice(), (2, false, true)),
+        ("opalport run --sectors 8", reads, (0, true, false)),
+        ("opalport run --sectors 7", reads, (2, false, true)),
+        ("opalport run --sectors +8", reads, (2, false, true)),
+        ("opalport run --shadow -8", reads, (2, false, true)),
+        ("opalport run --msid ", reads, (2, false, true)),
+        ("opalport run --msid zz", reads, (2, false, true)),
+        ("opalport tokens f8", reads, (0, true, false)),
+        ("opalport tokens zz", reads, (2, false, true)),
+        ("opalport --help", reads, (0, true, false)),
+        ("opalport", reads, (2, false, true)),
+        ("opalport tokens", reads, (2, false, true)),
+    ] {
+        let (status, output, faults) = end(&rt, line, script)?;
+        assert_eq!(rt;
+            (status, !output.is_empty(), !faults.is_empty()),
+            wanted,
+            "at {line}"
+        );
+    }
+    Ok(())
+}
+
+/// What a script and a token stream print, on the drive that stands by default.
+#[test]
+fn prints_what_is_asked(rt: HostRuntime) -> Result<(), Fail> {
+    let (_, output, _) = end(&rt, "opalport run", b"read 1 0 999 1\nread 1 0 1000 1\n")?;
+    assert_eq!(rt; output.as_slice(), b"ok 00000000\nfail 51 10\n".as_slice());
+    let (_, output, _) = end(&rt, "opalport tokens f0f0f1", b"")?;
+    assert_eq!(rt; output.as_slice(), b"malformed 1 Truncated\n".as_slice());
+    Ok(())
+}
