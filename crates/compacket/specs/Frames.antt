@@ -61,26 +61,46 @@ subpacket_kind subpacket = number_at 2 subpacket 6
 abbrev pub subpacket_length : List ℕ → ℕ
 subpacket_length subpacket = number_at 4 subpacket 8
 
+-- How many bytes each has by the Length in its header, which counts what it carries.
+abbrev pub com_packet_size : List ℕ → ℕ
+com_packet_size bytes = com_packet_header_size + com_packet_length bytes
+
+abbrev pub packet_size : List ℕ → ℕ
+packet_size bytes = packet_header_size + packet_length bytes
+
+abbrev pub subpacket_size : List ℕ → ℕ
+subpacket_size bytes = subpacket_header_size + padded (subpacket_length bytes)
+
+-- What each carries.
+abbrev pub com_packet_content : List ℕ → List ℕ
+com_packet_content bytes = take (com_packet_length bytes) (drop com_packet_header_size bytes)
+
+abbrev pub packet_content : List ℕ → List ℕ
+packet_content bytes = drop packet_header_size bytes
+
+abbrev pub subpacket_content : List ℕ → List ℕ
+subpacket_content bytes = take (subpacket_length bytes) (drop subpacket_header_size bytes)
+
 -- The bytes begin with a ComPacket for this ComID, with this content. What stands behind it, and
 -- the fields that are not named, may have any value.
 pub record IsComPacket (bytes : List ℕ) (com_id : ℕ) (content : List ℕ) : Type 0 where
-  pub is_whole : com_packet_header_size + com_packet_length bytes ≤ length bytes
-  pub is_small : com_packet_header_size + com_packet_length bytes ≤ MAX_COM_PACKET
+  pub is_whole : com_packet_size bytes ≤ length bytes
+  pub is_small : com_packet_size bytes ≤ MAX_COM_PACKET
   pub names : com_id_of bytes ≡ com_id
-  pub carries : take (com_packet_length bytes) (drop com_packet_header_size bytes) ≡ content
+  pub carries : com_packet_content bytes ≡ content
 
 -- The bytes are one packet of this session, with this content.
 pub record IsPacket (bytes : List ℕ) (session : Session) (content : List ℕ) : Type 0 where
-  pub is_whole : packet_header_size + packet_length bytes ≡ length bytes
+  pub is_whole : packet_size bytes ≡ length bytes
   pub names : session_of bytes ≡ session
-  pub carries : drop packet_header_size bytes ≡ content
+  pub carries : packet_content bytes ≡ content
 
 -- The bytes are one data subpacket with this payload, of one byte at least.
 pub record IsDataSubpacket (bytes payload : List ℕ) : Type 0 where
-  pub is_whole : subpacket_header_size + padded (subpacket_length bytes) ≡ length bytes
+  pub is_whole : subpacket_size bytes ≡ length bytes
   pub is_data : subpacket_kind bytes ≡ data_kind
   pub is_some : 0 < subpacket_length bytes
-  pub carries : take (subpacket_length bytes) (drop subpacket_header_size bytes) ≡ payload
+  pub carries : subpacket_content bytes ≡ payload
 
 -- The bytes begin with a frame: a ComPacket that carries one packet that carries one data
 -- subpacket that carries the payload.
@@ -91,30 +111,20 @@ pub record IsFrame (bytes : List ℕ) (frame : Frame) : Type 0 where
   pub is_packet : IsPacket packet frame.session subpacket
   pub is_subpacket : IsDataSubpacket subpacket frame.payload
 
--- What each carries, by the Length in its header.
-abbrev pub com_packet_content : List ℕ → List ℕ
-com_packet_content bytes = take (com_packet_length bytes) (drop com_packet_header_size bytes)
-
-abbrev pub packet_content : List ℕ → List ℕ
-packet_content bytes = drop packet_header_size bytes
-
-abbrev pub subpacket_content : List ℕ → List ℕ
-subpacket_content bytes = take (subpacket_length bytes) (drop subpacket_header_size bytes)
-
 -- The order of the checks. Each sum is one of natural numbers, so none wraps.
 abbrev pub com_packet_fault : List ℕ → Option FrameError
 com_packet_fault bytes =
     if nat_lt (length bytes) com_packet_header_size then Some errors.Short
-    else (if nat_lt (length bytes) (com_packet_header_size + com_packet_length bytes) then Some errors.Short
+    else (if nat_lt (length bytes) (com_packet_size bytes) then Some errors.Short
     else (if com_packet_length bytes == 0 then Some errors.Empty
     else (if nat_lt (com_packet_length bytes) packet_header_size then Some errors.Length
-    else (if nat_lt MAX_COM_PACKET (com_packet_header_size + com_packet_length bytes) then Some errors.Length
+    else (if nat_lt MAX_COM_PACKET (com_packet_size bytes) then Some errors.Length
     else None))))
 
 abbrev pub packet_fault : List ℕ → Option FrameError
 packet_fault bytes =
-    if nat_lt (length bytes) (packet_header_size + packet_length bytes) then Some errors.Length
-    else (if nat_lt (packet_header_size + packet_length bytes) (length bytes) then Some errors.Many
+    if nat_lt (length bytes) (packet_size bytes) then Some errors.Length
+    else (if nat_lt (packet_size bytes) (length bytes) then Some errors.Many
     else (if packet_length bytes == 0 then Some errors.Empty
     else (if nat_lt (packet_length bytes) subpacket_header_size then Some errors.Length
     else None)))
@@ -123,8 +133,8 @@ abbrev pub subpacket_fault : List ℕ → Option FrameError
 subpacket_fault bytes =
     if not (subpacket_kind bytes == data_kind) then Some errors.Kind
     else (if subpacket_length bytes == 0 then Some errors.Empty
-    else (if nat_lt (length bytes) (subpacket_header_size + padded (subpacket_length bytes)) then Some errors.Length
-    else (if nat_lt (subpacket_header_size + padded (subpacket_length bytes)) (length bytes) then Some errors.Many
+    else (if nat_lt (length bytes) (subpacket_size bytes) then Some errors.Length
+    else (if nat_lt (subpacket_size bytes) (length bytes) then Some errors.Many
     else None)))
 
 -- The first fault, if there is one.
