@@ -23,11 +23,11 @@ RunEnds sectors shadow msid input status old new =
     (Opens sectors shadow msid × IfSome input (λ text. EndsWith status (script_lines text)))
     ⊎ ((Opens sectors shadow msid → ⊥) × (status ≡ 2) × (new ≡ old))
 
--- the item is printed with status 0; where the text is no hex, the status is 2
+-- the item is printed with status 0; where the text is no hex, the status is 2, and nothing is printed
 abbrev pub TokensEnd : Text → ℕ → Option (List ℕ) → Option (List ℕ) → Type 0
 TokensEnd hex status old new =
     ((bytes : List ℕ) × (decode_of hex ≡ Ok bytes) × (status ≡ 0) × Appends old new (token_text bytes ++ 10 ∷ []))
-    ⊎ ((e : FromHexError) × (decode_of hex ≡ Err e) × (status ≡ 2))
+    ⊎ ((e : FromHexError) × (decode_of hex ≡ Err e) × (status ≡ 2) × (new ≡ old))
 
 -- help has status 0; any other fault of the words has status 2, and nothing is printed
 pub record Told (kind : ErrorKind) (status : ℕ) (old new : Option (List ℕ)) : Type 0 where
