@@ -51,7 +51,7 @@ fn reserved_clear(bytes: &[u8]) -> bool
 impl DmaSetup {
     ghost use Rattle.std.specs.Prelude.{◌≡◌, ◌≤◌, IfOk, OnErr, Err, Ok, length, slice_index};
     ghost use Rattle.fis.specs.Types.{dma_setup_type, dma_setup_length};
-    ghost use Rattle.fis.specs.DmaSetup.{IsDmaSetup};
+    ghost use Rattle.fis.specs.DmaSetup.{IsDmaSetup, flags_of};
     ghost use Rattle.fis.specs.declared.dma_setup.DmaSetup.{DmaSetup};
 
     /// The bytes of the FIS, with zeros in what it reserves.
@@ -62,10 +62,7 @@ impl DmaSetup {
         let high = self.buffer_high.to_le_bytes();
         let offset = self.offset.to_le_bytes();
         let count = self.count.to_le_bytes();
-        let flags = 128 * u8::from(self.auto_activate)
-            + 64 * u8::from(self.interrupt)
-            + 32 * u8::from(self.to_host)
-            + self.port.number();
+        let flags = self.flags() + self.port.number();
         [
             DMA_SETUP_TYPE,
             flags,
@@ -96,6 +93,15 @@ impl DmaSetup {
             0,
             0,
         ]
+    }
+
+    /// The three flags, at their bits of the second byte.
+    fn flags(&self) -> u8
+        ensures { result ≡ flags_of self.now }
+    {
+        128 * u8::from(self.auto_activate)
+            + 64 * u8::from(self.interrupt)
+            + 32 * u8::from(self.to_host)
     }
 
     /// Reads the FIS from bytes of its type. The only error is `ReservedSet`.
