@@ -1,4 +1,4 @@
--- The one spelling that the writer gives: the shortest atoms, none of them empty (TCG Core 2.01, section 3.2.2).
+-- The one spelling that the writer gives: the shortest atoms, and no empty atom (TCG Core 2.01, section 3.2.2).
 use Rattle.std.specs.Prelude.{ℕ, ◌+◌, ◌*◌, ◌/◌, ◌%◌, List, [], ◌∷◌, ◌++◌, length, Bool, true, false, nat_lt, ◌==◌, if◌then◌else◌}
 use Rattle.std.specs.Int.{w64, to_be_bytes}
 use Rattle.std.specs.List.{flat_map}
