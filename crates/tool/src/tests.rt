@@ -40,14 +40,20 @@ fn prints_what_the_drive_answers(rt: HostRuntime) -> Result<(), Fail> {
     Ok(())
 }
 
-/// Nothing behind a false expectation, a bad line or a refused row acts.
+/// Nothing behind a false expectation acts.
 #[test]
-fn ends_at_the_first_wrong_line(rt: HostRuntime) -> Result<(), Fail> {
+fn ends_at_a_false_expectation(rt: HostRuntime) -> Result<(), Fail> {
     let (status, output, faults) = run(&rt, b"expect ok\nread 1 1 1 1\n")?;
     assert_eq!(rt;
         (status, output.is_empty(), faults.is_empty()),
         (1, true, true)
     );
+    Ok(())
+}
+
+/// Nothing behind a bad line acts.
+#[test]
+fn ends_at_a_bad_line(rt: HostRuntime) -> Result<(), Fail> {
     let bad: [&[u8]; 14] = [
         b"",
         b"# a comment",
@@ -74,6 +80,12 @@ fn ends_at_the_first_wrong_line(rt: HostRuntime) -> Result<(), Fail> {
             (2, true, false)
         );
     }
+    Ok(())
+}
+
+/// Rows that no drive takes, one behind another line, and the text of a fault.
+#[test]
+fn ends_at_a_refused_row(rt: HostRuntime) -> Result<(), Fail> {
     let rows: [&[u8]; 4] = [
         b"range 9 0 0 0 0 0 0",
         b"range 0 0 1 0 0 0 0",
