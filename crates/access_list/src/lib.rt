@@ -1,9 +1,7 @@
-//! The fixed access list of a self-locking drive: which access entries may allow a method of an object.
+//! The fixed access list of a self-locking drive: which access control elements (ACEs) may allow
+//! which method of which object.
 #![tactic(auto)]
 
 pub mod access;
 
 pub use access::access_row;
-
-#[cfg(test)]
-mod tests;

@@ -1,2 +1,2 @@
 pub mod Evaluations
-pub mod EntryLemmas
+pub mod AceLemmas

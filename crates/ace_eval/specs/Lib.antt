@@ -1,3 +1,3 @@
 pub mod Truth
 pub mod Evaluation
-pub mod Entries
+pub mod Aces

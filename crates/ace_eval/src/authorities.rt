@@ -1,3 +1,5 @@
+//! The authorities of a session.
+
 ghost use Rattle.std.specs.Prelude.{◌≡◌, ◌≤◌, ◌<◌, ◌↔◌, ◌⊎◌, ◌==◌, ◌||◌, List, [], ◌∷◌, ◌++◌, length, IsTrue, if◌then◌else◌};
 ghost use Rattle.sp_cells.specs.declared.names.Uid.{Uid as UidValue};
 ghost use Rattle.ace_eval.specs.Truth.{has};
@@ -64,3 +66,8 @@ impl Authorities {
         }
     }
 }
+
+/// A set has room for this many.
+pub fn laws_of_limits()
+    ensures { MOST_AUTHORITIES ≡ 32 }
+{}

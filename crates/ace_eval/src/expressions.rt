@@ -1,3 +1,5 @@
+//! Whether an expression over authorities holds.
+
 ghost use Rattle.std.specs.Prelude.{◌≡◌, ◌≤◌, ◌<◌, ◌↔◌, List, [], ◌∷◌, length, IsTrue, IfSome, IfNone, reverse, Bool, if◌then◌else◌, None, Some, true};
 ghost use Rattle.sp_cells.specs.Limits.{most_elements};
 ghost use Rattle.ace_eval.specs.Truth.{Holds};

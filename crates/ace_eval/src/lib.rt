@@ -1,13 +1,10 @@
-//! Who may do what: expressions over authorities, and the access entry that allows a method.
+//! Who may do what: expressions over authorities, and the access control element (ACE) that allows a method.
 #![tactic(auto)]
 
+pub mod aces;
 pub mod authorities;
-pub mod entries;
 pub mod expressions;
 
-pub use authorities::{Authorities, MOST_AUTHORITIES};
-pub use entries::{Missing, entry};
+pub use aces::{Missing, entry};
+pub use authorities::{Authorities, MOST_AUTHORITIES, laws_of_limits};
 pub use expressions::holds;
-
-#[cfg(test)]
-mod tests;

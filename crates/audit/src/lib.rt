@@ -7,6 +7,3 @@ mod reason;
 
 pub use line::line_bytes;
 pub use reason::{AttemptFailure, AuditLine, Why};
-
-#[cfg(test)]
-mod tests;

@@ -1,3 +1,5 @@
+//! A line of the audit log, as its bytes.
+
 ghost use Rattle.std.specs.Prelude.{◌≡◌, ◌++◌, OnOk, IfOk, codes, decimal};
 ghost use Rattle.audit.specs.AuditText.{transfer_text, lock_text, shadow_text, call_text, column_text, need_text, failure_text, attempt_text, why_text, line_text};
 

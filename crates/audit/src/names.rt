@@ -1,3 +1,5 @@
+//! How objects, methods and security providers are written.
+
 ghost use Rattle.std.specs.Prelude.{◌≡◌, ◌++◌, OnOk};
 ghost use Rattle.audit.specs.Names.{sp_text, uid_text, method_text, others_text, uids_text};
 

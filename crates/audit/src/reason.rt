@@ -1,3 +1,5 @@
+//! Why something was denied.
+
 use arrayvec::ArrayVec;
 use sp_cells::{Column, Sp, Uid};
 

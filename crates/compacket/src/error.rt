@@ -1,3 +1,5 @@
+//! Why bytes are no frame.
+
 use thiserror::Error;
 
 /// Why bytes are no frame, in the numbers' order. Which one is told where several apply: see

@@ -1,3 +1,5 @@
+//! The headers of a frame, and how long a frame may be.
+
 ghost use Rattle.std.specs.Prelude.{◌≡◌, ◌<◌, ◌^◌};
 ghost use Rattle.compacket.specs.Spelling.{com_packet_header, packet_header, subpacket_header};
 

@@ -13,7 +13,4 @@ pub use error::FrameError;
 pub use headers::{COM_PACKET_HEADER, MAX_COM_PACKET, empty_header, short_header};
 pub use reader::open;
 pub use session::{ComId, Opened, Session};
-pub use writer::{MAX_PAYLOAD, frame, frame_into, frame_len};
-
-#[cfg(test)]
-mod tests;
+pub use writer::{MAX_PAYLOAD, frame, frame_into, frame_len, laws_of_limits};

@@ -1,3 +1,5 @@
+//! The zeros behind the data of a subpacket.
+
 ghost use Rattle.std.specs.Prelude.{◌≡◌, ◌<◌, ◌^◌};
 ghost use Rattle.compacket.specs.Frames.{padded};
 ghost use Rattle.compacket.specs.Spelling.{padding};

@@ -1,3 +1,5 @@
+//! Frames as they are read.
+
 ghost use Rattle.std.specs.Prelude.{◌≡◌, ◌+◌, ◌^◌, ◌<◌, ◌≤◌, IfOk, IsOkAnd, MatchResult, Ok, Err, Some, None, length, drop, slice_range};
 ghost use Rattle.compacket.specs.Frames.{Frame, IsComPacket, IsPacket, IsDataSubpacket, IsFrame, reading, fault_of, com_packet_fault, com_packet_content, packet_fault, packet_content, subpacket_fault, subpacket_content, com_id_of, session_of, number_at, com_packet_header_size, packet_header_size, subpacket_header_size, headers_size};
 

@@ -1,3 +1,5 @@
+//! What names a session, and what a frame carries.
+
 /// The number of a communication channel (TCG Core 2.01, 3.2.3).
 pub type ComId = u16;
 

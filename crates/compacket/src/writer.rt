@@ -1,4 +1,8 @@
+//! Frames as they are written.
+
 ghost use Rattle.std.specs.Prelude.{ℕ, List, Ok, ◌≡◌, ◌+◌, ◌-◌, ◌<◌, ◌≤◌, ◌++◌, IfOk, length, vec_len, vec_capacity};
+ghost use Rattle.compacket.specs.declared.headers.TheConstants.{MAX_COM_PACKET, COM_PACKET_HEADER};
+ghost use Rattle.compacket.specs.declared.writer.TheConstants.{MAX_PAYLOAD};
 ghost use Rattle.compacket.specs.Frames.{IsFrame, reading};
 ghost use Rattle.compacket.specs.Spelling.{frame_bytes, frame_length, padding};
 
@@ -12,6 +16,13 @@ use std::alloc::{AllocError, Global};
 
 /// The most bytes that a frame can carry: those of a ComPacket less its three headers.
 pub const MAX_PAYLOAD: usize = MAX_COM_PACKET - HEADERS;
+
+/// The limits are these numbers.
+pub fn laws_of_limits()
+    ensures com_packet { MAX_COM_PACKET ≡ 65536 }
+    ensures header { COM_PACKET_HEADER ≡ 20 }
+    ensures payload { MAX_PAYLOAD ≡ 65480 }
+{}
 
 /// How many bytes the frame of so many has.
 pub fn frame_len(payload: usize) -> usize

@@ -120,7 +120,7 @@ fn row_in(rows: &[RangeRow], global: RangeRow, sector: u64) -> RangeRow
 
 /// The number in a column of a range, 0 where there is none.
 fn number_of<R: Rows>(rows: &R, range: u8, column: Column) -> u64
-    ensures { result ≡ of_range (R.look_up rows.now) range column.0 }
+    ensures { result ≡ of_range (R.look_up rows.now) range column }
 {
     number_at(rows, Sp::Locking, Uid::range(range), column)
 }

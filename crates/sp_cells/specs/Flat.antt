@@ -8,7 +8,7 @@ use Rattle.sp_cells.specs.declared.names.Column.{Column}
 use Rattle.sp_cells.specs.declared.cells.Cell.{Cell}
 
 -- a cell with its place: the SP, the object and the column (Core 2.01, chapter 3, on tables)
-pub record Entry : Type 0 where
+pub record PlacedCell : Type 0 where
   pub sp : Sp
   pub object : Uid
   pub column : Column
@@ -25,21 +25,21 @@ sp_eq Locking Admin = false
 sp_eq Locking Locking = true
 
 -- the cell stands at this place
-abbrev pub is_at : Sp → Uid → Column → Entry → Bool
+abbrev pub is_at : Sp → Uid → Column → PlacedCell → Bool
 is_at sp object column e = sp_eq e.sp sp && (e.object.0 == object.0) && (e.column.0 == column.0)
 
 -- the cell at a place: the first that stands there
-abbrev pub cell_at : List Entry → LookUp
+abbrev pub cell_at : List PlacedCell → LookUp
 cell_at [] sp object column = None
 cell_at (e ∷ es) sp object column = if is_at sp object column e then Some e.value else cell_at es sp object column
 
 -- the list with that cell replaced, and nothing else
-abbrev pub with_cell : List Entry → Sp → Uid → Column → Cell → List Entry
+abbrev pub with_cell : List PlacedCell → Sp → Uid → Column → Cell → List PlacedCell
 with_cell [] sp object column v = []
 with_cell (e ∷ es) sp object column v = if is_at sp object column e then record e { value = v } ∷ es else e ∷ with_cell es sp object column v
 
 -- the list with these cells of one object replaced, one after another
-abbrev pub with_cells : List Entry → Sp → Uid → List (Column × Cell) → List Entry
+abbrev pub with_cells : List PlacedCell → Sp → Uid → List (Column × Cell) → List PlacedCell
 with_cells es sp object [] = es
 with_cells es sp object (p ∷ ps) = with_cells (with_cell es sp object p.0 p.1) sp object ps
 

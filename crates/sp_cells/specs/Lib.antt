@@ -1,4 +1,6 @@
 pub mod Names
+pub mod ColumnNames
+pub mod Numbers
 pub mod Authorities
 pub mod Limits
 pub mod Config

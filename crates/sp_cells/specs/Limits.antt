@@ -1,9 +1,5 @@
 -- The limits of a drive, and the states of an SP.
-use Rattle.std.specs.Prelude.{◌^◌, ℕ}
-
--- as many sectors as a 48-bit address can name (ACS-3)
-abbrev pub most_sectors : ℕ
-most_sectors = 2 ^ 48
+use Rattle.std.specs.Prelude.{ℕ}
 
 -- the sectors of a shadow MBR (this drive)
 abbrev pub most_mbr_sectors : ℕ

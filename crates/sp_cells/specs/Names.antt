@@ -1,11 +1,34 @@
--- The names of objects (Core 2.01, section 5.1; Opal SSC 2.01, sections 4.2 and 4.3).
-use Rattle.std.specs.Prelude.{◌+◌, ℕ, zero, suc}
+-- The names of objects and methods (Core 2.01, section 5.1; Opal SSC 2.01, sections 4.2 and 4.3): no other file of
+-- the definitions has their numbers.
+use Rattle.std.specs.Prelude.{◌+◌, ◌/◌, ℕ, zero, suc}
 use Rattle.sp_cells.specs.declared.names.Uid.{Uid}
 use Rattle.sp_cells.specs.declared.names.Column.{Column}
 
 -- the name that this number writes
 abbrev pub uid : ℕ → Uid
 uid n = record { 0 = n }
+
+-- the table that an object is a row of, by the upper four bytes of its name
+abbrev pub table_of : Uid → ℕ
+table_of object = object.0 / 0x100000000
+
+abbrev pub ace_table : ℕ
+ace_table = 0x0008
+
+abbrev pub authority_table : ℕ
+authority_table = 0x0009
+
+abbrev pub c_pin_table : ℕ
+c_pin_table = 0x000b
+
+abbrev pub sp_table : ℕ
+sp_table = 0x0205
+
+abbrev pub locking_table : ℕ
+locking_table = 0x0802
+
+abbrev pub mbr_control_table : ℕ
+mbr_control_table = 0x0803
 
 -- the column of this number
 abbrev pub col : ℕ → Column
@@ -58,11 +81,11 @@ admin_pin_base = 0x0000000b00010000
 abbrev pub user_pin_base : ℕ
 user_pin_base = 0x0000000b00030000
 
-abbrev pub sid_pin : Uid
-sid_pin = uid 0x0000000b00000001
+abbrev pub c_pin_sid : Uid
+c_pin_sid = uid 0x0000000b00000001
 
-abbrev pub msid_pin : Uid
-msid_pin = uid 0x0000000b00008402
+abbrev pub c_pin_msid : Uid
+c_pin_msid = uid 0x0000000b00008402
 
 abbrev pub admin_pin_uid : ℕ → Uid
 admin_pin_uid n = uid (admin_pin_base + n)
@@ -88,85 +111,85 @@ mbr_control = uid 0x0000080300000001
 abbrev pub mbr_table : Uid
 mbr_table = uid 0x0000080400000000
 
--- an access entry, by its number
-abbrev pub entry_base : ℕ
-entry_base = 0x0000000800000000
+-- an ACE, by its number
+abbrev pub ace_base : ℕ
+ace_base = 0x0000000800000000
 
-abbrev pub entry_uid : ℕ → Uid
-entry_uid n = uid (entry_base + n)
+abbrev pub ace_uid : ℕ → Uid
+ace_uid n = uid (ace_base + n)
 
--- the entries that name everyone, the Admins, and what everyone may read of a name that a host gives
-abbrev pub anybody_entry : Uid
-anybody_entry = entry_uid 1
+-- the ACEs that everyone fulfils, that the Admins fulfil, and on reading the name that a host gives
+abbrev pub ace_anybody : Uid
+ace_anybody = ace_uid 1
 
-abbrev pub admins_entry : Uid
-admins_entry = entry_uid 2
+abbrev pub ace_admins : Uid
+ace_admins = ace_uid 2
 
-abbrev pub common_name_entry : Uid
-common_name_entry = entry_uid 3
+abbrev pub ace_anybody_get_common_name : Uid
+ace_anybody_get_common_name = ace_uid 3
 
 -- the Admin SP: who may read and set SID's PIN, read the MSID, and change the SPs
-abbrev pub get_sid_pin_entry : Uid
-get_sid_pin_entry = entry_uid 0x8c02
+abbrev pub ace_c_pin_sid_get_nopin : Uid
+ace_c_pin_sid_get_nopin = ace_uid 0x8c02
 
-abbrev pub set_sid_pin_entry : Uid
-set_sid_pin_entry = entry_uid 0x8c03
+abbrev pub ace_c_pin_sid_set_pin : Uid
+ace_c_pin_sid_set_pin = ace_uid 0x8c03
 
-abbrev pub get_msid_entry : Uid
-get_msid_entry = entry_uid 0x8c04
+abbrev pub ace_c_pin_msid_get_pin : Uid
+ace_c_pin_msid_get_pin = ace_uid 0x8c04
 
-abbrev pub sps_entry : Uid
-sps_entry = entry_uid 0x30002
+abbrev pub ace_sp_sid : Uid
+ace_sp_sid = ace_uid 0x30002
 
--- the Locking SP: who may set an entry's expression, and enable an authority
-abbrev pub set_expression_entry : Uid
-set_expression_entry = entry_uid 0x38001
+-- the Locking SP: who may set an ACE's expression, and enable an authority
+abbrev pub ace_ace_set_boolean_expression : Uid
+ace_ace_set_boolean_expression = ace_uid 0x38001
 
-abbrev pub set_enabled_entry : Uid
-set_enabled_entry = entry_uid 0x39001
+abbrev pub ace_authority_set_enabled : Uid
+ace_authority_set_enabled = ace_uid 0x39001
 
 -- who may read its C_PIN rows but for the PIN, and set an Admin's PIN, or a User's
-abbrev pub get_pins_entry : Uid
-get_pins_entry = entry_uid 0x3a000
+abbrev pub ace_c_pin_admins_get_all_nopin : Uid
+ace_c_pin_admins_get_all_nopin = ace_uid 0x3a000
 
-abbrev pub set_admin_pins_entry : Uid
-set_admin_pins_entry = entry_uid 0x3a001
+abbrev pub ace_c_pin_admins_set_pin : Uid
+ace_c_pin_admins_set_pin = ace_uid 0x3a001
 
-abbrev pub user_entry_base : ℕ
-user_entry_base = entry_base + 0x3a800
+abbrev pub user_ace_base : ℕ
+user_ace_base = ace_base + 0x3a800
 
-abbrev pub user_entry_uid : ℕ → Uid
-user_entry_uid n = uid (user_entry_base + n)
+abbrev pub ace_c_pin_user_set_pin : ℕ → Uid
+ace_c_pin_user_set_pin n = uid (user_ace_base + n)
 
 -- who may read its ranges, and set the ReadLocked flag and the WriteLocked flag of one
-abbrev pub get_ranges_entry : Uid
-get_ranges_entry = entry_uid 0x3d000
+abbrev pub ace_locking_get_all : Uid
+ace_locking_get_all = ace_uid 0x3d000
 
-abbrev pub read_entry_base : ℕ
-read_entry_base = entry_base + 0x3e000
+abbrev pub read_locked_ace_base : ℕ
+read_locked_ace_base = ace_base + 0x3e000
 
-abbrev pub read_entry_uid : ℕ → Uid
-read_entry_uid n = uid (read_entry_base + n)
+abbrev pub ace_range_set_read_locked : ℕ → Uid
+ace_range_set_read_locked n = uid (read_locked_ace_base + n)
 
-abbrev pub write_entry_base : ℕ
-write_entry_base = entry_base + 0x3e800
+abbrev pub write_locked_ace_base : ℕ
+write_locked_ace_base = ace_base + 0x3e800
 
-abbrev pub write_entry_uid : ℕ → Uid
-write_entry_uid n = uid (write_entry_base + n)
+abbrev pub ace_range_set_write_locked : ℕ → Uid
+ace_range_set_write_locked n = uid (write_locked_ace_base + n)
 
 -- who may set the global range, and the numbered ones
-abbrev pub set_global_range_entry : Uid
-set_global_range_entry = entry_uid 0x3f000
+abbrev pub ace_locking_global_range_admins_set : Uid
+ace_locking_global_range_admins_set = ace_uid 0x3f000
 
-abbrev pub set_ranges_entry : Uid
-set_ranges_entry = entry_uid 0x3f001
+abbrev pub ace_locking_admins_set : Uid
+ace_locking_admins_set = ace_uid 0x3f001
 
 -- who may set the control of the shadow MBR, and lift the shadow
-abbrev pub set_mbr_control_entry : Uid
-set_mbr_control_entry = entry_uid 0x3f800
+abbrev pub ace_mbr_control_admins_set : Uid
+ace_mbr_control_admins_set = ace_uid 0x3f800
 
-abbrev pub set_mbr_done_entry : Uid
-set_mbr_done_entry = entry_uid 0x3f801
+abbrev pub ace_mbr_control_set_done_to_dor : Uid
+ace_mbr_control_set_done_to_dor = ace_uid 0x3f801
 
 -- the methods
 abbrev pub get : Uid

@@ -7,7 +7,8 @@ use Rattle.sp_cells.specs.declared.names.Sp.TheVariants.{Locking}
 use Rattle.sp_cells.specs.declared.names.Column.{Column}
 use Rattle.sp_cells.specs.declared.cells.Cell.{Cell}
 use Rattle.sp_cells.specs.declared.cells.Cell.TheVariants.{Number}
-use Rattle.sp_cells.specs.Names.{range_uid, col}
+use Rattle.sp_cells.specs.Names.{range_uid}
+use Rattle.sp_cells.specs.ColumnNames.{range_start_column, range_length_column, read_lock_enabled_column, write_lock_enabled_column, read_locked_column, write_locked_column}
 use Rattle.sp_cells.specs.Flat.{LookUp}
 
 -- the number that stands in a cell; a cell that is none, or that does not exist, counts as 0
@@ -20,26 +21,26 @@ abbrev pub number : LookUp → Sp → Uid → Column → ℕ
 number look sp object column = number_in (look sp object column)
 
 -- a column of a range as a number, the global range being number 0
-abbrev pub of_range : LookUp → ℕ → ℕ → ℕ
-of_range look n column = number look Locking (range_uid n) (col column)
+abbrev pub of_range : LookUp → ℕ → Column → ℕ
+of_range look n column = number look Locking (range_uid n) column
 
 abbrev pub range_start : LookUp → ℕ → ℕ
-range_start look n = of_range look n 3
+range_start look n = of_range look n range_start_column
 
 abbrev pub range_length : LookUp → ℕ → ℕ
-range_length look n = of_range look n 4
+range_length look n = of_range look n range_length_column
 
 abbrev pub read_lock_enabled : LookUp → ℕ → ℕ
-read_lock_enabled look n = of_range look n 5
+read_lock_enabled look n = of_range look n read_lock_enabled_column
 
 abbrev pub write_lock_enabled : LookUp → ℕ → ℕ
-write_lock_enabled look n = of_range look n 6
+write_lock_enabled look n = of_range look n write_lock_enabled_column
 
 abbrev pub read_locked : LookUp → ℕ → ℕ
-read_locked look n = of_range look n 7
+read_locked look n = of_range look n read_locked_column
 
 abbrev pub write_locked : LookUp → ℕ → ℕ
-write_locked look n = of_range look n 8
+write_locked look n = of_range look n write_locked_column
 
 -- these two runs of sectors have one in common
 abbrev pub meets : ℕ → ℕ → ℕ → ℕ → Bool

@@ -1,11 +1,15 @@
 -- Which value each column takes (Core 2.01, section 5.1.3, and the tables of 5.3, 5.4 and 5.7).
-use Rattle.std.specs.Prelude.{◌==◌, ◌/◌, nat_le, ℕ, Bool, true, false, List, [], ◌∷◌, length, Option, Some, None, if◌then◌else◌}
+use Rattle.std.specs.Prelude.{◌==◌, nat_le, ℕ, Bool, true, false, List, [], ◌∷◌, length, Option, Some, None, if◌then◌else◌}
 use Rattle.std.specs.List.{list_all}
 use Rattle.sp_cells.specs.declared.names.Uid.{Uid as UidType}
 use Rattle.sp_cells.specs.declared.names.Column.{Column}
 use Rattle.sp_cells.specs.declared.cells.Cell.{Cell}
 use Rattle.sp_cells.specs.declared.cells.Cell.TheVariants.{Number, Bytes, Uid, Numbers, Expr, Columns}
 use Rattle.sp_cells.specs.Limits.{most_pin_bytes}
+use Rattle.sp_cells.specs.Names.{table_of, ace_table, authority_table, c_pin_table, sp_table, locking_table, mbr_control_table}
+use Rattle.sp_cells.specs.ColumnNames.{uid_column, name_column, common_name_column, life_cycle_state_column, pin_column, char_set_column, try_limit_column, tries_column, persistence_column}
+use Rattle.sp_cells.specs.ColumnNames.{is_class_column, class_column, enabled_column, operation_column, credential_column, boolean_expr_column, columns_column}
+use Rattle.sp_cells.specs.ColumnNames.{range_start_column, range_length_column, read_lock_enabled_column, write_lock_enabled_column, read_locked_column, write_locked_column, lock_on_reset_column, mbr_enable_column, mbr_done_column, mbr_done_on_reset_column}
 use Rattle.sp_cells.specs.declared.values.ColumnType.{ColumnType}
 use Rattle.sp_cells.specs.declared.values.ColumnType.TheVariants as types
 
@@ -22,46 +26,90 @@ is_of types.Columns (Columns c) = true
 is_of _ _ = false
 
 -- the type of a column in a list of columns
-abbrev pub type_at : List (ℕ × ColumnType) → ℕ → Option ColumnType
+abbrev pub type_at : List (Column × ColumnType) → Column → Option ColumnType
 type_at [] column = None
-type_at (p ∷ ps) column = if p.0 == column then Some p.1 else type_at ps column
+type_at (p ∷ ps) column = if p.0.0 == column.0 then Some p.1 else type_at ps column
 
 -- SP
-abbrev pub sp_types : List (ℕ × ColumnType)
-sp_types = (0, types.Object) ∷ (1, types.Name) ∷ (6, types.Number) ∷ []
+abbrev pub sp_types : List (Column × ColumnType)
+sp_types =
+    (uid_column, types.Object)
+    ∷ (name_column, types.Name)
+    ∷ (life_cycle_state_column, types.Number)
+    ∷ []
 
 -- ACE
-abbrev pub entry_types : List (ℕ × ColumnType)
-entry_types = (0, types.Object) ∷ (1, types.Name) ∷ (2, types.Name) ∷ (3, types.Expression) ∷ (4, types.Columns) ∷ []
+abbrev pub ace_types : List (Column × ColumnType)
+ace_types =
+    (uid_column, types.Object)
+    ∷ (name_column, types.Name)
+    ∷ (common_name_column, types.Name)
+    ∷ (boolean_expr_column, types.Expression)
+    ∷ (columns_column, types.Columns)
+    ∷ []
 
 -- Authority
-abbrev pub authority_types : List (ℕ × ColumnType)
-authority_types = (0, types.Object) ∷ (1, types.Name) ∷ (2, types.Name) ∷ (3, types.Flag) ∷ (4, types.Object) ∷ (5, types.Flag) ∷ (9, types.Number) ∷ (10, types.Object) ∷ []
+abbrev pub authority_types : List (Column × ColumnType)
+authority_types =
+    (uid_column, types.Object)
+    ∷ (name_column, types.Name)
+    ∷ (common_name_column, types.Name)
+    ∷ (is_class_column, types.Flag)
+    ∷ (class_column, types.Object)
+    ∷ (enabled_column, types.Flag)
+    ∷ (operation_column, types.Number)
+    ∷ (credential_column, types.Object)
+    ∷ []
 
 -- C_PIN
-abbrev pub pin_types : List (ℕ × ColumnType)
-pin_types = (0, types.Object) ∷ (1, types.Name) ∷ (2, types.Name) ∷ (3, types.Secret) ∷ (4, types.Object) ∷ (5, types.Number) ∷ (6, types.Number) ∷ (7, types.Flag) ∷ []
+abbrev pub c_pin_types : List (Column × ColumnType)
+c_pin_types =
+    (uid_column, types.Object)
+    ∷ (name_column, types.Name)
+    ∷ (common_name_column, types.Name)
+    ∷ (pin_column, types.Secret)
+    ∷ (char_set_column, types.Object)
+    ∷ (try_limit_column, types.Number)
+    ∷ (tries_column, types.Number)
+    ∷ (persistence_column, types.Flag)
+    ∷ []
 
 -- Locking
-abbrev pub range_types : List (ℕ × ColumnType)
-range_types = (0, types.Object) ∷ (1, types.Name) ∷ (2, types.Name) ∷ (3, types.Number) ∷ (4, types.Number) ∷ (5, types.Flag) ∷ (6, types.Flag) ∷ (7, types.Flag) ∷ (8, types.Flag) ∷ (9, types.Resets) ∷ []
+abbrev pub locking_types : List (Column × ColumnType)
+locking_types =
+    (uid_column, types.Object)
+    ∷ (name_column, types.Name)
+    ∷ (common_name_column, types.Name)
+    ∷ (range_start_column, types.Number)
+    ∷ (range_length_column, types.Number)
+    ∷ (read_lock_enabled_column, types.Flag)
+    ∷ (write_lock_enabled_column, types.Flag)
+    ∷ (read_locked_column, types.Flag)
+    ∷ (write_locked_column, types.Flag)
+    ∷ (lock_on_reset_column, types.Resets)
+    ∷ []
 
 -- MBRControl
-abbrev pub mbr_control_types : List (ℕ × ColumnType)
-mbr_control_types = (0, types.Object) ∷ (1, types.Flag) ∷ (2, types.Flag) ∷ (3, types.Resets) ∷ []
+abbrev pub mbr_control_types : List (Column × ColumnType)
+mbr_control_types =
+    (uid_column, types.Object)
+    ∷ (mbr_enable_column, types.Flag)
+    ∷ (mbr_done_column, types.Flag)
+    ∷ (mbr_done_on_reset_column, types.Resets)
+    ∷ []
 
 -- the columns of a table, by the upper four bytes of its rows' names
-abbrev pub types_of : ℕ → List (ℕ × ColumnType)
+abbrev pub types_of : ℕ → List (Column × ColumnType)
 types_of table =
-    if table == 0x0008 then entry_types else
-    if table == 0x0009 then authority_types else
-    if table == 0x000b then pin_types else
-    if table == 0x0205 then sp_types else
-    if table == 0x0802 then range_types else
-    if table == 0x0803 then mbr_control_types else []
+    if table == ace_table then ace_types else
+    if table == authority_table then authority_types else
+    if table == c_pin_table then c_pin_types else
+    if table == sp_table then sp_types else
+    if table == locking_table then locking_types else
+    if table == mbr_control_table then mbr_control_types else []
 
 abbrev pub column_type : UidType → Column → Option ColumnType
-column_type object column = type_at (types_of (object.0 / 0x100000000)) column.0
+column_type object column = type_at (types_of (table_of object)) column
 
 abbrev pub is_taken : Option ColumnType → Cell → Bool
 is_taken None cell = false

@@ -1,3 +1,5 @@
+//! What the columns of rows keep: numbers, bytes, names, resets, expressions and columns.
+
 ghost use Rattle.std.specs.Prelude.{◌≡◌, ◌≤◌, ◌<◌, ◌==◌, List, [], ◌∷◌, ◌++◌, length, IsTrue, IfOk, IfSome, IsSome, ◌↔◌, ◌||◌, SomeIff, count_by};
 ghost use Rattle.std.specs.List.{list_any, list_all};
 ghost use Rattle.sp_cells.specs.Limits.{most_elements};
@@ -6,53 +8,9 @@ ghost use Rattle.sp_cells.specs.Resets.{is_reset_set as is_reset_set_of, reset_s
 use crate::limits::MOST_ELEMENTS;
 use crate::names::{Column, Uid};
 use arrayvec::ArrayVec;
+use basics::Bytes;
 use std::alloc::{AllocError, Global};
 use std::marker::Model;
-
-/// Bytes of any length, seen as their list.
-#[derive(Drop)]
-pub struct Bytes {
-    items: Vec<u8>,
-}
-
-impl Model for Bytes {
-    ghost use Rattle.std.specs.Prelude.{List, ℕ};
-
-    ghost Value = { List ℕ };
-
-    ghost view = { λ a. a.items.items };
-}
-
-impl Bytes {
-    /// These bytes, kept as they are.
-    pub fn from_vec(items: Vec<u8>) -> Bytes
-        ensures { result ≡ items.items }
-    {
-        Bytes { items }
-    }
-
-    /// The bytes, without taking memory.
-    pub fn into_vec(self) -> Vec<u8>
-        ensures { result.items ≡ self }
-    {
-        self.items
-    }
-
-    /// The bytes.
-    pub fn as_slice(&self) -> &[u8]
-        ensures { result.now ≡ self.now }
-    {
-        self.items.as_slice()
-    }
-
-    /// The same bytes once more.
-    pub fn copy(&self) -> Result<Bytes, AllocError>
-        ensures { IfOk result (λ b. b ≡ self.now) }
-    {
-        let items = self.items.clone()?;
-        Ok(Bytes { items })
-    }
-}
 
 /// The resets that a column names (Core 2.01, section 5.1.3, `reset_types`): a set of numbers of resets, of which
 /// this drive has two, 0 and 1.
@@ -186,7 +144,7 @@ impl Expr {
     }
 }
 
-/// The columns that an access entry speaks of, seen as their list; the empty list stands for all.
+/// The columns that an ACE speaks of, seen as their list; the empty list stands for all.
 #[derive(Drop)]
 pub struct Columns {
     items: Vec<Column>,
@@ -240,10 +198,10 @@ pub enum Cell {
     /// A set of resets.
     Numbers(ResetTypes),
 
-    /// The expression of an access entry.
+    /// The expression of an ACE.
     Expr(Expr),
 
-    /// The columns of an access entry.
+    /// The columns of an ACE.
     Columns(Columns),
 }
 

@@ -1,9 +1,12 @@
+//! What a drive is made with.
+
 ghost use Rattle.std.specs.Prelude.{◌≡◌, ◌≤◌, ◌<◌, ◌^◌, List, length, IfOk, SomeIff};
 ghost use Rattle.sp_cells.specs.Config.{Config, IsWithinLimits};
 ghost use Rattle.sp_cells.specs.Limits.{most_pin_bytes};
 
-use crate::limits::{MOST_MBR_SECTORS, MOST_PIN_BYTES, MOST_SECTORS};
+use crate::limits::{MOST_MBR_SECTORS, MOST_PIN_BYTES};
 use arrayvec::ArrayVec;
+use basics::ADDRESS_LIMIT;
 use std::alloc::AllocError;
 use std::marker::Model;
 
@@ -31,7 +34,7 @@ impl DriveConfig {
     pub fn new(sectors: u64, mbr_sectors: u64, msid: &[u8]) -> Option<DriveConfig>
         ensures { SomeIff result (IsWithinLimits sectors mbr_sectors msid.now) (record { sectors = sectors; mbr_sectors = mbr_sectors; msid = msid.now }) }
     {
-        if sectors == 0 || sectors > MOST_SECTORS {
+        if sectors == 0 || sectors > ADDRESS_LIMIT {
             return None;
         }
         if mbr_sectors > MOST_MBR_SECTORS || mbr_sectors > sectors {

@@ -1,3 +1,5 @@
+//! Why cells of a row are not set.
+
 use std::alloc::{AllocError, AllocFailed};
 use thiserror::Error;
 

@@ -1,23 +1,80 @@
-//! The names of the code are those of the definitions.
+//! The numbers of the standards: the code and the definitions have the same, and these.
 
-ghost use Rattle.std.specs.Prelude.{◌≡◌};
-ghost use Rattle.sp_cells.specs.Names.{col, none, this_sp, admin_sp, locking_sp, anybody, sid, admins_class, users_class, sid_pin, msid_pin, mbr_control, mbr_table, get, set, authenticate, revert, activate};
+ghost use Rattle.std.specs.Prelude.{◌≡◌, ◌^◌};
+ghost use Rattle.basics.specs.Addresses.{address_limit};
+ghost use Rattle.sp_cells.specs.Names.{none, this_sp, admin_sp, locking_sp, anybody, sid, admins_class, users_class, c_pin_sid, c_pin_msid, global_range, mbr_control, mbr_table, get, set, authenticate, revert, activate};
+ghost use Rattle.sp_cells.specs.Names.{ace_table, authority_table, c_pin_table, sp_table, locking_table, mbr_control_table};
+ghost use Rattle.sp_cells.specs.Names.{ace_anybody, ace_admins, ace_anybody_get_common_name, ace_c_pin_sid_get_nopin, ace_c_pin_sid_set_pin, ace_c_pin_msid_get_pin, ace_sp_sid, ace_ace_set_boolean_expression, ace_authority_set_enabled, ace_c_pin_admins_get_all_nopin, ace_c_pin_admins_set_pin, ace_locking_get_all, ace_locking_global_range_admins_set, ace_locking_admins_set, ace_mbr_control_admins_set, ace_mbr_control_set_done_to_dor};
+ghost use Rattle.sp_cells.specs.ColumnNames.{uid_column, name_column, common_name_column, life_cycle_state_column, pin_column, char_set_column, try_limit_column, tries_column, persistence_column};
+ghost use Rattle.sp_cells.specs.ColumnNames.{is_class_column, class_column, enabled_column, operation_column, credential_column, boolean_expr_column, columns_column};
+ghost use Rattle.sp_cells.specs.ColumnNames.{range_start_column, range_length_column, read_lock_enabled_column, write_lock_enabled_column, read_locked_column, write_locked_column, lock_on_reset_column, mbr_enable_column, mbr_done_column, mbr_done_on_reset_column};
+ghost use Rattle.sp_cells.specs.Limits.{most_mbr_sectors, most_pin_bytes, most_elements, new_try_limit, no_try_limit, manufactured_inactive, manufactured};
+ghost use Rattle.sp_cells.specs.declared.names.TheConstants.{RANGES, USERS, ADMINS};
 ghost use Rattle.sp_cells.specs.declared.names.TheConstants.Uid as uids;
 ghost use Rattle.sp_cells.specs.declared.names.TheConstants.Column as columns;
+ghost use Rattle.sp_cells.specs.declared.names.tables.TheConstants as tables;
+ghost use Rattle.sp_cells.specs.declared.limits.TheConstants as limits;
 
-/// Each constant of `Uid` and of `Column` has the number that the standard gives to the object or the
-/// column of its name (TCG Core 2.01, chapter 5; Opal SSC 2.01, sections 4.2 and 4.3).
+/// Each name of the code has the number that the standard gives to the object or the column of its name (TCG Core
+/// 2.01, chapter 5; Opal SSC 2.01, sections 4.2 and 4.3), and this drive has 8 numbered ranges, 8 Users and 4 Admins.
 pub fn laws_of_names()
-    ensures sps { (uids.NONE ≡ none) × (uids.THIS_SP ≡ this_sp) × (uids.ADMIN_SP ≡ admin_sp) × (uids.LOCKING_SP ≡ locking_sp) }
-    ensures authorities { (uids.ANYBODY ≡ anybody) × (uids.SID ≡ sid) × (uids.ADMINS ≡ admins_class) × (uids.USERS ≡ users_class) }
-    ensures pins { (uids.C_PIN_SID ≡ sid_pin) × (uids.C_PIN_MSID ≡ msid_pin) }
+    ensures counts { (RANGES ≡ 8) × (USERS ≡ 8) × (ADMINS ≡ 4) }
+    ensures sps { (uids.NONE ≡ none) × (uids.THIS_SP ≡ this_sp) × (uids.ADMIN_SP ≡ admin_sp)
+        × (uids.LOCKING_SP ≡ locking_sp) }
+    ensures authorities { (uids.ANYBODY ≡ anybody) × (uids.SID ≡ sid) × (uids.ADMINS ≡ admins_class)
+        × (uids.USERS ≡ users_class) }
+    ensures pins { (uids.C_PIN_SID ≡ c_pin_sid) × (uids.C_PIN_MSID ≡ c_pin_msid) }
+    ensures ranges { (uids.GLOBAL_RANGE ≡ global_range) }
     ensures mbr { (uids.MBR_CONTROL ≡ mbr_control) × (uids.MBR_TABLE ≡ mbr_table) }
-    ensures methods { (uids.GET ≡ get) × (uids.SET ≡ set) × (uids.AUTHENTICATE ≡ authenticate) × (uids.REVERT ≡ revert) × (uids.ACTIVATE ≡ activate) }
-    ensures every_row { (columns.UID ≡ col 0) × (columns.NAME ≡ col 1) × (columns.COMMON_NAME ≡ col 2) }
-    ensures sp_row { columns.LIFE_CYCLE_STATE ≡ col 6 }
-    ensures pin_row { (columns.PIN ≡ col 3) × (columns.TRY_LIMIT ≡ col 5) × (columns.TRIES ≡ col 6) }
-    ensures authority_row { (columns.IS_CLASS ≡ col 3) × (columns.CLASS ≡ col 4) × (columns.ENABLED ≡ col 5) × (columns.OPERATION ≡ col 9) × (columns.CREDENTIAL ≡ col 10) }
-    ensures range_row { (columns.RANGE_START ≡ col 3) × (columns.RANGE_LENGTH ≡ col 4) × (columns.READ_LOCK_ENABLED ≡ col 5) × (columns.WRITE_LOCK_ENABLED ≡ col 6) × (columns.READ_LOCKED ≡ col 7) × (columns.WRITE_LOCKED ≡ col 8) × (columns.LOCK_ON_RESET ≡ col 9) }
-    ensures mbr_control_row { (columns.MBR_ENABLE ≡ col 1) × (columns.MBR_DONE ≡ col 2) × (columns.MBR_DONE_ON_RESET ≡ col 3) }
-    ensures entry_row { (columns.BOOLEAN_EXPR ≡ col 3) × (columns.COLUMNS ≡ col 4) }
+    ensures methods { (uids.GET ≡ get) × (uids.SET ≡ set) × (uids.AUTHENTICATE ≡ authenticate)
+        × (uids.REVERT ≡ revert) × (uids.ACTIVATE ≡ activate) }
+    ensures admin_sp_aces { (uids.ACE_C_PIN_SID_GET_NOPIN ≡ ace_c_pin_sid_get_nopin)
+        × (uids.ACE_C_PIN_SID_SET_PIN ≡ ace_c_pin_sid_set_pin)
+        × (uids.ACE_C_PIN_MSID_GET_PIN ≡ ace_c_pin_msid_get_pin)
+        × (uids.ACE_SP_SID ≡ ace_sp_sid) }
+    ensures aces { (uids.ACE_ANYBODY ≡ ace_anybody) × (uids.ACE_ADMINS ≡ ace_admins)
+        × (uids.ACE_ANYBODY_GET_COMMON_NAME ≡ ace_anybody_get_common_name)
+        × (uids.ACE_ACE_SET_BOOLEAN_EXPRESSION ≡ ace_ace_set_boolean_expression)
+        × (uids.ACE_AUTHORITY_SET_ENABLED ≡ ace_authority_set_enabled) }
+    ensures pin_aces { (uids.ACE_C_PIN_ADMINS_GET_ALL_NOPIN ≡ ace_c_pin_admins_get_all_nopin)
+        × (uids.ACE_C_PIN_ADMINS_SET_PIN ≡ ace_c_pin_admins_set_pin) }
+    ensures range_aces { (uids.ACE_LOCKING_GET_ALL ≡ ace_locking_get_all)
+        × (uids.ACE_LOCKING_GLOBAL_RANGE_ADMINS_SET ≡ ace_locking_global_range_admins_set)
+        × (uids.ACE_LOCKING_ADMINS_SET ≡ ace_locking_admins_set) }
+    ensures mbr_aces { (uids.ACE_MBR_CONTROL_ADMINS_SET ≡ ace_mbr_control_admins_set)
+        × (uids.ACE_MBR_CONTROL_SET_DONE_TO_DOR ≡ ace_mbr_control_set_done_to_dor) }
+    ensures tables { (tables.ACE ≡ ace_table) × (tables.AUTHORITY ≡ authority_table)
+        × (tables.C_PIN ≡ c_pin_table) × (tables.SP ≡ sp_table)
+        × (tables.LOCKING ≡ locking_table) × (tables.MBR_CONTROL ≡ mbr_control_table) }
+    ensures every_row { (columns.UID ≡ uid_column) × (columns.NAME ≡ name_column)
+        × (columns.COMMON_NAME ≡ common_name_column) }
+    ensures sp_row { (columns.LIFE_CYCLE_STATE ≡ life_cycle_state_column) }
+    ensures pin_row { (columns.PIN ≡ pin_column) × (columns.CHAR_SET ≡ char_set_column)
+        × (columns.TRY_LIMIT ≡ try_limit_column) × (columns.TRIES ≡ tries_column)
+        × (columns.PERSISTENCE ≡ persistence_column) }
+    ensures authority_row { (columns.IS_CLASS ≡ is_class_column) × (columns.CLASS ≡ class_column)
+        × (columns.ENABLED ≡ enabled_column) × (columns.OPERATION ≡ operation_column)
+        × (columns.CREDENTIAL ≡ credential_column) }
+    ensures ace_row { (columns.BOOLEAN_EXPR ≡ boolean_expr_column) × (columns.COLUMNS ≡ columns_column) }
+    ensures range_bounds { (columns.RANGE_START ≡ range_start_column)
+        × (columns.RANGE_LENGTH ≡ range_length_column) }
+    ensures range_locks { (columns.READ_LOCK_ENABLED ≡ read_lock_enabled_column)
+        × (columns.WRITE_LOCK_ENABLED ≡ write_lock_enabled_column)
+        × (columns.READ_LOCKED ≡ read_locked_column)
+        × (columns.WRITE_LOCKED ≡ write_locked_column)
+        × (columns.LOCK_ON_RESET ≡ lock_on_reset_column) }
+    ensures mbr_control_row { (columns.MBR_ENABLE ≡ mbr_enable_column) × (columns.MBR_DONE ≡ mbr_done_column)
+        × (columns.MBR_DONE_ON_RESET ≡ mbr_done_on_reset_column) }
+{}
+
+/// The limits of the code are those of the definitions, and these numbers.
+pub fn laws_of_limits()
+    ensures sectors { address_limit ≡ 2 ^ 48 }
+    ensures shadow { (limits.MOST_MBR_SECTORS ≡ most_mbr_sectors) × (most_mbr_sectors ≡ 262144) }
+    ensures pin { (limits.MOST_PIN_BYTES ≡ most_pin_bytes) × (most_pin_bytes ≡ 32) }
+    ensures expression { (limits.MOST_ELEMENTS ≡ most_elements) × (most_elements ≡ 31) }
+    ensures tries { (limits.NEW_TRY_LIMIT ≡ new_try_limit) × (new_try_limit ≡ 5) }
+    ensures any_tries { (limits.NO_TRY_LIMIT ≡ no_try_limit) × (no_try_limit ≡ 0) }
+    ensures inactive { (limits.MANUFACTURED_INACTIVE ≡ manufactured_inactive) × (manufactured_inactive ≡ 8) }
+    ensures active { (limits.MANUFACTURED ≡ manufactured) × (manufactured ≡ 9) }
 {}

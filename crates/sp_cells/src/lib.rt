@@ -14,13 +14,11 @@ mod trees;
 pub mod values;
 
 pub use authorities::is_locking_authority;
-pub use cells::{Bytes, Cell, Columns, Element, Expr, ResetTypes};
+pub use basics::Bytes;
+pub use cells::{Cell, Columns, Element, Expr, ResetTypes};
 pub use config::DriveConfig;
 pub use error::SetError;
-pub use laws::laws_of_names;
+pub use laws::{laws_of_limits, laws_of_names};
 pub use look::{Rows, number_at};
 pub use names::{ADMINS, Column, RANGES, Sp, USERS, Uid};
 pub use values::are_values;
-
-#[cfg(test)]
-mod tests;

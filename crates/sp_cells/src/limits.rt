@@ -1,5 +1,4 @@
-/// The most sectors that a drive has: as many as a command of 48 bits can name.
-pub const MOST_SECTORS: u64 = 0x1_0000_0000_0000;
+//! The limits of this drive, and the states of an SP.
 
 /// The most sectors of a shadow MBR.
 pub const MOST_MBR_SECTORS: u64 = 262_144;

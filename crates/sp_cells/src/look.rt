@@ -1,3 +1,5 @@
+//! How rows are read.
+
 ghost use Rattle.std.specs.Prelude.{◌≡◌, ℕ, option_copied};
 ghost use Rattle.sp_cells.specs.Flat.{LookUp};
 ghost use Rattle.sp_cells.specs.Ranges.{AreApart, number};

@@ -1,5 +1,9 @@
-ghost use Rattle.std.specs.Prelude.{◌≡◌, ◌+◌, ◌<◌, ◌≤◌, ◌^◌};
-ghost use Rattle.sp_cells.specs.Names.{range_uid, admin_uid, user_uid, admin_pin_uid, user_pin_uid, user_entry_uid, read_entry_uid, write_entry_uid};
+//! The names of objects, methods and columns, each with its number: no other file of the code has one.
+
+ghost use Rattle.std.specs.Prelude.{◌≡◌, ◌+◌, ◌-◌, ◌<◌, ◌≤◌, ◌^◌};
+ghost use Rattle.std.specs.Int.{w64, to_be_bytes, from_be_bytes};
+ghost use Rattle.sp_cells.specs.Names.{table_of, range_uid, admin_uid, user_uid, admin_pin_uid, user_pin_uid, ace_c_pin_user_set_pin, ace_range_set_read_locked, ace_range_set_write_locked};
+ghost use Rattle.sp_cells.specs.Numbers.{number_behind, admin_number, user_number, admin_pin_number, user_pin_number, range_number, user_ace_number, read_locked_ace_number, write_locked_ace_number};
 
 /// The number of ranges beside the global one: they are numbered from 1.
 pub const RANGES: u8 = 8;
@@ -9,6 +13,37 @@ pub const USERS: u8 = 8;
 
 /// The number of Admins of the Locking SP: they are numbered from 1.
 pub const ADMINS: u8 = 4;
+
+const ADMIN_BASE: u64 = 0x0000_0009_0001_0000;
+
+const USER_BASE: u64 = 0x0000_0009_0003_0000;
+
+const ADMIN_PIN_BASE: u64 = 0x0000_000b_0001_0000;
+
+const USER_PIN_BASE: u64 = 0x0000_000b_0003_0000;
+
+const RANGE_BASE: u64 = 0x0000_0802_0003_0000;
+
+const USER_ACE_BASE: u64 = 0x0000_0008_0003_a800;
+
+const READ_LOCKED_ACE_BASE: u64 = 0x0000_0008_0003_e000;
+
+const WRITE_LOCKED_ACE_BASE: u64 = 0x0000_0008_0003_e800;
+
+/// The tables of objects, as the upper four bytes of their rows' names have them.
+pub mod tables {
+    pub const ACE: u64 = 0x0008;
+
+    pub const AUTHORITY: u64 = 0x0009;
+
+    pub const C_PIN: u64 = 0x000b;
+
+    pub const SP: u64 = 0x0205;
+
+    pub const LOCKING: u64 = 0x0802;
+
+    pub const MBR_CONTROL: u64 = 0x0803;
+}
 
 /// A security provider of the drive (Opal SSC 2.01, sections 4.2 and 4.3).
 #[derive(Clone, Copy, Debug, PartialEq, Eq)]
@@ -53,11 +88,62 @@ impl Uid {
     /// The PIN row that anybody may read.
     pub const C_PIN_MSID: Uid = Uid(0x0000_000b_0000_8402);
 
+    /// The row of the global range in the Locking table.
+    pub const GLOBAL_RANGE: Uid = Uid(0x0000_0802_0000_0001);
+
     /// The one row of the MBRControl table.
     pub const MBR_CONTROL: Uid = Uid(0x0000_0803_0000_0001);
 
     /// The byte table of the shadow MBR.
     pub const MBR_TABLE: Uid = Uid(0x0000_0804_0000_0000);
+
+    /// The ACE that everyone fulfils.
+    pub const ACE_ANYBODY: Uid = Uid(0x0000_0008_0000_0001);
+
+    /// The ACE that the Admins of the Locking SP fulfil (ACE_Admin).
+    pub const ACE_ADMINS: Uid = Uid(0x0000_0008_0000_0002);
+
+    /// Everyone may read the name that a host gave.
+    pub const ACE_ANYBODY_GET_COMMON_NAME: Uid = Uid(0x0000_0008_0000_0003);
+
+    /// Who may read the C_PIN row of SID but for its PIN.
+    pub const ACE_C_PIN_SID_GET_NOPIN: Uid = Uid(0x0000_0008_0000_8c02);
+
+    /// Who may set SID's PIN.
+    pub const ACE_C_PIN_SID_SET_PIN: Uid = Uid(0x0000_0008_0000_8c03);
+
+    /// Who may read the MSID.
+    pub const ACE_C_PIN_MSID_GET_PIN: Uid = Uid(0x0000_0008_0000_8c04);
+
+    /// Who may activate and revert the SPs.
+    pub const ACE_SP_SID: Uid = Uid(0x0000_0008_0003_0002);
+
+    /// Who may set an ACE's expression.
+    pub const ACE_ACE_SET_BOOLEAN_EXPRESSION: Uid = Uid(0x0000_0008_0003_8001);
+
+    /// Who may enable an authority.
+    pub const ACE_AUTHORITY_SET_ENABLED: Uid = Uid(0x0000_0008_0003_9001);
+
+    /// Who may read the C_PIN rows of the Locking SP but for their PINs.
+    pub const ACE_C_PIN_ADMINS_GET_ALL_NOPIN: Uid = Uid(0x0000_0008_0003_a000);
+
+    /// Who may set an Admin's PIN.
+    pub const ACE_C_PIN_ADMINS_SET_PIN: Uid = Uid(0x0000_0008_0003_a001);
+
+    /// Who may read the ranges (ACE_Locking_GlobalRange_Get_RangeStartToActiveKey).
+    pub const ACE_LOCKING_GET_ALL: Uid = Uid(0x0000_0008_0003_d000);
+
+    /// Who may set the global range.
+    pub const ACE_LOCKING_GLOBAL_RANGE_ADMINS_SET: Uid = Uid(0x0000_0008_0003_f000);
+
+    /// Who may set a numbered range (ACE_Locking_Admins_RangeStartToLOR).
+    pub const ACE_LOCKING_ADMINS_SET: Uid = Uid(0x0000_0008_0003_f001);
+
+    /// Who may set the control of the shadow MBR.
+    pub const ACE_MBR_CONTROL_ADMINS_SET: Uid = Uid(0x0000_0008_0003_f800);
+
+    /// Who may lift the shadow MBR.
+    pub const ACE_MBR_CONTROL_SET_DONE_TO_DOR: Uid = Uid(0x0000_0008_0003_f801);
 
     /// The method Get.
     pub const GET: Uid = Uid(0x0000_0006_0000_0016);
@@ -79,38 +165,159 @@ impl Uid {
         ensures { result ≡ range_uid number }
     {
         if number == 0 {
-            Uid(0x0000_0802_0000_0001)
+            Uid::GLOBAL_RANGE
         } else {
-            Uid(0x0000_0802_0003_0000 + u64::from(number))
+            Uid(RANGE_BASE + u64::from(number))
         }
+    }
+
+    /// The number of the range whose row this is; 0 is the global range.
+    pub fn range_number(self) -> Option<u8>
+        ensures { result ≡ range_number self }
+    {
+        if self == Uid::GLOBAL_RANGE {
+            return Some(0);
+        }
+        self.number_behind(RANGE_BASE, RANGES)
     }
 
     /// An Admin of the Locking SP, numbered from 1.
     pub fn admin(number: u8) -> Uid
         ensures { result ≡ admin_uid number }
     {
-        Uid(0x0000_0009_0001_0000 + u64::from(number))
+        Uid(ADMIN_BASE + u64::from(number))
+    }
+
+    /// The number of an Admin of the Locking SP, where this is one.
+    pub fn admin_number(self) -> Option<u8>
+        ensures { result ≡ admin_number self }
+    {
+        self.number_behind(ADMIN_BASE, ADMINS)
     }
 
     /// A User, numbered from 1.
     pub fn user(number: u8) -> Uid
         ensures { result ≡ user_uid number }
     {
-        Uid(0x0000_0009_0003_0000 + u64::from(number))
+        Uid(USER_BASE + u64::from(number))
+    }
+
+    /// The number of a User, where this is one.
+    pub fn user_number(self) -> Option<u8>
+        ensures { result ≡ user_number self }
+    {
+        self.number_behind(USER_BASE, USERS)
     }
 
     /// The PIN row of an Admin of the Locking SP, numbered from 1.
     pub fn pin_of_admin(number: u8) -> Uid
         ensures { result ≡ admin_pin_uid number }
     {
-        Uid(0x0000_000b_0001_0000 + u64::from(number))
+        Uid(ADMIN_PIN_BASE + u64::from(number))
+    }
+
+    /// The number of the Admin whose PIN row this is.
+    pub fn admin_pin_number(self) -> Option<u8>
+        ensures { result ≡ admin_pin_number self }
+    {
+        self.number_behind(ADMIN_PIN_BASE, ADMINS)
     }
 
     /// The PIN row of a User, numbered from 1.
     pub fn pin_of_user(number: u8) -> Uid
         ensures { result ≡ user_pin_uid number }
     {
-        Uid(0x0000_000b_0003_0000 + u64::from(number))
+        Uid(USER_PIN_BASE + u64::from(number))
+    }
+
+    /// The number of the User whose PIN row this is.
+    pub fn user_pin_number(self) -> Option<u8>
+        ensures { result ≡ user_pin_number self }
+    {
+        self.number_behind(USER_PIN_BASE, USERS)
+    }
+
+    /// Who may set a User's PIN (ACE_C_PIN_User1_Set_PIN and those behind it).
+    pub fn ace_c_pin_user_set_pin(number: u8) -> Uid
+        ensures { result ≡ ace_c_pin_user_set_pin number }
+    {
+        Uid(USER_ACE_BASE + u64::from(number))
+    }
+
+    /// The number of the User whose PIN this ACE lets set.
+    pub fn user_ace_number(self) -> Option<u8>
+        ensures { result ≡ user_ace_number self }
+    {
+        self.number_behind(USER_ACE_BASE, USERS)
+    }
+
+    /// Who may set the ReadLocked flag of a range, 0 being the global one (ACE_Locking_GlobalRange_Set_RdLocked and
+    /// those behind it).
+    pub fn ace_range_set_read_locked(number: u8) -> Uid
+        ensures { result ≡ ace_range_set_read_locked number }
+    {
+        Uid(READ_LOCKED_ACE_BASE + u64::from(number))
+    }
+
+    /// The number of the range whose ReadLocked flag this ACE lets set.
+    pub fn read_locked_ace_number(self) -> Option<u8>
+        ensures { result ≡ read_locked_ace_number self }
+    {
+        if self.0 == READ_LOCKED_ACE_BASE {
+            return Some(0);
+        }
+        self.number_behind(READ_LOCKED_ACE_BASE, RANGES)
+    }
+
+    /// Who may set the WriteLocked flag of a range, 0 being the global one (ACE_Locking_GlobalRange_Set_WrLocked and
+    /// those behind it).
+    pub fn ace_range_set_write_locked(number: u8) -> Uid
+        ensures { result ≡ ace_range_set_write_locked number }
+    {
+        Uid(WRITE_LOCKED_ACE_BASE + u64::from(number))
+    }
+
+    /// The number of the range whose WriteLocked flag this ACE lets set.
+    pub fn write_locked_ace_number(self) -> Option<u8>
+        ensures { result ≡ write_locked_ace_number self }
+    {
+        if self.0 == WRITE_LOCKED_ACE_BASE {
+            return Some(0);
+        }
+        self.number_behind(WRITE_LOCKED_ACE_BASE, RANGES)
+    }
+
+    /// The upper four bytes: the table that the object is a row of.
+    pub fn table(self) -> u64
+        ensures { result ≡ table_of self }
+    {
+        self.0 / 0x1_0000_0000
+    }
+
+    /// The name that these eight bytes write, the most significant first.
+    pub fn from_bytes(bytes: [u8; 8]) -> Uid
+        ensures { result.0 ≡ from_be_bytes w64 bytes }
+    {
+        Uid(u64::from_be_bytes(bytes))
+    }
+
+    /// The eight bytes of the name, the most significant first.
+    pub fn to_bytes(self) -> [u8; 8]
+        ensures value { result ≡ to_be_bytes w64 self.0 }
+        ensures back { from_be_bytes w64 result ≡ self.0 }
+    {
+        self.0.to_be_bytes()
+    }
+
+    /// The number of a row, where it is one of `count` behind this name.
+    fn number_behind(self, base: u64, count: u8) -> Option<u8>
+        requires { base + count < 2 ^ 64 }
+        ensures { result ≡ number_behind base count self }
+    {
+        if self.0 <= base || self.0 > base + u64::from(count) {
+            return None;
+        }
+        Some((self.0 - base) as u8)
     }
 }
 
@@ -131,11 +338,17 @@ impl Column {
     /// The secret of a C_PIN row.
     pub const PIN: Column = Column(3);
 
+    /// The characters that a PIN may have.
+    pub const CHAR_SET: Column = Column(4);
+
     /// How many wrong attempts a C_PIN row allows; 0 is no limit.
     pub const TRY_LIMIT: Column = Column(5);
 
     /// The wrong attempts on a C_PIN row so far.
     pub const TRIES: Column = Column(6);
+
+    /// Whether the wrong attempts outlast a power cycle.
+    pub const PERSISTENCE: Column = Column(7);
 
     /// Whether an authority is a class of others.
     pub const IS_CLASS: Column = Column(3);
@@ -185,9 +398,9 @@ impl Column {
     /// The resets that bring the shadow MBR back.
     pub const MBR_DONE_ON_RESET: Column = Column(3);
 
-    /// The expression of an access entry.
+    /// The expression of an ACE.
     pub const BOOLEAN_EXPR: Column = Column(3);
 
-    /// The columns that an access entry speaks of.
+    /// The columns that an ACE speaks of.
     pub const COLUMNS: Column = Column(4);
 }

@@ -1,3 +1,5 @@
+//! Whether the elements of an expression write a tree.
+
 ghost use Rattle.std.specs.Prelude.{◌≡◌, ◌≤◌, ◌<◌, ◌+◌, ◌-◌, ◌↔◌, IsTrue, length};
 ghost use Rattle.sp_cells.specs.Expressions.{WritesTree, completes, are_known, is_known_element as is_known_element_of};
 ghost use Rattle.sp_cells.specs.Limits.{most_elements};

@@ -1,9 +1,11 @@
-ghost use Rattle.std.specs.Prelude.{◌≡◌, ◌/◌, ◌<◌, ◌≤◌};
-ghost use Rattle.sp_cells.specs.Values.{is_of, type_at, sp_types, entry_types, authority_types, pin_types, range_types, mbr_control_types, types_of, column_type as column_type_of, is_taken, takes_each};
+//! Which value each column takes.
+
+ghost use Rattle.std.specs.Prelude.{◌≡◌, ◌<◌, ◌≤◌};
+ghost use Rattle.sp_cells.specs.Values.{is_of, type_at, sp_types, ace_types, authority_types, c_pin_types, locking_types, mbr_control_types, types_of, column_type as column_type_of, is_taken, takes_each};
 
 use crate::cells::Cell;
 use crate::limits::MOST_PIN_BYTES;
-use crate::names::{Column, Uid};
+use crate::names::{Column, Uid, tables};
 
 /// What a column takes.
 #[derive(Clone, Copy, Debug, PartialEq, Eq)]
@@ -54,74 +56,77 @@ impl ColumnType {
     }
 }
 
-fn sp_type(column: u64) -> Option<ColumnType>
+fn sp_type(column: Column) -> Option<ColumnType>
     ensures { result ≡ type_at sp_types column }
 {
     match column {
-        0 => Some(ColumnType::Object),
-        1 => Some(ColumnType::Name),
-        6 => Some(ColumnType::Number),
+        Column::UID => Some(ColumnType::Object),
+        Column::NAME => Some(ColumnType::Name),
+        Column::LIFE_CYCLE_STATE => Some(ColumnType::Number),
         _ => None,
     }
 }
 
-fn entry_type(column: u64) -> Option<ColumnType>
-    ensures { result ≡ type_at entry_types column }
+fn ace_type(column: Column) -> Option<ColumnType>
+    ensures { result ≡ type_at ace_types column }
 {
     match column {
-        0 => Some(ColumnType::Object),
-        1 | 2 => Some(ColumnType::Name),
-        3 => Some(ColumnType::Expression),
-        4 => Some(ColumnType::Columns),
+        Column::UID => Some(ColumnType::Object),
+        Column::NAME | Column::COMMON_NAME => Some(ColumnType::Name),
+        Column::BOOLEAN_EXPR => Some(ColumnType::Expression),
+        Column::COLUMNS => Some(ColumnType::Columns),
         _ => None,
     }
 }
 
-fn authority_type(column: u64) -> Option<ColumnType>
+fn authority_type(column: Column) -> Option<ColumnType>
     ensures { result ≡ type_at authority_types column }
 {
     match column {
-        0 | 4 | 10 => Some(ColumnType::Object),
-        1 | 2 => Some(ColumnType::Name),
-        3 | 5 => Some(ColumnType::Flag),
-        9 => Some(ColumnType::Number),
+        Column::UID | Column::CLASS | Column::CREDENTIAL => Some(ColumnType::Object),
+        Column::NAME | Column::COMMON_NAME => Some(ColumnType::Name),
+        Column::IS_CLASS | Column::ENABLED => Some(ColumnType::Flag),
+        Column::OPERATION => Some(ColumnType::Number),
         _ => None,
     }
 }
 
-fn pin_type(column: u64) -> Option<ColumnType>
-    ensures { result ≡ type_at pin_types column }
+fn c_pin_type(column: Column) -> Option<ColumnType>
+    ensures { result ≡ type_at c_pin_types column }
 {
     match column {
-        0 | 4 => Some(ColumnType::Object),
-        1 | 2 => Some(ColumnType::Name),
-        3 => Some(ColumnType::Secret),
-        5 | 6 => Some(ColumnType::Number),
-        7 => Some(ColumnType::Flag),
+        Column::UID | Column::CHAR_SET => Some(ColumnType::Object),
+        Column::NAME | Column::COMMON_NAME => Some(ColumnType::Name),
+        Column::PIN => Some(ColumnType::Secret),
+        Column::TRY_LIMIT | Column::TRIES => Some(ColumnType::Number),
+        Column::PERSISTENCE => Some(ColumnType::Flag),
         _ => None,
     }
 }
 
-fn range_type(column: u64) -> Option<ColumnType>
-    ensures { result ≡ type_at range_types column }
+fn locking_type(column: Column) -> Option<ColumnType>
+    ensures { result ≡ type_at locking_types column }
 {
     match column {
-        0 => Some(ColumnType::Object),
-        1 | 2 => Some(ColumnType::Name),
-        3 | 4 => Some(ColumnType::Number),
-        5..=8 => Some(ColumnType::Flag),
-        9 => Some(ColumnType::Resets),
+        Column::UID => Some(ColumnType::Object),
+        Column::NAME | Column::COMMON_NAME => Some(ColumnType::Name),
+        Column::RANGE_START | Column::RANGE_LENGTH => Some(ColumnType::Number),
+        Column::READ_LOCK_ENABLED
+        | Column::WRITE_LOCK_ENABLED
+        | Column::READ_LOCKED
+        | Column::WRITE_LOCKED => Some(ColumnType::Flag),
+        Column::LOCK_ON_RESET => Some(ColumnType::Resets),
         _ => None,
     }
 }
 
-fn mbr_control_type(column: u64) -> Option<ColumnType>
+fn mbr_control_type(column: Column) -> Option<ColumnType>
     ensures { result ≡ type_at mbr_control_types column }
 {
     match column {
-        0 => Some(ColumnType::Object),
-        1 | 2 => Some(ColumnType::Flag),
-        3 => Some(ColumnType::Resets),
+        Column::UID => Some(ColumnType::Object),
+        Column::MBR_ENABLE | Column::MBR_DONE => Some(ColumnType::Flag),
+        Column::MBR_DONE_ON_RESET => Some(ColumnType::Resets),
         _ => None,
     }
 }
@@ -130,13 +135,13 @@ fn mbr_control_type(column: u64) -> Option<ColumnType>
 fn column_type(object: Uid, column: Column) -> Option<ColumnType>
     ensures { result ≡ column_type_of object column }
 {
-    match object.0 / 0x1_0000_0000 {
-        0x0008 => entry_type(column.0),
-        0x0009 => authority_type(column.0),
-        0x000b => pin_type(column.0),
-        0x0205 => sp_type(column.0),
-        0x0802 => range_type(column.0),
-        0x0803 => mbr_control_type(column.0),
+    match object.table() {
+        tables::ACE => ace_type(column),
+        tables::AUTHORITY => authority_type(column),
+        tables::C_PIN => c_pin_type(column),
+        tables::SP => sp_type(column),
+        tables::LOCKING => locking_type(column),
+        tables::MBR_CONTROL => mbr_control_type(column),
         _ => None,
     }
 }

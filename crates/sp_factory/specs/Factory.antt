@@ -1,6 +1,7 @@
 -- The cells of a new drive (Opal SSC 2.01, sections 4.2 and 4.3).
-use Rattle.std.specs.Prelude.{◌≡◌, ◌≤◌, ◌+◌, ◌==◌, ℕ, true, false, List, [], ◌∷◌, ◌++◌, zero, suc, codes, map, if◌then◌else◌}
+use Rattle.std.specs.Prelude.{◌≡◌, ◌≤◌, ◌+◌, ◌==◌, ℕ, true, false, List, [], ◌∷◌, ◌++◌, zero, suc, codes, if◌then◌else◌}
 use Rattle.std.specs.Fmt.{decimal}
+use Rattle.std.specs.List.{flat_map}
 use Rattle.sp_cells.specs.declared.names.TheConstants.{RANGES, USERS, ADMINS}
 use Rattle.sp_cells.specs.declared.names.Uid.{Uid}
 use Rattle.sp_cells.specs.declared.names.Column.{Column}
@@ -9,17 +10,35 @@ use Rattle.sp_cells.specs.declared.cells.Cell.TheVariants.{Number, Bytes, Uid as
 use Rattle.sp_cells.specs.declared.cells.Element.{Element}
 use Rattle.sp_cells.specs.declared.cells.Element.TheVariants.{Authority, Or}
 use Rattle.sp_cells.specs.Limits.{new_try_limit, no_try_limit, manufactured, manufactured_inactive}
-use Rattle.sp_cells.specs.Names.{uid, col, none, admin_sp, locking_sp, anybody, sid, admins_class, admin_base, admin_uid, users_class, user_base, user_uid, sid_pin, msid_pin, admin_pin_base, admin_pin_uid, user_pin_base, user_pin_uid, global_range, range_base, mbr_control}
-use Rattle.sp_cells.specs.Names.{anybody_entry, admins_entry, common_name_entry, get_sid_pin_entry, set_sid_pin_entry, get_msid_entry, sps_entry, set_expression_entry, set_enabled_entry, get_pins_entry, set_admin_pins_entry, user_entry_base, user_entry_uid, get_ranges_entry, read_entry_base, read_entry_uid, write_entry_base, write_entry_uid, set_global_range_entry, set_ranges_entry, set_mbr_control_entry, set_mbr_done_entry}
+use Rattle.sp_cells.specs.Names.{uid, none, admin_sp, locking_sp, anybody, sid, admins_class, admin_base, admin_uid, users_class, user_base, user_uid, c_pin_sid, c_pin_msid, admin_pin_base, admin_pin_uid, user_pin_base, user_pin_uid, global_range, range_base, range_uid, mbr_control}
+use Rattle.sp_cells.specs.Names.{ace_anybody, ace_admins, ace_anybody_get_common_name, ace_c_pin_sid_get_nopin, ace_c_pin_sid_set_pin, ace_c_pin_msid_get_pin, ace_sp_sid, ace_ace_set_boolean_expression, ace_authority_set_enabled, ace_c_pin_admins_get_all_nopin, ace_c_pin_admins_set_pin, user_ace_base, ace_c_pin_user_set_pin, ace_locking_get_all, read_locked_ace_base, ace_range_set_read_locked, write_locked_ace_base, ace_range_set_write_locked, ace_locking_global_range_admins_set, ace_locking_admins_set, ace_mbr_control_admins_set, ace_mbr_control_set_done_to_dor}
+use Rattle.sp_cells.specs.ColumnNames.{uid_column, name_column, common_name_column, life_cycle_state_column, pin_column, char_set_column, try_limit_column, tries_column, persistence_column}
+use Rattle.sp_cells.specs.ColumnNames.{is_class_column, class_column, enabled_column, operation_column, credential_column, boolean_expr_column, columns_column}
+use Rattle.sp_cells.specs.ColumnNames.{range_start_column, range_length_column, read_lock_enabled_column, write_lock_enabled_column, read_locked_column, write_locked_column, lock_on_reset_column, mbr_enable_column, mbr_done_column, mbr_done_on_reset_column}
+use Rattle.sp_rows.specs.declared.runs.Run.{Run}
 use Rattle.sp_rows.specs.Items.{Item, row_items, rows_from}
+use Rattle.sp_rows.specs.Runs.{run_items}
 
 -- the columns of a new row of each table
 
 abbrev pub new_sp : Uid → List ℕ → ℕ → List (Column × Cell)
-new_sp object name state = (col 0, Object object) ∷ (col 1, Bytes name) ∷ (col 6, Number state) ∷ []
+new_sp object name state =
+    (uid_column, Object object)
+    ∷ (name_column, Bytes name)
+    ∷ (life_cycle_state_column, Number state)
+    ∷ []
 
 abbrev pub new_authority : Uid → List ℕ → ℕ → Uid → ℕ → ℕ → Uid → List (Column × Cell)
-new_authority object name is_class class enabled operation credential = (col 0, Object object) ∷ (col 1, Bytes name) ∷ (col 2, Bytes []) ∷ (col 3, Number is_class) ∷ (col 4, Object class) ∷ (col 5, Number enabled) ∷ (col 9, Number operation) ∷ (col 10, Object credential) ∷ []
+new_authority object name is_class class enabled operation credential =
+    (uid_column, Object object)
+    ∷ (name_column, Bytes name)
+    ∷ (common_name_column, Bytes [])
+    ∷ (is_class_column, Number is_class)
+    ∷ (class_column, Object class)
+    ∷ (enabled_column, Number enabled)
+    ∷ (operation_column, Number operation)
+    ∷ (credential_column, Object credential)
+    ∷ []
 
 -- Anybody and the classes have no PIN
 abbrev pub new_group : Uid → List ℕ → ℕ → List (Column × Cell)
@@ -30,24 +49,74 @@ abbrev pub new_member : Uid → List ℕ → Uid → ℕ → Uid → List (Colum
 new_member object name class enabled credential = new_authority object name 0 class enabled 1 credential
 
 abbrev pub new_pin : Uid → List ℕ → List ℕ → ℕ → List (Column × Cell)
-new_pin object name secret limit = (col 0, Object object) ∷ (col 1, Bytes name) ∷ (col 2, Bytes []) ∷ (col 3, Bytes secret) ∷ (col 4, Object none) ∷ (col 5, Number limit) ∷ (col 6, Number 0) ∷ (col 7, Number 0) ∷ []
+new_pin object name secret limit =
+    (uid_column, Object object)
+    ∷ (name_column, Bytes name)
+    ∷ (common_name_column, Bytes [])
+    ∷ (pin_column, Bytes secret)
+    ∷ (char_set_column, Object none)
+    ∷ (try_limit_column, Number limit)
+    ∷ (tries_column, Number 0)
+    ∷ (persistence_column, Number 0)
+    ∷ []
 
 -- the set that has the power cycle alone
 abbrev pub power_cycle_alone : Cell
 power_cycle_alone = Numbers (record { power_cycle = true; hardware = false })
 
 abbrev pub new_range : Uid → List ℕ → List (Column × Cell)
-new_range object name = (col 0, Object object) ∷ (col 1, Bytes name) ∷ (col 2, Bytes []) ∷ (col 3, Number 0) ∷ (col 4, Number 0) ∷ (col 5, Number 0) ∷ (col 6, Number 0) ∷ (col 7, Number 0) ∷ (col 8, Number 0) ∷ (col 9, power_cycle_alone) ∷ []
+new_range object name =
+    (uid_column, Object object)
+    ∷ (name_column, Bytes name)
+    ∷ (common_name_column, Bytes [])
+    ∷ (range_start_column, Number 0)
+    ∷ (range_length_column, Number 0)
+    ∷ (read_lock_enabled_column, Number 0)
+    ∷ (write_lock_enabled_column, Number 0)
+    ∷ (read_locked_column, Number 0)
+    ∷ (write_locked_column, Number 0)
+    ∷ (lock_on_reset_column, power_cycle_alone)
+    ∷ []
 
 abbrev pub new_mbr_control : Uid → List (Column × Cell)
-new_mbr_control object = (col 0, Object object) ∷ (col 1, Number 0) ∷ (col 2, Number 0) ∷ (col 3, power_cycle_alone) ∷ []
+new_mbr_control object =
+    (uid_column, Object object)
+    ∷ (mbr_enable_column, Number 0)
+    ∷ (mbr_done_column, Number 0)
+    ∷ (mbr_done_on_reset_column, power_cycle_alone)
+    ∷ []
 
-abbrev pub new_entry : Uid → List ℕ → List Element → List Column → List (Column × Cell)
-new_entry object name expr columns = (col 0, Object object) ∷ (col 1, Bytes name) ∷ (col 2, Bytes []) ∷ (col 3, Expr expr) ∷ (col 4, Columns columns) ∷ []
+abbrev pub new_ace : Uid → List ℕ → List Element → List Column → List (Column × Cell)
+new_ace object name expr columns =
+    (uid_column, Object object)
+    ∷ (name_column, Bytes name)
+    ∷ (common_name_column, Bytes [])
+    ∷ (boolean_expr_column, Expr expr)
+    ∷ (columns_column, Columns columns)
+    ∷ []
 
--- an entry that one authority, or one class, fulfils
-abbrev pub entry_row : Uid → List ℕ → Uid → List ℕ → List Item
-entry_row entry name authority columns = row_items entry (new_entry entry name (Authority authority ∷ []) (map col columns))
+-- an ACE that one authority, or one class, fulfils
+abbrev pub ace_row : Uid → List ℕ → Uid → List Column → List Item
+ace_row ace name authority columns = row_items ace (new_ace ace name (Authority authority ∷ []) columns)
+
+-- the columns of a C_PIN row but for its names and the PIN
+abbrev pub but_pin : List Column
+but_pin = uid_column ∷ char_set_column ∷ try_limit_column ∷ tries_column ∷ persistence_column ∷ []
+
+-- the columns that place a range, and those that lock it
+abbrev pub bounds : List Column
+bounds = range_start_column ∷ range_length_column ∷ []
+
+abbrev pub locks : List Column
+locks = read_lock_enabled_column ∷ write_lock_enabled_column ∷ read_locked_column ∷ write_locked_column ∷ lock_on_reset_column ∷ []
+
+-- these runs of rows have these cells
+abbrev pub HasRows : {R : Type 0} → (R → List (Column × Cell)) → List (Run R) → List Item → Type 0
+HasRows columns runs items = flat_map (run_items columns) runs ≡ items
+
+-- these cells are added behind those of the runs
+abbrev pub AddsRows : {R : Type 0} → (R → List (Column × Cell)) → (old new : List (Run R)) → List Item → Type 0
+AddsRows columns old new items = HasRows columns new (flat_map (run_items columns) old ++ items)
 
 -- the rows of the numbers 1 to n, each named by its base and its number
 abbrev pub family : ℕ → (ℕ → List (Column × Cell)) → ℕ → List Item
@@ -64,7 +133,7 @@ admin_sps = row_items admin_sp (new_sp admin_sp (codes "Admin") manufactured) ++
 
 -- authorities
 unfoldable pub admin_authorities : List Item
-admin_authorities = row_items anybody (new_group anybody (codes "Anybody") 0) ++ row_items sid (new_member sid (codes "SID") none 1 sid_pin)
+admin_authorities = row_items anybody (new_group anybody (codes "Anybody") 0) ++ row_items sid (new_member sid (codes "SID") none 1 c_pin_sid)
 
 abbrev pub admin_authority : ℕ → List (Column × Cell)
 admin_authority n = new_member (admin_uid n) (codes "Admin" ++ decimal n) admins_class (if n == 1 then 1 else 0) (admin_pin_uid n)
@@ -82,7 +151,7 @@ locking_authorities =
 
 -- C_PIN rows
 unfoldable pub admin_pins : List ℕ → List Item
-admin_pins msid = row_items sid_pin (new_pin sid_pin (codes "C_PIN_SID") msid new_try_limit) ++ row_items msid_pin (new_pin msid_pin (codes "C_PIN_MSID") msid no_try_limit)
+admin_pins msid = row_items c_pin_sid (new_pin c_pin_sid (codes "C_PIN_SID") msid new_try_limit) ++ row_items c_pin_msid (new_pin c_pin_msid (codes "C_PIN_MSID") msid no_try_limit)
 
 abbrev pub admin_pin : ℕ → List (Column × Cell)
 admin_pin n = new_pin (admin_pin_uid n) (codes "C_PIN_Admin" ++ decimal n) [] new_try_limit
@@ -95,7 +164,7 @@ locking_pins = family admin_pin_base admin_pin ADMINS ++ family user_pin_base us
 
 -- ranges
 abbrev pub numbered_range : ℕ → List (Column × Cell)
-numbered_range n = new_range (uid (range_base + n)) (codes "Locking_Range" ++ decimal n)
+numbered_range n = new_range (range_uid n) (codes "Locking_Range" ++ decimal n)
 
 unfoldable pub locking_ranges : List Item
 locking_ranges = row_items global_range (new_range global_range (codes "Locking_GlobalRange")) ++ family range_base numbered_range RANGES
@@ -104,57 +173,57 @@ locking_ranges = row_items global_range (new_range global_range (codes "Locking_
 unfoldable pub locking_mbr_controls : List Item
 locking_mbr_controls = row_items mbr_control (new_mbr_control mbr_control)
 
--- access entries
-unfoldable pub admin_entries : List Item
-admin_entries =
-    entry_row anybody_entry (codes "Anybody") anybody []
-    ++ entry_row get_sid_pin_entry (codes "C_PIN_SID_Get_NOPIN") sid (0 ∷ 4 ∷ 5 ∷ 6 ∷ 7 ∷ [])
-    ++ entry_row set_sid_pin_entry (codes "C_PIN_SID_Set_PIN") sid (3 ∷ [])
-    ++ entry_row get_msid_entry (codes "C_PIN_MSID_Get_PIN") anybody (0 ∷ 3 ∷ [])
-    ++ entry_row sps_entry (codes "SP_SID") sid []
+-- ACEs
+unfoldable pub admin_aces : List Item
+admin_aces =
+    ace_row ace_anybody (codes "Anybody") anybody []
+    ++ ace_row ace_c_pin_sid_get_nopin (codes "C_PIN_SID_Get_NOPIN") sid but_pin
+    ++ ace_row ace_c_pin_sid_set_pin (codes "C_PIN_SID_Set_PIN") sid (pin_column ∷ [])
+    ++ ace_row ace_c_pin_msid_get_pin (codes "C_PIN_MSID_Get_PIN") anybody (uid_column ∷ pin_column ∷ [])
+    ++ ace_row ace_sp_sid (codes "SP_SID") sid []
 
-unfoldable pub authority_entries : List Item
-authority_entries =
-    entry_row anybody_entry (codes "Anybody") anybody []
-    ++ entry_row admins_entry (codes "Admins") admins_class []
-    ++ entry_row common_name_entry (codes "Anybody_Get_CommonName") anybody (0 ∷ 2 ∷ [])
-    ++ entry_row set_expression_entry (codes "ACE_Set_BooleanExpr") admins_class (3 ∷ [])
-    ++ entry_row set_enabled_entry (codes "Authority_Set_Enabled") admins_class (5 ∷ [])
+unfoldable pub authority_aces : List Item
+authority_aces =
+    ace_row ace_anybody (codes "Anybody") anybody []
+    ++ ace_row ace_admins (codes "Admins") admins_class []
+    ++ ace_row ace_anybody_get_common_name (codes "Anybody_Get_CommonName") anybody (uid_column ∷ common_name_column ∷ [])
+    ++ ace_row ace_ace_set_boolean_expression (codes "ACE_Set_BooleanExpr") admins_class (boolean_expr_column ∷ [])
+    ++ ace_row ace_authority_set_enabled (codes "Authority_Set_Enabled") admins_class (enabled_column ∷ [])
 
-abbrev pub user_entry : ℕ → List (Column × Cell)
-user_entry n = new_entry (user_entry_uid n) (codes "C_PIN_User" ++ decimal n ++ codes "_Set_PIN") (Authority admins_class ∷ Authority (user_uid n) ∷ Or ∷ []) (col 3 ∷ [])
+abbrev pub user_ace : ℕ → List (Column × Cell)
+user_ace n = new_ace (ace_c_pin_user_set_pin n) (codes "C_PIN_User" ++ decimal n ++ codes "_Set_PIN") (Authority admins_class ∷ Authority (user_uid n) ∷ Or ∷ []) (pin_column ∷ [])
 
-unfoldable pub pin_entries : List Item
-pin_entries =
-    entry_row get_pins_entry (codes "C_PIN_Get_NOPIN") admins_class (0 ∷ 4 ∷ 5 ∷ 6 ∷ 7 ∷ [])
-    ++ entry_row set_admin_pins_entry (codes "C_PIN_Admins_Set_PIN") admins_class (3 ∷ [])
-    ++ family user_entry_base user_entry USERS
+unfoldable pub pin_aces : List Item
+pin_aces =
+    ace_row ace_c_pin_admins_get_all_nopin (codes "C_PIN_Get_NOPIN") admins_class but_pin
+    ++ ace_row ace_c_pin_admins_set_pin (codes "C_PIN_Admins_Set_PIN") admins_class (pin_column ∷ [])
+    ++ family user_ace_base user_ace USERS
 
-abbrev pub read_entry : ℕ → List (Column × Cell)
-read_entry n = new_entry (read_entry_uid n) (codes "Range_" ++ decimal n ++ codes "_Set_RdLocked") (Authority admins_class ∷ []) (col 7 ∷ [])
+abbrev pub read_locked_ace : ℕ → List (Column × Cell)
+read_locked_ace n = new_ace (ace_range_set_read_locked n) (codes "Range_" ++ decimal n ++ codes "_Set_RdLocked") (Authority admins_class ∷ []) (read_locked_column ∷ [])
 
-abbrev pub write_entry : ℕ → List (Column × Cell)
-write_entry n = new_entry (write_entry_uid n) (codes "Range_" ++ decimal n ++ codes "_Set_WrLocked") (Authority admins_class ∷ []) (col 8 ∷ [])
+abbrev pub write_locked_ace : ℕ → List (Column × Cell)
+write_locked_ace n = new_ace (ace_range_set_write_locked n) (codes "Range_" ++ decimal n ++ codes "_Set_WrLocked") (Authority admins_class ∷ []) (write_locked_column ∷ [])
 
-unfoldable pub range_entries : List Item
-range_entries =
-    entry_row get_ranges_entry (codes "Locking_Get") admins_class (3 ∷ 4 ∷ 5 ∷ 6 ∷ 7 ∷ 8 ∷ 9 ∷ [])
-    ++ row_items (read_entry_uid 0) (read_entry 0)
-    ++ family read_entry_base read_entry RANGES
-    ++ row_items (write_entry_uid 0) (write_entry 0)
-    ++ family write_entry_base write_entry RANGES
-    ++ entry_row set_global_range_entry (codes "Locking_Global_Set") admins_class (5 ∷ 6 ∷ 7 ∷ 8 ∷ 9 ∷ [])
-    ++ entry_row set_ranges_entry (codes "Locking_Range_Set") admins_class (3 ∷ 4 ∷ 5 ∷ 6 ∷ 7 ∷ 8 ∷ 9 ∷ [])
+unfoldable pub range_aces : List Item
+range_aces =
+    ace_row ace_locking_get_all (codes "Locking_Get") admins_class (bounds ++ locks)
+    ++ row_items (ace_range_set_read_locked 0) (read_locked_ace 0)
+    ++ family read_locked_ace_base read_locked_ace RANGES
+    ++ row_items (ace_range_set_write_locked 0) (write_locked_ace 0)
+    ++ family write_locked_ace_base write_locked_ace RANGES
+    ++ ace_row ace_locking_global_range_admins_set (codes "Locking_Global_Set") admins_class locks
+    ++ ace_row ace_locking_admins_set (codes "Locking_Range_Set") admins_class (bounds ++ locks)
 
-unfoldable pub mbr_entries : List Item
-mbr_entries =
-    entry_row set_mbr_control_entry (codes "MBRControl_Set") admins_class (1 ∷ 2 ∷ 3 ∷ [])
-    ++ entry_row set_mbr_done_entry (codes "MBRControl_Set_DoneToDOR") admins_class (2 ∷ 3 ∷ [])
+unfoldable pub mbr_aces : List Item
+mbr_aces =
+    ace_row ace_mbr_control_admins_set (codes "MBRControl_Set") admins_class (mbr_enable_column ∷ mbr_done_column ∷ mbr_done_on_reset_column ∷ [])
+    ++ ace_row ace_mbr_control_set_done_to_dor (codes "MBRControl_Set_DoneToDOR") admins_class (mbr_done_column ∷ mbr_done_on_reset_column ∷ [])
 
 -- the Admin SP of a drive with this MSID
 abbrev pub admin_factory : List ℕ → List Item
-admin_factory msid = admin_sps ++ (admin_authorities ++ (admin_pins msid ++ admin_entries))
+admin_factory msid = admin_sps ++ (admin_authorities ++ (admin_pins msid ++ admin_aces))
 
 -- the Locking SP
 abbrev pub locking_factory : List Item
-locking_factory = locking_authorities ++ (locking_pins ++ (locking_ranges ++ (locking_mbr_controls ++ (authority_entries ++ pin_entries ++ range_entries ++ mbr_entries))))
+locking_factory = locking_authorities ++ (locking_pins ++ (locking_ranges ++ (locking_mbr_controls ++ (authority_aces ++ pin_aces ++ range_aces ++ mbr_aces))))

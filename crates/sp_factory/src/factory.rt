@@ -1,21 +1,55 @@
+//! The tables of a new drive, row by row.
+
 ghost use Rattle.std.specs.Prelude.{◌≡◌, ◌+◌, ◌<◌, ◌≤◌, ◌^◌, [], ◌∷◌, ◌++◌, IfOk, OnOk, string_bytes, map};
 ghost use Rattle.std.specs.List.{flat_map};
 ghost use Rattle.sp_cells.specs.declared.cells.Element.TheVariants as elements;
-ghost use Rattle.sp_cells.specs.Names.{uid, col, entry_uid, user_entry_base, read_entry_base, read_entry_uid, write_entry_base, write_entry_uid};
+ghost use Rattle.sp_cells.specs.Names.{user_ace_base, read_locked_ace_base, ace_range_set_read_locked, write_locked_ace_base, ace_range_set_write_locked};
 ghost use Rattle.sp_rows.specs.Items.{row_items, rows_from};
 ghost use Rattle.sp_rows.specs.Runs.{run_items};
-ghost use Rattle.sp_rows.specs.Columns.{sp_columns, authority_columns, pin_columns, range_columns, mbr_control_columns, entry_columns};
-ghost use Rattle.sp_factory.specs.Factory.{new_entry, family, user_entry, read_entry, write_entry, admin_sps, admin_authorities, admin_pins, admin_entries, locking_authorities, locking_pins, locking_ranges, locking_mbr_controls, authority_entries, pin_entries, range_entries, mbr_entries, admin_factory, locking_factory};
+ghost use Rattle.sp_rows.specs.Halves.{half_items};
+ghost use Rattle.sp_rows.specs.Columns.{sp_columns, authority_columns, c_pin_columns, locking_columns, mbr_control_columns, ace_columns};
+ghost use Rattle.sp_factory.specs.Factory.{HasRows, AddsRows, ace_row, family, user_ace, read_locked_ace, write_locked_ace, admin_sps, admin_authorities, admin_pins, admin_aces, locking_authorities, locking_pins, locking_ranges, locking_mbr_controls, authority_aces, pin_aces, range_aces, mbr_aces, admin_factory, locking_factory};
 
 use crate::families::{
-    admin_pin_rows, admin_rows, entry_of, range_rows, read_entry_row, read_entry_rows,
-    user_entry_rows, user_pin_rows, user_rows, write_entry_row, write_entry_rows,
+    admin_pin_rows, admin_rows, range_rows, read_locked_ace_row, read_locked_ace_rows,
+    user_ace_rows, user_pin_rows, user_rows, write_locked_ace_row, write_locked_ace_rows,
 };
-use crate::new_rows::{entry, group, mbr_control, member, only, pin, push_row, range, sp_row};
+use crate::new_rows::{ace, group, mbr_control, member, only, pin, push_row, range, sp_row};
 use sp_cells::limits::{MANUFACTURED, MANUFACTURED_INACTIVE, NEW_TRY_LIMIT, NO_TRY_LIMIT};
 use sp_cells::{Column, RANGES, USERS, Uid};
-use sp_rows::{AuthorityRow, EntryRow, MbrControlRow, PinRow, RangeRow, Row, Run, SpRow, SpTables};
+use sp_rows::{
+    AceRow, AuthorityRow, CPinRow, LockingRow, MbrControlRow, Row, Run, SpRow, SpTables,
+};
 use std::alloc::{AllocError, Global};
+
+/// The columns of a C_PIN row but for its names and the PIN.
+const BUT_PIN: [Column; 5] = [
+    Column::UID,
+    Column::CHAR_SET,
+    Column::TRY_LIMIT,
+    Column::TRIES,
+    Column::PERSISTENCE,
+];
+
+/// The columns that lock a range.
+const LOCKS: [Column; 5] = [
+    Column::READ_LOCK_ENABLED,
+    Column::WRITE_LOCK_ENABLED,
+    Column::READ_LOCKED,
+    Column::WRITE_LOCKED,
+    Column::LOCK_ON_RESET,
+];
+
+/// The columns that place a range and lock it.
+const PLACE_AND_LOCKS: [Column; 7] = [
+    Column::RANGE_START,
+    Column::RANGE_LENGTH,
+    Column::READ_LOCK_ENABLED,
+    Column::WRITE_LOCK_ENABLED,
+    Column::READ_LOCKED,
+    Column::WRITE_LOCKED,
+    Column::LOCK_ON_RESET,
+];
 
 /// Adds rows whose names follow one another.
 #[tactic(auto, using(crate::proofs::FamilyLemmas::pushing))]
@@ -24,7 +58,7 @@ fn push_run<R: Row + Drop>(
     first: Uid,
     rows: Vec<R>,
 ) -> Result<(), AllocError>
-    ensures { OnOk result (flat_map (run_items R.held) runs.new.items ≡ flat_map (run_items R.held) runs.old.items ++ rows_from R.held first.0 rows.items) }
+    ensures { OnOk result (AddsRows R.held runs.old.items runs.new.items (rows_from R.held first.0 rows.items)) }
 {
     push_row(runs, Run { first, rows })?;
     Ok(())
@@ -38,7 +72,7 @@ fn push_one<R: Row + Drop>(
     object: Uid,
     row: R,
 ) -> Result<(), AllocError>
-    ensures { OnOk result (flat_map (run_items R.held) runs.new.items ≡ flat_map (run_items R.held) runs.old.items ++ row_items object (R.held row)) }
+    ensures { OnOk result (AddsRows R.held runs.old.items runs.new.items (row_items object (R.held row))) }
 {
     let mut rows = Vec::with_capacity(alloc, 1)?;
     push_row(&mut rows, row)?;
@@ -46,28 +80,26 @@ fn push_one<R: Row + Drop>(
     Ok(())
 }
 
-/// Adds an access entry that one authority, or one class, fulfils.
-fn push_entry(
+/// Adds an ACE that one authority, or one class, fulfils.
+fn push_ace(
     alloc: Global,
-    runs: &mut Vec<Run<EntryRow>>,
-    number: u64,
+    runs: &mut Vec<Run<AceRow>>,
+    uid: Uid,
     name: &str,
     authority: Uid,
     columns: &[Column],
 ) -> Result<(), AllocError>
-    requires { number < 2 ^ 32 }
-    ensures { OnOk result (flat_map (run_items entry_columns) runs.new.items ≡ flat_map (run_items entry_columns) runs.old.items ++ row_items (entry_uid number) (new_entry (entry_uid number) name.now (elements.Authority authority ∷ []) columns.now)) }
+    ensures { OnOk result (AddsRows ace_columns runs.old.items runs.new.items (ace_row uid name.now authority columns.now)) }
 {
     let name = String::from_str(alloc, name)?;
     let expr = only(alloc, authority)?;
-    let row = entry(alloc, entry_of(number), name, expr, columns)?;
-    push_one(alloc, runs, entry_of(number), row)?;
+    push_one(alloc, runs, uid, ace(alloc, uid, name, expr, columns)?)?;
     Ok(())
 }
 
 #[tactic(auto, unfolding(crate::specs::Factory::admin_sps))]
 fn admin_sps_made(alloc: Global) -> Result<Vec<Run<SpRow>>, AllocError>
-    ensures { IfOk result (λ runs. flat_map (run_items sp_columns) runs.items ≡ admin_sps) }
+    ensures { IfOk result (λ runs. HasRows sp_columns runs.items admin_sps) }
 {
     let mut runs = Vec::new(alloc);
     let admin = String::from_str(alloc, "Admin")?;
@@ -89,7 +121,7 @@ fn admin_sps_made(alloc: Global) -> Result<Vec<Run<SpRow>>, AllocError>
 
 #[tactic(auto, unfolding(crate::specs::Factory::admin_authorities))]
 fn admin_authorities_made(alloc: Global) -> Result<Vec<Run<AuthorityRow>>, AllocError>
-    ensures { IfOk result (λ runs. flat_map (run_items authority_columns) runs.items ≡ admin_authorities) }
+    ensures { IfOk result (λ runs. HasRows authority_columns runs.items admin_authorities) }
 {
     let mut runs = Vec::new(alloc);
     let anybody = String::from_str(alloc, "Anybody")?;
@@ -107,7 +139,7 @@ fn admin_authorities_made(alloc: Global) -> Result<Vec<Run<AuthorityRow>>, Alloc
 
 #[tactic(auto, unfolding(crate::specs::Factory::locking_authorities))]
 fn locking_authorities_made(alloc: Global) -> Result<Vec<Run<AuthorityRow>>, AllocError>
-    ensures { IfOk result (λ runs. flat_map (run_items authority_columns) runs.items ≡ locking_authorities) }
+    ensures { IfOk result (λ runs. HasRows authority_columns runs.items locking_authorities) }
 {
     let mut runs = Vec::new(alloc);
     let anybody = String::from_str(alloc, "Anybody")?;
@@ -137,8 +169,8 @@ fn locking_authorities_made(alloc: Global) -> Result<Vec<Run<AuthorityRow>>, All
 }
 
 #[tactic(auto, unfolding(crate::specs::Factory::admin_pins))]
-fn admin_pins_made(alloc: Global, msid: &[u8]) -> Result<Vec<Run<PinRow>>, AllocError>
-    ensures { IfOk result (λ runs. flat_map (run_items pin_columns) runs.items ≡ admin_pins msid.now) }
+fn admin_pins_made(alloc: Global, msid: &[u8]) -> Result<Vec<Run<CPinRow>>, AllocError>
+    ensures { IfOk result (λ runs. HasRows c_pin_columns runs.items (admin_pins msid.now)) }
 {
     let mut runs = Vec::new(alloc);
     let sid = String::from_str(alloc, "C_PIN_SID")?;
@@ -151,8 +183,8 @@ fn admin_pins_made(alloc: Global, msid: &[u8]) -> Result<Vec<Run<PinRow>>, Alloc
 }
 
 #[tactic(auto, unfolding(crate::specs::Factory::locking_pins))]
-fn locking_pins_made(alloc: Global) -> Result<Vec<Run<PinRow>>, AllocError>
-    ensures { IfOk result (λ runs. flat_map (run_items pin_columns) runs.items ≡ locking_pins) }
+fn locking_pins_made(alloc: Global) -> Result<Vec<Run<CPinRow>>, AllocError>
+    ensures { IfOk result (λ runs. HasRows c_pin_columns runs.items locking_pins) }
 {
     let mut runs = Vec::new(alloc);
     push_run(&mut runs, Uid::pin_of_admin(1), admin_pin_rows(alloc)?)?;
@@ -161,8 +193,8 @@ fn locking_pins_made(alloc: Global) -> Result<Vec<Run<PinRow>>, AllocError>
 }
 
 #[tactic(auto, unfolding(crate::specs::Factory::locking_ranges))]
-fn locking_ranges_made(alloc: Global) -> Result<Vec<Run<RangeRow>>, AllocError>
-    ensures { IfOk result (λ runs. flat_map (run_items range_columns) runs.items ≡ locking_ranges) }
+fn locking_ranges_made(alloc: Global) -> Result<Vec<Run<LockingRow>>, AllocError>
+    ensures { IfOk result (λ runs. HasRows locking_columns runs.items locking_ranges) }
 {
     let mut runs = Vec::new(alloc);
     let global = String::from_str(alloc, "Locking_GlobalRange")?;
@@ -178,7 +210,7 @@ fn locking_ranges_made(alloc: Global) -> Result<Vec<Run<RangeRow>>, AllocError>
 
 #[tactic(auto, unfolding(crate::specs::Factory::locking_mbr_controls))]
 fn mbr_controls_made(alloc: Global) -> Result<Vec<Run<MbrControlRow>>, AllocError>
-    ensures { IfOk result (λ runs. flat_map (run_items mbr_control_columns) runs.items ≡ locking_mbr_controls) }
+    ensures { IfOk result (λ runs. HasRows mbr_control_columns runs.items locking_mbr_controls) }
 {
     let mut runs = Vec::new(alloc);
     push_one(
@@ -190,194 +222,222 @@ fn mbr_controls_made(alloc: Global) -> Result<Vec<Run<MbrControlRow>>, AllocErro
     Ok(runs)
 }
 
-#[tactic(auto, unfolding(crate::specs::Factory::admin_entries))]
-fn admin_entries_made(alloc: Global) -> Result<Vec<Run<EntryRow>>, AllocError>
-    ensures { IfOk result (λ runs. flat_map (run_items entry_columns) runs.items ≡ admin_entries) }
+#[tactic(auto, unfolding(crate::specs::Factory::admin_aces))]
+fn admin_aces_made(alloc: Global) -> Result<Vec<Run<AceRow>>, AllocError>
+    ensures { IfOk result (λ runs. HasRows ace_columns runs.items admin_aces) }
 {
     let mut runs = Vec::new(alloc);
-    push_entry(alloc, &mut runs, 1, "Anybody", Uid::ANYBODY, &[])?;
-    let but_pin = [Column(0), Column(4), Column(5), Column(6), Column(7)];
-    push_entry(
+    push_ace(
         alloc,
         &mut runs,
-        0x8c02,
+        Uid::ACE_ANYBODY,
+        "Anybody",
+        Uid::ANYBODY,
+        &[],
+    )?;
+    push_ace(
+        alloc,
+        &mut runs,
+        Uid::ACE_C_PIN_SID_GET_NOPIN,
         "C_PIN_SID_Get_NOPIN",
         Uid::SID,
-        &but_pin,
+        &BUT_PIN,
     )?;
-    push_entry(
+    push_ace(
         alloc,
         &mut runs,
-        0x8c03,
+        Uid::ACE_C_PIN_SID_SET_PIN,
         "C_PIN_SID_Set_PIN",
         Uid::SID,
-        &[Column(3)],
+        &[Column::PIN],
     )?;
-    push_entry(
+    push_ace(
         alloc,
         &mut runs,
-        0x8c04,
+        Uid::ACE_C_PIN_MSID_GET_PIN,
         "C_PIN_MSID_Get_PIN",
         Uid::ANYBODY,
-        &[Column(0), Column(3)],
+        &[Column::UID, Column::PIN],
     )?;
-    push_entry(alloc, &mut runs, 0x3_0002, "SP_SID", Uid::SID, &[])?;
+    push_ace(alloc, &mut runs, Uid::ACE_SP_SID, "SP_SID", Uid::SID, &[])?;
     Ok(runs)
 }
 
-/// Adds the entries on authorities, entries and the tables as a whole.
-#[tactic(auto, using(crate::proofs::FamilyLemmas::pushing), unfolding(crate::specs::Factory::authority_entries))]
-fn push_authority_entries(alloc: Global, runs: &mut Vec<Run<EntryRow>>) -> Result<(), AllocError>
-    ensures { OnOk result (flat_map (run_items entry_columns) runs.new.items ≡ flat_map (run_items entry_columns) runs.old.items ++ authority_entries) }
+/// Adds the ACEs on authorities, ACEs and the tables as a whole.
+#[tactic(auto, using(crate::proofs::FamilyLemmas::pushing), unfolding(crate::specs::Factory::authority_aces))]
+fn push_authority_aces(alloc: Global, runs: &mut Vec<Run<AceRow>>) -> Result<(), AllocError>
+    ensures { OnOk result (AddsRows ace_columns runs.old.items runs.new.items authority_aces) }
 {
-    push_entry(alloc, runs, 1, "Anybody", Uid::ANYBODY, &[])?;
-    push_entry(alloc, runs, 2, "Admins", Uid::ADMINS, &[])?;
-    push_entry(
+    push_ace(alloc, runs, Uid::ACE_ANYBODY, "Anybody", Uid::ANYBODY, &[])?;
+    push_ace(alloc, runs, Uid::ACE_ADMINS, "Admins", Uid::ADMINS, &[])?;
+    push_ace(
         alloc,
         runs,
-        3,
+        Uid::ACE_ANYBODY_GET_COMMON_NAME,
         "Anybody_Get_CommonName",
         Uid::ANYBODY,
-        &[Column(0), Column(2)],
+        &[Column::UID, Column::COMMON_NAME],
     )?;
-    push_entry(
+    push_ace(
         alloc,
         runs,
-        0x3_8001,
+        Uid::ACE_ACE_SET_BOOLEAN_EXPRESSION,
         "ACE_Set_BooleanExpr",
         Uid::ADMINS,
-        &[Column(3)],
+        &[Column::BOOLEAN_EXPR],
     )?;
-    push_entry(
+    push_ace(
         alloc,
         runs,
-        0x3_9001,
+        Uid::ACE_AUTHORITY_SET_ENABLED,
         "Authority_Set_Enabled",
         Uid::ADMINS,
-        &[Column(5)],
+        &[Column::ENABLED],
     )?;
     Ok(())
 }
 
-/// Adds the entries on the Users' PINs.
-fn push_user_entries(alloc: Global, runs: &mut Vec<Run<EntryRow>>) -> Result<(), AllocError>
-    ensures { OnOk result (flat_map (run_items entry_columns) runs.new.items ≡ flat_map (run_items entry_columns) runs.old.items ++ family user_entry_base user_entry USERS) }
+/// Adds the ACEs on the Users' PINs.
+fn push_user_aces(alloc: Global, runs: &mut Vec<Run<AceRow>>) -> Result<(), AllocError>
+    ensures { OnOk result (AddsRows ace_columns runs.old.items runs.new.items (family user_ace_base user_ace USERS)) }
 {
-    push_run(runs, entry_of(0x3_a801), user_entry_rows(alloc)?)?;
+    push_run(runs, Uid::ace_c_pin_user_set_pin(1), user_ace_rows(alloc)?)?;
     Ok(())
 }
 
-/// Adds the entries on the ReadLocked flags.
-fn push_read_entries(alloc: Global, runs: &mut Vec<Run<EntryRow>>) -> Result<(), AllocError>
-    ensures { OnOk result (flat_map (run_items entry_columns) runs.new.items ≡ flat_map (run_items entry_columns) runs.old.items ++ row_items (read_entry_uid 0) (read_entry 0) ++ family read_entry_base read_entry RANGES) }
+/// Adds the ACEs on the ReadLocked flags.
+fn push_read_locked_aces(alloc: Global, runs: &mut Vec<Run<AceRow>>) -> Result<(), AllocError>
+    ensures { OnOk result (AddsRows ace_columns runs.old.items runs.new.items (row_items (ace_range_set_read_locked 0) (read_locked_ace 0) ++ family read_locked_ace_base read_locked_ace RANGES)) }
 {
-    push_one(alloc, runs, entry_of(0x3_e000), read_entry_row(alloc, 0)?)?;
-    push_run(runs, entry_of(0x3_e001), read_entry_rows(alloc)?)?;
-    Ok(())
-}
-
-/// Adds the entries on the WriteLocked flags.
-fn push_write_entries(alloc: Global, runs: &mut Vec<Run<EntryRow>>) -> Result<(), AllocError>
-    ensures { OnOk result (flat_map (run_items entry_columns) runs.new.items ≡ flat_map (run_items entry_columns) runs.old.items ++ row_items (write_entry_uid 0) (write_entry 0) ++ family write_entry_base write_entry RANGES) }
-{
-    push_one(alloc, runs, entry_of(0x3_e800), write_entry_row(alloc, 0)?)?;
-    push_run(runs, entry_of(0x3_e801), write_entry_rows(alloc)?)?;
-    Ok(())
-}
-
-/// Adds the entries on C_PIN rows.
-#[tactic(auto, using(crate::proofs::FamilyLemmas::pushing), unfolding(crate::specs::Factory::pin_entries))]
-fn push_pin_entries(alloc: Global, runs: &mut Vec<Run<EntryRow>>) -> Result<(), AllocError>
-    ensures { OnOk result (flat_map (run_items entry_columns) runs.new.items ≡ flat_map (run_items entry_columns) runs.old.items ++ pin_entries) }
-{
-    let but_pin = [Column(0), Column(4), Column(5), Column(6), Column(7)];
-    push_entry(
+    push_one(
         alloc,
         runs,
-        0x3_a000,
+        Uid::ace_range_set_read_locked(0),
+        read_locked_ace_row(alloc, 0)?,
+    )?;
+    push_run(
+        runs,
+        Uid::ace_range_set_read_locked(1),
+        read_locked_ace_rows(alloc)?,
+    )?;
+    Ok(())
+}
+
+/// Adds the ACEs on the WriteLocked flags.
+fn push_write_locked_aces(alloc: Global, runs: &mut Vec<Run<AceRow>>) -> Result<(), AllocError>
+    ensures { OnOk result (AddsRows ace_columns runs.old.items runs.new.items (row_items (ace_range_set_write_locked 0) (write_locked_ace 0) ++ family write_locked_ace_base write_locked_ace RANGES)) }
+{
+    push_one(
+        alloc,
+        runs,
+        Uid::ace_range_set_write_locked(0),
+        write_locked_ace_row(alloc, 0)?,
+    )?;
+    push_run(
+        runs,
+        Uid::ace_range_set_write_locked(1),
+        write_locked_ace_rows(alloc)?,
+    )?;
+    Ok(())
+}
+
+/// Adds the ACEs on C_PIN rows.
+#[tactic(auto, using(crate::proofs::FamilyLemmas::pushing), unfolding(crate::specs::Factory::pin_aces))]
+fn push_pin_aces(alloc: Global, runs: &mut Vec<Run<AceRow>>) -> Result<(), AllocError>
+    ensures { OnOk result (AddsRows ace_columns runs.old.items runs.new.items pin_aces) }
+{
+    push_ace(
+        alloc,
+        runs,
+        Uid::ACE_C_PIN_ADMINS_GET_ALL_NOPIN,
         "C_PIN_Get_NOPIN",
         Uid::ADMINS,
-        &but_pin,
+        &BUT_PIN,
     )?;
-    push_entry(
+    push_ace(
         alloc,
         runs,
-        0x3_a001,
+        Uid::ACE_C_PIN_ADMINS_SET_PIN,
         "C_PIN_Admins_Set_PIN",
         Uid::ADMINS,
-        &[Column(3)],
+        &[Column::PIN],
     )?;
-    push_user_entries(alloc, runs)?;
+    push_user_aces(alloc, runs)?;
     Ok(())
 }
 
-/// Adds the entries on ranges.
-#[tactic(auto, using(crate::proofs::FamilyLemmas::pushing), unfolding(crate::specs::Factory::range_entries))]
-fn push_range_entries(alloc: Global, runs: &mut Vec<Run<EntryRow>>) -> Result<(), AllocError>
-    ensures { OnOk result (flat_map (run_items entry_columns) runs.new.items ≡ flat_map (run_items entry_columns) runs.old.items ++ range_entries) }
+/// Adds the ACEs on ranges.
+#[tactic(auto, using(crate::proofs::FamilyLemmas::pushing), unfolding(crate::specs::Factory::range_aces))]
+fn push_range_aces(alloc: Global, runs: &mut Vec<Run<AceRow>>) -> Result<(), AllocError>
+    ensures { OnOk result (AddsRows ace_columns runs.old.items runs.new.items range_aces) }
 {
-    let all = [
-        Column(3),
-        Column(4),
-        Column(5),
-        Column(6),
-        Column(7),
-        Column(8),
-        Column(9),
-    ];
-    let locks = [Column(5), Column(6), Column(7), Column(8), Column(9)];
-    push_entry(alloc, runs, 0x3_d000, "Locking_Get", Uid::ADMINS, &all)?;
-    push_read_entries(alloc, runs)?;
-    push_write_entries(alloc, runs)?;
-    push_entry(
+    push_ace(
         alloc,
         runs,
-        0x3_f000,
+        Uid::ACE_LOCKING_GET_ALL,
+        "Locking_Get",
+        Uid::ADMINS,
+        &PLACE_AND_LOCKS,
+    )?;
+    push_read_locked_aces(alloc, runs)?;
+    push_write_locked_aces(alloc, runs)?;
+    push_ace(
+        alloc,
+        runs,
+        Uid::ACE_LOCKING_GLOBAL_RANGE_ADMINS_SET,
         "Locking_Global_Set",
         Uid::ADMINS,
-        &locks,
+        &LOCKS,
     )?;
-    push_entry(
+    push_ace(
         alloc,
         runs,
-        0x3_f001,
+        Uid::ACE_LOCKING_ADMINS_SET,
         "Locking_Range_Set",
         Uid::ADMINS,
-        &all,
+        &PLACE_AND_LOCKS,
     )?;
     Ok(())
 }
 
-/// Adds the entries on the shadow MBR.
-#[tactic(auto, using(crate::proofs::FamilyLemmas::pushing), unfolding(crate::specs::Factory::mbr_entries))]
-fn push_mbr_entries(alloc: Global, runs: &mut Vec<Run<EntryRow>>) -> Result<(), AllocError>
-    ensures { OnOk result (flat_map (run_items entry_columns) runs.new.items ≡ flat_map (run_items entry_columns) runs.old.items ++ mbr_entries) }
+/// Adds the ACEs on the shadow MBR.
+#[tactic(auto, using(crate::proofs::FamilyLemmas::pushing), unfolding(crate::specs::Factory::mbr_aces))]
+fn push_mbr_aces(alloc: Global, runs: &mut Vec<Run<AceRow>>) -> Result<(), AllocError>
+    ensures { OnOk result (AddsRows ace_columns runs.old.items runs.new.items mbr_aces) }
 {
-    let all = [Column(1), Column(2), Column(3)];
-    push_entry(alloc, runs, 0x3_f800, "MBRControl_Set", Uid::ADMINS, &all)?;
-    push_entry(
+    push_ace(
         alloc,
         runs,
-        0x3_f801,
+        Uid::ACE_MBR_CONTROL_ADMINS_SET,
+        "MBRControl_Set",
+        Uid::ADMINS,
+        &[
+            Column::MBR_ENABLE,
+            Column::MBR_DONE,
+            Column::MBR_DONE_ON_RESET,
+        ],
+    )?;
+    push_ace(
+        alloc,
+        runs,
+        Uid::ACE_MBR_CONTROL_SET_DONE_TO_DOR,
         "MBRControl_Set_DoneToDOR",
         Uid::ADMINS,
-        &[Column(2), Column(3)],
+        &[Column::MBR_DONE, Column::MBR_DONE_ON_RESET],
     )?;
     Ok(())
 }
 
-fn locking_entries_made(alloc: Global) -> Result<Vec<Run<EntryRow>>, AllocError>
-    ensures { IfOk result (λ runs. flat_map (run_items entry_columns) runs.items ≡ authority_entries ++ pin_entries ++ range_entries ++ mbr_entries) }
+fn locking_aces_made(alloc: Global) -> Result<Vec<Run<AceRow>>, AllocError>
+    ensures { IfOk result (λ runs. HasRows ace_columns runs.items (authority_aces ++ pin_aces ++ range_aces ++ mbr_aces)) }
 {
     let mut runs = Vec::new(alloc);
-    push_authority_entries(alloc, &mut runs)?;
-    push_pin_entries(alloc, &mut runs)?;
-    push_range_entries(alloc, &mut runs)?;
-    push_mbr_entries(alloc, &mut runs)?;
+    push_authority_aces(alloc, &mut runs)?;
+    push_pin_aces(alloc, &mut runs)?;
+    push_range_aces(alloc, &mut runs)?;
+    push_mbr_aces(alloc, &mut runs)?;
     Ok(runs)
 }
-
-ghost use Rattle.sp_rows.specs.Halves.{half_items};
 
 /// The tables of a new Admin SP.
 pub fn new_admin_sp(alloc: Global, msid: &[u8]) -> Result<SpTables, AllocError>
@@ -389,7 +449,7 @@ pub fn new_admin_sp(alloc: Global, msid: &[u8]) -> Result<SpTables, AllocError>
         pins: admin_pins_made(alloc, msid)?,
         ranges: Vec::new(alloc),
         mbr_controls: Vec::new(alloc),
-        entries: admin_entries_made(alloc)?,
+        aces: admin_aces_made(alloc)?,
     })
 }
 
@@ -403,6 +463,6 @@ pub fn new_locking_sp(alloc: Global) -> Result<SpTables, AllocError>
         pins: locking_pins_made(alloc)?,
         ranges: locking_ranges_made(alloc)?,
         mbr_controls: mbr_controls_made(alloc)?,
-        entries: locking_entries_made(alloc)?,
+        aces: locking_aces_made(alloc)?,
     })
 }

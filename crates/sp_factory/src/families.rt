@@ -1,22 +1,16 @@
-ghost use Rattle.std.specs.Prelude.{◌≡◌, ◌+◌, ◌<◌, ◌≤◌, ◌^◌, [], ◌∷◌, ◌++◌, IfOk, OnOk, Ok, string_bytes};
-ghost use Rattle.sp_cells.specs.Names.{admin_base, user_base, admin_pin_base, user_pin_base, range_base, entry_uid, user_entry_base, read_entry_base, write_entry_base};
-ghost use Rattle.sp_rows.specs.Items.{rows_from};
-ghost use Rattle.sp_rows.specs.Columns.{authority_columns, pin_columns, range_columns, entry_columns};
-ghost use Rattle.sp_factory.specs.Factory.{family, IsFamilyOf, admin_authority, user_authority, admin_pin, user_pin, numbered_range, user_entry, read_entry, write_entry};
+//! The rows that come in families: of Admins, Users and numbered ranges.
 
-use crate::new_rows::{either, entry, member, only, pin, push_row, range};
+ghost use Rattle.std.specs.Prelude.{◌≡◌, ◌+◌, ◌<◌, ◌≤◌, ◌^◌, [], ◌∷◌, ◌++◌, IfOk, OnOk, Ok, string_bytes};
+ghost use Rattle.sp_cells.specs.Names.{admin_base, user_base, admin_pin_base, user_pin_base, range_base, user_ace_base, read_locked_ace_base, write_locked_ace_base};
+ghost use Rattle.sp_rows.specs.Items.{rows_from};
+ghost use Rattle.sp_rows.specs.Columns.{authority_columns, c_pin_columns, locking_columns, ace_columns};
+ghost use Rattle.sp_factory.specs.Factory.{family, IsFamilyOf, admin_authority, user_authority, admin_pin, user_pin, numbered_range, user_ace, read_locked_ace, write_locked_ace};
+
+use crate::new_rows::{ace, either, member, only, pin, push_row, range};
 use sp_cells::limits::NEW_TRY_LIMIT;
 use sp_cells::{ADMINS, Column, RANGES, USERS, Uid};
-use sp_rows::{AuthorityRow, EntryRow, PinRow, RangeRow, Row};
+use sp_rows::{AceRow, AuthorityRow, CPinRow, LockingRow, Row};
 use std::alloc::{AllocError, Global};
-
-/// An access entry by its number.
-pub fn entry_of(number: u64) -> Uid
-    requires { number < 2 ^ 32 }
-    ensures { result ≡ entry_uid number }
-{
-    Uid(0x0000_0008_0000_0000 + number)
-}
 
 /// The rows of the numbers 1 to `count`.
 fn numbered<R: Row + Drop, F: Fn(Global, u8) -> Result<R, AllocError>>(
@@ -82,8 +76,8 @@ pub fn user_rows(alloc: Global) -> Result<Vec<AuthorityRow>, AllocError>
 }
 
 /// The empty PIN of an Admin.
-fn admin_pin_row(alloc: Global, n: u8) -> Result<PinRow, AllocError>
-    ensures { IfOk result (λ r. pin_columns r ≡ admin_pin n) }
+fn admin_pin_row(alloc: Global, n: u8) -> Result<CPinRow, AllocError>
+    ensures { IfOk result (λ r. c_pin_columns r ≡ admin_pin n) }
 {
     let name = format!(in alloc; "C_PIN_Admin{n}")?;
     let row = pin(alloc, Uid::pin_of_admin(n), name, &[], NEW_TRY_LIMIT)?;
@@ -91,16 +85,16 @@ fn admin_pin_row(alloc: Global, n: u8) -> Result<PinRow, AllocError>
 }
 
 /// All of them, by number.
-pub fn admin_pin_rows(alloc: Global) -> Result<Vec<PinRow>, AllocError>
-    ensures { IfOk result (λ rows. rows_from pin_columns (admin_pin_base + 1) rows.items ≡ family admin_pin_base admin_pin ADMINS) }
+pub fn admin_pin_rows(alloc: Global) -> Result<Vec<CPinRow>, AllocError>
+    ensures { IfOk result (λ rows. rows_from c_pin_columns (admin_pin_base + 1) rows.items ≡ family admin_pin_base admin_pin ADMINS) }
 {
     let rows = numbered(alloc, ADMINS, admin_pin_row)?;
     Ok(rows)
 }
 
 /// The empty PIN of a User.
-fn user_pin_row(alloc: Global, n: u8) -> Result<PinRow, AllocError>
-    ensures { IfOk result (λ r. pin_columns r ≡ user_pin n) }
+fn user_pin_row(alloc: Global, n: u8) -> Result<CPinRow, AllocError>
+    ensures { IfOk result (λ r. c_pin_columns r ≡ user_pin n) }
 {
     let name = format!(in alloc; "C_PIN_User{n}")?;
     let row = pin(alloc, Uid::pin_of_user(n), name, &[], NEW_TRY_LIMIT)?;
@@ -108,97 +102,97 @@ fn user_pin_row(alloc: Global, n: u8) -> Result<PinRow, AllocError>
 }
 
 /// All of them, by number.
-pub fn user_pin_rows(alloc: Global) -> Result<Vec<PinRow>, AllocError>
-    ensures { IfOk result (λ rows. rows_from pin_columns (user_pin_base + 1) rows.items ≡ family user_pin_base user_pin USERS) }
+pub fn user_pin_rows(alloc: Global) -> Result<Vec<CPinRow>, AllocError>
+    ensures { IfOk result (λ rows. rows_from c_pin_columns (user_pin_base + 1) rows.items ≡ family user_pin_base user_pin USERS) }
 {
     let rows = numbered(alloc, USERS, user_pin_row)?;
     Ok(rows)
 }
 
 /// A numbered range.
-fn range_row(alloc: Global, n: u8) -> Result<RangeRow, AllocError>
-    ensures { IfOk result (λ r. range_columns r ≡ numbered_range n) }
+fn range_row(alloc: Global, n: u8) -> Result<LockingRow, AllocError>
+    ensures { IfOk result (λ r. locking_columns r ≡ numbered_range n) }
 {
     let name = format!(in alloc; "Locking_Range{n}")?;
-    Ok(range(alloc, Uid(0x0000_0802_0003_0000 + u64::from(n)), name))
+    Ok(range(alloc, Uid::range(n), name))
 }
 
 /// All of them, by number.
-pub fn range_rows(alloc: Global) -> Result<Vec<RangeRow>, AllocError>
-    ensures { IfOk result (λ rows. rows_from range_columns (range_base + 1) rows.items ≡ family range_base numbered_range RANGES) }
+pub fn range_rows(alloc: Global) -> Result<Vec<LockingRow>, AllocError>
+    ensures { IfOk result (λ rows. rows_from locking_columns (range_base + 1) rows.items ≡ family range_base numbered_range RANGES) }
 {
     let rows = numbered(alloc, RANGES, range_row)?;
     Ok(rows)
 }
 
 /// Who may set a User's PIN.
-fn user_entry_row(alloc: Global, n: u8) -> Result<EntryRow, AllocError>
-    ensures { IfOk result (λ r. entry_columns r ≡ user_entry n) }
+fn user_ace_row(alloc: Global, n: u8) -> Result<AceRow, AllocError>
+    ensures { IfOk result (λ r. ace_columns r ≡ user_ace n) }
 {
     let name = format!(in alloc; "C_PIN_User{n}_Set_PIN")?;
     let expr = either(alloc, Uid::ADMINS, Uid::user(n))?;
-    let row = entry(
+    let row = ace(
         alloc,
-        entry_of(0x3_a800 + u64::from(n)),
+        Uid::ace_c_pin_user_set_pin(n),
         name,
         expr,
-        &[Column(3)],
+        &[Column::PIN],
     )?;
     Ok(row)
 }
 
 /// All of them, by number.
-pub fn user_entry_rows(alloc: Global) -> Result<Vec<EntryRow>, AllocError>
-    ensures { IfOk result (λ rows. rows_from entry_columns (user_entry_base + 1) rows.items ≡ family user_entry_base user_entry USERS) }
+pub fn user_ace_rows(alloc: Global) -> Result<Vec<AceRow>, AllocError>
+    ensures { IfOk result (λ rows. rows_from ace_columns (user_ace_base + 1) rows.items ≡ family user_ace_base user_ace USERS) }
 {
-    let rows = numbered(alloc, USERS, user_entry_row)?;
+    let rows = numbered(alloc, USERS, user_ace_row)?;
     Ok(rows)
 }
 
 /// Who may set a range's ReadLocked flag.
-pub fn read_entry_row(alloc: Global, n: u8) -> Result<EntryRow, AllocError>
-    ensures { IfOk result (λ r. entry_columns r ≡ read_entry n) }
+pub fn read_locked_ace_row(alloc: Global, n: u8) -> Result<AceRow, AllocError>
+    ensures { IfOk result (λ r. ace_columns r ≡ read_locked_ace n) }
 {
     let name = format!(in alloc; "Range_{n}_Set_RdLocked")?;
     let expr = only(alloc, Uid::ADMINS)?;
-    let row = entry(
+    let row = ace(
         alloc,
-        entry_of(0x3_e000 + u64::from(n)),
+        Uid::ace_range_set_read_locked(n),
         name,
         expr,
-        &[Column(7)],
+        &[Column::READ_LOCKED],
     )?;
     Ok(row)
 }
 
 /// All of them, by number.
-pub fn read_entry_rows(alloc: Global) -> Result<Vec<EntryRow>, AllocError>
-    ensures { IfOk result (λ rows. rows_from entry_columns (read_entry_base + 1) rows.items ≡ family read_entry_base read_entry RANGES) }
+pub fn read_locked_ace_rows(alloc: Global) -> Result<Vec<AceRow>, AllocError>
+    ensures { IfOk result (λ rows. rows_from ace_columns (read_locked_ace_base + 1) rows.items ≡ family read_locked_ace_base read_locked_ace RANGES) }
 {
-    let rows = numbered(alloc, RANGES, read_entry_row)?;
+    let rows = numbered(alloc, RANGES, read_locked_ace_row)?;
     Ok(rows)
 }
 
 /// Who may set a range's WriteLocked flag.
-pub fn write_entry_row(alloc: Global, n: u8) -> Result<EntryRow, AllocError>
-    ensures { IfOk result (λ r. entry_columns r ≡ write_entry n) }
+pub fn write_locked_ace_row(alloc: Global, n: u8) -> Result<AceRow, AllocError>
+    ensures { IfOk result (λ r. ace_columns r ≡ write_locked_ace n) }
 {
     let name = format!(in alloc; "Range_{n}_Set_WrLocked")?;
     let expr = only(alloc, Uid::ADMINS)?;
-    let row = entry(
+    let row = ace(
         alloc,
-        entry_of(0x3_e800 + u64::from(n)),
+        Uid::ace_range_set_write_locked(n),
         name,
         expr,
-        &[Column(8)],
+        &[Column::WRITE_LOCKED],
     )?;
     Ok(row)
 }
 
 /// All of them, by number.
-pub fn write_entry_rows(alloc: Global) -> Result<Vec<EntryRow>, AllocError>
-    ensures { IfOk result (λ rows. rows_from entry_columns (write_entry_base + 1) rows.items ≡ family write_entry_base write_entry RANGES) }
+pub fn write_locked_ace_rows(alloc: Global) -> Result<Vec<AceRow>, AllocError>
+    ensures { IfOk result (λ rows. rows_from ace_columns (write_locked_ace_base + 1) rows.items ≡ family write_locked_ace_base write_locked_ace RANGES) }
 {
-    let rows = numbered(alloc, RANGES, write_entry_row)?;
+    let rows = numbered(alloc, RANGES, write_locked_ace_row)?;
     Ok(rows)
 }

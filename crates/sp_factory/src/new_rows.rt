@@ -1,16 +1,18 @@
+//! A new row of each table.
+
 ghost use Rattle.std.specs.Prelude.{◌≡◌, ◌+◌, ◌≤◌, ◌<◌, ◌^◌, [], ◌∷◌, ◌++◌, IfOk, OnOk, string_bytes, map, true, false};
 ghost use Rattle.std.specs.List.{flat_map};
 ghost use Rattle.sp_cells.specs.declared.cells.Cell.TheVariants as cells;
 ghost use Rattle.sp_cells.specs.declared.cells.Element.TheVariants as elements;
-ghost use Rattle.sp_cells.specs.Names.{uid, entry_uid};
+ghost use Rattle.sp_cells.specs.Names.{uid, ace_uid};
 ghost use Rattle.sp_rows.specs.Items.{row_items, rows_from};
 ghost use Rattle.sp_rows.specs.Runs.{run_items};
-ghost use Rattle.sp_rows.specs.Columns.{sp_columns, authority_columns, pin_columns, range_columns, mbr_control_columns, entry_columns};
-ghost use Rattle.sp_factory.specs.Factory.{new_sp, new_group, new_member, new_pin, new_range, new_mbr_control, new_entry};
+ghost use Rattle.sp_rows.specs.Columns.{sp_columns, authority_columns, c_pin_columns, locking_columns, mbr_control_columns, ace_columns};
+ghost use Rattle.sp_factory.specs.Factory.{new_sp, new_group, new_member, new_pin, new_range, new_mbr_control, new_ace};
 
 use arrayvec::ArrayVec;
 use sp_cells::{Bytes, Cell, Column, Columns, Element, Expr, ResetTypes, Uid};
-use sp_rows::{AuthorityRow, EntryRow, MbrControlRow, PinRow, RangeRow, Row, Run, SpRow};
+use sp_rows::{AceRow, AuthorityRow, CPinRow, LockingRow, MbrControlRow, Row, Run, SpRow};
 use std::alloc::{AllocError, Global};
 
 /// A name as a cell.
@@ -84,11 +86,11 @@ pub fn pin(
     name: String,
     secret: &[u8],
     limit: u64,
-) -> Result<PinRow, AllocError>
-    ensures { IfOk result (λ r. pin_columns r ≡ new_pin object (string_bytes name) secret.now limit) }
+) -> Result<CPinRow, AllocError>
+    ensures { IfOk result (λ r. c_pin_columns r ≡ new_pin object (string_bytes name) secret.now limit) }
 {
     let secret = secret.to_vec(alloc)?;
-    Ok(PinRow {
+    Ok(CPinRow {
         uid: Cell::Uid(object),
         name: text(name),
         common_name: no_text(alloc),
@@ -111,10 +113,10 @@ fn power_cycle_alone() -> Cell
 }
 
 /// A range that covers nothing, or the global range.
-pub fn range(alloc: Global, object: Uid, name: String) -> RangeRow
-    ensures { range_columns result ≡ new_range object (string_bytes name) }
+pub fn range(alloc: Global, object: Uid, name: String) -> LockingRow
+    ensures { locking_columns result ≡ new_range object (string_bytes name) }
 {
-    RangeRow {
+    LockingRow {
         uid: Cell::Uid(object),
         name: text(name),
         common_name: no_text(alloc),
@@ -140,18 +142,18 @@ pub fn mbr_control(object: Uid) -> MbrControlRow
     }
 }
 
-/// An access entry.
-pub fn entry(
+/// An ACE.
+pub fn ace(
     alloc: Global,
     object: Uid,
     name: String,
     expr: Expr,
     columns: &[Column],
-) -> Result<EntryRow, AllocError>
-    ensures { IfOk result (λ r. entry_columns r ≡ new_entry object (string_bytes name) expr columns.now) }
+) -> Result<AceRow, AllocError>
+    ensures { IfOk result (λ r. ace_columns r ≡ new_ace object (string_bytes name) expr columns.now) }
 {
     let columns = columns.to_vec(alloc)?;
-    Ok(EntryRow {
+    Ok(AceRow {
         uid: Cell::Uid(object),
         name: text(name),
         common_name: no_text(alloc),

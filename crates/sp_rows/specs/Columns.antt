@@ -4,32 +4,78 @@ use Rattle.sp_cells.specs.declared.names.Column.{Column}
 use Rattle.sp_cells.specs.declared.cells.Cell.{Cell}
 use Rattle.sp_rows.specs.declared.rows.SpRow.{SpRow}
 use Rattle.sp_rows.specs.declared.rows.AuthorityRow.{AuthorityRow}
-use Rattle.sp_rows.specs.declared.rows.PinRow.{PinRow}
-use Rattle.sp_rows.specs.declared.rows.RangeRow.{RangeRow}
+use Rattle.sp_rows.specs.declared.rows.CPinRow.{CPinRow}
+use Rattle.sp_rows.specs.declared.rows.LockingRow.{LockingRow}
 use Rattle.sp_rows.specs.declared.rows.MbrControlRow.{MbrControlRow}
-use Rattle.sp_rows.specs.declared.rows.EntryRow.{EntryRow}
-use Rattle.sp_cells.specs.Names.{col}
+use Rattle.sp_rows.specs.declared.rows.AceRow.{AceRow}
+use Rattle.sp_cells.specs.ColumnNames.{uid_column, name_column, common_name_column, life_cycle_state_column, pin_column, char_set_column, try_limit_column, tries_column, persistence_column}
+use Rattle.sp_cells.specs.ColumnNames.{is_class_column, class_column, enabled_column, operation_column, credential_column, boolean_expr_column, columns_column}
+use Rattle.sp_cells.specs.ColumnNames.{range_start_column, range_length_column, read_lock_enabled_column, write_lock_enabled_column, read_locked_column, write_locked_column, lock_on_reset_column, mbr_enable_column, mbr_done_column, mbr_done_on_reset_column}
 
 -- SP (Core 2.01, section 5.4, table SP)
 abbrev pub sp_columns : SpRow → List (Column × Cell)
-sp_columns r = (col 0, r.uid) ∷ (col 1, r.name) ∷ (col 6, r.life_cycle_state) ∷ []
+sp_columns r =
+    (uid_column, r.uid)
+    ∷ (name_column, r.name)
+    ∷ (life_cycle_state_column, r.life_cycle_state)
+    ∷ []
 
 -- Authority (Core 2.01, section 5.3, table Authority)
 abbrev pub authority_columns : AuthorityRow → List (Column × Cell)
-authority_columns r = (col 0, r.uid) ∷ (col 1, r.name) ∷ (col 2, r.common_name) ∷ (col 3, r.is_class) ∷ (col 4, r.class) ∷ (col 5, r.enabled) ∷ (col 9, r.operation) ∷ (col 10, r.credential) ∷ []
+authority_columns r =
+    (uid_column, r.uid)
+    ∷ (name_column, r.name)
+    ∷ (common_name_column, r.common_name)
+    ∷ (is_class_column, r.is_class)
+    ∷ (class_column, r.class)
+    ∷ (enabled_column, r.enabled)
+    ∷ (operation_column, r.operation)
+    ∷ (credential_column, r.credential)
+    ∷ []
 
 -- C_PIN (Core 2.01, section 5.3, table C_PIN)
-abbrev pub pin_columns : PinRow → List (Column × Cell)
-pin_columns r = (col 0, r.uid) ∷ (col 1, r.name) ∷ (col 2, r.common_name) ∷ (col 3, r.pin) ∷ (col 4, r.char_set) ∷ (col 5, r.try_limit) ∷ (col 6, r.tries) ∷ (col 7, r.persistence) ∷ []
+abbrev pub c_pin_columns : CPinRow → List (Column × Cell)
+c_pin_columns r =
+    (uid_column, r.uid)
+    ∷ (name_column, r.name)
+    ∷ (common_name_column, r.common_name)
+    ∷ (pin_column, r.pin)
+    ∷ (char_set_column, r.char_set)
+    ∷ (try_limit_column, r.try_limit)
+    ∷ (tries_column, r.tries)
+    ∷ (persistence_column, r.persistence)
+    ∷ []
 
 -- Locking (Core 2.01, section 5.7, table Locking)
-abbrev pub range_columns : RangeRow → List (Column × Cell)
-range_columns r = (col 0, r.uid) ∷ (col 1, r.name) ∷ (col 2, r.common_name) ∷ (col 3, r.start) ∷ (col 4, r.len) ∷ (col 5, r.read_lock_enabled) ∷ (col 6, r.write_lock_enabled) ∷ (col 7, r.read_locked) ∷ (col 8, r.write_locked) ∷ (col 9, r.lock_on_reset) ∷ []
+abbrev pub locking_columns : LockingRow → List (Column × Cell)
+locking_columns r =
+    (uid_column, r.uid)
+    ∷ (name_column, r.name)
+    ∷ (common_name_column, r.common_name)
+    ∷ (range_start_column, r.start)
+    ∷ (range_length_column, r.len)
+    ∷ (read_lock_enabled_column, r.read_lock_enabled)
+    ∷ (write_lock_enabled_column, r.write_lock_enabled)
+    ∷ (read_locked_column, r.read_locked)
+    ∷ (write_locked_column, r.write_locked)
+    ∷ (lock_on_reset_column, r.lock_on_reset)
+    ∷ []
 
 -- MBRControl (Core 2.01, section 5.7, table MBRControl)
 abbrev pub mbr_control_columns : MbrControlRow → List (Column × Cell)
-mbr_control_columns r = (col 0, r.uid) ∷ (col 1, r.enable) ∷ (col 2, r.done) ∷ (col 3, r.done_on_reset) ∷ []
+mbr_control_columns r =
+    (uid_column, r.uid)
+    ∷ (mbr_enable_column, r.enable)
+    ∷ (mbr_done_column, r.done)
+    ∷ (mbr_done_on_reset_column, r.done_on_reset)
+    ∷ []
 
 -- ACE (Core 2.01, section 5.3, table ACE)
-abbrev pub entry_columns : EntryRow → List (Column × Cell)
-entry_columns r = (col 0, r.uid) ∷ (col 1, r.name) ∷ (col 2, r.common_name) ∷ (col 3, r.boolean_expr) ∷ (col 4, r.columns) ∷ []
+abbrev pub ace_columns : AceRow → List (Column × Cell)
+ace_columns r =
+    (uid_column, r.uid)
+    ∷ (name_column, r.name)
+    ∷ (common_name_column, r.common_name)
+    ∷ (boolean_expr_column, r.boolean_expr)
+    ∷ (columns_column, r.columns)
+    ∷ []

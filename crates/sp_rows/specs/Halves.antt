@@ -4,14 +4,14 @@ use Rattle.std.specs.List.{flat_map}
 use Rattle.sp_rows.specs.declared.halves.SpTables.{SpTables}
 use Rattle.sp_rows.specs.Items.{Item}
 use Rattle.sp_rows.specs.Runs.{run_items}
-use Rattle.sp_rows.specs.Columns.{sp_columns, authority_columns, pin_columns, range_columns, mbr_control_columns, entry_columns}
+use Rattle.sp_rows.specs.Columns.{sp_columns, authority_columns, c_pin_columns, locking_columns, mbr_control_columns, ace_columns}
 
 -- table behind table
 abbrev pub half_items : SpTables → List Item
 half_items t =
     flat_map (run_items sp_columns) t.sps.items
     ++ (flat_map (run_items authority_columns) t.authorities.items
-    ++ (flat_map (run_items pin_columns) t.pins.items
-    ++ (flat_map (run_items range_columns) t.ranges.items
+    ++ (flat_map (run_items c_pin_columns) t.pins.items
+    ++ (flat_map (run_items locking_columns) t.ranges.items
     ++ (flat_map (run_items mbr_control_columns) t.mbr_controls.items
-    ++ flat_map (run_items entry_columns) t.entries.items))))
+    ++ flat_map (run_items ace_columns) t.aces.items))))

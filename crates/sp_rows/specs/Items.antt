@@ -5,7 +5,7 @@ use Rattle.sp_cells.specs.declared.names.Sp.{Sp}
 use Rattle.sp_cells.specs.declared.names.Column.{Column}
 use Rattle.sp_cells.specs.declared.cells.Cell.{Cell}
 use Rattle.sp_cells.specs.Names.{uid}
-use Rattle.sp_cells.specs.Flat.{Entry}
+use Rattle.sp_cells.specs.Flat.{PlacedCell}
 
 -- a cell of one SP with its place
 pub record Item : Type 0 where
@@ -14,7 +14,7 @@ pub record Item : Type 0 where
   pub value : Cell
 
 -- the cells with their SP
-abbrev pub on : Sp → List Item → List Entry
+abbrev pub on : Sp → List Item → List PlacedCell
 on sp items = map (λ i. record { sp = sp; object = i.object; column = i.column; value = i.value }) items
 
 -- the cell stands at this place

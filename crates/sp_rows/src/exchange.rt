@@ -1,3 +1,5 @@
+//! The exchange of cells of one object, which takes no memory.
+
 ghost use Rattle.std.specs.Prelude.{◌≡◌, ◌≤◌, ◌<◌, ◌+◌, ◌^◌, IfOk, map, unwrap_or};
 ghost use Rattle.sp_rows.specs.Items.{item_at, with_item, with_items, replaced};
 ghost use Rattle.sp_rows.specs.Halves.{half_items};

@@ -1,20 +1,22 @@
+//! The tables of one SP: one half of what a drive keeps.
+
 ghost use Rattle.std.specs.Prelude.{◌≡◌, option_copied, is_some, Some, IsTrue};
 ghost use Rattle.std.specs.Bool.{OnTrue, OnFalse};
 ghost use Rattle.sp_rows.specs.Items.{item_at, with_item};
 
-use crate::rows::{AuthorityRow, EntryRow, MbrControlRow, PinRow, RangeRow, SpRow};
+use crate::rows::{AceRow, AuthorityRow, CPinRow, LockingRow, MbrControlRow, SpRow};
 use crate::runs::{Run, find_cell, swap_in};
 use sp_cells::{Cell, Column, Uid};
 
-/// The tables of one SP. A table that the SP lacks is empty.
+/// The tables of one SP, each as runs of rows. A table that the SP lacks is empty.
 #[derive(Drop)]
 pub struct SpTables {
     pub sps: Vec<Run<SpRow>>,
     pub authorities: Vec<Run<AuthorityRow>>,
-    pub pins: Vec<Run<PinRow>>,
-    pub ranges: Vec<Run<RangeRow>>,
+    pub pins: Vec<Run<CPinRow>>,
+    pub ranges: Vec<Run<LockingRow>>,
     pub mbr_controls: Vec<Run<MbrControlRow>>,
-    pub entries: Vec<Run<EntryRow>>,
+    pub aces: Vec<Run<AceRow>>,
 }
 
 #[tactic(auto, using(crate::proofs::ItemLemmas::joined))]
@@ -40,7 +42,7 @@ impl SpTables {
         if let Some(cell) = find_cell(self.mbr_controls.as_slice(), object, column) {
             return Some(cell);
         }
-        find_cell(self.entries.as_slice(), object, column)
+        find_cell(self.aces.as_slice(), object, column)
     }
 
     /// Exchanges the cell at a place, where there is one.
@@ -55,6 +57,6 @@ impl SpTables {
             || swap_in(&mut self.pins, object, column, cell)
             || swap_in(&mut self.ranges, object, column, cell)
             || swap_in(&mut self.mbr_controls, object, column, cell)
-            || swap_in(&mut self.entries, object, column, cell)
+            || swap_in(&mut self.aces, object, column, cell)
     }
 }

@@ -1,3 +1,5 @@
+//! The rows of the tables: for each table of the standard a struct with its columns.
+
 ghost use Rattle.std.specs.Prelude.{◌≡◌, List, [], ◌∷◌, option_copied, is_some, Some};
 ghost use Rattle.std.specs.Bool.{OnTrue, OnFalse};
 ghost use Rattle.sp_cells.specs.declared.names.Column.{Column};
@@ -37,19 +39,19 @@ impl Row for SpRow {
     ghost held = { sp_columns };
 
     fn cell(&self, column: Column) -> Option<&Cell> {
-        match column.0 {
-            0 => Some(&self.uid),
-            1 => Some(&self.name),
-            6 => Some(&self.life_cycle_state),
+        match column {
+            Column::UID => Some(&self.uid),
+            Column::NAME => Some(&self.name),
+            Column::LIFE_CYCLE_STATE => Some(&self.life_cycle_state),
             _ => None,
         }
     }
 
     fn swap(&mut self, column: Column, cell: &mut Cell) -> bool {
-        match column.0 {
-            0 => mem::swap(&mut self.uid, cell),
-            1 => mem::swap(&mut self.name, cell),
-            6 => mem::swap(&mut self.life_cycle_state, cell),
+        match column {
+            Column::UID => mem::swap(&mut self.uid, cell),
+            Column::NAME => mem::swap(&mut self.name, cell),
+            Column::LIFE_CYCLE_STATE => mem::swap(&mut self.life_cycle_state, cell),
             _ => return false,
         }
         true
@@ -75,29 +77,29 @@ impl Row for AuthorityRow {
     ghost held = { authority_columns };
 
     fn cell(&self, column: Column) -> Option<&Cell> {
-        match column.0 {
-            0 => Some(&self.uid),
-            1 => Some(&self.name),
-            2 => Some(&self.common_name),
-            3 => Some(&self.is_class),
-            4 => Some(&self.class),
-            5 => Some(&self.enabled),
-            9 => Some(&self.operation),
-            10 => Some(&self.credential),
+        match column {
+            Column::UID => Some(&self.uid),
+            Column::NAME => Some(&self.name),
+            Column::COMMON_NAME => Some(&self.common_name),
+            Column::IS_CLASS => Some(&self.is_class),
+            Column::CLASS => Some(&self.class),
+            Column::ENABLED => Some(&self.enabled),
+            Column::OPERATION => Some(&self.operation),
+            Column::CREDENTIAL => Some(&self.credential),
             _ => None,
         }
     }
 
     fn swap(&mut self, column: Column, cell: &mut Cell) -> bool {
-        match column.0 {
-            0 => mem::swap(&mut self.uid, cell),
-            1 => mem::swap(&mut self.name, cell),
-            2 => mem::swap(&mut self.common_name, cell),
-            3 => mem::swap(&mut self.is_class, cell),
-            4 => mem::swap(&mut self.class, cell),
-            5 => mem::swap(&mut self.enabled, cell),
-            9 => mem::swap(&mut self.operation, cell),
-            10 => mem::swap(&mut self.credential, cell),
+        match column {
+            Column::UID => mem::swap(&mut self.uid, cell),
+            Column::NAME => mem::swap(&mut self.name, cell),
+            Column::COMMON_NAME => mem::swap(&mut self.common_name, cell),
+            Column::IS_CLASS => mem::swap(&mut self.is_class, cell),
+            Column::CLASS => mem::swap(&mut self.class, cell),
+            Column::ENABLED => mem::swap(&mut self.enabled, cell),
+            Column::OPERATION => mem::swap(&mut self.operation, cell),
+            Column::CREDENTIAL => mem::swap(&mut self.credential, cell),
             _ => return false,
         }
         true
@@ -106,7 +108,7 @@ impl Row for AuthorityRow {
 
 /// A row of the C_PIN table.
 #[derive(Drop)]
-pub struct PinRow {
+pub struct CPinRow {
     pub uid: Cell,
     pub name: Cell,
     pub common_name: Cell,
@@ -117,35 +119,35 @@ pub struct PinRow {
     pub persistence: Cell,
 }
 
-impl Row for PinRow {
-    ghost use Rattle.sp_rows.specs.Columns.{pin_columns};
+impl Row for CPinRow {
+    ghost use Rattle.sp_rows.specs.Columns.{c_pin_columns};
 
-    ghost held = { pin_columns };
+    ghost held = { c_pin_columns };
 
     fn cell(&self, column: Column) -> Option<&Cell> {
-        match column.0 {
-            0 => Some(&self.uid),
-            1 => Some(&self.name),
-            2 => Some(&self.common_name),
-            3 => Some(&self.pin),
-            4 => Some(&self.char_set),
-            5 => Some(&self.try_limit),
-            6 => Some(&self.tries),
-            7 => Some(&self.persistence),
+        match column {
+            Column::UID => Some(&self.uid),
+            Column::NAME => Some(&self.name),
+            Column::COMMON_NAME => Some(&self.common_name),
+            Column::PIN => Some(&self.pin),
+            Column::CHAR_SET => Some(&self.char_set),
+            Column::TRY_LIMIT => Some(&self.try_limit),
+            Column::TRIES => Some(&self.tries),
+            Column::PERSISTENCE => Some(&self.persistence),
             _ => None,
         }
     }
 
     fn swap(&mut self, column: Column, cell: &mut Cell) -> bool {
-        match column.0 {
-            0 => mem::swap(&mut self.uid, cell),
-            1 => mem::swap(&mut self.name, cell),
-            2 => mem::swap(&mut self.common_name, cell),
-            3 => mem::swap(&mut self.pin, cell),
-            4 => mem::swap(&mut self.char_set, cell),
-            5 => mem::swap(&mut self.try_limit, cell),
-            6 => mem::swap(&mut self.tries, cell),
-            7 => mem::swap(&mut self.persistence, cell),
+        match column {
+            Column::UID => mem::swap(&mut self.uid, cell),
+            Column::NAME => mem::swap(&mut self.name, cell),
+            Column::COMMON_NAME => mem::swap(&mut self.common_name, cell),
+            Column::PIN => mem::swap(&mut self.pin, cell),
+            Column::CHAR_SET => mem::swap(&mut self.char_set, cell),
+            Column::TRY_LIMIT => mem::swap(&mut self.try_limit, cell),
+            Column::TRIES => mem::swap(&mut self.tries, cell),
+            Column::PERSISTENCE => mem::swap(&mut self.persistence, cell),
             _ => return false,
         }
         true
@@ -154,7 +156,7 @@ impl Row for PinRow {
 
 /// A row of the Locking table: a range, or the global range.
 #[derive(Drop)]
-pub struct RangeRow {
+pub struct LockingRow {
     pub uid: Cell,
     pub name: Cell,
     pub common_name: Cell,
@@ -167,39 +169,39 @@ pub struct RangeRow {
     pub lock_on_reset: Cell,
 }
 
-impl Row for RangeRow {
-    ghost use Rattle.sp_rows.specs.Columns.{range_columns};
+impl Row for LockingRow {
+    ghost use Rattle.sp_rows.specs.Columns.{locking_columns};
 
-    ghost held = { range_columns };
+    ghost held = { locking_columns };
 
     fn cell(&self, column: Column) -> Option<&Cell> {
-        match column.0 {
-            0 => Some(&self.uid),
-            1 => Some(&self.name),
-            2 => Some(&self.common_name),
-            3 => Some(&self.start),
-            4 => Some(&self.len),
-            5 => Some(&self.read_lock_enabled),
-            6 => Some(&self.write_lock_enabled),
-            7 => Some(&self.read_locked),
-            8 => Some(&self.write_locked),
-            9 => Some(&self.lock_on_reset),
+        match column {
+            Column::UID => Some(&self.uid),
+            Column::NAME => Some(&self.name),
+            Column::COMMON_NAME => Some(&self.common_name),
+            Column::RANGE_START => Some(&self.start),
+            Column::RANGE_LENGTH => Some(&self.len),
+            Column::READ_LOCK_ENABLED => Some(&self.read_lock_enabled),
+            Column::WRITE_LOCK_ENABLED => Some(&self.write_lock_enabled),
+            Column::READ_LOCKED => Some(&self.read_locked),
+            Column::WRITE_LOCKED => Some(&self.write_locked),
+            Column::LOCK_ON_RESET => Some(&self.lock_on_reset),
             _ => None,
         }
     }
 
     fn swap(&mut self, column: Column, cell: &mut Cell) -> bool {
-        match column.0 {
-            0 => mem::swap(&mut self.uid, cell),
-            1 => mem::swap(&mut self.name, cell),
-            2 => mem::swap(&mut self.common_name, cell),
-            3 => mem::swap(&mut self.start, cell),
-            4 => mem::swap(&mut self.len, cell),
-            5 => mem::swap(&mut self.read_lock_enabled, cell),
-            6 => mem::swap(&mut self.write_lock_enabled, cell),
-            7 => mem::swap(&mut self.read_locked, cell),
-            8 => mem::swap(&mut self.write_locked, cell),
-            9 => mem::swap(&mut self.lock_on_reset, cell),
+        match column {
+            Column::UID => mem::swap(&mut self.uid, cell),
+            Column::NAME => mem::swap(&mut self.name, cell),
+            Column::COMMON_NAME => mem::swap(&mut self.common_name, cell),
+            Column::RANGE_START => mem::swap(&mut self.start, cell),
+            Column::RANGE_LENGTH => mem::swap(&mut self.len, cell),
+            Column::READ_LOCK_ENABLED => mem::swap(&mut self.read_lock_enabled, cell),
+            Column::WRITE_LOCK_ENABLED => mem::swap(&mut self.write_lock_enabled, cell),
+            Column::READ_LOCKED => mem::swap(&mut self.read_locked, cell),
+            Column::WRITE_LOCKED => mem::swap(&mut self.write_locked, cell),
+            Column::LOCK_ON_RESET => mem::swap(&mut self.lock_on_reset, cell),
             _ => return false,
         }
         true
@@ -221,30 +223,30 @@ impl Row for MbrControlRow {
     ghost held = { mbr_control_columns };
 
     fn cell(&self, column: Column) -> Option<&Cell> {
-        match column.0 {
-            0 => Some(&self.uid),
-            1 => Some(&self.enable),
-            2 => Some(&self.done),
-            3 => Some(&self.done_on_reset),
+        match column {
+            Column::UID => Some(&self.uid),
+            Column::MBR_ENABLE => Some(&self.enable),
+            Column::MBR_DONE => Some(&self.done),
+            Column::MBR_DONE_ON_RESET => Some(&self.done_on_reset),
             _ => None,
         }
     }
 
     fn swap(&mut self, column: Column, cell: &mut Cell) -> bool {
-        match column.0 {
-            0 => mem::swap(&mut self.uid, cell),
-            1 => mem::swap(&mut self.enable, cell),
-            2 => mem::swap(&mut self.done, cell),
-            3 => mem::swap(&mut self.done_on_reset, cell),
+        match column {
+            Column::UID => mem::swap(&mut self.uid, cell),
+            Column::MBR_ENABLE => mem::swap(&mut self.enable, cell),
+            Column::MBR_DONE => mem::swap(&mut self.done, cell),
+            Column::MBR_DONE_ON_RESET => mem::swap(&mut self.done_on_reset, cell),
             _ => return false,
         }
         true
     }
 }
 
-/// A row of the ACE table: an entry that may allow methods.
+/// A row of the ACE table: an access control element, which may allow methods.
 #[derive(Drop)]
-pub struct EntryRow {
+pub struct AceRow {
     pub uid: Cell,
     pub name: Cell,
     pub common_name: Cell,
@@ -252,29 +254,29 @@ pub struct EntryRow {
     pub columns: Cell,
 }
 
-impl Row for EntryRow {
-    ghost use Rattle.sp_rows.specs.Columns.{entry_columns};
+impl Row for AceRow {
+    ghost use Rattle.sp_rows.specs.Columns.{ace_columns};
 
-    ghost held = { entry_columns };
+    ghost held = { ace_columns };
 
     fn cell(&self, column: Column) -> Option<&Cell> {
-        match column.0 {
-            0 => Some(&self.uid),
-            1 => Some(&self.name),
-            2 => Some(&self.common_name),
-            3 => Some(&self.boolean_expr),
-            4 => Some(&self.columns),
+        match column {
+            Column::UID => Some(&self.uid),
+            Column::NAME => Some(&self.name),
+            Column::COMMON_NAME => Some(&self.common_name),
+            Column::BOOLEAN_EXPR => Some(&self.boolean_expr),
+            Column::COLUMNS => Some(&self.columns),
             _ => None,
         }
     }
 
     fn swap(&mut self, column: Column, cell: &mut Cell) -> bool {
-        match column.0 {
-            0 => mem::swap(&mut self.uid, cell),
-            1 => mem::swap(&mut self.name, cell),
-            2 => mem::swap(&mut self.common_name, cell),
-            3 => mem::swap(&mut self.boolean_expr, cell),
-            4 => mem::swap(&mut self.columns, cell),
+        match column {
+            Column::UID => mem::swap(&mut self.uid, cell),
+            Column::NAME => mem::swap(&mut self.name, cell),
+            Column::COMMON_NAME => mem::swap(&mut self.common_name, cell),
+            Column::BOOLEAN_EXPR => mem::swap(&mut self.boolean_expr, cell),
+            Column::COLUMNS => mem::swap(&mut self.columns, cell),
             _ => return false,
         }
         true

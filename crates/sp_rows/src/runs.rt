@@ -1,3 +1,5 @@
+//! Runs of rows: rows whose names follow one another, so that a row is found by its name alone.
+
 ghost use Rattle.std.specs.Prelude.{◌≡◌, ◌≤◌, ◌<◌, ◌+◌, ◌-◌, List, length, MatchOption, option_copied, is_some, Some, None};
 ghost use Rattle.std.specs.List.{flat_map};
 ghost use Rattle.std.specs.Bool.{OnTrue, OnFalse};

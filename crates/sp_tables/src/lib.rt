@@ -11,6 +11,3 @@ pub use sp_cells::{
     SetError, Sp, USERS, Uid, number_at,
 };
 pub use whole::Tables;
-
-#[cfg(test)]
-mod tests;

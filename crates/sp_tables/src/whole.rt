@@ -1,3 +1,5 @@
+//! The tables of both SPs, and the setting of cells, all or none.
+
 ghost use Rattle.std.specs.Prelude.{◌≡◌, [], ◌∷◌, IfOk, OnOk, OnErr, MatchResult, None, Some, option_copied, unwrap_or};
 ghost use Rattle.sp_cells.specs.Flat.{with_cells};
 ghost use Rattle.sp_rows.specs.Items.{replaced};

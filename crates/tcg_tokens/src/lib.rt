@@ -17,13 +17,12 @@ mod token;
 mod value;
 mod write;
 
+pub use basics::Bytes;
 pub use condition::writable;
 pub use error::TokenError;
 pub use length::item_len;
+pub use limits::laws_of_limits;
 pub use read::read_item;
 pub use text::{fault_text, item_text, value_text};
-pub use value::{Bytes, Call, Item, Reply, Value};
+pub use value::{Call, Item, Reply, Value};
 pub use write::{write_item, write_item_into};
-
-#[cfg(test)]
-mod tests;

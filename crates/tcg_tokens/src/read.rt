@@ -13,7 +13,8 @@ ghost use Rattle.tcg_tokens.specs.Reading.{expect, number_at, uid_at, list_with,
 use crate::error::TokenError;
 use crate::limits::NESTING_LIMIT;
 use crate::token::{Mark, Token, next_token, skipped};
-use crate::value::{Bytes, Call, Item, Reply, Value};
+use crate::value::{Call, Item, Reply, Value};
+use basics::Bytes;
 use std::alloc::Global;
 
 /// What is behind that mark.
@@ -102,7 +103,7 @@ fn value<'a>(
         Token::Number(number) => Ok((Value::Number(number), rest)),
         Token::Bytes(content) => {
             let items = Vec::from_slice(alloc, content)?;
-            Ok((Value::Bytes(Bytes::new(items)), rest))
+            Ok((Value::Bytes(Bytes::from_vec(items)), rest))
         }
         Token::Mark(mark) => {
             if mark.is(Mark::StartList) {
@@ -140,7 +141,7 @@ fn name(alloc: Global, token: Token<'_>) -> Result<Value, TokenError>
         Token::Number(number) => Ok(Value::Number(number)),
         Token::Bytes(content) => {
             let items = Vec::from_slice(alloc, content)?;
-            Ok(Value::Bytes(Bytes::new(items)))
+            Ok(Value::Bytes(Bytes::from_vec(items)))
         }
         Token::Mark(_) => Err(TokenError::Unbalanced),
     }

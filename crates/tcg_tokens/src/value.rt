@@ -1,38 +1,6 @@
 //! What token streams carry.
 
-ghost use Rattle.std.specs.Prelude.{◌≡◌};
-
-use std::marker::Model;
-
-/// Bytes, compared by what they are and not by where they lie.
-#[derive(Debug, Drop)]
-pub struct Bytes {
-    items: Vec<u8>,
-}
-
-impl Model for Bytes {
-    ghost use Rattle.std.specs.Prelude.{List, ℕ};
-
-    ghost Value = { List ℕ };
-
-    ghost view = { λ bytes. bytes.items.items };
-}
-
-impl Bytes {
-    /// The bytes of a vector.
-    pub fn new(items: Vec<u8>) -> Bytes
-        ensures { result ≡ items.items }
-    {
-        Bytes { items }
-    }
-
-    /// The bytes as a slice.
-    pub fn as_slice(&self) -> &[u8]
-        ensures { result.now ≡ self.now }
-    {
-        self.items.as_slice()
-    }
-}
+use basics::Bytes;
 
 /// A value in the arguments of a call or the results of a reply.
 #[derive(Debug, Drop)]

@@ -1,6 +1,0 @@
-use Rattle.std.proofs.Common.{◌≡◌, drop}
-use Rattle.ace_eval.specs.Entries.{first_holding}
-use Rattle.ace_eval.proofs.entries.first.Given as goal
-
-abbrev pub invariant-loop-entry : goal.invariant-loop-entry
-invariant-loop-entry g l = first_holding (g.R.Rows.look_up l.rows) l.sp l.held (drop l.entry-index l.entries) ≡ first_holding (g.R.Rows.look_up l.rows) l.sp l.held l.entries

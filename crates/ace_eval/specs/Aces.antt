@@ -1,0 +1,64 @@
+-- Which ACE allows a method (Core 2.01, section 5.3, tables AccessControl and ACE).
+use Rattle.std.specs.Prelude.{◌≡◌, ◌==◌, Bool, true, false, List, [], ◌∷◌, Option, None, Some, unwrap_or, filter, if◌then◌else◌}
+use Rattle.std.specs.List.{list_any}
+use Rattle.sp_cells.specs.declared.names.Uid.{Uid}
+use Rattle.sp_cells.specs.declared.names.Sp.{Sp}
+use Rattle.sp_cells.specs.declared.names.Column.{Column}
+use Rattle.sp_cells.specs.declared.cells.Cell.{Cell}
+use Rattle.sp_cells.specs.declared.cells.Cell.TheVariants.{Expr, Columns}
+use Rattle.sp_cells.specs.ColumnNames.{boolean_expr_column, columns_column}
+use Rattle.sp_cells.specs.Flat.{LookUp}
+use Rattle.access_list.specs.Access.{access_list, acl_in}
+use Rattle.ace_eval.specs.Truth.{has, Holds}
+use Rattle.ace_eval.specs.Evaluation.{is_satisfied}
+
+-- these columns have this one; the empty list stands for all
+abbrev pub has_column : List Column → Column → Bool
+has_column [] k = true
+has_column (c ∷ cs) k = list_any (λ x. x.0 == k.0) (c ∷ cs)
+
+-- an ACE's Columns cell names a column
+abbrev pub names_in : Option Cell → Column → Bool
+names_in (Some (Columns cs)) k = has_column cs k
+names_in _ k = false
+
+-- an ACE names the column; any does where no column is asked for
+abbrev pub names : LookUp → Sp → Option Column → Uid → Bool
+names look sp None entry = true
+names look sp (Some k) entry = names_in (look sp entry columns_column) k
+
+-- an ACE's BooleanExpr cell holds
+abbrev pub HoldsIn : List Uid → Option Cell → Type 0
+HoldsIn held (Some (Expr elements)) = Holds held elements
+HoldsIn held _ = ⊥
+
+abbrev pub holds_in : List Uid → Option Cell → Bool
+holds_in held (Some (Expr elements)) = is_satisfied held elements
+holds_in held _ = false
+
+abbrev pub holds_at : LookUp → Sp → List Uid → Uid → Bool
+holds_at look sp held entry = holds_in held (look sp entry boolean_expr_column)
+
+-- the ACEs of an ACL that name the column, in its order
+abbrev pub naming : LookUp → Sp → Option Column → Option (List Uid) → List Uid
+naming look sp k row = filter (names look sp k) (unwrap_or row [])
+
+-- the first of these ACEs that holds
+abbrev pub first_holding : LookUp → Sp → List Uid → List Uid → Option Uid
+first_holding look sp held [] = None
+first_holding look sp held (e ∷ es) = if holds_at look sp held e then Some e else first_holding look sp held es
+
+-- the ACL of a method of an object
+abbrev pub acl_at : Sp → Uid → Uid → Option (List Uid)
+acl_at sp object method = acl_in access_list sp object method
+
+-- the ACE that allows the column: the first of the ACL that names it and holds
+abbrev pub ace_of : LookUp → Sp → Uid → Uid → Option Column → List Uid → Option Uid
+ace_of look sp object method k held = first_holding look sp held (naming look sp k (acl_at sp object method))
+
+-- the column has an ACE: some ACE of the ACL names it, and its expression holds
+pub record HasAce (look : LookUp) (sp : Sp) (object method : Uid) (k : Option Column) (held : List Uid) : Type 0 where
+  pub entry : Uid
+  pub in_row : has (unwrap_or (acl_at sp object method) []) entry ≡ true
+  pub named : names look sp k entry ≡ true
+  pub holds : HoldsIn held (look sp entry boolean_expr_column)

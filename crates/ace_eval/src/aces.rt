@@ -1,0 +1,123 @@
+//! The ACE that allows a method.
+
+ghost use Rattle.std.specs.Prelude.{◌≡◌, ◌≤◌, ◌<◌, ◌↔◌, ◌+◌, [], ◌∷◌, ◌++◌, length, filter, IsOk, MatchResult, Some, None, is_some, unwrap_or};
+ghost use Rattle.ace_eval.specs.Aces.{has_column, names, names_in, holds_in, holds_at, naming, first_holding, acl_at, ace_of, HasAce};
+
+use crate::authorities::Authorities;
+use crate::expressions::holds;
+use access_list::access_row;
+use arrayvec::ArrayVec;
+use sp_cells::{Cell, Column, Rows, Sp, Uid};
+
+/// Why a column has no ACE.
+#[derive(Debug, Drop)]
+pub struct Missing {
+    /// Whether the method is offered at all.
+    pub row: bool,
+
+    /// The ACEs that name the column, in the order of the ACL; none of them holds.
+    pub need: ArrayVec<Uid, 4>,
+}
+
+/// The ACE that allows a method of an object for a column, or for no column in particular: the first of the ACL
+/// that names the column and whose expression holds for these authorities.
+pub fn entry<R: Rows>(
+    rows: &R,
+    sp: Sp,
+    object: Uid,
+    method: Uid,
+    column: Option<Column>,
+    held: &Authorities,
+) -> Result<Uid, Missing>
+    ensures exact { MatchResult result
+        (λ entry. ace_of (R.look_up rows.now) sp object method column held.now ≡ Some entry)
+        (λ missing. (ace_of (R.look_up rows.now) sp object method column held.now ≡ None) × (missing.row ≡ is_some (acl_at sp object method)) × (missing.need.items ≡ naming (R.look_up rows.now) sp column (acl_at sp object method))) }
+    ensures allowed { IsOk result ↔ HasAce (R.look_up rows.now) sp object method column held.now }
+{
+    find(rows, sp, object, method, column, held)
+}
+
+fn find<R: Rows>(
+    rows: &R,
+    sp: Sp,
+    object: Uid,
+    method: Uid,
+    column: Option<Column>,
+    held: &Authorities,
+) -> Result<Uid, Missing>
+    ensures { MatchResult result
+        (λ entry. ace_of (R.look_up rows.now) sp object method column held.now ≡ Some entry)
+        (λ missing. (ace_of (R.look_up rows.now) sp object method column held.now ≡ None) × (missing.row ≡ is_some (acl_at sp object method)) × (missing.need.items ≡ naming (R.look_up rows.now) sp column (acl_at sp object method))) }
+{
+    let Some(row) = access_row(sp, object, method) else {
+        return Err(Missing {
+            row: false,
+            need: ArrayVec::new(),
+        });
+    };
+    let need = named(rows, sp, column, &row);
+    match first(rows, sp, need.as_slice(), held) {
+        Some(entry) => Ok(entry),
+        None => Err(Missing { row: true, need }),
+    }
+}
+
+/// Those of the ACEs that name the column.
+fn named<R: Rows>(
+    rows: &R,
+    sp: Sp,
+    column: Option<Column>,
+    row: &ArrayVec<Uid, 4>,
+) -> ArrayVec<Uid, 4>
+    ensures { result.items ≡ filter (names (R.look_up rows.now) sp column) row.now.items }
+{
+    let mut need = ArrayVec::new();
+    for entry in row.as_slice() {
+        if names_column(rows, sp, column, *entry) {
+            need.push(*entry);
+        }
+    }
+    need
+}
+
+/// Whether an ACE names the column.
+fn names_column<R: Rows>(rows: &R, sp: Sp, column: Option<Column>, entry: Uid) -> bool
+    ensures { result ≡ names (R.look_up rows.now) sp column entry }
+{
+    match column {
+        None => true,
+        Some(column) => match rows.cell(sp, entry, Column::COLUMNS) {
+            Some(Cell::Columns(columns)) => has(columns.as_slice(), column),
+            _ => false,
+        },
+    }
+}
+
+/// Whether these columns have this one; none stands for all.
+fn has(columns: &[Column], column: Column) -> bool
+    ensures { result ≡ has_column columns.now column }
+{
+    columns.is_empty() || columns.contains(&column)
+}
+
+/// The first of these ACEs whose expression holds.
+fn first<R: Rows>(rows: &R, sp: Sp, entries: &[Uid], held: &Authorities) -> Option<Uid>
+    ensures { result ≡ first_holding (R.look_up rows.now) sp held.now entries.now }
+{
+    for entry in entries {
+        if entry_holds(rows, sp, *entry, held) {
+            return Some(*entry);
+        }
+    }
+    None
+}
+
+/// Whether an ACE's expression holds.
+fn entry_holds<R: Rows>(rows: &R, sp: Sp, entry: Uid, held: &Authorities) -> bool
+    ensures { result ≡ holds_at (R.look_up rows.now) sp held.now entry }
+{
+    match rows.cell(sp, entry, Column::BOOLEAN_EXPR) {
+        Some(Cell::Expr(expr)) => holds(expr, held),
+        _ => false,
+    }
+}

@@ -1,0 +1,15 @@
+//! Tests against the standards: what no clause says, and values that come from outside.
+#![tactic(auto)]
+
+#[cfg(test)]
+mod access;
+#[cfg(test)]
+mod aces;
+#[cfg(test)]
+mod audit_lines;
+#[cfg(test)]
+mod frames;
+#[cfg(test)]
+mod tables;
+#[cfg(test)]
+mod tokens;

@@ -1,0 +1,88 @@
+-- The names of columns: no other file of the definitions has their numbers.
+use Rattle.sp_cells.specs.declared.names.Column.{Column}
+use Rattle.sp_cells.specs.Names.{col}
+
+-- In every table the object's own name and, but for MBRControl, the name of the row; in most the name that a host gives.
+abbrev pub uid_column : Column
+uid_column = col 0
+
+abbrev pub name_column : Column
+name_column = col 1
+
+abbrev pub common_name_column : Column
+common_name_column = col 2
+
+-- SP (Core 2.01, section 5.4)
+abbrev pub life_cycle_state_column : Column
+life_cycle_state_column = col 6
+
+-- C_PIN (Core 2.01, section 5.3)
+abbrev pub pin_column : Column
+pin_column = col 3
+
+abbrev pub char_set_column : Column
+char_set_column = col 4
+
+abbrev pub try_limit_column : Column
+try_limit_column = col 5
+
+abbrev pub tries_column : Column
+tries_column = col 6
+
+abbrev pub persistence_column : Column
+persistence_column = col 7
+
+-- Authority (Core 2.01, section 5.3)
+abbrev pub is_class_column : Column
+is_class_column = col 3
+
+abbrev pub class_column : Column
+class_column = col 4
+
+abbrev pub enabled_column : Column
+enabled_column = col 5
+
+abbrev pub operation_column : Column
+operation_column = col 9
+
+abbrev pub credential_column : Column
+credential_column = col 10
+
+-- ACE (Core 2.01, section 5.3)
+abbrev pub boolean_expr_column : Column
+boolean_expr_column = col 3
+
+abbrev pub columns_column : Column
+columns_column = col 4
+
+-- Locking (Core 2.01, section 5.7)
+abbrev pub range_start_column : Column
+range_start_column = col 3
+
+abbrev pub range_length_column : Column
+range_length_column = col 4
+
+abbrev pub read_lock_enabled_column : Column
+read_lock_enabled_column = col 5
+
+abbrev pub write_lock_enabled_column : Column
+write_lock_enabled_column = col 6
+
+abbrev pub read_locked_column : Column
+read_locked_column = col 7
+
+abbrev pub write_locked_column : Column
+write_locked_column = col 8
+
+abbrev pub lock_on_reset_column : Column
+lock_on_reset_column = col 9
+
+-- MBRControl (Core 2.01, section 5.7)
+abbrev pub mbr_enable_column : Column
+mbr_enable_column = col 1
+
+abbrev pub mbr_done_column : Column
+mbr_done_column = col 2
+
+abbrev pub mbr_done_on_reset_column : Column
+mbr_done_on_reset_column = col 3
