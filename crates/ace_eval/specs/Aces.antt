@@ -1,5 +1,5 @@
 -- Which ACE allows a method (Core 2.01, section 5.3, tables AccessControl and ACE).
-use Rattle.std.specs.Prelude.{◌≡◌, ◌==◌, Bool, true, false, List, [], ◌∷◌, Option, None, Some, unwrap_or, filter, if◌then◌else◌}
+use Rattle.std.specs.Prelude.{◌≡◌, ◌==◌, Bool, true, false, List, [], ◌∷◌, Option, None, Some, unwrap_or, is_some, filter, Result, MatchResult, if◌then◌else◌}
 use Rattle.std.specs.List.{list_any}
 use Rattle.sp_cells.specs.declared.names.Uid.{Uid}
 use Rattle.sp_cells.specs.declared.names.Sp.{Sp}
@@ -8,6 +8,7 @@ use Rattle.sp_cells.specs.declared.cells.Cell.{Cell}
 use Rattle.sp_cells.specs.declared.cells.Cell.TheVariants.{Expr, Columns}
 use Rattle.sp_cells.specs.ColumnNames.{boolean_expr_column, columns_column}
 use Rattle.sp_cells.specs.Flat.{LookUp}
+use Rattle.ace_eval.specs.declared.aces.Missing.{Missing}
 use Rattle.access_list.specs.Access.{access_list, acl_in}
 use Rattle.ace_eval.specs.Truth.{has, Holds}
 use Rattle.ace_eval.specs.Evaluation.{is_satisfied}
@@ -55,6 +56,14 @@ acl_at sp object method = acl_in access_list sp object method
 -- the ACE that allows the column: the first of the ACL that names it and holds
 abbrev pub ace_of : LookUp → Sp → Uid → Uid → Option Column → List Uid → Option Uid
 ace_of look sp object method k held = first_holding look sp held (naming look sp k (acl_at sp object method))
+
+-- what is answered: the ACE that allows the column, or else whether the method is offered and the ACEs that name it
+abbrev pub Answers : LookUp → Sp → Uid → Uid → Option Column → List Uid → Result Uid Missing → Type 0
+Answers look sp object method k held result = MatchResult result
+    (λ ace. ace_of look sp object method k held ≡ Some ace)
+    (λ missing. (ace_of look sp object method k held ≡ None)
+    × (missing.row ≡ is_some (acl_at sp object method))
+    × (missing.need.items ≡ naming look sp k (acl_at sp object method)))
 
 -- the column has an ACE: some ACE of the ACL names it, and its expression holds
 pub record HasAce (look : LookUp) (sp : Sp) (object method : Uid) (k : Option Column) (held : List Uid) : Type 0 where

@@ -1,7 +1,7 @@
 //! The ACE that allows a method.
 
 ghost use Rattle.std.specs.Prelude.{◌≡◌, ◌≤◌, ◌<◌, ◌↔◌, ◌+◌, [], ◌∷◌, ◌++◌, length, filter, IsOk, MatchResult, Some, None, is_some, unwrap_or};
-ghost use Rattle.ace_eval.specs.Aces.{has_column, names, names_in, holds_in, holds_at, naming, first_holding, acl_at, ace_of, HasAce};
+ghost use Rattle.ace_eval.specs.Aces.{has_column, names, names_in, holds_in, holds_at, naming, first_holding, acl_at, ace_of, Answers, HasAce};
 
 use crate::authorities::Authorities;
 use crate::expressions::holds;
@@ -29,9 +29,7 @@ pub fn entry<R: Rows>(
     column: Option<Column>,
     held: &Authorities,
 ) -> Result<Uid, Missing>
-    ensures exact { MatchResult result
-        (λ entry. ace_of (R.look_up rows.now) sp object method column held.now ≡ Some entry)
-        (λ missing. (ace_of (R.look_up rows.now) sp object method column held.now ≡ None) × (missing.row ≡ is_some (acl_at sp object method)) × (missing.need.items ≡ naming (R.look_up rows.now) sp column (acl_at sp object method))) }
+    ensures exact { Answers (R.look_up rows.now) sp object method column held.now result }
     ensures allowed { IsOk result ↔ HasAce (R.look_up rows.now) sp object method column held.now }
 {
     find(rows, sp, object, method, column, held)
@@ -45,9 +43,7 @@ fn find<R: Rows>(
     column: Option<Column>,
     held: &Authorities,
 ) -> Result<Uid, Missing>
-    ensures { MatchResult result
-        (λ entry. ace_of (R.look_up rows.now) sp object method column held.now ≡ Some entry)
-        (λ missing. (ace_of (R.look_up rows.now) sp object method column held.now ≡ None) × (missing.row ≡ is_some (acl_at sp object method)) × (missing.need.items ≡ naming (R.look_up rows.now) sp column (acl_at sp object method))) }
+    ensures { Answers (R.look_up rows.now) sp object method column held.now result }
 {
     let Some(row) = access_row(sp, object, method) else {
         return Err(Missing {

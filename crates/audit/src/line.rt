@@ -108,7 +108,7 @@ fn append_column(
     Ok(())
 }
 
-/// Appends the column that was denied, and the entries that would have been needed, as ` col 7 need none`.
+/// Appends the column that was denied, and the ACEs that would have been needed, as ` col 7 need none`.
 fn append_need(
     alloc: Global,
     text: &mut Vec<u8>,

@@ -41,9 +41,9 @@ pub enum Why {
         lba: u64,
         count: u32,
     },
-    /// A method for which no access entry holds. The column is the first that is denied, or none where the call
-    /// names none. `need` has the entries of which one would have to hold, in the order of the access list: those
-    /// that name the column, or all of them where no column is named. It is empty where no entry names the column.
+    /// A method for which no ACE holds. The column is the first that is denied, or none where the call
+    /// names none. `need` has the ACEs of which one would have to hold, in the order of the ACL: those that name
+    /// the column, or all of them where no column is named. It is empty where no ACE names the column.
     NoEntryHolds {
         sp: Sp,
         object: Uid,

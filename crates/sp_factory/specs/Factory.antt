@@ -127,6 +127,10 @@ family base values (suc n) = family base values n ++ row_items (uid (base + suc 
 abbrev pub IsFamilyOf : {R : Type 0} → (R → List (Column × Cell)) → (ℕ → R → Type 0) → ℕ → List R → Type 0
 IsFamilyOf columns P count rows = (base : ℕ) (values : ℕ → List (Column × Cell)) → ((n : ℕ) (r : _) → n ≤ count → P n r → columns r ≡ values n) → rows_from columns (base + 1) rows ≡ family base values count
 
+-- these rows are those of the numbers 1 to n
+abbrev pub IsFamily : {R : Type 0} → (R → List (Column × Cell)) → ℕ → (ℕ → List (Column × Cell)) → ℕ → List R → Type 0
+IsFamily columns base values count rows = rows_from columns (base + 1) rows ≡ family base values count
+
 -- SPs: the Admin SP is Manufactured, the Locking SP Manufactured-Inactive
 unfoldable pub admin_sps : List Item
 admin_sps = row_items admin_sp (new_sp admin_sp (codes "Admin") manufactured) ++ row_items locking_sp (new_sp locking_sp (codes "Locking") manufactured_inactive)
@@ -205,13 +209,18 @@ read_locked_ace n = new_ace (ace_range_set_read_locked n) (codes "Range_" ++ dec
 abbrev pub write_locked_ace : ℕ → List (Column × Cell)
 write_locked_ace n = new_ace (ace_range_set_write_locked n) (codes "Range_" ++ decimal n ++ codes "_Set_WrLocked") (Authority admins_class ∷ []) (write_locked_column ∷ [])
 
+-- those of the two flags, the global range first
+abbrev pub read_locked_aces : List Item
+read_locked_aces = row_items (ace_range_set_read_locked 0) (read_locked_ace 0) ++ family read_locked_ace_base read_locked_ace RANGES
+
+abbrev pub write_locked_aces : List Item
+write_locked_aces = row_items (ace_range_set_write_locked 0) (write_locked_ace 0) ++ family write_locked_ace_base write_locked_ace RANGES
+
 unfoldable pub range_aces : List Item
 range_aces =
     ace_row ace_locking_get_all (codes "Locking_Get") admins_class (bounds ++ locks)
-    ++ row_items (ace_range_set_read_locked 0) (read_locked_ace 0)
-    ++ family read_locked_ace_base read_locked_ace RANGES
-    ++ row_items (ace_range_set_write_locked 0) (write_locked_ace 0)
-    ++ family write_locked_ace_base write_locked_ace RANGES
+    ++ read_locked_aces
+    ++ write_locked_aces
     ++ ace_row ace_locking_global_range_admins_set (codes "Locking_Global_Set") admins_class locks
     ++ ace_row ace_locking_admins_set (codes "Locking_Range_Set") admins_class (bounds ++ locks)
 

@@ -8,7 +8,7 @@ ghost use Rattle.sp_rows.specs.Items.{row_items, rows_from};
 ghost use Rattle.sp_rows.specs.Runs.{run_items};
 ghost use Rattle.sp_rows.specs.Halves.{half_items};
 ghost use Rattle.sp_rows.specs.Columns.{sp_columns, authority_columns, c_pin_columns, locking_columns, mbr_control_columns, ace_columns};
-ghost use Rattle.sp_factory.specs.Factory.{HasRows, AddsRows, ace_row, family, user_ace, read_locked_ace, write_locked_ace, admin_sps, admin_authorities, admin_pins, admin_aces, locking_authorities, locking_pins, locking_ranges, locking_mbr_controls, authority_aces, pin_aces, range_aces, mbr_aces, admin_factory, locking_factory};
+ghost use Rattle.sp_factory.specs.Factory.{HasRows, AddsRows, ace_row, family, user_ace, read_locked_aces, write_locked_aces, admin_sps, admin_authorities, admin_pins, admin_aces, locking_authorities, locking_pins, locking_ranges, locking_mbr_controls, authority_aces, pin_aces, range_aces, mbr_aces, admin_factory, locking_factory};
 
 use crate::families::{
     admin_pin_rows, admin_rows, range_rows, read_locked_ace_row, read_locked_ace_rows,
@@ -89,7 +89,8 @@ fn push_ace(
     authority: Uid,
     columns: &[Column],
 ) -> Result<(), AllocError>
-    ensures { OnOk result (AddsRows ace_columns runs.old.items runs.new.items (ace_row uid name.now authority columns.now)) }
+    ensures { OnOk result (AddsRows ace_columns runs.old.items runs.new.items
+        (ace_row uid name.now authority columns.now)) }
 {
     let name = String::from_str(alloc, name)?;
     let expr = only(alloc, authority)?;
@@ -307,7 +308,7 @@ fn push_user_aces(alloc: Global, runs: &mut Vec<Run<AceRow>>) -> Result<(), Allo
 
 /// Adds the ACEs on the ReadLocked flags.
 fn push_read_locked_aces(alloc: Global, runs: &mut Vec<Run<AceRow>>) -> Result<(), AllocError>
-    ensures { OnOk result (AddsRows ace_columns runs.old.items runs.new.items (row_items (ace_range_set_read_locked 0) (read_locked_ace 0) ++ family read_locked_ace_base read_locked_ace RANGES)) }
+    ensures { OnOk result (AddsRows ace_columns runs.old.items runs.new.items read_locked_aces) }
 {
     push_one(
         alloc,
@@ -325,7 +326,7 @@ fn push_read_locked_aces(alloc: Global, runs: &mut Vec<Run<AceRow>>) -> Result<(
 
 /// Adds the ACEs on the WriteLocked flags.
 fn push_write_locked_aces(alloc: Global, runs: &mut Vec<Run<AceRow>>) -> Result<(), AllocError>
-    ensures { OnOk result (AddsRows ace_columns runs.old.items runs.new.items (row_items (ace_range_set_write_locked 0) (write_locked_ace 0) ++ family write_locked_ace_base write_locked_ace RANGES)) }
+    ensures { OnOk result (AddsRows ace_columns runs.old.items runs.new.items write_locked_aces) }
 {
     push_one(
         alloc,

@@ -4,7 +4,7 @@ ghost use Rattle.std.specs.Prelude.{◌≡◌, ◌+◌, ◌<◌, ◌≤◌, ◌^
 ghost use Rattle.sp_cells.specs.Names.{admin_base, user_base, admin_pin_base, user_pin_base, range_base, user_ace_base, read_locked_ace_base, write_locked_ace_base};
 ghost use Rattle.sp_rows.specs.Items.{rows_from};
 ghost use Rattle.sp_rows.specs.Columns.{authority_columns, c_pin_columns, locking_columns, ace_columns};
-ghost use Rattle.sp_factory.specs.Factory.{family, IsFamilyOf, admin_authority, user_authority, admin_pin, user_pin, numbered_range, user_ace, read_locked_ace, write_locked_ace};
+ghost use Rattle.sp_factory.specs.Factory.{family, IsFamily, IsFamilyOf, admin_authority, user_authority, admin_pin, user_pin, numbered_range, user_ace, read_locked_ace, write_locked_ace};
 
 use crate::new_rows::{ace, either, member, only, pin, push_row, range};
 use sp_cells::limits::NEW_TRY_LIMIT;
@@ -46,7 +46,7 @@ fn admin_row(alloc: Global, n: u8) -> Result<AuthorityRow, AllocError>
 
 /// All of them, by number.
 pub fn admin_rows(alloc: Global) -> Result<Vec<AuthorityRow>, AllocError>
-    ensures { IfOk result (λ rows. rows_from authority_columns (admin_base + 1) rows.items ≡ family admin_base admin_authority ADMINS) }
+    ensures { IfOk result (λ rows. IsFamily authority_columns admin_base admin_authority ADMINS rows.items) }
 {
     let rows = numbered(alloc, ADMINS, admin_row)?;
     Ok(rows)
@@ -69,7 +69,7 @@ fn user_row(alloc: Global, n: u8) -> Result<AuthorityRow, AllocError>
 
 /// All of them, by number.
 pub fn user_rows(alloc: Global) -> Result<Vec<AuthorityRow>, AllocError>
-    ensures { IfOk result (λ rows. rows_from authority_columns (user_base + 1) rows.items ≡ family user_base user_authority USERS) }
+    ensures { IfOk result (λ rows. IsFamily authority_columns user_base user_authority USERS rows.items) }
 {
     let rows = numbered(alloc, USERS, user_row)?;
     Ok(rows)
@@ -86,7 +86,7 @@ fn admin_pin_row(alloc: Global, n: u8) -> Result<CPinRow, AllocError>
 
 /// All of them, by number.
 pub fn admin_pin_rows(alloc: Global) -> Result<Vec<CPinRow>, AllocError>
-    ensures { IfOk result (λ rows. rows_from c_pin_columns (admin_pin_base + 1) rows.items ≡ family admin_pin_base admin_pin ADMINS) }
+    ensures { IfOk result (λ rows. IsFamily c_pin_columns admin_pin_base admin_pin ADMINS rows.items) }
 {
     let rows = numbered(alloc, ADMINS, admin_pin_row)?;
     Ok(rows)
@@ -103,7 +103,7 @@ fn user_pin_row(alloc: Global, n: u8) -> Result<CPinRow, AllocError>
 
 /// All of them, by number.
 pub fn user_pin_rows(alloc: Global) -> Result<Vec<CPinRow>, AllocError>
-    ensures { IfOk result (λ rows. rows_from c_pin_columns (user_pin_base + 1) rows.items ≡ family user_pin_base user_pin USERS) }
+    ensures { IfOk result (λ rows. IsFamily c_pin_columns user_pin_base user_pin USERS rows.items) }
 {
     let rows = numbered(alloc, USERS, user_pin_row)?;
     Ok(rows)
@@ -119,7 +119,7 @@ fn range_row(alloc: Global, n: u8) -> Result<LockingRow, AllocError>
 
 /// All of them, by number.
 pub fn range_rows(alloc: Global) -> Result<Vec<LockingRow>, AllocError>
-    ensures { IfOk result (λ rows. rows_from locking_columns (range_base + 1) rows.items ≡ family range_base numbered_range RANGES) }
+    ensures { IfOk result (λ rows. IsFamily locking_columns range_base numbered_range RANGES rows.items) }
 {
     let rows = numbered(alloc, RANGES, range_row)?;
     Ok(rows)
@@ -143,7 +143,7 @@ fn user_ace_row(alloc: Global, n: u8) -> Result<AceRow, AllocError>
 
 /// All of them, by number.
 pub fn user_ace_rows(alloc: Global) -> Result<Vec<AceRow>, AllocError>
-    ensures { IfOk result (λ rows. rows_from ace_columns (user_ace_base + 1) rows.items ≡ family user_ace_base user_ace USERS) }
+    ensures { IfOk result (λ rows. IsFamily ace_columns user_ace_base user_ace USERS rows.items) }
 {
     let rows = numbered(alloc, USERS, user_ace_row)?;
     Ok(rows)
@@ -167,7 +167,7 @@ pub fn read_locked_ace_row(alloc: Global, n: u8) -> Result<AceRow, AllocError>
 
 /// All of them, by number.
 pub fn read_locked_ace_rows(alloc: Global) -> Result<Vec<AceRow>, AllocError>
-    ensures { IfOk result (λ rows. rows_from ace_columns (read_locked_ace_base + 1) rows.items ≡ family read_locked_ace_base read_locked_ace RANGES) }
+    ensures { IfOk result (λ rows. IsFamily ace_columns read_locked_ace_base read_locked_ace RANGES rows.items) }
 {
     let rows = numbered(alloc, RANGES, read_locked_ace_row)?;
     Ok(rows)
@@ -191,7 +191,7 @@ pub fn write_locked_ace_row(alloc: Global, n: u8) -> Result<AceRow, AllocError>
 
 /// All of them, by number.
 pub fn write_locked_ace_rows(alloc: Global) -> Result<Vec<AceRow>, AllocError>
-    ensures { IfOk result (λ rows. rows_from ace_columns (write_locked_ace_base + 1) rows.items ≡ family write_locked_ace_base write_locked_ace RANGES) }
+    ensures { IfOk result (λ rows. IsFamily ace_columns write_locked_ace_base write_locked_ace RANGES rows.items) }
 {
     let rows = numbered(alloc, RANGES, write_locked_ace_row)?;
     Ok(rows)

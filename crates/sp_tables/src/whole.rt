@@ -1,10 +1,10 @@
 //! The tables of both SPs, and the setting of cells, all or none.
 
-ghost use Rattle.std.specs.Prelude.{◌≡◌, [], ◌∷◌, IfOk, OnOk, OnErr, MatchResult, None, Some, option_copied, unwrap_or};
+ghost use Rattle.std.specs.Prelude.{◌≡◌, [], ◌∷◌, IfOk, OnOk, OnErr, Some, option_copied, unwrap_or};
 ghost use Rattle.sp_cells.specs.Flat.{with_cells};
 ghost use Rattle.sp_rows.specs.Items.{replaced};
 ghost use Rattle.sp_tables.specs.Contents.{Contents, items_of, flat as flat_list, look_up as look_up_in, with_row, factory_contents};
-ghost use Rattle.sp_tables.specs.Faults.{fault_of, IsFault};
+ghost use Rattle.sp_tables.specs.Faults.{fault_of, TellsFault};
 ghost use Rattle.sp_cells.specs.Ranges.{AreApart};
 
 use sp_cells::{Cell, Column, DriveConfig, Rows, SetError, Sp, Uid};
@@ -83,7 +83,7 @@ impl Tables {
         ensures ok { OnOk result (self.new ≡ with_row sp object changes.now self.old) }
         ensures flat { OnOk result (flat_list self.new ≡ with_cells (flat_list self.old) sp object changes.now) }
         ensures old { IfOk result (λ cells. cells.items ≡ replaced (items_of self.old sp) object changes.now) }
-        ensures fault { MatchResult result (λ _. fault_of self.old sp object changes.now ≡ None) (IsFault (fault_of self.old sp object changes.now)) }
+        ensures fault { TellsFault (fault_of self.old sp object changes.now) result }
         ensures err { OnErr result (self.new ≡ self.old) }
     {
         let cells = self.put(sp, object, changes)?;
@@ -99,7 +99,7 @@ impl Tables {
     ) -> Result<Vec<Cell>, SetError>
         ensures ok { OnOk result (self.new ≡ with_row sp object changes.now self.old) }
         ensures old { IfOk result (λ cells. cells.items ≡ replaced (items_of self.old sp) object changes.now) }
-        ensures fault { MatchResult result (λ _. fault_of self.old sp object changes.now ≡ None) (IsFault (fault_of self.old sp object changes.now)) }
+        ensures fault { TellsFault (fault_of self.old sp object changes.now) result }
         ensures err { OnErr result (self.new ≡ self.old) }
     {
         if let Some(fault) = self.fault(sp, object, changes) {
@@ -123,7 +123,7 @@ impl Tables {
     ) -> Result<Cell, SetError>
         ensures ok { OnOk result (self.new ≡ with_row sp object ((column, cell) ∷ []) self.old) }
         ensures old { IfOk result (λ old. old ≡ unwrap_or (look_up_in self.old sp object column) cell) }
-        ensures fault { MatchResult result (λ _. fault_of self.old sp object ((column, cell) ∷ []) ≡ None) (IsFault (fault_of self.old sp object ((column, cell) ∷ []))) }
+        ensures fault { TellsFault (fault_of self.old sp object ((column, cell) ∷ [])) result }
         ensures err { OnErr result (self.new ≡ self.old) }
     {
         let mut old = self.set_row(sp, object, &[(column, cell)])?;
