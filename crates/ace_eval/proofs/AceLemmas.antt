@@ -8,7 +8,7 @@ use Rattle.sp_cells.specs.declared.names.Column.{Column}
 use Rattle.sp_cells.specs.declared.cells.Cell.{Cell}
 use Rattle.sp_cells.specs.declared.cells.Cell.TheVariants.{Number, Bytes, Uid as Object, Numbers, Expr, Columns}
 use Rattle.sp_cells.specs.Names.{uid}
-use Rattle.sp_cells.specs.ColumnNames.{boolean_expr_column, columns_column}
+use Rattle.sp_cells.specs.ColumnNames.{boolean_expr_column}
 use Rattle.sp_cells.specs.Flat.{LookUp}
 use Rattle.ace_eval.specs.declared.aces.Missing.{Missing}
 use Rattle.ace_eval.specs.Truth.{has}
