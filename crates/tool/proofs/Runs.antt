@@ -3,8 +3,9 @@ use Rattle.std.proofs.Common.{◌≡◌, ℕ, List, [], ◌∷◌, OnOk, Result,
 use Rattle.drive.specs.Opening.{Opening}
 use Rattle.drive.specs.Completions.{data_of}
 use Rattle.drive.specs.History.{Act, log, held, sector}
-use Rattle.tool.specs.Reports.{data_text}
-use Rattle.tool.specs.Transfers.{Prints, Serves}
+use Rattle.script_lines.specs.Texts.{data_text}
+use Rattle.script_lines.specs.Texts.{Prints}
+use Rattle.tool.specs.Transfers.{Serves}
 use Rattle.tool.specs.declared.session.Session.{Session}
 
 pub on_ok : {A E : Type 0} (r : Result A E) (P Q : Type 0) → (P → Q) → OnOk r P → OnOk r Q

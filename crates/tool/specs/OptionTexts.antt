@@ -2,7 +2,7 @@
 use Rattle.std.specs.Prelude.{◌≡◌, ◌≢◌, ℕ, List, None, Some, Ok}
 use Rattle.hex.specs.Hex.{decode_of}
 use Rattle.sp_cells.specs.Config.{Config, IsWithinLimits}
-use Rattle.tool.specs.Numbers.{number_up_to, largest}
+use Rattle.script_lines.specs.Numbers.{number_up_to, largest}
 use Rattle.tool.specs.declared.options.OptionsFault.{OptionsFault}
 use Rattle.tool.specs.declared.options.OptionsFault.TheVariants.{Sectors, Shadow, Msid, NoDrive, OutOfMemory}
 

@@ -1,11 +1,9 @@
 -- Scripts: their lines, and how a run of one ends.
-use Rattle.std.specs.Prelude.{◌≡◌, ◌<◌, ◌⊎◌, ⊤, ℕ, ◌==◌, Bool, true, false, List, [], ◌∷◌, ◌++◌, All, map, length, Option, Some, Result, Ok, Err, IsOk, IfOk, if◌then◌else◌}
+use Rattle.std.specs.Prelude.{◌≡◌, ◌<◌, ◌⊎◌, ⊤, ℕ, ◌==◌, Bool, true, false, List, [], ◌∷◌, ◌++◌, All, map, length, Option, Some, Ok, IsOk, IfOk, if◌then◌else◌}
 use Rattle.std.specs.Io.BufRead.{strip_last, take_through, drop_through}
-use Rattle.tool.specs.Readings.{line_of}
-use Rattle.tool.specs.declared.fault.LineFault.{LineFault}
-use Rattle.tool.specs.declared.line.Line.{Line}
-use Rattle.tool.specs.declared.line.Line.TheVariants.{Range, Read, Write, Expect}
-use Rattle.tool.specs.declared.session.Fault.{Fault}
+use Rattle.script_lines.specs.Lines.{line_of}
+use Rattle.script_lines.specs.declared.line.Line.{Line}
+use Rattle.script_lines.specs.declared.line.Line.TheVariants.{Range, Read, Write, Expect}
 use Rattle.tool.specs.declared.session.Turn.{Turn}
 use Rattle.tool.specs.declared.session.Turn.TheVariants.{Goes, ExpectationFailed, Bad}
 

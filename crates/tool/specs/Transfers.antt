@@ -1,9 +1,7 @@
 -- What a queued transfer of a script does to the script's drive, and what it prints.
-use Rattle.std.specs.Prelude.{◌≡◌, ℕ, ◌%◌, ◌^◌, Bool, true, false, if◌then◌else◌, List, [], ◌∷◌, ◌++◌, All, length, unwrap_or, Option, Some, None, Ok}
-use Rattle.std.specs.List.{flat_map}
+use Rattle.std.specs.Prelude.{◌≡◌, ℕ, ◌%◌, ◌^◌, Bool, true, false, if◌then◌else◌, List, [], ◌∷◌, ◌++◌, All, length, unwrap_or, None, Ok}
 use Rattle.std.specs.Str.{bytes_eq}
 use Rattle.fis.specs.H2d.{IsH2dSpelling}
-use Rattle.audit.specs.declared.reason.Why.{Why}
 use Rattle.trusted_cmds.specs.Commands.{sectors, fis_of}
 use Rattle.trusted_cmds.specs.declared.command.Command.{Command}
 use Rattle.trusted_cmds.specs.declared.command.Command.TheVariants.{ReadQueued, WriteQueued}
@@ -18,13 +16,12 @@ use Rattle.drive.specs.History.{Act, Accept, Complete, log, event, held, sector}
 use Rattle.drive.specs.State.{Agrees}
 use Rattle.drive.specs.Answers.{IsAnswer, holds, status_of}
 use Rattle.drive.specs.declared.answer.Accepted.{Accepted}
-use Rattle.tool.specs.Reports.{data_text, failure_text, audit_text}
+use Rattle.script_lines.specs.Texts.{Prints, data_text, refusal_lines}
 use Rattle.locking.specs.declared.range.RangeRow.{RangeRow}
-use Rattle.tool.specs.Readings.{expected_text}
-use Rattle.tool.specs.declared.fault.Transfer.{Transfer}
-use Rattle.tool.specs.declared.report.Report.{Report}
-use Rattle.tool.specs.declared.line.Line as told
-use Rattle.tool.specs.declared.line.Line.TheVariants as lines
+use Rattle.script_lines.specs.Lines.{expected_text}
+use Rattle.script_lines.specs.declared.line.Transfer.{Transfer}
+use Rattle.script_lines.specs.declared.line.Line as told
+use Rattle.script_lines.specs.declared.line.Line.TheVariants as lines
 use Rattle.tool.specs.declared.session.Fault.TheVariants.{Line, LateRange, RefusedRow}
 use Rattle.tool.specs.declared.session.Turn.{Turn}
 use Rattle.tool.specs.declared.session.Turn.TheVariants.{Goes, ExpectationFailed, Bad}
@@ -49,29 +46,6 @@ StageRuns stages.Lost o acts = ⊥
 -- and the acts are counted
 abbrev pub RunsOn : Session → Opening → List Act → Type 0
 RunsOn session o acts = StageRuns session.stage o acts × (session.acts ≡ length acts % 2 ^ 64)
-
--- lines as they are printed, each with its line feed
-abbrev pub printed : List (List ℕ) → List ℕ
-printed lines = flat_map (λ line. line ++ 10 ∷ []) lines
-
--- the last of these lines, or the one before them where there are none
-abbrev pub last_of : List ℕ → List (List ℕ) → List ℕ
-last_of before [] = before
-last_of before (line ∷ lines) = last_of line lines
-
--- these lines are printed behind what was printed before
-pub record Prints (old new : Report) (lines : List (List ℕ)) : Type 0 where
-  pub pending : new.pending.items ≡ old.pending.items ++ printed lines
-  pub last : new.last.items ≡ last_of old.last.items lines
-
--- the audit line of a denial
-abbrev pub denial_lines : ℕ → ℕ → Option Why → List (List ℕ)
-denial_lines step client None = []
-denial_lines step client (Some why) = audit_text (record { step = step; client = client; why = why }) ∷ []
-
--- what a command that failed prints
-abbrev pub refusal_lines : ℕ → ℕ → ℕ → ℕ → Option Why → List (List ℕ)
-refusal_lines step client status error denied = failure_text status error ∷ denial_lines step client denied
 
 -- an acceptance: one act more, and what the definitions answer to it
 abbrev pub Accepts : Session → Opening → List Act → Command → ℕ → Accepted → Type 0

@@ -1,18 +1,11 @@
 //! The program's library: scripts of lines, run on a drive, and token streams, told as text.
 #![tactic(auto)]
 
-mod fault;
-mod line;
-mod number;
 mod options;
-mod report;
 mod script;
 mod session;
 mod tokens;
-mod words;
 
-pub use fault::{LineFault, Transfer};
-pub use line::Line;
 pub use options::{Options, OptionsFault};
 pub use script::{RunError, run_script, run_script_with_faults};
 pub use tokens::run_tokens;

@@ -1,6 +1,6 @@
 //! What a drive is opened with.
 
-use crate::number::number_up_to;
+use script_lines::number_up_to;
 use sp_cells::DriveConfig;
 use std::alloc::Global;
 use std::marker::Model;

@@ -64,25 +64,6 @@ fn without_end(line: &[u8]) -> &[u8]
     line.strip_suffix(b"\r").unwrap_or(line)
 }
 
-/// Writes what is printed so far.
-fn hand_on<W: Write>(session: &mut Session, output: &mut W) -> Result<(), RunError>
-    ensures written { OnOk result (Appends (W.contents output.old) (W.contents output.new) session.old.report.pending.items) }
-    ensures cleared { OnOk result (session.new.report.pending.items ≡ []) }
-    ensures last { session.new.report.last ≡ session.old.report.last }
-    ensures stage { session.new.stage ≡ session.old.stage }
-    ensures acts { session.new.acts ≡ session.old.acts }
-{
-    if session.report.pending.is_empty() {
-        return Ok(());
-    }
-    output
-        .write_all(&session.report.pending)
-        .map_err(|_| RunError::Write)?;
-    output.flush().map_err(|_| RunError::Write)?;
-    session.report.pending.clear();
-    Ok(())
-}
-
 /// Reads the next line, with its end; false where none is left.
 fn next_line<R: Read + Drop>(
     reader: &mut BufReader<R>,
@@ -106,7 +87,7 @@ fn run_lines<R: Read + Drop, W: Write>(
 {
     for number in 0..READ_LIMIT {
         if !reader.buffer().contains(&b'\n') {
-            hand_on(session, output)?;
+            session.report.hand_on(output).map_err(|_| RunError::Write)?;
         }
         if !next_line(reader, line)? {
             return Ok(End::Done);
@@ -163,7 +144,7 @@ pub fn run_script_with_faults<R: Read + Drop, W: Write, E: Write>(
     let mut session = Session::new(alloc, options)?;
     let mut line = Vec::new(alloc);
     let end = run_lines(&mut reader, &mut session, output, &mut line);
-    hand_on(&mut session, output)?;
+    session.report.hand_on(output).map_err(|_| RunError::Write)?;
     tell(end?, faults)
 }
 

@@ -3,15 +3,10 @@
 ghost use Rattle.std.specs.Prelude.{◌≡◌, All, OnOk, length};
 ghost use Rattle.tool.specs.Transfers.{read_of, write_of};
 
-use crate::fault::{LineFault, Transfer};
-use crate::line::{Line, expected_text};
 use crate::options::Options;
-use crate::report::Report;
-use audit::AuditLine;
-use drive::{Accepted, Drive, set_range};
+use drive::{Accepted, Drive, DriveConfig, RangeRow, SetError, set_range};
 use fis::Tag;
-use locking::RangeRow;
-use sp_cells::{DriveConfig, SetError};
+use script_lines::{Line, LineFault, Report, Transfer, expected_text};
 use sp_tables::Tables;
 use std::alloc::{AllocError, Global};
 use thiserror::Error;
@@ -113,16 +108,16 @@ fn fill(buffer: &mut Vec<u8>, size: usize, byte: u8) -> Result<(), AllocError>
 
 impl Session {
     ghost use Rattle.std.specs.Prelude.{◌≡◌, ◌<◌, ◌≤◌, ◌^◌, ◌++◌, [], List, IfOk, OnOk, Ok, Err};
-    ghost use Rattle.tool.specs.Readings.{line_of};
+    ghost use Rattle.script_lines.specs.Lines.{line_of};
     ghost use Rattle.tool.specs.Scripts.{GoesOn, Says};
     ghost use Rattle.trusted_cmds.specs.Commands.{lba_of, count_of, most_sectors};
     ghost use Rattle.drive.specs.Opening.{Opening, opened};
     ghost use Rattle.drive.specs.History.{Act};
-    ghost use Rattle.tool.specs.Transfers.{RunsOn, Accepts, Serves, Transfers, Does, AddsRow, Prints, refusal_lines};
-    ghost use Rattle.tool.specs.declared.line.Line.{Line};
+    ghost use Rattle.tool.specs.Transfers.{RunsOn, Accepts, Serves, Transfers, Does, AddsRow};
+    ghost use Rattle.script_lines.specs.declared.line.Line.{Line};
     ghost use Rattle.tool.specs.declared.session.Fault.{Fault};
     ghost use Rattle.tool.specs.declared.session.Turn.{Turn};
-    ghost use Rattle.tool.specs.declared.fault.LineFault.{LineFault};
+    ghost use Rattle.script_lines.specs.declared.fault.LineFault.{LineFault};
 
     pub fn new(alloc: Global, options: &Options) -> Result<Session, AllocError>
         ensures runs { IfOk result (λ session. (o : Opening) → opened options.now [] ≡ Ok o → RunsOn session o []) }
@@ -212,27 +207,6 @@ impl Session {
         }
     }
 
-    /// Prints that a command failed, and what denied it.
-    fn print_refusal(&mut self, client: u32, accepted: Accepted) -> Result<(), AllocError>
-        ensures text { OnOk result (Prints self.old.report self.new.report (refusal_lines self.old.acts client accepted.status accepted.error accepted.denied)) }
-        ensures stage { self.new.stage ≡ self.old.stage }
-        ensures acts { self.new.acts ≡ self.old.acts }
-    {
-        let Accepted {
-            status,
-            error,
-            denied,
-            ..
-        } = accepted;
-        self.report.print_failure(status, error)?;
-        if let Some(why) = denied {
-            let step = self.acts;
-            let line = AuditLine { step, client, why };
-            self.report.print_audit(self.alloc, &line)?;
-        }
-        Ok(())
-    }
-
     /// Completes a held transfer, whose payload has this byte in each place, and prints its data.
     fn serve(&mut self, tag: Tag, byte: u8) -> Result<(), AllocError>
         ensures { OnOk result ((o : Opening) (acts : List Act) → RunsOn self.old o acts → Serves self.old self.new o acts tag byte) }
@@ -284,7 +258,14 @@ impl Session {
         if accepted.held {
             self.serve(transfer.tag, byte)
         } else {
-            self.print_refusal(transfer.client, accepted)
+            let Accepted {
+                status,
+                error,
+                denied,
+                ..
+            } = accepted;
+            self.report
+                .print_refusal(self.acts, transfer.client, status, error, denied)
         }
     }
 }

@@ -1,4 +1,4 @@
-use Rattle.std.proofs.Common.{◌≡◌, Bool, true, false, IfSome, subst, ap, ◌∙◌}
+use Rattle.std.proofs.Common.{◌≡◌, IfSome, subst, ap, ◌∙◌}
 use Rattle.std.specs.Io.Buffered.{reader_remaining}
 use Rattle.tool.specs.Scripts.{bare, script_lines, TakesLine, IsLine, IsExpect, IsBadOrRange, Says}
 use Rattle.tool.proofs.Texts.{weaker, one-more, comes-to, all-read}

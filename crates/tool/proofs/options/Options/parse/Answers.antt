@@ -1,5 +1,4 @@
-use Rattle.std.proofs.Common.{rules, ◌≡◌}
-use Rattle.tool.specs.OptionTexts.{WritesConfig, IsFirstFault}
+use Rattle.std.proofs.Common.{rules}
 use Rattle.tool.proofs.options.Options.parse.Goals as goal
 
 -- src/options.rt:48:5

@@ -1,9 +1,7 @@
-use Rattle.std.proofs.Common.{◌≡◌, ◌∷◌, ◌++◌, [], OnOk, sym, ap, subst, ◌∙◌}
-use Rattle.drive.specs.Completions.{data_of}
-use Rattle.drive.specs.History.{Accept, log, event, held, sector}
+use Rattle.std.proofs.Common.{◌≡◌, ◌∷◌, [], sym, subst, ◌∙◌}
+use Rattle.drive.specs.History.{Accept, log, event}
 use Rattle.drive.specs.Answers.{holds}
-use Rattle.tool.specs.Reports.{data_text}
-use Rattle.tool.specs.Transfers.{printed, Follows}
+use Rattle.tool.specs.Transfers.{Follows}
 use Rattle.tool.proofs.Runs.{on_ok, of_report}
 use Rattle.tool.proofs.session.Session.transfer.Goals as goal
 

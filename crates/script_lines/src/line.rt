@@ -1,13 +1,23 @@
 //! Lines of a script, as they are written.
 
 ghost use Rattle.std.specs.Prelude.{◌≡◌};
-ghost use Rattle.tool.specs.Readings.{expected_text};
+ghost use Rattle.script_lines.specs.Lines.{expected_text};
 
-use crate::fault::{LineFault, Transfer};
+use crate::fault::LineFault;
+use crate::field::Field;
 use crate::number::number_up_to;
 use crate::words::Words;
 use fis::{Lba, Tag};
 use locking::RangeRow;
+
+/// A queued transfer, with its count as the field writes it.
+#[derive(Clone, Copy, Debug, PartialEq, Eq)]
+pub struct Transfer {
+    pub client: u32,
+    pub tag: Tag,
+    pub lba: Lba,
+    pub count: u16,
+}
 
 /// A line of a script.
 #[derive(Clone, Copy, Debug, PartialEq, Eq)]
@@ -24,25 +34,28 @@ pub enum Line {
 
 impl<'a> Words<'a> {
     ghost use Rattle.std.specs.Prelude.{◌≡◌, ◌==◌, ◌≤◌, length, IfOk, OnOk};
-    ghost use Rattle.tool.specs.Words.{first_word, after_word, after_words};
-    ghost use Rattle.tool.specs.Numbers.{number_up_to};
-    ghost use Rattle.tool.specs.Lines.{or_fault, flag_of, byte_of, range_in, transfer_in};
+    ghost use Rattle.script_lines.specs.Words.{first_word, after_word, after_words};
+    ghost use Rattle.script_lines.specs.Fields.{most_of, number_in, flag_in, byte_in, range_in, transfer_in};
 
-    /// The next word as a number of at most so much.
-    fn number(&mut self, most: u64) -> Result<u64, LineFault>
-        ensures value { result ≡ or_fault LineFault.Number (number_up_to most (first_word self.old.rest.now)) }
-        ensures most { IfOk result (λ n. n ≤ most) }
+    /// The next word as the number of a field.
+    fn number(&mut self, field: Field) -> Result<u64, LineFault>
+        ensures value { result ≡ number_in field (first_word self.old.rest.now) }
+        ensures most { IfOk result (λ n. n ≤ most_of field) }
         ensures rest { self.new.rest.now ≡ after_word self.old.rest.now }
     {
-        number_up_to(most, self.next_word()).ok_or(LineFault::Number)
+        let word = self.next_word();
+        if word.is_empty() {
+            return Err(LineFault::Missing(field));
+        }
+        number_up_to(field.most(), word).ok_or(LineFault::Wrong(field))
     }
 
-    /// The next word as one of 0 and 1.
-    fn flag(&mut self) -> Result<bool, LineFault>
-        ensures value { result ≡ flag_of (or_fault LineFault.Number (number_up_to 1 (first_word self.old.rest.now))) }
+    /// The next word as a flag, 0 or 1.
+    fn flag(&mut self, field: Field) -> Result<bool, LineFault>
+        ensures value { result ≡ flag_in field (first_word self.old.rest.now) }
         ensures rest { self.new.rest.now ≡ after_word self.old.rest.now }
     {
-        Ok(self.number(1)? == 1)
+        Ok(self.number(field)? == 1)
     }
 
     /// Whether no word is left.
@@ -54,13 +67,17 @@ impl<'a> Words<'a> {
 
     /// The next word as a byte of two hex digits.
     fn byte(&mut self) -> Result<u8, LineFault>
-        ensures value { result ≡ byte_of (first_word self.old.rest.now) }
+        ensures value { result ≡ byte_in (first_word self.old.rest.now) }
         ensures rest { self.new.rest.now ≡ after_word self.old.rest.now }
     {
+        let word = self.next_word();
+        if word.is_empty() {
+            return Err(LineFault::Missing(Field::Byte));
+        }
         let mut byte = [0];
-        match hex::decode_to_slice(self.next_word(), &mut byte) {
+        match hex::decode_to_slice(word, &mut byte) {
             Ok(()) => Ok(byte[0]),
-            Err(_) => Err(LineFault::Hex),
+            Err(_) => Err(LineFault::Wrong(Field::Byte)),
         }
     }
 
@@ -68,13 +85,13 @@ impl<'a> Words<'a> {
         ensures value { result ≡ range_in self.old.rest.now }
         ensures rest { OnOk result (self.new.rest.now ≡ after_words 7 self.old.rest.now) }
     {
-        let range = self.number(u64::from(u8::MAX))? as u8;
-        let start = self.number(u64::MAX)?;
-        let length = self.number(u64::MAX)?;
-        let read_enabled = self.flag()?;
-        let write_enabled = self.flag()?;
-        let read_locked = self.flag()?;
-        let write_locked = self.flag()?;
+        let range = self.number(Field::Range)? as u8;
+        let start = self.number(Field::Start)?;
+        let length = self.number(Field::Length)?;
+        let read_enabled = self.flag(Field::ReadLockEnabled)?;
+        let write_enabled = self.flag(Field::WriteLockEnabled)?;
+        let read_locked = self.flag(Field::ReadLocked)?;
+        let write_locked = self.flag(Field::WriteLocked)?;
         Ok(RangeRow {
             range,
             start,
@@ -90,10 +107,10 @@ impl<'a> Words<'a> {
         ensures value { result ≡ transfer_in self.old.rest.now }
         ensures rest { OnOk result (self.new.rest.now ≡ after_words 4 self.old.rest.now) }
     {
-        let client = self.number(u64::from(u32::MAX))? as u32;
-        let tag = Tag::new(self.number(31)? as u8).unwrap();
-        let lba = Lba::new(self.number((1 << 48) - 1)?).unwrap();
-        let count = self.number(u64::from(u16::MAX))? as u16;
+        let client = self.number(Field::Client)? as u32;
+        let tag = Tag::new(self.number(Field::Tag)? as u8).unwrap();
+        let lba = Lba::new(self.number(Field::Address)?).unwrap();
+        let count = self.number(Field::Count)? as u16;
         Ok(Transfer {
             client,
             tag,
@@ -105,7 +122,7 @@ impl<'a> Words<'a> {
 
 impl Line {
     ghost use Rattle.std.specs.Prelude.{◌≡◌};
-    ghost use Rattle.tool.specs.Readings.{line_of};
+    ghost use Rattle.script_lines.specs.Lines.{line_of};
 
     /// Reads a line, which has no line feed.
     pub fn parse(text: &[u8]) -> Result<Line, LineFault>
@@ -146,7 +163,7 @@ impl Line {
 }
 
 /// The text that an `expect` line asks for: all that stands behind the word and one blank.
-pub(crate) fn expected_text(text: &[u8]) -> &[u8]
+pub fn expected_text(text: &[u8]) -> &[u8]
     ensures { result.now ≡ expected_text text.now }
 {
     let mut words = Words::new(text);

@@ -5,12 +5,12 @@
 --   expect TEXT                          the last printed line is TEXT, byte for byte
 use Rattle.std.specs.Prelude.{ℕ, ◌==◌, length, drop, codes, Bool, if◌then◌else◌, List, Result, Ok, Err}
 use Rattle.std.specs.Str.{bytes_eq}
-use Rattle.tool.specs.Words.{after_words, first_word, after_word}
-use Rattle.tool.specs.Lines.{◌>>=◌, transfer_in, range_in, byte_of}
-use Rattle.tool.specs.declared.fault.LineFault.{LineFault}
-use Rattle.tool.specs.declared.fault.LineFault.TheVariants.{UnknownWord, Extra}
-use Rattle.tool.specs.declared.line.Line.{Line}
-use Rattle.tool.specs.declared.line.Line.TheVariants.{Range, Read, Write, Expect}
+use Rattle.script_lines.specs.Words.{after_words, first_word, after_word}
+use Rattle.script_lines.specs.Fields.{◌>>=◌, transfer_in, range_in, byte_in}
+use Rattle.script_lines.specs.declared.fault.LineFault.{LineFault}
+use Rattle.script_lines.specs.declared.fault.LineFault.TheVariants.{UnknownWord, Extra}
+use Rattle.script_lines.specs.declared.line.Line.{Line}
+use Rattle.script_lines.specs.declared.line.Line.TheVariants.{Range, Read, Write, Expect}
 
 -- the line, where no word is left
 abbrev pub ended : List ℕ → Line → Result Line LineFault
@@ -27,7 +27,7 @@ read_line rest = transfer_in rest >>= λ transfer. ended (after_words 4 rest) (R
 -- what the words behind `write` say
 abbrev pub write_line : List ℕ → Result Line LineFault
 write_line rest =
-    transfer_in rest >>= λ transfer. byte_of (first_word (after_words 4 rest)) >>= λ byte. ended (after_words 5 rest) (Write transfer byte)
+    transfer_in rest >>= λ transfer. byte_in (first_word (after_words 4 rest)) >>= λ byte. ended (after_words 5 rest) (Write transfer byte)
 
 -- the words are the same bytes
 abbrev pub is_word : List ℕ → List ℕ → Bool

@@ -1,7 +1,6 @@
-use Rattle.std.proofs.Common.{rules, ◌≡◌, Ok, Err}
-use Rattle.tool.specs.Numbers.{number_up_to}
-use Rattle.tool.proofs.Numerals.{no_text, is_number, no_number}
-use Rattle.tool.proofs.number.number_up_to.Goals as goal
+use Rattle.std.proofs.Common.{rules}
+use Rattle.script_lines.proofs.Numerals.{no_text, is_number, no_number}
+use Rattle.script_lines.proofs.number.number_up_to.Goals as goal
 
 -- src/number.rt:11:16
 pub returns-in_err-text-clause-exact : goal.returns-in_err-text-clause-exact
