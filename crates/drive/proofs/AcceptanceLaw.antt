@@ -1,6 +1,6 @@
 -- What comes to the policy is held exactly where it is permitted.
-use Rattle.std.proofs.Common.{◌≡◌, ℕ, ◌+◌, ◌/◌, ◌%◌, ◌≤◌, Bool, true, false, List, [], ◌∷◌, ◌==◌, slice_index, not, ◌&&◌, ◌||◌, nat_lt, if◌then◌else◌, Result, Ok, Err, Option, Some, None, refl, sym, subst, ap, ◌∙◌, eq-eqb}
-use Rattle.std.specs.Prelude.{is_some, ◌↔◌}
+use Rattle.std.proofs.Common.{◌≡◌, ℕ, ◌+◌, ◌/◌, ◌%◌, ◌≤◌, Bool, true, false, List, ◌∷◌, ◌==◌, slice_index, not, ◌&&◌, ◌||◌, if◌then◌else◌, Ok, Option, Some, None, refl, sym, subst, ap, ◌∙◌, eq-eqb}
+use Rattle.std.specs.Prelude.{is_some}
 use Rattle.std.proofs.lemmas.Bool.{le-ltb}
 use Rattle.fis.specs.H2d.{h2d_at}
 use Rattle.fis.specs.declared.h2d.RegH2d.{RegH2d}
@@ -16,12 +16,12 @@ use Rattle.trusted_cmds.specs.Commands.{reading, fault_of, read_unless, is_queue
 use Rattle.trusted_cmds.specs.declared.command.Command.{Command}
 use Rattle.trusted_cmds.specs.declared.command.Command.TheVariants.{ReadQueued, WriteQueued}
 use Rattle.drive.specs.declared.decision.Decision.{Decision}
-use Rattle.drive.specs.declared.decision.Decision.TheVariants.{Refused, Fails, Holds}
-use Rattle.drive.specs.Opening.{Opening}
-use Rattle.drive.specs.Decisions.{failure_of, by_verdict, admitted, fails, known, judged, decision, any_below}
+use Rattle.drive.specs.declared.decision.Decision.TheVariants.{Refused}
+use Rattle.drive.specs.Opening.{Origin}
+use Rattle.drive.specs.Decisions.{by_verdict, admitted, fails, known, judged, any_below}
 use Rattle.drive.specs.Events.{Event, event_of}
-use Rattle.drive.specs.History.{Act, Accept, log, event, held, is_held, failure, in_force, decision_after}
-use Rattle.drive.specs.TransferLaws.{op_of, IsPermitted, IsAsked, ComesToPolicy, IsJudged, AcceptanceLaw}
+use Rattle.drive.specs.History.{log, held, is_held, failure, in_force, decision_after}
+use Rattle.drive.specs.TransferLaws.{op_of, IsPermitted, IsAsked, ComesToPolicy, AcceptanceLaw}
 
 -- a FIS with no fault is a command, and queued
 read-ok : (fault : Option CommandError) (h : RegH2d) (r : Command × Option ℕ) → read_unless fault h ≡ Ok r → fault ≡ None
@@ -42,7 +42,7 @@ admitted-free sectors rows h tag (ReadQueued lba count) within = rw (le-ltb sect
 admitted-free sectors rows h tag (WriteQueued lba count) within = rw (le-ltb sectors (lba + count) within) refl
 
 -- the decision is that of the verdict
-decision-policy : (o : Opening) (past : List Event) (fis : List ℕ) (command : Command) (tag : ℕ) → IsAsked fis command tag → ComesToPolicy o past command tag
+decision-policy : (o : Origin) (past : List Event) (fis : List ℕ) (command : Command) (tag : ℕ) → IsAsked fis command tag → ComesToPolicy o past command tag
     → decision_after o past fis ≡ by_verdict (h2d_at fis) tag command (verdict_of (ranges_in (in_force o past)) (op_of command) (lba_of command) (count_of command))
 decision-policy o past fis command tag asked comes =
     let h : RegH2d = h2d_at fis in

@@ -1,5 +1,5 @@
 -- What is held was accepted at an act of the list, and permitted there.
-use Rattle.std.proofs.Common.{◌≡◌, ℕ, ◌+◌, ◌≤◌, Bool, true, false, List, [], ◌∷◌, ◌++◌, ◌==◌, if◌then◌else◌, Option, Some, None, refl, sym, ap, ◌∙◌, inl, inr, ◌⊎◌, eqb-true}
+use Rattle.std.proofs.Common.{◌≡◌, ℕ, Bool, true, false, List, [], ◌∷◌, ◌==◌, if◌then◌else◌, Option, Some, None, refl, sym, ap, ◌∙◌, inl, inr, ◌⊎◌, eqb-true}
 use Rattle.std.specs.Prelude.{unwrap_or, is_some}
 use Rattle.locking.specs.Ranges.{ranges_in}
 use Rattle.locking.proofs.Verdicts.{served_is_permitted}
@@ -7,11 +7,11 @@ use Rattle.trusted_cmds.specs.Commands.{lba_of, count_of}
 use Rattle.trusted_cmds.specs.declared.command.Command.{Command}
 use Rattle.drive.specs.declared.decision.Decision.{Decision}
 use Rattle.drive.specs.declared.decision.Decision.TheVariants.{Refused, Fails, Holds}
-use Rattle.drive.specs.Opening.{Opening}
+use Rattle.drive.specs.Opening.{Origin}
 use Rattle.drive.specs.Decisions.{any_below}
 use Rattle.drive.specs.Events.{Event, latest, or_else, event_of}
 use Rattle.drive.specs.History.{Act, Accept, Complete, log, holding, held, is_held, failure, in_force, completed, decision_after}
-use Rattle.drive.specs.TransferLaws.{op_of, IsAsked, WasAccepted, HeldLaw}
+use Rattle.drive.specs.TransferLaws.{op_of, WasAccepted, HeldLaw}
 use Rattle.drive.proofs.Holding.{decision-holds}
 use Rattle.drive.proofs.Keeping.{held_moved}
 
@@ -38,7 +38,7 @@ held-completed : (payload : List ℕ) (t tag : ℕ) (past : List Event) (command
 held-completed payload t tag past command e =
     kept (t == tag) (held past tag) command (held_moved (held past t) payload t tag past (λ same. ap (held past) (sym same)) ∙ e)
 
-one_later : (o : Opening) (act : Act) (acts : List Act) (command : Command) (tag : ℕ) → WasAccepted o acts command tag → WasAccepted o (act ∷ acts) command tag
+one_later : (o : Origin) (act : Act) (acts : List Act) (command : Command) (tag : ℕ) → WasAccepted o acts command tag → WasAccepted o (act ∷ acts) command tag
 one_later o act acts command tag w =
     record {
       before = w.before;
@@ -51,7 +51,7 @@ one_later o act acts command tag w =
       permitted = w.permitted;
     }
 
-accepted_here : (o : Opening) (acts : List Act) (fis payload : List ℕ) (command : Command) (tag : ℕ) → decision_after o (log o acts) fis ≡ Holds tag command → WasAccepted o (Accept fis payload ∷ acts) command tag
+accepted_here : (o : Origin) (acts : List Act) (fis payload : List ℕ) (command : Command) (tag : ℕ) → decision_after o (log o acts) fis ≡ Holds tag command → WasAccepted o (Accept fis payload ∷ acts) command tag
 accepted_here o acts fis payload command tag e =
     let past = log o acts in
     let k = decision-holds o.tables.config.sectors (ranges_in (in_force o past)) (is_some (failure past)) (any_below (is_held past) 32) (is_held past) fis tag command e in

@@ -1,5 +1,5 @@
 -- What a decision to hold says of its FIS, and what the events then hold.
-use Rattle.std.proofs.Common.{◌≡◌, ℕ, ◌+◌, ◌≤◌, Bool, true, false, List, [], ◌∷◌, slice_index, not, ◌&&◌, ◌||◌, nat_lt, Result, Ok, Err, ◌==◌, if◌then◌else◌, is_some, Option, Some, None, refl, sym, ap, ◌∙◌, inl, inr, ◌⊎◌, eqb-true}
+use Rattle.std.proofs.Common.{◌≡◌, ℕ, ◌+◌, ◌≤◌, Bool, true, false, List, slice_index, not, ◌&&◌, ◌||◌, nat_lt, Result, Ok, Err, ◌==◌, if◌then◌else◌, Option, Some, None, refl, sym, eqb-true}
 use Rattle.std.proofs.lemmas.Bool.{ltb-false}
 use Rattle.fis.specs.H2d.{h2d_at}
 use Rattle.fis.specs.declared.h2d.RegH2d.{RegH2d}
@@ -16,7 +16,7 @@ use Rattle.trusted_cmds.specs.declared.command.Command.{Command}
 use Rattle.trusted_cmds.specs.declared.command.Command.TheVariants.{ReadQueued, WriteQueued}
 use Rattle.drive.specs.declared.decision.Decision.{Decision}
 use Rattle.drive.specs.declared.decision.Decision.TheVariants.{Refused, Fails, Holds}
-use Rattle.drive.specs.Decisions.{failure_of, by_verdict, placed, fails, admitted, known, judged, decision}
+use Rattle.drive.specs.Decisions.{failure_of, by_verdict, fails, admitted, known, judged, decision}
 use Rattle.drive.specs.TransferLaws.{op_of, IsAsked}
 
 -- The command is on the drive, and served.

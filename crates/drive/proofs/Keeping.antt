@@ -1,5 +1,5 @@
 -- Each act keeps the drive as the list of acts leaves it.
-use Rattle.std.proofs.Common.{◌≡◌, ℕ, zero, suc, ◌+◌, ◌-◌, ◌*◌, ◌/◌, ◌≤◌, ◌<◌, Bool, true, false, List, [], ◌∷◌, ◌++◌, reverse, length, is_some, slice_index, slice_set, not, ◌&&◌, ◌||◌, nat_le, nat_lt, take, drop, Result, Ok, Err, ◌==◌, if◌then◌else◌, Option, Some, None, refl, sym, subst, ap, ◌∙◌, arith, inl, inr, eq-eqb}
+use Rattle.std.proofs.Common.{◌≡◌, ℕ, zero, suc, ◌+◌, ◌-◌, ◌*◌, ◌/◌, ◌<◌, Bool, true, false, List, [], ◌∷◌, ◌++◌, reverse, length, is_some, slice_index, not, ◌&&◌, ◌||◌, nat_le, nat_lt, take, drop, Result, Ok, Err, ◌==◌, if◌then◌else◌, Option, Some, None, refl, sym, subst, ap, ◌∙◌, arith, inl, inr, eq-eqb}
 use Rattle.std.specs.Prelude.{unwrap_or}
 use Rattle.std.proofs.lemmas.Bool.{cases_eq, ne_eqb}
 use Rattle.std.proofs.Math.ListN.{length-set}
@@ -11,10 +11,10 @@ use Rattle.sp_tables.specs.Contents.{look_up}
 use Rattle.locking.specs.Ranges.{ranges_in}
 use Rattle.trusted_cmds.specs.declared.command.CommandError.{CommandError}
 use Rattle.trusted_cmds.specs.declared.command.CommandError.TheVariants.{Unknown, NotCommand, Device}
-use Rattle.trusted_cmds.specs.Commands.{reading, tag_of, is_queued}
+use Rattle.trusted_cmds.specs.Commands.{reading, is_queued}
 use Rattle.trusted_cmds.specs.declared.command.Command.{Command}
 use Rattle.trusted_cmds.specs.declared.command.Command.TheVariants.{ReadQueued, WriteQueued}
-use Rattle.drive.specs.Opening.{Opening}
+use Rattle.drive.specs.Opening.{Origin}
 use Rattle.shadow_mbr.specs.Stored.{Stored, zeros, sector_at, sectors_from}
 use Rattle.drive.specs.Completions.{data_of, sector_then}
 use Rattle.drive.specs.declared.failure.Failure.{Failure}
@@ -22,9 +22,9 @@ use Rattle.drive.specs.declared.decision.Decision.{Decision}
 use Rattle.drive.specs.declared.decision.Decision.TheVariants.{Refused, Fails, Holds}
 use Rattle.drive.specs.declared.answer.Accepted.{Accepted}
 use Rattle.drive.specs.declared.answer.Completed.{Completed}
-use Rattle.drive.specs.Decisions.{NamesSlot, none_held, fails, admitted, known, judged, held_at, is_held_at, any_below, decision}
-use Rattle.drive.specs.Events.{Event, Deed, OfQueue, Held, latest, or_else, event_of}
-use Rattle.drive.specs.History.{Act, Accept, Complete, log, event, in_force, holding, held, is_held, failure, writing, sector, completed, decision_after}
+use Rattle.drive.specs.Decisions.{NamesSlot, none_held, fails, admitted, known, held_at, is_held_at, any_below, decision}
+use Rattle.drive.specs.Events.{Event, latest, or_else, event_of}
+use Rattle.drive.specs.History.{Act, Accept, Complete, log, event, holding, held, is_held, failure, writing, sector, completed, decision_after}
 use Rattle.drive.specs.State.{State, StandsAs, Agrees, AgreesInOrder, IsMoved, decision_on, decided}
 use Rattle.drive.specs.Answers.{IsAnswer, IsCompletion, completion_fises}
 use Rattle.drive.proofs.Below.{any_below-agree}
@@ -45,13 +45,13 @@ decision-agree sectors rows failed busy p q fis same =
     (known-agree sectors rows p q (h2d_at fis) (reading (h2d_at fis)) same)
 
 -- a drive that stands so decides as the history does
-pub same_decision : (d : State) (o : Opening) (past : List Event) (fis : List ℕ) → StandsAs d o past → decision_on d fis ≡ decision_after o past fis
+pub same_decision : (d : State) (o : Origin) (past : List Event) (fis : List ℕ) → StandsAs d o past → decision_on d fis ≡ decision_after o past fis
 same_decision d o past fis h =
     let p : ℕ → Bool = is_held_at d.held in
     let q : ℕ → Bool = is_held past in
     let same : (t : ℕ) → p t ≡ q t = λ t. ap is_some (h.held_commands t) in
     let rows : RangeRows = ranges_in (look_up o.tables) in
-    ap (λ (x : Opening). decision x.tables.config.sectors (ranges_in (look_up x.tables)) (is_some d.failure) (any_below p 32) p fis) h.opening
+    ap (λ (x : Origin). decision x.tables.config.sectors (ranges_in (look_up x.tables)) (is_some d.failure) (any_below p 32) p fis) h.opening
     ∙ ap (λ (x : Option Failure). decision o.tables.config.sectors rows (is_some x) (any_below p 32) p fis) h.failed_queue
     ∙ ap (λ (x : Bool). decision o.tables.config.sectors rows (is_some (failure past)) x p fis) (any_below-agree p q 32 same)
     ∙ decision-agree o.tables.config.sectors rows (is_some (failure past)) (any_below q 32) p q fis same
@@ -62,7 +62,7 @@ held_here tag t x now rest e =
     elim (tag == t) as (λ b. (if b then x else now) ≡ unwrap_or (or_else (if b then Some x else None) rest) None) [ true ↦ refl | false ↦ e ]
 
 -- and then stands so after what it decided
-pub stands_decided : (d : State) (o : Opening) (past : List Event) (made : Decision) (sectors : ℕ) → NamesSlot sectors made → StandsAs d o past → StandsAs (decided d made) o (event_of made ∷ past)
+pub stands_decided : (d : State) (o : Origin) (past : List Event) (made : Decision) (sectors : ℕ) → NamesSlot sectors made → StandsAs d o past → StandsAs (decided d made) o (event_of made ∷ past)
 stands_decided d o past Refused sectors small h =
     record { opening = h.opening; slots = h.slots; held_commands = h.held_commands; failed_queue = h.failed_queue; sectors = h.sectors }
 stands_decided d o past (Fails fault denied) sectors small h =
@@ -78,16 +78,16 @@ stands_decided d o past (Holds tag command) sectors small h =
       sectors = h.sectors;
     }
 
-pub accept_agrees : (d : State) (o : Opening) (acts : List Act) (fis payload : List ℕ) (sectors : ℕ) → NamesSlot sectors (decision_on d fis) → Agrees d o acts → Agrees (decided d (decision_on d fis)) o (Accept fis payload ∷ acts)
+pub accept_agrees : (d : State) (o : Origin) (acts : List Act) (fis payload : List ℕ) (sectors : ℕ) → NamesSlot sectors (decision_on d fis) → Agrees d o acts → Agrees (decided d (decision_on d fis)) o (Accept fis payload ∷ acts)
 accept_agrees d o acts fis payload sectors small h =
     subst (λ (made : Decision). StandsAs (decided d (decision_on d fis)) o (event_of made ∷ log o acts)) (same_decision d o (log o acts) fis h) (stands_decided d o (log o acts) (decision_on d fis) sectors small h)
 
-pub accept_in_order : (d : State) (o : Opening) (acts : List Act) (fis payload : List ℕ) (sectors : ℕ) → NamesSlot sectors (decision_on d fis) → AgreesInOrder d o acts → AgreesInOrder (decided d (decision_on d fis)) o (acts ++ Accept fis payload ∷ [])
+pub accept_in_order : (d : State) (o : Origin) (acts : List Act) (fis payload : List ℕ) (sectors : ℕ) → NamesSlot sectors (decision_on d fis) → AgreesInOrder d o acts → AgreesInOrder (decided d (decision_on d fis)) o (acts ++ Accept fis payload ∷ [])
 accept_in_order d o acts fis payload sectors small h =
     let next = decided d (decision_on d fis) in
     subst (λ (past : List Act). Agrees next o past) (sym (reverse-append acts (Accept fis payload ∷ []))) (accept_agrees d o (reverse acts) fis payload sectors small h)
 
-pub accept_answers : (d : State) (o : Opening) (acts : List Act) (fis payload : List ℕ) (answer : Accepted) → Agrees d o acts → IsAnswer (event_of (decision_on d fis)) answer → IsAnswer (event o (log o acts) (Accept fis payload)) answer
+pub accept_answers : (d : State) (o : Origin) (acts : List Act) (fis payload : List ℕ) (answer : Accepted) → Agrees d o acts → IsAnswer (event_of (decision_on d fis)) answer → IsAnswer (event o (log o acts) (Accept fis payload)) answer
 accept_answers d o acts fis payload answer h a = rw (← same_decision d o (log o acts) fis h) a
 
 sectors_from-agree : (f g : ℕ → List ℕ) (first n : ℕ) → ((s : ℕ) → f s ≡ g s) → sectors_from f first n ≡ sectors_from g first n
@@ -100,14 +100,14 @@ data_of-agree f g None same = refl
 data_of-agree f g (Some (ReadQueued lba count)) same = sectors_from-agree f g lba count same
 data_of-agree f g (Some (WriteQueued lba count)) same = refl
 
-pub complete_answers : (d : State) (o : Opening) (acts : List Act) (tag : ℕ) (done : Completed) → Agrees d o acts → IsCompletion (sector_at d.media) tag (held_at d.held tag) done → IsCompletion (sector (log o acts)) tag (held (log o acts) tag) done
+pub complete_answers : (d : State) (o : Origin) (acts : List Act) (tag : ℕ) (done : Completed) → Agrees d o acts → IsCompletion (sector_at d.media) tag (held_at d.held tag) done → IsCompletion (sector (log o acts)) tag (held (log o acts) tag) done
 complete_answers d o acts tag done h a =
     record {
       fises = a.fises ∙ ap (completion_fises tag) (h.held_commands tag);
       bytes = a.bytes ∙ data_of-agree (sector_at d.media) (sector (log o acts)) (held_at d.held tag) h.sectors ∙ ap (data_of (sector (log o acts))) (h.held_commands tag);
     }
 
-pub complete_held : (d : State) (o : Opening) (acts : List Act) (tag : ℕ) → Agrees d o acts → held_at d.held tag ≡ held (log o acts) tag
+pub complete_held : (d : State) (o : Origin) (acts : List Act) (tag : ℕ) → Agrees d o acts → held_at d.held tag ≡ held (log o acts) tag
 complete_held d o acts tag h = h.held_commands tag
 
 -- what a completion of a command, or of none, leaves in a slot
@@ -135,7 +135,7 @@ sector_moved (Some (ReadQueued lba count)) payload tag past place = refl
 sector_moved (Some (WriteQueued lba count)) payload tag past place =
     sector_here (nat_le lba place && nat_lt place (lba + length payload / 512)) (take 512 (drop (512 * (place - lba)) payload)) (sector past place) (latest (writing place) past) refl
 
-pub complete_agrees : (old new : State) (o : Opening) (acts : List Act) (tag : ℕ) (payload : List ℕ) → tag < 32 → IsMoved old new tag payload → Agrees old o acts → Agrees new o (Complete tag payload ∷ acts)
+pub complete_agrees : (old new : State) (o : Origin) (acts : List Act) (tag : ℕ) (payload : List ℕ) → tag < 32 → IsMoved old new tag payload → Agrees old o acts → Agrees new o (Complete tag payload ∷ acts)
 complete_agrees old new o acts tag payload small m h =
     let past = log o acts in
     let was = held past tag in
@@ -155,11 +155,11 @@ complete_agrees old new o acts tag payload small m h =
           ∙ sector_moved was payload tag past s;
     }
 
-pub complete_in_order : (old new : State) (o : Opening) (acts : List Act) (tag : ℕ) (payload : List ℕ) → tag < 32 → IsMoved old new tag payload → AgreesInOrder old o acts → AgreesInOrder new o (acts ++ Complete tag payload ∷ [])
+pub complete_in_order : (old new : State) (o : Origin) (acts : List Act) (tag : ℕ) (payload : List ℕ) → tag < 32 → IsMoved old new tag payload → AgreesInOrder old o acts → AgreesInOrder new o (acts ++ Complete tag payload ∷ [])
 complete_in_order old new o acts tag payload small m h =
     subst (λ (past : List Act). Agrees new o past) (sym (reverse-append acts (Complete tag payload ∷ []))) (complete_agrees old new o (reverse acts) tag payload small m h)
 
-pub new_agrees : (o : Opening) (d : State) (media : Stored) → d ≡ (record { opening = o; held = none_held; failure = None; media = media }) → ((place : ℕ) → sector_at media place ≡ zeros) → Agrees d o []
+pub new_agrees : (o : Origin) (d : State) (media : Stored) → d ≡ (record { opening = o; held = none_held; failure = None; media = media }) → ((place : ℕ) → sector_at media place ≡ zeros) → Agrees d o []
 new_agrees o d media e blank =
     let fresh : Agrees (record { opening = o; held = none_held; failure = None; media = media }) o [] = record { opening = refl; slots = none_length; held_commands = no_slot; failed_queue = refl; sectors = blank } in
     subst (λ (x : State). Agrees x o []) (sym e) fresh

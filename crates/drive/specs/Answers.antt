@@ -1,6 +1,5 @@
 -- What a drive answers (Serial ATA, FISes to the host; ACS-3, Status and Error).
-use Rattle.std.specs.Prelude.{◌≡◌, ℕ, ◌*◌, ◌^◌, Bool, true, false, not, List, [], ◌∷◌, is_some, unwrap_or, Option, Some, None}
-use Rattle.arrayvec.specs.declared.array_vec.ArrayVec.{ArrayVec}
+use Rattle.std.specs.Prelude.{◌≡◌, ℕ, ◌*◌, ◌^◌, Bool, true, false, not, List, [], ◌∷◌, unwrap_or, Option, Some, None}
 use Rattle.fis.specs.declared.any.Fis.{Fis}
 use Rattle.fis.specs.declared.any.Fis.TheVariants as fises
 use Rattle.trusted_cmds.specs.Commands.{count_of}

@@ -1,6 +1,6 @@
 -- What the drive does with a command, by what is held and whether the queue has failed (ACS-3, NCQ feature set).
 -- The order of the rules stands here once. What the past says, and what a drive keeps, come as arguments.
-use Rattle.std.specs.Prelude.{ℕ, zero, suc, ◌+◌, Bool, true, false, not, ◌&&◌, ◌||◌, ◌==◌, ◌<◌, ◌≤◌, nat_lt, List, [], ◌∷◌, slice_index, slice_index_or, slice_set, replicate, is_some, Option, Some, None, Result, Ok, Err, if◌then◌else◌}
+use Rattle.std.specs.Prelude.{ℕ, zero, suc, ◌+◌, Bool, true, false, not, ◌&&◌, ◌||◌, ◌==◌, ◌<◌, ◌≤◌, nat_lt, List, slice_index, slice_index_or, slice_set, replicate, is_some, Option, Some, None, Result, Ok, Err, if◌then◌else◌}
 use Rattle.fis.specs.Types.{h2d_type}
 use Rattle.fis.specs.Tags.{slot_count}
 use Rattle.fis.specs.H2d.{h2d_at}

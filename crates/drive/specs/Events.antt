@@ -1,5 +1,5 @@
 -- What an act turned out to do, and the words by which a list of events is read. The newest event comes first.
-use Rattle.std.specs.Prelude.{ℕ, Bool, List, [], ◌∷◌, Option, Some, None}
+use Rattle.std.specs.Prelude.{ℕ, List, [], ◌∷◌, Option, Some, None}
 use Rattle.audit.specs.declared.reason.Why.{Why}
 use Rattle.trusted_cmds.specs.declared.command.Command.{Command}
 use Rattle.drive.specs.declared.failure.Failure.{Failure}

@@ -1,5 +1,5 @@
 -- What a drive owes after a list of acts, by looking back over the list. The newest act comes first, so "before" is the tail.
-use Rattle.std.specs.Prelude.{ℕ, ◌+◌, ◌-◌, ◌*◌, ◌/◌, length, Bool, true, false, ◌==◌, ◌&&◌, nat_le, nat_lt, List, [], ◌∷◌, take, drop, is_some, unwrap_or, Option, Some, None, if◌then◌else◌}
+use Rattle.std.specs.Prelude.{ℕ, ◌+◌, ◌-◌, ◌*◌, ◌/◌, length, Bool, ◌==◌, ◌&&◌, nat_le, nat_lt, List, [], ◌∷◌, take, drop, is_some, unwrap_or, Option, Some, None, if◌then◌else◌}
 use Rattle.fis.specs.Tags.{slot_count}
 use Rattle.sp_cells.specs.Flat.{LookUp}
 use Rattle.sp_tables.specs.Contents.{look_up}
@@ -8,10 +8,10 @@ use Rattle.trusted_cmds.specs.declared.command.Command.{Command}
 use Rattle.trusted_cmds.specs.declared.command.Command.TheVariants.{ReadQueued, WriteQueued}
 use Rattle.drive.specs.declared.failure.Failure.{Failure}
 use Rattle.drive.specs.declared.decision.Decision.{Decision}
-use Rattle.drive.specs.Opening.{Opening}
+use Rattle.drive.specs.Opening.{Origin}
 use Rattle.drive.specs.Decisions.{any_below, decision}
 use Rattle.shadow_mbr.specs.Stored.{sector_size, zeros}
-use Rattle.drive.specs.Events.{Event, Deed, Nothing, OfQueue, QueueDeed, Held, Completed, CompletedWrite, QueueFailed, event_of, did, latest}
+use Rattle.drive.specs.Events.{Event, Deed, Nothing, OfQueue, Held, Completed, CompletedWrite, QueueFailed, event_of, did, latest}
 
 -- A call that was not refused.
 pub data Act : Type 0 where
@@ -19,7 +19,7 @@ pub data Act : Type 0 where
   Complete : (tag : ℕ) (payload : List ℕ) → Act
 
 -- The rows in force: those of the opening.
-abbrev pub in_force : Opening → List Event → LookUp
+abbrev pub in_force : Origin → List Event → LookUp
 in_force o past = look_up o.tables
 
 -- Held commands: what the latest event that speaks of the tag left under it. A failed queue drops them all.
@@ -60,7 +60,7 @@ abbrev pub sector : List Event → ℕ → List ℕ
 sector past place = unwrap_or (latest (writing place) past) zeros
 
 -- What the drive does with a FIS after these events.
-abbrev pub decision_after : Opening → List Event → List ℕ → Decision
+abbrev pub decision_after : Origin → List Event → List ℕ → Decision
 decision_after o past fis =
     decision o.tables.config.sectors (ranges_in (in_force o past)) (is_some (failure past)) (any_below (is_held past) slot_count) (is_held past) fis
 
@@ -71,11 +71,11 @@ completed tag payload (Some (ReadQueued lba count)) = did (OfQueue (Completed ta
 completed tag payload (Some (WriteQueued lba count)) = did (OfQueue (CompletedWrite tag lba payload))
 
 -- What an act does after those events.
-abbrev pub event : Opening → List Event → Act → Event
+abbrev pub event : Origin → List Event → Act → Event
 event o past (Accept fis payload) = event_of (decision_after o past fis)
 event o past (Complete tag payload) = completed tag payload (held past tag)
 
 -- What each act did, by what the acts before it did.
-abbrev pub log : Opening → List Act → List Event
+abbrev pub log : Origin → List Act → List Event
 log o [] = []
 log o (act ∷ acts) = event o (log o acts) act ∷ log o acts

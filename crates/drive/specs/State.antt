@@ -1,12 +1,12 @@
 -- When a drive stands as a list of acts leaves it.
-use Rattle.std.specs.Prelude.{◌≡◌, ℕ, Bool, List, [], length, reverse, slice_set, is_some, Option, Some, None}
+use Rattle.std.specs.Prelude.{◌≡◌, ℕ, List, length, reverse, slice_set, is_some, Option, None}
 use Rattle.fis.specs.Tags.{slot_count}
 use Rattle.sp_tables.specs.Contents.{look_up}
 use Rattle.locking.specs.Ranges.{ranges_in}
 use Rattle.trusted_cmds.specs.declared.command.Command.{Command}
 use Rattle.drive.specs.declared.failure.Failure.{Failure}
 use Rattle.drive.specs.declared.decision.Decision.{Decision}
-use Rattle.drive.specs.Opening.{Opening}
+use Rattle.drive.specs.Opening.{Origin}
 use Rattle.drive.specs.Decisions.{held_at, is_held_at, any_below, decision, held_then, failed_then}
 use Rattle.shadow_mbr.specs.Stored.{Stored, sector_at}
 use Rattle.drive.specs.Completions.{sector_then}
@@ -15,13 +15,13 @@ use Rattle.drive.specs.History.{Act, log, held, failure, sector}
 
 -- What contracts see of a drive.
 pub record State : Type 0 where
-  pub opening : Opening
+  pub opening : Origin
   pub held : List (Option Command)
   pub failure : Option Failure
   pub media : Stored
 
 -- The drive stands as these events leave it, part by part.
-pub record StandsAs (drive : State) (o : Opening) (past : List Event) : Type 0 where
+pub record StandsAs (drive : State) (o : Origin) (past : List Event) : Type 0 where
   pub opening : drive.opening ≡ o
   pub slots : length drive.held ≡ slot_count
   pub held_commands : (tag : ℕ) → held_at drive.held tag ≡ held past tag
@@ -29,11 +29,11 @@ pub record StandsAs (drive : State) (o : Opening) (past : List Event) : Type 0 w
   pub sectors : (place : ℕ) → sector_at drive.media place ≡ sector past place
 
 -- The drive agrees with the opening and the acts so far, the newest first.
-abbrev pub Agrees : State → Opening → List Act → Type 0
+abbrev pub Agrees : State → Origin → List Act → Type 0
 Agrees drive o acts = StandsAs drive o (log o acts)
 
 -- The same for a list whose oldest act comes first.
-abbrev pub AgreesInOrder : State → Opening → List Act → Type 0
+abbrev pub AgreesInOrder : State → Origin → List Act → Type 0
 AgreesInOrder drive o acts = Agrees drive o (reverse acts)
 
 -- What the drive does with a FIS, by how it stands.

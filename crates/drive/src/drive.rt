@@ -7,7 +7,7 @@ ghost use Rattle.drive.specs.Completions.{expected, data_of, sector_then, is_rea
 use crate::answer::{Accepted, Completed, completion_fises};
 use crate::decision::{Decision, decide};
 use crate::failure::Failure;
-use crate::opening::tables_with;
+use crate::opening::Opening;
 use crate::queue::{no_commands, settle};
 use fis::{H2D_LENGTH, SLOT_COUNT, Tag};
 use locking::{RangeRow, Ranges};
@@ -115,8 +115,7 @@ impl Model for Drive {
 impl Drive {
     ghost use Rattle.std.specs.Prelude.{◌≡◌, ◌≤◌, ◌^◌, ◌⊎◌, [], ◌∷◌, ◌++◌, List, ◌<◌, ◌↔◌, OnOk, OnErr, IfOk, IfErr, IsErrOf, IsOkUnless, None, Ok, Err, length};
     ghost use Rattle.locking.specs.declared.range.RangeRow.{RangeRow};
-    ghost use Rattle.sp_cells.specs.declared.error.SetError.{SetError};
-    ghost use Rattle.drive.specs.Opening.{Opening, factory, opened};
+    ghost use Rattle.drive.specs.Opening.{Origin, factory_origin, origin_with};
     ghost use Rattle.drive.specs.Decisions.{NamesSlot, held_at};
     ghost use Rattle.shadow_mbr.specs.Stored.{sector_at};
     ghost use Rattle.drive.specs.Completions.{expected, data_of};
@@ -127,7 +126,7 @@ impl Drive {
 
     /// A drive as it leaves the factory, on which nothing was done.
     pub fn new(alloc: Global, config: DriveConfig) -> Result<Drive, DriveError>
-        ensures agrees { IfOk result (λ drive. Agrees drive (factory config) []) }
+        ensures agrees { IfOk result (λ drive. Agrees drive (factory_origin config) []) }
         ensures memory { IsOkUnless result DriveError.OutOfMemory }
     {
         let tables = Tables::factory(alloc, &config)?;
@@ -143,16 +142,20 @@ impl Drive {
         config: DriveConfig,
         rows: &[RangeRow],
     ) -> Result<Drive, SetError>
-        ensures agrees { IfOk result (λ drive. (o : Opening) × (opened config rows.now ≡ Ok o) × Agrees drive o []) }
-        ensures err { IfErr result (λ e. (e ≡ SetError.OutOfMemory) ⊎ (opened config rows.now ≡ Err e)) }
+        ensures agrees { IfOk result (λ drive. (o : Origin) × (origin_with config rows.now ≡ Ok o) × Agrees drive o []) }
+        ensures err { IfErr result (λ e. (e ≡ SetError.OutOfMemory) ⊎ (origin_with config rows.now ≡ Err e)) }
     {
-        let tables = tables_with(alloc, &config, rows)?;
-        let drive = Drive::over(alloc, tables)?;
-        Ok(drive)
+        let mut opening = Opening::new(alloc, config)?;
+        for row in rows {
+            if let Err(error) = opening.set_range(row) {
+                return Err(error);
+            }
+        }
+        Ok(opening.into_drive()?)
     }
 
     /// A drive over its tables.
-    fn over(alloc: Global, tables: Tables) -> Result<Drive, AllocError>
+    pub(crate) fn over(alloc: Global, tables: Tables) -> Result<Drive, AllocError>
         ensures { IfOk result (λ drive. Agrees drive (record { tables = tables }) []) }
     {
         let sectors = tables.config().sectors();
@@ -176,9 +179,9 @@ impl Drive {
     /// range (51h 04h), with its reason. Else the command is held (50h). A failed queue holds nothing.
     pub fn accept(&mut self, fis: &[u8; H2D_LENGTH], payload: &[u8]) -> Result<Accepted, DriveError>
         ensures ok { IsOkUnless result DriveError.OutOfMemory }
-        ensures agrees { OnOk result ((o : Opening) (acts : List Act) → Agrees self.old o acts → Agrees self.new o (Accept fis.now payload.now ∷ acts)) }
-        ensures in_order { OnOk result ((o : Opening) (acts : List Act) → AgreesInOrder self.old o acts → AgreesInOrder self.new o (acts ++ Accept fis.now payload.now ∷ [])) }
-        ensures answer { IfOk result (λ accepted. (o : Opening) (acts : List Act) → Agrees self.old o acts → IsAnswer (event o (log o acts) (Accept fis.now payload.now)) accepted) }
+        ensures agrees { OnOk result ((o : Origin) (acts : List Act) → Agrees self.old o acts → Agrees self.new o (Accept fis.now payload.now ∷ acts)) }
+        ensures in_order { OnOk result ((o : Origin) (acts : List Act) → AgreesInOrder self.old o acts → AgreesInOrder self.new o (acts ++ Accept fis.now payload.now ∷ [])) }
+        ensures answer { IfOk result (λ accepted. (o : Origin) (acts : List Act) → Agrees self.old o acts → IsAnswer (event o (log o acts) (Accept fis.now payload.now)) accepted) }
         ensures err { OnErr result (self.new ≡ self.old) }
     {
         Ok(self.take(fis))
@@ -225,10 +228,10 @@ impl Drive {
     #[tactic(auto, using(crate::proofs::Keeping::complete_answers, crate::proofs::Keeping::complete_held))]
     pub fn complete(&mut self, tag: Tag, payload: &[u8]) -> Result<Completed, DriveError>
         requires { length payload.now ≡ expected (held_at self.old.held tag) }
-        ensures agrees { OnOk result ((o : Opening) (acts : List Act) → Agrees self.old o acts → Agrees self.new o (Complete tag payload.now ∷ acts)) }
-        ensures in_order { OnOk result ((o : Opening) (acts : List Act) → AgreesInOrder self.old o acts → AgreesInOrder self.new o (acts ++ Complete tag payload.now ∷ [])) }
-        ensures answer { IfOk result (λ done. (o : Opening) (acts : List Act) → Agrees self.old o acts → IsCompletion (sector (log o acts)) tag (held (log o acts) tag) done) }
-        ensures not_held { (o : Opening) (acts : List Act) → Agrees self.old o acts → (IsErrOf result DriveError.NotHeld ↔ (held (log o acts) tag ≡ None)) }
+        ensures agrees { OnOk result ((o : Origin) (acts : List Act) → Agrees self.old o acts → Agrees self.new o (Complete tag payload.now ∷ acts)) }
+        ensures in_order { OnOk result ((o : Origin) (acts : List Act) → AgreesInOrder self.old o acts → AgreesInOrder self.new o (acts ++ Complete tag payload.now ∷ [])) }
+        ensures answer { IfOk result (λ done. (o : Origin) (acts : List Act) → Agrees self.old o acts → IsCompletion (sector (log o acts)) tag (held (log o acts) tag) done) }
+        ensures not_held { (o : Origin) (acts : List Act) → Agrees self.old o acts → (IsErrOf result DriveError.NotHeld ↔ (held (log o acts) tag ≡ None)) }
         ensures err { OnErr result (self.new ≡ self.old) }
     {
         self.finish(tag, payload)

@@ -14,9 +14,9 @@ pub use answer::{Accepted, Completed};
 pub use audit::Why;
 pub use drive::{Drive, DriveError};
 pub use failure::Failure;
-pub use laws::laws_of_transfers;
+pub use laws::{laws_of_openings, laws_of_transfers};
 pub use locking::RangeRow;
-pub use opening::set_range;
+pub use opening::Opening;
 pub use sp_cells::{DriveConfig, SetError};
 
 #[cfg(test)]
