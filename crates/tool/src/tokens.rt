@@ -5,9 +5,9 @@ ghost use Rattle.std.specs.Io.KnownBytes.{Appends};
 ghost use Rattle.hex.specs.Hex.{decode_of};
 ghost use Rattle.hex.specs.declared.error.FromHexError.{FromHexError};
 ghost use Rattle.tool.specs.TokenLines.{token_text};
-ghost use Rattle.tool.specs.declared.script.RunError.{RunError};
+ghost use Rattle.tool.specs.declared.ending.RunError.{RunError};
 
-use crate::script::RunError;
+use crate::ending::RunError;
 use hex::FromHexError;
 use std::alloc::{AllocError, Global};
 use std::io::Write;
