@@ -12,4 +12,4 @@ mod tokens;
 pub use ending::RunError;
 pub use options::{Options, OptionsFault};
 pub use script::{run_script, run_script_with_faults};
-pub use tokens::run_tokens;
+pub use tokens::{run_tokens, run_tokens_with_faults};

@@ -1,4 +1,6 @@
-use super::*;
+//! The registers of a port (AHCI 1.3.1, chapter 3).
+
+use hba_regs::*;
 use std::test::Fail;
 
 /// PxCMD after the port starts, and with FRE alone (AHCI 1.3.1, 3.3.7).

@@ -1,5 +1,7 @@
-use super::*;
+//! The memory of a port (AHCI 1.3.1, chapter 4).
+
 use fis::{Fis, Tag};
+use slots::*;
 use std::test::Fail;
 
 /// READ FPDMA QUEUED of 8 sectors from 123456h under tag 5 (Serial ATA, "Register - Host to Device";

@@ -1,4 +1,6 @@
-use super::*;
+//! Frame information structures (Serial ATA; ACS-3).
+
+use fis::*;
 use std::test::Fail;
 
 /// READ FPDMA QUEUED of 8 sectors from 123456h under tag 5 (Serial ATA, "Register - Host to Device";

@@ -1,0 +1,15 @@
+//! Tests against the standards: what no clause says, and values that come from outside.
+#![tactic(auto)]
+
+#[cfg(test)]
+mod faults;
+#[cfg(test)]
+mod fises;
+#[cfg(test)]
+mod memory;
+#[cfg(test)]
+mod registers;
+#[cfg(test)]
+mod scripts;
+#[cfg(test)]
+mod streams;
