@@ -36,7 +36,7 @@ impl Field {
             Field::Range | Field::Byte => u64::from(u8::MAX),
             Field::Count => u64::from(u16::MAX),
             Field::Client => u64::from(u32::MAX),
-            Field::Address => (1 << 48) - 1,
+            Field::Address => u64::MAX >> 16,
             Field::Start | Field::Length => u64::MAX,
         }
     }
