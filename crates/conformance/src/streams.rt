@@ -22,18 +22,10 @@ impl<'a> Read for Client<'a> {
         if self.calls == self.fails_at {
             return Err(io::Error::from(ErrorKind::BrokenPipe));
         }
-        let mut size = 0;
-        for byte in self.rest {
-            if size < buf.len() {
-                buf[size] = *byte;
-                size += 1;
-            }
-            if *byte == b'\n' {
-                break;
-            }
-        }
-        self.rest = &self.rest[size.min(self.rest.len())..];
-        Ok(size)
+        let end = self.rest.iter().position(|byte| *byte == b'\n');
+        let line = end.unwrap_or(self.rest.len()).saturating_add(1);
+        let size = line.min(buf.len());
+        self.rest.read(&mut buf[..size])
     }
 }
 
