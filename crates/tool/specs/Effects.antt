@@ -6,11 +6,10 @@ use Rattle.trusted_cmds.specs.Commands.{sectors, fis_of}
 use Rattle.trusted_cmds.specs.declared.command.Command.{Command}
 use Rattle.trusted_cmds.specs.declared.command.Command.TheVariants.{ReadQueued, WriteQueued}
 use Rattle.drive.specs.Opening.{Origin}
-use Rattle.drive.specs.Completions.{expected, data_of}
 use Rattle.drive.specs.Events.{Event}
-use Rattle.drive.specs.History.{Act, Accept, Complete, log, event, held, sector}
+use Rattle.drive.specs.History.{Act, Accept, Complete, log, event_after, held_transfer, sector_in}
 use Rattle.drive.specs.State.{Agrees}
-use Rattle.drive.specs.Answers.{IsAnswer, holds, status_of}
+use Rattle.drive.specs.Answers.{IsAnswer, expected_size, completion_bytes, is_hold, status_of}
 use Rattle.drive.specs.declared.answer.Accepted.{Accepted}
 use Rattle.script_lines.specs.Texts.{Prints, data_text, refusal_lines}
 use Rattle.script_lines.specs.Lines.{expected_text}
@@ -42,20 +41,20 @@ Stands run = (o : Origin) × (acts : List Act) × RunsOn run o acts
 abbrev pub Accepts : RunningPhase → Origin → List Act → Command → ℕ → Accepted → Type 0
 Accepts new o acts command tag accepted =
     (fis : List ℕ) × IsH2dSpelling fis (fis_of command tag) × RunsOn new o (Accept fis [] ∷ acts)
-    × IsAnswer (event o (log o acts) (Accept fis [])) accepted
+    × IsAnswer (event_after o (log o acts) (Accept fis [])) accepted
 
 -- a completion of what is held under a tag: one act more, and the data printed that the definitions give
 abbrev pub Serves : RunningPhase → Origin → List Act → ℕ → ℕ → Report → Report → Type 0
 Serves new o acts tag byte before after =
-    (payload : List ℕ) × All (λ each. each ≡ byte) payload × (length payload ≡ expected (held (log o acts) tag))
+    (payload : List ℕ) × All (λ each. each ≡ byte) payload × (length payload ≡ expected_size (held_transfer (log o acts) tag))
     × RunsOn new o (Complete tag payload ∷ acts)
-    × Prints before after (data_text (data_of (sector (log o acts)) (held (log o acts) tag)) ∷ [])
+    × Prints before after (data_text (completion_bytes (sector_in (log o acts)) (held_transfer (log o acts) tag)) ∷ [])
 
 -- a command that failed: nothing more is done, and its failure is printed with what denied it, under the number of the act
 abbrev pub Fails : RunningPhase → Origin → List Act → ℕ → Event → Report → Report → Type 0
 Fails new o acts client made before after =
     RunsOn new o acts
-    × Prints before after (refusal_lines (length acts % 2 ^ 64) client (status_of made.failed) (unwrap_or made.failed 0) made.denied)
+    × Prints before after (refusal_lines (length acts % 2 ^ 64) client (status_of made.error) (unwrap_or made.error 0) made.denied)
 
 -- what follows the acceptance
 abbrev pub Follows : Bool → RunningPhase → Origin → List Act → Transfer → ℕ → Event → Report → Report → Type 0
@@ -66,8 +65,8 @@ Follows false new o acts transfer byte made before after = Fails new o acts tran
 abbrev pub Transfers : RunningPhase → Origin → List Act → Command → Transfer → ℕ → Report → Report → Type 0
 Transfers new o acts command transfer byte before after =
     (fis : List ℕ) × IsH2dSpelling fis (fis_of command transfer.tag)
-    × Follows (holds (event o (log o acts) (Accept fis [])).deed) new o (Accept fis [] ∷ acts) transfer byte
-    (event o (log o acts) (Accept fis [])) before after
+    × Follows (is_hold (event_after o (log o acts) (Accept fis [])).deed) new o (Accept fis [] ∷ acts) transfer byte
+    (event_after o (log o acts) (Accept fis [])) before after
 
 -- what a line does: a read or a write is a queued transfer, an expectation is held against the last printed line, and a range line comes
 -- too late; neither of the last two acts or prints

@@ -141,19 +141,19 @@ impl RunningPhase {
     }
 
     /// Gives the drive the FIS of a queued command.
-    fn accept(&mut self, command: &Command, tag: Tag) -> Result<Accepted, AllocError>
+    fn accept(&mut self, command: &Command, tag: Tag) -> Accepted
         requires address { lba_of command.now < 2 ^ 48 }
         requires some { 0 < count_of command.now }
         requires count { count_of command.now ≤ most_sectors }
-        ensures { IfOk result
-            (λ accepted. (o : Origin) (acts : List Act) → RunsOn self.old o acts
-            → Accepts self.new o acts command.now tag accepted) }
+        ensures { (o : Origin) (acts : List Act) → RunsOn self.old o acts
+            → Accepts self.new o acts command.now tag result }
     {
-        let Ok(accepted) = self.drive.accept(&to_fis(command, tag).to_bytes(), &[]) else {
-            return Err(AllocError);
-        };
+        let accepted = self
+            .drive
+            .accept(&to_fis(command, tag).to_bytes(), &[])
+            .unwrap();
         self.acts = self.acts.wrapping_add(1);
-        Ok(accepted)
+        accepted
     }
 
     /// Accepts a queued transfer, and completes it where it is held.
@@ -172,7 +172,7 @@ impl RunningPhase {
             ((o : Origin) (acts : List Act) → RunsOn self.old o acts
             → Transfers self.new o acts command.now transfer.now byte report.old report.new) }
     {
-        let accepted = self.accept(command, transfer.tag)?;
+        let accepted = self.accept(command, transfer.tag);
         if accepted.held {
             self.serve(transfer.tag, byte, report)?;
             return Ok(Turn::Goes { aborted: false });
