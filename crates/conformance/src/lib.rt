@@ -13,3 +13,15 @@ mod frames;
 mod tables;
 #[cfg(test)]
 mod tokens;
+#[cfg(test)]
+mod faults;
+#[cfg(test)]
+mod fises;
+#[cfg(test)]
+mod memory;
+#[cfg(test)]
+mod registers;
+#[cfg(test)]
+mod scripts;
+#[cfg(test)]
+mod streams;

@@ -1,81 +1,89 @@
 -- What a drive owes after a list of acts, by looking back over the list. The newest act comes first, so "before" is the tail.
-use Rattle.std.specs.Prelude.{ℕ, ◌+◌, ◌-◌, ◌*◌, ◌/◌, length, Bool, true, false, ◌==◌, ◌&&◌, nat_le, nat_lt, List, [], ◌∷◌, take, drop, is_some, unwrap_or, Option, Some, None, if◌then◌else◌}
-use Rattle.fis.specs.Tags.{slot_count}
+use Rattle.std.specs.Prelude.{ℕ, ◌+◌, ◌-◌, ◌*◌, ◌/◌, length, ◌==◌, ◌&&◌, nat_le, nat_lt, List, [], ◌∷◌, take, drop, is_some, unwrap_or, Option, Some, None, if◌then◌else◌}
 use Rattle.sp_cells.specs.Flat.{LookUp}
 use Rattle.sp_tables.specs.Contents.{look_up}
 use Rattle.locking.specs.Ranges.{ranges_in}
-use Rattle.trusted_cmds.specs.declared.command.Command.{Command}
-use Rattle.trusted_cmds.specs.declared.command.Command.TheVariants.{ReadQueued, WriteQueued}
-use Rattle.drive.specs.declared.failure.Failure.{Failure}
-use Rattle.drive.specs.declared.decision.Decision.{Decision}
-use Rattle.drive.specs.Opening.{Opening}
-use Rattle.drive.specs.Decisions.{any_below, decision}
 use Rattle.shadow_mbr.specs.Stored.{sector_size, zeros}
-use Rattle.drive.specs.Events.{Event, Deed, Nothing, OfQueue, QueueDeed, Held, Completed, CompletedWrite, QueueFailed, event_of, did, latest}
+use Rattle.drive.specs.declared.failure.Failure.{Failure}
+use Rattle.drive.specs.declared.transfer.Transfer.{Transfer}
+use Rattle.drive.specs.declared.decision.Decision.{Decision}
+use Rattle.drive.specs.Opening.{Origin}
+use Rattle.drive.specs.Transfer.{by_op}
+use Rattle.drive.specs.Decision.{Standing, decision}
+use Rattle.drive.specs.Events.{Event, Deed, Nothing, OfQueue, Held, Completed, CompletedWrite, QueueFailed, event_of, plain_event, latest}
 
 -- A call that was not refused.
 pub data Act : Type 0 where
   Accept : (fis payload : List ℕ) → Act
   Complete : (tag : ℕ) (payload : List ℕ) → Act
 
--- The rows in force: those of the opening.
-abbrev pub in_force : Opening → List Event → LookUp
-in_force o past = look_up o.tables
+-- The rows in force: those that the drive started from.
+abbrev pub rows_in_force : Origin → List Event → LookUp
+rows_in_force o past = look_up o.tables
 
--- Held commands: what the latest event that speaks of the tag left under it. A failed queue drops them all.
-abbrev pub holding : ℕ → Deed → Option (Option Command)
-holding tag Nothing = None
-holding tag (OfQueue (Held held command)) = if held == tag then Some (Some command) else None
-holding tag (OfQueue (Completed done)) = if done == tag then Some None else None
-holding tag (OfQueue (CompletedWrite done lba bytes)) = if done == tag then Some None else None
-holding tag (OfQueue (QueueFailed failure)) = Some None
+-- What a deed leaves under a tag, where it speaks of it. A failed queue drops all.
+abbrev pub slot_after : ℕ → Deed → Option (Option Transfer)
+slot_after tag Nothing = None
+slot_after tag (OfQueue (Held held transfer)) = if held == tag then Some (Some transfer) else None
+slot_after tag (OfQueue (Completed done)) = if done == tag then Some None else None
+slot_after tag (OfQueue (CompletedWrite done lba bytes)) = if done == tag then Some None else None
+slot_after tag (OfQueue (QueueFailed failure)) = Some None
 
-abbrev pub held : List Event → ℕ → Option Command
-held past tag = unwrap_or (latest (holding tag) past) None
+-- What is held under a tag.
+abbrev pub held_transfer : List Event → ℕ → Option Transfer
+held_transfer past tag = unwrap_or (latest (slot_after tag) past) None
 
-abbrev pub is_held : List Event → ℕ → Bool
-is_held past tag = is_some (held past tag)
+-- How a deed leaves the queue failed.
+abbrev pub failure_after : Deed → Option (Option Failure)
+failure_after (OfQueue (QueueFailed failure)) = Some (Some failure)
+failure_after (OfQueue (Held tag transfer)) = None
+failure_after (OfQueue (Completed tag)) = None
+failure_after (OfQueue (CompletedWrite tag lba bytes)) = None
+failure_after Nothing = None
 
--- The failed queue, with what its log page tells.
-abbrev pub failing : Deed → Option (Option Failure)
-failing (OfQueue (QueueFailed failure)) = Some (Some failure)
-failing (OfQueue (Held tag command)) = None
-failing (OfQueue (Completed tag)) = None
-failing (OfQueue (CompletedWrite tag lba bytes)) = None
-failing Nothing = None
+-- How the queue has failed, if it has.
+abbrev pub queue_failure_in : List Event → Option Failure
+queue_failure_in past = unwrap_or (latest failure_after past) None
 
-abbrev pub failure : List Event → Option Failure
-failure past = unwrap_or (latest failing past) None
+-- What a deed leaves in a sector, where it moved data over it.
+abbrev pub bytes_after : ℕ → Deed → Option (List ℕ)
+bytes_after sector (OfQueue (CompletedWrite tag lba bytes)) =
+    if nat_le lba sector && nat_lt sector (lba + length bytes / sector_size)
+    then Some (take sector_size (drop (sector_size * (sector - lba)) bytes)) else None
+bytes_after sector (OfQueue (Held tag transfer)) = None
+bytes_after sector (OfQueue (Completed tag)) = None
+bytes_after sector (OfQueue (QueueFailed failure)) = None
+bytes_after sector Nothing = None
 
--- Media: a sector holds what the latest act that moved data over it wrote there, else zeros.
-abbrev pub writing : ℕ → Deed → Option (List ℕ)
-writing sector (OfQueue (CompletedWrite tag lba bytes)) =
-    if nat_le lba sector && nat_lt sector (lba + length bytes / sector_size) then Some (take sector_size (drop (sector_size * (sector - lba)) bytes)) else None
-writing sector (OfQueue (Held tag command)) = None
-writing sector (OfQueue (Completed tag)) = None
-writing sector (OfQueue (QueueFailed failure)) = None
-writing sector Nothing = None
+-- What a sector holds: the bytes that the latest act wrote there, else zeros.
+abbrev pub sector_in : List Event → ℕ → List ℕ
+sector_in past sector = unwrap_or (latest (bytes_after sector) past) zeros
 
-abbrev pub sector : List Event → ℕ → List ℕ
-sector past place = unwrap_or (latest (writing place) past) zeros
+-- What the rules ask of the past.
+abbrev pub standing_after : Origin → List Event → Standing
+standing_after o past = record {
+  sectors = o.tables.config.sectors;
+  ranges = ranges_in (rows_in_force o past);
+  has_failed = is_some (queue_failure_in past);
+  is_held = λ tag. is_some (held_transfer past tag);
+}
 
 -- What the drive does with a FIS after these events.
-abbrev pub decision_after : Opening → List Event → List ℕ → Decision
-decision_after o past fis =
-    decision o.tables.config.sectors (ranges_in (in_force o past)) (is_some (failure past)) (any_below (is_held past) slot_count) (is_held past) fis
+abbrev pub decision_after : Origin → List Event → List ℕ → Decision
+decision_after o past fis = decision (standing_after o past) fis
 
 -- A completion moves the data of what is held.
-abbrev pub completed : ℕ → List ℕ → Option Command → Event
-completed tag payload None = did Nothing
-completed tag payload (Some (ReadQueued lba count)) = did (OfQueue (Completed tag))
-completed tag payload (Some (WriteQueued lba count)) = did (OfQueue (CompletedWrite tag lba payload))
+abbrev pub completion_event : ℕ → List ℕ → Option Transfer → Event
+completion_event tag payload None = plain_event Nothing
+completion_event tag payload (Some transfer) =
+    plain_event (OfQueue (by_op transfer.op (Completed tag) (CompletedWrite tag transfer.lba payload)))
 
 -- What an act does after those events.
-abbrev pub event : Opening → List Event → Act → Event
-event o past (Accept fis payload) = event_of (decision_after o past fis)
-event o past (Complete tag payload) = completed tag payload (held past tag)
+abbrev pub event_after : Origin → List Event → Act → Event
+event_after o past (Accept fis payload) = event_of (decision_after o past fis)
+event_after o past (Complete tag payload) = completion_event tag payload (held_transfer past tag)
 
 -- What each act did, by what the acts before it did.
-abbrev pub log : Opening → List Act → List Event
+abbrev pub log : Origin → List Act → List Event
 log o [] = []
-log o (act ∷ acts) = event o (log o acts) act ∷ log o acts
+log o (act ∷ acts) = event_after o (log o acts) act ∷ log o acts

@@ -1,17 +1,15 @@
-ghost use Rattle.std.specs.Prelude.{◌≡◌, ◌^◌, ◌<◌, ◌≤◌, [], ◌∷◌};
-ghost use Rattle.drive.specs.Answers.{answer_fis, setup_fis, moved_fis};
+//! What the drive answers (Serial ATA, FISes to the host; ACS-3, Status and Error).
+
+ghost use Rattle.std.specs.Prelude.{◌≡◌, ◌^◌, ◌<◌, ◌≤◌, Some};
+ghost use Rattle.drive.specs.Answers.{register_fis, setup_fis, bits_fis, completion_fises};
 
 use crate::decision::{ABORTED, Decision};
+use crate::transfer::Transfer;
 use arrayvec::ArrayVec;
 use audit::Why;
 use fis::{DmaSetup, Fis, RegD2h, SetDeviceBits, StatusBits, Tag};
+use locking::Op;
 use std::alloc::Global;
-
-/// The status of a device that is ready (ACS-3, Status field).
-const READY: u8 = 0x50;
-
-/// The status beside an error.
-const FAILED: u8 = 0x51;
 
 /// What the drive answers to an accepted FIS.
 #[derive(Drop)]
@@ -39,17 +37,11 @@ pub struct Completed {
     pub bytes: Vec<u8>,
 }
 
-/// The register FIS that answers a command, with no field but these.
-fn answer_fis(interrupt: bool, status: u8, error: u8) -> Fis
-    ensures { result ≡ answer_fis interrupt status error }
-{
-    Fis::D2h(RegD2h {
-        interrupt,
-        status,
-        error,
-        ..RegD2h::default()
-    })
-}
+/// The status of a device that is ready (ACS-3, Status field).
+const READY: u8 = 0x50;
+
+/// The status beside an error.
+const FAILED: u8 = 0x51;
 
 impl Accepted {
     ghost use Rattle.drive.specs.Events.{event_of};
@@ -69,7 +61,7 @@ impl Accepted {
             Some(_) => FAILED,
         };
         let error = error.unwrap_or(0);
-        fises.push(answer_fis(!held, status, error));
+        fises.push(register_fis(!held, status, error));
         Accepted {
             status,
             error,
@@ -81,21 +73,43 @@ impl Accepted {
     }
 }
 
+/// A register FIS with no field but these.
+fn register_fis(interrupt: bool, status: u8, error: u8) -> Fis
+    ensures { result ≡ register_fis interrupt status error }
+{
+    Fis::D2h(RegD2h {
+        interrupt,
+        status,
+        error,
+        ..RegD2h::default()
+    })
+}
+
+/// The FISes that complete a held transfer.
+pub(crate) fn completion_fises(tag: Tag, transfer: &Transfer) -> ArrayVec<Fis, 2>
+    ensures { result.items ≡ completion_fises tag (Some transfer.now) }
+{
+    let mut fises = ArrayVec::new();
+    fises.push(setup_fis(tag, transfer));
+    fises.push(bits_fis(tag));
+    fises
+}
+
 /// The DMA Setup FIS that begins the data of a queued command.
-fn setup_fis(to_host: bool, tag: Tag, bytes: u32) -> Fis
-    ensures { result ≡ setup_fis to_host tag bytes }
+fn setup_fis(tag: Tag, transfer: &Transfer) -> Fis
+    ensures { result ≡ setup_fis tag transfer.now }
 {
     Fis::DmaSetup(DmaSetup {
-        to_host,
+        to_host: matches!(transfer.op, Op::Read),
         buffer_low: u32::from(tag.number()),
-        count: bytes,
+        count: transfer.size(),
         ..DmaSetup::default()
     })
 }
 
 /// The Set Device Bits FIS that ends a queued command.
-fn moved_fis(tag: Tag) -> Fis
-    ensures { result ≡ moved_fis tag }
+fn bits_fis(tag: Tag) -> Fis
+    ensures { result ≡ bits_fis tag }
 {
     Fis::SetDeviceBits(SetDeviceBits {
         interrupt: true,
@@ -103,14 +117,4 @@ fn moved_fis(tag: Tag) -> Fis
         active: 1 << u32::from(tag.number()),
         ..SetDeviceBits::default()
     })
-}
-
-/// The FISes of a completed command that moved so many bytes.
-pub(crate) fn completion_fises(to_host: bool, tag: Tag, bytes: u32) -> ArrayVec<Fis, 2>
-    ensures { result.items ≡ setup_fis to_host tag bytes ∷ moved_fis tag ∷ [] }
-{
-    let mut fises = ArrayVec::new();
-    fises.push(setup_fis(to_host, tag, bytes));
-    fises.push(moved_fis(tag));
-    fises
 }

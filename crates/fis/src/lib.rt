@@ -21,6 +21,3 @@ pub use h2d::{H2D_LENGTH, H2D_TYPE, RegH2d};
 pub use pio_setup::PioSetup;
 pub use set_device_bits::SetDeviceBits;
 pub use tag::{SLOT_COUNT, Tag};
-
-#[cfg(test)]
-mod tests;

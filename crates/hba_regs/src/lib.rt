@@ -12,6 +12,3 @@ pub use error::RegError;
 pub use interrupt::PxIs;
 pub use port::PortRegs;
 pub use register::Register;
-
-#[cfg(test)]
-mod tests;

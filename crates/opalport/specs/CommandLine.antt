@@ -24,7 +24,7 @@ tokens_line = with_rule (new_app (codes "tokens")) (record (new_rule (codes "hex
 abbrev pub opalport_line : App
 opalport_line =
     with_subcommand
-    (with_subcommand (on_top (λ s. record s { subcommand_required = true; arg_required_else_help = true }) (new_app (codes "opalport")))
+    (with_subcommand (on_top (λ s. record s { has_version = true; subcommand_required = true; arg_required_else_help = true }) (new_app (codes "opalport")))
     (drive_line (codes "run")).top) tokens_line.top
 
 -- what words ask for, by the texts as they are written

@@ -9,7 +9,7 @@ use Rattle.tool.specs.Scripts.{script_lines, EndsWith}
 use Rattle.tool.specs.TokenLines.{token_text}
 use Rattle.clap.specs.Words.{IsAmong, Kinds, Text, fault_of}
 use Rattle.clap.specs.declared.error.kind.ErrorKind.{ErrorKind}
-use Rattle.clap.specs.declared.error.kind.ErrorKind.TheVariants.{DisplayHelp}
+use Rattle.clap.specs.declared.error.kind.ErrorKind.TheVariants.{DisplayHelp, DisplayVersion}
 use Rattle.opalport.specs.CommandLine.{Asked, run, tokens, asked_by, opalport_line}
 
 -- the texts write a configuration within the limits
@@ -29,10 +29,11 @@ TokensEnd hex status old new =
     ((bytes : List ℕ) × (decode_of hex ≡ Ok bytes) × (status ≡ 0) × Appends old new (token_text bytes ++ 10 ∷ []))
     ⊎ ((e : FromHexError) × (decode_of hex ≡ Err e) × (status ≡ 2) × (new ≡ old))
 
--- help has status 0; any other fault of the words has status 2, and nothing is printed
+-- help and the version have status 0; any other fault of the words has status 2, and nothing is printed
 pub record Told (kind : ErrorKind) (status : ℕ) (old new : Option (List ℕ)) : Type 0 where
   pub help : kind ≡ DisplayHelp → status ≡ 0
-  pub fault : kind ≢ DisplayHelp → (status ≡ 2) × (new ≡ old)
+  pub version : kind ≡ DisplayVersion → status ≡ 0
+  pub fault : kind ≢ DisplayHelp → kind ≢ DisplayVersion → (status ≡ 2) × (new ≡ old)
 
 -- the words ask for something, and this is how it ends
 abbrev pub Serves : Option Asked → Option (List ℕ) → ℕ → Option (List ℕ) → Option (List ℕ) → Type 0

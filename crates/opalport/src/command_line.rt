@@ -42,11 +42,23 @@ fn option<'a>(
         .help(help)
 }
 
+/// What `run --help` says of lines and statuses.
+const LINES: &str = "\
+Lines, whose words stand between blanks; numbers are decimal, HH is two hex digits:
+  range N START LENGTH RE WE RL WL  the cells of range N (0 to 8), before other lines
+  read C T L N                      a queued read of client C under tag T (0 to 31),
+                                    from sector L, N sectors (0 is 65536)
+  write C T L N HH                  a queued write, whose bytes are all HH
+  expect TEXT                       the last printed line is TEXT
+
+Status: 0 done, 1 an expectation failed, 2 a bad line, bad usage or an error";
+
 /// A command that opens a drive, with the options that say which.
 fn drive_command<'a>(
     alloc: Global,
     name: &'static str,
     about: &'static str,
+    lines: &'static str,
 ) -> Result<Command<'a>, AllocError>
     ensures { IfOk result (λ command. app_of command ≡ drive_line name.now) }
 {
@@ -67,6 +79,7 @@ fn drive_command<'a>(
     );
     Command::new(alloc, name)
         .about(about)
+        .after_help(lines)
         .arg(sectors)?
         .arg(shadow)?
         .arg(msid)
@@ -90,10 +103,11 @@ fn command<'a>(alloc: Global) -> Result<Command<'a>, AllocError>
     ensures { IfOk result (λ command. app_of command ≡ opalport_line) }
 {
     Command::new(alloc, "opalport")
+        .version("0.2.0")
         .about("A self-locking drive behind an AHCI port, driven by a script")
         .subcommand_required(true)
         .arg_required_else_help(true)
-        .subcommand(drive_command(alloc, "run", "Runs a script from standard input")?)?
+        .subcommand(drive_command(alloc, "run", "Runs a script from standard input", LINES)?)?
         .subcommand(tokens_command(alloc)?)
 }
 

@@ -8,7 +8,7 @@ use crate::command_line::{DriveTexts, Request, request_of};
 use clap::error::ErrorKind;
 use std::alloc::Global;
 use std::io::{Read, Write};
-use tool::{Options, OptionsFault, RunError, run_script_with_faults, run_tokens};
+use tool::{Options, OptionsFault, RunError, run_script_with_faults, run_tokens_with_faults};
 
 /// Runs a script on the drive that the options open, and gives the status.
 fn run<R: Read + Drop, W: Write, E: Write>(
@@ -45,18 +45,11 @@ fn tokens<W: Write, E: Write>(
 ) -> Result<u8, RunError>
     ensures { IfOk result (λ status. TokensEnd hex.now status (W.contents output.old) (W.contents output.new)) }
 {
-    let status = run_tokens(alloc, hex, output)?;
-    if status == 2 {
-        writeln!(
-            faults,
-            "error: HEX is not written in hex digits, two for each byte"
-        )
-        .map_err(|_| RunError::Write)?;
-    }
+    let status = run_tokens_with_faults(alloc, hex, output, faults)?;
     Ok(status)
 }
 
-/// Prints the help that the words ask for, or tells what is wrong with them, and gives the status.
+/// Prints the help or the version that the words ask for, or tells what is wrong with them, and gives the status.
 fn tell<W: Write, E: Write>(
     error: &clap::Error,
     output: &mut W,
@@ -68,6 +61,10 @@ fn tell<W: Write, E: Write>(
     match error.kind() {
         ErrorKind::OutOfMemory => Err(RunError::Memory),
         ErrorKind::DisplayHelp => {
+            write!(output, "{error}").map_err(|_| RunError::Write)?;
+            Ok(0)
+        }
+        ErrorKind::DisplayVersion => {
             write!(output, "{error}").map_err(|_| RunError::Write)?;
             Ok(0)
         }

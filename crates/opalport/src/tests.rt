@@ -61,6 +61,8 @@ fn tells_what_is_wrong_with_words(rt: HostRuntime) -> Result<(), Fail> {
         ("opalport --help", "DisplayHelp"),
         ("opalport help", "DisplayHelp"),
         ("opalport run --help", "DisplayHelp"),
+        ("opalport --version", "DisplayVersion"),
+        ("opalport -V", "DisplayVersion"),
         ("opalport", "DisplayHelpOnMissingArgumentOrSubcommand"),
         ("opalport walk", "InvalidSubcommand"),
         ("opalport --sectors 70", "UnknownArgument"),
@@ -76,42 +78,84 @@ fn tells_what_is_wrong_with_words(rt: HostRuntime) -> Result<(), Fail> {
     Ok(())
 }
 
-/// The status of each end, and whether anything is printed and anything is told.
+/// The status of each end, what it prints and what it tells of faults, as far as they are shown here.
 #[test]
 fn ends_with_a_status(rt: HostRuntime) -> Result<(), Fail> {
     let reads = b"read 1 0 5 1\n".as_slice();
-    for (line, script, wanted) in [
-        ("opalport run", reads, (0, true, false)),
-        ("opalport run", b"expect ok\n".as_slice(), (1, false, false)),
-        ("opalport run", b"walk\n".as_slice(), (2, false, true)),
-        ("opalport run --sectors 8", reads, (0, true, false)),
-        ("opalport run --sectors 7", reads, (2, false, true)),
-        ("opalport run --sectors +8", reads, (2, false, true)),
-        ("opalport run --shadow -8", reads, (2, false, true)),
-        ("opalport run --msid ", reads, (2, false, true)),
-        ("opalport run --msid zz", reads, (2, false, true)),
-        ("opalport tokens f8", reads, (0, true, false)),
-        ("opalport tokens zz", reads, (2, false, true)),
-        ("opalport --help", reads, (0, true, false)),
-        ("opalport", reads, (2, false, true)),
-        ("opalport tokens", reads, (2, false, true)),
+    for (line, script, status, printed, told) in [
+        ("opalport run", reads, 0, "ok 00000000\n", ""),
+        ("opalport run", b"expect ok\n", 1, "", "line 1: expected"),
+        ("opalport run", b"walk\n", 2, "", "line 1: the first word"),
+        ("opalport run --sectors 8", reads, 0, "ok 00000000\n", ""),
+        (
+            "opalport run --sectors 7",
+            reads,
+            2,
+            "",
+            "error: a shadow of 8 sectors",
+        ),
+        (
+            "opalport run --sectors +8",
+            reads,
+            2,
+            "",
+            "error: --sectors is no",
+        ),
+        ("opalport run --shadow -8", reads, 2, "", "error: "),
+        ("opalport run --msid ", reads, 2, "", "error: "),
+        (
+            "opalport run --msid zz",
+            reads,
+            2,
+            "",
+            "error: --msid is not written in hex",
+        ),
+        (
+            "opalport tokens f0f0f1",
+            reads,
+            0,
+            "malformed 1 Truncated\n",
+            "",
+        ),
+        (
+            "opalport tokens zz",
+            reads,
+            2,
+            "",
+            "error: HEX is not written in hex",
+        ),
+        ("opalport --version", reads, 0, "opalport 0.2.0\n", ""),
+        ("opalport --help", reads, 0, "A self-locking drive", ""),
+        ("opalport run --help", reads, 0, "Runs a script", ""),
+        ("opalport", reads, 2, "", "A self-locking drive"),
+        ("opalport tokens", reads, 2, "", "error: "),
     ] {
-        let (status, output, faults) = end(&rt, line, script)?;
+        let (end, output, faults) = end(&rt, line, script)?;
+        assert_eq!(rt; end, status, "at {line}");
+        assert_eq!(rt; output.starts_with(printed.as_bytes()), true, "at {line}");
+        assert_eq!(rt; faults.starts_with(told.as_bytes()), true, "at {line}");
         assert_eq!(rt;
-            (status, !output.is_empty(), !faults.is_empty()),
-            wanted,
+            (output.is_empty(), faults.is_empty()),
+            (printed.is_empty(), told.is_empty()),
             "at {line}"
         );
     }
     Ok(())
 }
 
-/// What a script and a token stream print, on the drive that stands by default.
+/// What `run --help` says of the lines of a script and of the statuses.
 #[test]
-fn prints_what_is_asked(rt: HostRuntime) -> Result<(), Fail> {
-    let (_, output, _) = end(&rt, "opalport run", b"read 1 0 999 1\nread 1 0 1000 1\n")?;
-    assert_eq!(rt; output.as_slice(), b"ok 00000000\nfail 51 10\n".as_slice());
-    let (_, output, _) = end(&rt, "opalport tokens f0f0f1", b"")?;
-    assert_eq!(rt; output.as_slice(), b"malformed 1 Truncated\n".as_slice());
+fn helps_with_lines(rt: HostRuntime) -> Result<(), Fail> {
+    let (_, output, _) = end(&rt, "opalport run --help", b"")?;
+    let text = str::from_utf8(&output)?;
+    for part in [
+        "range N START",
+        "read C T L N ",
+        "write C T L N HH",
+        "expect TEXT",
+        "Status: 0 done",
+    ] {
+        assert_eq!(rt; text.contains(part), true, "at {part}");
+    }
     Ok(())
 }

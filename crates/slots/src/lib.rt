@@ -14,6 +14,3 @@ pub use error::FetchError;
 pub use fetched::Fetched;
 pub use layout::{BUFFER, MEMORY};
 pub use memory::PortMemory;
-
-#[cfg(test)]
-mod tests;

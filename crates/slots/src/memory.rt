@@ -68,7 +68,7 @@ impl PortMemory {
         }
     }
 
-    pub(crate) fn part(&self, at: usize, len: usize) -> &[u8]
+    pub fn part(&self, at: usize, len: usize) -> &[u8]
         requires { at + len ≤ memory_size }
         ensures value { result.now ≡ part self.now at len }
         ensures len { length result.now ≡ len }

@@ -1,11 +1,11 @@
 -- The first line of a text, and what a run has read so far.
-use Rattle.std.proofs.Common.{◌≡◌, ◌≢◌, ◌⊎◌, ℕ, zero, suc, ◌+◌, ◌-◌, ◌<◌, ◌≤◌, Bool, true, false, eqb, ◌==◌, ◌&&◌, List, [], ◌∷◌, ◌++◌, map, cond, length, take, slice_index, refl, sym, ap, subst, ◌∙◌, arith, lt-ltb, Option, Some, None, IfSome, All, Ok, Err, IsOk, IfOk, Result, append_assoc, append-nil, inl, inr}
-use Rattle.std.specs.Io.BufRead.{take_through, drop_through, strip_last, ends_with_byte}
+use Rattle.std.proofs.Common.{◌≡◌, ℕ, suc, ◌-◌, ◌<◌, Bool, true, false, ◌==◌, ◌&&◌, List, [], ◌∷◌, ◌++◌, map, cond, length, take, slice_index, refl, sym, ap, subst, ◌∙◌, arith, lt-ltb, Option, Some, None, IfSome, All, Ok, Err, IfOk, Result, append_assoc, append-nil, inl, inr}
+use Rattle.std.specs.Io.BufRead.{take_through, drop_through, strip_last}
 use Rattle.std.proofs.lemmas.List.Elements.{All-append, All-cons, All-nil}
 use Rattle.tool.specs.Scripts.{in_front, lines_of_text, script_lines, bare, TakesLine, IsLine, ComesTo, EndsWith}
-use Rattle.tool.specs.Ends.{EndsSo, status_of}
-use Rattle.tool.specs.declared.script.End.{End}
-use Rattle.tool.specs.declared.script.End.TheVariants.{Done, ExpectationFailed, Bad}
+use Rattle.tool.specs.Ends.{AtLine, EndsSo, status_of}
+use Rattle.tool.specs.declared.ending.End.{End}
+use Rattle.tool.specs.declared.ending.End.TheVariants.{Done, ExpectationFailed, Bad}
 
 strip_of : (b : ℕ) (xs : List ℕ) (n : ℕ) → length xs ≡ suc n → strip_last b xs ≡ cond (slice_index xs n == b) (take n xs) xs
 strip_of b xs n e =
@@ -70,22 +70,25 @@ here lines old new line (text, earlier, is, all, said) takes =
     first-of-script text some ∙ ap (λ l. bare l ∷ script_lines (drop_through 10 text)) (sym taken.1) in
     (all ∙ ap (λ l. earlier ++ l) first, taken.2)
 
-pub one-more : (lines : List (List ℕ)) (old new : Option (List ℕ)) (line : List ℕ) → HasRead lines old → IfSome old (λ text. TakesLine true line text new)
-    → IsLine (bare line) → HasRead lines new
-one-more lines old new line read takes says =
-    let found = here lines old new line read takes in (
-      drop_through 10 read.0,
-      read.1 ++ bare line ∷ [],
-      found.1,
-      found.0 ∙ sym (append_assoc read.1 (bare line ∷ []) (script_lines (drop_through 10 read.0))),
-      All-append IsLine read.1 (bare line ∷ []) read.4 (All-cons IsLine (bare line) [] says (All-nil IsLine)),
-    )
-
-pub comes-to : (P : List ℕ → Type 0) (lines : List (List ℕ)) (old new : Option (List ℕ)) (line : List ℕ) → HasRead lines old
-    → IfSome old (λ text. TakesLine true line text new) → P (bare line) → ComesTo P lines
-comes-to P lines old new line read takes says =
+-- a line is at hand
+pub next : (lines : List (List ℕ)) (old new : Option (List ℕ)) (line : List ℕ) → HasRead lines old → IfSome old (λ text. TakesLine true line text new)
+    → AtLine line lines new
+next lines old new line read takes =
     let found = here lines old new line read takes in
-    (read.1, bare line, script_lines (drop_through 10 read.0), found.0, read.4, says)
+    (drop_through 10 read.0, read.1, found.1, found.0, read.4)
+
+-- it is done
+pub done : (lines : List (List ℕ)) (left : Option (List ℕ)) (line : List ℕ) → AtLine line lines left → IsLine (bare line) → HasRead lines left
+done lines left line (text, earlier, is, all, said) says = (
+  text,
+  earlier ++ bare line ∷ [],
+  is,
+  all ∙ sym (append_assoc earlier (bare line ∷ []) (script_lines text)),
+  All-append IsLine earlier (bare line ∷ []) said (All-cons IsLine (bare line) [] says (All-nil IsLine)),
+)
+
+pub comes-to : (P : List ℕ → Type 0) (lines : List (List ℕ)) (left : Option (List ℕ)) (line : List ℕ) → AtLine line lines left → P (bare line) → ComesTo P lines
+comes-to P lines left line (text, earlier, is, all, said) says = (earlier, bare line, script_lines text, all, said, says)
 
 pub all-read : (lines : List (List ℕ)) (old new : Option (List ℕ)) (line : List ℕ) → HasRead lines old → IfSome old (λ text. TakesLine false line text new)
     → All IsLine lines
@@ -102,5 +105,5 @@ pub told : {E : Type 0} (told : Result ℕ E) (end : End) (lines : List (List �
     → IfOk told (λ status. EndsWith status lines)
 told (Err e) end lines is ends = is
 told (Ok status) Done lines is ends = inl (is, ends)
-told (Ok status) ExpectationFailed lines is ends = inr (inl (is, ends))
+told (Ok status) (ExpectationFailed line) lines is ends = inr (inl (is, ends))
 told (Ok status) (Bad line fault) lines is ends = inr (inr (is, ends))

@@ -1,8 +1,8 @@
 -- What the options of the command line write.
-use Rattle.std.specs.Prelude.{◌≡◌, ◌≢◌, ℕ, List, None, Some, Ok}
+use Rattle.std.specs.Prelude.{◌≡◌, ℕ, List, length, None, Some, Ok, Err}
 use Rattle.hex.specs.Hex.{decode_of}
 use Rattle.sp_cells.specs.Config.{Config, IsWithinLimits}
-use Rattle.tool.specs.Numbers.{number_up_to, largest}
+use Rattle.script_lines.specs.Numbers.{number_up_to, largest}
 use Rattle.tool.specs.declared.options.OptionsFault.{OptionsFault}
 use Rattle.tool.specs.declared.options.OptionsFault.TheVariants.{Sectors, Shadow, Msid, NoDrive, OutOfMemory}
 
@@ -16,15 +16,12 @@ pub record WritesConfig (sectors shadow msid : List ℕ) (config : Config) : Typ
 abbrev pub IsNoNumber : List ℕ → Type 0
 IsNoNumber text = number_up_to (largest 64) text ≡ None
 
--- the text is no hex
-abbrev pub IsNoHex : List ℕ → Type 0
-IsNoHex text = (bytes : List ℕ) → decode_of text ≢ Ok bytes
-
 -- The fault is the first one of the texts: each text is looked at in turn, and then what they write.
 abbrev pub IsFirstFault : List ℕ → List ℕ → List ℕ → OptionsFault → Type 0
 IsFirstFault sectors shadow msid Sectors = IsNoNumber sectors
 IsFirstFault sectors shadow msid Shadow = (IsNoNumber sectors → ⊥) × IsNoNumber shadow
-IsFirstFault sectors shadow msid Msid = (IsNoNumber sectors → ⊥) × (IsNoNumber shadow → ⊥) × IsNoHex msid
-IsFirstFault sectors shadow msid NoDrive =
+IsFirstFault sectors shadow msid (Msid fault) = (IsNoNumber sectors → ⊥) × (IsNoNumber shadow → ⊥) × (decode_of msid ≡ Err fault)
+IsFirstFault sectors shadow msid (NoDrive drive_sectors shadow_sectors size) =
     (config : Config) × WritesConfig sectors shadow msid config × (IsWithinLimits config.sectors config.mbr_sectors config.msid → ⊥)
+    × (drive_sectors ≡ config.sectors) × (shadow_sectors ≡ config.mbr_sectors) × (size ≡ length config.msid)
 IsFirstFault sectors shadow msid OutOfMemory = (IsNoNumber sectors → ⊥) × (IsNoNumber shadow → ⊥)

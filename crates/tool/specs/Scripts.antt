@@ -1,13 +1,12 @@
 -- Scripts: their lines, and how a run of one ends.
-use Rattle.std.specs.Prelude.{◌≡◌, ◌<◌, ◌⊎◌, ⊤, ℕ, ◌==◌, Bool, true, false, List, [], ◌∷◌, ◌++◌, All, map, length, Option, Some, Result, Ok, Err, IsOk, IfOk, if◌then◌else◌}
+use Rattle.std.specs.Prelude.{◌≤◌, ◌≡◌, ◌<◌, ◌⊎◌, ⊤, ℕ, ◌==◌, Bool, true, false, List, [], ◌∷◌, ◌++◌, All, map, length, Option, Some, Ok, IsOk, IfOk, if◌then◌else◌}
+use Rattle.std.specs.List.{list_any}
 use Rattle.std.specs.Io.BufRead.{strip_last, take_through, drop_through}
-use Rattle.tool.specs.Readings.{line_of}
-use Rattle.tool.specs.declared.fault.LineFault.{LineFault}
-use Rattle.tool.specs.declared.line.Line.{Line}
-use Rattle.tool.specs.declared.line.Line.TheVariants.{Range, Read, Write, Expect}
-use Rattle.tool.specs.declared.session.Fault.{Fault}
-use Rattle.tool.specs.declared.session.Turn.{Turn}
-use Rattle.tool.specs.declared.session.Turn.TheVariants.{Goes, ExpectationFailed, Bad}
+use Rattle.script_lines.specs.Lines.{line_of}
+use Rattle.script_lines.specs.declared.line.Line.{Line}
+use Rattle.script_lines.specs.declared.line.Line.TheVariants.{Range, Read, Write, Expect}
+use Rattle.tool.specs.declared.running.Turn.{Turn}
+use Rattle.tool.specs.declared.running.Turn.TheVariants.{Goes, ExpectationFailed, Bad}
 
 -- a byte in front of the first line
 abbrev pub in_front : ℕ → List (List ℕ) → List (List ℕ)
@@ -32,6 +31,18 @@ abbrev pub TakesLine : Bool → List ℕ → List ℕ → Option (List ℕ) → 
 TakesLine false line text left = text ≡ []
 TakesLine true line text left = (0 < length line) × (line ≡ take_through 10 text) × (left ≡ Some (drop_through 10 text))
 
+-- a whole line stands in what a reader has at hand
+abbrev pub has_line : List ℕ → Bool
+has_line at_hand = list_any (λ byte. byte == 10) at_hand
+
+-- how many bytes of answers wait at most
+abbrev pub most_pending : ℕ
+most_pending = 65536
+
+-- no client waits for an answer: where the next read could wait, none is pending, and never many
+abbrev pub IsAnswered : List ℕ → List ℕ → Type 0
+IsAnswered at_hand pending = (has_line at_hand ≡ false → pending ≡ []) × (length pending ≤ most_pending)
+
 -- the line gives the cells of a range
 abbrev pub IsRange : Line → Type 0
 IsRange (Range row) = ⊤
@@ -41,7 +52,7 @@ IsRange Expect = ⊥
 
 -- how a script goes on behind a line that says this
 abbrev pub GoesOn : Line → Turn → Type 0
-GoesOn line Goes = ⊤
+GoesOn line (Goes aborted) = ⊤
 GoesOn line ExpectationFailed = line ≡ Expect
 GoesOn line (Bad fault) = IsRange line
 
@@ -59,7 +70,7 @@ IsBadOrRange line = IfOk (line_of line) IsRange
 
 -- what a line says behind which a script goes on so
 abbrev pub Says : Turn → List ℕ → Type 0
-Says Goes line = IsLine line
+Says (Goes aborted) line = IsLine line
 Says ExpectationFailed line = IsExpect line
 Says (Bad fault) line = IsBadOrRange line
 

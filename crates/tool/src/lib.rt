@@ -1,21 +1,15 @@
 //! The program's library: scripts of lines, run on a drive, and token streams, told as text.
 #![tactic(auto)]
 
-mod fault;
-mod line;
-mod number;
+mod ending;
+mod opening;
 mod options;
-mod report;
+mod reading;
+mod running;
 mod script;
-mod session;
 mod tokens;
-mod words;
 
-pub use fault::{LineFault, Transfer};
-pub use line::Line;
+pub use ending::RunError;
 pub use options::{Options, OptionsFault};
-pub use script::{RunError, run_script, run_script_with_faults};
-pub use tokens::run_tokens;
-
-#[cfg(test)]
-mod tests;
+pub use script::{run_script, run_script_with_faults};
+pub use tokens::{run_tokens, run_tokens_with_faults};

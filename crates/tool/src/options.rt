@@ -1,25 +1,77 @@
 //! What a drive is opened with.
 
-use crate::number::number_up_to;
+use hex::FromHexError;
+use script_lines::number_up_to;
 use sp_cells::DriveConfig;
+use sp_cells::limits::{MOST_MBR_SECTORS, MOST_PIN_BYTES, MOST_SECTORS};
 use std::alloc::Global;
+use std::error::Error;
+use std::fmt;
 use std::marker::Model;
-use thiserror::Error;
 
 /// Why options open no drive.
-#[derive(Clone, Copy, Debug, PartialEq, Eq, Error)]
+#[derive(Clone, Copy, Debug, PartialEq, Eq)]
 pub enum OptionsFault {
-    #[error("--sectors is no decimal number of 64 bits")]
     Sectors,
-    #[error("--shadow is no decimal number of 64 bits")]
     Shadow,
-    #[error("--msid is not written in hex")]
-    Msid,
-    #[error("a drive has 1 to 281474976710656 sectors, a shadow of at most 262144 and not more than them, and an MSID of 1 to 32 bytes")]
-    NoDrive,
-    #[error("out of memory")]
+    Msid(FromHexError),
+    /// The values are not within the limits of a configuration.
+    NoDrive {
+        sectors: u64,
+        shadow: u64,
+        msid: usize,
+    },
     OutOfMemory,
 }
+
+/// Writes which value is beyond the limits of a configuration.
+fn write_limit<W: fmt::Write>(
+    f: &mut fmt::Formatter<W>,
+    sectors: u64,
+    shadow: u64,
+    msid: usize,
+) -> fmt::Result {
+    if sectors == 0 || sectors > MOST_SECTORS {
+        return write!(
+            f,
+            "--sectors {sectors}: a drive has 1 to {MOST_SECTORS} sectors"
+        );
+    }
+    if shadow > MOST_MBR_SECTORS {
+        return write!(
+            f,
+            "--shadow {shadow}: a shadow has at most {MOST_MBR_SECTORS} sectors"
+        );
+    }
+    if shadow > sectors {
+        return write!(
+            f,
+            "a shadow of {shadow} sectors is larger than the drive of {sectors}"
+        );
+    }
+    write!(
+        f,
+        "--msid: an MSID has 1 to {MOST_PIN_BYTES} bytes, not {msid}"
+    )
+}
+
+impl fmt::Display for OptionsFault {
+    fn fmt<W: fmt::Write>(&self, f: &mut fmt::Formatter<W>) -> fmt::Result {
+        match *self {
+            OptionsFault::Sectors => f.write_str("--sectors is no decimal number of 64 bits"),
+            OptionsFault::Shadow => f.write_str("--shadow is no decimal number of 64 bits"),
+            OptionsFault::Msid(fault) => write!(f, "--msid is not written in hex: {fault}"),
+            OptionsFault::NoDrive {
+                sectors,
+                shadow,
+                msid,
+            } => write_limit(f, sectors, shadow, msid),
+            OptionsFault::OutOfMemory => f.write_str("out of memory"),
+        }
+    }
+}
+
+impl Error for OptionsFault {}
 
 /// What a drive is opened with: within the limits of a configuration.
 #[derive(Drop)]
@@ -58,11 +110,15 @@ impl Options {
         let shadow = number_up_to(u64::MAX, shadow).ok_or(OptionsFault::Shadow)?;
         let msid = match hex::decode(alloc, msid) {
             Ok(msid) => msid,
-            Err(hex::FromHexError::OutOfMemory) => return Err(OptionsFault::OutOfMemory),
-            Err(_) => return Err(OptionsFault::Msid),
+            Err(FromHexError::OutOfMemory) => return Err(OptionsFault::OutOfMemory),
+            Err(fault) => return Err(OptionsFault::Msid(fault)),
         };
         match DriveConfig::new(sectors, shadow, &msid) {
-            None => Err(OptionsFault::NoDrive),
+            None => Err(OptionsFault::NoDrive {
+                sectors,
+                shadow,
+                msid: msid.len(),
+            }),
             Some(_) => Ok(Options {
                 sectors,
                 shadow,

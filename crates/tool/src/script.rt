@@ -1,119 +1,81 @@
 //! A whole script, from a reader to a writer.
 
-ghost use Rattle.std.specs.Prelude.{◌≡◌, ◌≤◌, [], OnOk, IfOk, IfSome};
-ghost use Rattle.std.specs.Io.Buffered.{reader_remaining};
-ghost use Rattle.std.specs.Io.KnownBytes.{Appends};
-ghost use Rattle.tool.specs.Scripts.{bare, script_lines, TakesLine, EndsWith};
-ghost use Rattle.tool.specs.Ends.{EndsSo, status_of};
+ghost use Rattle.std.specs.Prelude.{◌≡◌, ◌≤◌, ◌<◌, [], ℕ, List, OnOk, IfOk, IfSome};
+ghost use Rattle.std.specs.Io.Buffered.{reader_remaining, reader_buffer};
+ghost use Rattle.tool.specs.Scripts.{script_lines, IsAnswered, EndsWith};
+ghost use Rattle.tool.specs.Ends.{AtLine, EndsSo, OpensSo, OpenedStands};
+ghost use Rattle.tool.specs.Effects.{Stands};
 
+use crate::ending::{End, RunError, tell, tell_abort};
+use crate::opening::{OpeningPhase, OpeningTurn};
 use crate::options::Options;
-use crate::session::{Fault, Session, Turn};
-use std::alloc::{AllocError, Global};
+use crate::reading::{answer, lines_of, read_line, without_end};
+use crate::running::{RunningPhase, Turn};
+use script_lines::Report;
+use std::alloc::Global;
 use std::io;
-use std::io::{BufRead, BufReader, ErrorKind, Read, Write};
-use thiserror::Error;
-
-/// Why a script could not be run to its end.
-#[derive(Clone, Copy, Debug, PartialEq, Eq, Error)]
-pub enum RunError {
-    #[error("Memory")]
-    Memory,
-    #[error("Read")]
-    Read,
-    #[error("Write")]
-    Write,
-    #[error("ReadLimit")]
-    ReadLimit,
-}
-
-impl From<AllocError> for RunError {
-    ghost use Rattle.std.specs.Prelude.{◌≡◌};
-    ghost use Rattle.tool.specs.declared.script.RunError.TheVariants.{Memory};
-
-    ghost from_gives = { λ _ error. error ≡ Memory };
-
-    fn from(_error: AllocError) -> RunError {
-        RunError::Memory
-    }
-}
-
-fn reading(error: io::Error) -> RunError {
-    if error.kind() == ErrorKind::OutOfMemory {
-        RunError::Memory
-    } else {
-        RunError::Read
-    }
-}
-
-/// How a script ended.
-#[derive(Clone, Copy, Debug, PartialEq, Eq)]
-enum End {
-    Done,
-    ExpectationFailed,
-    Bad { line: u64, fault: Fault },
-}
+use std::io::{BufReader, Read, Write};
 
 /// The most lines that are read.
 const READ_LIMIT: u64 = 4_294_967_296;
 
-/// A line without its line feed, and without one carriage return before it.
-fn without_end(line: &[u8]) -> &[u8]
-    ensures { result.now ≡ bare line.now }
-{
-    let line = line.strip_suffix(b"\n").unwrap_or(line);
-    line.strip_suffix(b"\r").unwrap_or(line)
+/// What the opening phase comes to.
+#[derive(Drop)]
+pub enum Opened {
+    /// The script ended.
+    Ended(End),
+    /// So many lines were range lines, and the one behind them is none.
+    Runs { run: RunningPhase, lines: u64 },
 }
 
-/// Writes what is printed so far.
-fn hand_on<W: Write>(session: &mut Session, output: &mut W) -> Result<(), RunError>
-    ensures written { OnOk result (Appends (W.contents output.old) (W.contents output.new) session.old.report.pending.items) }
-    ensures cleared { OnOk result (session.new.report.pending.items ≡ []) }
-    ensures last { session.new.report.last ≡ session.old.report.last }
-    ensures stage { session.new.stage ≡ session.old.stage }
-    ensures acts { session.new.acts ≡ session.old.acts }
-{
-    if session.report.pending.is_empty() {
-        return Ok(());
-    }
-    output
-        .write_all(&session.report.pending)
-        .map_err(|_| RunError::Write)?;
-    output.flush().map_err(|_| RunError::Write)?;
-    session.report.pending.clear();
-    Ok(())
-}
-
-/// Reads the next line, with its end; false where none is left.
-fn next_line<R: Read + Drop>(
+/// Reads the range lines in front, and the line behind them.
+fn opening_lines<R: Read + Drop>(
+    alloc: Global,
+    options: &Options,
     reader: &mut BufReader<R>,
+    report: &Report,
     line: &mut Vec<u8>,
-) -> Result<bool, RunError>
-    ensures { IfSome (reader_remaining R.remaining reader.old)
-        (λ text. IfOk result (λ is_line. TakesLine is_line line.new.items text (reader_remaining R.remaining reader.new))) }
+) -> Result<Opened, RunError>
+    requires { report.now.pending.items ≡ [] }
+    ensures stands { IfOk result OpenedStands }
+    ensures opens { IfSome (reader_remaining R.remaining reader.old)
+        (λ text. IfOk result (λ opened. OpensSo opened line.new.items (script_lines text) (reader_remaining R.remaining reader.new))) }
 {
-    line.clear();
-    let length = reader.read_until(b'\n', line).map_err(reading)?;
-    Ok(length > 0)
-}
-
-fn run_lines<R: Read + Drop, W: Write>(
-    reader: &mut BufReader<R>,
-    session: &mut Session,
-    output: &mut W,
-    line: &mut Vec<u8>,
-) -> Result<End, RunError>
-    ensures { IfSome (reader_remaining R.remaining reader.old) (λ text. IfOk result (λ end. EndsSo end (script_lines text))) }
-{
+    let mut phase = OpeningPhase::Factory(options.config());
     for number in 0..READ_LIMIT {
-        if !reader.buffer().contains(&b'\n') {
-            hand_on(session, output)?;
+        if !read_line(reader, line, report)? {
+            return Ok(Opened::Ended(End::Done));
         }
-        if !next_line(reader, line)? {
-            return Ok(End::Done);
+        match phase.turn(alloc, without_end(line))? {
+            OpeningTurn::Goes(next) => phase = next,
+            OpeningTurn::Runs(run) => return Ok(Opened::Runs { run, lines: number }),
+            OpeningTurn::Bad(fault) => {
+                let line = number + 1;
+                return Ok(Opened::Ended(End::Bad { line, fault }));
+            }
         }
-        match session.turn(without_end(line))? {
-            Turn::Goes => {}
-            Turn::ExpectationFailed => return Ok(End::ExpectationFailed),
+    }
+    Err(RunError::ReadLimit)
+}
+
+/// Does the line at hand, and those behind it.
+fn running_lines<R: Read + Drop, W: Write, E: Write>(
+    run: &mut RunningPhase,
+    lines: u64,
+    reader: &mut BufReader<R>,
+    report: &mut Report,
+    line: &mut Vec<u8>,
+    output: &mut W,
+    faults: &mut E,
+) -> Result<End, RunError>
+    requires { Stands run.old }
+    ensures { (lines : List (List ℕ)) → AtLine line.old.items lines (reader_remaining R.remaining reader.old)
+        → IfOk result (λ end. EndsSo end lines) }
+{
+    for number in lines..READ_LIMIT {
+        match run.turn(without_end(line), report)? {
+            Turn::Goes { aborted } => tell_abort(aborted, number + 1, faults)?,
+            Turn::ExpectationFailed => return Ok(End::ExpectationFailed { line: number + 1 }),
             Turn::Bad(fault) => {
                 return Ok(End::Bad {
                     line: number + 1,
@@ -121,34 +83,46 @@ fn run_lines<R: Read + Drop, W: Write>(
                 });
             }
         }
+        answer(reader, report, output)?;
+        if !read_line(reader, line, report)? {
+            return Ok(End::Done);
+        }
     }
     Err(RunError::ReadLimit)
 }
 
-/// A reader of lines, with all that the input gives.
-fn lines_of<R: Read + Drop>(alloc: Global, input: R) -> Result<BufReader<R>, RunError>
-    ensures { IfOk result (λ reader. reader_remaining R.remaining reader ≡ R.remaining input) }
+/// Does the lines of a script, and hands on most of the answers.
+fn all_lines<R: Read + Drop, W: Write, E: Write>(
+    alloc: Global,
+    options: &Options,
+    reader: &mut BufReader<R>,
+    report: &mut Report,
+    line: &mut Vec<u8>,
+    output: &mut W,
+    faults: &mut E,
+) -> Result<End, RunError>
+    requires { report.old.pending.items ≡ [] }
+    ensures { IfSome (reader_remaining R.remaining reader.old) (λ text. IfOk result (λ end. EndsSo end (script_lines text))) }
 {
-    BufReader::with_capacity(alloc, 65_536, input).map_err(reading)
-}
-
-/// The status that a run ends with; writes the fault that ended it.
-fn tell<E: Write>(end: End, faults: &mut E) -> Result<u8, RunError>
-    ensures { IfOk result (λ status. status ≡ status_of end) }
-{
-    match end {
-        End::Done => Ok(0),
-        End::ExpectationFailed => Ok(1),
-        End::Bad { line, fault } => {
-            writeln!(faults, "line {line}: {fault}").map_err(|_| RunError::Write)?;
-            Ok(2)
+    let opened = opening_lines(alloc, options, reader, report, line)?;
+    match opened {
+        Opened::Ended(end) => Ok(end),
+        Opened::Runs { mut run, lines } => {
+            let end = running_lines(&mut run, lines, reader, report, line, output, faults)?;
+            Ok(end)
         }
     }
 }
 
 /// Runs the script that a reader gives, writes what it prints to `output` and the fault that ended
 /// it to `faults`, and gives its status: 0 done, 1 an expectation failed, 2 a bad line or a refused
-/// range row.
+/// range row. Without a `range` line the drive is as it leaves the factory. Answers are written before
+/// each read that could wait, and whenever more than 65,536 bytes of them wait.
+///
+/// # Errors
+///
+/// Want of memory, and the first call of the reader or of a writer that fails. What was printed
+/// before is written, but for what a failed call was given: that is not written once more.
 pub fn run_script_with_faults<R: Read + Drop, W: Write, E: Write>(
     alloc: Global,
     input: R,
@@ -160,11 +134,19 @@ pub fn run_script_with_faults<R: Read + Drop, W: Write, E: Write>(
     ensures end { IfSome (R.remaining input) (λ text. IfOk result (λ status. EndsWith status (script_lines text))) }
 {
     let mut reader = lines_of(alloc, input)?;
-    let mut session = Session::new(alloc, options)?;
+    let mut report = Report::new(alloc);
     let mut line = Vec::new(alloc);
-    let end = run_lines(&mut reader, &mut session, output, &mut line);
-    hand_on(&mut session, output)?;
-    tell(end?, faults)
+    let end = all_lines(
+        alloc,
+        options,
+        &mut reader,
+        &mut report,
+        &mut line,
+        output,
+        faults,
+    );
+    report.hand_on(output).map_err(|_| RunError::Write)?;
+    tell(end?, without_end(&line), &report.last, faults)
 }
 
 /// Runs the script that a reader gives, as `run_script_with_faults` does, and drops the text of the

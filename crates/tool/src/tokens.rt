@@ -5,11 +5,12 @@ ghost use Rattle.std.specs.Io.KnownBytes.{Appends};
 ghost use Rattle.hex.specs.Hex.{decode_of};
 ghost use Rattle.hex.specs.declared.error.FromHexError.{FromHexError};
 ghost use Rattle.tool.specs.TokenLines.{token_text};
-ghost use Rattle.tool.specs.declared.script.RunError.{RunError};
+ghost use Rattle.tool.specs.declared.ending.RunError.{RunError};
 
-use crate::script::RunError;
+use crate::ending::RunError;
 use hex::FromHexError;
 use std::alloc::{AllocError, Global};
+use std::io;
 use std::io::Write;
 use tcg_tokens::{TokenError, fault_text, item_text, read_item};
 
@@ -25,8 +26,13 @@ fn token_text(alloc: Global, bytes: &[u8]) -> Result<String, AllocError>
 }
 
 /// Prints the item that hex digits spell, or `malformed N NAME`, with status 0. Where the digits are no
-/// hex nothing is printed, and the status is 2.
-pub fn run_tokens<W: Write>(alloc: Global, hex: &str, output: &mut W) -> Result<u8, RunError>
+/// hex nothing is printed, it is told to `faults` why, and the status is 2.
+pub fn run_tokens_with_faults<W: Write, E: Write>(
+    alloc: Global,
+    hex: &str,
+    output: &mut W,
+    faults: &mut E,
+) -> Result<u8, RunError>
     ensures printed { (bytes : List ℕ) → decode_of hex.now ≡ Ok bytes → IfOk result (λ status. (status ≡ 0) × Appends (W.contents output.old) (W.contents output.new) (token_text bytes ++ 10 ∷ [])) }
     ensures memory { result ≡ Err RunError.Memory → W.contents output.new ≡ W.contents output.old }
     ensures errors { IfErr result (λ error. (error ≡ RunError.Memory) ⊎ (error ≡ RunError.Write)) }
@@ -35,7 +41,12 @@ pub fn run_tokens<W: Write>(alloc: Global, hex: &str, output: &mut W) -> Result<
     let bytes = match hex::decode(alloc, hex.as_bytes()) {
         Ok(bytes) => bytes,
         Err(FromHexError::OutOfMemory) => return Err(RunError::Memory),
-        Err(_) => return Ok(2),
+        Err(fault) => {
+            writeln!(faults, "error: HEX is not written in hex: {fault}").map_err(
+                |_| RunError::Write,
+            )?;
+            return Ok(2);
+        }
     };
     let mut line = token_text(alloc, &bytes)?;
     line.push_str("\n")?;
@@ -44,4 +55,14 @@ pub fn run_tokens<W: Write>(alloc: Global, hex: &str, output: &mut W) -> Result<
         .map_err(|_| RunError::Write)?;
     output.flush().map_err(|_| RunError::Write)?;
     Ok(0)
+}
+
+/// Prints what hex digits spell, as `run_tokens_with_faults` does, and drops the text of the fault.
+pub fn run_tokens<W: Write>(alloc: Global, hex: &str, output: &mut W) -> Result<u8, RunError>
+    ensures printed { (bytes : List ℕ) → decode_of hex.now ≡ Ok bytes → IfOk result (λ status. (status ≡ 0) × Appends (W.contents output.old) (W.contents output.new) (token_text bytes ++ 10 ∷ [])) }
+    ensures memory { result ≡ Err RunError.Memory → W.contents output.new ≡ W.contents output.old }
+    ensures errors { IfErr result (λ error. (error ≡ RunError.Memory) ⊎ (error ≡ RunError.Write)) }
+    ensures no_hex { (e : FromHexError) → decode_of hex.now ≡ Err e → IfOk result (λ status. (status ≡ 2) × (W.contents output.new ≡ W.contents output.old)) }
+{
+    run_tokens_with_faults(alloc, hex, output, &mut io::sink())
 }

@@ -7,7 +7,7 @@ use Rattle.opalport.proofs.command_line.command.Goals as goal
 
 pub returns : goal.returns
 returns c =
-    let top : app_of c.arg_required_else_help.result ≡ on_top (λ s. record s { subcommand_required = true; arg_required_else_help = true }) (new_app (codes "opalport")) =
+    let top : app_of c.arg_required_else_help.result ≡ on_top (λ s. record s { has_version = true; subcommand_required = true; arg_required_else_help = true }) (new_app (codes "opalport")) =
     search rules in
     let run_line = c.in_ok-drive_command.ensures in
     let run_plain = plain_fields c.in_ok-drive_command.field-0 (ap (λ (a : App). a.top.is_plain) run_line) in

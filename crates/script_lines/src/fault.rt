@@ -1,0 +1,47 @@
+//! What may be wrong with a line.
+
+use crate::field::Field;
+use std::error::Error;
+use std::fmt;
+
+/// Why a line is none.
+#[derive(Clone, Copy, Debug, PartialEq, Eq)]
+pub enum LineFault {
+    /// The first word is none of a line.
+    UnknownWord,
+    /// The line ends before the word of a field.
+    Missing(Field),
+    /// The word is not what its field holds.
+    Wrong(Field),
+    /// Words stand behind the last field.
+    Extra,
+}
+
+/// Says what the word of a field is to be.
+fn write_wanted<W: fmt::Write>(f: &mut fmt::Formatter<W>, field: Field) -> fmt::Result {
+    match field {
+        Field::Byte => f.write_str("two hex digits"),
+        _ => write!(f, "a number from 0 to {}", field.most()),
+    }
+}
+
+impl fmt::Display for LineFault {
+    fn fmt<W: fmt::Write>(&self, f: &mut fmt::Formatter<W>) -> fmt::Result {
+        match *self {
+            LineFault::UnknownWord => {
+                f.write_str("the first word is none of range, read, write and expect")
+            }
+            LineFault::Missing(field) => {
+                write!(f, "{field} is missing: ")?;
+                write_wanted(f, field)
+            }
+            LineFault::Wrong(field) => {
+                write!(f, "{field} is not ")?;
+                write_wanted(f, field)
+            }
+            LineFault::Extra => f.write_str("there are words behind the last one"),
+        }
+    }
+}
+
+impl Error for LineFault {}

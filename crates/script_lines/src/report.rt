@@ -1,0 +1,159 @@
+//! The lines that a script prints.
+
+ghost use Rattle.std.specs.Prelude.{◌≡◌, ◌++◌, ◌∷◌, [], OnOk, length};
+ghost use Rattle.std.specs.Io.KnownBytes.{Appends};
+ghost use Rattle.hex.specs.Hex.{encode_lower};
+ghost use Rattle.script_lines.specs.Texts.{sectors_text};
+
+use audit::{AuditLine, Why, line_bytes};
+use std::alloc::{AllocError, Global};
+use std::io;
+use std::io::Write;
+use trusted_cmds::SECTOR_SIZE;
+
+/// Lines that are printed and not handed on yet, and the last of all.
+#[derive(Drop)]
+pub struct Report {
+    alloc: Global,
+    pub last: Vec<u8>,
+    pub pending: Vec<u8>,
+}
+
+impl Report {
+    ghost use Rattle.std.specs.Prelude.{◌≡◌, ◌++◌, ◌∷◌, [], ℕ, List, Option, OnOk, option_map};
+    ghost use Rattle.std.specs.Io.KnownBytes.{Appends};
+    ghost use Rattle.script_lines.specs.Texts.{data_text, failure_text, audit_text, refusal_lines, Prints};
+
+    /// Nothing is printed.
+    pub fn new(alloc: Global) -> Report
+        ensures last { result.last.items ≡ [] }
+        ensures pending { result.pending.items ≡ [] }
+    {
+        Report {
+            alloc,
+            last: Vec::new(alloc),
+            pending: Vec::new(alloc),
+        }
+    }
+
+    /// Adds the last line to what is pending.
+    fn print_last(&mut self) -> Result<(), AllocError>
+        ensures last { self.new.last.items ≡ self.old.last.items }
+        ensures pending { OnOk result (self.new.pending.items ≡ self.old.pending.items ++ self.old.last.items ++ 10 ∷ []) }
+    {
+        self.pending.extend_from_slice(&self.last)?;
+        self.pending.push(b'\n')?;
+        Ok(())
+    }
+
+    /// Prints that a transfer was served, with the data that it gave.
+    pub fn print_data(&mut self, sectors: &[u8]) -> Result<(), AllocError>
+        ensures { OnOk result (Prints self.old self.new (data_text sectors.now ∷ [])) }
+    {
+        self.last.clear();
+        self.last.extend_from_slice(b"ok")?;
+        append_sectors(&mut self.last, sectors)?;
+        self.print_last()?;
+        Ok(())
+    }
+
+    /// Prints the status and the error of a command that failed.
+    fn print_failure(&mut self, status: u8, error: u8) -> Result<(), AllocError>
+        ensures { OnOk result (Prints self.old self.new (failure_text status error ∷ [])) }
+    {
+        self.last.clear();
+        self.last.extend_from_slice(b"fail ")?;
+        append_byte(&mut self.last, status)?;
+        self.last.push(b' ')?;
+        append_byte(&mut self.last, error)?;
+        self.print_last()?;
+        Ok(())
+    }
+
+    /// Prints the audit line of a denial.
+    fn print_audit(&mut self, line: &AuditLine) -> Result<(), AllocError>
+        ensures { OnOk result (Prints self.old self.new (audit_text line.now ∷ [])) }
+    {
+        let text = line_bytes(self.alloc, line)?;
+        self.last.clear();
+        self.last.extend_from_slice(b"audit ")?;
+        self.last.extend_from_slice(&text)?;
+        self.print_last()?;
+        Ok(())
+    }
+
+    /// Prints that a command failed, and under the number of its act what denied it to a client.
+    pub fn print_refusal(
+        &mut self,
+        step: u64,
+        client: u32,
+        status: u8,
+        error: u8,
+        denied: Option<Why>,
+    ) -> Result<(), AllocError>
+        ensures { OnOk result (Prints self.old self.new (refusal_lines step client status error denied)) }
+    {
+        self.print_failure(status, error)?;
+        if let Some(why) = denied {
+            self.print_audit(&AuditLine { step, client, why })?;
+        }
+        Ok(())
+    }
+
+    /// Writes what is pending. Nothing is pending then, also where the writer failed: what it took of it
+    /// is not written once more.
+    pub fn hand_on<W: Write>(&mut self, output: &mut W) -> io::Result<()>
+        ensures written { OnOk result (Appends (W.contents output.old) (W.contents output.new) self.old.pending.items) }
+        ensures cleared { self.new.pending.items ≡ [] }
+        ensures last { self.new.last ≡ self.old.last }
+    {
+        if self.pending.is_empty() {
+            return Ok(());
+        }
+        let written = write_whole(output, &self.pending);
+        self.pending.clear();
+        written
+    }
+}
+
+/// Writes bytes, and has the writer pass them on.
+fn write_whole<W: Write>(output: &mut W, bytes: &[u8]) -> io::Result<()>
+    ensures { OnOk result (Appends (W.contents output.old) (W.contents output.new) bytes.now) }
+{
+    output.write_all(bytes)?;
+    output.flush()
+}
+
+/// Appends the first four bytes of each sector, in hex behind a blank.
+#[tactic(auto, using(crate::proofs::Sectors::goes_on))]
+fn append_sectors(line: &mut Vec<u8>, sectors: &[u8]) -> Result<(), AllocError>
+    ensures { OnOk result (line.new.items ≡ line.old.items ++ sectors_text sectors.now) }
+{
+    for sector in 0..sectors.len() / SECTOR_SIZE {
+        line.push(b' ')?;
+        append_four(
+            line,
+            &sectors[SECTOR_SIZE * sector..SECTOR_SIZE * sector + 4],
+        )?;
+    }
+    Ok(())
+}
+
+fn append_byte(line: &mut Vec<u8>, byte: u8) -> Result<(), AllocError>
+    ensures { OnOk result (line.new.items ≡ line.old.items ++ encode_lower (byte ∷ [])) }
+{
+    let mut digits = [0; 2];
+    let _ = hex::encode_to_slice([byte].as_slice(), &mut digits);
+    line.extend_from_slice(&digits)?;
+    Ok(())
+}
+
+fn append_four(line: &mut Vec<u8>, bytes: &[u8]) -> Result<(), AllocError>
+    requires { length bytes.now ≡ 4 }
+    ensures { OnOk result (line.new.items ≡ line.old.items ++ encode_lower bytes.now) }
+{
+    let mut digits = [0; 8];
+    let _ = hex::encode_to_slice(bytes, &mut digits);
+    line.extend_from_slice(&digits)?;
+    Ok(())
+}

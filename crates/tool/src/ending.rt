@@ -1,0 +1,140 @@
+//! How a script ends, and what is told of it.
+
+ghost use Rattle.std.specs.Prelude.{◌≡◌, IfOk};
+ghost use Rattle.tool.specs.Ends.{status_of};
+
+use drive::SetError;
+use script_lines::{LineFault, expected_text};
+use std::alloc::AllocError;
+use std::io::{ErrorKind, Write};
+use std::{fmt, io};
+use thiserror::Error;
+
+/// Why a script could not be run to its end.
+#[derive(Clone, Copy, Debug, PartialEq, Eq, Error)]
+pub enum RunError {
+    #[error("out of memory")]
+    Memory,
+    #[error("the input could not be read")]
+    Read,
+    #[error("the output could not be written")]
+    Write,
+    #[error("the script has more than 4294967295 lines")]
+    ReadLimit,
+}
+
+impl From<AllocError> for RunError {
+    ghost use Rattle.std.specs.Prelude.{◌≡◌};
+    ghost use Rattle.tool.specs.declared.ending.RunError.TheVariants.{Memory};
+
+    ghost from_gives = { λ _ error. error ≡ Memory };
+
+    fn from(_error: AllocError) -> RunError {
+        RunError::Memory
+    }
+}
+
+impl RunError {
+    /// The error of a call that reads.
+    pub(crate) fn reading(error: io::Error) -> RunError {
+        if error.kind() == ErrorKind::OutOfMemory {
+            RunError::Memory
+        } else {
+            RunError::Read
+        }
+    }
+}
+
+/// What ends a script with status 2.
+#[derive(Clone, Copy, Debug, PartialEq, Eq)]
+pub enum Fault {
+    Line(LineFault),
+    LateRange,
+    RefusedRow { range: u8, error: SetError },
+}
+
+impl fmt::Display for Fault {
+    fn fmt<W: fmt::Write>(&self, f: &mut fmt::Formatter<W>) -> fmt::Result {
+        match *self {
+            Fault::Line(fault) => write!(f, "{fault}"),
+            Fault::LateRange => f.write_str("a range line stands behind another line"),
+            Fault::RefusedRow {
+                range,
+                error: SetError::NoCell,
+            } => write!(f, "there is no range {range} (0 to 8)"),
+            Fault::RefusedRow {
+                range: 0,
+                error: SetError::Beyond,
+            } => f.write_str("the global range has no place: its start and length are 0"),
+            Fault::RefusedRow { range, error } => write!(f, "range {range} is refused: {error}"),
+        }
+    }
+}
+
+/// How a script ended.
+#[derive(Clone, Copy, Debug, PartialEq, Eq)]
+pub enum End {
+    Done,
+    ExpectationFailed { line: u64 },
+    Bad { line: u64, fault: Fault },
+}
+
+/// How many bytes of a line are shown.
+const SHOWN: usize = 200;
+
+/// Writes a line as far as it is shown.
+fn show<E: Write>(text: &[u8], faults: &mut E) -> io::Result<()> {
+    let shown = text.len().min(SHOWN);
+    faults.write_all(&text[..shown])?;
+    if shown == text.len() {
+        return Ok(());
+    }
+    write!(faults, ".. ({} bytes)", text.len())
+}
+
+/// Writes which line was expected, and which one came.
+fn tell_difference<E: Write>(
+    line: u64,
+    text: &[u8],
+    last: &[u8],
+    faults: &mut E,
+) -> io::Result<()> {
+    write!(faults, "line {line}: expected \"")?;
+    show(expected_text(text), faults)?;
+    if last.is_empty() {
+        return writeln!(faults, "\", but nothing is printed yet");
+    }
+    write!(faults, "\", but the last line is \"")?;
+    show(last, faults)?;
+    writeln!(faults, "\"")
+}
+
+/// Writes that a line's command is the first one that the failed queue aborts, where it is.
+pub fn tell_abort<E: Write>(aborted: bool, line: u64, faults: &mut E) -> Result<(), RunError> {
+    if !aborted {
+        return Ok(());
+    }
+    writeln!(
+        faults,
+        "line {line}: aborted: an earlier command failed, and a failed queue serves nothing"
+    )
+    .map_err(|_| RunError::Write)
+}
+
+/// The status that a run ends with; writes why, where it is not 0. The line that ended the run is
+/// `text`, and `last` is the last one printed.
+pub fn tell<E: Write>(end: End, text: &[u8], last: &[u8], faults: &mut E) -> Result<u8, RunError>
+    ensures { IfOk result (λ status. status ≡ status_of end) }
+{
+    match end {
+        End::Done => Ok(0),
+        End::ExpectationFailed { line } => {
+            tell_difference(line, text, last, faults).map_err(|_| RunError::Write)?;
+            Ok(1)
+        }
+        End::Bad { line, fault } => {
+            writeln!(faults, "line {line}: {fault}").map_err(|_| RunError::Write)?;
+            Ok(2)
+        }
+    }
+}
