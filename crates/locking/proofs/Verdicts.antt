@@ -117,5 +117,71 @@ pub served_is_permitted : (rows : RangeRows) (op : Op) (lba count : ℕ) → ver
 unfolding verdict_of
 served_is_permitted rows op lba count e = serves rows op lba count (some_shadowed rows lba count) refl e
 
-pub permitted_is_served : (rows : RangeRows) (op : Op) (lba count : ℕ) → 0 < count → AreOpen rows lba (lba + count) → ArePermitted rows op lba (lba + count) → verdict_of rows op lba count ≡ Serve
-permitted_is_served rows op lba count some opened permitted = sym (is_verdict_of rows op lba count Serve some (opened, permitted))
+pub permitted_is_served : (rows : RangeRows) (op : Op) (lba count : ℕ) → AreOpen rows lba (lba + count) → ArePermitted rows op lba (lba + count) → verdict_of rows op lba count ≡ Serve
+unfolding verdict_of
+permitted_is_served rows op lba count opened permitted =
+    rw (none_shadowed rows lba count opened) (rw (none_denied rows op lba count permitted) refl)
+
+shadowed-back : (rows : RangeRows) (first count : ℕ) → some_shadowed rows first count ≡ true → (b : Bool) → is_shadowed rows first ≡ b → (sector : ℕ) × (first ≤ sector) × (sector < first + count) × (is_shadowed rows sector ≡ true)
+shadowed-back rows first zero e b here = absurd cc
+shadowed-back rows first (suc n) e true here = (first, omega arith, omega arith, here)
+shadowed-back rows first (suc n) e false here =
+    let later = shadowed-back rows (suc first) n (rw here at e) (is_shadowed rows (suc first)) refl in
+    (later.0, omega (arith, later.1), omega (arith, later.2), later.3)
+
+least-back : (rows : RangeRows) (op : Op) (first n sector : ℕ) → first_denied rows op first n ≡ Some sector → (b : Bool) → is_permitted rows op first ≡ b → IsLeastDenied rows op first n sector
+least-back rows op first zero sector e b here = absurd cc
+least-back rows op first (suc n) sector e true here =
+    let later = least-back rows op (suc first) n sector (rw here at e) (is_permitted rows op (suc first)) refl in
+    record {
+      from = omega (arith, later.from);
+      below = omega (arith, later.below);
+      denied = later.denied;
+      before = λ t from below.
+          elim (cases_lt first t) [
+            | inl lt ↦ later.before t (omega arith) below
+            | inr le ↦ let same : t ≡ first = omega arith in rw same here
+          ];
+    }
+least-back rows op first (suc n) sector e false here =
+    let found : Some first ≡ Some sector = rw here at e in
+    let same : first ≡ sector = cc in
+    record {
+      from = omega (arith, same);
+      below = omega (arith, same);
+      denied = rw (sym same) here;
+      before = λ t from below. absurd (omega (arith, same));
+    }
+
+cc_false : false ≡ true → ⊥
+cc_false e = absurd cc
+
+writes_nothing : Write ≡ Read → ⊥
+writes_nothing e = absurd cc
+
+each_fails : (rows : RangeRows) (lba count : ℕ) → each_shadowed rows lba count ≡ false → AreShadowed rows lba (lba + count) → ⊥
+each_fails rows lba count e shadowed = let all = all_shadowed rows lba count shadowed in absurd (cc_false (sym e ∙ all))
+
+is_inside : (rows : RangeRows) (op : Op) (lba count : ℕ) (wholly : Bool) → some_shadowed rows lba count ≡ true → each_shadowed rows lba count ≡ wholly → IsVerdict rows op lba count (verdict_inside op lba count wholly)
+is_inside rows Read lba count true some e = (refl, all_shadowed-back rows lba count e (is_shadowed rows lba) refl)
+is_inside rows Read lba count false some e =
+    let s = shadowed-back rows lba count some (is_shadowed rows lba) refl in
+    inl (record { sector = s.0; from = s.1; below = s.2; shadowed = s.3; no_read_inside = λ r all. each_fails rows lba count e all }, refl)
+is_inside rows Write lba count wholly some e =
+    let s = shadowed-back rows lba count some (is_shadowed rows lba) refl in
+    inl (record { sector = s.0; from = s.1; below = s.2; shadowed = s.3; no_read_inside = λ r all. writes_nothing r }, refl)
+
+is_by_ranges : (rows : RangeRows) (op : Op) (lba count : ℕ) (found : Option ℕ) → AreOpen rows lba (lba + count) → first_denied rows op lba count ≡ found → IsVerdict rows op lba count (verdict_at rows op lba count found)
+is_by_ranges rows op lba count None opened e = (opened, none_denied-back rows op lba count e (is_permitted rows op lba) refl)
+is_by_ranges rows op lba count (Some sector) opened e =
+    inr (opened, (sector, least-back rows op lba count sector e (is_permitted rows op lba) refl, refl))
+
+is_one : (rows : RangeRows) (op : Op) (lba count : ℕ) (touched : Bool) → some_shadowed rows lba count ≡ touched → IsVerdict rows op lba count (if touched then verdict_inside op lba count (each_shadowed rows lba count) else verdict_at rows op lba count (first_denied rows op lba count))
+is_one rows op lba count true e = is_inside rows op lba count (each_shadowed rows lba count) e refl
+is_one rows op lba count false e =
+    is_by_ranges rows op lba count (first_denied rows op lba count) (none_shadowed-back rows lba count e (is_shadowed rows lba) refl) refl
+
+-- the verdict of the function is one of the relation
+pub verdict_is : (rows : RangeRows) (op : Op) (lba count : ℕ) → IsVerdict rows op lba count (verdict_of rows op lba count)
+unfolding verdict_of
+verdict_is rows op lba count = is_one rows op lba count (some_shadowed rows lba count) refl
