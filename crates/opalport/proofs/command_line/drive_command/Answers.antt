@@ -6,7 +6,7 @@ use Rattle.opalport.proofs.command_line.drive_command.Goals as goal
 
 pub returns : goal.returns
 returns c =
-    let none : app_of c.about.result ≡ new_app c.args.name.now = ap app_of_fields c.about.ensures ∙ c.new.ensures.app in
+    let none : app_of c.after_help.result ≡ new_app c.args.name.now = ap app_of_fields c.after_help.ensures ∙ ap app_of_fields c.about.ensures ∙ c.new.ensures.app in
     let one = c.in_ok-arg.ensures.shape c.option-sectors.ensures.local ∙ ap₂ with_rule none c.option-sectors.ensures.rule in
     let two = c.in_ok-arg-2.ensures.shape c.option-shadow.ensures.local ∙ ap₂ with_rule one c.option-shadow.ensures.rule in
     IfOk-weaker c.arg-3.result _ _ (λ command adds. adds.shape c.option-msid.ensures.local ∙ ap₂ with_rule two c.option-msid.ensures.rule) c.arg-3.ensures

@@ -3,5 +3,5 @@ use Rattle.hex.specs.Hex.{decode_of}
 use Rattle.opalport.proofs.Endings.{tokens_end}
 use Rattle.opalport.proofs.program.tokens.Goals as goal
 
-pub returns-in_ok-status : goal.returns-in_ok-status
-returns-in_ok-status g c = tokens_end _ _ _ _ (decode_of c.args.hex.now) refl c.in_ok-status.ensures.printed c.in_ok-status.ensures.no_hex
+pub returns : goal.returns
+returns g c = tokens_end _ _ _ _ (decode_of c.args.hex.now) refl c.in_ok-status.ensures.printed c.in_ok-status.ensures.no_hex
