@@ -8,20 +8,26 @@ mod aces;
 #[cfg(test)]
 mod audit_lines;
 #[cfg(test)]
-mod frames;
+mod commands;
 #[cfg(test)]
-mod tables;
-#[cfg(test)]
-mod tokens;
+mod drives;
 #[cfg(test)]
 mod faults;
 #[cfg(test)]
 mod fises;
 #[cfg(test)]
+mod frames;
+#[cfg(test)]
 mod memory;
+#[cfg(test)]
+mod queue;
 #[cfg(test)]
 mod registers;
 #[cfg(test)]
 mod scripts;
 #[cfg(test)]
 mod streams;
+#[cfg(test)]
+mod tables;
+#[cfg(test)]
+mod tokens;

@@ -3,9 +3,8 @@ use Rattle.std.proofs.Common.{◌≡◌, ℕ, Bool, true, false, List, [], ◌�
 use Rattle.std.specs.Prelude.{unwrap_or}
 use Rattle.fis.specs.H2d.{h2d_at}
 use Rattle.fis.specs.declared.h2d.RegH2d.{RegH2d}
-use Rattle.locking.specs.Ranges.{ranges_in}
 use Rattle.locking.specs.declared.ranges.Verdict.{Verdict}
-use Rattle.locking.specs.declared.ranges.Verdict.TheVariants.{Serve, Denied}
+use Rattle.locking.specs.declared.ranges.Verdict.TheVariants.{Serve, Shadow, Denied}
 use Rattle.locking.proofs.Verdicts.{served_is_permitted}
 use Rattle.drive.specs.declared.decision.Decision.{Decision}
 use Rattle.drive.specs.declared.decision.Decision.TheVariants.{Refused, Fails, Holds}
@@ -13,7 +12,7 @@ use Rattle.drive.specs.declared.transfer.Transfer.{Transfer}
 use Rattle.drive.specs.Opening.{Origin}
 use Rattle.drive.specs.Decision.{Standing, verdict_decision, decision}
 use Rattle.drive.specs.Events.{Event, latest, or_else, event_of}
-use Rattle.drive.specs.History.{Act, Accept, Complete, log, event_after, slot_after, held_transfer, queue_failure_in, rows_in_force, standing_after, decision_after, completion_event}
+use Rattle.drive.specs.History.{Act, Accept, Complete, log, event_after, slot_after, held_transfer, queue_failure_in, ranges_in_force, standing_after, decision_after, completion_event}
 use Rattle.drive.specs.Laws.{is_failure, is_release, AreKeeping, WasAccepted, HeldLaw, FailedLaw}
 use Rattle.drive.proofs.Completing.{slot_moved, failure_moved}
 use Rattle.drive.proofs.Policy.{Reaches, verdict_on, policy_decision, is_by_policy, comes_to_policy, refused_while_failed}
@@ -29,6 +28,7 @@ served-hold s fis h asked transfer slot tag Serve r same e =
     let one : asked ≡ transfer = cc in
     let two : slot ≡ tag = cc in
     subst (λ (t : Transfer). IsServed s fis t tag) one (subst (λ (n : ℕ). IsServed s fis asked n) two (record { reaches = r; served = same }))
+served-hold s fis h asked transfer slot tag Shadow r same e = absurd cc
 served-hold s fis h asked transfer slot tag (Denied why) r same e = absurd cc
 
 hold-served : (s : Standing) (fis : List ℕ) (transfer : Transfer) (tag : ℕ) → decision s fis ≡ Holds tag transfer → IsServed s fis transfer tag
@@ -85,7 +85,7 @@ accepted_here o acts fis payload transfer tag e =
       place = refl;
       asked = k.reaches.asked;
       comes = comes_of o past fis transfer tag k.reaches;
-      permitted = served_is_permitted (ranges_in (rows_in_force o past)) transfer.op transfer.lba transfer.count k.served;
+      permitted = served_is_permitted (ranges_in_force o past) transfer.op transfer.lba transfer.count k.served;
       kept = tt;
     }
 

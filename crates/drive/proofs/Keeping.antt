@@ -6,7 +6,6 @@ use Rattle.std.proofs.lemmas.List.{reverse-append}
 use Rattle.fis.specs.H2d.{h2d_at}
 use Rattle.fis.specs.declared.h2d.RegH2d.{RegH2d}
 use Rattle.locking.specs.Range.{RangeRows}
-use Rattle.locking.specs.Ranges.{ranges_in}
 use Rattle.sp_tables.specs.Contents.{look_up}
 use Rattle.shadow_mbr.specs.Stored.{Stored, zeros, sector_at}
 use Rattle.trusted_cmds.specs.declared.command.Command.{Command}
@@ -16,7 +15,7 @@ use Rattle.drive.specs.declared.answer.Accepted.{Accepted}
 use Rattle.drive.specs.declared.decision.Decision.{Decision}
 use Rattle.drive.specs.declared.decision.Decision.TheVariants.{Refused, Fails, Holds}
 use Rattle.drive.specs.declared.failure.Failure.{Failure}
-use Rattle.drive.specs.Opening.{Origin}
+use Rattle.drive.specs.Opening.{Origin, ranges_of}
 use Rattle.drive.specs.Transfer.{transfer_of}
 use Rattle.drive.specs.Decision.{Standing, any_below, queue_failure, transfer_decision, read_decision, decision}
 use Rattle.drive.specs.Queue.{slot_at, empty_queue, NamesSlot}
@@ -49,8 +48,8 @@ pub same_decision : (d : State) (o : Origin) (past : List Event) (fis : List ℕ
 same_decision d o past fis h =
     let q : ℕ → Bool = λ t. is_some (held_transfer past t) in
     let same : (t : ℕ) → is_some (slot_at d.queue.slots t) ≡ q t = λ t. ap is_some (h.transfers t) in
-    let rows : RangeRows = ranges_in (look_up o.tables) in
-    ap (λ (x : Origin). decision (standing_of x.tables.config.sectors (ranges_in (look_up x.tables)) d.queue) fis) h.origin
+    let rows : RangeRows = ranges_of o.tables in
+    ap (λ (x : Origin). decision (standing_of x.tables.config.sectors (ranges_of x.tables) d.queue) fis) h.origin
     ∙ decision-agree (standing_of o.tables.config.sectors rows d.queue) q fis same
     ∙ ap (λ (x : Option Failure). decision (record { sectors = o.tables.config.sectors; ranges = rows; has_failed = is_some x; is_held = q }) fis) h.failure
 

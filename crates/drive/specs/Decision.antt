@@ -6,9 +6,9 @@ use Rattle.fis.specs.H2d.{h2d_at}
 use Rattle.fis.specs.declared.h2d.RegH2d.{RegH2d}
 use Rattle.audit.specs.declared.reason.Why.{Why}
 use Rattle.locking.specs.Range.{RangeRows}
-use Rattle.locking.specs.Verdict.{verdict_of}
+use Rattle.locking.specs.Verdict.{verdict_of, shadow_why}
 use Rattle.locking.specs.declared.ranges.Verdict.{Verdict}
-use Rattle.locking.specs.declared.ranges.Verdict.TheVariants.{Serve, Denied}
+use Rattle.locking.specs.declared.ranges.Verdict.TheVariants.{Serve, Shadow, Denied}
 use Rattle.trusted_cmds.specs.declared.command.Command.{Command}
 use Rattle.trusted_cmds.specs.declared.command.CommandError.{CommandError}
 use Rattle.trusted_cmds.specs.Commands.{reading, tag_of, is_queued}
@@ -40,8 +40,11 @@ is_busy standing = any_below standing.is_held slot_count
 abbrev pub queue_failure : Option ℕ → ℕ → RegH2d → Option Why → Decision
 queue_failure tag error h denied = Fails (failure_of tag error h) denied
 
+-- A transfer that touches the shadow is denied by it: the drive has no bytes of a shadow yet.
 abbrev pub verdict_decision : RegH2d → ℕ → Transfer → Verdict → Decision
 verdict_decision h tag transfer Serve = Holds tag transfer
+verdict_decision h tag transfer Shadow =
+    queue_failure (Some tag) aborted h (Some (shadow_why transfer.op transfer.lba transfer.count))
 verdict_decision h tag transfer (Denied why) = queue_failure (Some tag) aborted h (Some why)
 
 -- A queued transfer: a tag that is held, sectors that are not on the drive, then what the ranges say.

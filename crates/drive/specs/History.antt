@@ -2,6 +2,7 @@
 use Rattle.std.specs.Prelude.{ℕ, ◌+◌, ◌-◌, ◌*◌, ◌/◌, length, ◌==◌, ◌&&◌, nat_le, nat_lt, List, [], ◌∷◌, take, drop, is_some, unwrap_or, Option, Some, None, if◌then◌else◌}
 use Rattle.sp_cells.specs.Flat.{LookUp}
 use Rattle.sp_tables.specs.Contents.{look_up}
+use Rattle.locking.specs.Range.{RangeRows}
 use Rattle.locking.specs.Ranges.{ranges_in}
 use Rattle.shadow_mbr.specs.Stored.{sector_size, zeros}
 use Rattle.drive.specs.declared.failure.Failure.{Failure}
@@ -20,6 +21,10 @@ pub data Act : Type 0 where
 -- The rows in force: those that the drive started from.
 abbrev pub rows_in_force : Origin → List Event → LookUp
 rows_in_force o past = look_up o.tables
+
+-- The ranges and the shadow that they describe.
+abbrev pub ranges_in_force : Origin → List Event → RangeRows
+ranges_in_force o past = ranges_in o.tables.config.mbr_sectors (rows_in_force o past)
 
 -- What a deed leaves under a tag, where it speaks of it. A failed queue drops all.
 abbrev pub slot_after : ℕ → Deed → Option (Option Transfer)
@@ -63,7 +68,7 @@ sector_in past sector = unwrap_or (latest (bytes_after sector) past) zeros
 abbrev pub standing_after : Origin → List Event → Standing
 standing_after o past = record {
   sectors = o.tables.config.sectors;
-  ranges = ranges_in (rows_in_force o past);
+  ranges = ranges_in_force o past;
   has_failed = is_some (queue_failure_in past);
   is_held = λ tag. is_some (held_transfer past tag);
 }

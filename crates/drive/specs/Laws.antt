@@ -1,12 +1,10 @@
 -- Laws over every list of acts.
-use Rattle.std.specs.Prelude.{◌≡◌, ℕ, ◌+◌, ◌==◌, ◌↔◌, Bool, true, false, is_some, List, [], ◌∷◌, ◌++◌, slice_index, Option, Some, None, Ok}
+use Rattle.std.specs.Prelude.{◌≡◌, ℕ, ◌+◌, ◌==◌, ◌↔◌, ◌≤◌, ◌<◌, ◌⊎◌, Bool, true, false, is_some, List, [], ◌∷◌, ◌++◌, slice_index, Option, Some, None, Ok}
 use Rattle.fis.specs.Types.{h2d_type}
 use Rattle.fis.specs.H2d.{h2d_at}
-use Rattle.sp_cells.specs.Flat.{LookUp}
 use Rattle.audit.specs.declared.reason.Why.{Why}
-use Rattle.locking.specs.Range.{RangeRows, row_at}
-use Rattle.locking.specs.Ranges.{ranges_in}
-use Rattle.locking.specs.Verdict.{ArePermitted, IsLeastDenied, why_of}
+use Rattle.locking.specs.Range.{RangeRows, row_at, is_shadowed}
+use Rattle.locking.specs.Verdict.{ArePermitted, AreOpen, IsLeastDenied, why_of, shadow_why}
 use Rattle.trusted_cmds.specs.declared.command.Command.{Command}
 use Rattle.trusted_cmds.specs.Commands.{reading}
 use Rattle.drive.specs.declared.transfer.Transfer.{Transfer}
@@ -16,12 +14,13 @@ use Rattle.drive.specs.Opening.{Origin}
 use Rattle.drive.specs.Transfer.{transfer_of, by_op, fits}
 use Rattle.drive.specs.Failure.{aborted}
 use Rattle.drive.specs.Events.{Event}
-use Rattle.drive.specs.History.{Act, Accept, Complete, log, event_after, decision_after, held_transfer, queue_failure_in, sector_in, rows_in_force}
+use Rattle.drive.specs.History.{Act, Accept, Complete, log, event_after, decision_after, held_transfer, queue_failure_in, sector_in, ranges_in_force}
 
--- Each sector's range permits the transfer by these rows.
-abbrev pub IsPermitted : LookUp → Transfer → Type 0
-IsPermitted rows transfer =
-    ArePermitted (ranges_in rows) transfer.op transfer.lba (transfer.lba + transfer.count)
+-- No sector is shadowed, and each sector's range permits the transfer.
+abbrev pub IsPermitted : RangeRows → Transfer → Type 0
+IsPermitted ranges transfer =
+    AreOpen ranges transfer.lba (transfer.lba + transfer.count)
+    × ArePermitted ranges transfer.op transfer.lba (transfer.lba + transfer.count)
 
 -- The FIS asks for the transfer, queued under the tag.
 pub record IsAsked (fis : List ℕ) (transfer : Transfer) (tag : ℕ) : Type 0 where
@@ -36,23 +35,36 @@ pub record ComesToPolicy (o : Origin) (past : List Event) (transfer : Transfer) 
   pub free : held_transfer past tag ≡ None
   pub on_drive : fits o.tables.config.sectors transfer ≡ true
 
--- The reason of a denial: the range and the flag of the least denied sector.
-pub record IsReason (ranges : RangeRows) (transfer : Transfer) (why : Why) : Type 0 where
+-- The shadow, where a sector is shadowed.
+pub record NamesShadow (ranges : RangeRows) (transfer : Transfer) (why : Why) : Type 0 where
+  pub sector : ℕ
+  pub from : transfer.lba ≤ sector
+  pub below : sector < transfer.lba + transfer.count
+  pub shadowed : is_shadowed ranges sector ≡ true
+  pub names : why ≡ shadow_why transfer.op transfer.lba transfer.count
+
+-- The range and the flag of the least denied sector, where none is shadowed.
+pub record NamesRange (ranges : RangeRows) (transfer : Transfer) (why : Why) : Type 0 where
+  pub opened : AreOpen ranges transfer.lba (transfer.lba + transfer.count)
   pub sector : ℕ
   pub least : IsLeastDenied ranges transfer.op transfer.lba transfer.count sector
   pub names : why ≡ why_of transfer.op transfer.lba transfer.count (row_at ranges sector).range
 
+-- The reason of a denial.
+abbrev pub IsReason : RangeRows → Transfer → Why → Type 0
+IsReason ranges transfer why = NamesShadow ranges transfer why ⊎ NamesRange ranges transfer why
+
 abbrev pub HasReason : Origin → List Event → Transfer → Option Why → Type 0
 HasReason o past transfer denied =
-    (why : Why) × (denied ≡ Some why) × IsReason (ranges_in (rows_in_force o past)) transfer why
+    (why : Why) × (denied ≡ Some why) × IsReason (ranges_in_force o past) transfer why
 
 -- A transfer that comes to the policy is held exactly where it is permitted; else it is aborted, and the reason is told.
 pub record IsJudged (o : Origin) (acts : List Act) (fis payload : List ℕ) (transfer : Transfer) (tag : ℕ) : Type 0 where
   pub served : (held_transfer (log o (Accept fis payload ∷ acts)) tag ≡ Some transfer)
-      ↔ IsPermitted (rows_in_force o (log o acts)) transfer
-  pub aborts : (IsPermitted (rows_in_force o (log o acts)) transfer → ⊥)
+      ↔ IsPermitted (ranges_in_force o (log o acts)) transfer
+  pub aborts : (IsPermitted (ranges_in_force o (log o acts)) transfer → ⊥)
       → (event_after o (log o acts) (Accept fis payload)).error ≡ Some aborted
-  pub reason : (IsPermitted (rows_in_force o (log o acts)) transfer → ⊥)
+  pub reason : (IsPermitted (ranges_in_force o (log o acts)) transfer → ⊥)
       → HasReason o (log o acts) transfer (event_after o (log o acts) (Accept fis payload)).denied
 
 abbrev pub AcceptanceLaw : Type 0
@@ -70,7 +82,7 @@ pub record IsDenied (o : Origin) (past : List Event) (act : Act) (why : Why) : T
   pub tag : ℕ
   pub asked : IsAsked fis transfer tag
   pub comes : ComesToPolicy o past transfer tag
-  pub reason : IsReason (ranges_in (rows_in_force o past)) transfer why
+  pub reason : IsReason (ranges_in_force o past) transfer why
 
 abbrev pub DenialLaw : Type 0
 DenialLaw =
@@ -102,7 +114,7 @@ pub record WasAccepted (o : Origin) (acts : List Act) (transfer : Transfer) (tag
   pub place : acts ≡ later ++ Accept fis payload ∷ before
   pub asked : IsAsked fis transfer tag
   pub comes : ComesToPolicy o (log o before) transfer tag
-  pub permitted : IsPermitted (rows_in_force o (log o before)) transfer
+  pub permitted : IsPermitted (ranges_in_force o (log o before)) transfer
   pub kept : AreKeeping o tag later (Accept fis payload ∷ before)
 
 -- That is what is held, and nothing else.

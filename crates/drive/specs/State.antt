@@ -1,14 +1,12 @@
 -- When a drive stands as a list of acts leaves it.
 use Rattle.std.specs.Prelude.{◌≡◌, ℕ, List, length, reverse, is_some, Option, Some, None}
 use Rattle.fis.specs.Tags.{slot_count}
-use Rattle.sp_tables.specs.Contents.{look_up}
 use Rattle.locking.specs.Range.{RangeRows}
-use Rattle.locking.specs.Ranges.{ranges_in}
 use Rattle.shadow_mbr.specs.Stored.{Stored, sector_at}
 use Rattle.drive.specs.declared.queue.Queue.{Queue}
 use Rattle.drive.specs.declared.decision.Decision.{Decision}
 use Rattle.drive.specs.declared.transfer.Transfer.{Transfer}
-use Rattle.drive.specs.Opening.{Origin}
+use Rattle.drive.specs.Opening.{Origin, ranges_of}
 use Rattle.drive.specs.Transfer.{sector_then}
 use Rattle.drive.specs.Decision.{Standing, decision}
 use Rattle.drive.specs.Queue.{slot_at, with_slot, queue_after}
@@ -49,7 +47,7 @@ standing_of sectors ranges queue = record {
 -- What the drive does with a FIS, by how it stands.
 abbrev pub decision_on : State → List ℕ → Decision
 decision_on drive fis =
-    decision (standing_of drive.origin.tables.config.sectors (ranges_in (look_up drive.origin.tables)) drive.queue) fis
+    decision (standing_of drive.origin.tables.config.sectors (ranges_of drive.origin.tables) drive.queue) fis
 
 -- How the drive stands after a decision.
 abbrev pub state_after : Decision → State → State

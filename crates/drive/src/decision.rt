@@ -2,6 +2,7 @@
 
 ghost use Rattle.std.specs.Prelude.{◌≡◌, ◌<◌, ◌≤◌, ◌^◌, Option, None};
 ghost use Rattle.fis.specs.Tags.{slot_count};
+ghost use Rattle.locking.specs.Verdict.{shadow_why};
 ghost use Rattle.drive.specs.Decision.{queue_failure, transfer_decision, decision};
 ghost use Rattle.drive.specs.Queue.{NamesSlot};
 ghost use Rattle.drive.specs.State.{standing_of};
@@ -11,7 +12,7 @@ use crate::queue::Queue;
 use crate::transfer::Transfer;
 use audit::Why;
 use fis::{H2D_LENGTH, H2D_TYPE, RegH2d, Tag};
-use locking::{Ranges, Verdict};
+use locking::{Op, Ranges, Verdict};
 use trusted_cmds::{is_queued, of_fis, tag_of};
 
 /// What the drive does with a command.
@@ -47,6 +48,17 @@ fn queue_failure(tag: Option<Tag>, error: u8, h: &RegH2d, denied: Option<Why>) -
     }
 }
 
+/// The reason of a denial by the shadow.
+fn shadow_reason(transfer: &Transfer) -> Why
+    ensures { result ≡ shadow_why transfer.now.op transfer.now.lba transfer.now.count }
+{
+    let (lba, count) = (transfer.lba, transfer.count.number());
+    match transfer.op {
+        Op::Read => Why::ReadShadow { lba, count },
+        Op::Write => Why::WriteShadow { lba, count },
+    }
+}
+
 /// A queued transfer: a tag that is held, sectors that are not on the drive, then what the ranges say.
 fn transfer_decision(
     sectors: u64,
@@ -68,6 +80,10 @@ fn transfer_decision(
     }
     match ranges.verdict(transfer.op, transfer.lba, transfer.count.number()) {
         Verdict::Serve => Decision::Holds { tag, transfer },
+        Verdict::Shadow => {
+            let why = shadow_reason(&transfer);
+            queue_failure(Some(tag), ABORTED, h, Some(why))
+        }
         Verdict::Denied(why) => queue_failure(Some(tag), ABORTED, h, Some(why)),
     }
 }

@@ -6,6 +6,7 @@ ghost use Rattle.fis.specs.Tags.{slot_count};
 use crate::answer::{Accepted, Completed, completion_fises};
 use crate::decision::{Decision, decide};
 use crate::error::DriveError;
+use crate::failure::Failure;
 use crate::opening::Opening;
 use crate::queue::Queue;
 use fis::{H2D_LENGTH, Tag};
@@ -28,8 +29,7 @@ pub struct Drive {
 
 impl Model for Drive {
     ghost use Rattle.std.specs.Prelude.{◌≡◌, ◌≤◌, ◌^◌};
-    ghost use Rattle.sp_tables.specs.Contents.{look_up};
-    ghost use Rattle.locking.specs.Ranges.{ranges_in};
+    ghost use Rattle.drive.specs.Opening.{ranges_of};
     ghost use Rattle.drive.specs.Queue.{AllFit};
     ghost use Rattle.drive.specs.State.{State};
 
@@ -38,7 +38,7 @@ impl Model for Drive {
     ghost view = { λ a. record { origin = record { tables = a.tables }; queue = a.queue; media = a.media } };
 
     ghost invariant = { λ a. (a.tables.config.sectors ≤ 2 ^ 48)
-        × (a.ranges ≡ ranges_in (look_up a.tables))
+        × (a.ranges ≡ ranges_of a.tables)
         × (a.media.sectors ≡ a.tables.config.sectors)
         × AllFit a.tables.config.sectors a.queue };
 }
@@ -49,7 +49,7 @@ impl Drive {
     ghost use Rattle.drive.specs.Queue.{slot_at, NamesSlot};
     ghost use Rattle.shadow_mbr.specs.Stored.{sector_at};
     ghost use Rattle.drive.specs.Events.{event_of};
-    ghost use Rattle.drive.specs.History.{Act, Accept, Complete, log, event_after, held_transfer, sector_in};
+    ghost use Rattle.drive.specs.History.{Act, Accept, Complete, log, event_after, held_transfer, queue_failure_in, sector_in};
     ghost use Rattle.drive.specs.State.{Agrees, AgreesInOrder, IsMoved, decision_on, state_after};
     ghost use Rattle.drive.specs.Answers.{IsAnswer, IsCompletion, expected_size};
 
@@ -146,6 +146,14 @@ impl Drive {
             None => 0,
             Some(transfer) => transfer.payload_size(),
         }
+    }
+
+    /// How the queue has failed, if it has: what log page 10h tells.
+    pub fn failure(&self) -> Option<Failure>
+        ensures stands { result ≡ self.now.queue.failure }
+        ensures told { (o : Origin) (acts : List Act) → Agrees self.now o acts → result ≡ queue_failure_in (log o acts) }
+    {
+        self.queue.failure
     }
 
     /// Moves the data of a held command, and lets it go. `NotHeld` where nothing is held under the

@@ -117,11 +117,7 @@ impl Transfer {
         ensures err { OnErr result (media.new ≡ media.old) }
     {
         match self.op {
-            Op::Read => {
-                let mut bytes = vec![in alloc; 0; self.size() as usize]?;
-                media.read(self.lba, &mut bytes);
-                Ok(bytes)
-            }
+            Op::Read => media.read_sectors(self.lba, self.count.number()),
             Op::Write => {
                 media.write(self.lba, payload)?;
                 Ok(Vec::new(alloc))

@@ -185,3 +185,17 @@ is_one rows op lba count false e =
 pub verdict_is : (rows : RangeRows) (op : Op) (lba count : ℕ) → IsVerdict rows op lba count (verdict_of rows op lba count)
 unfolding verdict_of
 verdict_is rows op lba count = is_one rows op lba count (some_shadowed rows lba count) refl
+
+-- a read that gives the shadow's bytes has a shadowed sector
+ranges-shadow : (rows : RangeRows) (op : Op) (lba count : ℕ) (found : Option ℕ) → verdict_at rows op lba count found ≡ Shadow → ⊥
+ranges-shadow rows op lba count None e = absurd cc
+ranges-shadow rows op lba count (Some sector) e = absurd cc
+
+touched-inside : (rows : RangeRows) (op : Op) (lba count : ℕ) (touched : Bool) → some_shadowed rows lba count ≡ touched → (if touched then verdict_inside op lba count (each_shadowed rows lba count) else verdict_at rows op lba count (first_denied rows op lba count)) ≡ Shadow → some_shadowed rows lba count ≡ true
+touched-inside rows op lba count true is e = is
+touched-inside rows op lba count false is e = absurd (ranges-shadow rows op lba count (first_denied rows op lba count) e)
+
+pub shadow_has_sector : (rows : RangeRows) (op : Op) (lba count : ℕ) → verdict_of rows op lba count ≡ Shadow → (sector : ℕ) × (lba ≤ sector) × (sector < lba + count) × (is_shadowed rows sector ≡ true)
+unfolding verdict_of
+shadow_has_sector rows op lba count e =
+    shadowed-back rows lba count (touched-inside rows op lba count (some_shadowed rows lba count) refl e) (is_shadowed rows lba) refl

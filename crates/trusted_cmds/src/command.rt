@@ -1,22 +1,6 @@
+//! The commands of the drive, and why a FIS carries none (ACS-3).
+
 use thiserror::Error;
-
-/// READ FPDMA QUEUED (ACS-3).
-pub(crate) const READ_QUEUED: u8 = 0x60;
-
-/// WRITE FPDMA QUEUED (ACS-3).
-pub(crate) const WRITE_QUEUED: u8 = 0x61;
-
-/// WRITE DMA EXT (ACS-3).
-pub(crate) const WRITE_DMA: u8 = 0x35;
-
-/// TRUSTED SEND (ACS-3).
-pub(crate) const TRUSTED_SEND: u8 = 0x5e;
-
-/// TRUSTED SEND DMA (ACS-3).
-pub(crate) const TRUSTED_SEND_DMA: u8 = 0x5f;
-
-/// How many sectors a command moves at most.
-pub(crate) const MOST_SECTORS: u32 = 65_536;
 
 /// A command of the drive. Addresses are below 2^48; counts are of sectors, 1 to 65,536.
 #[derive(Clone, Copy, Debug, PartialEq, Eq)]
@@ -40,3 +24,21 @@ pub enum CommandError {
     #[error("bit 6 of Device is clear")]
     Device,
 }
+
+/// READ FPDMA QUEUED (ACS-3).
+pub(crate) const READ_QUEUED: u8 = 0x60;
+
+/// WRITE FPDMA QUEUED (ACS-3).
+pub(crate) const WRITE_QUEUED: u8 = 0x61;
+
+/// WRITE DMA EXT (ACS-3).
+pub(crate) const WRITE_DMA: u8 = 0x35;
+
+/// TRUSTED SEND (ACS-3).
+pub(crate) const TRUSTED_SEND: u8 = 0x5e;
+
+/// TRUSTED SEND DMA (ACS-3).
+pub(crate) const TRUSTED_SEND_DMA: u8 = 0x5f;
+
+/// How many sectors a command moves at most.
+pub(crate) const MOST_SECTORS: u32 = 65_536;

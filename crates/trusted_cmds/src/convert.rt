@@ -1,3 +1,5 @@
+//! Commands in the FISes that carry them, both ways (ACS-3, the commands' tables of inputs).
+
 ghost use Rattle.std.specs.Prelude.{◌≡◌, ◌<◌, ◌≤◌, ◌^◌, MatchResult, Some, None, IfOk, Ok, Option, ℕ, ◌/◌, ◌%◌, ◌==◌, ◌||◌};
 ghost use Rattle.fis.specs.declared.h2d.RegH2d.{RegH2d};
 ghost use Rattle.trusted_cmds.specs.declared.command.Command.{Command};

@@ -8,6 +8,3 @@ mod payload;
 pub use command::{Command, CommandError};
 pub use convert::{is_queued, of_fis, sectors, tag_of, to_fis};
 pub use payload::{SECTOR_SIZE, payload_len};
-
-#[cfg(test)]
-mod tests;
