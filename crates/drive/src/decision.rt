@@ -59,7 +59,7 @@ fn shadow_reason(transfer: &Transfer) -> Why
     }
 }
 
-/// A queued transfer: a tag that is held, sectors that are not on the drive, then what the ranges say.
+/// A queued transfer: a tag that is held, sectors that are not on the drive, then the ranges.
 fn transfer_decision(
     sectors: u64,
     ranges: &Ranges,
@@ -70,7 +70,8 @@ fn transfer_decision(
 ) -> Decision
     requires { sectors ≤ 2 ^ 48 }
     ensures slot { NamesSlot sectors result }
-    ensures value { result ≡ transfer_decision (standing_of sectors ranges.now queue.now) h.now tag transfer }
+    ensures value { result
+        ≡ transfer_decision (standing_of sectors ranges.now queue.now) h.now tag transfer }
 {
     if queue.at(tag).is_some() {
         return queue_failure(Some(tag), ABORTED, h, None);

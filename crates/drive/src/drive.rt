@@ -35,7 +35,11 @@ impl Model for Drive {
 
     ghost Value = { State };
 
-    ghost view = { λ a. record { origin = record { tables = a.tables }; queue = a.queue; media = a.media } };
+    ghost view = { λ a. record {
+      origin = record { tables = a.tables };
+      queue = a.queue;
+      media = a.media;
+    } };
 
     ghost invariant = { λ a. (a.tables.config.sectors ≤ 2 ^ 48)
         × (a.ranges ≡ ranges_of a.tables)
@@ -71,8 +75,10 @@ impl Drive {
         config: DriveConfig,
         rows: &[RangeRow],
     ) -> Result<Drive, SetError>
-        ensures agrees { IfOk result (λ drive. (o : Origin) × (origin_with config rows.now ≡ Ok o) × Agrees drive o []) }
-        ensures err { IfErr result (λ e. (e ≡ SetError.OutOfMemory) ⊎ (origin_with config rows.now ≡ Err e)) }
+        ensures agrees { IfOk result (λ drive.
+            (o : Origin) × (origin_with config rows.now ≡ Ok o) × Agrees drive o []) }
+        ensures err { IfErr result (λ e.
+            (e ≡ SetError.OutOfMemory) ⊎ (origin_with config rows.now ≡ Err e)) }
     {
         let mut opening = Opening::new(alloc, config)?;
         for row in rows {
@@ -110,9 +116,11 @@ impl Drive {
         ensures ok { IsOk result }
         ensures agrees { OnOk result ((o : Origin) (acts : List Act) → Agrees self.old o acts
             → Agrees self.new o (Accept fis.now payload.now ∷ acts)) }
-        ensures in_order { OnOk result ((o : Origin) (acts : List Act) → AgreesInOrder self.old o acts
+        ensures in_order { OnOk result ((o : Origin) (acts : List Act)
+            → AgreesInOrder self.old o acts
             → AgreesInOrder self.new o (acts ++ Accept fis.now payload.now ∷ [])) }
-        ensures answer { IfOk result (λ accepted. (o : Origin) (acts : List Act) → Agrees self.old o acts
+        ensures answer { IfOk result (λ accepted. (o : Origin) (acts : List Act)
+            → Agrees self.old o acts
             → IsAnswer (event_after o (log o acts) (Accept fis.now payload.now)) accepted) }
     {
         Ok(self.take(fis))
@@ -128,7 +136,8 @@ impl Drive {
     }
 
     fn take(&mut self, fis: &[u8; H2D_LENGTH]) -> Accepted
-        ensures slot { NamesSlot self.old.origin.tables.config.sectors (decision_on self.old fis.now) }
+        ensures slot { NamesSlot self.old.origin.tables.config.sectors
+            (decision_on self.old fis.now) }
         ensures state { self.new ≡ state_after (decision_on self.old fis.now) self.old }
         ensures answer { IsAnswer (event_of (decision_on self.old fis.now)) result }
     {
@@ -151,7 +160,8 @@ impl Drive {
     /// How the queue has failed, if it has: what log page 10h tells.
     pub fn failure(&self) -> Option<Failure>
         ensures stands { result ≡ self.now.queue.failure }
-        ensures told { (o : Origin) (acts : List Act) → Agrees self.now o acts → result ≡ queue_failure_in (log o acts) }
+        ensures told { (o : Origin) (acts : List Act) → Agrees self.now o acts
+            → result ≡ queue_failure_in (log o acts) }
     {
         self.queue.failure
     }
@@ -163,9 +173,11 @@ impl Drive {
         requires { length payload.now ≡ expected_size (slot_at self.old.queue.slots tag) }
         ensures agrees { OnOk result ((o : Origin) (acts : List Act) → Agrees self.old o acts
             → Agrees self.new o (Complete tag payload.now ∷ acts)) }
-        ensures in_order { OnOk result ((o : Origin) (acts : List Act) → AgreesInOrder self.old o acts
+        ensures in_order { OnOk result ((o : Origin) (acts : List Act)
+            → AgreesInOrder self.old o acts
             → AgreesInOrder self.new o (acts ++ Complete tag payload.now ∷ [])) }
-        ensures answer { IfOk result (λ done. (o : Origin) (acts : List Act) → Agrees self.old o acts
+        ensures answer { IfOk result (λ done. (o : Origin) (acts : List Act)
+            → Agrees self.old o acts
             → IsCompletion (sector_in (log o acts)) tag (held_transfer (log o acts) tag) done) }
         ensures not_held { (o : Origin) (acts : List Act) → Agrees self.old o acts
             → (IsErrOf result DriveError.NotHeld ↔ (held_transfer (log o acts) tag ≡ None)) }
@@ -178,8 +190,10 @@ impl Drive {
         requires { length payload.now ≡ expected_size (slot_at self.old.queue.slots tag) }
         ensures slot { tag < slot_count }
         ensures state { OnOk result (IsMoved self.old self.new tag payload.now) }
-        ensures answer { IfOk result (λ done. IsCompletion (sector_at self.old.media) tag (slot_at self.old.queue.slots tag) done) }
-        ensures not_held { IsErrOf result DriveError.NotHeld ↔ (slot_at self.old.queue.slots tag ≡ None) }
+        ensures answer { IfOk result (λ done.
+            IsCompletion (sector_at self.old.media) tag (slot_at self.old.queue.slots tag) done) }
+        ensures not_held { IsErrOf result DriveError.NotHeld
+            ↔ (slot_at self.old.queue.slots tag ≡ None) }
         ensures err { OnErr result (self.new ≡ self.old) }
     {
         match self.queue.at(tag) {

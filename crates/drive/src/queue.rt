@@ -63,7 +63,8 @@ impl Queue {
     #[tactic(auto, using(crate::proofs::Slots::fit_then))]
     pub(crate) fn settle(&mut self, decision: &Decision)
         ensures after { self.new ≡ queue_after decision.now self.old }
-        ensures fits { (sectors : ℕ) → NamesSlot sectors decision.now → AllFit sectors self.old → AllFit sectors self.new }
+        ensures fits { (sectors : ℕ) → NamesSlot sectors decision.now
+            → AllFit sectors self.old → AllFit sectors self.new }
     {
         match *decision {
             Decision::Refused => {}

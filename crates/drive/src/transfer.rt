@@ -113,7 +113,8 @@ impl Transfer {
         requires fits { self.now.lba + self.now.count ≤ media.old.sectors }
         ensures data { IfOk result (λ v. v.items ≡ bytes_of (sector_at media.old) self.now) }
         ensures size { media.new.sectors ≡ media.old.sectors }
-        ensures media { OnOk result ((s : ℕ) → sector_at media.new s ≡ sector_then self.now payload.now (sector_at media.old s) s) }
+        ensures media { OnOk result ((s : ℕ)
+            → sector_at media.new s ≡ sector_then self.now payload.now (sector_at media.old s) s) }
         ensures err { OnErr result (media.new ≡ media.old) }
     {
         match self.op {

@@ -1,9 +1,10 @@
 //! What a drive is opened with.
 
+use basics::ADDRESS_LIMIT;
 use hex::FromHexError;
 use script_lines::number_up_to;
 use sp_cells::DriveConfig;
-use sp_cells::limits::{MOST_MBR_SECTORS, MOST_PIN_BYTES, MOST_SECTORS};
+use sp_cells::limits::{MOST_MBR_SECTORS, MOST_PIN_BYTES};
 use std::alloc::Global;
 use std::error::Error;
 use std::fmt;
@@ -31,10 +32,10 @@ fn write_limit<W: fmt::Write>(
     shadow: u64,
     msid: usize,
 ) -> fmt::Result {
-    if sectors == 0 || sectors > MOST_SECTORS {
+    if sectors == 0 || sectors > ADDRESS_LIMIT {
         return write!(
             f,
-            "--sectors {sectors}: a drive has 1 to {MOST_SECTORS} sectors"
+            "--sectors {sectors}: a drive has 1 to {ADDRESS_LIMIT} sectors"
         );
     }
     if shadow > MOST_MBR_SECTORS {
