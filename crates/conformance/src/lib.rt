@@ -18,9 +18,13 @@ mod fises;
 #[cfg(test)]
 mod frames;
 #[cfg(test)]
+mod media;
+#[cfg(test)]
 mod memory;
 #[cfg(test)]
 mod queue;
+#[cfg(test)]
+mod ranges;
 #[cfg(test)]
 mod registers;
 #[cfg(test)]

@@ -11,6 +11,3 @@ mod sectors;
 pub use mbr::Mbr;
 pub use media::Media;
 pub use sectors::{Block, SECTOR_SIZE};
-
-#[cfg(test)]
-mod tests;

@@ -1,6 +1,8 @@
+//! The media of a drive, and the bytes of its shadow MBR.
+
 ghost use Rattle.std.specs.Prelude.{◌≡◌, ◌≤◌, length};
 
-use super::*;
+use shadow_mbr::{Mbr, Media};
 use std::alloc::{AllocError, Global};
 use std::test::Fail;
 
@@ -84,5 +86,31 @@ fn the_mbr_is_written_at_odd_places(rt: HostRuntime) -> Result<(), Fail> {
     assert_eq!(rt; mbr.sectors(), 8);
     mbr.read(510, &mut bytes);
     assert_eq!(rt; bytes, [0, 0, 0, 0, 0, 0]);
+    Ok(())
+}
+
+/// The first byte of each of so many sectors, read as one vector.
+fn first_bytes(media: &Media, lba: u64, count: u32) -> Result<[u8; 5], AllocError>
+    requires { lba + count ≤ media.now.sectors }
+{
+    let bytes = media.read_sectors(lba, count)?;
+    let mut firsts = [0xff; 5];
+    for (i, first) in firsts.iter_mut().enumerate() {
+        *first = bytes.get(512 * i).copied().unwrap_or(0xee);
+    }
+    Ok(firsts)
+}
+
+/// Sectors that were written and sectors that were not, read in one walk; and the longest transfer.
+#[test]
+fn sectors_are_read_in_one_walk(rt: HostRuntime) -> Result<(), Fail> {
+    let alloc = rt.alloc();
+    let mut media = Media::new(alloc, 1 << 48);
+    media.write(9, &[1; 512])?;
+    media.write(11, &[2; 1024])?;
+    assert_eq!(rt; first_bytes(&media, 9, 5)?, [1, 0, 2, 2, 0]);
+    assert_eq!(rt; first_bytes(&media, 8, 2)?, [0, 1, 0xee, 0xee, 0xee]);
+    let long = media.read_sectors((1 << 48) - 65536, 65536)?;
+    assert_eq!(rt; long.len(), 33_554_432);
     Ok(())
 }
