@@ -1,11 +1,41 @@
--- Rows made one after the other.
-use Rattle.std.proofs.Common.{◌≡◌, ℕ, suc, ◌+◌, ◌-◌, ◌<◌, List, [], ◌∷◌, ◌++◌, ◌∙◌, append_assoc, arith}
+-- Rows made one after the other, and that no two of them have a sector in common.
+use Rattle.std.proofs.Common.{◌≡◌, ℕ, zero, suc, ◌+◌, ◌-◌, ◌≤◌, ◌<◌, false, List, [], ◌∷◌, ◌++◌, length, get_or, refl, ap, ◌∙◌, arith}
+use Rattle.std.specs.List.{All}
+use Rattle.sp_cells.specs.declared.names.TheConstants.{RANGES}
 use Rattle.sp_cells.specs.Flat.{LookUp}
+use Rattle.sp_cells.specs.Ranges.{meets, AreApart}
 use Rattle.locking.specs.declared.range.RangeRow.{RangeRow}
 use Rattle.locking.specs.Ranges.{row_of, rows_from}
 
-pub goes_on : (look_up : LookUp) (out total : List RangeRow) (row : RangeRow) (range end : ℕ) → range < end → row ≡ row_of look_up range → out ++ rows_from look_up range (end - range) ≡ total → (out ++ row ∷ []) ++ rows_from look_up (range + 1) (end - (range + 1)) ≡ total
-goes_on look_up out total row range end lt made so_far =
-    let k : end - range ≡ suc (end - (range + 1)) = omega arith in
-    let next : suc range ≡ range + 1 = omega arith in
-    append_assoc out (row ∷ []) (rows_from look_up (range + 1) (end - (range + 1))) ∙ rw made (rw (k, next) at so_far)
+rows_from-push : (look_up : LookUp) (first n last : ℕ) → first + n ≡ last → rows_from look_up first n ++ row_of look_up last ∷ [] ≡ rows_from look_up first (suc n)
+rows_from-push look_up first zero last e =
+    let here : last ≡ first = omega (arith, e) in
+    rw here refl
+rows_from-push look_up first (suc n) last e =
+    ap (λ (rows : List RangeRow). row_of look_up first ∷ rows) (rows_from-push look_up (suc first) n last (omega (arith, e)))
+
+-- one more row
+pub goes_on : (look_up : LookUp) (range : ℕ) (rows : List RangeRow) → 1 ≤ range → rows ≡ rows_from look_up 1 (range - 1) → rows ++ row_of look_up range ∷ [] ≡ rows_from look_up 1 (range + 1 - 1)
+goes_on look_up range rows some e =
+    let next : range + 1 - 1 ≡ suc (range - 1) = omega arith in
+    rw (e, next) (rows_from-push look_up 1 (range - 1) range (omega arith))
+
+pub length-rows_from : (look_up : LookUp) (first n : ℕ) → length (rows_from look_up first n) ≡ n
+length-rows_from look_up first zero = refl
+length-rows_from look_up first (suc n) = ap (λ (k : ℕ). suc k) (length-rows_from look_up (suc first) n)
+
+row_at_place : (look_up : LookUp) (first n k : ℕ) (d : RangeRow) → k < n → get_or (rows_from look_up first n) k d ≡ row_of look_up (first + k)
+row_at_place look_up first zero k d lt = absurd (omega arith)
+row_at_place look_up first (suc n) zero d lt =
+    let here : first + 0 ≡ first = omega arith in
+    rw here refl
+row_at_place look_up first (suc n) (suc k) d lt =
+    let there : first + suc k ≡ suc first + k = omega arith in
+    rw there (row_at_place look_up (suc first) n k d (omega arith))
+
+-- the next row has no sector of those before it
+pub next_is_apart : (look_up : LookUp) → AreApart look_up → (range : ℕ) (rows : List RangeRow) → 1 ≤ range → range ≤ RANGES → rows ≡ rows_from look_up 1 (range - 1) → All (λ other. meets other.start other.length (row_of look_up range).start (row_of look_up range).length ≡ false) rows
+next_is_apart look_up apart range rows some few e =
+    rw e (λ k d lt.
+    let within : k < range - 1 = omega (arith, lt, length-rows_from look_up 1 (range - 1)) in
+    rw (row_at_place look_up 1 (range - 1) k d within) (apart.separate (1 + k) range (omega arith) (omega arith) few))

@@ -1,3 +1,4 @@
 pub mod Range
 pub mod Ranges
+pub mod Starts
 pub mod Verdict

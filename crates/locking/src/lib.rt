@@ -1,6 +1,7 @@
 //! Locking ranges of a self-locking drive (TCG Opal SSC 2.01), and the verdict on a transfer.
 #![tactic(auto)]
 
+mod numbered;
 mod range;
 mod ranges;
 

@@ -1,30 +1,36 @@
-ghost use Rattle.std.specs.Prelude.{◌≡◌, ◌≤◌, IfOk};
-ghost use Rattle.locking.specs.Range.{row_in};
+//! The ranges that rows describe, the range of a sector, and the verdict on a transfer.
+
+ghost use Rattle.std.specs.Prelude.{◌≡◌, ◌≤◌};
 ghost use Rattle.sp_cells.specs.Ranges.{of_range};
 ghost use Rattle.sp_cells.specs.declared.names.TheConstants.{RANGES};
-ghost use Rattle.locking.specs.Ranges.{row_of, rows_from};
-ghost use Rattle.locking.specs.Verdict.{why_of};
+ghost use Rattle.locking.specs.Ranges.{row_of, rows_from, shadowed_sectors};
+ghost use Rattle.locking.specs.Verdict.{why_of, verdict_inside};
 
+use crate::numbered::NumberedRanges;
 use crate::range::{Op, RangeRow};
 use audit::Why;
 use sp_cells::{Column, RANGES, Rows, Sp, Uid, number_at};
 use std::alloc::{AllocError, Global};
 use std::marker::Model;
 
-/// What a transfer is answered.
-#[derive(Clone, Debug, Drop, PartialEq, Eq)]
-pub enum Verdict {
-    /// Each sector's range permits it.
-    Serve,
-    /// Some sector's range denies it.
-    Denied(Why),
-}
-
-/// The ranges that rows describe.
+/// The ranges that rows describe, and what the shadow MBR covers.
 #[derive(Drop)]
 pub struct Ranges {
     global: RangeRow,
-    numbered: Vec<RangeRow>,
+    numbered: NumberedRanges,
+    /// The first sectors of the drive, so many of them, are shadowed.
+    shadowed: u64,
+}
+
+/// What a transfer is answered.
+#[derive(Clone, Debug, Drop, PartialEq, Eq)]
+pub enum Verdict {
+    /// No sector is shadowed, and each sector's range permits it.
+    Serve,
+    /// A read of shadowed sectors alone: it gives the bytes of the shadow MBR.
+    Shadow,
+    /// The shadow or some sector's range denies it.
+    Denied(Why),
 }
 
 impl Model for Ranges {
@@ -32,7 +38,7 @@ impl Model for Ranges {
 
     ghost Value = { RangeRows };
 
-    ghost view = { λ a. record { global = a.global; numbered = a.numbered.items } };
+    ghost view = { λ a. record { global = a.global; numbered = a.numbered; shadowed = a.shadowed } };
 }
 
 impl Ranges {
@@ -40,18 +46,29 @@ impl Ranges {
     ghost use Rattle.locking.specs.Ranges.{ranges_in};
     ghost use Rattle.locking.specs.Range.{row_at, IsRangeOf};
     ghost use Rattle.locking.specs.declared.range.RangeRow.{RangeRow};
-    ghost use Rattle.locking.specs.Verdict.{IsVerdict, verdict_of};
+    ghost use Rattle.locking.specs.Verdict.{IsVerdict, verdict_of, AreOpen};
 
-    /// The ranges that the rows describe.
-    #[tactic(auto, unfolding(crate::specs::Ranges::ranges_in))]
+    /// The ranges that the rows describe. It takes room for all of them.
     pub fn of<R: Rows>(alloc: Global, rows: &R) -> Result<Ranges, AllocError>
-        ensures { IfOk result (λ ranges. ranges ≡ ranges_in (R.look_up rows.now)) }
+        ensures { IfOk result (λ ranges. ranges ≡ ranges_in (R.shadow_sectors rows.now) (R.look_up rows.now)) }
     {
-        let numbered = numbered_rows(alloc, rows)?;
-        Ok(Ranges {
+        let mut ranges = Ranges {
             global: row_of(rows, 0),
-            numbered,
-        })
+            numbered: NumberedRanges::new(alloc)?,
+            shadowed: 0,
+        };
+        ranges.refresh(rows);
+        Ok(ranges)
+    }
+
+    /// Makes these the ranges that the rows describe, without memory.
+    #[tactic(auto, unfolding(crate::specs::Ranges::ranges_in))]
+    pub fn refresh<R: Rows>(&mut self, rows: &R)
+        ensures { self.new ≡ ranges_in (R.shadow_sectors rows.now) (R.look_up rows.now) }
+    {
+        self.global = row_of(rows, 0);
+        self.shadowed = shadowed_sectors(rows);
+        fill(&mut self.numbered, rows);
     }
 
     /// The row of the range that a sector belongs to: the numbered one that covers it, else the
@@ -59,7 +76,7 @@ impl Ranges {
     fn row_at(&self, sector: u64) -> RangeRow
         ensures { result ≡ row_at self.now sector }
     {
-        row_in(&self.numbered, self.global, sector)
+        self.numbered.piece_at(self.global, sector).row
     }
 
     /// The number of the range that a sector belongs to, 0 for the global range.
@@ -71,8 +88,9 @@ impl Ranges {
         self.row_at(sector).range
     }
 
-    /// Served where each sector's range permits, else denied by the range and flag of the least
-    /// denied sector.
+    /// Served where no sector is shadowed and each sector's range permits it. A read of shadowed
+    /// sectors alone gives the shadow's bytes, whatever the locks. Else denied: by the shadow where a
+    /// sector is shadowed, else by the range and flag of the least denied sector.
     #[tactic(auto, using(crate::proofs::Verdicts::is_verdict_of))]
     pub fn verdict(&self, op: Op, lba: u64, count: u32) -> Verdict
         requires some { 0 < count }
@@ -80,18 +98,39 @@ impl Ranges {
         ensures by_sectors { IsVerdict self.now op lba count result }
         ensures exact { result ≡ verdict_of self.now op lba count }
     {
-        self.sector_by_sector(op, lba, count)
+        self.judge(op, lba, count)
     }
 
-    fn sector_by_sector(&self, op: Op, lba: u64, count: u32) -> Verdict
-        requires { lba + count ≤ 2 ^ 48 }
+    /// The verdict: by the shadow where it covers the first sector, else by the ranges.
+    fn judge(&self, op: Op, lba: u64, count: u32) -> Verdict
+        requires some { 0 < count }
+        requires room { lba + count ≤ 2 ^ 48 }
         ensures { IsVerdict self.now op lba count result }
     {
-        for sector in lba..lba + u64::from(count) {
-            let row = self.row_at(sector);
-            if !row.permits(op) {
-                return Verdict::Denied(why_of(op, lba, count, row.range));
+        if lba < self.shadowed {
+            let wholly = lba + u64::from(count) <= self.shadowed;
+            verdict_inside(op, lba, count, wholly)
+        } else {
+            self.verdict_by_pieces(op, lba, count)
+        }
+    }
+
+    /// The verdict on a transfer that touches no shadowed sector: it goes over the pieces that belong
+    /// to one range each.
+    fn verdict_by_pieces(&self, op: Op, lba: u64, count: u32) -> Verdict
+        requires some { 0 < count }
+        requires room { lba + count ≤ 2 ^ 48 }
+        requires opened { AreOpen self.now lba (lba + count) }
+        ensures { IsVerdict self.now op lba count result }
+    {
+        let end = lba + u64::from(count);
+        let mut sector = lba;
+        while sector < end {
+            let piece = self.numbered.piece_at(self.global, sector);
+            if !piece.row.permits(op) {
+                return Verdict::Denied(why_of(op, lba, count, piece.row.range));
             }
+            sector = piece.end;
         }
         Verdict::Serve
     }
@@ -107,15 +146,15 @@ fn why_of(op: Op, lba: u64, count: u32, range: u8) -> Why
     }
 }
 
-fn row_in(rows: &[RangeRow], global: RangeRow, sector: u64) -> RangeRow
-    ensures { result ≡ row_in rows.now global sector }
+/// What a transfer that touches the shadow is answered, by whether it is wholly inside.
+fn verdict_inside(op: Op, lba: u64, count: u32, wholly: bool) -> Verdict
+    ensures { result ≡ verdict_inside op lba count wholly }
 {
-    for row in rows {
-        if row.covers(sector) {
-            return *row;
-        }
+    match op {
+        Op::Read if wholly => Verdict::Shadow,
+        Op::Read => Verdict::Denied(Why::ReadShadow { lba, count }),
+        Op::Write => Verdict::Denied(Why::WriteShadow { lba, count }),
     }
-    global
 }
 
 /// The number in a column of a range, 0 where there is none.
@@ -139,12 +178,27 @@ fn row_of<R: Rows>(rows: &R, range: u8) -> RangeRow
     }
 }
 
-fn numbered_rows<R: Rows>(alloc: Global, rows: &R) -> Result<Vec<RangeRow>, AllocError>
-    ensures { IfOk result (λ v. v.items ≡ rows_from (R.look_up rows.now) 1 RANGES) }
+/// How many sectors are shadowed now.
+fn shadowed_sectors<R: Rows>(rows: &R) -> u64
+    ensures { result ≡ shadowed_sectors (R.shadow_sectors rows.now) (R.look_up rows.now) }
 {
-    let mut numbered = Vec::new(alloc);
-    for range in 1..RANGES + 1 {
-        numbered.push(row_of(rows, range))?;
+    let enabled = number_at(rows, Sp::Locking, Uid::MBR_CONTROL, Column::MBR_ENABLE);
+    let done = number_at(rows, Sp::Locking, Uid::MBR_CONTROL, Column::MBR_DONE);
+    if enabled == 1 && done == 0 {
+        rows.mbr_sectors()
+    } else {
+        0
     }
-    Ok(numbered)
+}
+
+/// Makes these the numbered ranges that the rows describe.
+fn fill<R: Rows>(numbered: &mut NumberedRanges, rows: &R)
+    ensures { numbered.new ≡ rows_from (R.look_up rows.now) 1 RANGES }
+{
+    // No two of them have a sector in common: the rows say so once one is read.
+    let _ = rows.cell(Sp::Locking, Uid::range(0), Column::RANGE_START);
+    numbered.clear();
+    for range in 1..RANGES + 1 {
+        numbered.push(row_of(rows, range));
+    }
 }

@@ -4,3 +4,4 @@ pub mod Writes
 pub mod Same
 pub mod Whole
 pub mod Touched
+pub mod Walks

@@ -58,10 +58,11 @@ abbrev pub has_byte : ℕ → ℕ → ℕ → Bool
 has_byte at len sector =
     nat_lt 0 len && nat_lt (sector_size * sector) (at + len) && nat_lt at (sector_size * sector + sector_size)
 
--- The sectors that have one of so many bytes from `at` on, and that are not kept, are listed.
+-- The sectors from the first to before the end that are not kept are listed.
 abbrev pub ListsMissing : Stored → ℕ → ℕ → List ℕ → Type 0
-ListsMissing stored at len sectors =
-    (sector : ℕ) → list_any (nat_eq sector) sectors ≡ (has_byte at len sector && not (is_some (kept_at stored sector)))
+ListsMissing stored first end sectors =
+    (sector : ℕ) → list_any (nat_eq sector) sectors
+    ≡ (nat_le first sector && nat_lt sector end && not (is_some (kept_at stored sector)))
 
 -- How many sectors a drive can have: as many as a 48-bit address can name (ACS-3).
 abbrev pub sector_limit : ℕ

@@ -20,7 +20,7 @@ impl Model for Media {
 }
 
 impl Media {
-    ghost use Rattle.std.specs.Prelude.{◌≡◌, ◌+◌, ◌*◌, ◌/◌, ◌%◌, ◌≤◌, ◌<◌, ◌^◌, ℕ, length, is_some, ◌||◌, OnOk, OnErr, [], slice_index, slice_range};
+    ghost use Rattle.std.specs.Prelude.{◌≡◌, ◌+◌, ◌*◌, ◌/◌, ◌%◌, ◌≤◌, ◌<◌, ◌^◌, ℕ, length, is_some, ◌||◌, OnOk, OnErr, IfOk, [], slice_index, slice_range};
     ghost use Rattle.shadow_mbr.specs.Stored.{sector_size, sector_limit, zeros, kept_at, has_byte, sector_at, byte_at, byte_after, sector_after, sectors_from};
 
     /// So many sectors of zeros.
@@ -63,6 +63,15 @@ impl Media {
         ensures each { (sector : ℕ) → length (sector_at self.now sector) ≡ sector_size }
     {
         self.held.read(SECTOR * lba, buffer);
+    }
+
+    /// The bytes of so many sectors from `lba` on, in a vector of their own. It goes once over the
+    /// sectors that were written.
+    pub fn read_sectors(&self, lba: u64, count: u32) -> Result<Vec<u8>, AllocError>
+        requires { lba + count ≤ self.now.sectors }
+        ensures { IfOk result (λ bytes. bytes.items ≡ sectors_from (sector_at self.now) lba count) }
+    {
+        self.held.read_sectors(lba, count)
     }
 
     /// Writes whole sectors from `lba` on. Where memory is refused, nothing changes.

@@ -1,5 +1,6 @@
-ghost use Rattle.std.specs.Prelude.{◌≡◌, ◌+◌, ◌%◌, ◌<◌, ◌≤◌};
-ghost use Rattle.shadow_mbr.specs.Stored.{sector_size, zeros};
+ghost use Rattle.std.specs.Prelude.{◌≡◌, ◌+◌, ◌-◌, ◌%◌, ◌^◌, ◌*◌, ◌<◌, ◌≤◌, ◌++◌, ◌&&◌, ◌||◌, ℕ, nat_eq, nat_le, nat_lt, OnOk, length, replicate};
+ghost use Rattle.std.specs.List.{list_any};
+ghost use Rattle.shadow_mbr.specs.Stored.{sector_size, zeros, has_byte};
 
 use std::alloc::{AllocError, Global};
 use std::collections::BTreeMap;
@@ -51,11 +52,46 @@ fn piece_len(place: u64, len: usize) -> usize
     ((SECTOR - place % SECTOR) as usize).min(len)
 }
 
+/// The first sector that has one of so many bytes from a place on, and the one behind the last.
+#[tactic(auto, using(crate::proofs::Touched::has_byte_between))]
+fn sectors_of(at: u64, len: usize) -> (u64, u64)
+    requires { at + len < 2 ^ 64 }
+    ensures from { result.0 ≤ result.1 }
+    ensures within { (sectors : ℕ) → at + len ≤ sector_size * sectors → result.1 ≤ sectors }
+    ensures touched { (s : ℕ) → has_byte at len s ≡ (nat_le result.0 s && nat_lt s result.1) }
+{
+    if len == 0 {
+        (0, 0)
+    } else {
+        (at / SECTOR, (at + len as u64 - 1) / SECTOR + 1)
+    }
+}
+
+/// Lists the numbers of a run too.
+fn push_run(numbers: &mut Vec<u64>, first: u64, end: u64) -> Result<(), AllocError>
+    requires { first ≤ end }
+    ensures { OnOk result ((s : ℕ) → list_any (nat_eq s) numbers.new.items ≡ (list_any (nat_eq s) numbers.old.items || (nat_le first s && nat_lt s end))) }
+{
+    for number in first..end {
+        numbers.push(number)?;
+    }
+    Ok(())
+}
+
+/// Fills up with zeros to so many bytes.
+fn fill_to(bytes: &mut Vec<u8>, len: usize) -> Result<(), AllocError>
+    requires { length bytes.old.items ≤ len }
+    ensures { OnOk result (bytes.new.items ≡ bytes.old.items ++ replicate (len - length bytes.old.items) 0) }
+{
+    bytes.resize(len, 0)?;
+    Ok(())
+}
+
 impl Sectors {
     ghost use Rattle.std.specs.Prelude.{◌≡◌, ◌+◌, ◌*◌, ◌/◌, ◌%◌, ◌≤◌, ◌<◌, ◌^◌, ◌==◌, ◌++◌, ℕ, length, OnOk, OnErr, IfOk, IsTrue, ◌↔◌, [], true, is_some, slice_index, take, drop, if◌then◌else◌};
     ghost use Rattle.std.specs.Prelude.{nat_eq, ◌||◌, None, Some};
     ghost use Rattle.std.specs.List.{list_any};
-    ghost use Rattle.shadow_mbr.specs.Stored.{IsSound, AreKept, ListsMissing, sector_size, sector_limit, zeros, kept_at, sector_at, byte_at, byte_after, has_byte};
+    ghost use Rattle.shadow_mbr.specs.Stored.{IsSound, AreKept, ListsMissing, sector_size, sector_limit, zeros, kept_at, sector_at, byte_at, byte_after, has_byte, sectors_from};
 
     pub(crate) fn new(alloc: Global, sectors: u64) -> Sectors
         requires { sectors ≤ sector_limit }
@@ -140,6 +176,25 @@ impl Sectors {
         }
     }
 
+    /// The bytes of so many sectors from one on. It goes once over those that are kept.
+    pub(crate) fn read_sectors(&self, first: u64, count: u32) -> Result<Vec<u8>, AllocError>
+        requires { first + count ≤ self.now.sectors }
+        ensures { IfOk result (λ bytes. bytes.items ≡ sectors_from (sector_at self.now) first count) }
+    {
+        // The sectors are few and whole: the fields say so once they are used.
+        let _ = &self.kept;
+        let end = first + u64::from(count);
+        let mut bytes = Vec::with_capacity(self.alloc, SECTOR_SIZE * count as usize)?;
+        let mut next = first;
+        for (sector, block) in self.kept.range(first..end) {
+            fill_to(&mut bytes, SECTOR_SIZE * (*sector - first) as usize)?;
+            bytes.extend_from_slice(block)?;
+            next = *sector + 1;
+        }
+        fill_to(&mut bytes, SECTOR_SIZE * (end - first) as usize)?;
+        Ok(bytes)
+    }
+
     /// Writes some bytes of one sector that is kept, from a place on.
     fn write_part(&mut self, place: u64, bytes: &[u8])
         requires fits { place % sector_size + length bytes.now ≤ sector_size }
@@ -192,25 +247,22 @@ impl Sectors {
         true
     }
 
-    /// The sectors that have one of so many bytes and that are not kept.
-    #[tactic(auto, using(crate::proofs::Touched::one_piece))]
-    fn missing(&self, at: u64, len: usize) -> Result<Vec<u64>, AllocError>
-        requires { at + len ≤ sector_size * self.now.sectors }
-        ensures lists { IfOk result (λ v. ListsMissing self.now at len v.items) }
+    /// The sectors of a run that are not kept. It goes once over those that are.
+    fn missing(&self, first: u64, end: u64) -> Result<Vec<u64>, AllocError>
+        requires from { first ≤ end }
+        requires within { end ≤ self.now.sectors }
+        ensures lists { IfOk result (λ v. ListsMissing self.now first end v.items) }
         ensures sound { IsSound self.now }
     {
-        // The sectors are whole: the fields say so once they are used.
+        // The sectors are few and whole: the fields say so once they are used.
         let _ = &self.kept;
         let mut missing = Vec::new(self.alloc);
-        let mut done = 0;
-        while done < len {
-            let place = at + done as u64;
-            let sector = place / SECTOR;
-            if !self.has(sector) {
-                missing.push(sector)?;
-            }
-            done += piece_len(place, len - done);
+        let mut next = first;
+        for (sector, _) in self.kept.range(first..end) {
+            push_run(&mut missing, next, *sector)?;
+            next = *sector + 1;
         }
+        push_run(&mut missing, next, end)?;
         Ok(missing)
     }
 
@@ -276,7 +328,10 @@ impl Sectors {
         ensures err { OnErr result (self.new ≡ self.old) }
         ensures sound { IsSound self.new }
     {
-        let missing = self.missing(at, len)?;
+        // The sectors are few and whole: the fields say so once they are used.
+        let _ = &self.kept;
+        let (first, end) = sectors_of(at, len);
+        let missing = self.missing(first, end)?;
         self.add_all(&missing)?;
         Ok(())
     }

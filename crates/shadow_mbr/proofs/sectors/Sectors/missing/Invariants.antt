@@ -1,12 +1,12 @@
-use Rattle.std.proofs.Common.{◌-◌, ◌≤◌}
+use Rattle.std.proofs.Common.{◌≤◌}
 use Rattle.shadow_mbr.specs.Stored.{ListsMissing}
+use Rattle.shadow_mbr.proofs.Walks.{AreLeft}
 use Rattle.shadow_mbr.proofs.sectors.Sectors.missing.Given as goal
 
-abbrev pub invariant-loop-done : goal.invariant-loop-done
-invariant-loop-done l = record {
-  within : l.done ≤ l.len;
-  lists : ListsMissing l.self l.at l.done l.missing.items;
+abbrev pub invariant-loop-sector : goal.invariant-loop-sector
+invariant-loop-sector l = record {
+  from : l.first ≤ l.next;
+  within : l.next ≤ l.end;
+  lists : ListsMissing l.self l.first l.next l.missing.items;
+  left : AreLeft l.self l.next l.end l.sector-iterator;
 }
-
-abbrev pub decreases-loop-done : goal.decreases-loop-done
-decreases-loop-done l = l.len - l.done
