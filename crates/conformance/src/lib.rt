@@ -10,6 +10,10 @@ mod audit_lines;
 #[cfg(test)]
 mod frames;
 #[cfg(test)]
+mod ranges;
+#[cfg(test)]
+mod store;
+#[cfg(test)]
 mod tables;
 #[cfg(test)]
 mod tokens;
