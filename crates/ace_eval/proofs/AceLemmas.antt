@@ -1,4 +1,4 @@
--- Which entry is found.
+-- Which ACE is found.
 use Rattle.std.proofs.Common.{◌≡◌, ◌||◌, Bool, true, false, cond, ◌⊎◌, inl, inr, List, [], ◌∷◌, Option, None, Some, refl, sym, ◌∙◌, ap, ◌↔◌, arith}
 use Rattle.std.specs.Prelude.{filter, unwrap_or, is_some, Result, Ok, Err, IsOk, MatchResult, if◌then◌else◌}
 use Rattle.std.proofs.lemmas.Bool.Decides.{nat_tests, eqb_tells}
@@ -8,7 +8,7 @@ use Rattle.sp_cells.specs.declared.names.Column.{Column}
 use Rattle.sp_cells.specs.declared.cells.Cell.{Cell}
 use Rattle.sp_cells.specs.declared.cells.Cell.TheVariants.{Number, Bytes, Uid as Object, Numbers, Expr, Columns}
 use Rattle.sp_cells.specs.Names.{uid}
-use Rattle.sp_cells.specs.ColumnNames.{boolean_expr_column, columns_column}
+use Rattle.sp_cells.specs.ColumnNames.{boolean_expr_column}
 use Rattle.sp_cells.specs.Flat.{LookUp}
 use Rattle.ace_eval.specs.declared.aces.Missing.{Missing}
 use Rattle.ace_eval.specs.Truth.{has}
@@ -26,7 +26,7 @@ found_in look sp k held (x ∷ xs) u h = grind (arith, nat_tests, found_in look 
 same_uid : {x u : Uid} → Some x ≡ Some u → x ≡ u
 same_uid h = cc
 
--- the first entry is found, or the search goes on
+-- the first ACE is found, or the search goes on
 found_step : (look : LookUp) (sp : Sp) (k : Option Column) (held xs : List Uid) (x u : Uid) (b d : Bool) → names look sp k x ≡ b → holds_at look sp held x ≡ d → first_holding look sp held (cond b (x ∷ filter (names look sp k) xs) (filter (names look sp k) xs)) ≡ Some u → ((x ≡ u) × (b ≡ true) × (d ≡ true)) ⊎ (first_holding look sp held (filter (names look sp k) xs) ≡ Some u)
 found_step look sp k held xs x u false d n t h = inr h
 found_step look sp k held xs x u true true n t h = inl (same_uid (ap (λ e. if e then Some x else first_holding look sp held (filter (names look sp k) xs)) (sym t) ∙ h), refl, refl)
@@ -40,7 +40,7 @@ pub found_holds : (look : LookUp) (sp : Sp) (k : Option Column) (held row : List
 found_holds look sp k held [] u h = cc
 found_holds look sp k held (x ∷ xs) u h = elim (found_step look sp k held xs x u (names look sp k x) (holds_at look sp held x) refl refl h) [ inl w ↦ ap (holds_at look sp held) (sym w.0) ∙ w.2 | inr rest ↦ found_holds look sp k held xs u rest ]
 
--- an entry that names the column and holds is not passed over
+-- an ACE that names the column and holds is not passed over
 here_step : (look : LookUp) (sp : Sp) (k : Option Column) (held xs : List Uid) (x : Uid) → names look sp k x ≡ true → holds_at look sp held x ≡ true → is_some (first_holding look sp held (filter (names look sp k) (x ∷ xs))) ≡ true
 here_step look sp k held xs x n t = ap (λ b. is_some (first_holding look sp held (cond b (x ∷ filter (names look sp k) xs) (filter (names look sp k) xs)))) n ∙ ap (λ e. is_some (if e then Some x else first_holding look sp held (filter (names look sp k) xs))) t
 
@@ -74,20 +74,20 @@ cell_holds held (Some (Object n)) h = absurd h
 cell_holds held (Some (Numbers n)) h = absurd h
 cell_holds held (Some (Columns n)) h = absurd h
 
--- an entry is found exactly where the column has one
-pub some_entry : (look : LookUp) (sp : Sp) (o m : Uid) (k : Option Column) (held : List Uid) (u : Uid) → ace_of look sp o m k held ≡ Some u → HasAce look sp o m k held
-some_entry look sp o m k held u h =
+-- an ACE is found exactly where the column has one
+pub some_ace : (look : LookUp) (sp : Sp) (o m : Uid) (k : Option Column) (held : List Uid) (u : Uid) → ace_of look sp o m k held ≡ Some u → HasAce look sp o m k held
+some_ace look sp o m k held u h =
     let row : List Uid = unwrap_or (acl_at sp o m) [] in
-    record { entry = u; in_row = found_in look sp k held row u h; named = found_names look sp k held row u h; holds = holds_cell held (look sp u boolean_expr_column) (found_holds look sp k held row u h) }
+    record { ace = u; in_row = found_in look sp k held row u h; named = found_names look sp k held row u h; holds = holds_cell held (look sp u boolean_expr_column) (found_holds look sp k held row u h) }
 
 none_some : (o : Option Uid) → o ≡ None → is_some o ≡ true → ⊥
 none_some None h g = clash g
 none_some (Some u) h g = cc
 
-pub no_entry : (look : LookUp) (sp : Sp) (o m : Uid) (k : Option Column) (held : List Uid) → ace_of look sp o m k held ≡ None → HasAce look sp o m k held → ⊥
-no_entry look sp o m k held h e = none_some (ace_of look sp o m k held) h (not_passed look sp k held (unwrap_or (acl_at sp o m) []) e.entry e.in_row e.named (cell_holds held (look sp e.entry boolean_expr_column) e.holds))
+pub no_ace : (look : LookUp) (sp : Sp) (o m : Uid) (k : Option Column) (held : List Uid) → ace_of look sp o m k held ≡ None → HasAce look sp o m k held → ⊥
+no_ace look sp o m k held h e = none_some (ace_of look sp o m k held) h (not_passed look sp k held (unwrap_or (acl_at sp o m) []) e.ace e.in_row e.named (cell_holds held (look sp e.ace boolean_expr_column) e.holds))
 
 -- what the call answers
 pub allowed_by : (look : LookUp) (sp : Sp) (o m : Uid) (k : Option Column) (held : List Uid) (r : Result Uid Missing) → MatchResult r (λ u. ace_of look sp o m k held ≡ Some u) (λ missing. (ace_of look sp o m k held ≡ None) × (missing.row ≡ is_some (acl_at sp o m)) × (missing.need.items ≡ naming look sp k (acl_at sp o m))) → IsOk r ↔ HasAce look sp o m k held
-allowed_by look sp o m k held (Ok u) h = ((λ i. some_entry look sp o m k held u h), (λ e. refl))
-allowed_by look sp o m k held (Err missing) h = ((λ i. absurd (clash i)), (λ e. absurd (no_entry look sp o m k held h.0 e)))
+allowed_by look sp o m k held (Ok u) h = ((λ i. some_ace look sp o m k held u h), (λ e. refl))
+allowed_by look sp o m k held (Err missing) h = ((λ i. absurd (clash i)), (λ e. absurd (no_ace look sp o m k held h.0 e)))

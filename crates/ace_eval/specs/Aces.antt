@@ -25,8 +25,8 @@ names_in _ k = false
 
 -- an ACE names the column; any does where no column is asked for
 abbrev pub names : LookUp → Sp → Option Column → Uid → Bool
-names look sp None entry = true
-names look sp (Some k) entry = names_in (look sp entry columns_column) k
+names look sp None ace = true
+names look sp (Some k) ace = names_in (look sp ace columns_column) k
 
 -- an ACE's BooleanExpr cell holds
 abbrev pub HoldsIn : List Uid → Option Cell → Type 0
@@ -38,7 +38,7 @@ holds_in held (Some (Expr elements)) = is_satisfied held elements
 holds_in held _ = false
 
 abbrev pub holds_at : LookUp → Sp → List Uid → Uid → Bool
-holds_at look sp held entry = holds_in held (look sp entry boolean_expr_column)
+holds_at look sp held ace = holds_in held (look sp ace boolean_expr_column)
 
 -- the ACEs of an ACL that name the column, in its order
 abbrev pub naming : LookUp → Sp → Option Column → Option (List Uid) → List Uid
@@ -67,7 +67,7 @@ Answers look sp object method k held result = MatchResult result
 
 -- the column has an ACE: some ACE of the ACL names it, and its expression holds
 pub record HasAce (look : LookUp) (sp : Sp) (object method : Uid) (k : Option Column) (held : List Uid) : Type 0 where
-  pub entry : Uid
-  pub in_row : has (unwrap_or (acl_at sp object method) []) entry ≡ true
-  pub named : names look sp k entry ≡ true
-  pub holds : HoldsIn held (look sp entry boolean_expr_column)
+  pub ace : Uid
+  pub in_row : has (unwrap_or (acl_at sp object method) []) ace ≡ true
+  pub named : names look sp k ace ≡ true
+  pub holds : HoldsIn held (look sp ace boolean_expr_column)

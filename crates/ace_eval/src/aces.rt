@@ -53,7 +53,7 @@ fn find<R: Rows>(
     };
     let need = named(rows, sp, column, &row);
     match first(rows, sp, need.as_slice(), held) {
-        Some(entry) => Ok(entry),
+        Some(ace) => Ok(ace),
         None => Err(Missing { row: true, need }),
     }
 }
@@ -68,21 +68,21 @@ fn named<R: Rows>(
     ensures { result.items ≡ filter (names (R.look_up rows.now) sp column) row.now.items }
 {
     let mut need = ArrayVec::new();
-    for entry in row.as_slice() {
-        if names_column(rows, sp, column, *entry) {
-            need.push(*entry);
+    for ace in row.as_slice() {
+        if names_column(rows, sp, column, *ace) {
+            need.push(*ace);
         }
     }
     need
 }
 
 /// Whether an ACE names the column.
-fn names_column<R: Rows>(rows: &R, sp: Sp, column: Option<Column>, entry: Uid) -> bool
-    ensures { result ≡ names (R.look_up rows.now) sp column entry }
+fn names_column<R: Rows>(rows: &R, sp: Sp, column: Option<Column>, ace: Uid) -> bool
+    ensures { result ≡ names (R.look_up rows.now) sp column ace }
 {
     match column {
         None => true,
-        Some(column) => match rows.cell(sp, entry, Column::COLUMNS) {
+        Some(column) => match rows.cell(sp, ace, Column::COLUMNS) {
             Some(Cell::Columns(columns)) => has(columns.as_slice(), column),
             _ => false,
         },
@@ -97,22 +97,22 @@ fn has(columns: &[Column], column: Column) -> bool
 }
 
 /// The first of these ACEs whose expression holds.
-fn first<R: Rows>(rows: &R, sp: Sp, entries: &[Uid], held: &Authorities) -> Option<Uid>
-    ensures { result ≡ first_holding (R.look_up rows.now) sp held.now entries.now }
+fn first<R: Rows>(rows: &R, sp: Sp, aces: &[Uid], held: &Authorities) -> Option<Uid>
+    ensures { result ≡ first_holding (R.look_up rows.now) sp held.now aces.now }
 {
-    for entry in entries {
-        if entry_holds(rows, sp, *entry, held) {
-            return Some(*entry);
+    for ace in aces {
+        if ace_holds(rows, sp, *ace, held) {
+            return Some(*ace);
         }
     }
     None
 }
 
 /// Whether an ACE's expression holds.
-fn entry_holds<R: Rows>(rows: &R, sp: Sp, entry: Uid, held: &Authorities) -> bool
-    ensures { result ≡ holds_at (R.look_up rows.now) sp held.now entry }
+fn ace_holds<R: Rows>(rows: &R, sp: Sp, ace: Uid, held: &Authorities) -> bool
+    ensures { result ≡ holds_at (R.look_up rows.now) sp held.now ace }
 {
-    match rows.cell(sp, entry, Column::BOOLEAN_EXPR) {
+    match rows.cell(sp, ace, Column::BOOLEAN_EXPR) {
         Some(Cell::Expr(expr)) => holds(expr, held),
         _ => false,
     }

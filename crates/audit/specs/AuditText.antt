@@ -1,6 +1,6 @@
 -- The texts of the audit log, which are this drive's own. S is the number of the step, C the client; L+N the first
 -- sector and the number of sectors of a transfer, R a range; SP `Admin` or `Locking`; OBJ, AUTH and U are UIDs; K is
--- a column, or `-` where none is named; U,U are the access entries of which one would have to hold, or `none`:
+-- a column, or `-` where none is named; U,U are the ACEs of which one would have to hold, or `none`:
 --   S C deny read L+N range R ReadLocked
 --   S C deny write L+N range R WriteLocked
 --   S C deny read L+N shadow MBR
