@@ -31,11 +31,19 @@ fn new_store(alloc: Global) -> Result<Store, Fail>
     Ok(Store::new(alloc, tables, Mbr::new(alloc, 8)))
 }
 
-/// A change of one number.
-fn one(alloc: Global, object: Uid, column: Column, number: u64) -> Result<Change, Fail> {
+/// One cell, with a number in it.
+fn number(alloc: Global, column: Column, number: u64) -> Result<Vec<(Column, Cell)>, Fail> {
     let mut cells = Vec::with_capacity(alloc, 1)?;
     cells.push((column, Cell::Number(number)))?;
-    Ok(Change::Cells { object, cells })
+    Ok(cells)
+}
+
+/// Sets the start of range 1.
+fn set_start(alloc: Global, store: &mut Store, start: u64) -> Result<(), Fail> {
+    let cells = number(alloc, Column::RANGE_START, start)?;
+    let object = Uid::range(1);
+    store.set(ADMIN1, &Change::Cells { object, cells })?;
+    Ok(())
 }
 
 /// The start of range 1, as it is in force, as the Admin's session sees it, and as SID's does.
@@ -64,23 +72,14 @@ fn changes_are_seen_by_their_session_alone(rt: HostRuntime) -> Result<(), Fail> 
     assert_eq!(rt; store.begin(ADMIN1), Ok(()));
     assert_eq!(rt; store.begin(ADMIN1), Err(AlreadyOpen));
     assert_eq!(rt; store.open_on(Sp::Locking), Some(ADMIN1));
-    store.set(
-        ADMIN1,
-        &one(alloc, Uid::range(1), Column::RANGE_START, 100)?,
-    )?;
-    store.set(
-        ADMIN1,
-        &one(alloc, Uid::range(1), Column::RANGE_START, 200)?,
-    )?;
+    set_start(alloc, &mut store, 100)?;
+    set_start(alloc, &mut store, 200)?;
     assert_eq!(rt; starts(&store), [0, 200, 0]);
     assert_eq!(rt; store.abort(SID), Err(NotOpen));
     assert_eq!(rt; store.abort(ADMIN1), Ok(()));
     assert_eq!(rt; starts(&store), [0, 0, 0]);
     assert_eq!(rt; store.begin(ADMIN1), Ok(()));
-    store.set(
-        ADMIN1,
-        &one(alloc, Uid::range(1), Column::RANGE_START, 300)?,
-    )?;
+    set_start(alloc, &mut store, 300)?;
     assert_eq!(rt; store.commit(ADMIN1), Ok(()));
     assert_eq!(rt; starts(&store), [300, 300, 300]);
     assert_eq!(rt; store.commit(ADMIN1), Err(NotOpen));
@@ -95,7 +94,8 @@ fn tries_stand_outside(rt: HostRuntime) -> Result<(), Fail> {
     assert_eq!(rt; store.begin(ADMIN1), Ok(()));
     store.set_tries(Sp::Locking, pin, 4);
     assert_eq!(rt; attempts(&store), [4, 4]);
-    let refused = store.set(ADMIN1, &one(alloc, pin, Column::TRIES, 0)?);
+    let cells = number(alloc, Column::TRIES, 0)?;
+    let refused = store.set(ADMIN1, &Change::Cells { object: pin, cells });
     assert_eq!(rt; refused, Err(SetError::NoCell));
     assert_eq!(rt; store.abort(ADMIN1), Ok(()));
     assert_eq!(rt; attempts(&store), [4, 4]);
@@ -166,7 +166,7 @@ fn set_first(alloc: Global, store: &mut Store, byte: u8) -> Result<(), Fail>
 }
 
 #[test]
-fn bytes_of_transactions(rt: HostRuntime) -> Result<(), Fail> {
+fn aborted_bytes(rt: HostRuntime) -> Result<(), Fail> {
     let alloc = rt.alloc();
     let mut store = new_store(alloc)?;
     set_first(alloc, &mut store, 0x55)?;
@@ -176,8 +176,16 @@ fn bytes_of_transactions(rt: HostRuntime) -> Result<(), Fail> {
     assert_eq!(rt; first_bytes(&store), [0x55, 0x77]);
     assert_eq!(rt; store.abort(ADMIN1), Ok(()));
     assert_eq!(rt; first_bytes(&store), [0x55, 0x55]);
+    Ok(())
+}
+
+#[test]
+fn committed_bytes(rt: HostRuntime) -> Result<(), Fail> {
+    let alloc = rt.alloc();
+    let mut store = new_store(alloc)?;
     assert_eq!(rt; store.begin(ADMIN1), Ok(()));
     set_first(alloc, &mut store, 0x77)?;
+    assert_eq!(rt; first_bytes(&store), [0, 0x77]);
     assert_eq!(rt; store.commit(ADMIN1), Ok(()));
     assert_eq!(rt; first_bytes(&store), [0x77, 0x77]);
     Ok(())
@@ -189,10 +197,7 @@ fn resets_lock_and_abort(rt: HostRuntime) -> Result<(), Fail> {
     let range = Uid::range(2);
     let mut store = new_store(alloc)?;
     assert_eq!(rt; store.begin(ADMIN1), Ok(()));
-    store.set(
-        ADMIN1,
-        &one(alloc, Uid::range(1), Column::RANGE_START, 100)?,
-    )?;
+    set_start(alloc, &mut store, 100)?;
     store.reset_rows(1);
     assert_eq!(rt; starts(&store), [0, 0, 0]);
     assert_eq!(rt; store.open_on(Sp::Locking), None);
@@ -201,5 +206,36 @@ fn resets_lock_and_abort(rt: HostRuntime) -> Result<(), Fail> {
     store.reset_rows(0);
     let locked = number_at(&store.committed(), Sp::Locking, range, Column::WRITE_LOCKED);
     assert_eq!(rt; locked, 1);
+    Ok(())
+}
+
+#[test]
+fn refused_set(rt: HostRuntime) -> Result<(), Fail> {
+    let alloc = rt.alloc();
+    let mut store = new_store(alloc)?;
+    assert_eq!(rt; store.begin(ADMIN1), Ok(()));
+    set_start(alloc, &mut store, 100)?;
+    let cells = number(alloc, Column::RANGE_START, 200)?;
+    let object = Uid::range(1);
+    let error = store.set(ADMIN1, &Change::Cells { object, cells }).err();
+    let start = if error.is_none() { 200 } else { 100 };
+    assert!(rt; error.is_none() || error == Some(SetError::OutOfMemory));
+    assert_eq!(rt; starts(&store), [0, start, 0]);
+    assert_eq!(rt; store.abort(ADMIN1), Ok(()));
+    assert_eq!(rt; starts(&store), [0, 0, 0]);
+    Ok(())
+}
+
+#[test]
+fn refused_activate_and_revert(rt: HostRuntime) -> Result<(), Fail> {
+    let mut store = new_store(rt.alloc())?;
+    assert_eq!(rt; store.begin(ADMIN1), Ok(()));
+    let active = store.activate().is_ok();
+    assert_eq!(rt; state(&store), if active { 9 } else { 8 });
+    assert_eq!(rt; has_pin(&store, MSID), active);
+    assert_eq!(rt; store.open_on(Sp::Locking).is_none(), active);
+    let reverted = store.revert(Sp::Admin).is_ok();
+    assert_eq!(rt; state(&store), if active && !reverted { 9 } else { 8 });
+    assert_eq!(rt; has_pin(&store, MSID), active && !reverted);
     Ok(())
 }

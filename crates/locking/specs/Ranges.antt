@@ -2,7 +2,8 @@
 use Rattle.std.specs.Prelude.{ℕ, zero, suc, ◌==◌, ◌&&◌, Bool, List, [], ◌∷◌, if◌then◌else◌}
 use Rattle.sp_cells.specs.declared.names.TheConstants.{RANGES}
 use Rattle.sp_cells.specs.declared.names.Sp.TheVariants.{Locking}
-use Rattle.sp_cells.specs.Names.{mbr_control, col}
+use Rattle.sp_cells.specs.Names.{mbr_control}
+use Rattle.sp_cells.specs.ColumnNames.{mbr_done_column, mbr_enable_column}
 use Rattle.sp_cells.specs.Flat.{LookUp}
 use Rattle.sp_cells.specs.Ranges.{number, range_start, range_length, read_lock_enabled, write_lock_enabled, read_locked, write_locked}
 use Rattle.locking.specs.declared.range.RangeRow.{RangeRow}
@@ -27,7 +28,7 @@ rows_from look_up first (suc n) = row_of look_up first ∷ rows_from look_up (su
 -- The shadow MBR is up: it is enabled, and not done.
 abbrev pub is_shadow_up : LookUp → Bool
 is_shadow_up look_up =
-    (number look_up Locking mbr_control (col 1) == 1) && (number look_up Locking mbr_control (col 2) == 0)
+    (number look_up Locking mbr_control mbr_enable_column == 1) && (number look_up Locking mbr_control mbr_done_column == 0)
 
 -- How many sectors are shadowed, of so many that can be.
 abbrev pub shadowed_sectors : ℕ → LookUp → ℕ

@@ -7,7 +7,8 @@ use Rattle.sp_cells.specs.declared.names.Sp.TheVariants.{Locking}
 use Rattle.sp_cells.specs.declared.names.Column.{Column}
 use Rattle.sp_cells.specs.declared.cells.Cell.{Cell}
 use Rattle.sp_cells.specs.declared.cells.Cell.TheVariants.{Number}
-use Rattle.sp_cells.specs.Names.{col, range_uid, mbr_control, admin_pin_uid, user_pin_uid}
+use Rattle.sp_cells.specs.Names.{range_uid, mbr_control, admin_pin_uid, user_pin_uid}
+use Rattle.sp_cells.specs.ColumnNames.{lock_on_reset_column, mbr_done_column, mbr_done_on_reset_column, range_length_column, range_start_column, read_locked_column, tries_column, write_locked_column}
 use Rattle.sp_cells.specs.Flat.{LookUp}
 use Rattle.sp_cells.specs.Ranges.{range_start, range_length, AreApart, number_in, of_range, ranges_meet}
 use Rattle.sp_rows.specs.Items.{Item, item_at, with_item, with_items}
@@ -15,15 +16,15 @@ use Rattle.sp_cells.specs.Config.{Config}
 use Rattle.sp_factory.specs.Factory.{locking_factory}
 use Rattle.sp_tables.specs.Contents.{Contents, look_up, factory_contents}
 use Rattle.sp_tables.specs.Undo.{RangesApart, KeepsApart, IsNoBound, put_back, with_row_back}
-use Rattle.sp_tables.specs.Tries.{is_pin, tries, tries_put, family_cleared, locking_cleared}
+use Rattle.sp_tables.specs.Tries.{is_pin, tries_put, family_cleared, locking_cleared}
 use Rattle.sp_tables.specs.AtReset.{has_kind, range_after, ranges_after, shadow_after, locking_after, is_power_cycle, locking_tries_after}
 use Rattle.sp_tables.proofs.ContentLemmas.{look_up-half, apart-factory}
 use Rattle.sp_tables.proofs.ChangeLemmas.{item_at-with_item}
 
 -- each range starts where it did, and is as long
 pub record SameRanges (is new : List Item) : Type 0 where
-  pub starts : (n : ℕ) → n ≤ RANGES → item_at new (range_uid n) (col 3) ≡ item_at is (range_uid n) (col 3)
-  pub lengths : (n : ℕ) → n ≤ RANGES → item_at new (range_uid n) (col 4) ≡ item_at is (range_uid n) (col 4)
+  pub starts : (n : ℕ) → n ≤ RANGES → item_at new (range_uid n) range_start_column ≡ item_at is (range_uid n) range_start_column
+  pub lengths : (n : ℕ) → n ≤ RANGES → item_at new (range_uid n) range_length_column ≡ item_at is (range_uid n) range_length_column
 
 pub same-refl : (is : List Item) → SameRanges is is
 same-refl is = record { starts = λ n h. refl; lengths = λ n h. refl }
@@ -41,15 +42,15 @@ off_first a b x y h = ap (λ t. cond (t && b) x y) h
 -- a change of another column
 pub same-column : (is : List Item) (o : Uid) (k : Column) (v : Cell) → (k.0 == 3) ≡ false → (k.0 == 4) ≡ false → SameRanges is (with_item is o k v)
 same-column is o k v three four = record {
-  starts = λ n h. item_at-with_item is o (range_uid n) k (col 3) v ∙ off_second (o.0 == (range_uid n).0) (k.0 == 3) _ _ three;
-  lengths = λ n h. item_at-with_item is o (range_uid n) k (col 4) v ∙ off_second (o.0 == (range_uid n).0) (k.0 == 4) _ _ four;
+  starts = λ n h. item_at-with_item is o (range_uid n) k range_start_column v ∙ off_second (o.0 == (range_uid n).0) (k.0 == 3) _ _ three;
+  lengths = λ n h. item_at-with_item is o (range_uid n) k range_length_column v ∙ off_second (o.0 == (range_uid n).0) (k.0 == 4) _ _ four;
 }
 
 -- a change of an object that is no range
 pub same-object : (is : List Item) (o : Uid) (k : Column) (v : Cell) → ((n : ℕ) → n ≤ RANGES → (o.0 == (range_uid n).0) ≡ false) → SameRanges is (with_item is o k v)
 same-object is o k v other = record {
-  starts = λ n h. item_at-with_item is o (range_uid n) k (col 3) v ∙ off_first (o.0 == (range_uid n).0) (k.0 == 3) _ _ (other n h);
-  lengths = λ n h. item_at-with_item is o (range_uid n) k (col 4) v ∙ off_first (o.0 == (range_uid n).0) (k.0 == 4) _ _ (other n h);
+  starts = λ n h. item_at-with_item is o (range_uid n) k range_start_column v ∙ off_first (o.0 == (range_uid n).0) (k.0 == 3) _ _ (other n h);
+  lengths = λ n h. item_at-with_item is o (range_uid n) k range_length_column v ∙ off_first (o.0 == (range_uid n).0) (k.0 == 4) _ _ (other n h);
 }
 
 -- ranges of the same bounds are apart alike
@@ -65,10 +66,10 @@ apart-rows is new same before = bounds-apart (λ sp o c. item_at is o c) (λ sp 
 
 -- the ranges of contents are those of the rows of the Locking SP
 pub apart-contents : (t : Contents) → RangesApart t.locking → AreApart (look_up t)
-apart-contents t before = bounds-apart (λ sp o c. item_at t.locking o c) (look_up t) (λ n h. ap number_in (look_up-half t Locking (range_uid n) (col 3))) (λ n h. ap number_in (look_up-half t Locking (range_uid n) (col 4))) before
+apart-contents t before = bounds-apart (λ sp o c. item_at t.locking o c) (look_up t) (λ n h. ap number_in (look_up-half t Locking (range_uid n) range_start_column)) (λ n h. ap number_in (look_up-half t Locking (range_uid n) range_length_column)) before
 
 pub apart-locking_rows : (t : Contents) → AreApart (look_up t) → RangesApart t.locking
-apart-locking_rows t before = bounds-apart (look_up t) (λ sp o c. item_at t.locking o c) (λ n h. ap number_in (sym (look_up-half t Locking (range_uid n) (col 3)))) (λ n h. ap number_in (sym (look_up-half t Locking (range_uid n) (col 4)))) before
+apart-locking_rows t before = bounds-apart (look_up t) (λ sp o c. item_at t.locking o c) (λ n h. ap number_in (sym (look_up-half t Locking (range_uid n) range_start_column))) (λ n h. ap number_in (sym (look_up-half t Locking (range_uid n) range_length_column))) before
 
 -- ranges that are apart stay so
 pub apart-same : (t new : Contents) → SameRanges t.locking new.locking → AreApart (look_up t) → AreApart (look_up new)
@@ -77,23 +78,23 @@ apart-same t new same before = apart-contents new (apart-rows t.locking new.lock
 -- the wrong attempts
 pub same-tries_put : (pin : Uid) (n : ℕ) (is : List Item) → SameRanges is (tries_put pin n is)
 same-tries_put pin n is = by (is_pin pin) where
-  by : (b : Bool) → SameRanges is (cond b (with_item is pin tries (Number n)) is)
-  by true = same-column is pin tries (Number n) refl refl
+  by : (b : Bool) → SameRanges is (cond b (with_item is pin tries_column (Number n)) is)
+  by true = same-column is pin tries_column (Number n) refl refl
   by false = same-refl is
 
 same-family : (name : ℕ → Uid) (n : ℕ) (is : List Item) → SameRanges is (family_cleared name n is)
 unfolding family_cleared
 same-family name zero is = same-refl is
-same-family name (suc n) is = same-after is (family_cleared name n is) _ (same-family name n is) (same-column (family_cleared name n is) (name (suc n)) tries (Number 0) refl refl)
+same-family name (suc n) is = same-after is (family_cleared name n is) _ (same-family name n is) (same-column (family_cleared name n is) (name (suc n)) tries_column (Number 0) refl refl)
 
 same-locking_cleared : (is : List Item) → SameRanges is (locking_cleared is)
 same-locking_cleared is = same-after is (family_cleared admin_pin_uid ADMINS is) _ (same-family admin_pin_uid ADMINS is) (same-family user_pin_uid USERS (family_cleared admin_pin_uid ADMINS is))
 
 -- a reset
 same-range_after : (kind n : ℕ) (is : List Item) → SameRanges is (range_after kind n is)
-same-range_after kind n is = by (has_kind kind (item_at is (range_uid n) (col 9))) where
-  by : (b : Bool) → SameRanges is (cond b (with_items is (range_uid n) ((col 7, Number 1) ∷ (col 8, Number 1) ∷ [])) is)
-  by true = same-after is (with_item is (range_uid n) (col 7) (Number 1)) _ (same-column is (range_uid n) (col 7) (Number 1) refl refl) (same-column (with_item is (range_uid n) (col 7) (Number 1)) (range_uid n) (col 8) (Number 1) refl refl)
+same-range_after kind n is = by (has_kind kind (item_at is (range_uid n) lock_on_reset_column)) where
+  by : (b : Bool) → SameRanges is (cond b (with_items is (range_uid n) ((read_locked_column, Number 1) ∷ (write_locked_column, Number 1) ∷ [])) is)
+  by true = same-after is (with_item is (range_uid n) read_locked_column (Number 1)) _ (same-column is (range_uid n) read_locked_column (Number 1) refl refl) (same-column (with_item is (range_uid n) read_locked_column (Number 1)) (range_uid n) write_locked_column (Number 1) refl refl)
   by false = same-refl is
 
 same-ranges_after : (kind n : ℕ) (is : List Item) → SameRanges is (ranges_after kind n is)
@@ -102,9 +103,9 @@ same-ranges_after kind zero is = same-refl is
 same-ranges_after kind (suc n) is = same-after is (ranges_after kind n is) _ (same-ranges_after kind n is) (same-range_after kind n (ranges_after kind n is))
 
 same-shadow_after : (kind : ℕ) (is : List Item) → SameRanges is (shadow_after kind is)
-same-shadow_after kind is = by (has_kind kind (item_at is mbr_control (col 3))) where
-  by : (b : Bool) → SameRanges is (cond b (with_item is mbr_control (col 2) (Number 0)) is)
-  by true = same-column is mbr_control (col 2) (Number 0) refl refl
+same-shadow_after kind is = by (has_kind kind (item_at is mbr_control mbr_done_on_reset_column)) where
+  by : (b : Bool) → SameRanges is (cond b (with_item is mbr_control mbr_done_column (Number 0)) is)
+  by true = same-column is mbr_control mbr_done_column (Number 0) refl refl
   by false = same-refl is
 
 same-locking_tries : (kind : ℕ) (is : List Item) → SameRanges is (locking_tries_after kind is)
@@ -124,7 +125,7 @@ pub family-none : (name : ℕ → Uid) (is : List Item) → family_cleared name 
 unfolding family_cleared
 family-none name is = refl
 
-pub family-next : (name : ℕ → Uid) (n : ℕ) (is : List Item) → family_cleared name (n + 1) is ≡ with_item (family_cleared name n is) (name (n + 1)) tries (Number 0)
+pub family-next : (name : ℕ → Uid) (n : ℕ) (is : List Item) → family_cleared name (n + 1) is ≡ with_item (family_cleared name n is) (name (n + 1)) tries_column (Number 0)
 unfolding family_cleared
 family-next name n is = rw add-one refl
 
@@ -170,8 +171,8 @@ both_false false b c h = (refl, refl)
 
 same-no_bound : (is : List Item) (o : Uid) (k : Column) (v : Cell) → IsNoBound o k → SameRanges is (with_item is o k v)
 same-no_bound is o k v h = record {
-  starts = λ n low. item_at-with_item is o (range_uid n) k (col 3) v ∙ ap (λ t. cond t (option_map (λ _. v) (item_at is (range_uid n) (col 3))) (item_at is (range_uid n) (col 3))) (both_false (o.0 == (range_uid n).0) (k.0 == 3) (k.0 == 4) (h n low)).0;
-  lengths = λ n low. item_at-with_item is o (range_uid n) k (col 4) v ∙ ap (λ t. cond t (option_map (λ _. v) (item_at is (range_uid n) (col 4))) (item_at is (range_uid n) (col 4))) (both_false (o.0 == (range_uid n).0) (k.0 == 3) (k.0 == 4) (h n low)).1;
+  starts = λ n low. item_at-with_item is o (range_uid n) k range_start_column v ∙ ap (λ t. cond t (option_map (λ _. v) (item_at is (range_uid n) range_start_column)) (item_at is (range_uid n) range_start_column)) (both_false (o.0 == (range_uid n).0) (k.0 == 3) (k.0 == 4) (h n low)).0;
+  lengths = λ n low. item_at-with_item is o (range_uid n) k range_length_column v ∙ ap (λ t. cond t (option_map (λ _. v) (item_at is (range_uid n) range_length_column)) (item_at is (range_uid n) range_length_column)) (both_false (o.0 == (range_uid n).0) (k.0 == 3) (k.0 == 4) (h n low)).1;
 }
 
 pub apart-put : (admin locking new : List Item) (config : Config) (o : Uid) (c : Column) (v : Cell) → AreApart (look_up (record { admin = admin; locking = locking; config = config })) → IsNoBound o c → new ≡ with_item locking o c v → AreApart (look_up (record { admin = admin; locking = new; config = config }))

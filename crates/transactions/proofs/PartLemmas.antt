@@ -7,10 +7,11 @@ use Rattle.sp_cells.specs.declared.names.Uid.{Uid}
 use Rattle.sp_cells.specs.declared.names.Column.{Column}
 use Rattle.sp_cells.specs.declared.cells.Cell.{Cell}
 use Rattle.sp_cells.specs.declared.cells.Cell.TheVariants.{Number}
-use Rattle.sp_cells.specs.Names.{col, range_uid, mbr_control, c_pin_sid, c_pin_msid, admin_pin_uid, user_pin_uid}
+use Rattle.sp_cells.specs.Names.{range_uid, mbr_control, c_pin_sid, c_pin_msid, admin_pin_uid, user_pin_uid}
+use Rattle.sp_cells.specs.ColumnNames.{lock_on_reset_column, mbr_done_column, mbr_done_on_reset_column, read_locked_column, tries_column, write_locked_column}
 use Rattle.sp_rows.specs.Items.{Item, item_at, with_item, with_items}
 use Rattle.sp_rows.proofs.ItemLemmas.{with_item-absent}
-use Rattle.sp_tables.specs.Tries.{is_pin, tries, is_tries, names_tries, without_tries, tries_among, tries_put, family_cleared, admin_cleared, locking_cleared}
+use Rattle.sp_tables.specs.Tries.{is_pin, is_tries, names_tries, without_tries, tries_among, tries_put, family_cleared, admin_cleared, locking_cleared}
 use Rattle.sp_tables.specs.AtReset.{has_kind, range_after, ranges_after, shadow_after, locking_after, is_power_cycle, admin_tries_after, locking_tries_after}
 use Rattle.sp_tables.specs.Undo.{put_back, exchanged}
 use Rattle.shadow_mbr.specs.Stored.{Stored as Mbr, sector_size, byte_at}
@@ -86,20 +87,20 @@ pub part-closed : (is : List Item) (bytes : List ℕ) (a : Option Log) → AreNo
 part-closed is bytes a h = same-part _ _ _ _ _ _ None None (without-undone is (row_log a)) (among-undone is (row_log a) h) refl refl
 
 -- Tries
-tries-here : (pin : Uid) → is_pin pin ≡ true → is_tries pin tries ≡ true
-tries-here pin h = ap (λ b. b && (tries.0 == tries.0)) h
+tries-here : (pin : Uid) → is_pin pin ≡ true → is_tries pin tries_column ≡ true
+tries-here pin h = ap (λ b. b && (tries_column.0 == tries_column.0)) h
 
 without-put : (pin : Uid) (n : ℕ) (is : List Item) → without_tries (tries_put pin n is) ≡ without_tries is
 without-put pin n is = by (is_pin pin) refl where
-  by : (b : Bool) → is_pin pin ≡ b → without_tries (cond b (with_item is pin tries (Number n)) is) ≡ without_tries is
-  by true h = without-same is pin tries (Number n) (tries-here pin h)
+  by : (b : Bool) → is_pin pin ≡ b → without_tries (cond b (with_item is pin tries_column (Number n)) is) ≡ without_tries is
+  by true h = without-same is pin tries_column (Number n) (tries-here pin h)
   by false h = refl
 
-among-put : (pin : Uid) (n : ℕ) (is : List Item) → tries_among (tries_put pin n is) ≡ with_item (tries_among is) pin tries (Number n)
+among-put : (pin : Uid) (n : ℕ) (is : List Item) → tries_among (tries_put pin n is) ≡ with_item (tries_among is) pin tries_column (Number n)
 among-put pin n is = by (is_pin pin) refl where
-  by : (b : Bool) → is_pin pin ≡ b → tries_among (cond b (with_item is pin tries (Number n)) is) ≡ with_item (tries_among is) pin tries (Number n)
-  by true h = among-with is pin tries (Number n)
-  by false h = sym (with_item-absent (tries_among is) pin tries (Number n) (among-none is pin tries (ap (λ b. b && (tries.0 == tries.0)) h)))
+  by : (b : Bool) → is_pin pin ≡ b → tries_among (cond b (with_item is pin tries_column (Number n)) is) ≡ with_item (tries_among is) pin tries_column (Number n)
+  by true h = among-with is pin tries_column (Number n)
+  by false h = sym (with_item-absent (tries_among is) pin tries_column (Number n) (among-none is pin tries_column (ap (λ b. b && (tries_column.0 == tries_column.0)) h)))
 
 pub part-tries : (is : List Item) (bytes : List ℕ) (a : Option Log) (pin : Uid) (n : ℕ) → part_with (tries_put pin n is) bytes a ≡ part_tries pin n (part_with is bytes a)
 part-tries is bytes a pin n = same-part _ _ _ _ _ _ _ _ (ap (λ r. undone r (row_log a)) (without-put pin n is)) (among-put pin n is) refl (pending a)
@@ -114,26 +115,26 @@ part-put is bytes o c v h = same-part _ _ _ _ _ _ None None (without-with is o c
 
 -- resets
 
-family-without : (name : ℕ → Uid) (n : ℕ) (is : List Item) → ((k : ℕ) → k ≤ n → is_tries (name k) tries ≡ true) → without_tries (family_cleared name n is) ≡ without_tries is
+family-without : (name : ℕ → Uid) (n : ℕ) (is : List Item) → ((k : ℕ) → k ≤ n → is_tries (name k) tries_column ≡ true) → without_tries (family_cleared name n is) ≡ without_tries is
 unfolding family_cleared
 family-without name zero is h = refl
-family-without name (suc n) is h = without-same (family_cleared name n is) (name (suc n)) tries (Number 0) (h (suc n) (omega arith)) ∙ family-without name n is (λ k low. h k (omega arith))
+family-without name (suc n) is h = without-same (family_cleared name n is) (name (suc n)) tries_column (Number 0) (h (suc n) (omega arith)) ∙ family-without name n is (λ k low. h k (omega arith))
 
 family-among : (name : ℕ → Uid) (n : ℕ) (is : List Item) → tries_among (family_cleared name n is) ≡ family_cleared name n (tries_among is)
 unfolding family_cleared
 family-among name zero is = refl
-family-among name (suc n) is = among-with (family_cleared name n is) (name (suc n)) tries (Number 0) ∙ ap (λ r. with_item r (name (suc n)) tries (Number 0)) (family-among name n is)
+family-among name (suc n) is = among-with (family_cleared name n is) (name (suc n)) tries_column (Number 0) ∙ ap (λ r. with_item r (name (suc n)) tries_column (Number 0)) (family-among name n is)
 
 admin-cleared_without : (is : List Item) → without_tries (admin_cleared is) ≡ without_tries is
-admin-cleared_without is = without-same (with_item is c_pin_sid tries (Number 0)) c_pin_msid tries (Number 0) refl ∙ without-same is c_pin_sid tries (Number 0) refl
+admin-cleared_without is = without-same (with_item is c_pin_sid tries_column (Number 0)) c_pin_msid tries_column (Number 0) refl ∙ without-same is c_pin_sid tries_column (Number 0) refl
 
 admin-cleared_among : (is : List Item) → tries_among (admin_cleared is) ≡ admin_cleared (tries_among is)
-admin-cleared_among is = among-with (with_item is c_pin_sid tries (Number 0)) c_pin_msid tries (Number 0) ∙ ap (λ r. with_item r c_pin_msid tries (Number 0)) (among-with is c_pin_sid tries (Number 0))
+admin-cleared_among is = among-with (with_item is c_pin_sid tries_column (Number 0)) c_pin_msid tries_column (Number 0) ∙ ap (λ r. with_item r c_pin_msid tries_column (Number 0)) (among-with is c_pin_sid tries_column (Number 0))
 
-admin_pins : (k : ℕ) → k ≤ ADMINS → is_tries (admin_pin_uid k) tries ≡ true
+admin_pins : (k : ℕ) → k ≤ ADMINS → is_tries (admin_pin_uid k) tries_column ≡ true
 admin_pins k low = tries-here (admin_pin_uid k) (grind (arith, nat_tests))
 
-user_pins : (k : ℕ) → k ≤ USERS → is_tries (user_pin_uid k) tries ≡ true
+user_pins : (k : ℕ) → k ≤ USERS → is_tries (user_pin_uid k) tries_column ≡ true
 user_pins k low = tries-here (user_pin_uid k) (grind (arith, nat_tests))
 
 locking-cleared_without : (is : List Item) → without_tries (locking_cleared is) ≡ without_tries is
@@ -143,10 +144,10 @@ locking-cleared_among : (is : List Item) → tries_among (locking_cleared is) �
 locking-cleared_among is = family-among user_pin_uid USERS (family_cleared admin_pin_uid ADMINS is) ∙ ap (family_cleared user_pin_uid USERS) (family-among admin_pin_uid ADMINS is)
 
 range-without : (kind n : ℕ) (is : List Item) → without_tries (range_after kind n is) ≡ range_after kind n (without_tries is)
-range-without kind n is = by (has_kind kind (item_at is (range_uid n) (col 9))) ∙ ap (λ x. cond (has_kind kind x) (with_items (without_tries is) (range_uid n) ((col 7, Number 1) ∷ (col 8, Number 1) ∷ [])) (without_tries is)) (sym (without-all is (range_uid n) (col 9) (off (is_pin (range_uid n)))))
+range-without kind n is = by (has_kind kind (item_at is (range_uid n) lock_on_reset_column)) ∙ ap (λ x. cond (has_kind kind x) (with_items (without_tries is) (range_uid n) ((read_locked_column, Number 1) ∷ (write_locked_column, Number 1) ∷ [])) (without_tries is)) (sym (without-all is (range_uid n) lock_on_reset_column (off (is_pin (range_uid n)))))
   where
-    by : (b : Bool) → without_tries (cond b (with_items is (range_uid n) ((col 7, Number 1) ∷ (col 8, Number 1) ∷ [])) is) ≡ cond b (with_items (without_tries is) (range_uid n) ((col 7, Number 1) ∷ (col 8, Number 1) ∷ [])) (without_tries is)
-    by true = without-items is (range_uid n) ((col 7, Number 1) ∷ (col 8, Number 1) ∷ [])
+    by : (b : Bool) → without_tries (cond b (with_items is (range_uid n) ((read_locked_column, Number 1) ∷ (write_locked_column, Number 1) ∷ [])) is) ≡ cond b (with_items (without_tries is) (range_uid n) ((read_locked_column, Number 1) ∷ (write_locked_column, Number 1) ∷ [])) (without_tries is)
+    by true = without-items is (range_uid n) ((read_locked_column, Number 1) ∷ (write_locked_column, Number 1) ∷ [])
     by false = refl
 
     off : (b : Bool) → (b && false) ≡ false
@@ -154,7 +155,7 @@ range-without kind n is = by (has_kind kind (item_at is (range_uid n) (col 9))) 
     off false = refl
 
 range-among : (kind n : ℕ) (is : List Item) → tries_among (range_after kind n is) ≡ tries_among is
-range-among kind n is = by (has_kind kind (item_at is (range_uid n) (col 9))) where
+range-among kind n is = by (has_kind kind (item_at is (range_uid n) lock_on_reset_column)) where
   off : (b : Bool) → (b && false) ≡ false
   off true = refl
   off false = refl
@@ -163,8 +164,8 @@ range-among kind n is = by (has_kind kind (item_at is (range_uid n) (col 9))) wh
   both true = refl
   both false = refl
 
-  by : (b : Bool) → tries_among (cond b (with_items is (range_uid n) ((col 7, Number 1) ∷ (col 8, Number 1) ∷ [])) is) ≡ tries_among is
-  by true = among-items is (range_uid n) ((col 7, Number 1) ∷ (col 8, Number 1) ∷ []) (both (is_pin (range_uid n)))
+  by : (b : Bool) → tries_among (cond b (with_items is (range_uid n) ((read_locked_column, Number 1) ∷ (write_locked_column, Number 1) ∷ [])) is) ≡ tries_among is
+  by true = among-items is (range_uid n) ((read_locked_column, Number 1) ∷ (write_locked_column, Number 1) ∷ []) (both (is_pin (range_uid n)))
   by false = refl
 
 ranges-without : (kind n : ℕ) (is : List Item) → without_tries (ranges_after kind n is) ≡ ranges_after kind n (without_tries is)
@@ -178,16 +179,16 @@ ranges-among kind zero is = refl
 ranges-among kind (suc n) is = range-among kind n (ranges_after kind n is) ∙ ranges-among kind n is
 
 shadow-without : (kind : ℕ) (is : List Item) → without_tries (shadow_after kind is) ≡ shadow_after kind (without_tries is)
-shadow-without kind is = by (has_kind kind (item_at is mbr_control (col 3))) ∙ ap (λ x. cond (has_kind kind x) (with_item (without_tries is) mbr_control (col 2) (Number 0)) (without_tries is)) (sym (without-all is mbr_control (col 3) refl))
+shadow-without kind is = by (has_kind kind (item_at is mbr_control mbr_done_on_reset_column)) ∙ ap (λ x. cond (has_kind kind x) (with_item (without_tries is) mbr_control mbr_done_column (Number 0)) (without_tries is)) (sym (without-all is mbr_control mbr_done_on_reset_column refl))
   where
-    by : (b : Bool) → without_tries (cond b (with_item is mbr_control (col 2) (Number 0)) is) ≡ cond b (with_item (without_tries is) mbr_control (col 2) (Number 0)) (without_tries is)
-    by true = without-with is mbr_control (col 2) (Number 0)
+    by : (b : Bool) → without_tries (cond b (with_item is mbr_control mbr_done_column (Number 0)) is) ≡ cond b (with_item (without_tries is) mbr_control mbr_done_column (Number 0)) (without_tries is)
+    by true = without-with is mbr_control mbr_done_column (Number 0)
     by false = refl
 
 shadow-among : (kind : ℕ) (is : List Item) → tries_among (shadow_after kind is) ≡ tries_among is
-shadow-among kind is = by (has_kind kind (item_at is mbr_control (col 3))) where
-  by : (b : Bool) → tries_among (cond b (with_item is mbr_control (col 2) (Number 0)) is) ≡ tries_among is
-  by true = among-same is mbr_control (col 2) (Number 0) refl
+shadow-among kind is = by (has_kind kind (item_at is mbr_control mbr_done_on_reset_column)) where
+  by : (b : Bool) → tries_among (cond b (with_item is mbr_control mbr_done_column (Number 0)) is) ≡ tries_among is
+  by true = among-same is mbr_control mbr_done_column (Number 0) refl
   by false = refl
 
 cleared-by : (b : Bool) (f : List Item → List Item) (is : List Item) → without_tries (f is) ≡ without_tries is → without_tries (cond b (f is) is) ≡ without_tries is

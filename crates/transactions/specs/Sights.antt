@@ -9,7 +9,8 @@ use Rattle.sp_cells.specs.declared.cells.Cell.{Cell}
 use Rattle.sp_cells.specs.declared.cells.Cell.TheVariants.{Number}
 use Rattle.sp_cells.specs.Config.{Config}
 use Rattle.sp_cells.specs.Limits.{manufactured}
-use Rattle.sp_cells.specs.Names.{col, locking_sp, c_pin_sid, admin_pin_uid}
+use Rattle.sp_cells.specs.Names.{locking_sp, c_pin_sid, admin_pin_uid}
+use Rattle.sp_cells.specs.ColumnNames.{life_cycle_state_column, pin_column}
 use Rattle.sp_cells.specs.Ranges.{number}
 use Rattle.sp_cells.specs.Flat.{LookUp}
 use Rattle.sp_rows.specs.Items.{Item, item_at}
@@ -69,14 +70,14 @@ latest_look s Locking = side_at (latest_side s.locking)
 -- Activate (Opal SSC 2.01, section 5.1.1): the Locking SP is Manufactured, and its first Admin has SID's PIN; where it
 -- is so already, nothing changes
 abbrev pub is_manufactured : Stored → Bool
-is_manufactured s = number (look_up (committed_sight s)) Admin locking_sp (col 6) == manufactured
+is_manufactured s = number (look_up (committed_sight s)) Admin locking_sp life_cycle_state_column == manufactured
 
 abbrev pub with_pin : Option Cell → Part → Part
 with_pin None p = part_close p
-with_pin (Some pin) p = part_put (admin_pin_uid 1) (col 3) pin p
+with_pin (Some pin) p = part_put (admin_pin_uid 1) pin_column pin p
 
 abbrev pub activated_with : Option Cell → Stored → Stored
-activated_with pin s = record { admin = part_put locking_sp (col 6) (Number manufactured) s.admin; locking = with_pin pin s.locking; config = s.config }
+activated_with pin s = record { admin = part_put locking_sp life_cycle_state_column (Number manufactured) s.admin; locking = with_pin pin s.locking; config = s.config }
 
 abbrev pub activated : Stored → Stored
-activated s = if is_manufactured s then s else activated_with (look_up (committed_sight s) Admin c_pin_sid (col 3)) s
+activated s = if is_manufactured s then s else activated_with (look_up (committed_sight s) Admin c_pin_sid pin_column) s

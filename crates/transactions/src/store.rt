@@ -1,6 +1,7 @@
 ghost use Rattle.std.specs.Prelude.{IfOk, ◌≡◌, ◌≤◌, ◌==◌, ◌+◌, ◌*◌, ◌↔◌, ℕ, Bool, [], length, None, Some, OnOk, OnErr, IsErr, MatchResult, is_some, true, false, option_map};
 ghost use Rattle.sp_cells.specs.declared.names.Sp.TheVariants.{Admin, Locking};
-ghost use Rattle.sp_cells.specs.Names.{col, c_pin_sid};
+ghost use Rattle.sp_cells.specs.Names.{c_pin_sid};
+ghost use Rattle.sp_cells.specs.ColumnNames.{pin_column};
 ghost use Rattle.sp_rows.specs.Items.{with_items};
 ghost use Rattle.sp_factory.specs.Factory.{locking_factory};
 ghost use Rattle.sp_tables.specs.Faults.{IsFault};
@@ -312,7 +313,7 @@ impl Store {
 
     /// The PIN of SID that is in force, copied.
     fn c_pin_sid(&self) -> Result<Option<Cell>, AllocError>
-        ensures { IfOk result (λ pin. pin ≡ look_up (committed_sight self.now) Admin c_pin_sid (col 3)) }
+        ensures { IfOk result (λ pin. pin ≡ look_up (committed_sight self.now) Admin c_pin_sid pin_column) }
     {
         let view = self.committed();
         match view.cell(Sp::Admin, Uid::C_PIN_SID, Column::PIN) {
