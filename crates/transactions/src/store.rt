@@ -1,10 +1,12 @@
-ghost use Rattle.std.specs.Prelude.{IfOk, ◌≡◌, ◌≤◌, ◌==◌, ◌+◌, ◌*◌, ◌↔◌, ℕ, Bool, [], length, None, Some, OnOk, OnErr, IsErr, MatchResult, is_some, true, false, option_map};
+//! The store: rows and bytes in force, and the open transaction of each SP.
+
+ghost use Rattle.std.specs.Prelude.{IfOk, ◌≡◌, ◌≤◌, ◌==◌, ◌+◌, ◌*◌, ◌↔◌, ℕ, Bool, [], length, None, Some, OnOk, OnErr, IsErr, is_some, true, false, option_map};
 ghost use Rattle.sp_cells.specs.declared.names.Sp.TheVariants.{Admin, Locking};
 ghost use Rattle.sp_cells.specs.Names.{c_pin_sid};
 ghost use Rattle.sp_cells.specs.ColumnNames.{pin_column};
 ghost use Rattle.sp_rows.specs.Items.{with_items};
 ghost use Rattle.sp_factory.specs.Factory.{locking_factory};
-ghost use Rattle.sp_tables.specs.Faults.{IsFault};
+ghost use Rattle.sp_tables.specs.Faults.{TellsFault};
 ghost use Rattle.sp_tables.specs.Undo.{IsNoBound};
 ghost use Rattle.sp_tables.specs.Tries.{is_tries as is_tries_of, names_tries as names_tries_of};
 ghost use Rattle.shadow_mbr.specs.Stored.{sector_size};
@@ -205,7 +207,7 @@ impl Store {
     pub fn set(&mut self, session: SessionId, change: &Change) -> Result<(), SetError>
         requires { IsInside self.old.config session.sp change.now }
         ensures ok { OnOk result (self.new ≡ at_part session.sp (part_set change.now) self.old) }
-        ensures fault { MatchResult result (λ _. fault_of_change self.old session.sp change.now ≡ None) (IsFault (fault_of_change self.old session.sp change.now)) }
+        ensures fault { TellsFault (fault_of_change self.old session.sp change.now) result }
         ensures err { OnErr result (self.new ≡ self.old) }
     {
         match change {
@@ -232,7 +234,7 @@ impl Store {
         cells: &Vec<(Column, Cell)>,
     ) -> Result<(), SetError>
         ensures ok { OnOk result (self.new ≡ at_part sp (part_change (λ rows. with_items rows object cells.now.items) (λ bytes. bytes)) self.old) }
-        ensures fault { MatchResult result (λ _. fault_of_cells self.old sp object cells.now.items ≡ None) (IsFault (fault_of_cells self.old sp object cells.now.items)) }
+        ensures fault { TellsFault (fault_of_cells self.old sp object cells.now.items) result }
         ensures err { OnErr result (self.new ≡ self.old) }
     {
         if let Some(fault) = self.refusal(sp, object, cells) {
