@@ -3,9 +3,13 @@
 #![tactic(auto)]
 
 mod checks;
+mod halves;
+mod resets;
+mod undo;
 pub mod whole;
 
 pub use access_list::access_row;
+pub use halves::is_pin;
 pub use sp_cells::{
     ADMINS, Bytes, Cell, Column, Columns, DriveConfig, Element, Expr, RANGES, ResetTypes, Rows,
     SetError, Sp, USERS, Uid, number_at,

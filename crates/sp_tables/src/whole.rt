@@ -17,10 +17,10 @@ use std::marker::Model;
 /// common.
 #[derive(Drop)]
 pub struct Tables {
-    alloc: Global,
-    config: DriveConfig,
-    admin: SpTables,
-    locking: SpTables,
+    pub(crate) alloc: Global,
+    pub(crate) config: DriveConfig,
+    pub(crate) admin: SpTables,
+    pub(crate) locking: SpTables,
 }
 
 impl Model for Tables {

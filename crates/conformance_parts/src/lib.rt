@@ -1,0 +1,30 @@
+//! Tests of the crates below the drive against the standards: what no clause says, and values that come
+//! from outside.
+#![tactic(auto)]
+
+#[cfg(test)]
+mod access;
+#[cfg(test)]
+mod aces;
+#[cfg(test)]
+mod audit_lines;
+#[cfg(test)]
+mod commands;
+#[cfg(test)]
+mod fises;
+#[cfg(test)]
+mod frames;
+#[cfg(test)]
+mod media;
+#[cfg(test)]
+mod memory;
+#[cfg(test)]
+mod ranges;
+#[cfg(test)]
+mod registers;
+#[cfg(test)]
+mod store;
+#[cfg(test)]
+mod tables;
+#[cfg(test)]
+mod tokens;

@@ -1,0 +1,16 @@
+//! The rows in force of a drive's two security providers and the bytes of its shadow MBR, and what the open
+//! transaction of a session makes of them.
+#![tactic(auto)]
+
+mod change;
+mod laws;
+mod log;
+mod part;
+mod store;
+mod undo;
+mod view;
+
+pub use change::{AlreadyOpen, Change, NotOpen, SessionId};
+pub use laws::laws_of_transactions;
+pub use store::Store;
+pub use view::View;
