@@ -7,6 +7,7 @@
 mod ask;
 mod cell_values;
 mod named;
+pub mod status;
 
 pub use ask::{Ask, Octets, read_ask, uid_of};
 pub use cell_values::{bytes_value, cell_of, list_value, named_value, number_in, uid_in, value_of};

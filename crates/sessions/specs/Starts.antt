@@ -16,6 +16,7 @@ use Rattle.audit.specs.declared.reason.Why.{Why}
 use Rattle.audit.specs.declared.reason.Why.TheVariants.{AttemptFailed}
 use Rattle.call_shapes.specs.Named.{options, value_of, bytes_or_empty}
 use Rattle.call_shapes.specs.CellValues.{number_in, uid_in}
+use Rattle.call_shapes.specs.Statuses.{success, not_authorized, sp_busy, no_sessions_available, invalid_parameter, authority_locked_out}
 use Rattle.sessions.specs.declared.opening.Opening.{Opening}
 use Rattle.sessions.specs.declared.opening.StartVerdict.{StartVerdict}
 use Rattle.sessions.specs.declared.opening.StartVerdict.TheVariants.{Refused, Attempted}
@@ -71,16 +72,16 @@ abbrev pub is_full : Live → Bool
 is_full l = nat_lt 0xffffffff l.next
 
 abbrev pub verdict_on : LookUp → Live → Opening → Option Sp → StartVerdict
-verdict_on look l o None = Refused 0x0c
+verdict_on look l o None = Refused invalid_parameter
 verdict_on look l o (Some sp) =
-    if not (is_in_use look sp) then Refused 0x0c else
-    if lives_on sp l then Refused 0x03 else
-    if is_full l then Refused 0x07 else
+    if not (is_in_use look sp) then Refused invalid_parameter else
+    if lives_on sp l then Refused sp_busy else
+    if is_full l then Refused no_sessions_available else
     Attempted sp (failure look sp o.authority o.proof)
 
 -- what comes of a StartSession: a refusal, or an attempt on its authority
 abbrev pub verdict : LookUp → Live → Option Opening → StartVerdict
-verdict look l None = Refused 0x0c
+verdict look l None = Refused invalid_parameter
 verdict look l (Some o) = verdict_on look l o (sp_named o.spid)
 
 -- the number that a host gave, or 0 where it gave none of 32 bits
@@ -98,16 +99,16 @@ sync_message host tsn status = call (0 ∷ 0 ∷ 0 ∷ 0 ∷ 0 ∷ 0 ∷ 0 ∷ 0
 
 -- the status of an attempt that fails so
 abbrev pub status_of : AttemptFailure → ℕ
-status_of LockedOut = 0x12
-status_of WrongPin = 0x01
-status_of Disabled = 0x01
-status_of Unknown = 0x01
+status_of LockedOut = authority_locked_out
+status_of WrongPin = not_authorized
+status_of Disabled = not_authorized
+status_of Unknown = not_authorized
 
 -- the answer, why it was denied, and what is left
 abbrev pub reply_to : ℕ → ℕ → StartVerdict → Message
 reply_to host tsn (Refused status) = sync_message host 0 status
 reply_to host tsn (Attempted sp (Some f)) = sync_message host 0 (status_of f)
-reply_to host tsn (Attempted sp None) = sync_message host tsn 0
+reply_to host tsn (Attempted sp None) = sync_message host tsn success
 
 abbrev pub denied_by : Uid → StartVerdict → Option Why
 denied_by authority (Refused status) = None
