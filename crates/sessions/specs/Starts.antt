@@ -1,0 +1,144 @@
+-- StartSession and its answer (Core 2.01, sections 5.2.3.1 and 5.2.3.2; the order of refusals is this drive's own).
+use Rattle.std.specs.Prelude.{◌==◌, ◌+◌, ◌^◌, nat_lt, ℕ, Bool, ◌&&◌, not, List, [], ◌∷◌, Option, None, Some, is_some, if◌then◌else◌}
+use Rattle.tcg_tokens.specs.Tree.{Tree, number, trees_of}
+use Rattle.tcg_tokens.specs.Message.{Message, call}
+use Rattle.sp_cells.specs.declared.names.Sp.{Sp}
+use Rattle.sp_cells.specs.declared.names.Sp.TheVariants.{Admin, Locking}
+use Rattle.sp_cells.specs.declared.names.Uid.{Uid}
+use Rattle.sp_cells.specs.Names.{anybody, admin_sp, locking_sp}
+use Rattle.sp_cells.specs.ColumnNames.{life_cycle_state_column}
+use Rattle.sp_cells.specs.Limits.{manufactured_inactive}
+use Rattle.sp_cells.specs.Flat.{LookUp}
+use Rattle.sp_cells.specs.Ranges.{number as number_at}
+use Rattle.audit.specs.declared.reason.AttemptFailure.{AttemptFailure}
+use Rattle.audit.specs.declared.reason.AttemptFailure.TheVariants.{WrongPin, LockedOut, Disabled, Unknown}
+use Rattle.audit.specs.declared.reason.Why.{Why}
+use Rattle.audit.specs.declared.reason.Why.TheVariants.{AttemptFailed}
+use Rattle.call_shapes.specs.Named.{options, value_of, bytes_or_empty}
+use Rattle.call_shapes.specs.CellValues.{number_in, uid_in}
+use Rattle.call_shapes.specs.Statuses.{success, not_authorized, sp_busy, no_sessions_available, invalid_parameter, authority_locked_out}
+use Rattle.sessions.specs.declared.opening.Opening.{Opening}
+use Rattle.sessions.specs.declared.opening.StartVerdict.{StartVerdict}
+use Rattle.sessions.specs.declared.opening.StartVerdict.TheVariants.{Refused, Attempted}
+use Rattle.sessions.specs.Attempts.{failure}
+use Rattle.sessions.specs.Live.{Live, Holder, lives_on}
+use Rattle.sessions.specs.Gains.{first_held}
+use Rattle.sessions.specs.Answers.{after_attempt}
+use Rattle.transactions.specs.Stored.{Stored}
+
+-- the authority that signs: Anybody where none is named, and then there is no challenge
+abbrev pub signing : Bool → Option Tree → Option Uid
+signing challenged None = if challenged then None else Some anybody
+signing challenged (Some t) = uid_in t
+
+abbrev pub opening_by : ℕ → Uid → Option Uid → Option (List ℕ) → Option Opening
+opening_by host spid None proof = None
+opening_by host spid (Some authority) None = None
+opening_by host spid (Some authority) (Some proof) = Some (record { host = host; spid = spid; authority = authority; proof = proof })
+
+abbrev pub opening_named : ℕ → Uid → Option (List (ℕ × Tree)) → Option Opening
+opening_named host spid None = None
+opening_named host spid (Some ps) = opening_by host spid (signing (is_some (value_of 0 ps)) (value_of 3 ps)) (bytes_or_empty (value_of 0 ps))
+
+-- the number that a host gives its session: 32 bits
+abbrev pub is_host : ℕ → Bool
+is_host n = nat_lt n (2 ^ 32)
+
+abbrev pub opening_from : Option ℕ → Option Uid → Option ℕ → Option (List (ℕ × Tree)) → Option Opening
+opening_from (Some host) (Some spid) (Some writes) named = if is_host host && (writes == 1) then opening_named host spid named else None
+opening_from _ _ _ named = None
+
+-- what a StartSession asks: the host's number, the SP, Write, and at most a challenge and a signing authority
+abbrev pub opening_of : List Tree → Option Opening
+opening_of [] = None
+opening_of (h ∷ []) = None
+opening_of (h ∷ p ∷ []) = None
+opening_of (h ∷ p ∷ w ∷ rest) = opening_from (number_in h) (uid_in p) (number_in w) (options (0 ∷ 3 ∷ []) rest)
+
+-- the SP that a name names
+abbrev pub sp_named : Uid → Option Sp
+sp_named u = if u.0 == admin_sp.0 then Some Admin else if u.0 == locking_sp.0 then Some Locking else None
+
+abbrev pub row_of_sp : Sp → Uid
+row_of_sp Admin = admin_sp
+row_of_sp Locking = locking_sp
+
+-- the SP is in use, by the rows in force
+abbrev pub is_in_use : LookUp → Sp → Bool
+is_in_use look sp = not (number_at look Admin (row_of_sp sp) life_cycle_state_column == manufactured_inactive)
+
+-- no number is left for another session
+abbrev pub is_full : Live → Bool
+is_full l = nat_lt 0xffffffff l.next
+
+abbrev pub verdict_on : LookUp → Live → Opening → Option Sp → StartVerdict
+verdict_on look l o None = Refused invalid_parameter
+verdict_on look l o (Some sp) =
+    if not (is_in_use look sp) then Refused invalid_parameter else
+    if lives_on sp l then Refused sp_busy else
+    if is_full l then Refused no_sessions_available else
+    Attempted sp (failure look sp o.authority o.proof)
+
+-- what comes of a StartSession: a refusal, or an attempt on its authority
+abbrev pub verdict : LookUp → Live → Option Opening → StartVerdict
+verdict look l None = Refused invalid_parameter
+verdict look l (Some o) = verdict_on look l o (sp_named o.spid)
+
+-- the number that a host gave, or 0 where it gave none of 32 bits
+abbrev pub host_among : Option ℕ → ℕ
+host_among None = 0
+host_among (Some n) = if is_host n then n else 0
+
+abbrev pub host_of : List Tree → ℕ
+host_of [] = 0
+host_of (t ∷ ts) = host_among (number_in t)
+
+-- SyncSession of the session manager
+abbrev pub sync_message : ℕ → ℕ → ℕ → Message
+sync_message host tsn status = call (0 ∷ 0 ∷ 0 ∷ 0 ∷ 0 ∷ 0 ∷ 0 ∷ 0xff ∷ []) (0 ∷ 0 ∷ 0 ∷ 0 ∷ 0 ∷ 0 ∷ 0xff ∷ 3 ∷ []) (trees_of (number host ∷ number tsn ∷ [])) (status ∷ 0 ∷ 0 ∷ [])
+
+-- the status of an attempt that fails so
+abbrev pub status_of : AttemptFailure → ℕ
+status_of LockedOut = authority_locked_out
+status_of WrongPin = not_authorized
+status_of Disabled = not_authorized
+status_of Unknown = not_authorized
+
+-- the answer, why it was denied, and what is left
+abbrev pub reply_to : ℕ → ℕ → StartVerdict → Message
+reply_to host tsn (Refused status) = sync_message host 0 status
+reply_to host tsn (Attempted sp (Some f)) = sync_message host 0 (status_of f)
+reply_to host tsn (Attempted sp None) = sync_message host tsn success
+
+abbrev pub denied_by : Uid → StartVerdict → Option Why
+denied_by authority (Refused status) = None
+denied_by authority (Attempted sp (Some f)) = Some (AttemptFailed sp authority f)
+denied_by authority (Attempted sp None) = None
+
+abbrev pub stored_by : Uid → StartVerdict → Stored → Stored
+stored_by authority (Refused status) s = s
+stored_by authority (Attempted sp f) s = after_attempt sp authority f s
+
+-- the session that begins has the next number, and holds what its authority brings
+abbrev pub begun_by : LookUp → ℕ → Opening → StartVerdict → Bool → Option Holder → Option Holder
+begun_by look com_id o (Refused status) is_next before = before
+begun_by look com_id o (Attempted sp (Some f)) is_next before = before
+begun_by look com_id o (Attempted sp None) is_next before = if is_next then Some (record { sp = sp; com_id = com_id; host = o.host; held = first_held look sp o.authority }) else before
+
+abbrev pub next_by : StartVerdict → ℕ → ℕ
+next_by (Refused status) next = next
+next_by (Attempted sp (Some f)) next = next
+next_by (Attempted sp None) next = next + 1
+
+-- the same of what was asked; a call without its shape is refused
+abbrev pub denied_with : Option Opening → StartVerdict → Option Why
+denied_with None v = None
+denied_with (Some o) v = denied_by o.authority v
+
+abbrev pub stored_with : Option Opening → StartVerdict → Stored → Stored
+stored_with None v s = s
+stored_with (Some o) v s = stored_by o.authority v s
+
+abbrev pub begun_with : LookUp → ℕ → Option Opening → StartVerdict → Bool → Option Holder → Option Holder
+begun_with look com_id None v is_next before = before
+begun_with look com_id (Some o) v is_next before = begun_by look com_id o v is_next before
