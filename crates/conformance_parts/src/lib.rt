@@ -23,6 +23,8 @@ mod ranges;
 #[cfg(test)]
 mod registers;
 #[cfg(test)]
+mod session_manager;
+#[cfg(test)]
 mod store;
 #[cfg(test)]
 mod tables;
