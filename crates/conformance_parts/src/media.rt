@@ -1,6 +1,6 @@
 //! The media of a drive, and the bytes of its shadow MBR.
 
-ghost use Rattle.std.specs.Prelude.{◌≡◌, ◌≤◌, length};
+ghost use Rattle.std.specs.Prelude.{◌≡◌, ◌+◌, ◌≤◌, length};
 
 use shadow_mbr::{Mbr, Media};
 use std::alloc::{AllocError, Global};
