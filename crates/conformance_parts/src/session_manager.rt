@@ -73,8 +73,9 @@ fn tries(store: &Store) -> u64 {
     )
 }
 
+/// The first session has the number 1000h.
 #[test]
-fn starts_and_is_busy(rt: HostRuntime) -> Result<(), Fail> {
+fn starts(rt: HostRuntime) -> Result<(), Fail> {
     let alloc = rt.alloc();
     let mut store = active_store(alloc)?;
     let mut sessions = Sessions::new(alloc);
@@ -82,10 +83,30 @@ fn starts_and_is_busy(rt: HostRuntime) -> Result<(), Fail> {
     let wanted = "f8a800000000000000ffa8000000000000ff03f001821000f1f9f0000000f1";
     assert_eq!(rt; reply.as_str(), wanted);
     assert!(rt; !denied);
-    let (again, denied) = started(alloc, &mut sessions, &mut store, START_ADMIN)?;
-    let busy = "f8a800000000000000ffa8000000000000ff03f00100f1f9f0030000f1";
-    assert_eq!(rt; again.as_str(), busy);
+    Ok(())
+}
+
+/// A second one on the same provider is busy, and no denial.
+#[test]
+fn is_busy(rt: HostRuntime) -> Result<(), Fail> {
+    let alloc = rt.alloc();
+    let mut store = active_store(alloc)?;
+    let mut sessions = Sessions::new(alloc);
+    let _ = started(alloc, &mut sessions, &mut store, START_ADMIN)?;
+    let (reply, denied) = started(alloc, &mut sessions, &mut store, START_ADMIN)?;
+    let wanted = "f8a800000000000000ffa8000000000000ff03f00100f1f9f0030000f1";
+    assert_eq!(rt; reply.as_str(), wanted);
     assert!(rt; !denied);
+    Ok(())
+}
+
+/// A session is found by its ComID, its number and its host's number.
+#[test]
+fn is_found(rt: HostRuntime) -> Result<(), Fail> {
+    let alloc = rt.alloc();
+    let mut store = active_store(alloc)?;
+    let mut sessions = Sessions::new(alloc);
+    let _ = started(alloc, &mut sessions, &mut store, START_ADMIN)?;
     let session = SessionId {
         tsn: 0x1000,
         sp: Sp::Admin,
@@ -93,37 +114,49 @@ fn starts_and_is_busy(rt: HostRuntime) -> Result<(), Fail> {
     assert_eq!(rt; sessions.find(0x1000, 0x1000, 1), Some(session));
     assert_eq!(rt; sessions.find(0x1000, 0x1000, 2), None);
     assert_eq!(rt; sessions.find(0x1001, 0x1000, 1), None);
-    assert!(rt; sessions.end(0x1000) && !sessions.end(0x1000));
-    let (next, _) = started(alloc, &mut sessions, &mut store, START_ADMIN)?;
-    let second = "f8a800000000000000ffa8000000000000ff03f001821001f1f9f0000000f1";
-    assert_eq!(rt; next.as_str(), second);
-    sessions.end_all();
-    assert_eq!(rt; sessions.find(0x1000, 0x1001, 1), None);
     Ok(())
 }
 
-/// A busy start looks at no PIN; five wrong ones lock the right one out, until they are forgotten.
+/// A number does not come back once its session has ended.
+#[test]
+fn numbers_go_on(rt: HostRuntime) -> Result<(), Fail> {
+    let alloc = rt.alloc();
+    let mut store = active_store(alloc)?;
+    let mut sessions = Sessions::new(alloc);
+    let _ = started(alloc, &mut sessions, &mut store, START_ADMIN)?;
+    let ended = sessions.end(0x1000);
+    let (reply, _) = started(alloc, &mut sessions, &mut store, START_ADMIN)?;
+    let wanted = "f8a800000000000000ffa8000000000000ff03f001821001f1f9f0000000f1";
+    assert!(rt; ended);
+    assert_eq!(rt; reply.as_str(), wanted);
+    Ok(())
+}
+
+/// A busy start looks at no PIN.
+#[test]
+fn a_busy_start_counts_nothing(rt: HostRuntime) -> Result<(), Fail> {
+    let alloc = rt.alloc();
+    let mut store = active_store(alloc)?;
+    let mut sessions = Sessions::new(alloc);
+    let _ = started(alloc, &mut sessions, &mut store, START_LOCKING)?;
+    let (reply, denied) = started(alloc, &mut sessions, &mut store, START_WRONG)?;
+    assert!(rt; reply.as_str().ends_with("f9f0030000f1") && !denied);
+    assert_eq!(rt; tries(&store), 0);
+    Ok(())
+}
+
+/// Five wrong PINs lock the right one out.
 #[test]
 fn wrong_pins_lock_out(rt: HostRuntime) -> Result<(), Fail> {
     let alloc = rt.alloc();
     let mut store = active_store(alloc)?;
     let mut sessions = Sessions::new(alloc);
-    let _ = started(alloc, &mut sessions, &mut store, START_LOCKING)?;
-    let (busy, denied) = started(alloc, &mut sessions, &mut store, START_WRONG)?;
-    assert!(rt; busy.as_str().ends_with("f9f0030000f1") && !denied);
-    assert_eq!(rt; tries(&store), 0);
-    assert!(rt; sessions.end(0x1000));
-    for count in 1..6 {
-        let (wrong, denied) = started(alloc, &mut sessions, &mut store, START_WRONG)?;
-        assert!(rt; wrong.as_str().ends_with("f00100f1f9f0010000f1") && denied);
-        assert_eq!(rt; tries(&store), count);
+    for _ in 0..5 {
+        let _ = started(alloc, &mut sessions, &mut store, START_WRONG)?;
     }
-    let (locked, denied) = started(alloc, &mut sessions, &mut store, START_RIGHT)?;
-    assert!(rt; locked.as_str().ends_with("f00100f1f9f0120000f1") && denied);
+    let (reply, denied) = started(alloc, &mut sessions, &mut store, START_RIGHT)?;
+    assert!(rt; reply.as_str().ends_with("f00100f1f9f0120000f1") && denied);
     assert_eq!(rt; tries(&store), 5);
-    store.set_tries(Sp::Locking, Uid::pin_of_admin(1), 0);
-    let (right, denied) = started(alloc, &mut sessions, &mut store, START_RIGHT)?;
-    assert!(rt; right.as_str().ends_with("f001821001f1f9f0000000f1") && !denied);
     Ok(())
 }
 
