@@ -15,6 +15,15 @@ fn a_stopped_port_drops_tags(rt: HostRuntime) -> Result<(), Fail> {
     Ok(())
 }
 
+/// What the registers that a device or the port sets have at the start: PxFB, PxTFD, PxSIG, PxSSTS.
+#[test]
+fn begins_with_a_device(rt: HostRuntime) -> Result<(), Fail> {
+    let regs = PortRegs::new();
+    let words = [0x08, 0x20, 0x24, 0x28].map(|offset| regs.read(offset));
+    assert_eq!(rt; words, [Some(0x400), Some(0x50), Some(0x101), Some(0x133)]);
+    Ok(())
+}
+
 #[test]
 fn refuses_what_no_host_writes(rt: HostRuntime) -> Result<(), Fail> {
     let mut regs = PortRegs::new();

@@ -11,5 +11,5 @@ mod tokens;
 
 pub use ending::RunError;
 pub use options::{Options, OptionsFault};
-pub use script::{run_script, run_script_with_faults};
+pub use script::{laws_of_limits, run_script, run_script_with_faults};
 pub use tokens::{run_tokens, run_tokens_with_faults};

@@ -19,6 +19,11 @@ use std::io::{BufReader, Read, Write};
 /// The most lines that are read.
 const READ_LIMIT: u64 = 4_294_967_296;
 
+/// The limits of a script, as numbers.
+pub fn laws_of_limits()
+    ensures { READ_LIMIT ≡ 4294967296 }
+{}
+
 /// What the opening phase comes to.
 #[derive(Drop)]
 pub enum Opened {
