@@ -188,7 +188,8 @@ fn element_in(value: &Value) -> Option<Element>
 
 /// The numbers that values are, where each is one.
 fn numbers_in(alloc: Global, values: &[Value]) -> Result<Option<Vec<u64>>, AllocError>
-    ensures { IfOk result (λ ns. option_map (λ v. v.items) ns ≡ each_of number_of_tree (map tree values.now)) }
+    ensures { IfOk result (λ ns.
+        option_map (λ v. v.items) ns ≡ each_of number_of_tree (map tree values.now)) }
 {
     let mut numbers = Vec::new(alloc);
     for value in values {
@@ -215,7 +216,8 @@ fn elements_in(values: &[Value]) -> Option<ArrayVec<Element, MOST_ELEMENTS>>
 /// The expression that a value writes.
 #[tactic(auto, using(crate::proofs::CellLemmas::too_long))]
 fn expression_in(alloc: Global, value: &Value) -> Result<Option<Cell>, AllocError>
-    ensures { IfOk result (λ c. c ≡ expression_of (elements_of_trees (list_of_tree (tree value.now)))) }
+    ensures { IfOk result (λ c.
+        c ≡ expression_of (elements_of_trees (list_of_tree (tree value.now)))) }
 {
     let Some(values) = list_in(value) else {
         return Ok(None);
@@ -259,7 +261,8 @@ fn columns_of(alloc: Global, numbers: &[u64]) -> Result<Columns, AllocError>
 
 /// The columns that a value lists.
 fn columns_in(alloc: Global, value: &Value) -> Result<Option<Cell>, AllocError>
-    ensures { IfOk result (λ c. c ≡ columns_of_numbers (numbers_of_trees (list_of_tree (tree value.now)))) }
+    ensures { IfOk result (λ c.
+        c ≡ columns_of_numbers (numbers_of_trees (list_of_tree (tree value.now)))) }
 {
     let Some(values) = list_in(value) else {
         return Ok(None);

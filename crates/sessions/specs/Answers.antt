@@ -1,5 +1,5 @@
 -- What an attempt to authenticate is answered, and what it leaves (Core 2.01, section 5.3.4.1).
-use Rattle.std.specs.Prelude.{◌==◌, ◌+◌, ◌-◌, ◌^◌, min, ℕ, Option, None, Some, option_map, if◌then◌else◌}
+use Rattle.std.specs.Prelude.{◌==◌, ◌+◌, ◌-◌, ◌^◌, min, ℕ, List, Option, None, Some, option_map, if◌then◌else◌}
 use Rattle.sp_cells.specs.declared.names.Sp.{Sp}
 use Rattle.sp_cells.specs.declared.names.Uid.{Uid}
 use Rattle.sp_cells.specs.Names.{anybody}
@@ -13,12 +13,16 @@ use Rattle.transactions.specs.Stored.{Stored, at_part, part_tries}
 use Rattle.transactions.specs.Sights.{look_up, committed_sight}
 use Rattle.sessions.specs.declared.answers.AuthAnswer.{AuthAnswer}
 use Rattle.sessions.specs.declared.answers.AuthAnswer.TheVariants as answers
-use Rattle.sessions.specs.Attempts.{credential}
+use Rattle.sessions.specs.Attempts.{credential, failure}
 use Rattle.sessions.specs.Live.{Holder, gaining}
 
 -- the rows in force
 abbrev pub in_force : Stored → LookUp
 in_force s = look_up (committed_sight s)
+
+-- how an attempt fails by the rows in force; None where it is right
+abbrev pub attempt : Stored → Sp → Uid → List ℕ → Option AttemptFailure
+attempt s sp authority proof = failure (in_force s) sp authority proof
 
 -- one more; the largest number of 64 bits stays
 abbrev pub up : ℕ → ℕ

@@ -1,11 +1,12 @@
 -- StartSession and its answer (Core 2.01, sections 5.2.3.1 and 5.2.3.2; the order of refusals is this drive's own).
 use Rattle.std.specs.Prelude.{◌==◌, ◌+◌, ◌^◌, nat_lt, ℕ, Bool, ◌&&◌, not, List, [], ◌∷◌, Option, None, Some, is_some, if◌then◌else◌}
+use Rattle.std.specs.Int.{w64, to_be_bytes}
 use Rattle.tcg_tokens.specs.Tree.{Tree, number, trees_of}
 use Rattle.tcg_tokens.specs.Message.{Message, call}
 use Rattle.sp_cells.specs.declared.names.Sp.{Sp}
 use Rattle.sp_cells.specs.declared.names.Sp.TheVariants.{Admin, Locking}
 use Rattle.sp_cells.specs.declared.names.Uid.{Uid}
-use Rattle.sp_cells.specs.Names.{anybody, admin_sp, locking_sp}
+use Rattle.sp_cells.specs.Names.{anybody, admin_sp, locking_sp, session_manager, sync_session}
 use Rattle.sp_cells.specs.ColumnNames.{life_cycle_state_column}
 use Rattle.sp_cells.specs.Limits.{manufactured_inactive}
 use Rattle.sp_cells.specs.Flat.{LookUp}
@@ -21,9 +22,9 @@ use Rattle.sessions.specs.declared.opening.Opening.{Opening}
 use Rattle.sessions.specs.declared.opening.StartVerdict.{StartVerdict}
 use Rattle.sessions.specs.declared.opening.StartVerdict.TheVariants.{Refused, Attempted}
 use Rattle.sessions.specs.Attempts.{failure}
-use Rattle.sessions.specs.Live.{Live, Holder, lives_on}
+use Rattle.sessions.specs.Live.{Live, Holder, lives_on, session_at}
 use Rattle.sessions.specs.Gains.{first_held}
-use Rattle.sessions.specs.Answers.{after_attempt}
+use Rattle.sessions.specs.Answers.{in_force, after_attempt}
 use Rattle.transactions.specs.Stored.{Stored}
 
 -- the authority that signs: Anybody where none is named, and then there is no challenge
@@ -95,7 +96,7 @@ host_of (t ∷ ts) = host_among (number_in t)
 
 -- SyncSession of the session manager
 abbrev pub sync_message : ℕ → ℕ → ℕ → Message
-sync_message host tsn status = call (0 ∷ 0 ∷ 0 ∷ 0 ∷ 0 ∷ 0 ∷ 0 ∷ 0xff ∷ []) (0 ∷ 0 ∷ 0 ∷ 0 ∷ 0 ∷ 0 ∷ 0xff ∷ 3 ∷ []) (trees_of (number host ∷ number tsn ∷ [])) (status ∷ 0 ∷ 0 ∷ [])
+sync_message host tsn status = call (to_be_bytes w64 session_manager.0) (to_be_bytes w64 sync_session.0) (trees_of (number host ∷ number tsn ∷ [])) (status ∷ 0 ∷ 0 ∷ [])
 
 -- the status of an attempt that fails so
 abbrev pub status_of : AttemptFailure → ℕ
@@ -142,3 +143,27 @@ stored_with (Some o) v s = stored_by o.authority v s
 abbrev pub begun_with : LookUp → ℕ → Option Opening → StartVerdict → Bool → Option Holder → Option Holder
 begun_with look com_id None v is_next before = before
 begun_with look com_id (Some o) v is_next before = begun_by look com_id o v is_next before
+
+-- what comes of one that has its shape, by the rows in force
+abbrev pub opening_verdict : Stored → Live → Opening → StartVerdict
+opening_verdict s l o = verdict (in_force s) l (Some o)
+
+-- what a StartSession with these arguments comes to, by the rows in force and the sessions that live
+abbrev pub start_verdict : Stored → Live → List Tree → StartVerdict
+start_verdict s l args = verdict (in_force s) l (opening_of args)
+
+-- its answer, why it was denied, the store and the session of each number after it, and the next number
+abbrev pub start_reply : Stored → Live → List Tree → Message
+start_reply s l args = reply_to (host_of args) l.next (start_verdict s l args)
+
+abbrev pub start_denied : Stored → Live → List Tree → Option Why
+start_denied s l args = denied_with (opening_of args) (start_verdict s l args)
+
+abbrev pub start_stored : Stored → Live → List Tree → Stored
+start_stored s l args = stored_with (opening_of args) (start_verdict s l args) s
+
+abbrev pub start_at : Stored → Live → ℕ → List Tree → ℕ → Option Holder
+start_at s l com_id args n = begun_with (in_force s) com_id (opening_of args) (start_verdict s l args) (l.next == n) (session_at l n)
+
+abbrev pub start_next : Stored → Live → List Tree → ℕ
+start_next s l args = next_by (start_verdict s l args) l.next

@@ -206,3 +206,16 @@ revert = uid 0x0000000600000202
 
 abbrev pub activate : Uid
 activate = uid 0x0000000600000203
+
+-- the session manager and its methods (Core 2.01, section 5.2)
+abbrev pub session_manager : Uid
+session_manager = uid 0x00000000000000ff
+
+abbrev pub properties : Uid
+properties = uid 0x000000000000ff01
+
+abbrev pub start_session : Uid
+start_session = uid 0x000000000000ff02
+
+abbrev pub sync_session : Uid
+sync_session = uid 0x000000000000ff03

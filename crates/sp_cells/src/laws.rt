@@ -2,7 +2,7 @@
 
 ghost use Rattle.std.specs.Prelude.{◌≡◌, ◌^◌};
 ghost use Rattle.basics.specs.Addresses.{address_limit};
-ghost use Rattle.sp_cells.specs.Names.{none, this_sp, admin_sp, locking_sp, anybody, sid, admins_class, users_class, c_pin_sid, c_pin_msid, global_range, mbr_control, mbr_table, get, set, authenticate, revert, activate};
+ghost use Rattle.sp_cells.specs.Names.{none, this_sp, admin_sp, locking_sp, anybody, sid, admins_class, users_class, c_pin_sid, c_pin_msid, global_range, mbr_control, mbr_table, get, set, authenticate, revert, activate, session_manager, properties, start_session, sync_session};
 ghost use Rattle.sp_cells.specs.Names.{ace_table, authority_table, c_pin_table, sp_table, locking_table, mbr_control_table};
 ghost use Rattle.sp_cells.specs.Names.{ace_anybody, ace_admins, ace_anybody_get_common_name, ace_c_pin_sid_get_nopin, ace_c_pin_sid_set_pin, ace_c_pin_msid_get_pin, ace_sp_sid, ace_ace_set_boolean_expression, ace_authority_set_enabled, ace_c_pin_admins_get_all_nopin, ace_c_pin_admins_set_pin, ace_locking_get_all, ace_locking_global_range_admins_set, ace_locking_admins_set, ace_mbr_control_admins_set, ace_mbr_control_set_done_to_dor};
 ghost use Rattle.sp_cells.specs.ColumnNames.{uid_column, name_column, common_name_column, life_cycle_state_column, pin_column, char_set_column, try_limit_column, tries_column, persistence_column};
@@ -28,6 +28,8 @@ pub fn laws_of_names()
     ensures mbr { (uids.MBR_CONTROL ≡ mbr_control) × (uids.MBR_TABLE ≡ mbr_table) }
     ensures methods { (uids.GET ≡ get) × (uids.SET ≡ set) × (uids.AUTHENTICATE ≡ authenticate)
         × (uids.REVERT ≡ revert) × (uids.ACTIVATE ≡ activate) }
+    ensures session_manager { (uids.SESSION_MANAGER ≡ session_manager) × (uids.PROPERTIES ≡ properties)
+        × (uids.START_SESSION ≡ start_session) × (uids.SYNC_SESSION ≡ sync_session) }
     ensures admin_sp_aces { (uids.ACE_C_PIN_SID_GET_NOPIN ≡ ace_c_pin_sid_get_nopin)
         × (uids.ACE_C_PIN_SID_SET_PIN ≡ ace_c_pin_sid_set_pin)
         × (uids.ACE_C_PIN_MSID_GET_PIN ≡ ace_c_pin_msid_get_pin)

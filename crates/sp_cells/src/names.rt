@@ -160,6 +160,18 @@ impl Uid {
     /// The method Activate.
     pub const ACTIVATE: Uid = Uid(0x0000_0006_0000_0203);
 
+    /// The session manager, which begins and describes sessions.
+    pub const SESSION_MANAGER: Uid = Uid(0x0000_0000_0000_00ff);
+
+    /// The session manager's method Properties.
+    pub const PROPERTIES: Uid = Uid(0x0000_0000_0000_ff01);
+
+    /// The session manager's method StartSession.
+    pub const START_SESSION: Uid = Uid(0x0000_0000_0000_ff02);
+
+    /// The session manager's method SyncSession, which answers a StartSession.
+    pub const SYNC_SESSION: Uid = Uid(0x0000_0000_0000_ff03);
+
     /// The row of a range in the Locking table; 0 is the global range.
     pub fn range(number: u8) -> Uid
         ensures { result ≡ range_uid number }
