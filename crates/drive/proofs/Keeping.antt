@@ -16,8 +16,9 @@ use Rattle.drive.specs.declared.decision.Decision.{Decision}
 use Rattle.drive.specs.declared.decision.Decision.TheVariants.{Refused, Fails, Holds}
 use Rattle.drive.specs.declared.failure.Failure.{Failure}
 use Rattle.drive.specs.Opening.{Origin, ranges_of}
+use Rattle.drive.specs.declared.transfer.Transfer.{Transfer}
 use Rattle.drive.specs.Transfer.{transfer_of}
-use Rattle.drive.specs.Decision.{Standing, any_below, queue_failure, transfer_decision, read_decision, decision}
+use Rattle.drive.specs.Decision.{Standing, any_below, queue_failure, transfer_decision, queued_decision, read_decision, decision}
 use Rattle.drive.specs.Queue.{slot_at, empty_queue, NamesSlot}
 use Rattle.drive.specs.Events.{Event, latest, or_else, event_of}
 use Rattle.drive.specs.History.{Act, Accept, log, event_after, slot_after, held_transfer, decision_after}
@@ -28,10 +29,14 @@ use Rattle.drive.proofs.Slots.{no_slot, none_length, slot_set}
 
 -- standings that hold the same tags decide the same
 
+queued-agree : (s : Standing) (q : ℕ → Bool) (h : RegH2d) (tag : Option ℕ) (asked : Option Transfer) → ((t : ℕ) → s.is_held t ≡ q t) → queued_decision s h tag asked ≡ queued_decision (record s { is_held = q }) h tag asked
+queued-agree s q h (Some tag) (Some transfer) same = ap (λ (b : Bool). transfer_decision (record s { is_held = λ t. b }) h tag transfer) (same tag)
+queued-agree s q h (Some tag) None same = refl
+queued-agree s q h None asked same = refl
+
 read-agree : (s : Standing) (q : ℕ → Bool) (h : RegH2d) (read : Result (Command × Option ℕ) CommandError) → ((t : ℕ) → s.is_held t ≡ q t) → read_decision s h read ≡ read_decision (record s { is_held = q }) h read
 read-agree s q h (Err e) same = refl
-read-agree s q h (Ok (command, Some tag)) same = ap (λ (b : Bool). transfer_decision (record s { is_held = λ t. b }) h tag (transfer_of command)) (same tag)
-read-agree s q h (Ok (command, None)) same = refl
+read-agree s q h (Ok (command, tag)) same = queued-agree s q h tag (transfer_of command) same
 
 decision-agree : (s : Standing) (q : ℕ → Bool) (fis : List ℕ) → ((t : ℕ) → s.is_held t ≡ q t) → decision s fis ≡ decision (record s { is_held = q }) fis
 decision-agree s q fis same =

@@ -54,12 +54,16 @@ transfer_decision standing h tag transfer =
     else (if not (fits standing.sectors transfer) then queue_failure (Some tag) not_found h None
     else verdict_decision h tag transfer (verdict_of standing.ranges transfer.op transfer.lba transfer.count))
 
+-- A command that is not queued is not served yet.
+abbrev pub queued_decision : Standing → RegH2d → Option ℕ → Option Transfer → Decision
+queued_decision standing h (Some tag) (Some transfer) = transfer_decision standing h tag transfer
+queued_decision standing h _ _ = Refused
+
 -- What was read of a FIS: a queued command that is none fails the queue.
 abbrev pub read_decision : Standing → RegH2d → Result (Command × Option ℕ) CommandError → Decision
 read_decision standing h (Err error) =
     if is_queued h.command then queue_failure (Some (tag_of h)) aborted h None else Refused
-read_decision standing h (Ok (command, Some tag)) = transfer_decision standing h tag (transfer_of command)
-read_decision standing h (Ok (command, None)) = Refused
+read_decision standing h (Ok (command, tag)) = queued_decision standing h tag (transfer_of command)
 
 -- No command, and any command while the queue has failed, change nothing. One that is not queued, beside a held one, fails the queue.
 abbrev pub command_decision : Standing → RegH2d → Decision

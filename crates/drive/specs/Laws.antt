@@ -27,7 +27,7 @@ pub record IsAsked (fis : List ℕ) (transfer : Transfer) (tag : ℕ) : Type 0 w
   pub command : Command
   pub kind : slice_index fis 0 ≡ h2d_type
   pub reads : reading (h2d_at fis) ≡ Ok (command, Some tag)
-  pub moves : transfer_of command ≡ transfer
+  pub moves : transfer_of command ≡ Some transfer
 
 -- The transfer comes to the policy: the queue has not failed, the tag is free, the sectors are on the drive.
 pub record ComesToPolicy (o : Origin) (past : List Event) (transfer : Transfer) (tag : ℕ) : Type 0 where

@@ -1,16 +1,22 @@
 -- Transfers: what moves, and what the media hold then (ACS-3, READ FPDMA QUEUED and WRITE FPDMA QUEUED).
-use Rattle.std.specs.Prelude.{ℕ, ◌+◌, ◌*◌, Bool, nat_le, List, []}
+use Rattle.std.specs.Prelude.{ℕ, ◌+◌, ◌*◌, Bool, nat_le, List, [], Option, Some, None}
 use Rattle.locking.specs.declared.range.Op.{Op}
 use Rattle.locking.specs.declared.range.Op.TheVariants.{Read, Write}
 use Rattle.trusted_cmds.specs.declared.command.Command.{Command}
-use Rattle.trusted_cmds.specs.declared.command.Command.TheVariants.{ReadQueued, WriteQueued}
+use Rattle.trusted_cmds.specs.declared.command.Command.TheVariants.{ReadQueued, WriteQueued, ReadDma, WriteDma}
 use Rattle.shadow_mbr.specs.Stored.{sector_size, sectors_from, sector_after}
 use Rattle.drive.specs.declared.transfer.Transfer.{Transfer}
 
--- The transfer that a command asks for.
-abbrev pub transfer_of : Command → Transfer
-transfer_of (ReadQueued lba count) = record { op = Read; lba = lba; count = count }
-transfer_of (WriteQueued lba count) = record { op = Write; lba = lba; count = count }
+-- The transfer that a command asks for; None where it moves no sectors.
+abbrev pub transfer_by : Op → ℕ → ℕ → Transfer
+transfer_by op lba count = record { op = op; lba = lba; count = count }
+
+abbrev pub transfer_of : Command → Option Transfer
+transfer_of (ReadQueued lba count) = Some (transfer_by Read lba count)
+transfer_of (WriteQueued lba count) = Some (transfer_by Write lba count)
+transfer_of (ReadDma lba count) = Some (transfer_by Read lba count)
+transfer_of (WriteDma lba count) = Some (transfer_by Write lba count)
+transfer_of _ = None
 
 -- The first for a read, the second for a write.
 abbrev pub by_op : {A : Type 0} → Op → A → A → A

@@ -111,10 +111,10 @@ pub(crate) fn decide(
         return queue_failure(None, ABORTED, &h, None);
     }
     match of_fis(&h) {
-        Ok((command, Some(tag))) => {
-            let transfer = Transfer::of(command);
-            transfer_decision(sectors, ranges, queue, &h, tag, transfer)
-        }
+        Ok((command, Some(tag))) => match Transfer::of(command) {
+            Some(transfer) => transfer_decision(sectors, ranges, queue, &h, tag, transfer),
+            None => Decision::Refused,
+        },
         Ok((_, None)) => Decision::Refused,
         Err(_) if is_queued(h.command) => queue_failure(Some(tag_of(&h)), ABORTED, &h, None),
         Err(_) => Decision::Refused,

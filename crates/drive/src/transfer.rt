@@ -57,20 +57,29 @@ impl SectorCount {
 
 impl Transfer {
     ghost use Rattle.std.specs.Prelude.{◌+◌, ◌^◌, ℕ, length, OnOk, OnErr, IfOk};
-    ghost use Rattle.trusted_cmds.specs.Commands.{count_of};
+    ghost use Rattle.trusted_cmds.specs.Commands.{IsCounted};
     ghost use Rattle.shadow_mbr.specs.Stored.{sector_at};
-    ghost use Rattle.drive.specs.Transfer.{transfer_of, size_of, payload_size_of, bytes_of, sector_then, fits};
+    ghost use Rattle.drive.specs.Transfer.{transfer_of, transfer_by, size_of, payload_size_of, bytes_of, sector_then, fits};
 
-    /// The transfer that a command asks for.
-    pub(crate) fn of(command: Command) -> Transfer
-        requires some { 0 < count_of command }
-        requires most { count_of command ≤ most_sectors }
+    /// The transfer that a command asks for; None where it moves no sectors.
+    pub(crate) fn of(command: Command) -> Option<Transfer>
+        requires { IsCounted command }
         ensures { result ≡ transfer_of command }
     {
-        let (op, lba, count) = match command {
-            Command::ReadQueued { lba, count } => (Op::Read, lba, count),
-            Command::WriteQueued { lba, count } => (Op::Write, lba, count),
-        };
+        match command {
+            Command::ReadQueued { lba, count } => Some(Transfer::by(Op::Read, lba, count)),
+            Command::WriteQueued { lba, count } => Some(Transfer::by(Op::Write, lba, count)),
+            Command::ReadDma { lba, count } => Some(Transfer::by(Op::Read, lba, count)),
+            Command::WriteDma { lba, count } => Some(Transfer::by(Op::Write, lba, count)),
+            _ => None,
+        }
+    }
+
+    fn by(op: Op, lba: u64, count: u32) -> Transfer
+        requires some { 0 < count }
+        requires most { count ≤ most_sectors }
+        ensures { result ≡ transfer_by op lba count }
+    {
         Transfer {
             op,
             lba,

@@ -1,5 +1,5 @@
 -- What a line leaves of a run.
-use Rattle.std.proofs.Common.{ℕ, Bool, true, false, List, [], ◌∷◌, OnOk, IfOk, Result, Ok, Err, subst, sym}
+use Rattle.std.proofs.Common.{◌≡◌, ℕ, Bool, true, false, List, [], ◌∷◌, OnOk, IfOk, Result, Ok, Err, subst, sym}
 use Rattle.drive.specs.Opening.{Origin}
 use Rattle.drive.specs.Events.{Event}
 use Rattle.drive.specs.History.{Act, Complete}
@@ -14,6 +14,7 @@ use Rattle.tool.specs.declared.opening.OpeningTurn.TheVariants as openings
 use Rattle.tool.specs.Effects.{RunsOn, Stands, Follows, Does}
 use Rattle.tool.specs.declared.running.Turn.{Turn}
 use Rattle.tool.specs.declared.running.RunningPhase.{RunningPhase}
+use Rattle.trusted_cmds.specs.declared.command.Command.{Command}
 
 following : (held : Bool) (new : RunningPhase) (o : Origin) (acts : List Act) (transfer : Transfer) (byte : ℕ) (made : Event) (before after : Report)
     → Follows held new o acts transfer byte made before after → Stands new
@@ -47,3 +48,8 @@ opened-stands phase (lines.Write transfer byte) (openings.Bad fault) does = tt
 opened-stands phase lines.Expect (openings.Goes next) does = tt
 opened-stands phase lines.Expect (openings.Runs run) does = (origin_of phase, [], does)
 opened-stands phase lines.Expect (openings.Bad fault) does = tt
+
+-- what holds of the command that was made holds of the one that was asked for
+pub of_command : {E : Type 0} (result : Result Turn E) (P : Command → Type 0) (made asked : Command) → made ≡ asked → OnOk result (P made) → IfOk result (λ turn. P asked)
+of_command (Ok turn) P made asked same h = rw (sym same) h
+of_command (Err e) P made asked same h = h

@@ -61,8 +61,8 @@ fn fill(buffer: &mut Vec<u8>, size: usize, byte: u8) -> Result<(), AllocError>
 }
 
 impl RunningPhase {
-    ghost use Rattle.std.specs.Prelude.{◌≡◌, ◌<◌, ◌≤◌, ◌^◌, List, [], IfOk, OnOk, Ok, Err};
-    ghost use Rattle.trusted_cmds.specs.Commands.{lba_of, count_of, most_sectors};
+    ghost use Rattle.std.specs.Prelude.{◌≡◌, ◌<◌, ◌^◌, List, [], IfSome, IfOk, OnOk, Ok, Err};
+    ghost use Rattle.trusted_cmds.specs.Commands.{lba_of, IsCounted};
     ghost use Rattle.script_lines.specs.Lines.{line_of};
     ghost use Rattle.script_lines.specs.declared.line.Line.{Line};
     ghost use Rattle.script_lines.specs.declared.fault.LineFault.{LineFault};
@@ -142,9 +142,8 @@ impl RunningPhase {
 
     /// Gives the drive the FIS of a queued command.
     fn accept(&mut self, command: &Command, tag: Tag) -> Accepted
-        requires address { lba_of command.now < 2 ^ 48 }
-        requires some { 0 < count_of command.now }
-        requires count { count_of command.now ≤ most_sectors }
+        requires address { IfSome (lba_of command.now) (λ lba. lba < 2 ^ 48) }
+        requires counted { IsCounted command.now }
         ensures { (o : Origin) (acts : List Act) → RunsOn self.old o acts
             → Accepts self.new o acts command.now tag result }
     {
@@ -164,9 +163,8 @@ impl RunningPhase {
         byte: u8,
         report: &mut Report,
     ) -> Result<Turn, AllocError>
-        requires address { lba_of command.now < 2 ^ 48 }
-        requires some { 0 < count_of command.now }
-        requires count { count_of command.now ≤ most_sectors }
+        requires address { IfSome (lba_of command.now) (λ lba. lba < 2 ^ 48) }
+        requires counted { IsCounted command.now }
         ensures goes { IfOk result (λ turn. GoesOn (Line.Read transfer.now) turn) }
         ensures does { OnOk result
             ((o : Origin) (acts : List Act) → RunsOn self.old o acts

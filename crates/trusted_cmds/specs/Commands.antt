@@ -1,10 +1,10 @@
 -- Commands, and the FISes that carry them (ACS-3, the commands' tables of inputs).
-use Rattle.std.specs.Prelude.{◌≡◌, ◌≢◌, ℕ, ◌+◌, ◌*◌, ◌/◌, ◌%◌, ◌^◌, ◌<◌, ◌≤◌, ◌==◌, Bool, true, false, not, ◌||◌, Option, Some, None, Result, Ok, Err, if◌then◌else◌}
+use Rattle.std.specs.Prelude.{◌≡◌, ℕ, ◌+◌, ◌*◌, ◌/◌, ◌%◌, ◌<◌, ◌≤◌, ◌==◌, Bool, true, false, not, ◌&&◌, ◌||◌, Option, Some, None, IfSome, Result, Ok, Err, if◌then◌else◌}
 use Rattle.fis.specs.declared.h2d.RegH2d.{RegH2d}
 use Rattle.trusted_cmds.specs.declared.command.Command.{Command}
-use Rattle.trusted_cmds.specs.declared.command.Command.TheVariants.{ReadQueued, WriteQueued}
+use Rattle.trusted_cmds.specs.declared.command.Command.TheVariants.{ReadQueued, WriteQueued, ReadDma, WriteDma, Send, Receive, Identify, ReadLog10, Flush}
 use Rattle.trusted_cmds.specs.declared.command.CommandError.{CommandError}
-use Rattle.trusted_cmds.specs.declared.command.CommandError.TheVariants.{Unknown, NotCommand, Device}
+use Rattle.trusted_cmds.specs.declared.command.CommandError.TheVariants.{Unknown, NotCommand, LogPage, Device}
 
 -- The codes of the commands (ACS-3, "Command codes").
 abbrev pub read_queued : ℕ
@@ -13,14 +13,35 @@ read_queued = 0x60
 abbrev pub write_queued : ℕ
 write_queued = 0x61
 
+abbrev pub read_dma : ℕ
+read_dma = 0x25
+
 abbrev pub write_dma : ℕ
 write_dma = 0x35
+
+abbrev pub trusted_receive : ℕ
+trusted_receive = 0x5c
+
+abbrev pub trusted_receive_dma : ℕ
+trusted_receive_dma = 0x5d
 
 abbrev pub trusted_send : ℕ
 trusted_send = 0x5e
 
 abbrev pub trusted_send_dma : ℕ
 trusted_send_dma = 0x5f
+
+abbrev pub read_log : ℕ
+read_log = 0x2f
+
+abbrev pub read_log_dma : ℕ
+read_log_dma = 0x47
+
+abbrev pub identify_device : ℕ
+identify_device = 0xec
+
+abbrev pub flush_cache : ℕ
+flush_cache = 0xea
 
 -- how many bytes a sector has, and a block of a trusted command
 abbrev pub sector_size : ℕ
@@ -41,9 +62,51 @@ lba_device = 0x40
 abbrev pub has_lba_bit : ℕ → Bool
 has_lba_bit device = device / lba_device % 2 == 1
 
--- The codes of the queued commands.
+-- The codes of the queued commands, of those that move sectors, and of the trusted ones.
 abbrev pub is_queued : ℕ → Bool
 is_queued code = code == read_queued || code == write_queued
+
+abbrev pub is_transfer : ℕ → Bool
+is_transfer code = is_queued code || code == read_dma || code == write_dma
+
+abbrev pub is_send : ℕ → Bool
+is_send code = code == trusted_send || code == trusted_send_dma
+
+abbrev pub is_receive : ℕ → Bool
+is_receive code = code == trusted_receive || code == trusted_receive_dma
+
+abbrev pub is_log_read : ℕ → Bool
+is_log_read code = code == read_log || code == read_log_dma
+
+abbrev pub is_known : ℕ → Bool
+is_known code =
+    is_transfer code || is_send code || is_receive code || is_log_read code
+    || code == identify_device || code == flush_cache
+
+-- The one log page that the drive has, the NCQ Command Error log: its address in LBA 7:0, page number 0 in LBA 15:8
+-- and 39:32, and one page (ACS-3, READ LOG EXT).
+abbrev pub error_log_address : ℕ
+error_log_address = 0x10
+
+abbrev pub names_error_log : RegH2d → Bool
+names_error_log h =
+    h.lba % 256 == error_log_address && h.lba / 256 % 256 == 0
+    && h.lba / 0x100000000 % 256 == 0 && h.count == 1
+
+-- A trusted command: its protocol in Feature 7:0, its SP Specific field (a ComID) in LBA 23:8, and the number of its
+-- blocks with the low byte in Count 7:0, the high byte in LBA 7:0.
+abbrev pub protocol_of : RegH2d → ℕ
+protocol_of h = h.feature % 256
+
+abbrev pub sp_specific_of : RegH2d → ℕ
+sp_specific_of h = h.lba / 256 % 65536
+
+abbrev pub blocks : RegH2d → ℕ
+blocks h = h.count % 256 + 256 * (h.lba % 256)
+
+-- The tag of a queued command: bits 7 to 3 of Count.
+abbrev pub tag_of : RegH2d → ℕ
+tag_of h = h.count / 8 % 32
 
 -- What a queued transfer has in its fields.
 pub record IsQueued (h : RegH2d) (code first sectors_asked slot : ℕ) : Type 0 where
@@ -51,80 +114,165 @@ pub record IsQueued (h : RegH2d) (code first sectors_asked slot : ℕ) : Type 0 
   pub command : h.command ≡ code
   pub lba : h.lba ≡ first
   pub count : sectors h.feature ≡ sectors_asked
-  pub tag : h.count / 8 % 32 ≡ slot
+  pub tag : tag_of h ≡ slot
   pub device : has_lba_bit h.device ≡ true
 
--- The FIS carries the command, with this tag.
+-- What a transfer has that is not queued.
+pub record IsUnqueued (h : RegH2d) (code first sectors_asked : ℕ) : Type 0 where
+  pub is_command : h.is_command ≡ true
+  pub command : h.command ≡ code
+  pub lba : h.lba ≡ first
+  pub count : sectors h.count ≡ sectors_asked
+  pub device : has_lba_bit h.device ≡ true
+
+-- What a trusted command has.
+pub record IsTrusted (h : RegH2d) (code protocol sp_specific blocks_asked : ℕ) : Type 0 where
+  pub is_command : h.is_command ≡ true
+  pub command : h.command ≡ code
+  pub protocol_field : protocol_of h ≡ protocol
+  pub sp_specific_field : sp_specific_of h ≡ sp_specific
+  pub count : blocks h ≡ blocks_asked
+
+-- What a read of the log page has.
+pub record IsLogRead (h : RegH2d) (code : ℕ) : Type 0 where
+  pub is_command : h.is_command ≡ true
+  pub command : h.command ≡ code
+  pub page : names_error_log h ≡ true
+
+-- What a command without fields has.
+pub record IsPlain (h : RegH2d) (code : ℕ) : Type 0 where
+  pub is_command : h.is_command ≡ true
+  pub command : h.command ≡ code
+
+-- The first code, or the second, which is that of the form by DMA.
+abbrev pub by_dma : Bool → ℕ → ℕ → ℕ
+by_dma dma pio_code dma_code = if dma then dma_code else pio_code
+
+-- The FIS carries the command, with this tag where it is queued.
 abbrev pub Carries : RegH2d → Command → Option ℕ → Type 0
 Carries h (ReadQueued lba count) (Some tag) = IsQueued h read_queued lba count tag
 Carries h (WriteQueued lba count) (Some tag) = IsQueued h write_queued lba count tag
-Carries h (ReadQueued lba count) None = ⊥
-Carries h (WriteQueued lba count) None = ⊥
+Carries h (ReadDma lba count) None = IsUnqueued h read_dma lba count
+Carries h (WriteDma lba count) None = IsUnqueued h write_dma lba count
+Carries h (Send protocol sp_specific count dma) None =
+    IsTrusted h (by_dma dma trusted_send trusted_send_dma) protocol sp_specific count
+Carries h (Receive protocol sp_specific count dma) None =
+    IsTrusted h (by_dma dma trusted_receive trusted_receive_dma) protocol sp_specific count
+Carries h Identify None = IsPlain h identify_device
+Carries h (ReadLog10 dma) None = IsLogRead h (by_dma dma read_log read_log_dma)
+Carries h Flush None = IsPlain h flush_cache
+Carries h _ _ = ⊥
 
 -- The first thing that is wrong with a FIS, if something is.
 abbrev pub fault_of : RegH2d → Option CommandError
 fault_of h =
     if not h.is_command then Some NotCommand
-    else (if not (is_queued h.command) then Some Unknown
-    else (if not (has_lba_bit h.device) then Some Device else None))
+    else (if not (is_known h.command) then Some Unknown
+    else (if is_transfer h.command && not (has_lba_bit h.device) then Some Device
+    else (if is_log_read h.command && not (names_error_log h) then Some LogPage else None)))
 
--- The command of a FIS that has no fault.
+-- The command of a FIS that has no fault, and its tag.
+abbrev pub command_without_sectors : RegH2d → Command
+command_without_sectors h =
+    if is_send h.command
+    then Send (protocol_of h) (sp_specific_of h) (blocks h) (h.command == trusted_send_dma)
+    else (if is_receive h.command
+    then Receive (protocol_of h) (sp_specific_of h) (blocks h) (h.command == trusted_receive_dma)
+    else (if is_log_read h.command then ReadLog10 (h.command == read_log_dma)
+    else (if h.command == identify_device then Identify else Flush)))
+
 abbrev pub command_of : RegH2d → Command
 command_of h =
     if h.command == read_queued then ReadQueued h.lba (sectors h.feature)
-    else WriteQueued h.lba (sectors h.feature)
+    else (if h.command == write_queued then WriteQueued h.lba (sectors h.feature)
+    else (if h.command == read_dma then ReadDma h.lba (sectors h.count)
+    else (if h.command == write_dma then WriteDma h.lba (sectors h.count)
+    else command_without_sectors h)))
 
--- The tag of a queued command: bits 7 to 3 of Count.
-abbrev pub tag_of : RegH2d → ℕ
-tag_of h = h.count / 8 % 32
+abbrev pub tag_in : RegH2d → Option ℕ
+tag_in h = if is_queued h.command then Some (tag_of h) else None
 
 abbrev pub read_unless : Option CommandError → RegH2d → Result (Command × Option ℕ) CommandError
 read_unless (Some e) h = Err e
-read_unless None h = Ok (command_of h, Some (tag_of h))
+read_unless None h = Ok (command_of h, tag_in h)
 
 -- What a reader gives, as a function of the FIS.
 abbrev pub reading : RegH2d → Result (Command × Option ℕ) CommandError
 reading h = read_unless (fault_of h) h
 
--- How many sectors the command moves.
-abbrev pub count_of : Command → ℕ
-count_of (ReadQueued lba count) = count
-count_of (WriteQueued lba count) = count
+-- How many sectors the command moves, and the first of them; None where it moves none.
+abbrev pub count_of : Command → Option ℕ
+count_of (ReadQueued lba count) = Some count
+count_of (WriteQueued lba count) = Some count
+count_of (ReadDma lba count) = Some count
+count_of (WriteDma lba count) = Some count
+count_of _ = None
 
--- The first sector that the command moves.
-abbrev pub lba_of : Command → ℕ
-lba_of (ReadQueued lba count) = lba
-lba_of (WriteQueued lba count) = lba
+abbrev pub lba_of : Command → Option ℕ
+lba_of (ReadQueued lba count) = Some lba
+lba_of (WriteQueued lba count) = Some lba
+lba_of (ReadDma lba count) = Some lba
+lba_of (WriteDma lba count) = Some lba
+lba_of _ = None
+
+-- One sector at least, and not more than a count field can ask for.
+abbrev pub IsCount : ℕ → Type 0
+IsCount count = (0 < count) × (count ≤ most_sectors)
+
+abbrev pub IsCounted : Command → Type 0
+IsCounted command = IfSome (count_of command) IsCount
 
 -- The count field that stands for so many sectors.
 abbrev pub sectors_field : ℕ → ℕ
 sectors_field count = if count == most_sectors then 0 else count
 
--- The FIS of a queued transfer: the count of sectors stands in Feature, the tag in bits 7 to 3 of Count.
-abbrev pub queued_fis : ℕ → ℕ → ℕ → ℕ → RegH2d
-queued_fis code lba count tag = record {
+-- A FIS with these fields, and zeros in those that no command has.
+abbrev pub fis_with : ℕ → ℕ → ℕ → ℕ → ℕ → RegH2d
+fis_with code feature_field lba_field device_field count_field = record {
   is_command = true;
   port = 0;
   command = code;
-  feature = sectors_field count;
-  lba = lba;
-  device = lba_device;
-  count = 8 * tag;
+  feature = feature_field;
+  lba = lba_field;
+  device = device_field;
+  count = count_field;
   icc = 0;
   control = 0;
 }
+
+-- A queued transfer has its sectors in Feature and its tag in bits 7 to 3 of Count; another one has them in Count.
+abbrev pub queued_fis : ℕ → ℕ → ℕ → ℕ → RegH2d
+queued_fis code lba count tag = fis_with code (sectors_field count) lba lba_device (8 * tag)
+
+abbrev pub unqueued_fis : ℕ → ℕ → ℕ → RegH2d
+unqueued_fis code lba count = fis_with code 0 lba lba_device (sectors_field count)
+
+abbrev pub trusted_fis : ℕ → ℕ → ℕ → ℕ → RegH2d
+trusted_fis code protocol sp_specific count =
+    fis_with code protocol (count / 256 + 256 * sp_specific) 0 (count % 256)
 
 -- The writer's spelling of a command under a tag.
 abbrev pub fis_of : Command → ℕ → RegH2d
 fis_of (ReadQueued lba count) tag = queued_fis read_queued lba count tag
 fis_of (WriteQueued lba count) tag = queued_fis write_queued lba count tag
+fis_of (ReadDma lba count) tag = unqueued_fis read_dma lba count
+fis_of (WriteDma lba count) tag = unqueued_fis write_dma lba count
+fis_of (Send protocol sp_specific count dma) tag =
+    trusted_fis (by_dma dma trusted_send trusted_send_dma) protocol sp_specific count
+fis_of (Receive protocol sp_specific count dma) tag =
+    trusted_fis (by_dma dma trusted_receive trusted_receive_dma) protocol sp_specific count
+fis_of Identify tag = fis_with identify_device 0 0 0 0
+fis_of (ReadLog10 dma) tag = fis_with (by_dma dma read_log read_log_dma) 0 error_log_address 0 1
+fis_of Flush tag = fis_with flush_cache 0 0 0 0
 
--- The blocks of a trusted command: the low byte of their number stands in Count 7:0, the high byte in LBA 7:0.
-abbrev pub blocks : RegH2d → ℕ
-blocks h = h.count % 256 + 256 * (h.lba % 256)
+-- The tag that a command is read back with: only a queued one has it.
+abbrev pub tag_with : Command → ℕ → Option ℕ
+tag_with (ReadQueued lba count) tag = Some tag
+tag_with (WriteQueued lba count) tag = Some tag
+tag_with _ tag = None
 
 -- How many bytes come with a command that is not queued: WRITE DMA EXT, TRUSTED SEND, TRUSTED SEND DMA.
 abbrev pub payload_length : RegH2d → ℕ
 payload_length h =
     if h.command == write_dma then sector_size * sectors h.count
-    else (if h.command == trusted_send || h.command == trusted_send_dma then sector_size * blocks h else 0)
+    else (if is_send h.command then sector_size * blocks h else 0)

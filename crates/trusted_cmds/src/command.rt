@@ -2,16 +2,41 @@
 
 use thiserror::Error;
 
-/// A command of the drive. Addresses are below 2^48; counts are of sectors, 1 to 65,536.
+/// A command of the drive. Addresses are below 2^48; counts are of sectors, 1 to 65,536; a block has 512 bytes. `dma`
+/// tells the form whose data go by DMA from the one whose data go by PIO.
 #[derive(Clone, Copy, Debug, PartialEq, Eq)]
 pub enum Command {
     /// READ FPDMA QUEUED (ACS-3, "READ FPDMA QUEUED").
     ReadQueued { lba: u64, count: u32 },
     /// WRITE FPDMA QUEUED (ACS-3, "WRITE FPDMA QUEUED").
     WriteQueued { lba: u64, count: u32 },
+    /// READ DMA EXT (ACS-3, "READ DMA EXT").
+    ReadDma { lba: u64, count: u32 },
+    /// WRITE DMA EXT (ACS-3, "WRITE DMA EXT").
+    WriteDma { lba: u64, count: u32 },
+    /// TRUSTED SEND and TRUSTED SEND DMA (ACS-3, "TRUSTED SEND"): the SP Specific field is a ComID.
+    Send {
+        protocol: u8,
+        sp_specific: u16,
+        blocks: u16,
+        dma: bool,
+    },
+    /// TRUSTED RECEIVE and TRUSTED RECEIVE DMA (ACS-3, "TRUSTED RECEIVE").
+    Receive {
+        protocol: u8,
+        sp_specific: u16,
+        blocks: u16,
+        dma: bool,
+    },
+    /// IDENTIFY DEVICE (ACS-3, "IDENTIFY DEVICE").
+    Identify,
+    /// READ LOG EXT and READ LOG DMA EXT of the NCQ Command Error log, address 10h (ACS-3, "READ LOG EXT").
+    ReadLog10 { dma: bool },
+    /// FLUSH CACHE EXT (ACS-3, "FLUSH CACHE EXT").
+    Flush,
 }
 
-/// Why a FIS is no command: `NotCommand` is told first, then `Unknown`, then `Device`.
+/// Why a FIS is no command of the drive: `NotCommand` is told first, then `Unknown`, `Device`, `LogPage`.
 #[derive(Clone, Copy, Debug, PartialEq, Eq, Error)]
 pub enum CommandError {
     /// The command code is none that the drive knows.
@@ -20,25 +45,10 @@ pub enum CommandError {
     /// Bit C of the FIS is clear: it carries the Control register.
     #[error("the FIS carries no command")]
     NotCommand,
+    /// The log, its page or the number of pages is not the one that the drive has.
+    #[error("the drive has no such log page")]
+    LogPage,
     /// Bit 6 of the Device field is clear, where the command wants it set.
     #[error("bit 6 of Device is clear")]
     Device,
 }
-
-/// READ FPDMA QUEUED (ACS-3).
-pub(crate) const READ_QUEUED: u8 = 0x60;
-
-/// WRITE FPDMA QUEUED (ACS-3).
-pub(crate) const WRITE_QUEUED: u8 = 0x61;
-
-/// WRITE DMA EXT (ACS-3).
-pub(crate) const WRITE_DMA: u8 = 0x35;
-
-/// TRUSTED SEND (ACS-3).
-pub(crate) const TRUSTED_SEND: u8 = 0x5e;
-
-/// TRUSTED SEND DMA (ACS-3).
-pub(crate) const TRUSTED_SEND_DMA: u8 = 0x5f;
-
-/// How many sectors a command moves at most.
-pub(crate) const MOST_SECTORS: u32 = 65_536;

@@ -1,10 +1,16 @@
 //! ATA commands of a self-locking drive, and the FISes that carry them (ACS-3).
 #![tactic(auto)]
 
+mod codes;
 mod command;
-mod convert;
+mod fields;
 mod payload;
+mod reading;
+mod spelling;
 
+pub use codes::is_queued;
 pub use command::{Command, CommandError};
-pub use convert::{is_queued, of_fis, sectors, tag_of, to_fis};
+pub use fields::{sectors, tag_of};
 pub use payload::{SECTOR_SIZE, payload_len};
+pub use reading::of_fis;
+pub use spelling::to_fis;

@@ -1,25 +1,15 @@
 //! How much data comes with a command.
 
-ghost use Rattle.std.specs.Prelude.{◌≡◌, ◌≤◌, ◌%◌};
-ghost use Rattle.trusted_cmds.specs.Commands.{sectors, blocks, payload_length};
+ghost use Rattle.std.specs.Prelude.{◌≡◌};
+ghost use Rattle.trusted_cmds.specs.Commands.{payload_length};
 ghost use Rattle.fis.specs.declared.h2d.RegH2d.{RegH2d};
 
-use crate::command::{TRUSTED_SEND, TRUSTED_SEND_DMA, WRITE_DMA};
-use crate::convert::sectors;
+use crate::codes::{TRUSTED_SEND, TRUSTED_SEND_DMA, WRITE_DMA};
+use crate::fields::{blocks, sectors};
 use fis::RegH2d;
 
 /// How many bytes a sector has, and a block of a trusted command.
 pub const SECTOR_SIZE: usize = 512;
-
-/// The blocks of a trusted command: their number has its low byte in Count, its high byte in LBA.
-fn blocks(h: &RegH2d) -> u32
-    ensures value { result ≡ blocks h.now }
-    ensures fits { result ≤ 65535 }
-{
-    let low = u32::from(h.count & 0xff);
-    let high = (h.lba.number() & 0xff) as u32;
-    low + 256 * high
-}
 
 /// How many bytes come with an unqueued command: 512 for each sector of WRITE DMA EXT and for each
 /// block of TRUSTED SEND, else none. The command code alone tells which it is, whatever the C bit
@@ -29,8 +19,8 @@ pub fn payload_len(h: &RegH2d) -> usize
 {
     match h.command {
         WRITE_DMA => SECTOR_SIZE * sectors(h.count) as usize,
-        TRUSTED_SEND => SECTOR_SIZE * blocks(h) as usize,
-        TRUSTED_SEND_DMA => SECTOR_SIZE * blocks(h) as usize,
+        TRUSTED_SEND => SECTOR_SIZE * usize::from(blocks(h)),
+        TRUSTED_SEND_DMA => SECTOR_SIZE * usize::from(blocks(h)),
         _ => 0,
     }
 }
