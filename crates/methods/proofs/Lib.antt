@@ -2,3 +2,4 @@ pub mod SettingLemmas
 pub mod CaseLemmas
 pub mod EffectLemmas
 pub mod ListLemmas
+pub mod ObjectLemmas

@@ -1,12 +1,12 @@
 //! The handlers of granted calls. In each, all that can fail comes before the first change.
 
 ghost use Rattle.std.specs.Prelude.{◌≡◌, ◌==◌, ◌↔◌, ◌+◌, ◌*◌, ◌≤◌, ◌<◌, ◌-◌, length, ℕ, Err, [], ◌∷◌, Some, None, true, false, not, is_some, option_map, IfOk, OnOk, OnErr, IfErr, if◌then◌else◌};
-ghost use Rattle.sessions.specs.Live.{session_at, holder_on};
+ghost use Rattle.sessions.specs.Live.{session_at};
 ghost use Rattle.methods.specs.Kinds.{kind_of as kind_of_object};
 ghost use Rattle.methods.specs.Said.{said_seen, said_attempt};
 ghost use Rattle.methods.specs.Settings.{setting};
 ghost use Rattle.methods.specs.Changes.{setting_seen};
-ghost use Rattle.methods.specs.Effects.{columns_said, bytes_said, bytes_from, seen_by, held_of, to_set, valid_setting, set_said, set_stored, is_inside, unless_inside, stored_unless, ended_unless, sp_of_row as sp_of};
+ghost use Rattle.methods.specs.Effects.{columns_said, bytes_said, bytes_from, seen_by, holder_of, held_in, to_set, valid_setting, set_said, set_stored, is_inside, unless_inside, stored_unless, ended_unless, sp_of_row as sp_of};
 ghost use Rattle.methods.specs.Cases.{has_case};
 ghost use Rattle.methods.specs.Said.{says};
 ghost use Rattle.sp_cells.specs.Names.{set};
@@ -58,8 +58,8 @@ pub(crate) fn read_cells(
     first: u64,
     last: u64,
 ) -> Result<Outcome, MethodFault>
-    ensures outcome { IfOk result (λ out. said_seen out ≡ columns_said (seen_by store.now session) session.sp object first last (held_of (holder_on session.sp (session_at sessions.now session.tsn)))) }
-    ensures no_session { (result ≡ Err faults.NoSession) ↔ (holder_on session.sp (session_at sessions.now session.tsn) ≡ None) }
+    ensures outcome { IfOk result (λ out. said_seen out ≡ columns_said (seen_by store.now session) session.sp object first last (held_in sessions.now session)) }
+    ensures no_session { (result ≡ Err faults.NoSession) ↔ (holder_of sessions.now session ≡ None) }
 {
     let Some(held) = sessions.authorities(session) else {
         return Err(MethodFault::NoSession);
@@ -162,7 +162,7 @@ pub(crate) fn write(
     let Some(change) = check_set(alloc, &store.view(session), session.sp, object, ask)? else {
         return Ok(refused(alloc, status::INVALID_PARAMETER, None));
     };
-    if apply_set(store, session, object, &change)? {
+    if apply_set(store, session, &change)? {
         Ok(said(Vec::new(alloc), None, false))
     } else {
         Ok(refused(alloc, status::INVALID_PARAMETER, None))
