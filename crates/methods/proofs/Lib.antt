@@ -3,3 +3,5 @@ pub mod CaseLemmas
 pub mod EffectLemmas
 pub mod ListLemmas
 pub mod ObjectLemmas
+pub mod GrantLaws
+pub mod ListLaws

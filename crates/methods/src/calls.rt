@@ -84,15 +84,22 @@ fn perform(
     object: Uid,
     ask: &Ask,
 ) -> Result<Outcome, MethodFault>
-    ensures outcome { IfOk result (λ out. said_seen out ≡ said_ask store.old session object (held_in sessions.old session) (ask_at session.sp object ask.now)) }
-    ensures store { OnOk result (store.new ≡ stored_ask store.old session object (ask_at session.sp object ask.now)) }
-    ensures points { OnOk result ((n : ℕ) → session_at sessions.new n ≡ holder_ask store.old session object (ask_at session.sp object ask.now) n (session_at sessions.old n)) }
+    ensures outcome { IfOk result (λ out. said_seen out
+        ≡ said_ask store.old session object (held_in sessions.old session)
+        (ask_at session.sp object ask.now)) }
+    ensures store { OnOk result (store.new
+        ≡ stored_ask store.old session object (ask_at session.sp object ask.now)) }
+    ensures points { OnOk result ((n : ℕ) → session_at sessions.new n
+        ≡ holder_ask store.old session object (ask_at session.sp object ask.now)
+        n (session_at sessions.old n)) }
     ensures next { OnOk result (sessions.new.next ≡ sessions.old.next) }
     ensures err_store { OnErr result (store.new ≡ store.old) }
     ensures err_sessions { OnErr result (sessions.new ≡ sessions.old) }
     ensures no_session { (result ≡ Err faults.NoSession) → (holder_of sessions.old session ≡ None) }
 {
-    method_cases!(call_arms (kind_of(session.sp, object), ask, alloc, (alloc store sessions session object ask)))
+    method_cases!(call_arms(
+        kind_of(session.sp, object), ask, alloc, (alloc store sessions session object ask)
+    ))
 }
 
 /// Why a call is denied in a session, by what it sees and what it holds.
@@ -104,7 +111,9 @@ fn denied_in(
     method: Uid,
     ask: &Ask,
 ) -> Option<Why>
-    ensures { result ≡ denied_by (seen_by store.now session) session.sp object method (held_in sessions.now session) ask.now }
+    ensures { result
+        ≡ denied_by (seen_by store.now session) session.sp object method
+        (held_in sessions.now session) ask.now }
 {
     match sessions.authorities(session) {
         Some(held) => denied(&store.view(session), session.sp, object, method, held, ask),
@@ -129,9 +138,13 @@ fn call_asked(
     method: Uid,
     ask: &Ask,
 ) -> Result<Outcome, MethodFault>
-    ensures outcome { IfOk result (λ out. said_seen out ≡ said_call store.old (called_by sessions.old session object method (Some ask.now))) }
-    ensures store { OnOk result (store.new ≡ stored_call store.old (called_by sessions.old session object method (Some ask.now))) }
-    ensures points { OnOk result ((n : ℕ) → session_at sessions.new n ≡ holder_call store.old (called_by sessions.old session object method (Some ask.now)) n (session_at sessions.old n)) }
+    ensures outcome { IfOk result (λ out. said_seen out
+        ≡ said_call store.old (called_by sessions.old session object method (Some ask.now))) }
+    ensures store { OnOk result (store.new
+        ≡ stored_call store.old (called_by sessions.old session object method (Some ask.now))) }
+    ensures points { OnOk result ((n : ℕ) → session_at sessions.new n
+        ≡ holder_call store.old (called_by sessions.old session object method (Some ask.now))
+        n (session_at sessions.old n)) }
     ensures next { OnOk result (sessions.new.next ≡ sessions.old.next) }
     ensures err_store { OnErr result (store.new ≡ store.old) }
     ensures err_sessions { OnErr result (sessions.new ≡ sessions.old) }
@@ -153,9 +166,15 @@ fn called(
     method: Uid,
     args: &[Value],
 ) -> Result<Outcome, MethodFault>
-    ensures outcome { IfOk result (λ out. said_seen out ≡ said_call store.old (called_with sessions.old session object method (map tree args.now))) }
-    ensures store { OnOk result (store.new ≡ stored_call store.old (called_with sessions.old session object method (map tree args.now))) }
-    ensures points { OnOk result ((n : ℕ) → session_at sessions.new n ≡ holder_call store.old (called_with sessions.old session object method (map tree args.now)) n (session_at sessions.old n)) }
+    ensures outcome { IfOk result (λ out. said_seen out
+        ≡ said_call store.old
+        (called_with sessions.old session object method (map tree args.now))) }
+    ensures store { OnOk result (store.new
+        ≡ stored_call store.old
+        (called_with sessions.old session object method (map tree args.now))) }
+    ensures points { OnOk result ((n : ℕ) → session_at sessions.new n
+        ≡ holder_call store.old (called_with sessions.old session object method (map tree args.now))
+        n (session_at sessions.old n)) }
     ensures next { OnOk result (sessions.new.next ≡ sessions.old.next) }
     ensures err_store { OnErr result (store.new ≡ store.old) }
     ensures err_sessions { OnErr result (sessions.new ≡ sessions.old) }
@@ -179,9 +198,13 @@ pub fn invoke(
     session: SessionId,
     call: &Call,
 ) -> Result<Outcome, MethodFault>
-    ensures outcome { IfOk result (λ out. said_seen out ≡ said_call store.old (call_in sessions.old session call.now)) }
-    ensures store { OnOk result (store.new ≡ stored_call store.old (call_in sessions.old session call.now)) }
-    ensures points { OnOk result ((n : ℕ) → session_at sessions.new n ≡ holder_call store.old (call_in sessions.old session call.now) n (session_at sessions.old n)) }
+    ensures outcome { IfOk result (λ out. said_seen out
+        ≡ said_call store.old (call_in sessions.old session call.now)) }
+    ensures store { OnOk result (store.new
+        ≡ stored_call store.old (call_in sessions.old session call.now)) }
+    ensures points { OnOk result ((n : ℕ) → session_at sessions.new n
+        ≡ holder_call store.old (call_in sessions.old session call.now)
+        n (session_at sessions.old n)) }
     ensures next { OnOk result (sessions.new.next ≡ sessions.old.next) }
     ensures err_store { OnErr result (store.new ≡ store.old) }
     ensures err_sessions { OnErr result (sessions.new ≡ sessions.old) }

@@ -63,7 +63,9 @@ fn show<R: Rows>(
     column: Column,
     values: &mut Vec<Value>,
 ) -> Result<(), AllocError>
-    ensures { OnOk result (map tree values.new.items ≡ map tree values.old.items ++ map cell_value (shown column (R.look_up rows.now sp object column))) }
+    ensures { OnOk result (map tree values.new.items
+        ≡ map tree values.old.items
+        ++ map cell_value (shown column (R.look_up rows.now sp object column))) }
 {
     if let Some(cell) = rows.cell(sp, object, column) {
         let value = value_of(alloc, cell)?;
@@ -86,7 +88,8 @@ fn list_each<R: Rows>(
     columns: &[(Column, ColumnType)],
 ) -> Result<Vec<Value>, AllocError>
     ensures { IfOk result (λ vs. map tree vs.items
-        ≡ map cell_value (listed_among (R.look_up rows.now) sp object first last held.now (columns_in columns.now))) }
+        ≡ map cell_value (listed_among (R.look_up rows.now) sp object first last held.now
+        (columns_in columns.now))) }
 {
     let mut values = Vec::new(alloc);
     for (column, _) in columns {
