@@ -1,0 +1,337 @@
+-- Which deed an item can do, and what follows for open transactions.
+use Rattle.std.proofs.Common.{◌≡◌, ℕ, ◌==◌, ◌+◌, Bool, true, false, not, List, [], ◌∷◌, Option, Some, None, refl, sym, ◌∙◌, ap, cond, inl, inr, eqb-true, eq-eqb}
+use Rattle.std.specs.Prelude.{is_some, nat_le, nat_lt, zero, suc, unwrap_or, length, Result, Ok, Err}
+use Rattle.sp_cells.specs.declared.names.Uid.{Uid}
+use Rattle.sp_cells.specs.declared.names.Sp.{Sp}
+use Rattle.sp_cells.specs.declared.names.Sp.TheVariants.{Admin, Locking}
+use Rattle.sp_cells.specs.declared.names.Column.{Column}
+use Rattle.sp_cells.specs.declared.cells.Cell.{Cell}
+use Rattle.sp_cells.specs.declared.error.SetError.{SetError}
+use Rattle.sp_cells.specs.Names.{set, activate, revert, c_pin_sid}
+use Rattle.ace_eval.specs.Aces.{acl_at}
+use Rattle.audit.specs.declared.reason.AttemptFailure.{AttemptFailure}
+use Rattle.audit.specs.declared.reason.Why.{Why}
+use Rattle.tcg_tokens.specs.declared.error.TokenError.{TokenError}
+use Rattle.tcg_tokens.specs.Message.{Message, call, reply, end_session, begin, end}
+use Rattle.tcg_tokens.specs.Tree.{Tree, Trees}
+use Rattle.history.specs.Opening.{Opening}
+use Rattle.history.specs.TransactionsChanges.{Change, Mbr}
+use Rattle.sp_cells.specs.Flat.{sp_eq}
+use Rattle.sp_cells.specs.ColumnNames.{pin_column}
+use Rattle.history.specs.SessionsAttempts.{failure_of, bytes_in}
+use Rattle.history.specs.SessionsArguments.{uid_from}
+use Rattle.history.specs.SessionsReplies.{properties, start_session, properties_told, properties_refused, refusal, fail}
+use Rattle.history.specs.SessionsStarts.{Begun, StartCall, start_call, is_properties, is_manufactured, is_session_number, sp_of, Start, NotBegun, FailedOn, BeginsOn, by_attempt, start_on, start_of}
+use Rattle.history.specs.MethodsValues.{cells_of}
+use Rattle.history.specs.MethodsAsks.{Ask, GetCells, GetBytes, SetCells, SetBytes, Authenticate, Activate, Revert, Other, asked}
+use Rattle.history.specs.MethodsJudge.{Standing, Judgement, Refused, Gives, Makes, Attempts, Activates, Reverts, denial_by, denial, unless_open, reverted_sp, set_unless, sets, gives, listing, bytes_between, does, unless_denied, judged}
+use Rattle.history.specs.Events.{SessionDeed, Unchanged, Started, Tried, Changed, Began, Committed, Aborted, Ended, Activated, Reverted, Deed, Nothing, InSession, OfQueue, Wrote, Took, WasReset, Event}
+use Rattle.history.specs.Readers.{living, lives_by, restores, session_on, next_number, open_on, is_of, in_force}
+use Rattle.history.specs.Facts.{facts, shadow_bytes, lives, has_open, standing}
+use Rattle.history.specs.Decisions.{Outcome, says, tried_in, started_by, started, is_method_of_manager, to_manager, outcome_of, judgement_on, begins_on, ended_by, ends_on, in_session}
+use Rattle.history.specs.Deeds.{IsIn, is_of_row, CanDo, DeedLaw}
+use Rattle.history.proofs.Words.{latest-here, latest-skip, sp-is}
+use Rattle.history.proofs.Items.{item-from}
+use Rattle.history.proofs.Asked.{is_own, asked-own, activate-admin, revert-admin, set-c_pin_sid}
+
+-- the kinds of judgements, a refusal being 0, and of asks
+abbrev kind : Judgement → ℕ
+kind (Refused status denied) = 0
+kind (Gives results) = 1
+kind (Makes change) = 2
+kind (Attempts authority pin) = 3
+kind Activates = 4
+kind (Reverts sp) = 5
+
+abbrev kind_of : Ask → ℕ
+kind_of (GetCells first last) = 1
+kind_of (GetBytes first last) = 1
+kind_of (SetCells values) = 2
+kind_of (SetBytes at content) = 2
+kind_of (Authenticate authority pin) = 3
+kind_of Activate = 4
+kind_of Revert = 5
+kind_of Other = 0
+
+zero-one : {k : ℕ} → 0 ≡ suc k → ⊥
+zero-one h = cc
+
+kind-if : (b : Bool) (x y : Judgement) (k n : ℕ) → kind y ≡ 0 → (kind x ≡ suc k → n ≡ suc k) → kind (cond b x y) ≡ suc k → n ≡ suc k
+kind-if true x y k n z h g = h g
+kind-if false x y k n z h g = absurd (zero-one (sym z ∙ g))
+
+gives-kind : (t : Tree) (k : ℕ) → kind (gives t) ≡ suc k → 1 ≡ suc k
+gives-kind t k h = kind-if _ (Gives _) (Refused 0x11 None) k 1 refl (λ g. g) h
+
+set-kind : (fault : Option SetError) (object : Uid) (cells : List (Column × Cell)) (k : ℕ) → kind (set_unless fault object cells) ≡ suc k → 2 ≡ suc k
+set-kind None object cells k h = h
+set-kind (Some fault) object cells k h = absurd (zero-one h)
+
+sets-kind : (s : Standing) (object : Uid) (cells : Option (List (Column × Cell))) (k : ℕ) → kind (sets s object cells) ≡ suc k → 2 ≡ suc k
+sets-kind s object None k h = absurd (zero-one h)
+sets-kind s object (Some cells) k h = set-kind _ object cells k h
+
+open-kind : (b : Bool) (j : Judgement) (k : ℕ) → kind (unless_open b j) ≡ suc k → (kind j ≡ suc k) × (b ≡ false)
+open-kind true j k h = absurd (zero-one h)
+open-kind false j k h = (h, refl)
+
+does-kind : (s : Standing) (object : Uid) (ask : Ask) (k : ℕ) → kind (does s object ask) ≡ suc k → kind_of ask ≡ suc k
+does-kind s object (GetCells first last) k h = gives-kind (listing s object first last) k h
+does-kind s object (GetBytes first last) k h = kind-if (nat_lt last s.size) (gives (bytes_between s first last)) (Refused 0x0c None) k 1 refl (gives-kind (bytes_between s first last) k) h
+does-kind s object (SetCells values) k h = sets-kind s object (cells_of object values) k h
+does-kind s object (SetBytes place content) k h = kind-if (nat_le (place + length content) s.size) (Makes (Mbr place content)) (Refused 0x0c None) k 2 refl (λ g. g) h
+does-kind s object (Authenticate a pin) k h = h
+does-kind s object Activate k h = (open-kind s.is_open Activates k h).0
+does-kind s object Revert k h = (open-kind s.is_open (Reverts (reverted_sp object)) k h).0
+does-kind s object Other k h = absurd (zero-one h)
+
+-- a judgement that is no refusal: its ask is of the method, there is a row, and it is what the ask comes to
+record Granted (s : Standing) (object method : Uid) (k : ℕ) (j : Judgement) : Type 0 where
+  ask : Ask
+  own : is_own ask method ≡ true
+  row : List Uid
+  has : acl_at s.sp object method ≡ Some row
+  does : does s object ask ≡ j
+  kind : kind_of ask ≡ suc k
+
+row-needed : (s : Standing) (object method : Uid) (ask : Ask) (row : Option (List Uid)) → acl_at s.sp object method ≡ row → denial_by s object method ask row ≡ None → (r : List Uid) × (acl_at s.sp object method ≡ Some r)
+row-needed s object method ask None is h = absurd (clash h)
+  where
+    clash : {w : Why} → Some w ≡ None → ⊥
+    clash g = cc
+row-needed s object method ask (Some r) is h = (r, is)
+
+granted-by : (s : Standing) (object method : Uid) (k : ℕ) (j : Judgement) (ask : Ask) → is_own ask method ≡ true → (why : Option Why) → denial s object method ask ≡ why → unless_denied why (does s object ask) ≡ j → kind j ≡ suc k → Granted s object method k j
+granted-by s object method k j ask own (Some why) is h g = absurd (zero-one (ap kind h ∙ g))
+granted-by s object method k j ask own None is h g =
+    let r = row-needed s object method ask (acl_at s.sp object method) refl is in
+    record { ask = ask; own = own; row = r.0; has = r.1; does = h; kind = does-kind s object ask k (ap kind h ∙ g) }
+
+granted : (s : Standing) (size : ℕ) (object method : Uid) (args : Trees) (k : ℕ) (j : Judgement) (ask : Option Ask) → asked size s.sp object method args ≡ ask → judged s object method ask ≡ j → kind j ≡ suc k → Granted s object method k j
+granted s size object method args k j None is h g = absurd (zero-one (ap kind h ∙ g))
+granted s size object method args k j (Some ask) is h g =
+    granted-by s object method k j ask (asked-own size s.sp object method args ask is) (denial s object method ask) refl h g
+
+-- Activate and Revert: a session of the Admin SP that has no transaction open
+activate-is : (ask : Ask) (method : Uid) → is_own ask method ≡ true → kind_of ask ≡ 4 → (ask ≡ Activate) × ((method.0 == activate.0) ≡ true)
+activate-is Activate method own h = (refl, own)
+activate-is (GetCells a b) method own h = cc
+activate-is (GetBytes a b) method own h = cc
+activate-is (SetCells a) method own h = cc
+activate-is (SetBytes a b) method own h = cc
+activate-is (Authenticate a b) method own h = cc
+activate-is Revert method own h = cc
+activate-is Other method own h = cc
+
+revert-is : (ask : Ask) (method : Uid) → is_own ask method ≡ true → kind_of ask ≡ 5 → (ask ≡ Revert) × ((method.0 == revert.0) ≡ true)
+revert-is Revert method own h = (refl, own)
+revert-is (GetCells a b) method own h = cc
+revert-is (GetBytes a b) method own h = cc
+revert-is (SetCells a) method own h = cc
+revert-is (SetBytes a b) method own h = cc
+revert-is (Authenticate a b) method own h = cc
+revert-is Activate method own h = cc
+revert-is Other method own h = cc
+
+activates-outside : (s : Standing) (object method : Uid) → Granted s object method 3 Activates → (s.sp ≡ Admin) × (s.is_open ≡ false)
+activates-outside s object method g =
+    let x = activate-is g.ask method g.own g.kind in (
+      activate-admin s.sp object method g.row x.1 g.has,
+      (open-kind s.is_open Activates 3 (ap (λ a. kind (does s object a)) (sym x.0) ∙ ap kind g.does)).1,
+    )
+
+reverts-outside : (s : Standing) (object method : Uid) (sp : Sp) → Granted s object method 4 (Reverts sp) → (s.sp ≡ Admin) × (s.is_open ≡ false)
+reverts-outside s object method sp g =
+    let x = revert-is g.ask method g.own g.kind in (
+      revert-admin s.sp object method g.row x.1 g.has,
+      (open-kind s.is_open (Reverts (reverted_sp object)) 4 (ap (λ a. kind (does s object a)) (sym x.0) ∙ ap kind g.does)).1,
+    )
+
+-- a Set is of the object that was called
+made-same : {c d : Change} → Makes c ≡ Makes d → d ≡ c
+made-same h = cc
+
+set-row : (fault : Option SetError) (object : Uid) (cells : List (Column × Cell)) (c : Change) → set_unless fault object cells ≡ Makes c → is_of_row object c ≡ true
+set-row None object cells c h = ap (is_of_row object) (made-same h) ∙ eq-eqb object.0 object.0 refl
+set-row (Some fault) object cells c h = absurd (zero-one (ap kind h))
+
+sets-row : (s : Standing) (object : Uid) (cells : Option (List (Column × Cell))) (c : Change) → sets s object cells ≡ Makes c → is_of_row object c ≡ true
+sets-row s object None c h = absurd (zero-one (ap kind h))
+sets-row s object (Some cells) c h = set-row _ object cells c h
+
+bytes-row : (b : Bool) (object : Uid) (place : ℕ) (content : List ℕ) (c : Change) → cond b (Makes (Mbr place content)) (Refused 0x0c None) ≡ Makes c → is_of_row object c ≡ true
+bytes-row true object place content c h = ap (is_of_row object) (made-same h)
+bytes-row false object place content c h = absurd (zero-one (ap kind h))
+
+makes-row : (s : Standing) (object : Uid) (ask : Ask) (c : Change) → kind_of ask ≡ 2 → does s object ask ≡ Makes c → is_of_row object c ≡ true
+makes-row s object (SetCells values) c k h = sets-row s object _ c h
+makes-row s object (SetBytes place content) c k h = bytes-row _ object place content c h
+makes-row s object (GetCells a b) c k h = cc
+makes-row s object (GetBytes a b) c k h = cc
+makes-row s object (Authenticate a b) c k h = cc
+makes-row s object Activate c k h = cc
+makes-row s object Revert c k h = cc
+makes-row s object Other c k h = cc
+
+set-is : (ask : Ask) (method : Uid) → is_own ask method ≡ true → kind_of ask ≡ 2 → (method.0 == set.0) ≡ true
+set-is (SetCells a) method own h = own
+set-is (SetBytes a b) method own h = own
+set-is Activate method own h = cc
+set-is (GetCells a b) method own h = cc
+set-is (GetBytes a b) method own h = cc
+set-is (Authenticate a b) method own h = cc
+set-is Revert method own h = cc
+set-is Other method own h = cc
+
+of-same : (a b : Uid) (c : Change) → (a.0 == b.0) ≡ true → is_of_row a c ≡ true → is_of_row b c ≡ true
+of-same a b c same h = ap (λ (n : ℕ). is_of_row (record { 0 = n }) c) (sym (eqb-true a.0 b.0 same)) ∙ h
+
+makes-sid : (s : Standing) (object method : Uid) (c : Change) → Granted s object method 1 (Makes c) → s.sp ≡ Admin → is_of_row c_pin_sid c ≡ true
+makes-sid s object method c g admin =
+    of-same object c_pin_sid c
+    (set-c_pin_sid object method g.row (set-is g.ask method g.own g.kind) (ap (λ x. acl_at x object method) (sym admin) ∙ g.has))
+    (makes-row s object g.ask c g.kind g.does)
+
+-- the live session of an SP is on it
+abbrev gone : Option (Option Begun)
+gone = Some None
+
+lives-on : (sp : Sp) (d : SessionDeed) (s : Begun) → lives_by sp d ≡ Some (Some s) → s.sp ≡ sp
+lives-on sp (Started session row) s h = by_sp (sp_eq session.sp sp) refl h
+  where
+    by_sp : (b : Bool) → sp_eq session.sp sp ≡ b → cond b (Some (Some session)) None ≡ Some (Some s) → s.sp ≡ sp
+    by_sp true same k = let y : s ≡ session = cc in ap (λ (z : Begun). z.sp) y ∙ sp-is session.sp sp same
+    by_sp false same k = cc
+lives-on sp (Ended t) s h = by_sp (sp_eq t sp) h
+  where
+    by_sp : (b : Bool) → cond b gone None ≡ Some (Some s) → s.sp ≡ sp
+    by_sp true k = cc
+    by_sp false k = cc
+lives-on sp (Reverted t w) s h = by_sp (restores t sp) h
+  where
+    by_sp : (b : Bool) → cond b gone None ≡ Some (Some s) → s.sp ≡ sp
+    by_sp true k = cc
+    by_sp false k = cc
+lives-on sp Unchanged s h = cc
+lives-on sp (Tried a) s h = cc
+lives-on sp (Changed t c) s h = cc
+lives-on sp (Began t n) s h = cc
+lives-on sp (Committed t) s h = cc
+lives-on sp (Aborted t) s h = cc
+lives-on sp (Activated pin) s h = cc
+
+living-on : (sp : Sp) (d : Deed) (s : Begun) → living sp d ≡ Some (Some s) → s.sp ≡ sp
+living-on sp (InSession d r) s h = lives-on sp d s h
+living-on sp (WasReset kind) s h = cc
+living-on sp Nothing s h = cc
+living-on sp (OfQueue d) s h = cc
+living-on sp (Wrote lba bytes) s h = cc
+living-on sp (Took c) s h = cc
+
+session-step : (sp : Sp) (s : Begun) (e : Event) (es : List Event) (t : Option (Option Begun)) → living sp e.deed ≡ t → session_on (e ∷ es) sp ≡ Some s → (session_on es sp ≡ Some s → s.sp ≡ sp) → s.sp ≡ sp
+session-step sp s e es (Some x) is h before = living-on sp e.deed s (is ∙ ap (λ y. Some y) (sym (ap (λ o. unwrap_or o None) (latest-here (living sp) e es x is)) ∙ h))
+session-step sp s e es None is h before = before (sym (ap (λ o. unwrap_or o None) (latest-skip (living sp) e es is)) ∙ h)
+
+pub session-on : (past : List Event) (sp : Sp) (s : Begun) → session_on past sp ≡ Some s → s.sp ≡ sp
+session-on [] sp s h = cc
+session-on (e ∷ es) sp s h = session-step sp s e es (living sp e.deed) refl h (session-on es sp s)
+
+-- what an item of a live session can do
+in-admin : (past : List Event) (s : Begun) → session_on past s.sp ≡ Some s → s.sp ≡ Admin → IsIn past Admin s
+in-admin past s h admin = record { lives = ap (session_on past) (sym admin) ∙ h; on = admin }
+
+judged-can : (o : Opening) (past : List Event) (s : Begun) → session_on past s.sp ≡ Some s → (object method : Uid) (args : Trees) (j : Judgement) → judgement_on (facts o past) s object method args ≡ j → CanDo o past (outcome_of (facts o past) s.sp j).deed
+judged-can o past s h object method args (Refused status denied) is = tt
+judged-can o past s h object method args (Gives results) is = tt
+judged-can o past s h object method args (Makes c) is = record {
+  session = s;
+  lives = record { lives = h; on = refl };
+  row = λ admin. makes-sid (standing (facts o past) s) object method c (granted (standing (facts o past) s) (shadow_bytes (facts o past)) object method args 1 (Makes c) (asked (shadow_bytes (facts o past)) s.sp object method args) refl is refl) admin;
+}
+judged-can o past s h object method args (Attempts authority pin) is = by_failure (failure_of (in_force o past) s.sp authority pin)
+  where
+    by_failure : (x : Option AttemptFailure) → CanDo o past (tried_in (facts o past) s.sp authority x).deed
+    by_failure None = tt
+    by_failure (Some x) = tt
+judged-can o past s h object method args Activates is = by_state (is_manufactured (in_force o past) Locking) refl
+  where
+    outside : (s.sp ≡ Admin) × (has_open (facts o past) s ≡ false)
+    outside = activates-outside (standing (facts o past) s) object method (granted (standing (facts o past) s) (shadow_bytes (facts o past)) object method args 3 Activates (asked (shadow_bytes (facts o past)) s.sp object method args) refl is refl)
+
+    by_state : (b : Bool) → is_manufactured (in_force o past) Locking ≡ b → CanDo o past (cond b Unchanged (Activated (bytes_in (in_force o past Admin c_pin_sid pin_column))))
+    by_state true g = tt
+    by_state false g = (record { session = s; lives = in-admin past s h outside.0; outside = ap (λ x. is_of s.number (open_on past x)) (sym outside.0) ∙ outside.1 }, g)
+judged-can o past s h object method args (Reverts sp) is = record { session = s; lives = in-admin past s h outside.0; outside = ap (λ x. is_of s.number (open_on past x)) (sym outside.0) ∙ outside.1 }
+  where
+    outside : (s.sp ≡ Admin) × (has_open (facts o past) s ≡ false)
+    outside = reverts-outside (standing (facts o past) s) object method sp (granted (standing (facts o past) s) (shadow_bytes (facts o past)) object method args 4 (Reverts sp) (asked (shadow_bytes (facts o past)) s.sp object method args) refl is refl)
+
+ended-can : (o : Opening) (past : List Event) (s : Begun) → session_on past s.sp ≡ Some s → is_of s.number (open_on past s.sp) ≡ true → (n : ℕ) → CanDo o past (ended_by s.sp n).deed
+ended-can o past s h own zero = record { session = s; lives = record { lives = h; on = refl }; own = own }
+ended-can o past s h own (suc n) = record { session = s; lives = record { lives = h; on = refl }; own = own }
+
+session-can : (o : Opening) (past : List Event) (s : Begun) → session_on past s.sp ≡ Some s → (read : Result Message TokenError) → CanDo o past (in_session (facts o past) s read).deed
+session-can o past s h (Err e) = tt
+session-can o past s h (Ok (reply results status)) = tt
+session-can o past s h (Ok end_session) = (s, record { lives = h; on = refl })
+session-can o past s h (Ok (call object method args status)) = judged-can o past s h (uid_from object) (uid_from method) args (judgement_on (facts o past) s (uid_from object) (uid_from method) args) refl
+session-can o past s h (Ok (begin n)) = by_open (open_on past s.sp) refl
+  where
+    by_open : (x : Option ℕ) → open_on past s.sp ≡ x → CanDo o past (begins_on s.sp s.number x).deed
+    by_open None is = record { session = s; lives = record { lives = h; on = refl }; own = refl; free = is }
+    by_open (Some m) is = tt
+session-can o past s h (Ok (end n)) = by_open (has_open (facts o past) s) refl
+  where
+    by_open : (b : Bool) → has_open (facts o past) s ≡ b → CanDo o past (ends_on s.sp n b).deed
+    by_open true is = ended-can o past s h is n
+    by_open false is = tt
+
+-- what an item of the session manager can do
+no_session : (x : Option Begun) → is_some x ≡ false → x ≡ None
+no_session None h = refl
+no_session (Some s) h = cc
+
+begins-new : (o : Opening) (past : List Event) (c : StartCall) (sp sp' : Sp) (x : Option AttemptFailure) (m l n : Bool) → is_manufactured (in_force o past) sp' ≡ m → is_some (session_on past sp') ≡ l
+    → cond (not m) (NotBegun 0x0c) (cond l (NotBegun 3) (cond (not n) (NotBegun 7) (by_attempt sp' x))) ≡ BeginsOn sp → (session_on past sp ≡ None) × (is_manufactured (in_force o past) sp ≡ true)
+begins-new o past c sp sp' x false l n is lives h = cc
+begins-new o past c sp sp' x true true n is lives h = cc
+begins-new o past c sp sp' x true false false is lives h = cc
+begins-new o past c sp sp' (Some y) true false true is lives h = cc
+begins-new o past c sp sp' None true false true is lives h =
+    let same : sp' ≡ sp = cc in (ap (session_on past) (sym same) ∙ no_session (session_on past sp') lives, ap (is_manufactured (in_force o past)) (sym same) ∙ is)
+
+start-new : (o : Opening) (past : List Event) (c : StartCall) (sp : Sp) (x : Option Sp) → start_on (in_force o past) (lives (facts o past)) (next_number past) c x ≡ BeginsOn sp → (session_on past sp ≡ None) × (is_manufactured (in_force o past) sp ≡ true)
+start-new o past c sp None h = cc
+start-new o past c sp (Some sp') h = begins-new o past c sp sp' (failure_of (in_force o past) sp' c.authority c.pin) _ _ (is_session_number (next_number past)) refl refl h
+
+started-can : (o : Opening) (past : List Event) (com_id : ℕ) (args : Trees) (c : Option StartCall) → CanDo o past (started (facts o past) com_id args c).deed
+started-can o past com_id args None = tt
+started-can o past com_id args (Some c) = by_start (start_of (in_force o past) (lives (facts o past)) (next_number past) c) refl
+  where
+    by_start : (x : Start) → start_of (in_force o past) (lives (facts o past)) (next_number past) c ≡ x → CanDo o past (started_by (facts o past) com_id c x).deed
+    by_start (NotBegun status) is = tt
+    by_start (FailedOn sp failure) is = tt
+    by_start (BeginsOn sp) is = let x = start-new o past c sp (sp_of c.spid) is in record { free = x.0; made = x.1; number = refl }
+
+either-can : (o : Opening) (past : List Event) (b : Bool) (x y : Outcome) → CanDo o past x.deed → CanDo o past y.deed → CanDo o past (cond b x y).deed
+either-can o past true x y h g = h
+either-can o past false x y h g = g
+
+manager-can : (o : Opening) (past : List Event) (com_id : ℕ) (read : Result Message TokenError) → CanDo o past (to_manager (facts o past) com_id read).deed
+manager-can o past com_id (Ok (call object method args status)) =
+    either-can o past (is_method_of_manager properties (uid_from object) (uid_from method)) (says Unchanged (cond (is_properties args) properties_told properties_refused)) _ tt
+    (either-can o past (is_method_of_manager start_session (uid_from object) (uid_from method)) (started (facts o past) com_id args (start_call args)) (says Unchanged (refusal fail)) (started-can o past com_id args (start_call args)) tt)
+manager-can o past com_id (Ok (reply results status)) = tt
+manager-can o past com_id (Ok (begin n)) = tt
+manager-can o past com_id (Ok (end n)) = tt
+manager-can o past com_id (Ok end_session) = tt
+manager-can o past com_id (Err e) = tt
+
+pub deed_law : DeedLaw
+deed_law o past act deed response is = elim (item-from (facts o past) act deed response is) [
+  | inl m ↦ can-by m.does (manager-can o past m.com_id m.read)
+  | inr s ↦ can-by s.does (session-can o past s.session (ap (session_on past) (session-on past s.sp s.session s.lives) ∙ s.lives) s.read)
+]
+  where
+    can-by : {x y : SessionDeed} → x ≡ y → CanDo o past y → CanDo o past x
+    can-by {x} {y} same h = rw same h
