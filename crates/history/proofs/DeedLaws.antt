@@ -15,7 +15,7 @@ use Rattle.tcg_tokens.specs.declared.error.TokenError.{TokenError}
 use Rattle.tcg_tokens.specs.Message.{Message, call, reply, end_session, begin, end}
 use Rattle.tcg_tokens.specs.Tree.{Tree, Trees}
 use Rattle.history.specs.Opening.{Opening}
-use Rattle.history.specs.TransactionsChanges.{Change, Mbr}
+use Rattle.history.specs.Changes.{Change, Mbr}
 use Rattle.sp_cells.specs.Flat.{sp_eq}
 use Rattle.sp_cells.specs.ColumnNames.{pin_column}
 use Rattle.history.specs.SessionsAttempts.{failure_of, bytes_in}

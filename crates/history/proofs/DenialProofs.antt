@@ -30,7 +30,7 @@ use Rattle.history.specs.SessionsStarts.{Begun, StartCall, start_call, is_proper
 use Rattle.history.specs.MethodsValues.{cells_of}
 use Rattle.history.specs.MethodsAsks.{Ask, GetCells, GetBytes, SetCells, SetBytes, Authenticate, Activate, Revert, Other, asked}
 use Rattle.history.specs.MethodsJudge.{Standing, Judgement, Refused, Gives, Makes, Attempts, Activates, Reverts, denial, gives, listing, bytes_between, set_unless, sets, unless_open, reverted_sp, does, unless_denied, judged}
-use Rattle.history.specs.TransactionsChanges.{Mbr}
+use Rattle.history.specs.Changes.{Mbr}
 use Rattle.history.specs.Events.{Unchanged, Nothing, Wrote, Took, HeldCommand, Event, did}
 use Rattle.history.specs.Facts.{Facts, shadow_bytes, lives, session_named, has_open, standing}
 use Rattle.history.specs.Decisions.{not_found, fails, refuses, aborted, fails_queue, on_drive, verdict_on, queued_by, admitted, unqueued_by, says, answers, tried_in, started_by, started, is_method_of_manager, to_manager, outcome_of, judgement_on, begins_on, ends_on, in_session, is_trusted, is_session_com_id, discovery_com_id, is_manager, to_session, framed, sent, send, received, unqueued, known, while_failed, is_busy, commanded, completed_by, completed}

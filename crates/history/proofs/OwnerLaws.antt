@@ -1,19 +1,24 @@
 -- Whose an open transaction is, and when none can be open.
-use Rattle.std.proofs.Common.{◌≡◌, ℕ, ◌==◌, Bool, true, false, ◌&&◌, List, [], ◌∷◌, ◌++◌, Option, Some, None, refl, sym, ◌∙◌, ap, cond, ◌⊎◌, inl, inr, eqb-true, eq-eqb}
-use Rattle.std.specs.Prelude.{unwrap_or, option_to_list}
+use Rattle.std.proofs.Common.{◌≡◌, ℕ, ◌+◌, ◌==◌, Bool, true, false, ◌&&◌, List, [], ◌∷◌, ◌++◌, Option, Some, None, refl, sym, ◌∙◌, ap, cond, ◌⊎◌, inl, inr, eqb-true, eq-eqb}
+use Rattle.std.specs.Prelude.{unwrap_or, option_map, option_to_list}
 use Rattle.std.specs.List.{list_all}
 use Rattle.sp_cells.specs.declared.names.Uid.{Uid}
 use Rattle.sp_cells.specs.declared.names.Sp.{Sp}
 use Rattle.sp_cells.specs.declared.names.Sp.TheVariants.{Admin, Locking}
 use Rattle.sp_cells.specs.declared.names.Column.{Column}
 use Rattle.sp_cells.specs.declared.cells.Cell.{Cell}
-use Rattle.sp_cells.specs.Names.{c_pin_sid, locking_sp}
+use Rattle.sp_cells.specs.Names.{c_pin_sid, locking_sp, mbr_control}
+use Rattle.sp_cells.specs.declared.cells.Cell.TheVariants.{Number}
 use Rattle.sp_cells.specs.Flat.{sp_eq}
 use Rattle.sp_cells.specs.Ranges.{number_in}
-use Rattle.sp_cells.specs.ColumnNames.{life_cycle_state_column}
+use Rattle.sp_cells.specs.ColumnNames.{life_cycle_state_column, mbr_done_on_reset_column}
 use Rattle.sp_tables.specs.Contents.{look_up}
 use Rattle.history.specs.Opening.{Opening}
-use Rattle.history.specs.TransactionsChanges.{Half, Change, Cells, Mbr, Restores, Resets, put_in, puts_in, apply, apply_all}
+use Rattle.sp_tables.specs.Looks.{RowLook, put_in, puts_in}
+use Rattle.sp_cells.specs.declared.names.TheConstants.{RANGES}
+use Rattle.sp_tables.specs.AtReset.{has_kind}
+use Rattle.transactions.specs.Resets.{is_range, locks_seen}
+use Rattle.history.specs.Changes.{reset_rows, Change, Cells, Mbr, Restores, Resets, apply, apply_all}
 use Rattle.history.specs.SessionsStarts.{Begun, is_manufactured}
 use Rattle.history.specs.Events.{SessionDeed, Unchanged, Started, Tried, Changed, Began, Committed, Aborted, Ended, Activated, Reverted, Response, Deed, Nothing, InSession, OfQueue, Wrote, Took, WasReset, Event}
 use Rattle.history.specs.Readers.{restores, living, session_on, open_on, is_of, in_force, turns, begins, changes_on, own_changes, if_open, open_changes, only_on, unless_open, brought, changes, factory_rows}
@@ -220,24 +225,34 @@ own-kept o e es can k = by_begin (begins Admin e.deed) refl
     by_begin false is = ap (list_all spares) (every-since-more (changes_on Admin) (begins Admin) e es false is) ∙ by_change (changes_on Admin e.deed) refl
 
 -- changes that spare the state of the Locking SP leave it
-put-spares : (object : Uid) (c : Column) (v : Cell) (rows : Half) → (object.0 == c_pin_sid.0) ≡ true → put_in object c v rows locking_sp life_cycle_state_column ≡ rows locking_sp life_cycle_state_column
+put-spares : (object : Uid) (c : Column) (v : Cell) (rows : RowLook) → (object.0 == c_pin_sid.0) ≡ true → put_in object c v rows locking_sp life_cycle_state_column ≡ rows locking_sp life_cycle_state_column
 put-spares object c v rows h = ap (λ (n : ℕ). put_in (record { 0 = n }) c v rows locking_sp life_cycle_state_column) (eqb-true object.0 c_pin_sid.0 h)
 
-puts-spare : (object : Uid) (cells : List (Column × Cell)) (rows : Half) → (object.0 == c_pin_sid.0) ≡ true → puts_in object cells rows locking_sp life_cycle_state_column ≡ rows locking_sp life_cycle_state_column
+puts-spare : (object : Uid) (cells : List (Column × Cell)) (rows : RowLook) → (object.0 == c_pin_sid.0) ≡ true → puts_in object cells rows locking_sp life_cycle_state_column ≡ rows locking_sp life_cycle_state_column
 puts-spare object [] rows h = refl
 puts-spare object (p ∷ ps) rows h = puts-spare object ps (put_in object p.0 p.1 rows) h ∙ put-spares object p.0 p.1 rows h
 
-change-spares : (factory rows : Half) (c : Change) → spares c ≡ true → apply factory c rows locking_sp life_cycle_state_column ≡ rows locking_sp life_cycle_state_column
+and-false : (b : Bool) → (b && false) ≡ false
+and-false true = refl
+and-false false = refl
+
+reset-spares : (kind : ℕ) (rows : RowLook) → reset_rows kind rows locking_sp life_cycle_state_column ≡ rows locking_sp life_cycle_state_column
+unfolding is_range
+reset-spares kind rows =
+    let locked : RowLook = locks_seen (RANGES + 1) kind rows in
+    ap (λ b. cond b (option_map (λ _. Number 0) (locked locking_sp life_cycle_state_column)) (locked locking_sp life_cycle_state_column)) (and-false (has_kind kind (locked mbr_control mbr_done_on_reset_column)))
+
+change-spares : (factory rows : RowLook) (c : Change) → spares c ≡ true → apply factory c rows locking_sp life_cycle_state_column ≡ rows locking_sp life_cycle_state_column
 change-spares factory rows (Cells object cells) h = puts-spare object cells rows h
 change-spares factory rows (Mbr place bytes) h = refl
-change-spares factory rows (Resets kind) h = refl
+change-spares factory rows (Resets kind) h = reset-spares kind rows
 change-spares factory rows Restores h = cc
 
 and-parts : (a b : Bool) → (a && b) ≡ true → (a ≡ true) × (b ≡ true)
 and-parts true b h = (refl, h)
 and-parts false b h = cc
 
-changes-spare : (factory rows : Half) (cs ds : List Change) → list_all spares cs ≡ true → apply_all factory (cs ++ ds) rows locking_sp life_cycle_state_column ≡ apply_all factory ds rows locking_sp life_cycle_state_column
+changes-spare : (factory rows : RowLook) (cs ds : List Change) → list_all spares cs ≡ true → apply_all factory (cs ++ ds) rows locking_sp life_cycle_state_column ≡ apply_all factory ds rows locking_sp life_cycle_state_column
 changes-spare factory rows [] ds h = refl
 changes-spare factory rows (c ∷ cs) ds h =
     let parts = and-parts (spares c) (list_all spares cs) h in

@@ -12,14 +12,15 @@ use Rattle.sp_cells.specs.declared.names.Uid.{Uid}
 use Rattle.sp_cells.specs.ColumnNames.{life_cycle_state_column, pin_column}
 use Rattle.history.specs.SessionsStarts.{Begun}
 use Rattle.history.specs.Opening.{Opening}
-use Rattle.history.specs.TransactionsChanges.{Half, Change, Restores, puts_in, apply, apply_all, reset_rows}
+use Rattle.sp_tables.specs.Looks.{RowLook, puts_in}
+use Rattle.history.specs.Changes.{Change, Restores, apply, apply_all, reset_rows}
 use Rattle.history.specs.Events.{Attempt, Started, Tried, Changed, Began, Committed, Aborted, Ended, Activated, Reverted, Response, InSession, WasReset, Event, since, every, count}
 use Rattle.history.specs.Readers.{is_start, living, session_on, next_number, starts, gains, authorities, turns, begins, changes_on, open_on, own_changes, if_open, open_changes, unless_open, brought, changes, factory_rows, rows_after, rows_within}
 use Rattle.history.proofs.Words.{latest-here, latest-skip, sp-same}
 use Rattle.history.proofs.Emptied.{every-since-more}
 
 -- changes in a row
-pub apply_all-append : (factory rows : Half) (cs ds : List Change) → apply_all factory (cs ++ ds) rows ≡ apply_all factory cs (apply_all factory ds rows)
+pub apply_all-append : (factory rows : RowLook) (cs ds : List Change) → apply_all factory (cs ++ ds) rows ≡ apply_all factory cs (apply_all factory ds rows)
 apply_all-append factory rows [] ds = refl
 apply_all-append factory rows (c ∷ cs) ds = ap (apply factory c) (apply_all-append factory rows cs ds)
 

@@ -5,7 +5,7 @@ use Rattle.sp_cells.specs.declared.names.Sp.TheVariants.{Admin, Locking}
 use Rattle.sp_cells.specs.Names.{c_pin_sid}
 use Rattle.sp_cells.specs.declared.names.Uid.{Uid}
 use Rattle.history.specs.Opening.{Opening}
-use Rattle.history.specs.TransactionsChanges.{Change, Cells, Mbr, Restores, Resets}
+use Rattle.history.specs.Changes.{Change, Cells, Mbr, Restores, Resets}
 use Rattle.history.specs.SessionsStarts.{Begun, is_manufactured}
 use Rattle.history.specs.Events.{SessionDeed, Unchanged, Started, Tried, Changed, Began, Committed, Aborted, Ended, Activated, Reverted, Response, InSession, Event}
 use Rattle.history.specs.Readers.{session_on, next_number, open_on, is_of, in_force}

@@ -7,7 +7,7 @@ use Rattle.audit.specs.declared.reason.AttemptFailure.{AttemptFailure}
 use Rattle.audit.specs.declared.reason.Why.{Why}
 use Rattle.history.specs.TrustedCommands.{Command}
 use Rattle.locking.specs.declared.ranges.Verdict.{Verdict}
-use Rattle.history.specs.TransactionsChanges.{Change}
+use Rattle.history.specs.Changes.{Change}
 use Rattle.history.specs.SessionsStarts.{Begun}
 
 -- An attempt that began no session: on an authority of an SP whose C_PIN row is `row`. A right one, which has no failure, was made in a

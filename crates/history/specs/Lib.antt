@@ -1,5 +1,5 @@
 pub mod TrustedCommands
-pub mod TransactionsChanges
+pub mod Changes
 pub mod SessionsAttempts
 pub mod SessionsArguments
 pub mod SessionsReplies

@@ -10,15 +10,15 @@ use Rattle.sp_cells.specs.declared.cells.Cell.{Cell}
 use Rattle.sp_cells.specs.declared.error.SetError.{SetError}
 use Rattle.sp_cells.specs.declared.error.SetError.TheVariants as faults
 use Rattle.sp_cells.specs.Names.{locking_sp, get, col}
-use Rattle.sp_cells.specs.Flat.{LookUp, has_each}
-use Rattle.sp_cells.specs.Values.{takes_each}
-use Rattle.sp_tables.specs.Faults.{range_row_number, is_overlap, is_beyond, are_fit, first_of}
+use Rattle.sp_cells.specs.Flat.{LookUp}
 use Rattle.ace_eval.specs.Aces.{naming, acl_at, ace_of}
 use Rattle.audit.specs.declared.reason.Why.{Why}
 use Rattle.audit.specs.declared.reason.Why.TheVariants.{NoEntryHolds, NoAccessRow}
 use Rattle.tcg_tokens.specs.Spelling.{item_spelling_of}
 use Rattle.tcg_tokens.specs.Tree.{Tree, Trees, number, bytes, list, named, empty, more, trees_of}
-use Rattle.history.specs.TransactionsChanges.{Change, Cells, Mbr, puts_in, names_tries}
+use Rattle.sp_tables.specs.Looks.{fault_seen}
+use Rattle.sp_tables.specs.Tries.{names_tries}
+use Rattle.history.specs.Changes.{Change, Cells, Mbr}
 use Rattle.history.specs.MethodsAsks.{Ask, GetCells, GetBytes, SetCells, SetBytes, Authenticate, Activate, Revert, Other}
 use Rattle.history.specs.MethodsValues.{tree_of, cells_of}
 use Rattle.history.specs.SessionsReplies.{most_token_bytes, succeeds, not_authorized, invalid_parameter, response_overflow, fail}
@@ -107,22 +107,10 @@ gives result =
     if nat_le (length (item_spelling_of (succeeds (more result empty)))) most_token_bytes then Gives (more result empty)
     else Refused response_overflow None
 
--- The rows with these cells of an object.
-abbrev pub changed_rows : Sp → Uid → List (Column × Cell) → LookUp → LookUp
-changed_rows Admin object cells look Admin = puts_in object cells (look Admin)
-changed_rows Admin object cells look Locking = look Locking
-changed_rows Locking object cells look Admin = look Admin
-changed_rows Locking object cells look Locking = puts_in object cells (look Locking)
-
--- Why these cells are not set, by the rows as they are and as they would be after it.
-abbrev pub fault_seen : ℕ → LookUp → LookUp → Sp → Uid → List (Column × Cell) → Option SetError
-fault_seen sectors look after sp object cells = first_of (
-    (names_tries object cells || not (has_each look sp object cells), faults.NoCell)
-    ∷ (not (takes_each object cells), faults.WrongType)
-    ∷ (is_overlap after (range_row_number sp object), faults.Overlap)
-    ∷ (is_beyond sectors after (range_row_number sp object), faults.Beyond)
-    ∷ (not (are_fit cells), faults.Expr)
-    ∷ [])
+-- Why these cells are not set: Tries are none that a change names.
+abbrev pub fault_of_cells : ℕ → LookUp → Sp → Uid → List (Column × Cell) → Option SetError
+fault_of_cells sectors look sp object cells =
+    if names_tries object cells then Some faults.NoCell else fault_seen sectors look sp object cells
 
 abbrev pub set_unless : Option SetError → Uid → List (Column × Cell) → Judgement
 set_unless None object cells = Makes (Cells object cells)
@@ -130,7 +118,7 @@ set_unless (Some fault) object cells = Refused invalid_parameter None
 
 abbrev pub sets : Standing → Uid → Option (List (Column × Cell)) → Judgement
 sets s object None = Refused invalid_parameter None
-sets s object (Some cells) = set_unless (fault_seen s.sectors s.rows (changed_rows s.sp object cells s.rows) s.sp object cells) object cells
+sets s object (Some cells) = set_unless (fault_of_cells s.sectors s.rows s.sp object cells) object cells
 
 abbrev pub unless_open : Bool → Judgement → Judgement
 unless_open true judgement = Refused fail None

@@ -15,7 +15,8 @@ use Rattle.audit.specs.declared.reason.AttemptFailure.{AttemptFailure}
 use Rattle.audit.specs.declared.reason.AttemptFailure.TheVariants.{WrongPin, LockedOut, Disabled, Unknown}
 use Rattle.shadow_mbr.specs.Stored.{sector_size, zeros}
 use Rattle.history.specs.Opening.{Opening}
-use Rattle.history.specs.TransactionsChanges.{Half, Change, Cells, Restores, Resets, apply_all, byte_in, with_tries}
+use Rattle.sp_tables.specs.Looks.{RowLook}
+use Rattle.history.specs.Changes.{Change, Cells, Restores, Resets, apply_all, byte_in, with_tries}
 use Rattle.history.specs.SessionsStarts.{Begun}
 use Rattle.history.specs.Events.{SessionDeed, Started, Tried, Changed, Began, Committed, Aborted, Ended, Activated, Reverted, HeldCommand, Failure, QueueDeed, Held, Completed, CompletedWrite, QueueFailed, QueueMended, Deed, InSession, OfQueue, Wrote, Took, WasReset, Event, latest, since, every, count}
 
@@ -207,11 +208,11 @@ tries (event ∷ before) sp row = tries_then sp row event.deed (tries before sp 
 abbrev pub factory_rows : Opening → LookUp
 factory_rows o = look_up (factory_contents o.tables.config)
 
-abbrev pub rows_after : Opening → List Event → Sp → Half
+abbrev pub rows_after : Opening → List Event → Sp → RowLook
 rows_after o past sp = apply_all (factory_rows o sp) (changes past sp) (look_up o.tables sp)
 
 -- With the Sets of the transaction that is open on an SP.
-abbrev pub rows_within : Opening → List Event → Sp → Half
+abbrev pub rows_within : Opening → List Event → Sp → RowLook
 rows_within o past sp = apply_all (factory_rows o sp) (open_changes past sp) (rows_after o past sp)
 
 -- The transaction is this session's.
@@ -219,7 +220,7 @@ abbrev pub is_of : ℕ → Option ℕ → Bool
 is_of number None = false
 is_of number (Some owner) = owner == number
 
-abbrev pub rows_seen : Opening → List Event → ℕ → Sp → Half
+abbrev pub rows_seen : Opening → List Event → ℕ → Sp → RowLook
 rows_seen o past number sp = if is_of number (open_on past sp) then rows_within o past sp else rows_after o past sp
 
 abbrev pub in_force : Opening → List Event → LookUp
