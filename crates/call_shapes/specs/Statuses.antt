@@ -16,5 +16,11 @@ no_sessions_available = 0x07
 abbrev pub invalid_parameter : ℕ
 invalid_parameter = 0x0c
 
+abbrev pub response_overflow : ℕ
+response_overflow = 0x11
+
 abbrev pub authority_locked_out : ℕ
 authority_locked_out = 0x12
+
+abbrev pub fail : ℕ
+fail = 0x3f
