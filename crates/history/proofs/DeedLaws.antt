@@ -14,7 +14,7 @@ use Rattle.audit.specs.declared.reason.Why.{Why}
 use Rattle.tcg_tokens.specs.declared.error.TokenError.{TokenError}
 use Rattle.tcg_tokens.specs.Message.{Message, call, reply, end_session, begin, end}
 use Rattle.tcg_tokens.specs.Tree.{Tree, Trees}
-use Rattle.history.specs.Opening.{Opening}
+use Rattle.history.specs.Opening.{Origin}
 use Rattle.history.specs.Changes.{Change, Mbr}
 use Rattle.sp_cells.specs.Flat.{sp_eq}
 use Rattle.sp_cells.specs.ColumnNames.{pin_column}
@@ -240,7 +240,7 @@ session-on (e ∷ es) sp s h = session-step sp s e es (living sp e.deed) refl h 
 in-admin : (past : List Event) (s : Begun) → session_on past s.sp ≡ Some s → s.sp ≡ Admin → IsIn past Admin s
 in-admin past s h admin = record { lives = ap (session_on past) (sym admin) ∙ h; on = admin }
 
-judged-can : (o : Opening) (past : List Event) (s : Begun) → session_on past s.sp ≡ Some s → (object method : Uid) (args : Trees) (j : Judgement) → judgement_on (facts o past) s object method args ≡ j → CanDo o past (outcome_of (facts o past) s.sp j).deed
+judged-can : (o : Origin) (past : List Event) (s : Begun) → session_on past s.sp ≡ Some s → (object method : Uid) (args : Trees) (j : Judgement) → judgement_on (facts o past) s object method args ≡ j → CanDo o past (outcome_of (facts o past) s.sp j).deed
 judged-can o past s h object method args (Refused status denied) is = tt
 judged-can o past s h object method args (Gives results) is = tt
 judged-can o past s h object method args (Makes c) is = record {
@@ -266,11 +266,11 @@ judged-can o past s h object method args (Reverts sp) is = record { session = s;
     outside : (s.sp ≡ Admin) × (has_open (facts o past) s ≡ false)
     outside = reverts-outside (standing (facts o past) s) object method sp (granted (standing (facts o past) s) (shadow_bytes (facts o past)) object method args 4 (Reverts sp) (asked (shadow_bytes (facts o past)) s.sp object method args) refl is refl)
 
-ended-can : (o : Opening) (past : List Event) (s : Begun) → session_on past s.sp ≡ Some s → is_of s.number (open_on past s.sp) ≡ true → (n : ℕ) → CanDo o past (ended_by s.sp n).deed
+ended-can : (o : Origin) (past : List Event) (s : Begun) → session_on past s.sp ≡ Some s → is_of s.number (open_on past s.sp) ≡ true → (n : ℕ) → CanDo o past (ended_by s.sp n).deed
 ended-can o past s h own zero = record { session = s; lives = record { lives = h; on = refl }; own = own }
 ended-can o past s h own (suc n) = record { session = s; lives = record { lives = h; on = refl }; own = own }
 
-session-can : (o : Opening) (past : List Event) (s : Begun) → session_on past s.sp ≡ Some s → (read : Result Message TokenError) → CanDo o past (in_session (facts o past) s read).deed
+session-can : (o : Origin) (past : List Event) (s : Begun) → session_on past s.sp ≡ Some s → (read : Result Message TokenError) → CanDo o past (in_session (facts o past) s read).deed
 session-can o past s h (Err e) = tt
 session-can o past s h (Ok (reply results status)) = tt
 session-can o past s h (Ok end_session) = (s, record { lives = h; on = refl })
@@ -291,7 +291,7 @@ no_session : (x : Option Begun) → is_some x ≡ false → x ≡ None
 no_session None h = refl
 no_session (Some s) h = cc
 
-begins-new : (o : Opening) (past : List Event) (c : StartCall) (sp sp' : Sp) (x : Option AttemptFailure) (m l n : Bool) → is_manufactured (in_force o past) sp' ≡ m → is_some (session_on past sp') ≡ l
+begins-new : (o : Origin) (past : List Event) (c : StartCall) (sp sp' : Sp) (x : Option AttemptFailure) (m l n : Bool) → is_manufactured (in_force o past) sp' ≡ m → is_some (session_on past sp') ≡ l
     → cond (not m) (NotBegun 0x0c) (cond l (NotBegun 3) (cond (not n) (NotBegun 7) (by_attempt sp' x))) ≡ BeginsOn sp → (session_on past sp ≡ None) × (is_manufactured (in_force o past) sp ≡ true)
 begins-new o past c sp sp' x false l n is lives h = cc
 begins-new o past c sp sp' x true true n is lives h = cc
@@ -300,11 +300,11 @@ begins-new o past c sp sp' (Some y) true false true is lives h = cc
 begins-new o past c sp sp' None true false true is lives h =
     let same : sp' ≡ sp = cc in (ap (session_on past) (sym same) ∙ no_session (session_on past sp') lives, ap (is_manufactured (in_force o past)) (sym same) ∙ is)
 
-start-new : (o : Opening) (past : List Event) (c : StartCall) (sp : Sp) (x : Option Sp) → start_on (in_force o past) (lives (facts o past)) (next_number past) c x ≡ BeginsOn sp → (session_on past sp ≡ None) × (is_manufactured (in_force o past) sp ≡ true)
+start-new : (o : Origin) (past : List Event) (c : StartCall) (sp : Sp) (x : Option Sp) → start_on (in_force o past) (lives (facts o past)) (next_number past) c x ≡ BeginsOn sp → (session_on past sp ≡ None) × (is_manufactured (in_force o past) sp ≡ true)
 start-new o past c sp None h = cc
 start-new o past c sp (Some sp') h = begins-new o past c sp sp' (failure_of (in_force o past) sp' c.authority c.pin) _ _ (is_session_number (next_number past)) refl refl h
 
-started-can : (o : Opening) (past : List Event) (com_id : ℕ) (args : Trees) (c : Option StartCall) → CanDo o past (started (facts o past) com_id args c).deed
+started-can : (o : Origin) (past : List Event) (com_id : ℕ) (args : Trees) (c : Option StartCall) → CanDo o past (started (facts o past) com_id args c).deed
 started-can o past com_id args None = tt
 started-can o past com_id args (Some c) = by_start (start_of (in_force o past) (lives (facts o past)) (next_number past) c) refl
   where
@@ -313,11 +313,11 @@ started-can o past com_id args (Some c) = by_start (start_of (in_force o past) (
     by_start (FailedOn sp failure) is = tt
     by_start (BeginsOn sp) is = let x = start-new o past c sp (sp_of c.spid) is in record { free = x.0; made = x.1; number = refl }
 
-either-can : (o : Opening) (past : List Event) (b : Bool) (x y : Outcome) → CanDo o past x.deed → CanDo o past y.deed → CanDo o past (cond b x y).deed
+either-can : (o : Origin) (past : List Event) (b : Bool) (x y : Outcome) → CanDo o past x.deed → CanDo o past y.deed → CanDo o past (cond b x y).deed
 either-can o past true x y h g = h
 either-can o past false x y h g = g
 
-manager-can : (o : Opening) (past : List Event) (com_id : ℕ) (read : Result Message TokenError) → CanDo o past (to_manager (facts o past) com_id read).deed
+manager-can : (o : Origin) (past : List Event) (com_id : ℕ) (read : Result Message TokenError) → CanDo o past (to_manager (facts o past) com_id read).deed
 manager-can o past com_id (Ok (call object method args status)) =
     either-can o past (is_method_of_manager properties (uid_from object) (uid_from method)) (says Unchanged (cond (is_properties args) properties_told properties_refused)) _ tt
     (either-can o past (is_method_of_manager start_session (uid_from object) (uid_from method)) (started (facts o past) com_id args (start_call args)) (says Unchanged (refusal fail)) (started-can o past com_id args (start_call args)) tt)

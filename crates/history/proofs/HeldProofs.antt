@@ -11,7 +11,7 @@ use Rattle.compacket.specs.declared.session.Session.{Session}
 use Rattle.compacket.specs.declared.error.FrameError.{FrameError}
 use Rattle.compacket.specs.Frames.{Frame, reading as frame_in}
 use Rattle.tcg_tokens.specs.Reading.{reading as message_in}
-use Rattle.history.specs.Opening.{Opening}
+use Rattle.history.specs.Opening.{Origin}
 use Rattle.history.specs.TrustedCommands.{fault_of, read_unless, Command, ReadQueued, WriteQueued, ReadDma, WriteDma, Send, Receive, Identify, ReadLog, Flush, CommandError, reading}
 use Rattle.locking.specs.declared.ranges.Verdict.{Verdict}
 use Rattle.locking.specs.declared.ranges.Verdict.TheVariants.{Serve, Shadow, Denied}
@@ -168,7 +168,7 @@ completed-none tag payload (Some h) = by_command h.command
     by_command (WriteQueued l n) = refl
     by_command _ = refl
 
-later : (o : Opening) (act : Act) (acts : List Act) (tag : ℕ) (h : HeldCommand) → WasAccepted o acts tag h → WasAccepted o (act ∷ acts) tag h
+later : (o : Origin) (act : Act) (acts : List Act) (tag : ℕ) (h : HeldCommand) → WasAccepted o acts tag h → WasAccepted o (act ∷ acts) tag h
 later o act acts tag h w = record {
   before = w.before;
   later = act ∷ w.later;
@@ -185,7 +185,7 @@ later o act acts tag h w = record {
   permitted = w.permitted;
 }
 
-here : (o : Opening) (act : Act) (acts : List Act) (tag : ℕ) (h : HeldCommand) → (event o (log o acts) act).deed ≡ OfQueue (Held tag h) → WasAccepted o (act ∷ acts) tag h
+here : (o : Origin) (act : Act) (acts : List Act) (tag : ℕ) (h : HeldCommand) → (event o (log o acts) act).deed ≡ OfQueue (Held tag h) → WasAccepted o (act ∷ acts) tag h
 here o (Complete t payload) acts tag h g = absurd (not-held (completed-none t payload (held (log o acts) t)) g)
 here o (Reset kind) acts tag h g = absurd (not-held refl g)
 here o (Accept fis payload) acts tag h g =
@@ -206,7 +206,7 @@ here o (Accept fis payload) acts tag h g =
       permitted = (verdict_law (ranges_in_force (facts o (log o acts))) w.op w.lba w.count).served.0 (ap is_denied w.verdict ∙ w.served);
     }
 
-held-step : (o : Opening) (act : Act) (acts : List Act) (tag : ℕ) (h : HeldCommand) → (x : Option (Option HeldCommand)) → holding tag (event o (log o acts) act).deed ≡ x → held (log o (act ∷ acts)) tag ≡ Some h → (held (log o acts) tag ≡ Some h → WasAccepted o acts tag h) → WasAccepted o (act ∷ acts) tag h
+held-step : (o : Origin) (act : Act) (acts : List Act) (tag : ℕ) (h : HeldCommand) → (x : Option (Option HeldCommand)) → holding tag (event o (log o acts) act).deed ≡ x → held (log o (act ∷ acts)) tag ≡ Some h → (held (log o acts) tag ≡ Some h → WasAccepted o acts tag h) → WasAccepted o (act ∷ acts) tag h
 held-step o act acts tag h None is g before = later o act acts tag h (before (sym (ap (λ y. unwrap_or y None) (latest-skip (holding tag) (event o (log o acts) act) (log o acts) is)) ∙ g))
 held-step o act acts tag h (Some x) is g before =
     here o act acts tag h (holds-is tag (event o (log o acts) act).deed h (is ∙ ap (λ y. Some y) (sym (ap (λ y. unwrap_or y None) (latest-here (holding tag) (event o (log o acts) act) (log o acts) x is)) ∙ g)))

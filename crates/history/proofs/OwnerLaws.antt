@@ -13,7 +13,7 @@ use Rattle.sp_cells.specs.Flat.{sp_eq}
 use Rattle.sp_cells.specs.Ranges.{number_in}
 use Rattle.sp_cells.specs.ColumnNames.{life_cycle_state_column, mbr_done_on_reset_column}
 use Rattle.sp_tables.specs.Contents.{look_up}
-use Rattle.history.specs.Opening.{Opening}
+use Rattle.history.specs.Opening.{Origin}
 use Rattle.sp_tables.specs.Looks.{RowLook, put_in, puts_in}
 use Rattle.sp_cells.specs.declared.names.TheConstants.{RANGES}
 use Rattle.sp_tables.specs.AtReset.{has_kind}
@@ -167,12 +167,12 @@ changed-is sp (Took x) c h = cc
 changed-is sp (WasReset kind) c h = cc
 
 -- what each past of acts keeps
-record Kept (o : Opening) (past : List Event) : Type 0 where
+record Kept (o : Origin) (past : List Event) : Type 0 where
   owner : (sp : Sp) (n : ℕ) → open_on past sp ≡ Some n → (s : Begun) × (session_on past sp ≡ Some s) × (s.number ≡ n)
   own : list_all spares (own_changes past Admin) ≡ true
   alive : (s : Begun) → session_on past Locking ≡ Some s → is_manufactured (in_force o past) Locking ≡ true
 
-abbrev Can : Opening → List Event → Event → Type 0
+abbrev Can : Origin → List Event → Event → Type 0
 Can o past e = (d : SessionDeed) (r : Response) → e.deed ≡ InSession d r → CanDo o past d
 
 same-session : (sp : Sp) (e : Event) (es : List Event) → living sp e.deed ≡ None → session_on (e ∷ es) sp ≡ session_on es sp
@@ -187,7 +187,7 @@ some-none h g = absurd (clash (sym h ∙ g))
     clash : {A : Type 0} {a : A} → Some a ≡ None → ⊥
     clash k = cc
 
-owner-kept : (o : Opening) (e : Event) (es : List Event) → Can o es e → Kept o es → (sp : Sp) (n : ℕ) → open_on (e ∷ es) sp ≡ Some n → (s : Begun) × (session_on (e ∷ es) sp ≡ Some s) × (s.number ≡ n)
+owner-kept : (o : Origin) (e : Event) (es : List Event) → Can o es e → Kept o es → (sp : Sp) (n : ℕ) → open_on (e ∷ es) sp ≡ Some n → (s : Begun) × (session_on (e ∷ es) sp ≡ Some s) × (s.number ≡ n)
 owner-kept o e es can k sp n h = by_turn (turns sp e.deed) refl
   where
     by_life : turns sp e.deed ≡ None → (t : Option (Option Begun)) → living sp e.deed ≡ t → (s : Begun) × (session_on (e ∷ es) sp ≡ Some s) × (s.number ≡ n)
@@ -210,7 +210,7 @@ owner-kept o e es can k sp n h = by_turn (turns sp e.deed) refl
         some-same : {x y : ℕ} → Some x ≡ Some y → x ≡ y
         some-same g = cc
 
-own-kept : (o : Opening) (e : Event) (es : List Event) → Can o es e → Kept o es → list_all spares (own_changes (e ∷ es) Admin) ≡ true
+own-kept : (o : Origin) (e : Event) (es : List Event) → Can o es e → Kept o es → list_all spares (own_changes (e ∷ es) Admin) ≡ true
 own-kept o e es can k = by_begin (begins Admin e.deed) refl
   where
     by_change : (x : Option Change) → changes_on Admin e.deed ≡ x → list_all spares (option_to_list x ++ own_changes es Admin) ≡ true
@@ -258,7 +258,7 @@ changes-spare factory rows (c ∷ cs) ds h =
     let parts = and-parts (spares c) (list_all spares cs) h in
     change-spares factory (apply_all factory (cs ++ ds) rows) c parts.0 ∙ changes-spare factory rows cs ds parts.1
 
-state-kept : (o : Opening) (e : Event) (es : List Event) → list_all spares (brought es Admin e.deed) ≡ true → is_manufactured (in_force o (e ∷ es)) Locking ≡ is_manufactured (in_force o es) Locking
+state-kept : (o : Origin) (e : Event) (es : List Event) → list_all spares (brought es Admin e.deed) ≡ true → is_manufactured (in_force o (e ∷ es)) Locking ≡ is_manufactured (in_force o es) Locking
 state-kept o e es h = ap (λ cell. number_in cell == 9) (changes-spare (factory_rows o Admin) (look_up o.tables Admin) (brought es Admin e.deed) (changes es Admin) h)
 
 -- what an event brings to the Admin SP, but for an Activate and a Revert
@@ -279,7 +279,7 @@ is_activation (InSession (Activated pin) r) = true
 is_activation (InSession (Reverted s w) r) = true
 is_activation _ = false
 
-brought-spare : (o : Opening) (es : List Event) (d : Deed) → ((x : SessionDeed) (r : Response) → d ≡ InSession x r → CanDo o es x) → list_all spares (own_changes es Admin) ≡ true → is_activation d ≡ false → list_all spares (brought es Admin d) ≡ true
+brought-spare : (o : Origin) (es : List Event) (d : Deed) → ((x : SessionDeed) (r : Response) → d ≡ InSession x r → CanDo o es x) → list_all spares (own_changes es Admin) ≡ true → is_activation d ≡ false → list_all spares (brought es Admin d) ≡ true
 brought-spare o es (InSession (Changed t c) r) can own h =
     let set : Changes es t c = can (Changed t c) r refl in
     only-spare t (unless_open (open_on es Admin) c) (λ admin. set-spare (open_on es Admin) c (row-spares c (set.row admin)))
@@ -323,7 +323,7 @@ clash-bool h g = absurd (clash (sym h ∙ g))
     clash : true ≡ false → ⊥
     clash k = cc
 
-alive-kept : (o : Opening) (e : Event) (es : List Event) → Can o es e → Kept o es → (s : Begun) → session_on (e ∷ es) Locking ≡ Some s → is_manufactured (in_force o (e ∷ es)) Locking ≡ true
+alive-kept : (o : Origin) (e : Event) (es : List Event) → Can o es e → Kept o es → (s : Begun) → session_on (e ∷ es) Locking ≡ Some s → is_manufactured (in_force o (e ∷ es)) Locking ≡ true
 alive-kept o e es can k s h = by_life (living Locking e.deed) refl
   where
     kept : is_activation e.deed ≡ false → is_manufactured (in_force o (e ∷ es)) Locking ≡ is_manufactured (in_force o es) Locking
@@ -348,7 +348,7 @@ alive-kept o e es can k s h = by_life (living Locking e.deed) refl
     by_life (Some None) life = absurd (some-none h (ap (λ x. unwrap_or x None) (latest-here (living Locking) e es None life)))
     by_life (Some (Some t)) life = by_start (begun-is Locking e.deed t life)
 
-kept : (o : Opening) (acts : List Act) → Kept o (log o acts)
+kept : (o : Origin) (acts : List Act) → Kept o (log o acts)
 kept o [] = record { owner = λ sp n h. absurd (none-some h); own = refl; alive = λ s h. absurd (none-some h) }
   where
     none-some : {A : Type 0} {a : A} → None ≡ Some a → ⊥
@@ -367,7 +367,7 @@ pub life_law : LifeLaw
 life_law o acts s h = (kept o acts).alive s h
 
 -- a session that has none open: none is open on its SP
-none-open : (o : Opening) (acts : List Act) (sp : Sp) (s : Begun) → session_on (log o acts) sp ≡ Some s → is_of s.number (open_on (log o acts) sp) ≡ false → open_on (log o acts) sp ≡ None
+none-open : (o : Origin) (acts : List Act) (sp : Sp) (s : Begun) → session_on (log o acts) sp ≡ Some s → is_of s.number (open_on (log o acts) sp) ≡ false → open_on (log o acts) sp ≡ None
 none-open o acts sp s h g = by_open (open_on (log o acts) sp) refl
   where
     same-session-of : {x y : Begun} → Some x ≡ Some y → x ≡ y

@@ -16,7 +16,7 @@ use Rattle.tcg_tokens.specs.Message.{Message}
 use Rattle.tcg_tokens.specs.Tree.{Tree, Trees, trees_of}
 use Rattle.tcg_tokens.specs.Tree as tree
 use Rattle.transactions.specs.Resets.{is_range}
-use Rattle.history.specs.Opening.{Opening}
+use Rattle.history.specs.Opening.{Origin}
 use Rattle.history.specs.SessionsReplies.{properties_told}
 use Rattle.history.specs.Readers.{waiting}
 use Rattle.history.specs.Facts.{facts}
@@ -38,7 +38,7 @@ identity_bytes : identity (facts new_drive []) ≡ replicate 96 0 ++ 0x01 ∷ 0x
 unfolding admin_sps admin_authorities locking_authorities admin_pins locking_pins locking_ranges locking_mbr_controls admin_aces authority_aces pin_aces range_aces mbr_aces this_sp_grants admin_grants authority_grants fixed_ace_gets user_ace_grants read_locked_ace_grants write_locked_ace_grants done_ace_grants pin_grants range_grants mbr_grants first_lexeme expect number_at uid_at values_up_to list_with list_value_with named_with value_of list_at status_at call_at reply_at message_at message_in number_spelling bytes_spelling any_below ranges_in verdict_of is_range zeros sectors_from authorities_of_locking any_to
 identity_bytes = refl
 
-locked : Opening
+locked : Origin
 locked = opened (range_row 1 100 10 true false true false)
 
 log_page : error_log (facts locked (log locked (read_queued 3 100 1 ∷ []))) ≡ 3 ∷ 0 ∷ 0x51 ∷ 4 ∷ 0x64 ∷ 0 ∷ 0 ∷ 0x40 ∷ 0 ∷ 0 ∷ 0 ∷ 0 ∷ 0x18 ∷ 0 ∷ replicate 497 0 ++ 0xec ∷ []
@@ -86,7 +86,7 @@ unfolding admin_sps admin_authorities locking_authorities admin_pins locking_pin
 row_properties = refl
 
 -- The Locking byte of Level 0: Manufactured and locked; then with the shadow up; then lifted.
-flags : Opening → List Act → ℕ
+flags : Origin → List Act → ℕ
 flags o acts = locking_flags (facts o (log o (reverse acts)))
 
 row_flags : flags locked [] ≡ 0x07

@@ -18,14 +18,14 @@ use Rattle.tcg_tokens.specs.Message.{Message}
 use Rattle.tcg_tokens.specs.Tree.{Tree, Trees, trees_of}
 use Rattle.tcg_tokens.specs.Tree as tree
 use Rattle.transactions.specs.Resets.{is_range}
-use Rattle.history.specs.Opening.{Opening, life_cycle, pin}
+use Rattle.history.specs.Opening.{Origin, life_cycle, pin}
 use Rattle.history.specs.SessionsReplies.{synced, refusal}
 use Rattle.history.specs.Readers.{waiting}
 use Rattle.history.specs.Decisions.{any_below}
 use Rattle.history.specs.History.{Act, log}
 use Rattle.history.proofs.Scripts.{msid, send, tell, call_of, start_as, in_it, replies, said}
 
-wide : Opening
+wide : Origin
 wide = record { tables = with_row Locking (admin_pin_uid 1) (pin msid) (with_row Admin locking_sp life_cycle (factory_contents (record { sectors = 1000; mbr_sectors = 128; msid = msid }))) }
 
 get_up_to : ℕ → Message

@@ -12,7 +12,7 @@ use Rattle.tcg_tokens.specs.Lex.{first_lexeme}
 use Rattle.tcg_tokens.specs.Reading.{expect, number_at, uid_at, values_up_to, list_with, list_value_with, named_with, value_of, list_at, status_at, call_at, reply_at, message_at, reading as message_in}
 use Rattle.tcg_tokens.specs.Spelling.{number_spelling, bytes_spelling}
 use Rattle.transactions.specs.Resets.{is_range}
-use Rattle.history.specs.Opening.{Opening}
+use Rattle.history.specs.Opening.{Origin}
 use Rattle.history.specs.Readers.{held, sector}
 use Rattle.history.specs.Facts.{facts}
 use Rattle.history.specs.Decisions.{any_below}
@@ -51,7 +51,7 @@ unfolding admin_sps admin_authorities locking_authorities admin_pins locking_pin
 mixed_fails = refl
 
 -- LockOnReset has the power cycle alone: a hardware reset leaves the locks, a power cycle sets them.
-enabled : Opening
+enabled : Origin
 enabled = opened (range_row 1 100 10 true true false false)
 
 locks_on_reset : whys enabled (Reset 1 ∷ dread 100 1 ∷ Reset 0 ∷ dread 100 1 ∷ dwrite 109 1 0 ∷ []) ≡ ReadLocked 100 1 1 ∷ WriteLocked 109 1 1 ∷ []

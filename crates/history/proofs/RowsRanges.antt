@@ -12,12 +12,12 @@ use Rattle.tcg_tokens.specs.Lex.{first_lexeme}
 use Rattle.tcg_tokens.specs.Reading.{expect, number_at, uid_at, values_up_to, list_with, list_value_with, named_with, value_of, list_at, status_at, call_at, reply_at, message_at, reading as message_in}
 use Rattle.tcg_tokens.specs.Spelling.{number_spelling, bytes_spelling}
 use Rattle.transactions.specs.Resets.{is_range}
-use Rattle.history.specs.Opening.{Opening}
+use Rattle.history.specs.Opening.{Origin}
 use Rattle.history.specs.Decisions.{any_below}
 use Rattle.history.specs.History.{Complete}
 use Rattle.history.proofs.Scripts.{range_row, opened, dread, dwrite, read_queued, whys}
 
-abbrev locked : Opening
+abbrev locked : Origin
 locked = opened (range_row 1 100 10 true false true false)
 
 unqueued_over_range : whys locked (dread 95 5 ∷ dread 95 6 ∷ dread 110 1 ∷ dwrite 100 10 0xaa ∷ []) ≡ ReadLocked 95 6 1 ∷ []

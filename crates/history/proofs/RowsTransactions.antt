@@ -19,14 +19,14 @@ use Rattle.tcg_tokens.specs.Message.{Message, begin, end}
 use Rattle.tcg_tokens.specs.Tree.{Tree, Trees, trees_of}
 use Rattle.tcg_tokens.specs.Tree as tree
 use Rattle.transactions.specs.Resets.{is_range}
-use Rattle.history.specs.Opening.{Opening}
+use Rattle.history.specs.Opening.{Origin}
 use Rattle.history.specs.SessionsReplies.{synced, refusal}
 use Rattle.history.specs.Readers.{in_force}
 use Rattle.history.specs.Decisions.{any_below}
 use Rattle.history.specs.History.{Act, Reset, log}
 use Rattle.history.proofs.Scripts.{msid, new_drive, range_row, activated, opened, dread, tell, call_of, start_as, in_it, set_cells, replies, whys, said}
 
-locked : Opening
+locked : Origin
 locked = opened (range_row 1 100 10 true false true false)
 
 script : ℕ → List Act

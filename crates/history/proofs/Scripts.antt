@@ -3,10 +3,8 @@ use Rattle.std.proofs.Common.{ℕ, ◌+◌, ◌*◌, Bool, List, [], ◌∷◌, 
 use Rattle.std.specs.Prelude.{take, drop, slice_index, ◌/◌, ◌%◌}
 use Rattle.std.specs.List.{flat_map}
 use Rattle.sp_cells.specs.Config.{Config}
-use Rattle.sp_cells.specs.declared.names.Sp.TheVariants.{Admin, Locking}
 use Rattle.sp_cells.specs.declared.names.Uid.{Uid as UidType}
-use Rattle.sp_cells.specs.Names.{this_sp, locking_sp, admin_pin_uid, range_uid, get, set, authenticate}
-use Rattle.sp_tables.specs.Contents.{factory_contents, with_row}
+use Rattle.sp_cells.specs.Names.{this_sp, get, set, authenticate}
 use Rattle.locking.specs.declared.range.RangeRow.{RangeRow}
 use Rattle.audit.specs.declared.reason.Why.{Why}
 use Rattle.compacket.specs.Spelling.{frame_bytes}
@@ -14,7 +12,7 @@ use Rattle.tcg_tokens.specs.Spelling.{item_spelling_of}
 use Rattle.tcg_tokens.specs.Message.{Message, call}
 use Rattle.tcg_tokens.specs.Tree.{Tree, Trees, trees_of}
 use Rattle.tcg_tokens.specs.Tree as tree
-use Rattle.history.specs.Opening.{Opening, changes_of, life_cycle, pin}
+use Rattle.history.specs.Opening.{Origin, factory_origin, activated_origin, with_range}
 use Rattle.history.specs.SessionsReplies.{uid_bytes, session_manager, start_session}
 use Rattle.history.specs.Events.{Event, Deed, InSession}
 use Rattle.history.specs.Answers.{sized}
@@ -26,19 +24,16 @@ msid = 0x4f ∷ 0x50 ∷ 0x41 ∷ 0x4c ∷ 0x4d ∷ 0x53 ∷ 0x49 ∷ 0x44 ∷ [
 abbrev pub config : Config
 config = record { sectors = 1000; mbr_sectors = 8; msid = msid }
 
-abbrev pub new_drive : Opening
-new_drive = record { tables = factory_contents config }
+abbrev pub new_drive : Origin
+new_drive = factory_origin config
 
 abbrev pub range_row : ℕ → ℕ → ℕ → Bool → Bool → Bool → Bool → RangeRow
 range_row range start len re we rl wl = record { range = range; start = start; length = len; read_enabled = re; write_enabled = we; read_locked = rl; write_locked = wl }
 
-abbrev pub activated : Opening
-activated = record { tables = with_row Locking (admin_pin_uid 1) (pin msid) (with_row Admin locking_sp life_cycle (factory_contents config)) }
+abbrev pub activated : Origin
+activated = activated_origin config
 
-abbrev pub with_range : RangeRow → Opening → Opening
-with_range row o = record { tables = with_row Locking (range_uid row.range) (changes_of row) o.tables }
-
-abbrev pub opened : RangeRow → Opening
+abbrev pub opened : RangeRow → Origin
 opened row = with_range row activated
 
 -- A command FIS: its code, Feature, LBA and Count.
@@ -111,21 +106,21 @@ reply_in (InSession deed response) = tokens_in response.bytes ∷ []
 reply_in _ = []
 
 -- The tokens of the responses that acts left, their reasons of denials and their errors, in the order of time.
-abbrev pub replies : Opening → List Act → List (List ℕ)
+abbrev pub replies : Origin → List Act → List (List ℕ)
 replies o acts = reverse (flat_map (λ (e : Event). reply_in e.deed) (log o (reverse acts)))
 
 abbrev pub option_list : Option Why → List Why
 option_list None = []
 option_list (Some why) = why ∷ []
 
-abbrev pub whys : Opening → List Act → List Why
+abbrev pub whys : Origin → List Act → List Why
 whys o acts = reverse (flat_map (λ (e : Event). option_list e.denied) (log o (reverse acts)))
 
 abbrev pub error_list : Option ℕ → List ℕ
 error_list None = []
 error_list (Some e) = e ∷ []
 
-abbrev pub fails_with : Opening → List Act → List ℕ
+abbrev pub fails_with : Origin → List Act → List ℕ
 fails_with o acts = reverse (flat_map (λ (e : Event). error_list e.failed) (log o (reverse acts)))
 
 abbrev pub said : Message → List ℕ

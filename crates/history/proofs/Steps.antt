@@ -11,7 +11,7 @@ use Rattle.sp_cells.specs.Flat.{sp_eq}
 use Rattle.sp_cells.specs.declared.names.Uid.{Uid}
 use Rattle.sp_cells.specs.ColumnNames.{life_cycle_state_column, pin_column}
 use Rattle.history.specs.SessionsStarts.{Begun}
-use Rattle.history.specs.Opening.{Opening}
+use Rattle.history.specs.Opening.{Origin}
 use Rattle.sp_tables.specs.Looks.{RowLook, puts_in}
 use Rattle.history.specs.Changes.{Change, Restores, apply, apply_all, reset_rows}
 use Rattle.history.specs.Events.{Attempt, Started, Tried, Changed, Began, Committed, Aborted, Ended, Activated, Reverted, Response, InSession, WasReset, Event, since, every, count}
@@ -24,10 +24,10 @@ pub apply_all-append : (factory rows : RowLook) (cs ds : List Change) → apply_
 apply_all-append factory rows [] ds = refl
 apply_all-append factory rows (c ∷ cs) ds = ap (apply factory c) (apply_all-append factory rows cs ds)
 
-pub rows-brought : (o : Opening) (e : Event) (es : List Event) (s : Sp) → rows_after o (e ∷ es) s ≡ apply_all (factory_rows o s) (brought es s e.deed) (rows_after o es s)
+pub rows-brought : (o : Origin) (e : Event) (es : List Event) (s : Sp) → rows_after o (e ∷ es) s ≡ apply_all (factory_rows o s) (brought es s e.deed) (rows_after o es s)
 rows-brought o e es s = apply_all-append (factory_rows o s) _ (brought es s e.deed) (changes es s)
 
-rows-by : (o : Opening) (e : Event) (es : List Event) (s : Sp) (cs : List Change) → brought es s e.deed ≡ cs → rows_after o (e ∷ es) s ≡ apply_all (factory_rows o s) cs (rows_after o es s)
+rows-by : (o : Origin) (e : Event) (es : List Event) (s : Sp) (cs : List Change) → brought es s e.deed ≡ cs → rows_after o (e ∷ es) s ≡ apply_all (factory_rows o s) cs (rows_after o es s)
 rows-by o e es s cs h = rows-brought o e es s ∙ ap (λ xs. apply_all (factory_rows o s) xs (rows_after o es s)) h
 
 -- the transaction of an SP
@@ -38,18 +38,18 @@ pub unturned : (s : Sp) (e : Event) (es : List Event) → turns s e.deed ≡ Non
 unturned s e es h = ap (λ y. unwrap_or y None) (latest-skip (turns s) e es h)
 
 -- begin: its view is the rows in force
-pub begun-within : (o : Opening) (e : Event) (es : List Event) (s : Sp) (n : ℕ) (r : Response) → e.deed ≡ InSession (Began s n) r → (open_on (e ∷ es) s ≡ Some n) × (rows_within o (e ∷ es) s ≡ rows_after o (e ∷ es) s) × (rows_after o (e ∷ es) s ≡ rows_after o es s)
+pub begun-within : (o : Origin) (e : Event) (es : List Event) (s : Sp) (n : ℕ) (r : Response) → e.deed ≡ InSession (Began s n) r → (open_on (e ∷ es) s ≡ Some n) × (rows_within o (e ∷ es) s ≡ rows_after o (e ∷ es) s) × (rows_after o (e ∷ es) s ≡ rows_after o es s)
 begun-within o e es s n r is =
     let opens : open_on (e ∷ es) s ≡ Some n = turned s e es (Some n) (ap (turns s) is ∙ ap (λ b. cond b (Some (Some n)) None) (sp-same s)) in
     let own : own_changes (e ∷ es) s ≡ [] = every-since-more (changes_on s) (begins s) e es true (ap (begins s) is ∙ sp-same s) in
     (opens, ap (λ x. apply_all (factory_rows o s) (if_open x (own_changes (e ∷ es) s)) (rows_after o (e ∷ es) s)) opens ∙ ap (λ xs. apply_all (factory_rows o s) xs (rows_after o (e ∷ es) s)) own, rows-by o e es s [] (ap (brought es s) is))
 
 -- a Set outside of a transaction changes the rows in force
-pub set-outside : (o : Opening) (e : Event) (es : List Event) (s : Sp) (c : Change) (r : Response) → e.deed ≡ InSession (Changed s c) r → open_on es s ≡ None → rows_after o (e ∷ es) s ≡ apply (factory_rows o s) c (rows_after o es s)
+pub set-outside : (o : Origin) (e : Event) (es : List Event) (s : Sp) (c : Change) (r : Response) → e.deed ≡ InSession (Changed s c) r → open_on es s ≡ None → rows_after o (e ∷ es) s ≡ apply (factory_rows o s) c (rows_after o es s)
 set-outside o e es s c r is closed = rows-by o e es s (c ∷ []) (ap (brought es s) is ∙ ap (λ b. cond b (unless_open (open_on es s) c) []) (sp-same s) ∙ ap (λ x. unless_open x c) closed)
 
 -- inside, its view alone
-pub set-inside : (o : Opening) (e : Event) (es : List Event) (s : Sp) (c : Change) (r : Response) (n : ℕ) → e.deed ≡ InSession (Changed s c) r → open_on es s ≡ Some n → (rows_after o (e ∷ es) s ≡ rows_after o es s) × (rows_within o (e ∷ es) s ≡ apply (factory_rows o s) c (rows_within o es s))
+pub set-inside : (o : Origin) (e : Event) (es : List Event) (s : Sp) (c : Change) (r : Response) (n : ℕ) → e.deed ≡ InSession (Changed s c) r → open_on es s ≡ Some n → (rows_after o (e ∷ es) s ≡ rows_after o es s) × (rows_within o (e ∷ es) s ≡ apply (factory_rows o s) c (rows_within o es s))
 set-inside o e es s c r n is opens =
     let same : rows_after o (e ∷ es) s ≡ rows_after o es s = rows-by o e es s [] (ap (brought es s) is ∙ ap (λ b. cond b (unless_open (open_on es s) c) []) (sp-same s) ∙ ap (λ x. unless_open x c) opens) in
     let still : open_on (e ∷ es) s ≡ Some n = unturned s e es (ap (turns s) is) ∙ opens in
@@ -64,7 +64,7 @@ set-inside o e es s c r n is opens =
     )
 
 -- a commit makes the view the rows in force
-pub committed : (o : Opening) (e : Event) (es : List Event) (s : Sp) (r : Response) → e.deed ≡ InSession (Committed s) r → (open_on (e ∷ es) s ≡ None) × (rows_after o (e ∷ es) s ≡ rows_within o es s)
+pub committed : (o : Origin) (e : Event) (es : List Event) (s : Sp) (r : Response) → e.deed ≡ InSession (Committed s) r → (open_on (e ∷ es) s ≡ None) × (rows_after o (e ∷ es) s ≡ rows_within o es s)
 committed o e es s r is = (
   turned s e es None (ap (turns s) is ∙ ap (λ b. cond b closed None) (sp-same s)),
   rows-by o e es s (open_changes es s) (ap (brought es s) is ∙ ap (λ b. cond b (open_changes es s) []) (sp-same s)),
@@ -74,38 +74,38 @@ committed o e es s r is = (
     closed = Some None
 
 -- an abort leaves the rows in force
-pub aborted : (o : Opening) (e : Event) (es : List Event) (s : Sp) (r : Response) → e.deed ≡ InSession (Aborted s) r → (open_on (e ∷ es) s ≡ None) × (rows_after o (e ∷ es) s ≡ rows_after o es s)
+pub aborted : (o : Origin) (e : Event) (es : List Event) (s : Sp) (r : Response) → e.deed ≡ InSession (Aborted s) r → (open_on (e ∷ es) s ≡ None) × (rows_after o (e ∷ es) s ≡ rows_after o es s)
 aborted o e es s r is = (turned s e es None (ap (turns s) is ∙ ap (λ b. cond b closed None) (sp-same s)), rows-by o e es s [] (ap (brought es s) is))
   where
     closed : Option (Option ℕ)
     closed = Some None
 
 -- and so does the end of a session
-pub ended : (o : Opening) (e : Event) (es : List Event) (s : Sp) (r : Response) → e.deed ≡ InSession (Ended s) r → (open_on (e ∷ es) s ≡ None) × (rows_after o (e ∷ es) s ≡ rows_after o es s)
+pub ended : (o : Origin) (e : Event) (es : List Event) (s : Sp) (r : Response) → e.deed ≡ InSession (Ended s) r → (open_on (e ∷ es) s ≡ None) × (rows_after o (e ∷ es) s ≡ rows_after o es s)
 ended o e es s r is = (turned s e es None (ap (turns s) is ∙ ap (λ b. cond b closed None) (sp-same s)), rows-by o e es s [] (ap (brought es s) is))
   where
     closed : Option (Option ℕ)
     closed = Some None
 
 -- an Activate that takes effect
-pub activated : (o : Opening) (e : Event) (es : List Event) (pin : List ℕ) (r : Response) → e.deed ≡ InSession (Activated pin) r
+pub activated : (o : Origin) (e : Event) (es : List Event) (pin : List ℕ) (r : Response) → e.deed ≡ InSession (Activated pin) r
     → (rows_after o (e ∷ es) Admin ≡ puts_in locking_sp ((life_cycle_state_column, Number manufactured) ∷ []) (rows_after o es Admin)) × (rows_after o (e ∷ es) Locking ≡ puts_in (admin_pin_uid 1) ((pin_column, Bytes pin) ∷ []) (rows_after o es Locking))
 activated o e es pin r is = (rows-by o e es Admin _ (ap (brought es Admin) is), rows-by o e es Locking _ (ap (brought es Locking) is))
 
 -- a Revert of the Locking SP, and of the Admin SP
-pub reverted-locking : (o : Opening) (e : Event) (es : List Event) (w : Bool) (r : Response) → e.deed ≡ InSession (Reverted Locking w) r
+pub reverted-locking : (o : Origin) (e : Event) (es : List Event) (w : Bool) (r : Response) → e.deed ≡ InSession (Reverted Locking w) r
     → (rows_after o (e ∷ es) Admin ≡ puts_in locking_sp ((life_cycle_state_column, Number manufactured_inactive) ∷ []) (rows_after o es Admin)) × (rows_after o (e ∷ es) Locking ≡ factory_rows o Locking)
 reverted-locking o e es w r is = (rows-by o e es Admin _ (ap (brought es Admin) is), rows-by o e es Locking (Restores ∷ []) (ap (brought es Locking) is))
 
-pub reverted-admin : (o : Opening) (e : Event) (es : List Event) (w : Bool) (r : Response) (s : Sp) → e.deed ≡ InSession (Reverted Admin w) r → rows_after o (e ∷ es) s ≡ factory_rows o s
+pub reverted-admin : (o : Origin) (e : Event) (es : List Event) (w : Bool) (r : Response) (s : Sp) → e.deed ≡ InSession (Reverted Admin w) r → rows_after o (e ∷ es) s ≡ factory_rows o s
 reverted-admin o e es w r s is = rows-by o e es s (Restores ∷ []) (ap (brought es s) is)
 
 -- a reset
-pub was_reset : (o : Opening) (e : Event) (es : List Event) (kind : ℕ) (s : Sp) → e.deed ≡ WasReset kind → (open_on (e ∷ es) s ≡ None) × (rows_after o (e ∷ es) s ≡ reset_rows kind (rows_after o es s))
+pub was_reset : (o : Origin) (e : Event) (es : List Event) (kind : ℕ) (s : Sp) → e.deed ≡ WasReset kind → (open_on (e ∷ es) s ≡ None) × (rows_after o (e ∷ es) s ≡ reset_rows kind (rows_after o es s))
 was_reset o e es kind s is = (turned s e es None (ap (turns s) is), rows-by o e es s _ (ap (brought es s) is))
 
 -- an event that turns, begins, changes and brings nothing on an SP
-pub spared : (o : Opening) (e : Event) (es : List Event) (s : Sp) → turns s e.deed ≡ None → begins s e.deed ≡ false → changes_on s e.deed ≡ None → brought es s e.deed ≡ []
+pub spared : (o : Origin) (e : Event) (es : List Event) (s : Sp) → turns s e.deed ≡ None → begins s e.deed ≡ false → changes_on s e.deed ≡ None → brought es s e.deed ≡ []
     → (open_on (e ∷ es) s ≡ open_on es s) × (rows_after o (e ∷ es) s ≡ rows_after o es s) × (rows_within o (e ∷ es) s ≡ rows_within o es s)
 spared o e es s turn start change bring =
     let same : rows_after o (e ∷ es) s ≡ rows_after o es s = rows-by o e es s [] bring in

@@ -4,7 +4,7 @@ use Rattle.sp_cells.specs.declared.names.Sp.{Sp}
 use Rattle.sp_cells.specs.declared.names.Sp.TheVariants.{Admin, Locking}
 use Rattle.sp_cells.specs.Names.{c_pin_sid}
 use Rattle.sp_cells.specs.declared.names.Uid.{Uid}
-use Rattle.history.specs.Opening.{Opening}
+use Rattle.history.specs.Opening.{Origin}
 use Rattle.history.specs.Changes.{Change, Cells, Mbr, Restores, Resets}
 use Rattle.history.specs.SessionsStarts.{Begun, is_manufactured}
 use Rattle.history.specs.Events.{SessionDeed, Unchanged, Started, Tried, Changed, Began, Committed, Aborted, Ended, Activated, Reverted, Response, InSession, Event}
@@ -17,7 +17,7 @@ pub record IsIn (past : List Event) (sp : Sp) (session : Begun) : Type 0 where
   pub on : session.sp ≡ sp
 
 -- It began on an SP that is Manufactured and had no session, with the next number.
-pub record IsNew (o : Opening) (past : List Event) (session : Begun) : Type 0 where
+pub record IsNew (o : Origin) (past : List Event) (session : Begun) : Type 0 where
   pub free : session_on past session.sp ≡ None
   pub made : is_manufactured (in_force o past) session.sp ≡ true
   pub number : session.number ≡ next_number past
@@ -52,7 +52,7 @@ pub record Changes (past : List Event) (sp : Sp) (change : Change) : Type 0 wher
   pub lives : IsIn past sp session
   pub row : sp ≡ Admin → is_of_row c_pin_sid change ≡ true
 
-abbrev pub CanDo : Opening → List Event → SessionDeed → Type 0
+abbrev pub CanDo : Origin → List Event → SessionDeed → Type 0
 CanDo o past Unchanged = Unit {0}
 CanDo o past (Started session row) = IsNew o past session
 CanDo o past (Tried attempt) = Unit {0}
@@ -65,26 +65,26 @@ CanDo o past (Activated pin) = IsOutside past × (is_manufactured (in_force o pa
 CanDo o past (Reverted sp wipes) = IsOutside past
 
 abbrev pub DeedLaw : Type 0
-DeedLaw = (o : Opening) (past : List Event) (act : Act) (deed : SessionDeed) (response : Response) → (event o past act).deed ≡ InSession deed response → CanDo o past deed
+DeedLaw = (o : Origin) (past : List Event) (act : Act) (deed : SessionDeed) (response : Response) → (event o past act).deed ≡ InSession deed response → CanDo o past deed
 
 -- An open transaction is that of the live session of its SP.
 abbrev pub OwnerLaw : Type 0
 OwnerLaw =
-    (o : Opening) (acts : List Act) (sp : Sp) (number : ℕ) → open_on (log o acts) sp ≡ Some number
+    (o : Origin) (acts : List Act) (sp : Sp) (number : ℕ) → open_on (log o acts) sp ≡ Some number
     → (session : Begun) × (session_on (log o acts) sp ≡ Some session) × (session.number ≡ number)
 
 -- While a session of the Locking SP lives, the SP is Manufactured.
 abbrev pub LifeLaw : Type 0
-LifeLaw = (o : Opening) (acts : List Act) (session : Begun) → session_on (log o acts) Locking ≡ Some session → is_manufactured (in_force o (log o acts)) Locking ≡ true
+LifeLaw = (o : Origin) (acts : List Act) (session : Begun) → session_on (log o acts) Locking ≡ Some session → is_manufactured (in_force o (log o acts)) Locking ≡ true
 
 -- At an Activate that takes effect no transaction is open.
 abbrev pub ActivateLaw : Type 0
 ActivateLaw =
-    (o : Opening) (acts : List Act) (act : Act) (pin : List ℕ) (response : Response) → (event o (log o acts) act).deed ≡ InSession (Activated pin) response
+    (o : Origin) (acts : List Act) (act : Act) (pin : List ℕ) (response : Response) → (event o (log o acts) act).deed ≡ InSession (Activated pin) response
     → (sp : Sp) → open_on (log o acts) sp ≡ None
 
 -- At a Revert none is open on the Admin SP: so none but that of a session of the Locking SP, which the Revert ends.
 abbrev pub RevertLaw : Type 0
 RevertLaw =
-    (o : Opening) (acts : List Act) (act : Act) (sp : Sp) (wipes : Bool) (response : Response) → (event o (log o acts) act).deed ≡ InSession (Reverted sp wipes) response
+    (o : Origin) (acts : List Act) (act : Act) (sp : Sp) (wipes : Bool) (response : Response) → (event o (log o acts) act).deed ≡ InSession (Reverted sp wipes) response
     → (open_on (log o acts) Admin ≡ None) × (session_on (event o (log o acts) act ∷ log o acts) Locking ≡ None)

@@ -14,7 +14,7 @@ use Rattle.sp_tables.specs.Contents.{look_up, factory_contents}
 use Rattle.audit.specs.declared.reason.AttemptFailure.{AttemptFailure}
 use Rattle.audit.specs.declared.reason.AttemptFailure.TheVariants.{WrongPin, LockedOut, Disabled, Unknown}
 use Rattle.shadow_mbr.specs.Stored.{sector_size, zeros}
-use Rattle.history.specs.Opening.{Opening}
+use Rattle.history.specs.Opening.{Origin}
 use Rattle.sp_tables.specs.Looks.{RowLook}
 use Rattle.history.specs.Changes.{Change, Cells, Restores, Resets, apply_all, byte_in, with_tries}
 use Rattle.history.specs.SessionsStarts.{Begun}
@@ -205,14 +205,14 @@ tries (event ∷ before) sp row = tries_then sp row event.deed (tries before sp 
 
 -- Rows and the shadow's bytes, in force and in a session's view.
 
-abbrev pub factory_rows : Opening → LookUp
+abbrev pub factory_rows : Origin → LookUp
 factory_rows o = look_up (factory_contents o.tables.config)
 
-abbrev pub rows_after : Opening → List Event → Sp → RowLook
+abbrev pub rows_after : Origin → List Event → Sp → RowLook
 rows_after o past sp = apply_all (factory_rows o sp) (changes past sp) (look_up o.tables sp)
 
 -- With the Sets of the transaction that is open on an SP.
-abbrev pub rows_within : Opening → List Event → Sp → RowLook
+abbrev pub rows_within : Origin → List Event → Sp → RowLook
 rows_within o past sp = apply_all (factory_rows o sp) (open_changes past sp) (rows_after o past sp)
 
 -- The transaction is this session's.
@@ -220,13 +220,13 @@ abbrev pub is_of : ℕ → Option ℕ → Bool
 is_of number None = false
 is_of number (Some owner) = owner == number
 
-abbrev pub rows_seen : Opening → List Event → ℕ → Sp → RowLook
+abbrev pub rows_seen : Origin → List Event → ℕ → Sp → RowLook
 rows_seen o past number sp = if is_of number (open_on past sp) then rows_within o past sp else rows_after o past sp
 
-abbrev pub in_force : Opening → List Event → LookUp
+abbrev pub in_force : Origin → List Event → LookUp
 in_force o past sp = with_tries (tries past sp) (rows_after o past sp)
 
-abbrev pub view : Opening → List Event → ℕ → LookUp
+abbrev pub view : Origin → List Event → ℕ → LookUp
 view o past number sp = with_tries (tries past sp) (rows_seen o past number sp)
 
 abbrev pub byte_in_force : List Event → ℕ → ℕ

@@ -6,7 +6,7 @@ use Rattle.locking.specs.declared.range.Op.{Op}
 use Rattle.locking.specs.declared.range.Op.TheVariants.{Read}
 use Rattle.audit.specs.declared.reason.Why.{Why}
 use Rattle.fis.specs.Tags.{slot_count}
-use Rattle.history.specs.Opening.{Opening}
+use Rattle.history.specs.Opening.{Origin}
 use Rattle.history.specs.TrustedCommands.{Command}
 use Rattle.locking.specs.declared.ranges.Verdict.{Verdict}
 use Rattle.locking.specs.declared.ranges.Verdict.TheVariants.{Serve, Shadow, Denied}
@@ -57,7 +57,7 @@ abbrev pub VerdictLaw : Type 0
 VerdictLaw = (ranges : RangeRows) (op : Op) (lba count : ℕ) → IsBySectors ranges op lba count
 
 -- A held command was accepted at an act of the list, on the drive, with the verdict of the rows in force there, which permitted it.
-pub record WasAccepted (o : Opening) (acts : List Act) (tag : ℕ) (h : HeldCommand) : Type 0 where
+pub record WasAccepted (o : Origin) (acts : List Act) (tag : ℕ) (h : HeldCommand) : Type 0 where
   pub before : List Act
   pub later : List Act
   pub fis : List ℕ
@@ -73,7 +73,7 @@ pub record WasAccepted (o : Opening) (acts : List Act) (tag : ℕ) (h : HeldComm
   pub permitted : IsPermitted (ranges_in_force (facts o (log o before))) op lba count
 
 abbrev pub HeldLaw : Type 0
-HeldLaw = (o : Opening) (acts : List Act) (tag : ℕ) (h : HeldCommand) → held (log o acts) tag ≡ Some h → WasAccepted o acts tag h
+HeldLaw = (o : Origin) (acts : List Act) (tag : ℕ) (h : HeldCommand) → held (log o acts) tag ≡ Some h → WasAccepted o acts tag h
 
 -- A transfer, queued or not, that comes to the policy is served exactly where it is permitted, and else aborted.
 pub record IsServed (f : Facts) (act : Act) (op : Op) (lba count : ℕ) : Type 0 where
@@ -87,4 +87,4 @@ ServiceLaw =
 
 -- Nothing is held under a tag that no slot has.
 abbrev pub TagLaw : Type 0
-TagLaw = (o : Opening) (acts : List Act) (tag : ℕ) (h : HeldCommand) → held (log o acts) tag ≡ Some h → tag < slot_count
+TagLaw = (o : Origin) (acts : List Act) (tag : ℕ) (h : HeldCommand) → held (log o acts) tag ≡ Some h → tag < slot_count
