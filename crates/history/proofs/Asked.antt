@@ -1,6 +1,6 @@
 -- What is asked belongs to its method; which objects have an access row.
 use Rattle.std.proofs.Common.{◌≡◌, ℕ, ◌==◌, Bool, true, false, ◌&&◌, ◌||◌, not, List, [], ◌∷◌, Option, Some, None, refl, sym, ◌∙◌, ap, cond, eqb-true}
-use Rattle.std.specs.Prelude.{nat_le, unwrap_or}
+use Rattle.std.specs.Prelude.{◌-◌, ◌^◌, length, option_map, nat_le}
 use Rattle.std.specs.List.{list_all}
 use Rattle.sp_cells.specs.declared.names.Uid.{Uid}
 use Rattle.sp_cells.specs.declared.names.Sp.{Sp}
@@ -10,8 +10,12 @@ use Rattle.sp_cells.specs.Authorities.{authorities_of_locking}
 use Rattle.sp_cells.specs.Flat.{sp_eq}
 use Rattle.access_list.specs.Access.{Grant, access_list, acl_in, this_sp_grants, admin_grants, authority_grants, fixed_ace_gets, user_ace_grants, read_locked_ace_grants, write_locked_ace_grants, done_ace_grants, pin_grants, range_grants, mbr_grants}
 use Rattle.tcg_tokens.specs.Tree.{Tree, Trees}
-use Rattle.history.specs.SessionsArguments.{◌>>=◌, as_number, as_bytes, as_list, as_uid, first_of, only_of, is_empty, numbered, are_distinct, named_only, value_under, optional}
-use Rattle.history.specs.MethodsAsks.{Ask, GetCells, GetBytes, SetCells, SetBytes, Authenticate, Activate, Revert, Other, is_byte_table, block, set_columns, set_bytes, attempt, asked}
+use Rattle.tcg_tokens.specs.Tree as tree
+use Rattle.call_shapes.specs.Named.{values_of, list_in, assignments, value_of, options, number_or, number_if_any, bytes_or_empty}
+use Rattle.call_shapes.specs.Asks.{uid_of, is_mbr_table, cellblock, columns_between, columns_in, is_ordered, rows_between, rows_in, cells_of, cells_to_set, cells_in, bytes_to_set, bytes_in, proof_of, proof_in, attempt_in, without_arguments, get_of, set_of, ask_of}
+use Rattle.call_shapes.specs.declared.ask.Ask.{Ask}
+use Rattle.call_shapes.specs.declared.ask.Ask.TheVariants.{GetCells, GetBytes, SetCells, SetBytes, Authenticate, Activate, Revert, Other}
+use Rattle.history.specs.MethodsJudge.{asked}
 
 -- the method that an ask is of; any for one that the drive does not know
 abbrev pub is_own : Ask → Uid → Bool
@@ -40,61 +44,102 @@ some-same h = cc
 gives-some : {A : Type 0} (p : A → Bool) (x : A) → p x ≡ true → Gives p (Some x)
 gives-some p x h = record { it = λ y is. ap p (some-same is) ∙ h }
 
-bind : {A B : Type 0} (p : B → Bool) (o : Option A) (f : A → Option B) → ((x : A) → Gives p (f x)) → Gives p (o >>= f)
-bind p None f h = gives-none p
-bind p (Some x) f h = h x
-
 gives-if : {A : Type 0} (p : A → Bool) (b : Bool) (x y : Option A) → Gives p x → Gives p y → Gives p (cond b x y)
 gives-if p true x y h g = h
 gives-if p false x y h g = g
 
-block-gives : (p : Ask → Bool) (make : ℕ → ℕ → Ask) (a b greatest : ℕ) (args : Trees) → ((first last : ℕ) → p (make first last) ≡ true) → Gives p (block make a b greatest args)
-block-gives p make a b greatest args h =
-    bind p (only_of args) _ (λ value.
-    bind p (as_list value) _ (λ cellblock.
-    bind p (named_only (a ∷ b ∷ []) cellblock) _ (λ names.
-    bind p (optional as_number (value_under a names)) _ (λ first.
-    bind p (optional as_number (value_under b names)) _ (λ last.
-    gives-if p (nat_le (unwrap_or first 0) (unwrap_or last greatest)) _ None (gives-some p (make (unwrap_or first 0) (unwrap_or last greatest)) (h (unwrap_or first 0) (unwrap_or last greatest))) (gives-none p))))))
+-- Get
+columns-gives : (p : Ask → Bool) (x : Option (List (ℕ × Tree))) → ((first last : ℕ) → p (GetCells first last) ≡ true) → Gives p (columns_in x)
+columns-gives p None h = gives-none p
+columns-gives p (Some ps) h = between (number_or 0 (value_of 3 ps)) (number_or (2 ^ 64 - 1) (value_of 4 ps))
+  where
+    between : (a b : Option ℕ) → Gives p (columns_between a b)
+    between None b = gives-none p
+    between (Some a) None = gives-none p
+    between (Some a) (Some b) = gives-if p (nat_le a b) _ None (gives-some p (GetCells a b) (h a b)) (gives-none p)
 
-set_columns-gives : (p : Ask → Bool) (args : Trees) → ((values : List (ℕ × Tree)) → p (SetCells values) ≡ true) → Gives p (set_columns args)
-set_columns-gives p args h =
-    bind p (named_only (1 ∷ []) args) _ (λ names.
-    bind p (value_under 1 names) _ (λ value.
-    bind p (as_list value) _ (λ row.
-    bind p (numbered row) _ (λ values.
-    gives-if p (are_distinct values) _ None (gives-some p (SetCells values) (h values)) (gives-none p)))))
+rows-gives : (p : Ask → Bool) (x : Option (List (ℕ × Tree))) → ((first : ℕ) (last : Option ℕ) → p (GetBytes first last) ≡ true) → Gives p (rows_in x)
+rows-gives p None h = gives-none p
+rows-gives p (Some ps) h = between (number_or 0 (value_of 1 ps)) (number_if_any (value_of 2 ps))
+  where
+    between : (a : Option ℕ) (b : Option (Option ℕ)) → Gives p (rows_between a b)
+    between None b = gives-none p
+    between (Some a) None = gives-none p
+    between (Some a) (Some b) = gives-if p (is_ordered a b) _ None (gives-some p (GetBytes a b) (h a b)) (gives-none p)
 
-set_bytes-gives : (p : Ask → Bool) (args : Trees) → ((at : ℕ) (content : List ℕ) → p (SetBytes at content) ≡ true) → Gives p (set_bytes args)
-set_bytes-gives p args h =
-    bind p (named_only (0 ∷ 1 ∷ []) args) _ (λ names.
-    bind p (optional as_number (value_under 0 names)) _ (λ place.
-    bind p (value_under 1 names) _ (λ value.
-    bind p (as_bytes value) _ (λ content. gives-some p (SetBytes (unwrap_or place 0) content) (h (unwrap_or place 0) content)))))
+get-gives : (p : Ask → Bool) (b : Bool) (args : List Tree) → ((first : ℕ) (last : Option ℕ) → p (GetBytes first last) ≡ true) → ((first last : ℕ) → p (GetCells first last) ≡ true) → Gives p (get_of b args)
+get-gives p true args h g = rows-gives p (cellblock 1 2 args) h
+get-gives p false args h g = columns-gives p (cellblock 3 4 args) g
 
-attempt-gives : (p : Ask → Bool) (args : Trees) → ((a : Uid) (pin : List ℕ) → p (Authenticate a pin) ≡ true) → Gives p (attempt args)
-attempt-gives p args h =
-    bind p (first_of args) _ (λ first.
-    bind p (as_uid first.0) _ (λ authority.
-    bind p (named_only (0 ∷ []) first.1) _ (λ names.
-    bind p (optional as_bytes (value_under 0 names)) _ (λ pin. gives-some p (Authenticate authority (unwrap_or pin [])) (h authority (unwrap_or pin []))))))
+-- Set
+assigned-gives : (p : Ask → Bool) (x : Option (List (ℕ × Tree))) → ((values : List (ℕ × Tree)) → p (SetCells values) ≡ true) → Gives p (option_map SetCells x)
+assigned-gives p None h = gives-none p
+assigned-gives p (Some values) h = gives-some p (SetCells values) (h values)
+
+list-gives : (p : Ask → Bool) (x : Option (List Tree)) → ((values : List (ℕ × Tree)) → p (SetCells values) ≡ true) → Gives p (cells_of x)
+list-gives p None h = gives-none p
+list-gives p (Some ts) h = assigned-gives p (assignments ts) h
+
+value-gives : (p : Ask → Bool) (x : Option Tree) → ((values : List (ℕ × Tree)) → p (SetCells values) ≡ true) → Gives p (cells_to_set x)
+value-gives p None h = gives-none p
+value-gives p (Some t) h = list-gives p (list_in t) h
+
+cells-gives : (p : Ask → Bool) (x : Option (List (ℕ × Tree))) → ((values : List (ℕ × Tree)) → p (SetCells values) ≡ true) → Gives p (cells_in x)
+cells-gives p None h = gives-none p
+cells-gives p (Some ps) h = value-gives p (value_of 1 ps) h
+
+bytes-gives : (p : Ask → Bool) (x : Option (List (ℕ × Tree))) → ((at : ℕ) (content : List ℕ) → p (SetBytes at content) ≡ true) → Gives p (bytes_in x)
+bytes-gives p None h = gives-none p
+bytes-gives p (Some ps) h = by_parts (number_or 0 (value_of 0 ps)) (value_of 1 ps)
+  where
+    by_parts : (a : Option ℕ) (b : Option Tree) → Gives p (bytes_to_set a b)
+    by_parts None b = gives-none p
+    by_parts (Some a) None = gives-none p
+    by_parts (Some a) (Some (tree.bytes content)) = gives-some p (SetBytes a content) (h a content)
+    by_parts (Some a) (Some (tree.number n)) = gives-none p
+    by_parts (Some a) (Some (tree.list ts)) = gives-none p
+    by_parts (Some a) (Some (tree.named n v)) = gives-none p
+
+set-gives : (p : Ask → Bool) (b : Bool) (args : List Tree) → ((at : ℕ) (content : List ℕ) → p (SetBytes at content) ≡ true) → ((values : List (ℕ × Tree)) → p (SetCells values) ≡ true) → Gives p (set_of b args)
+set-gives p true args h g = bytes-gives p (options (0 ∷ 1 ∷ []) args) h
+set-gives p false args h g = cells-gives p (options (1 ∷ []) args) g
+
+-- Authenticate, Activate, Revert
+proof-gives : (p : Ask → Bool) (a : Uid) (x : Option (List (ℕ × Tree))) → ((pin : List ℕ) → p (Authenticate a pin) ≡ true) → Gives p (proof_in a x)
+proof-gives p a None h = gives-none p
+proof-gives p a (Some ps) h = by_bytes (bytes_or_empty (value_of 0 ps))
+  where
+    by_bytes : (x : Option (List ℕ)) → Gives p (proof_of a x)
+    by_bytes None = gives-none p
+    by_bytes (Some pin) = gives-some p (Authenticate a pin) (h pin)
+
+attempt-gives : (p : Ask → Bool) (args : List Tree) → ((a : Uid) (pin : List ℕ) → p (Authenticate a pin) ≡ true) → Gives p (attempt_in args)
+attempt-gives p [] h = gives-none p
+attempt-gives p (tree.bytes b ∷ rest) h = gives-if p (length b == 8) _ None (proof-gives p (uid_of b) (options (0 ∷ []) rest) (h (uid_of b))) (gives-none p)
+attempt-gives p (tree.number n ∷ rest) h = gives-none p
+attempt-gives p (tree.list ts ∷ rest) h = gives-none p
+attempt-gives p (tree.named n v ∷ rest) h = gives-none p
+
+nothing-gives : (p : Ask → Bool) (ask : Ask) (args : List Tree) → p ask ≡ true → Gives p (without_arguments ask args)
+nothing-gives p ask [] h = gives-some p ask h
+nothing-gives p ask (t ∷ ts) h = gives-none p
 
 -- by one test after another
 by-test : (p : Ask → Bool) (b : Bool) (x y : Option Ask) → (b ≡ true → Gives p x) → (b ≡ false → Gives p y) → Gives p (cond b x y)
 by-test p true x y h g = h refl
 by-test p false x y h g = g refl
 
-asked-gives : (size : ℕ) (sp : Sp) (object method : Uid) (args : Trees) → Gives (λ ask. is_own ask method) (asked size sp object method args)
-asked-gives size sp object method args =
+asked-gives : (sp : Sp) (object method : Uid) (args : List Tree) → Gives (λ ask. is_own ask method) (ask_of sp object method args)
+asked-gives sp object method args =
     let p : Ask → Bool = λ ask. is_own ask method in
-    by-test p (method.0 == get.0) _ _ (λ is. gives-if p (is_byte_table sp object) _ _ (block-gives p GetBytes 1 2 _ args (λ a b. is)) (block-gives p GetCells 3 4 _ args (λ a b. is))) (λ no_get.
-    by-test p (method.0 == set.0) _ _ (λ is. gives-if p (is_byte_table sp object) _ _ (set_bytes-gives p args (λ a b. is)) (set_columns-gives p args (λ a. is))) (λ no_set.
+    by-test p (method.0 == get.0) _ _ (λ is. get-gives p (is_mbr_table sp object) args (λ a b. is) (λ a b. is)) (λ no_get.
+    by-test p (method.0 == set.0) _ _ (λ is. set-gives p (is_mbr_table sp object) args (λ a b. is) (λ a. is)) (λ no_set.
     by-test p (method.0 == authenticate.0) _ _ (λ is. attempt-gives p args (λ a b. is)) (λ no_authenticate.
-    by-test p (method.0 == activate.0) _ _ (λ is. gives-if p (is_empty args) _ None (gives-some p Activate is) (gives-none p)) (λ no_activate.
-    by-test p (method.0 == revert.0) _ _ (λ is. gives-if p (is_empty args) _ None (gives-some p Revert is) (gives-none p)) (λ no_revert. gives-some p Other refl)))))
+    by-test p (method.0 == activate.0) _ _ (λ is. nothing-gives p Activate args is) (λ no_activate.
+    by-test p (method.0 == revert.0) _ _ (λ is. nothing-gives p Revert args is) (λ no_revert. gives-some p Other refl)))))
 
-pub asked-own : (size : ℕ) (sp : Sp) (object method : Uid) (args : Trees) (ask : Ask) → asked size sp object method args ≡ Some ask → is_own ask method ≡ true
-asked-own size sp object method args ask h = (asked-gives size sp object method args).it ask h
+pub asked-own : (sp : Sp) (object method : Uid) (args : Trees) (ask : Ask) → asked sp object method args ≡ Some ask → is_own ask method ≡ true
+asked-own sp object method args ask h = (asked-gives sp object method (values_of args)).it ask h
 
 -- the objects that have a row
 abbrev pub is_row_of : Sp → Uid → Grant → Bool

@@ -11,7 +11,8 @@ use Rattle.std.proofs.Math.Path.{fun_ext}
 use Rattle.std.specs.Prelude.{is_some, nat_le, option_map, option_to_list}
 use Rattle.std.specs.List.{flat_map}
 use Rattle.tcg_tokens.specs.Tree.{Tree}
-use Rattle.history.specs.MethodsAsks.{Ask, GetCells, GetBytes, SetCells, SetBytes, Authenticate, Activate, Revert, Other}
+use Rattle.call_shapes.specs.declared.ask.Ask.{Ask}
+use Rattle.call_shapes.specs.declared.ask.Ask.TheVariants.{GetCells, GetBytes, SetCells, SetBytes, Authenticate, Activate, Revert, Other}
 use Rattle.history.specs.MethodsJudge.{Standing, has_entry, needs, first_without, unless_any, unless_granted, denial_by, denial, listed, column_numbers, pairs_tree, gives, does, unless_denied, judged}
 use Rattle.sp_cells.specs.Names.{get, col}
 use Rattle.sp_cells.specs.Flat.{LookUp}

@@ -1,6 +1,7 @@
 -- Which deed an item can do, and what follows for open transactions.
-use Rattle.std.proofs.Common.{◌≡◌, ℕ, ◌==◌, ◌+◌, Bool, true, false, not, List, [], ◌∷◌, Option, Some, None, refl, sym, ◌∙◌, ap, cond, inl, inr, eqb-true, eq-eqb}
-use Rattle.std.specs.Prelude.{is_some, nat_le, nat_lt, zero, suc, unwrap_or, length, Result, Ok, Err}
+use Rattle.std.proofs.Common.{◌≡◌, ℕ, ◌==◌, ◌+◌, Bool, true, false, not, ◌&&◌, ◌||◌, map, List, [], ◌∷◌, ◌++◌, Option, Some, None, refl, sym, ◌∙◌, ap, cond, inl, inr, eqb-true, eq-eqb}
+use Rattle.std.specs.Prelude.{nat_le, nat_lt, zero, suc, unwrap_or, length, Result, Ok, Err}
+use Rattle.std.specs.List.{list_any}
 use Rattle.sp_cells.specs.declared.names.Uid.{Uid}
 use Rattle.sp_cells.specs.declared.names.Sp.{Sp}
 use Rattle.sp_cells.specs.declared.names.Sp.TheVariants.{Admin, Locking}
@@ -16,27 +17,34 @@ use Rattle.tcg_tokens.specs.Message.{Message, call, reply, end_session, begin, e
 use Rattle.tcg_tokens.specs.Tree.{Tree, Trees}
 use Rattle.history.specs.Opening.{Origin}
 use Rattle.history.specs.Changes.{Change, Mbr}
-use Rattle.sp_cells.specs.Flat.{sp_eq}
 use Rattle.sp_cells.specs.ColumnNames.{pin_column}
-use Rattle.history.specs.SessionsAttempts.{failure_of, bytes_in}
-use Rattle.history.specs.SessionsArguments.{uid_from}
-use Rattle.history.specs.SessionsReplies.{properties, start_session, properties_told, properties_refused, refusal, fail}
-use Rattle.history.specs.SessionsStarts.{Begun, StartCall, start_call, is_properties, is_manufactured, is_session_number, sp_of, Start, NotBegun, FailedOn, BeginsOn, by_attempt, start_on, start_of}
-use Rattle.history.specs.MethodsValues.{cells_of}
-use Rattle.history.specs.MethodsAsks.{Ask, GetCells, GetBytes, SetCells, SetBytes, Authenticate, Activate, Revert, Other, asked}
-use Rattle.history.specs.MethodsJudge.{Standing, Judgement, Refused, Gives, Makes, Attempts, Activates, Reverts, denial_by, denial, unless_open, reverted_sp, set_unless, sets, gives, listing, bytes_between, does, unless_denied, judged}
+use Rattle.sessions.specs.Attempts.{failure as failure_of}
+use Rattle.call_shapes.specs.Asks.{uid_of}
+use Rattle.history.specs.Sessions.{properties, start_session, Begun}
+use Rattle.call_shapes.specs.Statuses.{fail}
+use Rattle.sessions.specs.Properties.{properties_message}
+use Rattle.history.specs.MethodsJudge.{refusal, cells_of, asked, Standing, Judgement, Refuses, Gives, Makes, Attempts, Activates, Reverts, denial_by, denial, unless_open, reverted_sp, set_unless, sets, gives, listing, bytes_between, last_row, does, unless_denied, judged}
+use Rattle.sessions.specs.declared.opening.Opening.{Opening}
+use Rattle.sessions.specs.declared.opening.StartVerdict.{StartVerdict}
+use Rattle.sessions.specs.declared.opening.StartVerdict.TheVariants.{Refused, Attempted}
+use Rattle.sessions.specs.Live.{Live, lives_on}
+use Rattle.sessions.specs.Starts.{opening_of, is_in_use, sp_named, is_full, verdict_on}
+use Rattle.call_shapes.specs.Named.{values_of}
+use Rattle.sp_cells.specs.Flat.{LookUp, sp_eq}
+use Rattle.call_shapes.specs.declared.ask.Ask.{Ask}
+use Rattle.call_shapes.specs.declared.ask.Ask.TheVariants.{GetCells, GetBytes, SetCells, SetBytes, Authenticate, Activate, Revert, Other}
 use Rattle.history.specs.Events.{SessionDeed, Unchanged, Started, Tried, Changed, Began, Committed, Aborted, Ended, Activated, Reverted, Deed, Nothing, InSession, OfQueue, Wrote, Took, WasReset, Event}
-use Rattle.history.specs.Readers.{living, lives_by, restores, session_on, next_number, open_on, is_of, in_force}
-use Rattle.history.specs.Facts.{facts, shadow_bytes, lives, has_open, standing}
-use Rattle.history.specs.Decisions.{Outcome, says, tried_in, started_by, started, is_method_of_manager, to_manager, outcome_of, judgement_on, begins_on, ended_by, ends_on, in_session}
+use Rattle.history.specs.Readers.{living, lives_by, restores, session_on, open_on, is_of, in_force}
+use Rattle.history.specs.Facts.{facts, numbered, live, has_open, standing}
+use Rattle.history.specs.Decisions.{Outcome, says, tried_in, start_verdict, deed_of_start, start_deed, started, is_method_of_manager, to_manager, outcome_of, judgement_on, begins_on, ended_by, ends_on, in_session}
 use Rattle.history.specs.Deeds.{IsIn, is_of_row, CanDo, DeedLaw}
-use Rattle.history.proofs.Words.{latest-here, latest-skip, sp-is}
+use Rattle.history.proofs.Words.{latest-here, latest-skip, sp-is, sp-same}
 use Rattle.history.proofs.Items.{item-from}
 use Rattle.history.proofs.Asked.{is_own, asked-own, activate-admin, revert-admin, set-c_pin_sid}
 
 -- the kinds of judgements, a refusal being 0, and of asks
 abbrev kind : Judgement → ℕ
-kind (Refused status denied) = 0
+kind (Refuses status denied) = 0
 kind (Gives results) = 1
 kind (Makes change) = 2
 kind (Attempts authority pin) = 3
@@ -61,7 +69,7 @@ kind-if true x y k n z h g = h g
 kind-if false x y k n z h g = absurd (zero-one (sym z ∙ g))
 
 gives-kind : (t : Tree) (k : ℕ) → kind (gives t) ≡ suc k → 1 ≡ suc k
-gives-kind t k h = kind-if _ (Gives _) (Refused 0x11 None) k 1 refl (λ g. g) h
+gives-kind t k h = kind-if _ (Gives _) (Refuses 0x11 None) k 1 refl (λ g. g) h
 
 set-kind : (fault : Option SetError) (object : Uid) (cells : List (Column × Cell)) (k : ℕ) → kind (set_unless fault object cells) ≡ suc k → 2 ≡ suc k
 set-kind None object cells k h = h
@@ -77,9 +85,11 @@ open-kind false j k h = (h, refl)
 
 does-kind : (s : Standing) (object : Uid) (ask : Ask) (k : ℕ) → kind (does s object ask) ≡ suc k → kind_of ask ≡ suc k
 does-kind s object (GetCells first last) k h = gives-kind (listing s object first last) k h
-does-kind s object (GetBytes first last) k h = kind-if (nat_lt last s.size) (gives (bytes_between s first last)) (Refused 0x0c None) k 1 refl (gives-kind (bytes_between s first last) k) h
+does-kind s object (GetBytes first last) k h =
+    let to = last_row s.size last in
+    kind-if (nat_le first to && nat_lt to s.size) (gives (bytes_between s first to)) (Refuses 0x0c None) k 1 refl (gives-kind (bytes_between s first to) k) h
 does-kind s object (SetCells values) k h = sets-kind s object (cells_of object values) k h
-does-kind s object (SetBytes place content) k h = kind-if (nat_le (place + length content) s.size) (Makes (Mbr place content)) (Refused 0x0c None) k 2 refl (λ g. g) h
+does-kind s object (SetBytes place content) k h = kind-if (nat_le (place + length content) s.size) (Makes (Mbr place content)) (Refuses 0x0c None) k 2 refl (λ g. g) h
 does-kind s object (Authenticate a pin) k h = h
 does-kind s object Activate k h = (open-kind s.is_open Activates k h).0
 does-kind s object Revert k h = (open-kind s.is_open (Reverts (reverted_sp object)) k h).0
@@ -107,10 +117,10 @@ granted-by s object method k j ask own None is h g =
     let r = row-needed s object method ask (acl_at s.sp object method) refl is in
     record { ask = ask; own = own; row = r.0; has = r.1; does = h; kind = does-kind s object ask k (ap kind h ∙ g) }
 
-granted : (s : Standing) (size : ℕ) (object method : Uid) (args : Trees) (k : ℕ) (j : Judgement) (ask : Option Ask) → asked size s.sp object method args ≡ ask → judged s object method ask ≡ j → kind j ≡ suc k → Granted s object method k j
-granted s size object method args k j None is h g = absurd (zero-one (ap kind h ∙ g))
-granted s size object method args k j (Some ask) is h g =
-    granted-by s object method k j ask (asked-own size s.sp object method args ask is) (denial s object method ask) refl h g
+granted : (s : Standing) (object method : Uid) (args : Trees) (k : ℕ) (j : Judgement) (ask : Option Ask) → asked s.sp object method args ≡ ask → judged s object method ask ≡ j → kind j ≡ suc k → Granted s object method k j
+granted s object method args k j None is h g = absurd (zero-one (ap kind h ∙ g))
+granted s object method args k j (Some ask) is h g =
+    granted-by s object method k j ask (asked-own s.sp object method args ask is) (denial s object method ask) refl h g
 
 -- Activate and Revert: a session of the Admin SP that has no transaction open
 activate-is : (ask : Ask) (method : Uid) → is_own ask method ≡ true → kind_of ask ≡ 4 → (ask ≡ Activate) × ((method.0 == activate.0) ≡ true)
@@ -159,7 +169,7 @@ sets-row : (s : Standing) (object : Uid) (cells : Option (List (Column × Cell))
 sets-row s object None c h = absurd (zero-one (ap kind h))
 sets-row s object (Some cells) c h = set-row _ object cells c h
 
-bytes-row : (b : Bool) (object : Uid) (place : ℕ) (content : List ℕ) (c : Change) → cond b (Makes (Mbr place content)) (Refused 0x0c None) ≡ Makes c → is_of_row object c ≡ true
+bytes-row : (b : Bool) (object : Uid) (place : ℕ) (content : List ℕ) (c : Change) → cond b (Makes (Mbr place content)) (Refuses 0x0c None) ≡ Makes c → is_of_row object c ≡ true
 bytes-row true object place content c h = ap (is_of_row object) (made-same h)
 bytes-row false object place content c h = absurd (zero-one (ap kind h))
 
@@ -241,30 +251,30 @@ in-admin : (past : List Event) (s : Begun) → session_on past s.sp ≡ Some s �
 in-admin past s h admin = record { lives = ap (session_on past) (sym admin) ∙ h; on = admin }
 
 judged-can : (o : Origin) (past : List Event) (s : Begun) → session_on past s.sp ≡ Some s → (object method : Uid) (args : Trees) (j : Judgement) → judgement_on (facts o past) s object method args ≡ j → CanDo o past (outcome_of (facts o past) s.sp j).deed
-judged-can o past s h object method args (Refused status denied) is = tt
+judged-can o past s h object method args (Refuses status denied) is = tt
 judged-can o past s h object method args (Gives results) is = tt
 judged-can o past s h object method args (Makes c) is = record {
   session = s;
   lives = record { lives = h; on = refl };
-  row = λ admin. makes-sid (standing (facts o past) s) object method c (granted (standing (facts o past) s) (shadow_bytes (facts o past)) object method args 1 (Makes c) (asked (shadow_bytes (facts o past)) s.sp object method args) refl is refl) admin;
+  row = λ admin. makes-sid (standing (facts o past) s) object method c (granted (standing (facts o past) s) object method args 1 (Makes c) (asked s.sp object method args) refl is refl) admin;
 }
 judged-can o past s h object method args (Attempts authority pin) is = by_failure (failure_of (in_force o past) s.sp authority pin)
   where
     by_failure : (x : Option AttemptFailure) → CanDo o past (tried_in (facts o past) s.sp authority x).deed
     by_failure None = tt
     by_failure (Some x) = tt
-judged-can o past s h object method args Activates is = by_state (is_manufactured (in_force o past) Locking) refl
+judged-can o past s h object method args Activates is = by_state (is_in_use (in_force o past) Locking) refl
   where
     outside : (s.sp ≡ Admin) × (has_open (facts o past) s ≡ false)
-    outside = activates-outside (standing (facts o past) s) object method (granted (standing (facts o past) s) (shadow_bytes (facts o past)) object method args 3 Activates (asked (shadow_bytes (facts o past)) s.sp object method args) refl is refl)
+    outside = activates-outside (standing (facts o past) s) object method (granted (standing (facts o past) s) object method args 3 Activates (asked s.sp object method args) refl is refl)
 
-    by_state : (b : Bool) → is_manufactured (in_force o past) Locking ≡ b → CanDo o past (cond b Unchanged (Activated (bytes_in (in_force o past Admin c_pin_sid pin_column))))
+    by_state : (b : Bool) → is_in_use (in_force o past) Locking ≡ b → CanDo o past (cond b Unchanged (Activated (in_force o past Admin c_pin_sid pin_column)))
     by_state true g = tt
     by_state false g = (record { session = s; lives = in-admin past s h outside.0; outside = ap (λ x. is_of s.number (open_on past x)) (sym outside.0) ∙ outside.1 }, g)
 judged-can o past s h object method args (Reverts sp) is = record { session = s; lives = in-admin past s h outside.0; outside = ap (λ x. is_of s.number (open_on past x)) (sym outside.0) ∙ outside.1 }
   where
     outside : (s.sp ≡ Admin) × (has_open (facts o past) s ≡ false)
-    outside = reverts-outside (standing (facts o past) s) object method sp (granted (standing (facts o past) s) (shadow_bytes (facts o past)) object method args 4 (Reverts sp) (asked (shadow_bytes (facts o past)) s.sp object method args) refl is refl)
+    outside = reverts-outside (standing (facts o past) s) object method sp (granted (standing (facts o past) s) object method args 4 (Reverts sp) (asked s.sp object method args) refl is refl)
 
 ended-can : (o : Origin) (past : List Event) (s : Begun) → session_on past s.sp ≡ Some s → is_of s.number (open_on past s.sp) ≡ true → (n : ℕ) → CanDo o past (ended_by s.sp n).deed
 ended-can o past s h own zero = record { session = s; lives = record { lives = h; on = refl }; own = own }
@@ -274,7 +284,7 @@ session-can : (o : Origin) (past : List Event) (s : Begun) → session_on past s
 session-can o past s h (Err e) = tt
 session-can o past s h (Ok (reply results status)) = tt
 session-can o past s h (Ok end_session) = (s, record { lives = h; on = refl })
-session-can o past s h (Ok (call object method args status)) = judged-can o past s h (uid_from object) (uid_from method) args (judgement_on (facts o past) s (uid_from object) (uid_from method) args) refl
+session-can o past s h (Ok (call object method args status)) = judged-can o past s h (uid_of object) (uid_of method) args (judgement_on (facts o past) s (uid_of object) (uid_of method) args) refl
 session-can o past s h (Ok (begin n)) = by_open (open_on past s.sp) refl
   where
     by_open : (x : Option ℕ) → open_on past s.sp ≡ x → CanDo o past (begins_on s.sp s.number x).deed
@@ -287,31 +297,62 @@ session-can o past s h (Ok (end n)) = by_open (has_open (facts o past) s) refl
     by_open false is = tt
 
 -- what an item of the session manager can do
-no_session : (x : Option Begun) → is_some x ≡ false → x ≡ None
-no_session None h = refl
-no_session (Some s) h = cc
+abbrev alive : Sp → Option Begun → Bool
+alive sp None = false
+alive sp (Some s) = sp_eq s.sp sp
 
-begins-new : (o : Origin) (past : List Event) (c : StartCall) (sp sp' : Sp) (x : Option AttemptFailure) (m l n : Bool) → is_manufactured (in_force o past) sp' ≡ m → is_some (session_on past sp') ≡ l
-    → cond (not m) (NotBegun 0x0c) (cond l (NotBegun 3) (cond (not n) (NotBegun 7) (by_attempt sp' x))) ≡ BeginsOn sp → (session_on past sp ≡ None) × (is_manufactured (in_force o past) sp ≡ true)
-begins-new o past c sp sp' x false l n is lives h = cc
-begins-new o past c sp sp' x true true n is lives h = cc
-begins-new o past c sp sp' x true false false is lives h = cc
-begins-new o past c sp sp' (Some y) true false true is lives h = cc
-begins-new o past c sp sp' None true false true is lives h =
-    let same : sp' ≡ sp = cc in (ap (session_on past) (sym same) ∙ no_session (session_on past sp') lives, ap (is_manufactured (in_force o past)) (sym same) ∙ is)
+or-false : (b : Bool) → (b || false) ≡ b
+or-false true = refl
+or-false false = refl
 
-start-new : (o : Origin) (past : List Event) (c : StartCall) (sp : Sp) (x : Option Sp) → start_on (in_force o past) (lives (facts o past)) (next_number past) c x ≡ BeginsOn sp → (session_on past sp ≡ None) × (is_manufactured (in_force o past) sp ≡ true)
-start-new o past c sp None h = cc
-start-new o past c sp (Some sp') h = begins-new o past c sp sp' (failure_of (in_force o past) sp' c.authority c.pin) _ _ (is_session_number (next_number past)) refl refl h
+alive-live : (sp : Sp) (a b : Option Begun) → list_any (λ s. sp_eq s.sp sp) (map (λ e. e.1) (numbered a ++ numbered b)) ≡ (alive sp a || alive sp b)
+alive-live sp None None = refl
+alive-live sp None (Some t) = or-false (sp_eq t.sp sp)
+alive-live sp (Some s) None = refl
+alive-live sp (Some s) (Some t) = ap (λ b. sp_eq s.sp sp || b) (or-false (sp_eq t.sp sp))
 
-started-can : (o : Origin) (past : List Event) (com_id : ℕ) (args : Trees) (c : Option StartCall) → CanDo o past (started (facts o past) com_id args c).deed
-started-can o past com_id args None = tt
-started-can o past com_id args (Some c) = by_start (start_of (in_force o past) (lives (facts o past)) (next_number past) c) refl
+neither : (a b : Bool) → (a || b) ≡ false → (a ≡ false) × (b ≡ false)
+neither true b h = cc
+neither false b h = (refl, h)
+
+true-false : true ≡ false → ⊥
+true-false h = cc
+
+none-alive : (past : List Event) (sp : Sp) (x : Option Begun) → session_on past sp ≡ x → alive sp x ≡ false → session_on past sp ≡ None
+none-alive past sp None is h = is
+none-alive past sp (Some s) is h =
+    absurd (true-false (sym (ap (λ t. sp_eq t sp) (session-on past sp s is) ∙ sp-same sp) ∙ h))
+
+no-session : (o : Origin) (past : List Event) (sp : Sp) → lives_on sp (live (facts o past)) ≡ false → session_on past sp ≡ None
+no-session o past Admin h =
+    let apart = neither (alive Admin (session_on past Admin)) (alive Admin (session_on past Locking)) (sym (alive-live Admin (session_on past Admin) (session_on past Locking)) ∙ h) in
+    none-alive past Admin (session_on past Admin) refl apart.0
+no-session o past Locking h =
+    let apart = neither (alive Locking (session_on past Admin)) (alive Locking (session_on past Locking)) (sym (alive-live Locking (session_on past Admin) (session_on past Locking)) ∙ h) in
+    none-alive past Locking (session_on past Locking) refl apart.1
+
+begins-new : (look : LookUp) (l : Live) (sp sp' : Sp) (x : Option AttemptFailure) (m b n : Bool) → is_in_use look sp' ≡ m → lives_on sp' l ≡ b
+    → cond (not m) (Refused 0x0c) (cond b (Refused 3) (cond n (Refused 7) (Attempted sp' x))) ≡ Attempted sp None → (lives_on sp l ≡ false) × (is_in_use look sp ≡ true)
+begins-new look l sp sp' x false b n is lives h = cc
+begins-new look l sp sp' x true true n is lives h = cc
+begins-new look l sp sp' x true false true is lives h = cc
+begins-new look l sp sp' x true false false is lives h =
+    let same : sp' ≡ sp = cc in (ap (λ s. lives_on s l) (sym same) ∙ lives, ap (is_in_use look) (sym same) ∙ is)
+
+start-new : (look : LookUp) (l : Live) (opening : Opening) (sp : Sp) (x : Option Sp) → verdict_on look l opening x ≡ Attempted sp None → (lives_on sp l ≡ false) × (is_in_use look sp ≡ true)
+start-new look l opening sp None h = cc
+start-new look l opening sp (Some sp') h = begins-new look l sp sp' (failure_of look sp' opening.authority opening.proof) (is_in_use look sp') (lives_on sp' l) (is_full l) refl refl h
+
+started-can : (o : Origin) (past : List Event) (com_id : ℕ) (x : Option Opening) → CanDo o past (start_deed (facts o past) com_id x)
+started-can o past com_id None = tt
+started-can o past com_id (Some opening) = by_verdict (start_verdict (facts o past) (Some opening)) refl
   where
-    by_start : (x : Start) → start_of (in_force o past) (lives (facts o past)) (next_number past) c ≡ x → CanDo o past (started_by (facts o past) com_id c x).deed
-    by_start (NotBegun status) is = tt
-    by_start (FailedOn sp failure) is = tt
-    by_start (BeginsOn sp) is = let x = start-new o past c sp (sp_of c.spid) is in record { free = x.0; made = x.1; number = refl }
+    by_verdict : (v : StartVerdict) → start_verdict (facts o past) (Some opening) ≡ v → CanDo o past (deed_of_start (facts o past) com_id opening v)
+    by_verdict (Refused status) is = tt
+    by_verdict (Attempted sp (Some failure)) is = tt
+    by_verdict (Attempted sp None) is =
+        let x = start-new (in_force o past) (live (facts o past)) opening sp (sp_named opening.spid) is in
+        record { free = no-session o past sp x.0; made = x.1; number = refl }
 
 either-can : (o : Origin) (past : List Event) (b : Bool) (x y : Outcome) → CanDo o past x.deed → CanDo o past y.deed → CanDo o past (cond b x y).deed
 either-can o past true x y h g = h
@@ -319,8 +360,8 @@ either-can o past false x y h g = g
 
 manager-can : (o : Origin) (past : List Event) (com_id : ℕ) (read : Result Message TokenError) → CanDo o past (to_manager (facts o past) com_id read).deed
 manager-can o past com_id (Ok (call object method args status)) =
-    either-can o past (is_method_of_manager properties (uid_from object) (uid_from method)) (says Unchanged (cond (is_properties args) properties_told properties_refused)) _ tt
-    (either-can o past (is_method_of_manager start_session (uid_from object) (uid_from method)) (started (facts o past) com_id args (start_call args)) (says Unchanged (refusal fail)) (started-can o past com_id args (start_call args)) tt)
+    either-can o past (is_method_of_manager properties (uid_of object) (uid_of method)) (says Unchanged (properties_message (values_of args))) _ tt
+    (either-can o past (is_method_of_manager start_session (uid_of object) (uid_of method)) (started (facts o past) com_id (values_of args)) (says Unchanged (refusal fail)) (started-can o past com_id (opening_of (values_of args))) tt)
 manager-can o past com_id (Ok (reply results status)) = tt
 manager-can o past com_id (Ok (begin n)) = tt
 manager-can o past com_id (Ok (end n)) = tt

@@ -23,17 +23,23 @@ use Rattle.tcg_tokens.specs.Tree.{Tree, Trees}
 use Rattle.history.specs.TrustedCommands.{Command, ReadQueued, WriteQueued, ReadDma, WriteDma, Send, Receive, Identify, ReadLog, Flush, CommandError, reading}
 use Rattle.locking.specs.declared.ranges.Verdict.{Verdict}
 use Rattle.locking.specs.declared.ranges.Verdict.TheVariants.{Serve, Shadow, Denied}
-use Rattle.history.specs.SessionsAttempts.{failure_of}
-use Rattle.history.specs.SessionsArguments.{uid_from}
-use Rattle.history.specs.SessionsReplies.{properties, start_session, properties_told, properties_refused, refusal, fail}
-use Rattle.history.specs.SessionsStarts.{Begun, StartCall, start_call, is_properties, Start, NotBegun, FailedOn, BeginsOn, start_of}
-use Rattle.history.specs.MethodsValues.{cells_of}
-use Rattle.history.specs.MethodsAsks.{Ask, GetCells, GetBytes, SetCells, SetBytes, Authenticate, Activate, Revert, Other, asked}
-use Rattle.history.specs.MethodsJudge.{Standing, Judgement, Refused, Gives, Makes, Attempts, Activates, Reverts, denial, gives, listing, bytes_between, set_unless, sets, unless_open, reverted_sp, does, unless_denied, judged}
+use Rattle.sessions.specs.Attempts.{failure as failure_of}
+use Rattle.call_shapes.specs.Asks.{uid_of}
+use Rattle.history.specs.Sessions.{properties, start_session, Begun}
+use Rattle.call_shapes.specs.Statuses.{fail}
+use Rattle.sessions.specs.Properties.{properties_message}
+use Rattle.sessions.specs.declared.opening.Opening.{Opening}
+use Rattle.sessions.specs.declared.opening.StartVerdict.{StartVerdict}
+use Rattle.sessions.specs.declared.opening.StartVerdict.TheVariants.{Refused, Attempted}
+use Rattle.sessions.specs.Starts.{opening_of, host_of, denied_with}
+use Rattle.call_shapes.specs.Named.{values_of}
+use Rattle.history.specs.MethodsJudge.{last_row, refusal, cells_of, asked, Standing, Judgement, Refuses, Gives, Makes, Attempts, Activates, Reverts, denial, gives, listing, bytes_between, set_unless, sets, unless_open, reverted_sp, does, unless_denied, judged}
+use Rattle.call_shapes.specs.declared.ask.Ask.{Ask}
+use Rattle.call_shapes.specs.declared.ask.Ask.TheVariants.{GetCells, GetBytes, SetCells, SetBytes, Authenticate, Activate, Revert, Other}
 use Rattle.history.specs.Changes.{Mbr}
 use Rattle.history.specs.Events.{Unchanged, Nothing, Wrote, Took, HeldCommand, Event, did}
-use Rattle.history.specs.Facts.{Facts, shadow_bytes, lives, session_named, has_open, standing}
-use Rattle.history.specs.Decisions.{not_found, fails, refuses, aborted, fails_queue, on_drive, verdict_on, queued_by, admitted, unqueued_by, says, answers, tried_in, started_by, started, is_method_of_manager, to_manager, outcome_of, judgement_on, begins_on, ends_on, in_session, is_trusted, is_session_com_id, discovery_com_id, is_manager, to_session, framed, sent, send, received, unqueued, known, while_failed, is_busy, commanded, completed_by, completed}
+use Rattle.history.specs.Facts.{Facts, session_named, has_open, standing}
+use Rattle.history.specs.Decisions.{not_found, fails, refuses, aborted, fails_queue, on_drive, verdict_on, queued_by, admitted, unqueued_by, says, answers, tried_in, start_verdict, started_by, started, is_method_of_manager, to_manager, outcome_of, judgement_on, begins_on, ends_on, in_session, is_trusted, is_session_com_id, discovery_com_id, is_manager, to_session, framed, sent, send, received, unqueued, known, while_failed, is_busy, commanded, completed_by, completed}
 use Rattle.history.specs.History.{Act, Accept, Complete, Reset, event_by}
 use Rattle.history.specs.MethodLaws.{IsLookedAt, IsSent, IsCall}
 use Rattle.history.specs.DenialLaws.{Moves, read_queued, write_queued, read_dma, write_dma, IsFree, TransferDenied, MethodDenied, AttemptDenied, StartDenied, IsDenied, DenialLaw}
@@ -65,8 +71,8 @@ transfer-denied f act why d =
 method-denied : (f : Facts) (act : Act) (why : Why) → MethodDenied f act why → (event_by f act).denied ≡ Some why
 method-denied f act why d =
     ap (λ (e : Event). e.denied) (call_law f act d.session d.object d.method d.args d.called)
-    ∙ ap (λ x. (outcome_of f d.session.sp (judged (standing f d.session) (uid_from d.object) (uid_from d.method) x)).denied) d.shaped
-    ∙ ap (λ x. (outcome_of f d.session.sp (unless_denied x (does (standing f d.session) (uid_from d.object) d.ask))).denied) d.denial
+    ∙ ap (λ x. (outcome_of f d.session.sp (judged (standing f d.session) (uid_of d.object) (uid_of d.method) x)).denied) d.shaped
+    ∙ ap (λ x. (outcome_of f d.session.sp (unless_denied x (does (standing f d.session) (uid_of d.object) d.ask))).denied) d.denial
 
 attempt-denied : (f : Facts) (act : Act) (why : Why) → AttemptDenied f act why → (event_by f act).denied ≡ Some why
 attempt-denied f act why d =
@@ -77,14 +83,14 @@ attempt-denied f act why d =
 
 start-denied : (f : Facts) (act : Act) (why : Why) → StartDenied f act why → (event_by f act).denied ≡ Some why
 start-denied f act why d =
-    let o = uid_from d.object in let m = uid_from d.method in
+    let o = uid_of d.object in let m = uid_of d.method in
     ap (λ (e : Event). e.denied) (sent_law f act d.com_id d.frame d.sent)
     ∙ ap (λ b. (cond b (answers d.com_id d.frame.session (to_manager f d.com_id (message_in d.frame.payload))) (to_session f d.com_id d.frame.session d.frame.payload (session_named f d.com_id d.frame.session))).denied) d.manager
     ∙ ap (λ r. (to_manager f d.com_id r).denied) d.calls
-    ∙ ap (λ b. (cond b (says Unchanged (cond (is_properties d.args) properties_told properties_refused)) (cond (is_method_of_manager start_session o m) (started f d.com_id d.args (start_call d.args)) (says Unchanged (refusal fail)))).denied) d.no_properties
-    ∙ ap (λ b. (cond b (started f d.com_id d.args (start_call d.args)) (says Unchanged (refusal fail))).denied) d.starts
-    ∙ ap (λ x. (started f d.com_id d.args x).denied) d.shaped
-    ∙ ap (λ x. (started_by f d.com_id d.start x).denied) d.fails
+    ∙ ap (λ b. (cond b (says Unchanged (properties_message (values_of d.args))) (cond (is_method_of_manager start_session o m) (started f d.com_id (values_of d.args)) (says Unchanged (refusal fail)))).denied) d.no_properties
+    ∙ ap (λ b. (cond b (started f d.com_id (values_of d.args)) (says Unchanged (refusal fail))).denied) d.starts
+    ∙ ap (λ x. (started_by f d.com_id (host_of (values_of d.args)) x).denied) d.shaped
+    ∙ ap (λ v. denied_with (Some d.opening) v) d.fails
     ∙ ap (λ y. Some y) (sym d.why_is)
 
 denied-if : (f : Facts) (act : Act) (why : Why) → IsDenied f act why → (event_by f act).denied ≡ Some why
@@ -103,7 +109,7 @@ same-why h = cc
 
 -- the reason in a judgement; what a granted call comes to has none
 abbrev reason : Judgement → Option Why
-reason (Refused status denied) = denied
+reason (Refuses status denied) = denied
 reason (Gives results) = None
 reason (Makes change) = None
 reason (Attempts authority pin) = None
@@ -115,7 +121,7 @@ clean-if true x y h g = h
 clean-if false x y h g = g
 
 gives-clean : (t : Tree) → reason (gives t) ≡ None
-gives-clean t = clean-if _ (Gives _) (Refused 0x11 None) refl refl
+gives-clean t = clean-if _ (Gives _) (Refuses 0x11 None) refl refl
 
 set-clean : (fault : Option SetError) (object : Uid) (cells : List (Column × Cell)) → reason (set_unless fault object cells) ≡ None
 set-clean None object cells = refl
@@ -131,33 +137,35 @@ open-clean false j h = h
 
 does-clean : (s : Standing) (object : Uid) (ask : Ask) → reason (does s object ask) ≡ None
 does-clean s object (GetCells a b) = gives-clean (listing s object a b)
-does-clean s object (GetBytes a b) = clean-if (nat_lt b s.size) (gives (bytes_between s a b)) (Refused 0x0c None) (gives-clean (bytes_between s a b)) refl
+does-clean s object (GetBytes a b) =
+    let to = last_row s.size b in
+    clean-if (nat_le a to && nat_lt to s.size) (gives (bytes_between s a to)) (Refuses 0x0c None) (gives-clean (bytes_between s a to)) refl
 does-clean s object (SetCells values) = sets-clean s object (cells_of object values)
-does-clean s object (SetBytes place content) = clean-if _ (Makes (Mbr place content)) (Refused 0x0c None) refl refl
+does-clean s object (SetBytes place content) = clean-if _ (Makes (Mbr place content)) (Refuses 0x0c None) refl refl
 does-clean s object (Authenticate a pin) = refl
 does-clean s object Activate = open-clean s.is_open Activates refl
 does-clean s object Revert = open-clean s.is_open (Reverts (reverted_sp object)) refl
 does-clean s object Other = refl
 
 -- a call of a session
-refused-is : (f : Facts) (act : Act) (why : Why) (session : Begun) (object method : List ℕ) (args : Trees) → IsCall f act session object method args → (x : Option Ask) → asked (shadow_bytes f) session.sp (uid_from object) (uid_from method) args ≡ x
-    → reason (judged (standing f session) (uid_from object) (uid_from method) x) ≡ Some why → IsDenied f act why
+refused-is : (f : Facts) (act : Act) (why : Why) (session : Begun) (object method : List ℕ) (args : Trees) → IsCall f act session object method args → (x : Option Ask) → asked session.sp (uid_of object) (uid_of method) args ≡ x
+    → reason (judged (standing f session) (uid_of object) (uid_of method) x) ≡ Some why → IsDenied f act why
 refused-is f act why session object method args c None is h = absurd (nothing h)
-refused-is f act why session object method args c (Some ask) is h = by_denial (denial (standing f session) (uid_from object) (uid_from method) ask) refl h
+refused-is f act why session object method args c (Some ask) is h = by_denial (denial (standing f session) (uid_of object) (uid_of method) ask) refl h
   where
-    by_denial : (d : Option Why) → denial (standing f session) (uid_from object) (uid_from method) ask ≡ d → reason (unless_denied d (does (standing f session) (uid_from object) ask)) ≡ Some why → IsDenied f act why
-    by_denial None no_why g = absurd (nothing (sym (does-clean (standing f session) (uid_from object) ask) ∙ g))
+    by_denial : (d : Option Why) → denial (standing f session) (uid_of object) (uid_of method) ask ≡ d → reason (unless_denied d (does (standing f session) (uid_of object) ask)) ≡ Some why → IsDenied f act why
+    by_denial None no_why g = absurd (nothing (sym (does-clean (standing f session) (uid_of object) ask) ∙ g))
     by_denial (Some w) some_why g = inr (inl (record { session = session; object = object; method = method; args = args; called = c; ask = ask; shaped = is; denial = some_why ∙ g }))
 
-attempt-is : (f : Facts) (act : Act) (why : Why) (session : Begun) (object method : List ℕ) (args : Trees) → IsCall f act session object method args → (authority : Uid) (pin : List ℕ) → judgement_on f session (uid_from object) (uid_from method) args ≡ Attempts authority pin
+attempt-is : (f : Facts) (act : Act) (why : Why) (session : Begun) (object method : List ℕ) (args : Trees) → IsCall f act session object method args → (authority : Uid) (pin : List ℕ) → judgement_on f session (uid_of object) (uid_of method) args ≡ Attempts authority pin
     → (x : Option AttemptFailure) → failure_of f.rows session.sp authority pin ≡ x → (tried_in f session.sp authority x).denied ≡ Some why → IsDenied f act why
 attempt-is f act why session object method args c authority pin j None is h = absurd (nothing h)
 attempt-is f act why session object method args c authority pin j (Some failure) is h =
     inr (inr (inl (record { session = session; object = object; method = method; args = args; called = c; authority = authority; pin = pin; attempts = j; failure = failure; fails = is; why_is = sym (same-why h) })))
 
-judged-is : (f : Facts) (act : Act) (why : Why) (session : Begun) (object method : List ℕ) (args : Trees) → IsCall f act session object method args → (j : Judgement) → judgement_on f session (uid_from object) (uid_from method) args ≡ j → (outcome_of f session.sp j).denied ≡ Some why → IsDenied f act why
-judged-is f act why session object method args c (Refused status denied) is h =
-    refused-is f act why session object method args c (asked (shadow_bytes f) session.sp (uid_from object) (uid_from method) args) refl (ap reason is ∙ h)
+judged-is : (f : Facts) (act : Act) (why : Why) (session : Begun) (object method : List ℕ) (args : Trees) → IsCall f act session object method args → (j : Judgement) → judgement_on f session (uid_of object) (uid_of method) args ≡ j → (outcome_of f session.sp j).denied ≡ Some why → IsDenied f act why
+judged-is f act why session object method args c (Refuses status denied) is h =
+    refused-is f act why session object method args c (asked session.sp (uid_of object) (uid_of method) args) refl (ap reason is ∙ h)
 judged-is f act why session object method args c (Attempts authority pin) is h = attempt-is f act why session object method args c authority pin is (failure_of f.rows session.sp authority pin) refl h
 judged-is f act why session object method args c (Gives results) is h = absurd (nothing h)
 judged-is f act why session object method args c (Makes change) is h = absurd (nothing h)
@@ -176,7 +184,7 @@ ended-none sp n false = refl
 session-is : (f : Facts) (act : Act) (why : Why) (com_id : ℕ) (frame : Frame) → IsSent f act com_id frame → is_manager frame.session ≡ false → (session : Begun) → session_named f com_id frame.session ≡ Some session
     → (r : Result Message TokenError) → message_in frame.payload ≡ r → (in_session f session r).denied ≡ Some why → IsDenied f act why
 session-is f act why com_id frame sent no_manager session named (Ok (call object method args status)) is h =
-    judged-is f act why session object method args (record { com_id = com_id; frame = frame; sent = sent; no_manager = no_manager; named = named; status = status; calls = is }) (judgement_on f session (uid_from object) (uid_from method) args) refl h
+    judged-is f act why session object method args (record { com_id = com_id; frame = frame; sent = sent; no_manager = no_manager; named = named; status = status; calls = is }) (judgement_on f session (uid_of object) (uid_of method) args) refl h
 session-is f act why com_id frame sent no_manager session named (Ok (begin n)) is h = absurd (nothing (sym (begun-none session.sp session.number (f.open_on session.sp)) ∙ h))
 session-is f act why com_id frame sent no_manager session named (Ok (end n)) is h = absurd (nothing (sym (ended-none session.sp n (has_open f session)) ∙ h))
 session-is f act why com_id frame sent no_manager session named (Ok end_session) is h = absurd (nothing h)
@@ -185,16 +193,16 @@ session-is f act why com_id frame sent no_manager session named (Err e) is h = a
 
 -- the session manager
 called-is : (f : Facts) (act : Act) (why : Why) (com_id : ℕ) (frame : Frame) → IsSent f act com_id frame → is_manager frame.session ≡ true → (object method : List ℕ) (args : Trees) (status : List ℕ) → message_in frame.payload ≡ Ok (call object method args status)
-    → (p q : Bool) → is_method_of_manager properties (uid_from object) (uid_from method) ≡ p → is_method_of_manager start_session (uid_from object) (uid_from method) ≡ q
-    → (cond p (says Unchanged (cond (is_properties args) properties_told properties_refused)) (cond q (started f com_id args (start_call args)) (says Unchanged (refusal fail)))).denied ≡ Some why → IsDenied f act why
+    → (p q : Bool) → is_method_of_manager properties (uid_of object) (uid_of method) ≡ p → is_method_of_manager start_session (uid_of object) (uid_of method) ≡ q
+    → (cond p (says Unchanged (properties_message (values_of args))) (cond q (started f com_id (values_of args)) (says Unchanged (refusal fail)))).denied ≡ Some why → IsDenied f act why
 called-is f act why com_id frame sent manager object method args status calls true q is_p is_q h = absurd (nothing h)
 called-is f act why com_id frame sent manager object method args status calls false false is_p is_q h = absurd (nothing h)
-called-is f act why com_id frame sent manager object method args status calls false true is_p is_q h = by_call (start_call args) refl h
+called-is f act why com_id frame sent manager object method args status calls false true is_p is_q h = by_opening (opening_of (values_of args)) refl h
   where
-    by_start : (c : StartCall) → start_call args ≡ Some c → (x : Start) → start_of f.rows (lives f) f.next_number c ≡ x → (started_by f com_id c x).denied ≡ Some why → IsDenied f act why
-    by_start c shaped (NotBegun s) is g = absurd (nothing g)
-    by_start c shaped (BeginsOn sp) is g = absurd (nothing g)
-    by_start c shaped (FailedOn sp failure) is g = inr (inr (inr (record {
+    by_verdict : (c : Opening) → opening_of (values_of args) ≡ Some c → (v : StartVerdict) → start_verdict f (Some c) ≡ v → denied_with (Some c) v ≡ Some why → IsDenied f act why
+    by_verdict c shaped (Refused s) is g = absurd (nothing g)
+    by_verdict c shaped (Attempted sp None) is g = absurd (nothing g)
+    by_verdict c shaped (Attempted sp (Some failure)) is g = inr (inr (inr (record {
       com_id = com_id;
       frame = frame;
       sent = sent;
@@ -206,7 +214,7 @@ called-is f act why com_id frame sent manager object method args status calls fa
       calls = calls;
       no_properties = is_p;
       starts = is_q;
-      start = c;
+      opening = c;
       shaped = shaped;
       sp = sp;
       failure = failure;
@@ -214,13 +222,13 @@ called-is f act why com_id frame sent manager object method args status calls fa
       why_is = sym (same-why g);
     })))
 
-    by_call : (x : Option StartCall) → start_call args ≡ x → (started f com_id args x).denied ≡ Some why → IsDenied f act why
-    by_call None is g = absurd (nothing g)
-    by_call (Some c) is g = by_start c is (start_of f.rows (lives f) f.next_number c) refl g
+    by_opening : (x : Option Opening) → opening_of (values_of args) ≡ x → (started_by f com_id (host_of (values_of args)) x).denied ≡ Some why → IsDenied f act why
+    by_opening None is g = absurd (nothing g)
+    by_opening (Some c) is g = by_verdict c is (start_verdict f (Some c)) refl g
 
 manager-is : (f : Facts) (act : Act) (why : Why) (com_id : ℕ) (frame : Frame) → IsSent f act com_id frame → is_manager frame.session ≡ true → (r : Result Message TokenError) → message_in frame.payload ≡ r → (to_manager f com_id r).denied ≡ Some why → IsDenied f act why
 manager-is f act why com_id frame sent manager (Ok (call object method args status)) is h =
-    called-is f act why com_id frame sent manager object method args status is (is_method_of_manager properties (uid_from object) (uid_from method)) (is_method_of_manager start_session (uid_from object) (uid_from method)) refl refl h
+    called-is f act why com_id frame sent manager object method args status is (is_method_of_manager properties (uid_of object) (uid_of method)) (is_method_of_manager start_session (uid_of object) (uid_of method)) refl refl h
 manager-is f act why com_id frame sent manager (Ok (reply results status)) is h = absurd (nothing h)
 manager-is f act why com_id frame sent manager (Ok end_session) is h = absurd (nothing h)
 manager-is f act why com_id frame sent manager (Ok (begin n)) is h = absurd (nothing h)

@@ -15,7 +15,7 @@ use Rattle.history.specs.Opening.{Origin}
 use Rattle.history.specs.TrustedCommands.{fault_of, read_unless, Command, ReadQueued, WriteQueued, ReadDma, WriteDma, Send, Receive, Identify, ReadLog, Flush, CommandError, reading}
 use Rattle.locking.specs.declared.ranges.Verdict.{Verdict}
 use Rattle.locking.specs.declared.ranges.Verdict.TheVariants.{Serve, Shadow, Denied}
-use Rattle.history.specs.SessionsStarts.{Begun}
+use Rattle.history.specs.Sessions.{Begun}
 use Rattle.history.specs.Events.{HeldCommand, Failure, Held, Completed, CompletedWrite, QueueFailed, QueueMended, Deed, Nothing, InSession, OfQueue, Wrote, Took, WasReset, Event, did}
 use Rattle.history.specs.Readers.{holding, held}
 use Rattle.history.specs.Facts.{Facts, facts, session_named}

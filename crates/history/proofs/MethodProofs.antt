@@ -15,17 +15,18 @@ use Rattle.ace_eval.proofs.AceLemmas.{some_ace, no_ace}
 use Rattle.audit.specs.declared.reason.AttemptFailure.{AttemptFailure}
 use Rattle.audit.specs.declared.reason.Why.{Why}
 use Rattle.audit.specs.declared.reason.Why.TheVariants.{NoEntryHolds, NoAccessRow}
-use Rattle.history.specs.SessionsAttempts.{failure_of}
-use Rattle.history.specs.SessionsArguments.{uid_from}
-use Rattle.history.specs.SessionsStarts.{Begun}
+use Rattle.sessions.specs.Attempts.{failure as failure_of}
+use Rattle.call_shapes.specs.Asks.{uid_of}
+use Rattle.history.specs.Sessions.{Begun}
 use Rattle.sp_cells.specs.declared.names.Sp.{Sp}
 use Rattle.trusted_cmds.specs.Commands.{is_queued}
 use Rattle.compacket.specs.Frames.{Frame, reading as frame_in}
 use Rattle.tcg_tokens.specs.Reading.{reading as message_in}
 use Rattle.tcg_tokens.specs.Tree.{Tree}
 use Rattle.history.specs.TrustedCommands.{Command, Send, reading}
-use Rattle.history.specs.MethodsAsks.{Ask, GetCells, GetBytes, SetCells, SetBytes, Authenticate, Activate, Revert, Other}
-use Rattle.history.specs.MethodsJudge.{Standing, Judgement, Refused, Gives, Makes, Attempts, Activates, Reverts, has_entry, needs, first_without, unless_any, unless_granted, denial_by, denial, listed_at, listed, column_numbers, does, unless_denied, judged}
+use Rattle.call_shapes.specs.declared.ask.Ask.{Ask}
+use Rattle.call_shapes.specs.declared.ask.Ask.TheVariants.{GetCells, GetBytes, SetCells, SetBytes, Authenticate, Activate, Revert, Other}
+use Rattle.history.specs.MethodsJudge.{Standing, Judgement, Refuses, Gives, Makes, Attempts, Activates, Reverts, has_entry, needs, first_without, unless_any, unless_granted, denial_by, denial, listed_at, listed, column_numbers, does, unless_denied, judged}
 use Rattle.history.specs.Events.{Event, Nothing, did}
 use Rattle.history.specs.Facts.{Facts, standing, session_named}
 use Rattle.history.specs.Decisions.{outcome_of, tried_in, admitted, unqueued, fails_queue, refuses, aborted, answers, to_manager, to_session, in_session, framed, sent, while_failed, is_busy, known, commanded}
@@ -137,7 +138,7 @@ effect-if : (s : Standing) (object method : Uid) (ask : Ask) (d : Option Why) �
 effect-if s object method ask None is h = denial-none s object method ask is
 effect-if s object method ask (Some why) is h = absurd (clash h)
 
-denied-if : (s : Standing) (object method : Uid) (ask : Ask) (d : Option Why) → denial s object method ask ≡ d → (IsGranted s object method ask → ⊥) → (why : Why) × (unless_denied d (does s object ask) ≡ Refused 1 (Some why))
+denied-if : (s : Standing) (object method : Uid) (ask : Ask) (d : Option Why) → denial s object method ask ≡ d → (IsGranted s object method ask → ⊥) → (why : Why) × (unless_denied d (does s object ask) ≡ Refuses 1 (Some why))
 denied-if s object method ask None is h = absurd (h (denial-none s object method ask is))
 denied-if s object method ask (Some why) is h = (why, refl)
 
@@ -309,7 +310,7 @@ tried-reason f sp authority None = refl
 tried-reason f sp authority (Some failure) = refl
 
 effect-reason : (f : Facts) (sp : Sp) (j : Judgement) → takes_effect j ≡ true → reason_of (outcome_of f sp j).denied ≡ false
-effect-reason f sp (Refused status denied) h = absurd (clash h)
+effect-reason f sp (Refuses status denied) h = absurd (clash h)
 effect-reason f sp (Gives results) h = refl
 effect-reason f sp (Makes change) h = refl
 effect-reason f sp (Attempts authority pin) h = tried-reason f sp authority (failure_of f.rows sp authority pin)
@@ -324,7 +325,7 @@ effect-back f session object method ask (Some why) is valid same =
 
 pub effect_law : EffectLaw
 effect_law f act session object method args c ask shaped valid =
-    let s = standing f session in let o = uid_from object in let m = uid_from method in
+    let s = standing f session in let o = uid_of object in let m = uid_of method in
     let answer : Judgement → Event = λ j. answers c.com_id c.frame.session (outcome_of f session.sp j) in
     let here : event_by f act ≡ answer (judged s o m (Some ask)) = call_law f act session object method args c ∙ ap (λ x. answer (judged s o m x)) shaped in (
       (λ h. effect-back f session o m ask (denial s o m ask) refl valid (ap (λ (e : Event). e.denied) (sym here ∙ h))),

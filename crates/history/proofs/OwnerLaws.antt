@@ -19,7 +19,8 @@ use Rattle.sp_cells.specs.declared.names.TheConstants.{RANGES}
 use Rattle.sp_tables.specs.AtReset.{has_kind}
 use Rattle.transactions.specs.Resets.{is_range, locks_seen}
 use Rattle.history.specs.Changes.{reset_rows, Change, Cells, Mbr, Restores, Resets, apply, apply_all}
-use Rattle.history.specs.SessionsStarts.{Begun, is_manufactured}
+use Rattle.history.specs.Sessions.{Begun}
+use Rattle.sessions.specs.Starts.{is_in_use}
 use Rattle.history.specs.Events.{SessionDeed, Unchanged, Started, Tried, Changed, Began, Committed, Aborted, Ended, Activated, Reverted, Response, Deed, Nothing, InSession, OfQueue, Wrote, Took, WasReset, Event}
 use Rattle.history.specs.Readers.{restores, living, session_on, open_on, is_of, in_force, turns, begins, changes_on, own_changes, if_open, open_changes, only_on, unless_open, brought, changes, factory_rows}
 use Rattle.history.specs.History.{Act, event, log}
@@ -170,7 +171,7 @@ changed-is sp (WasReset kind) c h = cc
 record Kept (o : Origin) (past : List Event) : Type 0 where
   owner : (sp : Sp) (n : ℕ) → open_on past sp ≡ Some n → (s : Begun) × (session_on past sp ≡ Some s) × (s.number ≡ n)
   own : list_all spares (own_changes past Admin) ≡ true
-  alive : (s : Begun) → session_on past Locking ≡ Some s → is_manufactured (in_force o past) Locking ≡ true
+  alive : (s : Begun) → session_on past Locking ≡ Some s → is_in_use (in_force o past) Locking ≡ true
 
 abbrev Can : Origin → List Event → Event → Type 0
 Can o past e = (d : SessionDeed) (r : Response) → e.deed ≡ InSession d r → CanDo o past d
@@ -258,7 +259,7 @@ changes-spare factory rows (c ∷ cs) ds h =
     let parts = and-parts (spares c) (list_all spares cs) h in
     change-spares factory (apply_all factory (cs ++ ds) rows) c parts.0 ∙ changes-spare factory rows cs ds parts.1
 
-state-kept : (o : Origin) (e : Event) (es : List Event) → list_all spares (brought es Admin e.deed) ≡ true → is_manufactured (in_force o (e ∷ es)) Locking ≡ is_manufactured (in_force o es) Locking
+state-kept : (o : Origin) (e : Event) (es : List Event) → list_all spares (brought es Admin e.deed) ≡ true → is_in_use (in_force o (e ∷ es)) Locking ≡ is_in_use (in_force o es) Locking
 state-kept o e es h = ap (λ cell. number_in cell == 9) (changes-spare (factory_rows o Admin) (look_up o.tables Admin) (brought es Admin e.deed) (changes es Admin) h)
 
 -- what an event brings to the Admin SP, but for an Activate and a Revert
@@ -299,7 +300,7 @@ brought-spare o es (Took x) can own h = refl
 brought-spare o es (WasReset kind) can own h = refl
 
 -- an Activate that takes effect, or a Revert, by the session of the Locking SP
-activation-is : (d : Deed) → is_activation d ≡ true → ((pin : List ℕ) × (r : Response) × (d ≡ InSession (Activated pin) r)) ⊎ (living Locking d ≡ Some None)
+activation-is : (d : Deed) → is_activation d ≡ true → ((pin : Option Cell) × (r : Response) × (d ≡ InSession (Activated pin) r)) ⊎ (living Locking d ≡ Some None)
 activation-is (InSession (Activated pin) r) h = inl (pin, r, refl)
 activation-is (InSession (Reverted Admin w) r) h = inr refl
 activation-is (InSession (Reverted Locking w) r) h = inr refl
@@ -323,14 +324,14 @@ clash-bool h g = absurd (clash (sym h ∙ g))
     clash : true ≡ false → ⊥
     clash k = cc
 
-alive-kept : (o : Origin) (e : Event) (es : List Event) → Can o es e → Kept o es → (s : Begun) → session_on (e ∷ es) Locking ≡ Some s → is_manufactured (in_force o (e ∷ es)) Locking ≡ true
+alive-kept : (o : Origin) (e : Event) (es : List Event) → Can o es e → Kept o es → (s : Begun) → session_on (e ∷ es) Locking ≡ Some s → is_in_use (in_force o (e ∷ es)) Locking ≡ true
 alive-kept o e es can k s h = by_life (living Locking e.deed) refl
   where
-    kept : is_activation e.deed ≡ false → is_manufactured (in_force o (e ∷ es)) Locking ≡ is_manufactured (in_force o es) Locking
+    kept : is_activation e.deed ≡ false → is_in_use (in_force o (e ∷ es)) Locking ≡ is_in_use (in_force o es) Locking
     kept g = state-kept o e es (brought-spare o es e.deed can k.own g)
 
     -- it lived before
-    by_kind : living Locking e.deed ≡ None → (b : Bool) → is_activation e.deed ≡ b → is_manufactured (in_force o (e ∷ es)) Locking ≡ true
+    by_kind : living Locking e.deed ≡ None → (b : Bool) → is_activation e.deed ≡ b → is_in_use (in_force o (e ∷ es)) Locking ≡ true
     by_kind life false g = kept g ∙ k.alive s (sym (same-session Locking e es life) ∙ h)
     by_kind life true g = elim (activation-is e.deed g) [
       | inl a ↦ let can_activate : CanDo o es (Activated a.0) = can (Activated a.0) a.1 a.2 in absurd (clash-bool (k.alive s (sym (same-session Locking e es life) ∙ h)) can_activate.1)
@@ -338,12 +339,12 @@ alive-kept o e es can k s h = by_life (living Locking e.deed) refl
     ]
 
     -- it began here
-    by_start : StartedOn Locking e.deed → is_manufactured (in_force o (e ∷ es)) Locking ≡ true
+    by_start : StartedOn Locking e.deed → is_in_use (in_force o (e ∷ es)) Locking ≡ true
     by_start st =
         let new : IsNew o es st.session = can (Started st.session st.row) st.response st.is in
-        kept (ap is_activation st.is) ∙ ap (is_manufactured (in_force o es)) (sym st.on) ∙ new.made
+        kept (ap is_activation st.is) ∙ ap (is_in_use (in_force o es)) (sym st.on) ∙ new.made
 
-    by_life : (t : Option (Option Begun)) → living Locking e.deed ≡ t → is_manufactured (in_force o (e ∷ es)) Locking ≡ true
+    by_life : (t : Option (Option Begun)) → living Locking e.deed ≡ t → is_in_use (in_force o (e ∷ es)) Locking ≡ true
     by_life None life = by_kind life (is_activation e.deed) refl
     by_life (Some None) life = absurd (some-none h (ap (λ x. unwrap_or x None) (latest-here (living Locking) e es None life)))
     by_life (Some (Some t)) life = by_start (begun-is Locking e.deed t life)
@@ -383,7 +384,7 @@ none-open o acts sp s h g = by_open (open_on (log o acts) sp) refl
 pub activate_law : ActivateLaw
 activate_law o acts act pin r is sp = by_sp sp
   where
-    can : IsOutside (log o acts) × (is_manufactured (in_force o (log o acts)) Locking ≡ false)
+    can : IsOutside (log o acts) × (is_in_use (in_force o (log o acts)) Locking ≡ false)
     can = deed_law o (log o acts) act (Activated pin) r is
 
     by_locking : (x : Option ℕ) → open_on (log o acts) Locking ≡ x → open_on (log o acts) Locking ≡ None

@@ -17,7 +17,7 @@ use Rattle.tcg_tokens.specs.Tree.{Tree, Trees, trees_of}
 use Rattle.tcg_tokens.specs.Tree as tree
 use Rattle.transactions.specs.Resets.{is_range}
 use Rattle.history.specs.Opening.{Origin}
-use Rattle.history.specs.SessionsReplies.{properties_told}
+use Rattle.sessions.specs.Properties.{properties_message}
 use Rattle.history.specs.Readers.{waiting}
 use Rattle.history.specs.Facts.{facts}
 use Rattle.history.specs.Decisions.{any_below}
@@ -81,7 +81,7 @@ response_length : waiting_length (waiting (log activated (reverse long)) 0x1000)
 unfolding admin_sps admin_authorities locking_authorities admin_pins locking_pins locking_ranges locking_mbr_controls admin_aces authority_aces pin_aces range_aces mbr_aces this_sp_grants admin_grants authority_grants fixed_ace_gets user_ace_grants read_locked_ace_grants write_locked_ace_grants done_ace_grants pin_grants range_grants mbr_grants first_lexeme expect number_at uid_at values_up_to list_with list_value_with named_with value_of list_at status_at call_at reply_at message_at message_in number_spelling bytes_spelling any_below ranges_in verdict_of is_range zeros sectors_from authorities_of_locking any_to signed_in get_534 long waiting_length
 response_length = refl
 
-row_properties : length (said properties_told) ≡ 138
+row_properties : length (said (properties_message [])) ≡ 138
 unfolding admin_sps admin_authorities locking_authorities admin_pins locking_pins locking_ranges locking_mbr_controls admin_aces authority_aces pin_aces range_aces mbr_aces this_sp_grants admin_grants authority_grants fixed_ace_gets user_ace_grants read_locked_ace_grants write_locked_ace_grants done_ace_grants pin_grants range_grants mbr_grants first_lexeme expect number_at uid_at values_up_to list_with list_value_with named_with value_of list_at status_at call_at reply_at message_at message_in number_spelling bytes_spelling any_below ranges_in verdict_of is_range zeros sectors_from authorities_of_locking any_to
 row_properties = refl
 

@@ -19,8 +19,9 @@ use Rattle.tcg_tokens.specs.Message.{Message, end_session}
 use Rattle.tcg_tokens.specs.Tree.{Tree, Trees, trees_of}
 use Rattle.tcg_tokens.specs.Tree as tree
 use Rattle.transactions.specs.Resets.{is_range}
-use Rattle.history.specs.SessionsReplies.{synced, succeeds, refusal}
-use Rattle.history.specs.MethodsValues.{element_tree}
+use Rattle.sessions.specs.Starts.{sync_message}
+use Rattle.history.specs.MethodsJudge.{succeeds, refusal}
+use Rattle.call_shapes.specs.CellValues.{element_tree}
 use Rattle.history.specs.Decisions.{any_below}
 use Rattle.history.specs.History.{Act}
 use Rattle.history.proofs.Scripts.{msid, activated, tell, start_as, in_it, set_cells, try_pin, replies, whys, said}
@@ -48,7 +49,7 @@ unfolding admin_sps admin_authorities locking_authorities admin_pins locking_pin
 entry_denied = refl
 
 entry_granted : replies activated (prepared ++ in_next (try_pin (user_uid 2) []) ++ in_next lock) ≡
-    said (synced 1 0x1000 0) ∷ said (refusal 0) ∷ said (refusal 0) ∷ said (refusal 0) ∷ said end_session ∷ said (synced 1 0x1001 0)
+    said (sync_message 1 0x1000 0) ∷ said (refusal 0) ∷ said (refusal 0) ∷ said (refusal 0) ∷ said end_session ∷ said (sync_message 1 0x1001 0)
     ∷ said (succeeds (tree.more (tree.number 1) tree.empty)) ∷ said (refusal 0) ∷ []
 unfolding admin_sps admin_authorities locking_authorities admin_pins locking_pins locking_ranges locking_mbr_controls admin_aces authority_aces pin_aces range_aces mbr_aces this_sp_grants admin_grants authority_grants fixed_ace_gets user_ace_grants read_locked_ace_grants write_locked_ace_grants done_ace_grants pin_grants range_grants mbr_grants first_lexeme expect number_at uid_at values_up_to list_with list_value_with named_with value_of list_at status_at call_at reply_at message_at message_in number_spelling bytes_spelling any_below ranges_in verdict_of is_range zeros sectors_from authorities_of_locking any_to elements prepared in_next lock
 entry_granted = refl

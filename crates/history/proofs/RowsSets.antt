@@ -23,16 +23,19 @@ use Rattle.tcg_tokens.specs.Message.{Message}
 use Rattle.tcg_tokens.specs.Tree.{Tree, Trees, trees_of}
 use Rattle.tcg_tokens.specs.Tree as tree
 use Rattle.transactions.specs.Resets.{is_range}
-use Rattle.history.specs.SessionsReplies.{uid_bytes, session_manager, start_session, properties, synced, refusal, properties_refused}
-use Rattle.history.specs.MethodsValues.{element_tree}
+use Rattle.history.specs.Sessions.{session_manager, start_session, properties}
+use Rattle.sessions.specs.Starts.{sync_message}
+use Rattle.sessions.specs.Properties.{properties_call}
+use Rattle.history.specs.MethodsJudge.{refusal}
+use Rattle.call_shapes.specs.CellValues.{element_tree}
 use Rattle.history.specs.Decisions.{any_below}
 use Rattle.history.specs.History.{Act}
-use Rattle.history.proofs.Scripts.{unknown_uid, msid, range_row, activated, opened, tell, call_of, start_as, in_it, set_cells, try_pin, replies, whys, said}
+use Rattle.history.proofs.Scripts.{uid_tree, unknown_uid, msid, range_row, activated, opened, tell, call_of, start_as, in_it, set_cells, try_pin, replies, whys, said}
 
 signed_in : List Act
 signed_in = tell 0x1000 0 0 (start_as locking_sp (admin_uid 1) msid)
 
-column_twice : replies activated (signed_in ++ in_it (set_cells (range_uid 1) ((7, tree.number 1) ∷ (7, tree.number 1) ∷ []))) ≡ said (synced 1 0x1000 0) ∷ said (refusal 0x0c) ∷ []
+column_twice : replies activated (signed_in ++ in_it (set_cells (range_uid 1) ((7, tree.number 1) ∷ (7, tree.number 1) ∷ []))) ≡ said (sync_message 1 0x1000 0) ∷ said (refusal 0x0c) ∷ []
 unfolding admin_sps admin_authorities locking_authorities admin_pins locking_pins locking_ranges locking_mbr_controls admin_aces authority_aces pin_aces range_aces mbr_aces this_sp_grants admin_grants authority_grants fixed_ace_gets user_ace_grants read_locked_ace_grants write_locked_ace_grants done_ace_grants pin_grants range_grants mbr_grants first_lexeme expect number_at uid_at values_up_to list_with list_value_with named_with value_of list_at status_at call_at reply_at message_at message_in number_spelling bytes_spelling any_below ranges_in verdict_of is_range zeros sectors_from authorities_of_locking any_to signed_in
 column_twice = refl
 
@@ -44,7 +47,7 @@ bounds : ℕ → ℕ → Message
 bounds start len = set_cells (range_uid 2) ((3, tree.number start) ∷ (4, tree.number len) ∷ [])
 
 bounds_of_ranges : replies (opened (range_row 1 100 10 false false false false)) (signed_in ++ in_it (bounds 109 1) ++ in_it (bounds 110 890) ++ in_it (bounds 110 891)) ≡
-    said (synced 1 0x1000 0) ∷ said (refusal 0x0c) ∷ said (refusal 0) ∷ said (refusal 0x0c) ∷ []
+    said (sync_message 1 0x1000 0) ∷ said (refusal 0x0c) ∷ said (refusal 0) ∷ said (refusal 0x0c) ∷ []
 unfolding admin_sps admin_authorities locking_authorities admin_pins locking_pins locking_ranges locking_mbr_controls admin_aces authority_aces pin_aces range_aces mbr_aces this_sp_grants admin_grants authority_grants fixed_ace_gets user_ace_grants read_locked_ace_grants write_locked_ace_grants done_ace_grants pin_grants range_grants mbr_grants first_lexeme expect number_at uid_at values_up_to list_with list_value_with named_with value_of list_at status_at call_at reply_at message_at message_in number_spelling bytes_spelling any_below ranges_in verdict_of is_range zeros sectors_from authorities_of_locking any_to signed_in bounds
 bounds_of_ranges = refl
 
@@ -86,9 +89,9 @@ unfolding admin_sps admin_authorities locking_authorities admin_pins locking_pin
 row_attempts = refl
 
 challenge_alone : Message
-challenge_alone = call_of session_manager start_session (tree.number 9 ∷ tree.bytes (uid_bytes locking_sp) ∷ tree.number 1 ∷ tree.named (tree.number 0) (tree.bytes []) ∷ [])
+challenge_alone = call_of session_manager start_session (tree.number 9 ∷ uid_tree locking_sp ∷ tree.number 1 ∷ tree.named (tree.number 0) (tree.bytes []) ∷ [])
 
 row_start_shapes : replies activated (tell 0x1000 0 0 challenge_alone ++ tell 0x1000 0 0 (call_of session_manager start_session (tree.bytes [] ∷ [])) ++ tell 0x1000 0 0 (call_of session_manager properties (tree.number 1 ∷ []))) ≡
-    said (synced 9 0 0x0c) ∷ said (synced 0 0 0x0c) ∷ said properties_refused ∷ []
+    said (sync_message 9 0 0x0c) ∷ said (sync_message 0 0 0x0c) ∷ said (properties_call [] 0x0c) ∷ []
 unfolding admin_sps admin_authorities locking_authorities admin_pins locking_pins locking_ranges locking_mbr_controls admin_aces authority_aces pin_aces range_aces mbr_aces this_sp_grants admin_grants authority_grants fixed_ace_gets user_ace_grants read_locked_ace_grants write_locked_ace_grants done_ace_grants pin_grants range_grants mbr_grants first_lexeme expect number_at uid_at values_up_to list_with list_value_with named_with value_of list_at status_at call_at reply_at message_at message_in number_spelling bytes_spelling any_below ranges_in verdict_of is_range zeros sectors_from authorities_of_locking any_to challenge_alone
 row_start_shapes = refl

@@ -20,7 +20,8 @@ use Rattle.tcg_tokens.specs.Tree.{Tree, Trees, trees_of}
 use Rattle.tcg_tokens.specs.Tree as tree
 use Rattle.transactions.specs.Resets.{is_range}
 use Rattle.history.specs.Opening.{Origin}
-use Rattle.history.specs.SessionsReplies.{synced, refusal}
+use Rattle.sessions.specs.Starts.{sync_message}
+use Rattle.history.specs.MethodsJudge.{refusal}
 use Rattle.history.specs.Readers.{in_force}
 use Rattle.history.specs.Decisions.{any_below}
 use Rattle.history.specs.History.{Act, Reset, log}
@@ -42,7 +43,7 @@ abort_denies : whys locked (script 1) ≡ ReadLocked 100 1 1 ∷ ReadLocked 100 
 unfolding admin_sps admin_authorities locking_authorities admin_pins locking_pins locking_ranges locking_mbr_controls admin_aces authority_aces pin_aces range_aces mbr_aces this_sp_grants admin_grants authority_grants fixed_ace_gets user_ace_grants read_locked_ace_grants write_locked_ace_grants done_ace_grants pin_grants range_grants mbr_grants first_lexeme expect number_at uid_at values_up_to list_with list_value_with named_with value_of list_at status_at call_at reply_at message_at message_in number_spelling bytes_spelling any_below ranges_in verdict_of is_range zeros sectors_from authorities_of_locking any_to locked script
 abort_denies = refl
 
-abort_replies : replies locked (script 1) ≡ said (synced 1 0x1000 0) ∷ (0xfb ∷ 0 ∷ []) ∷ said (refusal 0) ∷ (0xfc ∷ 1 ∷ []) ∷ []
+abort_replies : replies locked (script 1) ≡ said (sync_message 1 0x1000 0) ∷ (0xfb ∷ 0 ∷ []) ∷ said (refusal 0) ∷ (0xfc ∷ 1 ∷ []) ∷ []
 unfolding admin_sps admin_authorities locking_authorities admin_pins locking_pins locking_ranges locking_mbr_controls admin_aces authority_aces pin_aces range_aces mbr_aces this_sp_grants admin_grants authority_grants fixed_ace_gets user_ace_grants read_locked_ace_grants write_locked_ace_grants done_ace_grants pin_grants range_grants mbr_grants first_lexeme expect number_at uid_at values_up_to list_with list_value_with named_with value_of list_at status_at call_at reply_at message_at message_in number_spelling bytes_spelling any_below ranges_in verdict_of is_range zeros sectors_from authorities_of_locking any_to locked script
 abort_replies = refl
 
@@ -52,7 +53,7 @@ after_reset =
     tell 0x1000 0 0 (start_as locking_sp (admin_uid 1) msid)
     ++ in_it (begin 0) ++ in_it (set_cells (range_uid 1) ((7, tree.number 0) ∷ [])) ++ Reset 1 ∷ in_it (end 0) ++ dread 100 1 ∷ []
 
-reset_replies : replies locked after_reset ≡ said (synced 1 0x1000 0) ∷ (0xfb ∷ 0 ∷ []) ∷ said (refusal 0) ∷ []
+reset_replies : replies locked after_reset ≡ said (sync_message 1 0x1000 0) ∷ (0xfb ∷ 0 ∷ []) ∷ said (refusal 0) ∷ []
 unfolding admin_sps admin_authorities locking_authorities admin_pins locking_pins locking_ranges locking_mbr_controls admin_aces authority_aces pin_aces range_aces mbr_aces this_sp_grants admin_grants authority_grants fixed_ace_gets user_ace_grants read_locked_ace_grants write_locked_ace_grants done_ace_grants pin_grants range_grants mbr_grants first_lexeme expect number_at uid_at values_up_to list_with list_value_with named_with value_of list_at status_at call_at reply_at message_at message_in number_spelling bytes_spelling any_below ranges_in verdict_of is_range zeros sectors_from authorities_of_locking any_to locked after_reset
 reset_replies = refl
 
@@ -86,7 +87,7 @@ reverted =
     ++ in_second (begin 0) ++ in_second (set_cells (range_uid 1) ((5, tree.number 1) ∷ []))
     ++ in_it (call_of locking_sp revert []) ++ in_second (end 0)
 
-reverted_replies : replies activated reverted ≡ said (synced 1 0x1000 0) ∷ said (synced 1 0x1001 0) ∷ (0xfb ∷ 0 ∷ []) ∷ said (refusal 0) ∷ said (refusal 0) ∷ []
+reverted_replies : replies activated reverted ≡ said (sync_message 1 0x1000 0) ∷ said (sync_message 1 0x1001 0) ∷ (0xfb ∷ 0 ∷ []) ∷ said (refusal 0) ∷ said (refusal 0) ∷ []
 unfolding admin_sps admin_authorities locking_authorities admin_pins locking_pins locking_ranges locking_mbr_controls admin_aces authority_aces pin_aces range_aces mbr_aces this_sp_grants admin_grants authority_grants fixed_ace_gets user_ace_grants read_locked_ace_grants write_locked_ace_grants done_ace_grants pin_grants range_grants mbr_grants first_lexeme expect number_at uid_at values_up_to list_with list_value_with named_with value_of list_at status_at call_at reply_at message_at message_in number_spelling bytes_spelling any_below ranges_in verdict_of is_range zeros sectors_from authorities_of_locking any_to in_second reverted
 reverted_replies = refl
 
@@ -95,6 +96,6 @@ unfolding admin_sps admin_authorities locking_authorities admin_pins locking_pin
 reverted_flag = refl
 
 -- An Activate in the session's own transaction fails.
-activate_inside : replies new_drive (tell 0x1000 0 0 (start_as admin_sp sid msid) ++ in_it (begin 0) ++ in_it (call_of locking_sp activate [])) ≡ said (synced 1 0x1000 0) ∷ (0xfb ∷ 0 ∷ []) ∷ said (refusal 0x3f) ∷ []
+activate_inside : replies new_drive (tell 0x1000 0 0 (start_as admin_sp sid msid) ++ in_it (begin 0) ++ in_it (call_of locking_sp activate [])) ≡ said (sync_message 1 0x1000 0) ∷ (0xfb ∷ 0 ∷ []) ∷ said (refusal 0x3f) ∷ []
 unfolding admin_sps admin_authorities locking_authorities admin_pins locking_pins locking_ranges locking_mbr_controls admin_aces authority_aces pin_aces range_aces mbr_aces this_sp_grants admin_grants authority_grants fixed_ace_gets user_ace_grants read_locked_ace_grants write_locked_ace_grants done_ace_grants pin_grants range_grants mbr_grants first_lexeme expect number_at uid_at values_up_to list_with list_value_with named_with value_of list_at status_at call_at reply_at message_at message_in number_spelling bytes_spelling any_below ranges_in verdict_of is_range zeros sectors_from authorities_of_locking any_to
 activate_inside = refl

@@ -1,6 +1,7 @@
 -- Scripts of acts in the order of time, and what is read off them.
 use Rattle.std.proofs.Common.{ℕ, ◌+◌, ◌*◌, Bool, List, [], ◌∷◌, map, reverse, replicate, Option, Some, None}
 use Rattle.std.specs.Prelude.{take, drop, slice_index, ◌/◌, ◌%◌}
+use Rattle.std.specs.Int.{w64, to_be_bytes}
 use Rattle.std.specs.List.{flat_map}
 use Rattle.sp_cells.specs.Config.{Config}
 use Rattle.sp_cells.specs.declared.names.Uid.{Uid as UidType}
@@ -13,7 +14,7 @@ use Rattle.tcg_tokens.specs.Message.{Message, call}
 use Rattle.tcg_tokens.specs.Tree.{Tree, Trees, trees_of}
 use Rattle.tcg_tokens.specs.Tree as tree
 use Rattle.history.specs.Opening.{Origin, factory_origin, activated_origin, with_range}
-use Rattle.history.specs.SessionsReplies.{uid_bytes, session_manager, start_session}
+use Rattle.history.specs.Sessions.{session_manager, start_session}
 use Rattle.history.specs.Events.{Event, Deed, InSession}
 use Rattle.history.specs.Answers.{sized}
 use Rattle.history.specs.History.{Act, Accept, log}
@@ -64,14 +65,14 @@ abbrev pub tell : ℕ → ℕ → ℕ → Message → List Act
 tell com_id tsn hsn message = send com_id tsn hsn message ∷ receive com_id 2 ∷ []
 
 abbrev pub call_of : UidType → UidType → List Tree → Message
-call_of object method args = call (uid_bytes object) (uid_bytes method) (trees_of args) (0 ∷ 0 ∷ 0 ∷ [])
+call_of object method args = call (to_be_bytes w64 object.0) (to_be_bytes w64 method.0) (trees_of args) (0 ∷ 0 ∷ 0 ∷ [])
 
 -- No object and no method has this name.
 abbrev pub unknown_uid : UidType
 unknown_uid = record { 0 = 7 }
 
 abbrev pub uid_tree : UidType → Tree
-uid_tree u = tree.bytes (uid_bytes u)
+uid_tree u = tree.bytes (to_be_bytes w64 u.0)
 
 abbrev pub start_as : UidType → UidType → List ℕ → Message
 start_as sp authority secret =

@@ -5,12 +5,13 @@ use Rattle.sp_cells.specs.declared.names.Sp.{Sp}
 use Rattle.sp_cells.specs.declared.names.Sp.TheVariants.{Admin, Locking}
 use Rattle.sp_cells.specs.Limits.{manufactured, manufactured_inactive}
 use Rattle.sp_cells.specs.Names.{locking_sp, admin_pin_uid}
-use Rattle.sp_cells.specs.declared.cells.Cell.TheVariants.{Number, Bytes}
+use Rattle.sp_cells.specs.declared.cells.Cell.{Cell}
+use Rattle.sp_cells.specs.declared.cells.Cell.TheVariants.{Number}
 use Rattle.std.specs.List.{flat_map}
 use Rattle.sp_cells.specs.Flat.{sp_eq}
 use Rattle.sp_cells.specs.declared.names.Uid.{Uid}
 use Rattle.sp_cells.specs.ColumnNames.{life_cycle_state_column, pin_column}
-use Rattle.history.specs.SessionsStarts.{Begun}
+use Rattle.history.specs.Sessions.{Begun}
 use Rattle.history.specs.Opening.{Origin}
 use Rattle.sp_tables.specs.Looks.{RowLook, puts_in}
 use Rattle.history.specs.Changes.{Change, Restores, apply, apply_all, reset_rows}
@@ -88,8 +89,8 @@ ended o e es s r is = (turned s e es None (ap (turns s) is ∙ ap (λ b. cond b 
     closed = Some None
 
 -- an Activate that takes effect
-pub activated : (o : Origin) (e : Event) (es : List Event) (pin : List ℕ) (r : Response) → e.deed ≡ InSession (Activated pin) r
-    → (rows_after o (e ∷ es) Admin ≡ puts_in locking_sp ((life_cycle_state_column, Number manufactured) ∷ []) (rows_after o es Admin)) × (rows_after o (e ∷ es) Locking ≡ puts_in (admin_pin_uid 1) ((pin_column, Bytes pin) ∷ []) (rows_after o es Locking))
+pub activated : (o : Origin) (e : Event) (es : List Event) (pin : Cell) (r : Response) → e.deed ≡ InSession (Activated (Some pin)) r
+    → (rows_after o (e ∷ es) Admin ≡ puts_in locking_sp ((life_cycle_state_column, Number manufactured) ∷ []) (rows_after o es Admin)) × (rows_after o (e ∷ es) Locking ≡ puts_in (admin_pin_uid 1) ((pin_column, pin) ∷ []) (rows_after o es Locking))
 activated o e es pin r is = (rows-by o e es Admin _ (ap (brought es Admin) is), rows-by o e es Locking _ (ap (brought es Locking) is))
 
 -- a Revert of the Locking SP, and of the Admin SP

@@ -17,7 +17,7 @@ use Rattle.shadow_mbr.specs.Stored.{sector_size, sectors_from}
 use Rattle.history.specs.TrustedCommands.{Command, ReadQueued, WriteQueued, ReadDma, Send, Receive, Identify, ReadLog, CommandError, reading}
 use Rattle.locking.specs.declared.ranges.Verdict.{Verdict}
 use Rattle.locking.specs.declared.ranges.Verdict.TheVariants.{Serve, Shadow, Denied}
-use Rattle.history.specs.SessionsStarts.{is_manufactured}
+use Rattle.sessions.specs.Starts.{is_in_use}
 use Rattle.history.specs.MethodsJudge.{run_from}
 use Rattle.history.specs.Events.{HeldCommand, Failure, Held, Deed, OfQueue, Event}
 use Rattle.history.specs.Facts.{Facts}
@@ -46,7 +46,7 @@ has_lock f range =
 -- Bit 0 the drive can lock, bit 1 the Locking SP is Manufactured, bit 2 some range is locked, bit 4 MBR Enable, bit 5 Done.
 abbrev pub locking_flags : Facts → ℕ
 locking_flags f =
-    1 + 2 * bit (is_manufactured f.rows Locking) + 4 * bit (list_any (has_lock f) all_ranges)
+    1 + 2 * bit (is_in_use f.rows Locking) + 4 * bit (list_any (has_lock f) all_ranges)
     + 16 * bit (number f.rows Locking mbr_control mbr_enable_column == 1) + 32 * bit (number f.rows Locking mbr_control mbr_done_column == 1)
 
 abbrev pub feature : ℕ → List ℕ → List ℕ

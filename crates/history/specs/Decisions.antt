@@ -24,7 +24,8 @@ use Rattle.tcg_tokens.specs.declared.error.TokenError.{TokenError}
 use Rattle.tcg_tokens.specs.Message.{Message, call, reply, end_session, begin, end}
 use Rattle.tcg_tokens.specs.Reading.{reading as message_in}
 use Rattle.tcg_tokens.specs.Spelling.{item_spelling_of}
-use Rattle.tcg_tokens.specs.Tree.{Trees}
+use Rattle.tcg_tokens.specs.Tree.{Tree, Trees}
+use Rattle.call_shapes.specs.Named.{values_of}
 use Rattle.tcg_tokens.specs.Tree as tree
 use Rattle.history.specs.TrustedCommands.{Command, ReadQueued, WriteQueued, ReadDma, WriteDma, Send, Receive, Identify, ReadLog, Flush, CommandError, reading}
 use Rattle.locking.specs.declared.ranges.Verdict.{Verdict}
@@ -32,14 +33,19 @@ use Rattle.locking.specs.declared.ranges.Verdict.TheVariants.{Serve, Shadow, Den
 use Rattle.locking.specs.Range.{RangeRows}
 use Rattle.locking.specs.Ranges.{ranges_in}
 use Rattle.locking.specs.Verdict.{verdict_of}
-use Rattle.history.specs.SessionsAttempts.{bytes_in, credential, failure_of, with_class}
-use Rattle.history.specs.SessionsArguments.{uid_from}
-use Rattle.history.specs.SessionsReplies.{success, not_authorized, invalid_parameter, authority_locked_out, fail, succeeds, refusal, session_manager, properties, start_session, synced, properties_told, properties_refused}
-use Rattle.history.specs.SessionsStarts.{Begun, StartCall, start_call, host_of, is_properties, is_manufactured, Start, NotBegun, FailedOn, BeginsOn, start_of, begun}
-use Rattle.history.specs.MethodsAsks.{asked}
-use Rattle.history.specs.MethodsJudge.{Judgement, Refused, Gives, Makes, Attempts, Activates, Reverts, judged}
+use Rattle.sessions.specs.Attempts.{failure as failure_of, credential}
+use Rattle.call_shapes.specs.Asks.{uid_of}
+use Rattle.history.specs.Sessions.{session_manager, properties, start_session, Begun}
+use Rattle.call_shapes.specs.Statuses.{authority_locked_out, fail}
+use Rattle.sessions.specs.declared.opening.Opening.{Opening}
+use Rattle.sessions.specs.declared.opening.StartVerdict.{StartVerdict}
+use Rattle.sessions.specs.declared.opening.StartVerdict.TheVariants.{Refused, Attempted}
+use Rattle.sessions.specs.Gains.{gained, first_held}
+use Rattle.sessions.specs.Starts.{opening_of, is_in_use, verdict, host_of, reply_to, denied_with}
+use Rattle.sessions.specs.Properties.{properties_message}
+use Rattle.history.specs.MethodsJudge.{succeeds, refusal, asked, Judgement, Refuses, Gives, Makes, Attempts, Activates, Reverts, judged}
 use Rattle.history.specs.Events.{SessionDeed, Unchanged, Started, Tried, Changed, Began, Committed, Aborted, Ended, Activated, Reverted, HeldCommand, Failure, Held, Completed, CompletedWrite, QueueFailed, QueueMended, Deed, Nothing, InSession, OfQueue, Wrote, Took, Event, did}
-use Rattle.history.specs.Facts.{Facts, shadow_bytes, lives, session_named, has_open, standing}
+use Rattle.history.specs.Facts.{Facts, live, session_named, has_open, standing}
 
 -- The Error field of a command that is aborted or denied, and of one whose sectors are not all on the drive (ACS-3, ABRT and IDNF).
 abbrev pub aborted : ℕ
@@ -119,15 +125,11 @@ answers com_id session outcome = record {
   denied = outcome.denied;
 }
 
--- Attempts.
+-- Attempts. They go by the rows in force, never by an open transaction's; a right one gains the authority and its class.
 
 abbrev pub tried : Facts → Sp → Uid → Option AttemptFailure → List Uid → SessionDeed
-tried f sp authority failure gained =
-    Tried (record { sp = sp; authority = authority; row = credential f.rows sp authority; failure = failure; gained = gained })
-
-abbrev pub attempt_status : AttemptFailure → ℕ
-attempt_status LockedOut = authority_locked_out
-attempt_status _ = not_authorized
+tried f sp authority failure gains =
+    Tried (record { sp = sp; authority = authority; row = credential f.rows sp authority; failure = failure; gained = gains })
 
 -- A list with 1 or 0, but a refusal where the tries are used up.
 abbrev pub flag_said : ℕ → Message
@@ -138,53 +140,75 @@ failure_said LockedOut = refusal authority_locked_out
 failure_said _ = flag_said 0
 
 abbrev pub tried_in : Facts → Sp → Uid → Option AttemptFailure → Outcome
-tried_in f sp authority None = says (tried f sp authority None (with_class f.rows sp authority)) (flag_said 1)
+tried_in f sp authority None = says (tried f sp authority None (gained f.rows sp authority [])) (flag_said 1)
 tried_in f sp authority (Some failure) =
     record { deed = tried f sp authority (Some failure) []; said = failure_said failure; denied = Some (AttemptFailed sp authority failure) }
 
 -- The session manager.
 
-abbrev pub started_by : Facts → ℕ → StartCall → Start → Outcome
-started_by f com_id c (NotBegun status) = says Unchanged (synced c.host 0 status)
-started_by f com_id c (FailedOn sp failure) =
-    record { deed = tried f sp c.authority (Some failure) []; said = synced c.host 0 (attempt_status failure); denied = Some (AttemptFailed sp c.authority failure) }
-started_by f com_id c (BeginsOn sp) =
-    says (Started (begun f.rows f.next_number com_id c sp) (credential f.rows sp c.authority)) (synced c.host f.next_number success)
+abbrev pub begun : Facts → ℕ → Opening → Sp → Begun
+begun f com_id opening sp = record {
+  number = f.next_number;
+  host = opening.host;
+  com_id = com_id;
+  sp = sp;
+  authorities = first_held f.rows sp opening.authority;
+}
 
-abbrev pub started : Facts → ℕ → Trees → Option StartCall → Outcome
-started f com_id args None = says Unchanged (synced (host_of args) 0 invalid_parameter)
-started f com_id args (Some c) = started_by f com_id c (start_of f.rows (lives f) f.next_number c)
+-- What comes of a StartSession, by the rows in force and the sessions that live.
+abbrev pub start_verdict : Facts → Option Opening → StartVerdict
+start_verdict f opening = verdict f.rows (live f) opening
+
+abbrev pub deed_of_start : Facts → ℕ → Opening → StartVerdict → SessionDeed
+deed_of_start f com_id opening (Refused status) = Unchanged
+deed_of_start f com_id opening (Attempted sp (Some failure)) = tried f sp opening.authority (Some failure) []
+deed_of_start f com_id opening (Attempted sp None) =
+    Started (begun f com_id opening sp) (credential f.rows sp opening.authority)
+
+abbrev pub start_deed : Facts → ℕ → Option Opening → SessionDeed
+start_deed f com_id None = Unchanged
+start_deed f com_id (Some opening) = deed_of_start f com_id opening (start_verdict f (Some opening))
+
+abbrev pub started_by : Facts → ℕ → ℕ → Option Opening → Outcome
+started_by f com_id host opening = record {
+  deed = start_deed f com_id opening;
+  said = reply_to host f.next_number (start_verdict f opening);
+  denied = denied_with opening (start_verdict f opening);
+}
+
+abbrev pub started : Facts → ℕ → List Tree → Outcome
+started f com_id args = started_by f com_id (host_of args) (opening_of args)
 
 abbrev pub is_method_of_manager : Uid → Uid → Uid → Bool
 is_method_of_manager wanted object method = object.0 == session_manager.0 && method.0 == wanted.0
 
-abbrev pub called_manager : Facts → ℕ → Uid → Uid → Trees → Outcome
+abbrev pub called_manager : Facts → ℕ → Uid → Uid → List Tree → Outcome
 called_manager f com_id object method args =
-    if is_method_of_manager properties object method then says Unchanged (if is_properties args then properties_told else properties_refused)
-    else (if is_method_of_manager start_session object method then started f com_id args (start_call args)
+    if is_method_of_manager properties object method then says Unchanged (properties_message args)
+    else (if is_method_of_manager start_session object method then started f com_id args
     else says Unchanged (refusal fail))
 
 abbrev pub to_manager : Facts → ℕ → Result Message TokenError → Outcome
-to_manager f com_id (Ok (call object method args status)) = called_manager f com_id (uid_from object) (uid_from method) args
+to_manager f com_id (Ok (call object method args status)) = called_manager f com_id (uid_of object) (uid_of method) (values_of args)
 to_manager f com_id _ = says Unchanged (refusal fail)
 
 -- A session.
 
 abbrev pub activates : Facts → Outcome
 activates f =
-    says (if is_manufactured f.rows Locking then Unchanged else Activated (bytes_in (f.rows Admin c_pin_sid pin_column))) (succeeds tree.empty)
+    says (if is_in_use f.rows Locking then Unchanged else Activated (f.rows Admin c_pin_sid pin_column)) (succeeds tree.empty)
 
 -- What a judgement does, and how it is answered. Attempts go by the rows in force.
 abbrev pub outcome_of : Facts → Sp → Judgement → Outcome
-outcome_of f sp (Refused status denied) = record { deed = Unchanged; said = refusal status; denied = denied }
+outcome_of f sp (Refuses status denied) = record { deed = Unchanged; said = refusal status; denied = denied }
 outcome_of f sp (Gives results) = says Unchanged (succeeds results)
 outcome_of f sp (Makes change) = says (Changed sp change) (succeeds tree.empty)
 outcome_of f sp (Attempts authority pin) = tried_in f sp authority (failure_of f.rows sp authority pin)
 outcome_of f sp Activates = activates f
-outcome_of f sp (Reverts reverted) = says (Reverted reverted (is_manufactured f.rows Locking)) (succeeds tree.empty)
+outcome_of f sp (Reverts reverted) = says (Reverted reverted (is_in_use f.rows Locking)) (succeeds tree.empty)
 
 abbrev pub judgement_on : Facts → Begun → Uid → Uid → Trees → Judgement
-judgement_on f session object method args = judged (standing f session) object method (asked (shadow_bytes f) session.sp object method args)
+judgement_on f session object method args = judged (standing f session) object method (asked session.sp object method args)
 
 -- A transaction on an SP is opened where none is open, and closed where the session has one open.
 abbrev pub begins_on : Sp → ℕ → Option ℕ → Outcome
@@ -201,7 +225,7 @@ ends_on sp number false = says Unchanged (end 0x10)
 
 abbrev pub in_session : Facts → Begun → Result Message TokenError → Outcome
 in_session f session (Ok (call object method args status)) =
-    outcome_of f session.sp (judgement_on f session (uid_from object) (uid_from method) args)
+    outcome_of f session.sp (judgement_on f session (uid_of object) (uid_of method) args)
 in_session f session (Ok (begin n)) = begins_on session.sp session.number (f.open_on session.sp)
 in_session f session (Ok (end n)) = ends_on session.sp n (has_open f session)
 in_session f session (Ok end_session) = says (Ended session.sp) end_session

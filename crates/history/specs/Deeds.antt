@@ -1,12 +1,14 @@
 -- Which deed an item can do after a past: a law over every act. And with it, when no transaction can be open.
-use Rattle.std.specs.Prelude.{◌≡◌, ◌==◌, ℕ, Bool, true, false, List, ◌∷◌, Some, None}
+use Rattle.std.specs.Prelude.{◌≡◌, ◌==◌, ℕ, Bool, true, false, List, ◌∷◌, Option, Some, None}
 use Rattle.sp_cells.specs.declared.names.Sp.{Sp}
 use Rattle.sp_cells.specs.declared.names.Sp.TheVariants.{Admin, Locking}
 use Rattle.sp_cells.specs.Names.{c_pin_sid}
 use Rattle.sp_cells.specs.declared.names.Uid.{Uid}
+use Rattle.sp_cells.specs.declared.cells.Cell.{Cell}
 use Rattle.history.specs.Opening.{Origin}
 use Rattle.history.specs.Changes.{Change, Cells, Mbr, Restores, Resets}
-use Rattle.history.specs.SessionsStarts.{Begun, is_manufactured}
+use Rattle.history.specs.Sessions.{Begun}
+use Rattle.sessions.specs.Starts.{is_in_use}
 use Rattle.history.specs.Events.{SessionDeed, Unchanged, Started, Tried, Changed, Began, Committed, Aborted, Ended, Activated, Reverted, Response, InSession, Event}
 use Rattle.history.specs.Readers.{session_on, next_number, open_on, is_of, in_force}
 use Rattle.history.specs.History.{Act, event, log}
@@ -19,7 +21,7 @@ pub record IsIn (past : List Event) (sp : Sp) (session : Begun) : Type 0 where
 -- It began on an SP that is Manufactured and had no session, with the next number.
 pub record IsNew (o : Origin) (past : List Event) (session : Begun) : Type 0 where
   pub free : session_on past session.sp ≡ None
-  pub made : is_manufactured (in_force o past) session.sp ≡ true
+  pub made : is_in_use (in_force o past) session.sp ≡ true
   pub number : session.number ≡ next_number past
 
 pub record Begins (past : List Event) (sp : Sp) (number : ℕ) : Type 0 where
@@ -61,7 +63,7 @@ CanDo o past (Began sp number) = Begins past sp number
 CanDo o past (Committed sp) = Closes past sp
 CanDo o past (Aborted sp) = Closes past sp
 CanDo o past (Ended sp) = (session : Begun) × IsIn past sp session
-CanDo o past (Activated pin) = IsOutside past × (is_manufactured (in_force o past) Locking ≡ false)
+CanDo o past (Activated pin) = IsOutside past × (is_in_use (in_force o past) Locking ≡ false)
 CanDo o past (Reverted sp wipes) = IsOutside past
 
 abbrev pub DeedLaw : Type 0
@@ -75,12 +77,12 @@ OwnerLaw =
 
 -- While a session of the Locking SP lives, the SP is Manufactured.
 abbrev pub LifeLaw : Type 0
-LifeLaw = (o : Origin) (acts : List Act) (session : Begun) → session_on (log o acts) Locking ≡ Some session → is_manufactured (in_force o (log o acts)) Locking ≡ true
+LifeLaw = (o : Origin) (acts : List Act) (session : Begun) → session_on (log o acts) Locking ≡ Some session → is_in_use (in_force o (log o acts)) Locking ≡ true
 
 -- At an Activate that takes effect no transaction is open.
 abbrev pub ActivateLaw : Type 0
 ActivateLaw =
-    (o : Origin) (acts : List Act) (act : Act) (pin : List ℕ) (response : Response) → (event o (log o acts) act).deed ≡ InSession (Activated pin) response
+    (o : Origin) (acts : List Act) (act : Act) (pin : Option Cell) (response : Response) → (event o (log o acts) act).deed ≡ InSession (Activated pin) response
     → (sp : Sp) → open_on (log o acts) sp ≡ None
 
 -- At a Revert none is open on the Admin SP: so none but that of a session of the Locking SP, which the Revert ends.

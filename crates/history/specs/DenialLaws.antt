@@ -13,14 +13,17 @@ use Rattle.tcg_tokens.specs.Tree.{Trees}
 use Rattle.compacket.specs.Frames.{Frame}
 use Rattle.history.specs.TrustedCommands.{Command, ReadQueued, WriteQueued, ReadDma, WriteDma}
 use Rattle.locking.specs.declared.ranges.Verdict.TheVariants.{Denied}
-use Rattle.history.specs.SessionsAttempts.{failure_of}
-use Rattle.history.specs.SessionsArguments.{uid_from}
-use Rattle.history.specs.SessionsReplies.{properties, start_session}
-use Rattle.history.specs.SessionsStarts.{Begun, StartCall, start_call, FailedOn, start_of}
-use Rattle.history.specs.MethodsAsks.{Ask, asked}
-use Rattle.history.specs.MethodsJudge.{Attempts, denial}
-use Rattle.history.specs.Facts.{Facts, shadow_bytes, lives, standing}
-use Rattle.history.specs.Decisions.{on_drive, verdict_on, is_manager, is_method_of_manager, judgement_on}
+use Rattle.sessions.specs.Attempts.{failure as failure_of}
+use Rattle.call_shapes.specs.Asks.{uid_of}
+use Rattle.history.specs.Sessions.{properties, start_session, Begun}
+use Rattle.call_shapes.specs.declared.ask.Ask.{Ask}
+use Rattle.history.specs.MethodsJudge.{asked, Attempts, denial}
+use Rattle.call_shapes.specs.Named.{values_of}
+use Rattle.sessions.specs.declared.opening.Opening.{Opening}
+use Rattle.sessions.specs.declared.opening.StartVerdict.TheVariants.{Attempted}
+use Rattle.sessions.specs.Starts.{opening_of}
+use Rattle.history.specs.Facts.{Facts, standing}
+use Rattle.history.specs.Decisions.{on_drive, verdict_on, is_manager, is_method_of_manager, start_verdict, judgement_on}
 use Rattle.history.specs.History.{Act, event_by}
 use Rattle.history.specs.MethodLaws.{IsLookedAt, IsSent, IsCall}
 
@@ -57,8 +60,8 @@ pub record MethodDenied (f : Facts) (act : Act) (why : Why) : Type 0 where
   pub args : Trees
   pub called : IsCall f act session object method args
   pub ask : Ask
-  pub shaped : asked (shadow_bytes f) session.sp (uid_from object) (uid_from method) args ≡ Some ask
-  pub denial : denial (standing f session) (uid_from object) (uid_from method) ask ≡ Some why
+  pub shaped : asked session.sp (uid_of object) (uid_of method) args ≡ Some ask
+  pub denial : denial (standing f session) (uid_of object) (uid_of method) ask ≡ Some why
 
 -- An attempt in a session that fails.
 pub record AttemptDenied (f : Facts) (act : Act) (why : Why) : Type 0 where
@@ -69,7 +72,7 @@ pub record AttemptDenied (f : Facts) (act : Act) (why : Why) : Type 0 where
   pub called : IsCall f act session object method args
   pub authority : Uid
   pub pin : List ℕ
-  pub attempts : judgement_on f session (uid_from object) (uid_from method) args ≡ Attempts authority pin
+  pub attempts : judgement_on f session (uid_of object) (uid_of method) args ≡ Attempts authority pin
   pub failure : AttemptFailure
   pub fails : failure_of f.rows session.sp authority pin ≡ Some failure
   pub why_is : why ≡ AttemptFailed session.sp authority failure
@@ -85,14 +88,14 @@ pub record StartDenied (f : Facts) (act : Act) (why : Why) : Type 0 where
   pub args : Trees
   pub status : List ℕ
   pub calls : message_in frame.payload ≡ Ok (call object method args status)
-  pub no_properties : is_method_of_manager properties (uid_from object) (uid_from method) ≡ false
-  pub starts : is_method_of_manager start_session (uid_from object) (uid_from method) ≡ true
-  pub start : StartCall
-  pub shaped : start_call args ≡ Some start
+  pub no_properties : is_method_of_manager properties (uid_of object) (uid_of method) ≡ false
+  pub starts : is_method_of_manager start_session (uid_of object) (uid_of method) ≡ true
+  pub opening : Opening
+  pub shaped : opening_of (values_of args) ≡ Some opening
   pub sp : Sp
   pub failure : AttemptFailure
-  pub fails : start_of f.rows (lives f) f.next_number start ≡ FailedOn sp failure
-  pub why_is : why ≡ AttemptFailed sp start.authority failure
+  pub fails : start_verdict f (Some opening) ≡ Attempted sp (Some failure)
+  pub why_is : why ≡ AttemptFailed sp opening.authority failure
 
 abbrev pub IsDenied : Facts → Act → Why → Type 0
 IsDenied f act why = TransferDenied f act why ⊎ MethodDenied f act why ⊎ AttemptDenied f act why ⊎ StartDenied f act why

@@ -3,12 +3,13 @@
 use Rattle.std.specs.Prelude.{ℕ, ◌+◌, Bool, List, [], ◌∷◌, ◌++◌, Option, Some, None, option_to_list, if◌then◌else◌}
 use Rattle.sp_cells.specs.declared.names.Uid.{Uid}
 use Rattle.sp_cells.specs.declared.names.Sp.{Sp}
+use Rattle.sp_cells.specs.declared.cells.Cell.{Cell}
 use Rattle.audit.specs.declared.reason.AttemptFailure.{AttemptFailure}
 use Rattle.audit.specs.declared.reason.Why.{Why}
 use Rattle.history.specs.TrustedCommands.{Command}
 use Rattle.locking.specs.declared.ranges.Verdict.{Verdict}
 use Rattle.history.specs.Changes.{Change}
-use Rattle.history.specs.SessionsStarts.{Begun}
+use Rattle.history.specs.Sessions.{Begun}
 
 -- An attempt that began no session: on an authority of an SP whose C_PIN row is `row`. A right one, which has no failure, was made in a
 -- session, which gained these authorities.
@@ -29,7 +30,7 @@ pub data SessionDeed : Type 0 where
   Committed : (sp : Sp) → SessionDeed
   Aborted : (sp : Sp) → SessionDeed
   Ended : (sp : Sp) → SessionDeed
-  Activated : (pin : List ℕ) → SessionDeed
+  Activated : (pin : Option Cell) → SessionDeed
   Reverted : (sp : Sp) (wipes : Bool) → SessionDeed
 
 -- The response that an item left on its ComID: the bytes of a frame.

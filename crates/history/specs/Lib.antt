@@ -1,11 +1,6 @@
 pub mod TrustedCommands
 pub mod Changes
-pub mod SessionsAttempts
-pub mod SessionsArguments
-pub mod SessionsReplies
-pub mod SessionsStarts
-pub mod MethodsAsks
-pub mod MethodsValues
+pub mod Sessions
 pub mod MethodsJudge
 pub mod Opening
 pub mod Events

@@ -13,12 +13,13 @@ use Rattle.tcg_tokens.specs.Message.{call}
 use Rattle.tcg_tokens.specs.Reading.{reading as message_in}
 use Rattle.tcg_tokens.specs.Tree.{Tree, Trees}
 use Rattle.history.specs.TrustedCommands.{Command, Send, reading}
-use Rattle.history.specs.SessionsArguments.{uid_from}
-use Rattle.history.specs.SessionsReplies.{not_authorized}
-use Rattle.history.specs.SessionsStarts.{Begun}
-use Rattle.history.specs.MethodsAsks.{asked, Ask, GetCells, GetBytes, SetCells, SetBytes, Authenticate, Activate, Revert, Other}
-use Rattle.history.specs.MethodsJudge.{Standing, Judgement, Refused, Gives, Makes, Attempts, Activates, Reverts, listed, column_numbers, does, judged}
-use Rattle.history.specs.Facts.{Facts, shadow_bytes, session_named, standing}
+use Rattle.call_shapes.specs.Asks.{uid_of}
+use Rattle.call_shapes.specs.Statuses.{not_authorized}
+use Rattle.history.specs.Sessions.{Begun}
+use Rattle.call_shapes.specs.declared.ask.Ask.{Ask}
+use Rattle.call_shapes.specs.declared.ask.Ask.TheVariants.{GetCells, GetBytes, SetCells, SetBytes, Authenticate, Activate, Revert, Other}
+use Rattle.history.specs.MethodsJudge.{asked, Standing, Judgement, Refuses, Gives, Makes, Attempts, Activates, Reverts, listed, column_numbers, does, judged}
+use Rattle.history.specs.Facts.{Facts, session_named, standing}
 use Rattle.history.specs.Decisions.{answers, is_trusted, is_session_com_id, is_manager, is_busy, outcome_of, judgement_on}
 use Rattle.history.specs.History.{Act, Accept, event_by}
 
@@ -40,7 +41,7 @@ IsGranted s object method Revert = HasAce s.rows s.sp object method None s.held
 IsGranted s object method Other = HasAce s.rows s.sp object method None s.held
 
 abbrev pub takes_effect : Judgement → Bool
-takes_effect (Refused status denied) = false
+takes_effect (Refuses status denied) = false
 takes_effect (Gives results) = true
 takes_effect (Makes change) = true
 takes_effect (Attempts authority pin) = true
@@ -52,7 +53,7 @@ takes_effect (Reverts sp) = true
 pub record IsJudgedByEntries (s : Standing) (object method : Uid) (ask : Ask) : Type 0 where
   pub effect : takes_effect (does s object ask) ≡ true → (takes_effect (judged s object method (Some ask)) ≡ true) ↔ IsGranted s object method ask
   pub granted : IsGranted s object method ask → judged s object method (Some ask) ≡ does s object ask
-  pub denied : (IsGranted s object method ask → ⊥) → (why : Why) × (judged s object method (Some ask) ≡ Refused not_authorized (Some why))
+  pub denied : (IsGranted s object method ask → ⊥) → (why : Why) × (judged s object method (Some ask) ≡ Refuses not_authorized (Some why))
 
 abbrev pub GrantLaw : Type 0
 GrantLaw = (s : Standing) (object method : Uid) (ask : Ask) → IsJudgedByEntries s object method ask
@@ -108,11 +109,11 @@ pub record IsCall (f : Facts) (act : Act) (session : Begun) (object method : Lis
 abbrev pub CallLaw : Type 0
 CallLaw =
     (f : Facts) (act : Act) (session : Begun) (object method : List ℕ) (args : Trees) (c : IsCall f act session object method args)
-    → event_by f act ≡ answers c.com_id c.frame.session (outcome_of f session.sp (judgement_on f session (uid_from object) (uid_from method) args))
+    → event_by f act ≡ answers c.com_id c.frame.session (outcome_of f session.sp (judgement_on f session (uid_of object) (uid_of method) args))
 
 -- And so, act by act: of a call of the right shape with valid values, the act does and answers what its ask comes to exactly where it is granted.
 abbrev pub EffectLaw : Type 0
 EffectLaw =
     (f : Facts) (act : Act) (session : Begun) (object method : List ℕ) (args : Trees) (c : IsCall f act session object method args) (ask : Ask)
-    → asked (shadow_bytes f) session.sp (uid_from object) (uid_from method) args ≡ Some ask → takes_effect (does (standing f session) (uid_from object) ask) ≡ true
-    → (event_by f act ≡ answers c.com_id c.frame.session (outcome_of f session.sp (does (standing f session) (uid_from object) ask))) ↔ IsGranted (standing f session) (uid_from object) (uid_from method) ask
+    → asked session.sp (uid_of object) (uid_of method) args ≡ Some ask → takes_effect (does (standing f session) (uid_of object) ask) ≡ true
+    → (event_by f act ≡ answers c.com_id c.frame.session (outcome_of f session.sp (does (standing f session) (uid_of object) ask))) ↔ IsGranted (standing f session) (uid_of object) (uid_of method) ask

@@ -1,6 +1,6 @@
 -- [methods] What comes of a call: its shape, its access entries, its values, in this order (Core 2.01, sections 5.1.4 and 5.3; Opal SSC 2.01, section 5.1).
 -- Over any view, any authorities; the statuses are those of section 5.1.5.
-use Rattle.std.specs.Prelude.{ℕ, ◌+◌, ◌-◌, ◌==◌, Bool, true, false, not, ◌&&◌, ◌||◌, nat_le, nat_lt, List, [], ◌∷◌, length, map, Option, Some, None, is_some, option_map, option_to_list, if◌then◌else◌, zero, suc}
+use Rattle.std.specs.Prelude.{ℕ, ◌+◌, ◌-◌, ◌==◌, Bool, true, false, ◌&&◌, nat_le, nat_lt, List, [], ◌∷◌, length, map, Option, Some, None, is_some, option_map, option_to_list, if◌then◌else◌, zero, suc}
 use Rattle.std.specs.List.{flat_map}
 use Rattle.sp_cells.specs.declared.names.Uid.{Uid}
 use Rattle.sp_cells.specs.declared.names.Sp.{Sp}
@@ -11,6 +11,12 @@ use Rattle.sp_cells.specs.declared.error.SetError.{SetError}
 use Rattle.sp_cells.specs.declared.error.SetError.TheVariants as faults
 use Rattle.sp_cells.specs.Names.{locking_sp, get, col}
 use Rattle.sp_cells.specs.Flat.{LookUp}
+use Rattle.sp_cells.specs.declared.values.ColumnType.{ColumnType}
+use Rattle.sp_cells.specs.Values.{column_type}
+use Rattle.call_shapes.specs.CellValues.{cell_in, cell_tree}
+use Rattle.call_shapes.specs.Named.{values_of}
+use Rattle.call_shapes.specs.Asks.{ask_of}
+use Rattle.tcg_tokens.specs.Message.{Message, reply}
 use Rattle.ace_eval.specs.Aces.{naming, acl_at, ace_of}
 use Rattle.audit.specs.declared.reason.Why.{Why}
 use Rattle.audit.specs.declared.reason.Why.TheVariants.{NoEntryHolds, NoAccessRow}
@@ -19,9 +25,9 @@ use Rattle.tcg_tokens.specs.Tree.{Tree, Trees, number, bytes, list, named, empty
 use Rattle.sp_tables.specs.Looks.{fault_seen}
 use Rattle.sp_tables.specs.Tries.{names_tries}
 use Rattle.history.specs.Changes.{Change, Cells, Mbr}
-use Rattle.history.specs.MethodsAsks.{Ask, GetCells, GetBytes, SetCells, SetBytes, Authenticate, Activate, Revert, Other}
-use Rattle.history.specs.MethodsValues.{tree_of, cells_of}
-use Rattle.history.specs.SessionsReplies.{most_token_bytes, succeeds, not_authorized, invalid_parameter, response_overflow, fail}
+use Rattle.call_shapes.specs.declared.ask.Ask.{Ask}
+use Rattle.call_shapes.specs.declared.ask.Ask.TheVariants.{GetCells, GetBytes, SetCells, SetBytes, Authenticate, Activate, Revert, Other}
+use Rattle.call_shapes.specs.Statuses.{success, not_authorized, invalid_parameter, response_overflow, fail}
 
 -- What the rules ask of a session: the drive's sectors, the bytes of its shadow, the rows and those bytes in its view,
 -- its SP, the authorities that it holds, and whether a transaction is open.
@@ -34,8 +40,23 @@ pub record Standing : Type 0 where
   pub held : List Uid
   pub is_open : Bool
 
+-- What a call asks, or nothing where its arguments have not the shape of its method.
+abbrev pub asked : Sp → Uid → Uid → Trees → Option Ask
+asked sp object method args = ask_of sp object method (values_of args)
+
+-- Results with SUCCESS, and a refusal.
+abbrev pub succeeds : Trees → Message
+succeeds results = reply results (success ∷ 0 ∷ 0 ∷ [])
+
+abbrev pub refusal : ℕ → Message
+refusal status = reply empty (status ∷ 0 ∷ 0 ∷ [])
+
+-- The most token bytes of a response.
+abbrev pub most_token_bytes : ℕ
+most_token_bytes = 65480
+
 pub data Judgement : Type 0 where
-  Refused : (status : ℕ) (denied : Option Why) → Judgement
+  Refuses : (status : ℕ) (denied : Option Why) → Judgement
   Gives : (results : Trees) → Judgement
   Makes : (change : Change) → Judgement
   Attempts : (authority : Uid) (pin : List ℕ) → Judgement
@@ -94,7 +115,7 @@ abbrev pub listed : Standing → Uid → ℕ → ℕ → List (ℕ × Cell)
 listed s object first last = flat_map (listed_at s object first last) column_numbers
 
 abbrev pub pairs_tree : List (ℕ × Cell) → Tree
-pairs_tree pairs = list (trees_of (map (λ p. named (number p.0) (tree_of p.1)) pairs))
+pairs_tree pairs = list (trees_of (map (λ p. named (number p.0) (cell_tree p.1)) pairs))
 
 -- So many numbers from the first on.
 abbrev pub run_from : ℕ → ℕ → List ℕ
@@ -105,23 +126,36 @@ run_from first (suc n) = first ∷ run_from (first + 1) n
 abbrev pub gives : Tree → Judgement
 gives result =
     if nat_le (length (item_spelling_of (succeeds (more result empty)))) most_token_bytes then Gives (more result empty)
-    else Refused response_overflow None
+    else Refuses response_overflow None
 
 -- Why these cells are not set: Tries are none that a change names.
 abbrev pub fault_of_cells : ℕ → LookUp → Sp → Uid → List (Column × Cell) → Option SetError
 fault_of_cells sectors look sp object cells =
     if names_tries object cells then Some faults.NoCell else fault_seen sectors look sp object cells
 
+-- The cells that some values make of an object's columns.
+abbrev pub typed_cell : Option ColumnType → Tree → Option Cell
+typed_cell None value = None
+typed_cell (Some kind) value = cell_in kind value
+
+abbrev pub with_cell : Column → Option Cell → Option (List (Column × Cell)) → Option (List (Column × Cell))
+with_cell column (Some cell) (Some cells) = Some ((column, cell) ∷ cells)
+with_cell column _ _ = None
+
+abbrev pub cells_of : Uid → List (ℕ × Tree) → Option (List (Column × Cell))
+cells_of object [] = Some []
+cells_of object (p ∷ ps) = with_cell (col p.0) (typed_cell (column_type object (col p.0)) p.1) (cells_of object ps)
+
 abbrev pub set_unless : Option SetError → Uid → List (Column × Cell) → Judgement
 set_unless None object cells = Makes (Cells object cells)
-set_unless (Some fault) object cells = Refused invalid_parameter None
+set_unless (Some fault) object cells = Refuses invalid_parameter None
 
 abbrev pub sets : Standing → Uid → Option (List (Column × Cell)) → Judgement
-sets s object None = Refused invalid_parameter None
+sets s object None = Refuses invalid_parameter None
 sets s object (Some cells) = set_unless (fault_of_cells s.sectors s.rows s.sp object cells) object cells
 
 abbrev pub unless_open : Bool → Judgement → Judgement
-unless_open true judgement = Refused fail None
+unless_open true judgement = Refuses fail None
 unless_open false judgement = judgement
 
 abbrev pub reverted_sp : Uid → Sp
@@ -134,22 +168,29 @@ listing s object first last = pairs_tree (listed s object first last)
 abbrev pub bytes_between : Standing → ℕ → ℕ → Tree
 bytes_between s first last = bytes (map s.byte (run_from first (last + 1 - first)))
 
+abbrev pub last_row : ℕ → Option ℕ → ℕ
+last_row size None = size - 1
+last_row size (Some last) = last
+
+abbrev pub gives_bytes : Standing → ℕ → ℕ → Judgement
+gives_bytes s first last =
+    if nat_le first last && nat_lt last s.size then gives (bytes_between s first last) else Refuses invalid_parameter None
+
 -- What a granted call comes to.
 abbrev pub does : Standing → Uid → Ask → Judgement
 does s object (GetCells first last) = gives (listing s object first last)
-does s object (GetBytes first last) =
-    if nat_lt last s.size then gives (bytes_between s first last) else Refused invalid_parameter None
+does s object (GetBytes first last) = gives_bytes s first (last_row s.size last)
 does s object (SetCells values) = sets s object (cells_of object values)
-does s object (SetBytes at content) = if nat_le (at + length content) s.size then Makes (Mbr at content) else Refused invalid_parameter None
+does s object (SetBytes at content) = if nat_le (at + length content) s.size then Makes (Mbr at content) else Refuses invalid_parameter None
 does s object (Authenticate authority pin) = Attempts authority pin
 does s object Activate = unless_open s.is_open Activates
 does s object Revert = unless_open s.is_open (Reverts (reverted_sp object))
-does s object Other = Refused fail None
+does s object Other = Refuses fail None
 
 abbrev pub unless_denied : Option Why → Judgement → Judgement
 unless_denied None judgement = judgement
-unless_denied (Some why) judgement = Refused not_authorized (Some why)
+unless_denied (Some why) judgement = Refuses not_authorized (Some why)
 
 abbrev pub judged : Standing → Uid → Uid → Option Ask → Judgement
-judged s object method None = Refused invalid_parameter None
+judged s object method None = Refuses invalid_parameter None
 judged s object method (Some ask) = unless_denied (denial s object method ask) (does s object ask)

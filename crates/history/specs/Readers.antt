@@ -5,7 +5,8 @@ use Rattle.std.specs.List.{flat_map}
 use Rattle.sp_cells.specs.declared.names.Uid.{Uid}
 use Rattle.sp_cells.specs.declared.names.Sp.{Sp}
 use Rattle.sp_cells.specs.declared.names.Sp.TheVariants.{Admin, Locking}
-use Rattle.sp_cells.specs.declared.cells.Cell.TheVariants.{Number, Bytes}
+use Rattle.sp_cells.specs.declared.cells.Cell.{Cell}
+use Rattle.sp_cells.specs.declared.cells.Cell.TheVariants.{Number}
 use Rattle.sp_cells.specs.Limits.{manufactured, manufactured_inactive}
 use Rattle.sp_cells.specs.Names.{locking_sp, admin_pin_uid}
 use Rattle.sp_cells.specs.Flat.{LookUp, sp_eq}
@@ -17,7 +18,7 @@ use Rattle.shadow_mbr.specs.Stored.{sector_size, zeros}
 use Rattle.history.specs.Opening.{Origin}
 use Rattle.sp_tables.specs.Looks.{RowLook}
 use Rattle.history.specs.Changes.{Change, Cells, Restores, Resets, apply_all, byte_in, with_tries}
-use Rattle.history.specs.SessionsStarts.{Begun}
+use Rattle.history.specs.Sessions.{Begun}
 use Rattle.history.specs.Events.{SessionDeed, Started, Tried, Changed, Began, Committed, Aborted, Ended, Activated, Reverted, HeldCommand, Failure, QueueDeed, Held, Completed, CompletedWrite, QueueFailed, QueueMended, Deed, InSession, OfQueue, Wrote, Took, WasReset, Event, latest, since, every, count}
 
 -- It speaks of this SP.
@@ -139,9 +140,13 @@ abbrev pub state_change : ℕ → List Change
 state_change state = Cells locking_sp ((life_cycle_state_column, Number state) ∷ []) ∷ []
 
 -- The Locking SP is Manufactured, and its Admin1 has SID's PIN.
-abbrev pub activation : List ℕ → Sp → List Change
+abbrev pub pin_change : Option Cell → List Change
+pin_change None = []
+pin_change (Some pin) = Cells (admin_pin_uid 1) ((pin_column, pin) ∷ []) ∷ []
+
+abbrev pub activation : Option Cell → Sp → List Change
 activation pin Admin = state_change manufactured
-activation pin Locking = Cells (admin_pin_uid 1) ((pin_column, Bytes pin) ∷ []) ∷ []
+activation pin Locking = pin_change pin
 
 -- The factory's cells; after a Revert of the Locking SP alone the Admin SP knows it as Manufactured-Inactive.
 abbrev pub restoring : Sp → Sp → List Change
