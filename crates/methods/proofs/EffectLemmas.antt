@@ -1,0 +1,119 @@
+-- Changes of the store, and what they set.
+use Rattle.std.proofs.Common.{◌≡◌, ◌<◌, ◌+◌, ℕ, zero, suc, Bool, true, false, List, length, Option, None, Some, refl, ap, ◌∙◌, sym, arith, not, is_some, [], ◌∷◌, option_map, if◌then◌else◌}
+use Rattle.std.specs.Prelude.{slice_index}
+use Rattle.sp_cells.specs.declared.names.Uid.{Uid}
+use Rattle.sp_cells.specs.declared.names.Sp.{Sp}
+use Rattle.sp_cells.specs.declared.names.Sp.TheVariants.{Admin, Locking}
+use Rattle.sp_cells.specs.declared.error.SetError.{SetError}
+use Rattle.sp_cells.specs.Names.{set}
+use Rattle.transactions.specs.declared.change.Change.{Change}
+use Rattle.transactions.specs.declared.change.Change.TheVariants.{Cells, Mbr}
+use Rattle.transactions.specs.Stored.{Stored, Part, Transaction, part_set, at_part}
+use Rattle.transactions.specs.Changes.{fault_of_change}
+use Rattle.methods.specs.Settings.{Setting, setting}
+use Rattle.methods.specs.Changes.{setting_seen}
+use Rattle.methods.specs.Cases.{has_case}
+use Rattle.methods.specs.Effects.{fault_of_setting, fault_of_set, part_with, is_told, stored_after, unless_fault, valid_setting, set_stored, set_said, to_set, held_of, bytes_from}
+use Rattle.call_shapes.specs.Statuses.{invalid_parameter}
+use Rattle.methods.specs.Said.{says, refuses, said_attempt}
+use Rattle.tcg_tokens.specs.Tree.{number}
+use Rattle.audit.specs.declared.reason.Why.{Why}
+use Rattle.audit.specs.declared.reason.AttemptFailure.{AttemptFailure}
+use Rattle.audit.specs.declared.reason.AttemptFailure.TheVariants.{WrongPin, LockedOut, Disabled, Unknown}
+use Rattle.sessions.specs.declared.answers.AuthAnswer.TheVariants.{Wrong}
+use Rattle.sessions.specs.Answers.{answer_to}
+use Rattle.transactions.specs.Sights.{sight_on}
+use Rattle.methods.specs.Kinds.{kind_of}
+use Rattle.call_shapes.specs.declared.ask.Ask.{Ask}
+use Rattle.sessions.specs.Live.{Holder}
+use Rattle.transactions.specs.declared.change.SessionId.{SessionId}
+use Rattle.sp_tables.specs.Faults.{IsFault}
+
+-- a change does what its setting says
+part_made : (change : Change) (p : Part) (o : Option Transaction) → p.pending ≡ o → part_set change p ≡ part_with (setting_seen change) p p.pending
+part_made (Cells object cells) p None e = rw e refl
+part_made (Cells object cells) p (Some t) e = rw e refl
+part_made (Mbr at bytes) p None e = rw e refl
+part_made (Mbr at bytes) p (Some t) e = rw e refl
+
+pub set_made : (change : Change) (sp : Sp) (s : Stored) → at_part sp (part_set change) s ≡ at_part sp (λ p. part_with (setting_seen change) p p.pending) s
+set_made change Admin s = ap (λ (p : Part). record s { admin = p }) (part_made change s.admin s.admin.pending refl)
+set_made change Locking s = ap (λ (p : Part). record s { locking = p }) (part_made change s.locking s.locking.pending refl)
+
+pub fault_made : (change : Change) (sp : Sp) (s : Stored) → fault_of_change s sp change ≡ fault_of_setting s sp (setting_seen change)
+fault_made (Cells object cells) sp s = refl
+fault_made (Mbr at bytes) sp s = refl
+
+-- where the object's kind has Set, it is the change that may have a fault
+pub fault_as : (s : Stored) (session : SessionId) (object : Uid) (change : Change) → has_case session.sp object set ≡ true → fault_of_set s session object change ≡ fault_of_change s session.sp change
+fault_as s session object change e = rw e refl
+
+-- what a session holds
+pub held_is : (o : Option Holder) (h : List Uid) → Some h ≡ option_map (λ s. s.held) o → h ≡ held_of o
+held_is None h e = cc
+held_is (Some s) h e = cc
+
+pub held_none : (o : Option Holder) → None ≡ option_map (λ s. s.held) o → [] ≡ held_of o
+held_none None e = refl
+held_none (Some s) e = cc
+
+-- every view has the store's configuration
+pub config_seen : (sp : Sp) (n : ℕ) (s : Stored) → (sight_on sp n s).config ≡ s.config
+config_seen Admin n s = refl
+config_seen Locking n s = refl
+
+-- a wrong attempt, and its answer
+pub wrong_said : (sp : Sp) (a : Uid) (f : Option AttemptFailure) (why : Why) → Wrong why ≡ answer_to sp a f → says (number 0 ∷ []) (Some why) false ≡ said_attempt sp a f
+wrong_said sp a None why e = cc
+wrong_said sp a (Some LockedOut) why e = cc
+wrong_said sp a (Some WrongPin) why e = cc
+wrong_said sp a (Some Disabled) why e = cc
+wrong_said sp a (Some Unknown) why e = cc
+
+clash : false ≡ true → ⊥
+clash h = cc
+
+-- a fault that is told is that of the change
+pub told : (o : Option SetError) (e : SetError) → IsFault o e → is_told e ≡ true → is_some o ≡ true
+told None e f t = absurd (clash (sym (ap is_told f) ∙ t))
+told (Some x) e f t = refl
+
+pub stored_told : (o : Option SetError) (sp : Sp) (change : Change) (s : Stored) → is_some o ≡ true → stored_after o sp change s ≡ s
+stored_told None sp change s e = cc
+stored_told (Some x) sp change s e = refl
+
+-- what a change leaves is what its setting leaves
+set_by : (o : Option SetError) (sp : Sp) (change : Change) (s : Stored) → stored_after o sp change s ≡ set_stored s sp (unless_fault o (setting_seen change))
+set_by None sp change s = set_made change sp s
+set_by (Some x) sp change s = refl
+
+said_by : (o : Option SetError) (st : Setting) (b : Bool) → b ≡ not (is_some o) → set_said (unless_fault o st) ≡ (if b then says [] None false else refuses invalid_parameter None)
+said_by None st true e = refl
+said_by None st false e = cc
+said_by (Some x) st true e = cc
+said_by (Some x) st false e = refl
+
+-- the store, and the answer, of a Set whose values are read
+pub stored_set : (s : Stored) (session : SessionId) (object : Uid) (ask : Ask) (change : Change) → Some (setting_seen change) ≡ setting session.sp s.config.mbr_sectors object (kind_of session.sp object) ask → stored_after (fault_of_change s session.sp change) session.sp change s ≡ set_stored s session.sp (to_set s session object ask)
+stored_set s session object ask change e = ap (λ o. stored_after o session.sp change s) (fault_made change session.sp s) ∙ set_by (fault_of_setting s session.sp (setting_seen change)) session.sp change s ∙ ap (λ o. set_stored s session.sp (valid_setting s session.sp o)) e
+
+pub said_set : (s : Stored) (session : SessionId) (object : Uid) (ask : Ask) (change : Change) (b : Bool) → Some (setting_seen change) ≡ setting session.sp s.config.mbr_sectors object (kind_of session.sp object) ask → b ≡ not (is_some (fault_of_change s session.sp change)) → (if b then says [] None false else refuses invalid_parameter None) ≡ set_said (to_set s session object ask)
+said_set s session object ask change b e made = sym (said_by (fault_of_change s session.sp change) (setting_seen change) b made) ∙ ap (λ o. set_said (unless_fault o (setting_seen change))) (fault_made change session.sp s) ∙ ap (λ o. set_said (valid_setting s session.sp o)) e
+
+pub ruleset setting_made = (set_made, fault_made)
+
+pub ruleset setting_done = (stored_set, said_set)
+
+pub ruleset telling = (told, stored_told)
+
+-- bytes that are told one by one
+pub bytes_told : (bs xs : List ℕ) (first n : ℕ) → length xs ≡ n → ((k : ℕ) → k < length xs → slice_index xs k ≡ slice_index bs (first + k)) → xs ≡ bytes_from bs first n
+bytes_told bs [] first zero e h = refl
+bytes_told bs [] first (suc n) e h = absurd (omega (arith, e))
+bytes_told bs (x ∷ xs) first zero e h = absurd (omega (arith, e))
+bytes_told bs (x ∷ xs) first (suc n) e h =
+    let front : x ≡ slice_index bs first = h 0 (omega arith) ∙ ap (slice_index bs) (omega arith) in
+    let rest : xs ≡ bytes_from bs (suc first) n = bytes_told bs xs (suc first) n (omega (arith, e)) (λ k lt. h (suc k) (omega (arith, lt)) ∙ ap (slice_index bs) (omega arith)) in
+    ap (λ y. y ∷ xs) front ∙ ap (λ ys. slice_index bs first ∷ ys) rest
+
+pub ruleset bytes_read = (bytes_told)

@@ -1,0 +1,4 @@
+pub mod SettingLemmas
+pub mod CaseLemmas
+pub mod EffectLemmas
+pub mod ListLemmas

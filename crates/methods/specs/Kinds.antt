@@ -1,0 +1,25 @@
+-- The kinds of objects (Core 2.01, chapter 5; Opal SSC 2.01, sections 4.2 and 4.3).
+use Rattle.std.specs.Prelude.{◌==◌, ℕ, Option, None, Some, if◌then◌else◌}
+use Rattle.sp_cells.specs.declared.names.Uid.{Uid}
+use Rattle.sp_cells.specs.declared.names.Sp.{Sp}
+use Rattle.sp_cells.specs.Names.{this_sp, table_of, ace_table, authority_table, c_pin_table, sp_table, locking_table, mbr_control_table}
+use Rattle.call_shapes.specs.Asks.{is_mbr_table}
+use Rattle.methods.specs.declared.kinds.Kind.{Kind}
+use Rattle.methods.specs.declared.kinds.Kind.TheVariants as kinds
+
+-- the kind of a table's rows
+abbrev pub kind_of_table : ℕ → Option Kind
+kind_of_table table =
+    if table == ace_table then Some kinds.Ace else
+    if table == authority_table then Some kinds.Authority else
+    if table == c_pin_table then Some kinds.CPin else
+    if table == sp_table then Some kinds.Sp else
+    if table == locking_table then Some kinds.Locking else
+    if table == mbr_control_table then Some kinds.MbrControl else None
+
+-- the kind of an object in a session of an SP
+abbrev pub kind_of : Sp → Uid → Option Kind
+kind_of sp object =
+    if object.0 == this_sp.0 then Some kinds.ThisSp else
+    if is_mbr_table sp object then Some kinds.MbrTable else
+    kind_of_table (table_of object)

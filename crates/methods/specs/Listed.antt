@@ -1,0 +1,36 @@
+-- What Get lists (Core 2.01, section 5.3.3.6).
+use Rattle.std.specs.Prelude.{nat_le, ℕ, Bool, ◌&&◌, List, [], ◌∷◌, filter, Option, None, Some, is_some}
+use Rattle.std.specs.List.{flat_map}
+use Rattle.sp_cells.specs.declared.names.Uid.{Uid}
+use Rattle.sp_cells.specs.declared.names.Sp.{Sp}
+use Rattle.sp_cells.specs.declared.names.Column.{Column}
+use Rattle.sp_cells.specs.declared.cells.Cell.{Cell}
+use Rattle.sp_cells.specs.declared.values.ColumnType.{ColumnType}
+use Rattle.sp_cells.specs.Names.{get}
+use Rattle.sp_cells.specs.Flat.{LookUp}
+use Rattle.tcg_tokens.specs.Tree.{Tree, number, named}
+use Rattle.ace_eval.specs.Aces.{ace_of}
+use Rattle.call_shapes.specs.CellValues.{cell_tree}
+use Rattle.methods.specs.Kinds.{kind_of}
+use Rattle.methods.specs.Columns.{types_of, columns_in}
+
+-- the column is among those that are asked for
+abbrev pub is_asked : (first last : ℕ) → Column → Bool
+is_asked first last k = nat_le first k.0 && nat_le k.0 last
+
+-- the column is asked for, and has an ACE: one that names it and whose expression holds
+abbrev pub is_listed : LookUp → Sp → Uid → (first last : ℕ) → List Uid → Column → Bool
+is_listed look sp object first last held k = is_asked first last k && is_some (ace_of look sp object get (Some k) held)
+
+-- a column with its value, where there is one
+abbrev pub shown : Column → Option Cell → List Tree
+shown k None = []
+shown k (Some value) = named (number k.0) (cell_tree value) ∷ []
+
+-- those of these columns that are listed and exist, each with its value
+unfoldable pub listed_among : LookUp → Sp → Uid → (first last : ℕ) → List Uid → List (Column × ColumnType) → List Tree
+listed_among look sp object first last held types = flat_map (λ k. shown k (look sp object k)) (filter (is_listed look sp object first last held) (columns_in types))
+
+-- the listed columns of the object, rising
+abbrev pub listed : LookUp → Sp → Uid → (first last : ℕ) → List Uid → List Tree
+listed look sp object first last held = listed_among look sp object first last held (types_of (kind_of sp object))

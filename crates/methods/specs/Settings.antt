@@ -1,0 +1,64 @@
+-- What Set sets: the cells, or the bytes, that a call's values write (Core 2.01, section 5.3.3.7).
+use Rattle.std.specs.Prelude.{nat_le, ◌+◌, ◌*◌, ℕ, Bool, List, length, Option, None, Some, is_some, if◌then◌else◌}
+use Rattle.std.specs.List.{list_all, filter_map}
+use Rattle.sp_cells.specs.declared.names.Uid.{Uid}
+use Rattle.sp_cells.specs.declared.names.Sp.{Sp}
+use Rattle.sp_cells.specs.declared.names.Sp.TheVariants.{Admin, Locking}
+use Rattle.sp_cells.specs.declared.names.Column.{Column}
+use Rattle.sp_cells.specs.declared.cells.Cell.{Cell}
+use Rattle.sp_cells.specs.declared.values.ColumnType.{ColumnType}
+use Rattle.sp_cells.specs.Names.{col}
+use Rattle.sp_cells.specs.Values.{type_at}
+use Rattle.tcg_tokens.specs.Tree.{Tree}
+use Rattle.call_shapes.specs.CellValues.{cell_in}
+use Rattle.call_shapes.specs.declared.ask.Ask.{Ask}
+use Rattle.call_shapes.specs.declared.ask.Ask.TheVariants.{SetCells, SetBytes}
+use Rattle.methods.specs.declared.kinds.Kind.{Kind}
+use Rattle.methods.specs.declared.kinds.Kind.TheVariants as kinds
+use Rattle.methods.specs.Columns.{set_types_of}
+
+-- the cell that a value writes in a column of this type; None where the type is none, or does not take the value
+abbrev pub cell_as : Option ColumnType → Tree → Option Cell
+cell_as None t = None
+cell_as (Some kind) t = cell_in kind t
+
+abbrev pub with_column : Column → Option Cell → Option (Column × Cell)
+with_column k None = None
+with_column k (Some cell) = Some (k, cell)
+
+-- the cell that is assigned to a column, by the types that the columns take
+abbrev pub cell_for : List (Column × ColumnType) → ℕ × Tree → Option (Column × Cell)
+cell_for types p = with_column (col p.0) (cell_as (type_at types (col p.0)) p.1)
+
+-- the cells that are assigned, in their order, where each column takes its value
+unfoldable pub cells_for : List (Column × ColumnType) → List (ℕ × Tree) → Option (List (Column × Cell))
+cells_for types ps = if list_all (λ p. is_some (cell_for types p)) ps then Some (filter_map (cell_for types) ps) else None
+
+-- the bytes stand within the byte table
+abbrev pub is_within : ℕ → ℕ → List ℕ → Bool
+is_within mbr_sectors at bytes = nat_le (at + length bytes) (512 * mbr_sectors)
+
+-- what a call sets: cells of its object, or bytes of the byte table
+pub data Setting : Type 0 where
+  cells_set : Uid → List (Column × Cell) → Setting
+  bytes_set : ℕ → List ℕ → Setting
+
+abbrev pub setting_of_cells : Uid → Option (List (Column × Cell)) → Option Setting
+setting_of_cells object None = None
+setting_of_cells object (Some cells) = Some (cells_set object cells)
+
+-- Set of columns, by the types that they take; any other call sets no cell
+abbrev pub cells_of_ask : Uid → List (Column × ColumnType) → Ask → Option Setting
+cells_of_ask object types (SetCells ps) = setting_of_cells object (cells_for types ps)
+cells_of_ask object types _ = None
+
+-- Set of bytes, within the table, which is of the Locking SP
+abbrev pub bytes_of_ask : Sp → ℕ → Ask → Option Setting
+bytes_of_ask Admin mbr_sectors ask = None
+bytes_of_ask Locking mbr_sectors (SetBytes at bytes) = if is_within mbr_sectors at bytes then Some (bytes_set at bytes) else None
+bytes_of_ask Locking mbr_sectors _ = None
+
+-- what a call sets, by the kind of its object; None where a value is none that its place takes
+abbrev pub setting : Sp → ℕ → Uid → Option Kind → Ask → Option Setting
+setting sp mbr_sectors object (Some kinds.MbrTable) ask = bytes_of_ask sp mbr_sectors ask
+setting sp mbr_sectors object kind ask = cells_of_ask object (set_types_of kind) ask

@@ -1,0 +1,206 @@
+//! Methods called in a session.
+
+ghost use Rattle.std.specs.Prelude.{◌≡◌, ◌↔◌, ℕ, Err, Some, None, IfOk, OnOk, OnErr, option_map, map};
+ghost use Rattle.tcg_tokens.specs.Tree.{tree};
+ghost use Rattle.sessions.specs.Live.{session_at, holder_on};
+ghost use Rattle.methods.specs.Kinds.{kind_of as kind_of_object};
+ghost use Rattle.methods.specs.Grants.{denied as denied_by};
+ghost use Rattle.methods.specs.Said.{said_seen};
+ghost use Rattle.methods.specs.Effects.{seen_by, held_of, cased, said_ask, stored_ask, holder_ask};
+ghost use Rattle.methods.specs.Calls.{said_call, stored_call, holder_call};
+ghost use Rattle.call_shapes.specs.Asks.{ask_of, uid_of as uid_of_octets};
+ghost use Rattle.methods.specs.declared.outcome.MethodFault.TheVariants as faults;
+
+use crate::cases::method_cases;
+use crate::grants::denied;
+use crate::handlers;
+use crate::kinds::{Kind, kind_of};
+use crate::outcome::{MethodFault, Outcome, refused};
+use ace_eval::Authorities;
+use audit::Why;
+use call_shapes::{Ask, read_ask, status, uid_of};
+use sessions::Sessions;
+use sp_cells::{Sp, Uid};
+use std::alloc::Global;
+use tcg_tokens::{Call, Value};
+use transactions::{SessionId, Store};
+
+/// The call of a handler, by the name that its row gives it.
+macro_rules! handle {
+    (read_cells ($alloc:ident $store:ident $sessions:ident $session:ident $object:ident $ask:ident)) => {
+        match $ask {
+            Ask::GetCells { first, last } => {
+                handlers::read_cells($alloc, $store, $sessions, $session, $object, *first, *last)
+            }
+            _ => Ok(refused($alloc, status::FAIL, None)),
+        }
+    };
+    (read_bytes ($alloc:ident $store:ident $sessions:ident $session:ident $object:ident $ask:ident)) => {
+        match $ask {
+            Ask::GetBytes { first, last } => {
+                handlers::read_bytes($alloc, $store, $session, *first, *last)
+            }
+            _ => Ok(refused($alloc, status::FAIL, None)),
+        }
+    };
+    (write_cells ($alloc:ident $store:ident $sessions:ident $session:ident $object:ident $ask:ident)) => {
+        handlers::write($alloc, $store, $session, $object, $ask)
+    };
+    (write_bytes ($alloc:ident $store:ident $sessions:ident $session:ident $object:ident $ask:ident)) => {
+        handlers::write($alloc, $store, $session, $object, $ask)
+    };
+    (authenticate ($alloc:ident $store:ident $sessions:ident $session:ident $object:ident $ask:ident)) => {
+        match $ask {
+            Ask::Authenticate { authority, proof } => {
+                handlers::authenticate($alloc, $store, $sessions, $session, *authority, proof.as_slice())
+            }
+            _ => Ok(refused($alloc, status::FAIL, None)),
+        }
+    };
+    (activate ($alloc:ident $store:ident $sessions:ident $session:ident $object:ident $ask:ident)) => {
+        handlers::activate($alloc, $store, $session)
+    };
+    (revert ($alloc:ident $store:ident $sessions:ident $session:ident $object:ident $ask:ident)) => {
+        handlers::revert($alloc, $store, $sessions, $session, $object)
+    };
+}
+
+macro_rules! call_arms {
+    (($kind:expr, $ask:ident, $alloc:ident, $env:tt) $([$k:ident: $($method:ident $columns:tt $handler:ident),*])*) => {
+        match $kind {
+            $(Some(Kind::$k) => match $ask {
+                $(Ask::$method { .. } => handle!($handler $env),)*
+                _ => Ok(refused($alloc, status::FAIL, None)),
+            },)*
+            None => Ok(refused($alloc, status::FAIL, None)),
+        }
+    };
+}
+
+/// Does what a granted call asks, by the kind of its object.
+fn perform(
+    alloc: Global,
+    store: &mut Store,
+    sessions: &mut Sessions,
+    session: SessionId,
+    object: Uid,
+    ask: &Ask,
+) -> Result<Outcome, MethodFault>
+    ensures outcome { IfOk result (λ out. said_seen out ≡ said_ask store.old session object (held_of (holder_on session.sp (session_at sessions.old session.tsn))) (cased (kind_of_object session.sp object) ask.now)) }
+    ensures store { OnOk result (store.new ≡ stored_ask store.old session object (cased (kind_of_object session.sp object) ask.now)) }
+    ensures points { OnOk result ((n : ℕ) → session_at sessions.new n ≡ holder_ask store.old session object (cased (kind_of_object session.sp object) ask.now) n (session_at sessions.old n)) }
+    ensures next { OnOk result (sessions.new.next ≡ sessions.old.next) }
+    ensures err_store { OnErr result (store.new ≡ store.old) }
+    ensures err_sessions { OnErr result (sessions.new ≡ sessions.old) }
+    ensures no_session { (result ≡ Err faults.NoSession) → (holder_on session.sp (session_at sessions.old session.tsn) ≡ None) }
+{
+    method_cases!(call_arms (kind_of(session.sp, object), ask, alloc, (alloc store sessions session object ask)))
+}
+
+/// Why a call is denied in a session, by what it sees and what it holds.
+fn denied_in(
+    store: &Store,
+    sessions: &Sessions,
+    session: SessionId,
+    object: Uid,
+    method: Uid,
+    ask: &Ask,
+) -> Option<Why>
+    ensures { result ≡ denied_by (seen_by store.now session) session.sp object method (held_of (holder_on session.sp (session_at sessions.now session.tsn))) ask.now }
+{
+    match sessions.authorities(session) {
+        Some(held) => denied(&store.view(session), session.sp, object, method, held, ask),
+        None => denied(
+            &store.view(session),
+            session.sp,
+            object,
+            method,
+            &Authorities::new(),
+            ask,
+        ),
+    }
+}
+
+/// A call that has its shape.
+fn call_asked(
+    alloc: Global,
+    store: &mut Store,
+    sessions: &mut Sessions,
+    session: SessionId,
+    object: Uid,
+    method: Uid,
+    ask: &Ask,
+) -> Result<Outcome, MethodFault>
+    ensures outcome { IfOk result (λ out. said_seen out ≡ said_call store.old session object method (held_of (holder_on session.sp (session_at sessions.old session.tsn))) (Some ask.now)) }
+    ensures store { OnOk result (store.new ≡ stored_call store.old session object method (held_of (holder_on session.sp (session_at sessions.old session.tsn))) (Some ask.now)) }
+    ensures points { OnOk result ((n : ℕ) → session_at sessions.new n ≡ holder_call store.old session object method (held_of (holder_on session.sp (session_at sessions.old session.tsn))) (Some ask.now) n (session_at sessions.old n)) }
+    ensures next { OnOk result (sessions.new.next ≡ sessions.old.next) }
+    ensures err_store { OnErr result (store.new ≡ store.old) }
+    ensures err_sessions { OnErr result (sessions.new ≡ sessions.old) }
+    ensures no_session { (result ≡ Err faults.NoSession) → (holder_on session.sp (session_at sessions.old session.tsn) ≡ None) }
+{
+    match denied_in(store, sessions, session, object, method, ask) {
+        Some(why) => Ok(refused(alloc, status::NOT_AUTHORIZED, Some(why))),
+        None => perform(alloc, store, sessions, session, object, ask),
+    }
+}
+
+/// A call of a method of an object.
+fn called(
+    alloc: Global,
+    store: &mut Store,
+    sessions: &mut Sessions,
+    session: SessionId,
+    object: Uid,
+    method: Uid,
+    args: &[Value],
+) -> Result<Outcome, MethodFault>
+    ensures outcome { IfOk result (λ out. said_seen out ≡ said_call store.old session object method (held_of (holder_on session.sp (session_at sessions.old session.tsn))) (ask_of session.sp object method (map tree args.now))) }
+    ensures store { OnOk result (store.new ≡ stored_call store.old session object method (held_of (holder_on session.sp (session_at sessions.old session.tsn))) (ask_of session.sp object method (map tree args.now))) }
+    ensures points { OnOk result ((n : ℕ) → session_at sessions.new n ≡ holder_call store.old session object method (held_of (holder_on session.sp (session_at sessions.old session.tsn))) (ask_of session.sp object method (map tree args.now)) n (session_at sessions.old n)) }
+    ensures next { OnOk result (sessions.new.next ≡ sessions.old.next) }
+    ensures err_store { OnErr result (store.new ≡ store.old) }
+    ensures err_sessions { OnErr result (sessions.new ≡ sessions.old) }
+    ensures no_session { (result ≡ Err faults.NoSession) → (holder_on session.sp (session_at sessions.old session.tsn) ≡ None) }
+{
+    match read_ask(alloc, session.sp, object, method, args)? {
+        Some(ask) => call_asked(alloc, store, sessions, session, object, method, &ask),
+        None => Ok(refused(alloc, status::INVALID_PARAMETER, None)),
+    }
+}
+
+/// What a method called in a session comes to.
+///
+/// # Errors
+///
+/// The session does not live, or a growth was refused: then nothing has changed.
+pub fn invoke(
+    alloc: Global,
+    store: &mut Store,
+    sessions: &mut Sessions,
+    session: SessionId,
+    call: &Call,
+) -> Result<Outcome, MethodFault>
+    ensures outcome { IfOk result (λ out. said_seen out ≡ said_call store.old session (uid_of_octets call.now.object) (uid_of_octets call.now.method) (held_of (holder_on session.sp (session_at sessions.old session.tsn))) (ask_of session.sp (uid_of_octets call.now.object) (uid_of_octets call.now.method) (map tree call.now.args.items))) }
+    ensures store { OnOk result (store.new ≡ stored_call store.old session (uid_of_octets call.now.object) (uid_of_octets call.now.method) (held_of (holder_on session.sp (session_at sessions.old session.tsn))) (ask_of session.sp (uid_of_octets call.now.object) (uid_of_octets call.now.method) (map tree call.now.args.items))) }
+    ensures points { OnOk result ((n : ℕ) → session_at sessions.new n ≡ holder_call store.old session (uid_of_octets call.now.object) (uid_of_octets call.now.method) (held_of (holder_on session.sp (session_at sessions.old session.tsn))) (ask_of session.sp (uid_of_octets call.now.object) (uid_of_octets call.now.method) (map tree call.now.args.items)) n (session_at sessions.old n)) }
+    ensures next { OnOk result (sessions.new.next ≡ sessions.old.next) }
+    ensures err_store { OnErr result (store.new ≡ store.old) }
+    ensures err_sessions { OnErr result (sessions.new ≡ sessions.old) }
+    ensures no_session { (result ≡ Err faults.NoSession) ↔ (holder_on session.sp (session_at sessions.old session.tsn) ≡ None) }
+{
+    if sessions.authorities(session).is_none() {
+        return Err(MethodFault::NoSession);
+    }
+    let object = uid_of(&call.object);
+    let method = uid_of(&call.method);
+    called(
+        alloc,
+        store,
+        sessions,
+        session,
+        object,
+        method,
+        call.args.as_slice(),
+    )
+}

@@ -1,0 +1,274 @@
+//! The handlers of granted calls. In each, all that can fail comes before the first change.
+
+ghost use Rattle.std.specs.Prelude.{◌≡◌, ◌==◌, ◌↔◌, ◌+◌, ◌*◌, ◌≤◌, ◌<◌, ◌-◌, length, ℕ, Err, [], ◌∷◌, Some, None, true, false, not, is_some, option_map, IfOk, OnOk, OnErr, IfErr, if◌then◌else◌};
+ghost use Rattle.sessions.specs.Live.{session_at, holder_on};
+ghost use Rattle.methods.specs.Kinds.{kind_of as kind_of_object};
+ghost use Rattle.methods.specs.Said.{said_seen, said_attempt};
+ghost use Rattle.methods.specs.Settings.{setting};
+ghost use Rattle.methods.specs.Changes.{setting_seen};
+ghost use Rattle.methods.specs.Effects.{columns_said, bytes_said, bytes_from, seen_by, held_of, to_set, valid_setting, set_said, set_stored, is_inside, unless_inside, stored_unless, ended_unless, sp_of_row as sp_of};
+ghost use Rattle.methods.specs.Cases.{has_case};
+ghost use Rattle.methods.specs.Said.{says};
+ghost use Rattle.sp_cells.specs.Names.{set};
+ghost use Rattle.transactions.specs.Stored.{reverted};
+ghost use Rattle.transactions.specs.Sights.{sight_of, activated, is_manufactured};
+ghost use Rattle.sessions.specs.Answers.{in_force, after_attempt, gaining_if};
+ghost use Rattle.sessions.specs.Attempts.{failure as failure_of};
+ghost use Rattle.methods.specs.declared.outcome.MethodFault.TheVariants as faults;
+
+use crate::changes::apply_set;
+use crate::lists::list_columns;
+use crate::outcome::{MOST_RESPONSE, MethodFault, Outcome, fitting, number_result, refused, said};
+use crate::settings::check_set;
+use ace_eval::Authorities;
+use audit::{AttemptFailure, Why};
+use call_shapes::{Ask, list_value, status};
+use sessions::{AuthAnswer, Sessions};
+use sp_cells::limits::MANUFACTURED;
+use sp_cells::{Column, Rows, Sp, Uid, number_at};
+use std::alloc::{AllocError, Global};
+use tcg_tokens::{Bytes, Value};
+use transactions::{SessionId, Store, View};
+
+/// What Get lists, as results.
+fn columns_outcome<R: Rows>(
+    alloc: Global,
+    rows: &R,
+    sp: Sp,
+    object: Uid,
+    first: u64,
+    last: u64,
+    held: &Authorities,
+) -> Result<Outcome, AllocError>
+    ensures { IfOk result (λ out. said_seen out ≡ columns_said (R.look_up rows.now) sp object first last held.now) }
+{
+    let listed = list_columns(alloc, rows, sp, object, first, last, held)?;
+    let mut results = Vec::new(alloc);
+    results.push(list_value(listed))?;
+    Ok(fitting(alloc, results))
+}
+
+/// Get of columns.
+pub(crate) fn read_cells(
+    alloc: Global,
+    store: &Store,
+    sessions: &Sessions,
+    session: SessionId,
+    object: Uid,
+    first: u64,
+    last: u64,
+) -> Result<Outcome, MethodFault>
+    ensures outcome { IfOk result (λ out. said_seen out ≡ columns_said (seen_by store.now session) session.sp object first last (held_of (holder_on session.sp (session_at sessions.now session.tsn)))) }
+    ensures no_session { (result ≡ Err faults.NoSession) ↔ (holder_on session.sp (session_at sessions.now session.tsn) ≡ None) }
+{
+    let Some(held) = sessions.authorities(session) else {
+        return Err(MethodFault::NoSession);
+    };
+    let outcome = columns_outcome(
+        alloc,
+        &store.view(session),
+        session.sp,
+        object,
+        first,
+        last,
+        held,
+    )?;
+    Ok(outcome)
+}
+
+/// What Get of bytes reads.
+fn bytes_outcome(
+    alloc: Global,
+    view: &View<'_>,
+    first: u64,
+    last: Option<u64>,
+) -> Result<Outcome, AllocError>
+    ensures { IfOk result (λ out. said_seen out ≡ bytes_said view.now first last) }
+{
+    let size = 512 * u128::from(view.mbr_sectors());
+    if size == 0 {
+        return Ok(refused(alloc, status::INVALID_PARAMETER, None));
+    }
+    let last = match last {
+        Some(last) => u128::from(last),
+        None => size - 1,
+    };
+    if size <= last || last < u128::from(first) {
+        return Ok(refused(alloc, status::INVALID_PARAMETER, None));
+    }
+    let count = last + 1 - u128::from(first);
+    if count > MOST_RESPONSE as u128 {
+        return Ok(refused(alloc, status::RESPONSE_OVERFLOW, None));
+    }
+    let read = read_rows(alloc, view, first, count as usize)?;
+    let mut results = Vec::new(alloc);
+    results.push(Value::Bytes(Bytes::from_vec(read)))?;
+    Ok(fitting(alloc, results))
+}
+
+/// Fills a buffer with the bytes of the table from a row on.
+fn fill(view: &View<'_>, first: u64, buffer: &mut [u8])
+    requires { first + length buffer.old ≤ 512 * view.now.config.mbr_sectors }
+    ensures { buffer.new ≡ bytes_from view.now.bytes first (length buffer.old) }
+{
+    view.read_mbr(first, buffer);
+}
+
+/// So many bytes of the table, from a row on.
+fn read_rows(
+    alloc: Global,
+    view: &View<'_>,
+    first: u64,
+    count: usize,
+) -> Result<Vec<u8>, AllocError>
+    requires { first + count ≤ 512 * view.now.config.mbr_sectors }
+    ensures { IfOk result (λ v. v.items ≡ bytes_from view.now.bytes first count) }
+{
+    let mut buffer = vec![in alloc; 0; count]?;
+    fill(view, first, &mut buffer);
+    Ok(buffer)
+}
+
+/// Get of bytes.
+pub(crate) fn read_bytes(
+    alloc: Global,
+    store: &Store,
+    session: SessionId,
+    first: u64,
+    last: Option<u64>,
+) -> Result<Outcome, MethodFault>
+    ensures outcome { IfOk result (λ out. said_seen out ≡ bytes_said (sight_of store.now session) first last) }
+    ensures memory { IfErr result (λ e. e ≡ faults.OutOfMemory) }
+{
+    let outcome = bytes_outcome(alloc, &store.view(session), first, last)?;
+    Ok(outcome)
+}
+
+/// Set, of columns or of bytes.
+#[tactic(auto, using(crate::proofs::EffectLemmas::setting_done))]
+pub(crate) fn write(
+    alloc: Global,
+    store: &mut Store,
+    session: SessionId,
+    object: Uid,
+    ask: &Ask,
+) -> Result<Outcome, MethodFault>
+    requires { has_case session.sp object set ≡ true }
+    ensures outcome { IfOk result (λ out. said_seen out ≡ set_said (to_set store.old session object ask.now)) }
+    ensures store { OnOk result (store.new ≡ set_stored store.old session.sp (to_set store.old session object ask.now)) }
+    ensures err { OnErr result (store.new ≡ store.old) }
+    ensures memory { IfErr result (λ e. e ≡ faults.OutOfMemory) }
+{
+    let Some(change) = check_set(alloc, &store.view(session), session.sp, object, ask)? else {
+        return Ok(refused(alloc, status::INVALID_PARAMETER, None));
+    };
+    if apply_set(store, session, object, &change)? {
+        Ok(said(Vec::new(alloc), None, false))
+    } else {
+        Ok(refused(alloc, status::INVALID_PARAMETER, None))
+    }
+}
+
+/// Authenticate.
+pub(crate) fn authenticate(
+    alloc: Global,
+    store: &mut Store,
+    sessions: &mut Sessions,
+    session: SessionId,
+    authority: Uid,
+    proof: &[u8],
+) -> Result<Outcome, MethodFault>
+    ensures outcome { IfOk result (λ out. said_seen out ≡ said_attempt session.sp authority (failure_of (in_force store.old) session.sp authority proof.now)) }
+    ensures store { OnOk result (store.new ≡ after_attempt session.sp authority (failure_of (in_force store.old) session.sp authority proof.now) store.old) }
+    ensures points { OnOk result ((n : ℕ) → session_at sessions.new n ≡ (if session.tsn == n then gaining_if (in_force store.old) authority (failure_of (in_force store.old) session.sp authority proof.now) (session_at sessions.old n) else session_at sessions.old n)) }
+    ensures next { OnOk result (sessions.new.next ≡ sessions.old.next) }
+    ensures err_store { OnErr result (store.new ≡ store.old) }
+    ensures err_sessions { OnErr result (sessions.new ≡ sessions.old) }
+    ensures memory { IfErr result (λ e. e ≡ faults.OutOfMemory) }
+{
+    let right = number_result(alloc, 1)?;
+    let wrong = number_result(alloc, 0)?;
+    match sessions.authenticate(store, session, authority, proof) {
+        AuthAnswer::Right => Ok(said(right, None, false)),
+        AuthAnswer::Wrong(why) => Ok(said(wrong, Some(why), false)),
+        AuthAnswer::LockedOut => Ok(refused(
+            alloc,
+            status::AUTHORITY_LOCKED_OUT,
+            Some(Why::AttemptFailed {
+                sp: session.sp,
+                authority,
+                failure: AttemptFailure::LockedOut,
+            }),
+        )),
+    }
+}
+
+/// Activate.
+pub(crate) fn activate(
+    alloc: Global,
+    store: &mut Store,
+    session: SessionId,
+) -> Result<Outcome, MethodFault>
+    ensures outcome { IfOk result (λ out. said_seen out ≡ unless_inside (is_inside store.old session) (says [] None false)) }
+    ensures store { OnOk result (store.new ≡ stored_unless (is_inside store.old session) store.old (activated store.old)) }
+    ensures err { OnErr result (store.new ≡ store.old) }
+    ensures memory { IfErr result (λ e. e ≡ faults.OutOfMemory) }
+{
+    if store.is_open(session) {
+        return Ok(refused(alloc, status::FAIL, None));
+    }
+    store.activate()?;
+    Ok(said(Vec::new(alloc), None, false))
+}
+
+/// Whether the Locking SP is in use.
+fn is_in_use(store: &Store) -> bool
+    ensures { result ≡ is_manufactured store.now }
+{
+    number_at(
+        &store.committed(),
+        Sp::Admin,
+        Uid::LOCKING_SP,
+        Column::LIFE_CYCLE_STATE,
+    ) == MANUFACTURED
+}
+
+/// The SP that a row of the SP table names.
+fn sp_of_row(object: Uid) -> Sp
+    ensures { result ≡ sp_of object }
+{
+    if object == Uid::ADMIN_SP {
+        Sp::Admin
+    } else {
+        Sp::Locking
+    }
+}
+
+/// Revert.
+pub(crate) fn revert(
+    alloc: Global,
+    store: &mut Store,
+    sessions: &mut Sessions,
+    session: SessionId,
+    object: Uid,
+) -> Result<Outcome, MethodFault>
+    ensures outcome { IfOk result (λ out. said_seen out ≡ unless_inside (is_inside store.old session) (says [] None (is_manufactured store.old))) }
+    ensures store { OnOk result (store.new ≡ stored_unless (is_inside store.old session) store.old (reverted (sp_of object) store.old)) }
+    ensures points { OnOk result ((n : ℕ) → session_at sessions.new n ≡ ended_unless (is_inside store.old session) (sp_of object) (session_at sessions.old n)) }
+    ensures next { OnOk result (sessions.new.next ≡ sessions.old.next) }
+    ensures err_store { OnErr result (store.new ≡ store.old) }
+    ensures err_sessions { OnErr result (sessions.new ≡ sessions.old) }
+    ensures memory { IfErr result (λ e. e ≡ faults.OutOfMemory) }
+{
+    if store.is_open(session) {
+        return Ok(refused(alloc, status::FAIL, None));
+    }
+    let wipe = is_in_use(store);
+    let sp = sp_of_row(object);
+    store.revert(sp)?;
+    match sp {
+        Sp::Admin => sessions.end_all(),
+        Sp::Locking => sessions.end_on(Sp::Locking),
+    }
+    Ok(said(Vec::new(alloc), None, wipe))
+}

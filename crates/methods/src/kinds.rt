@@ -1,0 +1,48 @@
+//! The kinds of objects.
+
+ghost use Rattle.std.specs.Prelude.{◌≡◌, ◌/◌, ◌<◌, ◌≤◌, ◌==◌};
+ghost use Rattle.methods.specs.Kinds.{kind_of as kind_of_object, kind_of_table};
+
+use sp_cells::names::tables;
+use sp_cells::{Sp, Uid};
+
+/// What an object is: the SP of the session, or a row of one of the tables.
+#[derive(Clone, Copy, Debug, PartialEq, Eq)]
+pub enum Kind {
+    ThisSp,
+    Sp,
+    Authority,
+    CPin,
+    Ace,
+    Locking,
+    MbrControl,
+    MbrTable,
+}
+
+/// The kind of the rows of a table, by the upper four bytes of their names.
+fn table_kind(table: u64) -> Option<Kind>
+    ensures { result ≡ kind_of_table table }
+{
+    match table {
+        tables::ACE => Some(Kind::Ace),
+        tables::AUTHORITY => Some(Kind::Authority),
+        tables::C_PIN => Some(Kind::CPin),
+        tables::SP => Some(Kind::Sp),
+        tables::LOCKING => Some(Kind::Locking),
+        tables::MBR_CONTROL => Some(Kind::MbrControl),
+        _ => None,
+    }
+}
+
+/// The kind of an object in a session of an SP. The byte table is one in the Locking SP alone.
+pub fn kind_of(sp: Sp, object: Uid) -> Option<Kind>
+    ensures { result ≡ kind_of_object sp object }
+{
+    if object == Uid::THIS_SP {
+        return Some(Kind::ThisSp);
+    }
+    if object == Uid::MBR_TABLE && sp == Sp::Locking {
+        return Some(Kind::MbrTable);
+    }
+    table_kind(object.table())
+}

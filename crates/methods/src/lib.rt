@@ -1,0 +1,22 @@
+//! What the methods of a session do: who may call them, what Get lists, which values Set takes.
+#![tactic(auto)]
+
+mod calls;
+mod cases;
+mod changes;
+mod grants;
+mod handlers;
+mod kinds;
+mod laws;
+mod lists;
+mod outcome;
+mod settings;
+
+pub use calls::invoke;
+pub use changes::apply_set;
+pub use grants::denied;
+pub use kinds::{Kind, kind_of};
+pub use laws::laws_of_cases;
+pub use lists::list_columns;
+pub use outcome::{MethodFault, Outcome};
+pub use settings::check_set;

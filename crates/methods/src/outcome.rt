@@ -1,0 +1,111 @@
+//! What a call is answered.
+
+ghost use Rattle.std.specs.Prelude.{◌≡◌, [], ◌∷◌, map, None, nat_lt, IfOk};
+ghost use Rattle.tcg_tokens.specs.Tree.{tree, number};
+ghost use Rattle.tcg_tokens.specs.Message.{message};
+ghost use Rattle.methods.specs.Said.{Said, said_seen, reply_of, says, refuses, fits};
+
+use audit::Why;
+use call_shapes::status;
+use std::alloc::{AllocError, AllocFailed, Global};
+use tcg_tokens::{Item, Reply, Value, item_len};
+
+/// The most bytes of a response's tokens.
+pub(crate) const MOST_RESPONSE: usize = 65_480;
+
+/// What comes of a call: the reply, why it was denied, and whether all media become zeros.
+#[derive(Drop)]
+pub struct Outcome {
+    pub reply: Item,
+    pub denied: Option<Why>,
+    pub wipe: bool,
+}
+
+/// Why a call was not made.
+#[derive(Clone, Copy, Debug, PartialEq, Eq)]
+pub enum MethodFault {
+    /// The session does not live.
+    NoSession,
+
+    /// A growth was refused.
+    OutOfMemory,
+}
+
+impl From<AllocError> for MethodFault {
+    ghost use Rattle.std.specs.Prelude.{◌≡◌};
+    ghost use Rattle.methods.specs.declared.outcome.MethodFault.TheVariants as faults;
+
+    ghost from_gives = { λ _ e. e ≡ faults.OutOfMemory };
+
+    fn from(_: AllocError) -> MethodFault {
+        MethodFault::OutOfMemory
+    }
+}
+
+impl<T: Drop> From<AllocFailed<T>> for MethodFault {
+    ghost use Rattle.std.specs.Prelude.{◌≡◌};
+    ghost use Rattle.methods.specs.declared.outcome.MethodFault.TheVariants as faults;
+
+    ghost from_gives = { λ _ e. e ≡ faults.OutOfMemory };
+
+    fn from(_: AllocFailed<T>) -> MethodFault {
+        MethodFault::OutOfMemory
+    }
+}
+
+/// A reply with these results and this status.
+fn reply(results: Vec<Value>, status: u64) -> Item
+    ensures { message result ≡ reply_of (map tree results.items) status }
+{
+    Item::Reply(Reply {
+        results,
+        status: [status, 0, 0],
+    })
+}
+
+/// These results, and what was denied beside them.
+pub(crate) fn said(results: Vec<Value>, denied: Option<Why>, wipe: bool) -> Outcome
+    ensures { said_seen result ≡ says (map tree results.items) denied wipe }
+{
+    Outcome {
+        reply: reply(results, status::SUCCESS),
+        denied,
+        wipe,
+    }
+}
+
+/// A refusal.
+pub(crate) fn refused(alloc: Global, status: u64, denied: Option<Why>) -> Outcome
+    ensures { said_seen result ≡ refuses status denied }
+{
+    Outcome {
+        reply: reply(Vec::new(alloc), status),
+        denied,
+        wipe: false,
+    }
+}
+
+/// These results, where they are not too long for a response.
+#[tactic(auto, unfolding(crate::specs::Said::fits))]
+pub(crate) fn fitting(alloc: Global, results: Vec<Value>) -> Outcome
+    ensures { said_seen result ≡ fits (map tree results.items) }
+{
+    let reply = reply(results, status::SUCCESS);
+    if item_len(&reply) > MOST_RESPONSE {
+        return refused(alloc, status::RESPONSE_OVERFLOW, None);
+    }
+    Outcome {
+        reply,
+        denied: None,
+        wipe: false,
+    }
+}
+
+/// One number as the results.
+pub(crate) fn number_result(alloc: Global, flag: u64) -> Result<Vec<Value>, AllocError>
+    ensures { IfOk result (λ vs. map tree vs.items ≡ number flag ∷ []) }
+{
+    let mut results = Vec::new(alloc);
+    results.push(Value::Number(flag))?;
+    Ok(results)
+}
