@@ -8,13 +8,19 @@ use Rattle.sp_cells.specs.declared.cells.Cell.TheVariants.{Number, Bytes, Uid as
 use Rattle.sp_cells.specs.declared.cells.Element.{Element}
 use Rattle.sp_cells.specs.declared.cells.Element.TheVariants.{Authority, And, Or}
 use Rattle.std.proofs.Math.Path.{fun_ext}
-use Rattle.std.specs.Prelude.{is_some, nat_le, option_map, option_to_list}
+use Rattle.std.specs.Prelude.{is_some, map, filter}
 use Rattle.std.specs.List.{flat_map}
-use Rattle.tcg_tokens.specs.Tree.{Tree}
+use Rattle.tcg_tokens.specs.Tree.{list, trees_of}
 use Rattle.call_shapes.specs.declared.ask.Ask.{Ask}
 use Rattle.call_shapes.specs.declared.ask.Ask.TheVariants.{GetCells, GetBytes, SetCells, SetBytes, Authenticate, Activate, Revert, Other}
-use Rattle.history.specs.MethodsJudge.{Standing, has_entry, needs, first_without, unless_any, unless_granted, denial_by, denial, listed, column_numbers, pairs_tree, gives, does, unless_denied, judged}
-use Rattle.sp_cells.specs.Names.{get, col}
+use Rattle.std.specs.Option.{option_or}
+use Rattle.methods.specs.Kinds.{kind_of}
+use Rattle.methods.specs.Columns.{types_of, columns_in}
+use Rattle.methods.specs.Effects.{cased}
+use Rattle.methods.specs.Grants.{why_denied, unless_allowed, denial as denial_of, wanted, first_some}
+use Rattle.methods.specs.Listed.{is_asked, shown, listed_among, listed}
+use Rattle.history.specs.Calls.{Standing, denial, gives, does_ask, does, unless_denied, judged}
+use Rattle.sp_cells.specs.Names.{get}
 use Rattle.sp_cells.specs.Flat.{LookUp}
 use Rattle.sp_cells.specs.ColumnNames.{boolean_expr_column}
 use Rattle.ace_eval.specs.Truth.{has}
@@ -62,52 +68,29 @@ entry-alike look sp object method k held other h = first-alike look sp held othe
 abbrev pub with_held : Standing → List Uid → Standing
 with_held s other = record s { held = other }
 
-has_entry-alike : (s : Standing) (other : List Uid) → SameHeld s.held other → (object method : Uid) (k : Option Column) → has_entry (with_held s other) object method k ≡ has_entry s object method k
-has_entry-alike s other h object method k = ap is_some (entry-alike s.rows s.sp object method k s.held other h)
+denial-alike : (look : LookUp) (sp : Sp) (object method : Uid) (held other : List Uid) → SameHeld held other → (ks : List (Option Column))
+    → first_some (map (denial_of look sp object method other) ks) ≡ first_some (map (denial_of look sp object method held) ks)
+denial-alike look sp object method held other h [] = refl
+denial-alike look sp object method held other h (k ∷ ks) =
+    ap (λ x. option_or (unless_allowed x (why_denied look sp object method k (acl_at sp object method))) (first_some (map (denial_of look sp object method other) ks))) (entry-alike look sp object method k held other h)
+    ∙ ap (option_or (denial_of look sp object method held k)) (denial-alike look sp object method held other h ks)
 
-first_without-alike : (s : Standing) (other : List Uid) → SameHeld s.held other → (object method : Uid) (ps : List (ℕ × Tree)) → first_without (with_held s other) object method ps ≡ first_without s object method ps
-first_without-alike s other h object method [] = refl
-first_without-alike s other h object method (p ∷ ps) =
-    ap (λ b. cond b (first_without (with_held s other) object method ps) (Some p.0)) (has_entry-alike s other h object method (Some (col p.0)))
-    ∙ ap (λ x. cond (has_entry s object method (Some (col p.0))) x (Some p.0)) (first_without-alike s other h object method ps)
+listed-alike : (look : LookUp) (sp : Sp) (object : Uid) (first last : ℕ) (held other : List Uid) → SameHeld held other → listed look sp object first last other ≡ listed look sp object first last held
+unfolding listed_among
+listed-alike look sp object first last held other h =
+    ap (λ p. flat_map (λ k. shown k (look sp object k)) (filter p (columns_in (types_of (kind_of sp object))))) (fun_ext (λ k. ap (λ x. is_asked first last k && is_some x) (entry-alike look sp object get (Some k) held other h)))
 
-any-alike : (s : Standing) (other : List Uid) → SameHeld s.held other → (object method : Uid) → unless_any (with_held s other) object method ≡ unless_any s object method
-any-alike s other h object method = ap (λ b. cond b None (Some (needs s object method None))) (has_entry-alike s other h object method None)
-
-granted-alike : (s : Standing) (other : List Uid) → SameHeld s.held other → (object method : Uid) (ask : Ask) → unless_granted (with_held s other) object method ask ≡ unless_granted s object method ask
-granted-alike s other h object method (SetCells (p ∷ ps)) = ap (option_map (λ k. needs s object method (Some (col k)))) (first_without-alike s other h object method (p ∷ ps))
-granted-alike s other h object method (SetCells []) = any-alike s other h object method
-granted-alike s other h object method (GetCells a b) = any-alike s other h object method
-granted-alike s other h object method (GetBytes a b) = any-alike s other h object method
-granted-alike s other h object method (SetBytes a b) = any-alike s other h object method
-granted-alike s other h object method (Authenticate a b) = any-alike s other h object method
-granted-alike s other h object method Activate = any-alike s other h object method
-granted-alike s other h object method Revert = any-alike s other h object method
-granted-alike s other h object method Other = any-alike s other h object method
-
-denial-alike : (s : Standing) (other : List Uid) → SameHeld s.held other → (object method : Uid) (ask : Ask) → denial (with_held s other) object method ask ≡ denial s object method ask
-denial-alike s other h object method ask = by_row (acl_at s.sp object method)
-  where
-    by_row : (x : Option (List Uid)) → denial_by (with_held s other) object method ask x ≡ denial_by s object method ask x
-    by_row None = refl
-    by_row (Some row) = granted-alike s other h object method ask
-
-listed-alike : (s : Standing) (other : List Uid) → SameHeld s.held other → (object : Uid) (first last : ℕ) → listed (with_held s other) object first last ≡ listed s object first last
-listed-alike s other h object first last =
-    ap (λ g. flat_map g column_numbers) (fun_ext (λ k.
-    ap (λ b. cond (nat_le first k && nat_le k last && b) (option_to_list (option_map (λ cell. (k, cell)) (s.rows s.sp object (col k)))) []) (has_entry-alike s other h object get (Some (col k)))))
-
-does-alike : (s : Standing) (other : List Uid) → SameHeld s.held other → (object : Uid) (ask : Ask) → does (with_held s other) object ask ≡ does s object ask
-does-alike s other h object (GetCells a b) = ap (λ pairs. gives (pairs_tree pairs)) (listed-alike s other h object a b)
-does-alike s other h object (GetBytes a b) = refl
-does-alike s other h object (SetCells values) = refl
-does-alike s other h object (SetBytes a b) = refl
-does-alike s other h object (Authenticate a b) = refl
-does-alike s other h object Activate = refl
-does-alike s other h object Revert = refl
-does-alike s other h object Other = refl
+done-alike : (s : Standing) (other : List Uid) → SameHeld s.held other → (object : Uid) (ask : Ask) → does_ask (with_held s other) object ask ≡ does_ask s object ask
+done-alike s other h object (GetCells a b) = ap (λ values. gives (list (trees_of values) ∷ [])) (listed-alike s.rows s.sp object a b s.held other h)
+done-alike s other h object (GetBytes a b) = refl
+done-alike s other h object (SetCells values) = refl
+done-alike s other h object (SetBytes a b) = refl
+done-alike s other h object (Authenticate a b) = refl
+done-alike s other h object Activate = refl
+done-alike s other h object Revert = refl
+done-alike s other h object Other = refl
 
 pub judged-alike : (s : Standing) (other : List Uid) → SameHeld s.held other → (object method : Uid) (ask : Option Ask) → judged (with_held s other) object method ask ≡ judged s object method ask
 judged-alike s other h object method None = refl
 judged-alike s other h object method (Some ask) =
-    ap (λ d. unless_denied d (does (with_held s other) object ask)) (denial-alike s other h object method ask) ∙ ap (unless_denied (denial s object method ask)) (does-alike s other h object ask)
+    ap (λ d. unless_denied d (does (with_held s other) object ask)) (denial-alike s.rows s.sp object method s.held other h (wanted ask)) ∙ ap (unless_denied (denial s object method ask)) (done-alike s other h object (cased (kind_of s.sp object) ask))

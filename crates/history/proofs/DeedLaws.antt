@@ -1,6 +1,6 @@
 -- Which deed an item can do, and what follows for open transactions.
-use Rattle.std.proofs.Common.{◌≡◌, ℕ, ◌==◌, ◌+◌, Bool, true, false, not, ◌&&◌, ◌||◌, map, List, [], ◌∷◌, ◌++◌, Option, Some, None, refl, sym, ◌∙◌, ap, cond, inl, inr, eqb-true, eq-eqb}
-use Rattle.std.specs.Prelude.{nat_le, nat_lt, zero, suc, unwrap_or, length, Result, Ok, Err}
+use Rattle.std.proofs.Common.{◌≡◌, ℕ, ◌==◌, ◌+◌, Bool, true, false, not, ◌||◌, map, List, [], ◌∷◌, ◌++◌, Option, Some, None, refl, sym, ◌∙◌, ap, cond, inl, inr, eqb-true, eq-eqb}
+use Rattle.std.specs.Prelude.{◌-◌, nat_le, nat_lt, zero, suc, unwrap_or, Result, Ok, Err}
 use Rattle.std.specs.List.{list_any}
 use Rattle.sp_cells.specs.declared.names.Uid.{Uid}
 use Rattle.sp_cells.specs.declared.names.Sp.{Sp}
@@ -16,14 +16,24 @@ use Rattle.tcg_tokens.specs.declared.error.TokenError.{TokenError}
 use Rattle.tcg_tokens.specs.Message.{Message, call, reply, end_session, begin, end}
 use Rattle.tcg_tokens.specs.Tree.{Tree, Trees}
 use Rattle.history.specs.Opening.{Origin}
-use Rattle.history.specs.Changes.{Change, Mbr}
+use Rattle.history.specs.Changes.{Change, Sets}
 use Rattle.sp_cells.specs.ColumnNames.{pin_column}
 use Rattle.sessions.specs.Attempts.{failure as failure_of}
 use Rattle.call_shapes.specs.Asks.{uid_of}
 use Rattle.history.specs.Sessions.{properties, start_session, Begun}
 use Rattle.call_shapes.specs.Statuses.{fail}
 use Rattle.sessions.specs.Properties.{properties_message}
-use Rattle.history.specs.MethodsJudge.{refusal, cells_of, asked, Standing, Judgement, Refuses, Gives, Makes, Attempts, Activates, Reverts, denial_by, denial, unless_open, reverted_sp, set_unless, sets, gives, listing, bytes_between, last_row, does, unless_denied, judged}
+use Rattle.tcg_tokens.specs.Length.{len_of}
+use Rattle.call_shapes.specs.Statuses.{success}
+use Rattle.methods.specs.declared.kinds.Kind.{Kind}
+use Rattle.methods.specs.declared.kinds.Kind.TheVariants as kinds
+use Rattle.methods.specs.Kinds.{kind_of}
+use Rattle.methods.specs.Columns.{set_types_of}
+use Rattle.methods.specs.Settings.{cells_for, is_within, Setting, bytes_set, setting_of_cells, cells_of_ask, bytes_of_ask, setting}
+use Rattle.methods.specs.Said.{reply_of, most_response}
+use Rattle.methods.specs.Effects.{has_ask, last_row, unless_fault, sp_of_row}
+use Rattle.sp_cells.specs.declared.values.ColumnType.{ColumnType}
+use Rattle.history.specs.Calls.{asked, Standing, Judgement, Refuses, Gives, Makes, Attempts, Activates, Reverts, denial, gives, listing, table_size, bytes_between, rows_given, fault_by, valid, to_set, makes, unless_open, does_ask, does, unless_denied, judged}
 use Rattle.sessions.specs.declared.opening.Opening.{Opening}
 use Rattle.sessions.specs.declared.opening.StartVerdict.{StartVerdict}
 use Rattle.sessions.specs.declared.opening.StartVerdict.TheVariants.{Refused, Attempted}
@@ -36,86 +46,84 @@ use Rattle.call_shapes.specs.declared.ask.Ask.TheVariants.{GetCells, GetBytes, S
 use Rattle.history.specs.Events.{SessionDeed, Unchanged, Started, Tried, Changed, Began, Committed, Aborted, Ended, Activated, Reverted, Deed, Nothing, InSession, OfQueue, Wrote, Took, WasReset, Event}
 use Rattle.history.specs.Readers.{living, lives_by, restores, session_on, open_on, is_of, in_force}
 use Rattle.history.specs.Facts.{facts, numbered, live, has_open, standing}
-use Rattle.history.specs.Decisions.{Outcome, says, tried_in, start_verdict, deed_of_start, start_deed, started, is_method_of_manager, to_manager, outcome_of, judgement_on, begins_on, ended_by, ends_on, in_session}
+use Rattle.history.specs.Decisions.{refusal, Outcome, says, tried_in, start_verdict, deed_of_start, start_deed, started, is_method_of_manager, to_manager, outcome_of, judgement_on, begins_on, ended_by, ends_on, in_session}
 use Rattle.history.specs.Deeds.{IsIn, is_of_row, CanDo, DeedLaw}
 use Rattle.history.proofs.Words.{latest-here, latest-skip, sp-is, sp-same}
 use Rattle.history.proofs.Items.{item-from}
+use Rattle.history.proofs.MethodProofs.{denial-none, granted-row}
 use Rattle.history.proofs.Asked.{is_own, asked-own, activate-admin, revert-admin, set-c_pin_sid}
 
 -- the kinds of judgements, a refusal being 0, and of asks
 abbrev kind : Judgement → ℕ
 kind (Refuses status denied) = 0
 kind (Gives results) = 1
-kind (Makes change) = 2
+kind (Makes setting) = 2
 kind (Attempts authority pin) = 3
 kind Activates = 4
 kind (Reverts sp) = 5
 
-abbrev kind_of : Ask → ℕ
-kind_of (GetCells first last) = 1
-kind_of (GetBytes first last) = 1
-kind_of (SetCells values) = 2
-kind_of (SetBytes at content) = 2
-kind_of (Authenticate authority pin) = 3
-kind_of Activate = 4
-kind_of Revert = 5
-kind_of Other = 0
+abbrev ask_kind : Ask → ℕ
+ask_kind (GetCells first last) = 1
+ask_kind (GetBytes first last) = 1
+ask_kind (SetCells values) = 2
+ask_kind (SetBytes at content) = 2
+ask_kind (Authenticate authority pin) = 3
+ask_kind Activate = 4
+ask_kind Revert = 5
+ask_kind Other = 0
 
 zero-one : {k : ℕ} → 0 ≡ suc k → ⊥
 zero-one h = cc
 
-kind-if : (b : Bool) (x y : Judgement) (k n : ℕ) → kind y ≡ 0 → (kind x ≡ suc k → n ≡ suc k) → kind (cond b x y) ≡ suc k → n ≡ suc k
-kind-if true x y k n z h g = h g
-kind-if false x y k n z h g = absurd (zero-one (sym z ∙ g))
+kind-if : (b : Bool) (x y : Judgement) (k n : ℕ) → kind x ≡ 0 → (kind y ≡ suc k → n ≡ suc k) → kind (cond b x y) ≡ suc k → n ≡ suc k
+kind-if false x y k n z h g = h g
+kind-if true x y k n z h g = absurd (zero-one (sym z ∙ g))
 
-gives-kind : (t : Tree) (k : ℕ) → kind (gives t) ≡ suc k → 1 ≡ suc k
-gives-kind t k h = kind-if _ (Gives _) (Refuses 0x11 None) k 1 refl (λ g. g) h
+gives-kind : (results : List Tree) (k : ℕ) → kind (gives results) ≡ suc k → 1 ≡ suc k
+gives-kind results k h = kind-if (nat_lt most_response (len_of (reply_of results success))) (Refuses 0x11 None) (Gives results) k 1 refl (λ g. g) h
 
-set-kind : (fault : Option SetError) (object : Uid) (cells : List (Column × Cell)) (k : ℕ) → kind (set_unless fault object cells) ≡ suc k → 2 ≡ suc k
-set-kind None object cells k h = h
-set-kind (Some fault) object cells k h = absurd (zero-one h)
+rows-kind : (s : Standing) (first last : ℕ) (k : ℕ) → kind (rows_given s first last) ≡ suc k → 1 ≡ suc k
+rows-kind s first last k h =
+    kind-if ((table_size s == 0) || (nat_le (table_size s) last || nat_lt last first)) (Refuses 0x0c None) _ k 1 refl
+    (kind-if (nat_lt most_response (last + 1 - first)) (Refuses 0x11 None) (gives (bytes_between s first last)) k 1 refl (gives-kind (bytes_between s first last) k)) h
 
-sets-kind : (s : Standing) (object : Uid) (cells : Option (List (Column × Cell))) (k : ℕ) → kind (sets s object cells) ≡ suc k → 2 ≡ suc k
-sets-kind s object None k h = absurd (zero-one h)
-sets-kind s object (Some cells) k h = set-kind _ object cells k h
+makes-kind : (x : Option Setting) (k : ℕ) → kind (makes x) ≡ suc k → 2 ≡ suc k
+makes-kind None k h = absurd (zero-one h)
+makes-kind (Some set) k h = h
 
 open-kind : (b : Bool) (j : Judgement) (k : ℕ) → kind (unless_open b j) ≡ suc k → (kind j ≡ suc k) × (b ≡ false)
 open-kind true j k h = absurd (zero-one h)
 open-kind false j k h = (h, refl)
 
-does-kind : (s : Standing) (object : Uid) (ask : Ask) (k : ℕ) → kind (does s object ask) ≡ suc k → kind_of ask ≡ suc k
+does-kind : (s : Standing) (object : Uid) (ask : Ask) (k : ℕ) → kind (does_ask s object ask) ≡ suc k → ask_kind ask ≡ suc k
 does-kind s object (GetCells first last) k h = gives-kind (listing s object first last) k h
-does-kind s object (GetBytes first last) k h =
-    let to = last_row s.size last in
-    kind-if (nat_le first to && nat_lt to s.size) (gives (bytes_between s first to)) (Refuses 0x0c None) k 1 refl (gives-kind (bytes_between s first to) k) h
-does-kind s object (SetCells values) k h = sets-kind s object (cells_of object values) k h
-does-kind s object (SetBytes place content) k h = kind-if (nat_le (place + length content) s.size) (Makes (Mbr place content)) (Refuses 0x0c None) k 2 refl (λ g. g) h
+does-kind s object (GetBytes first last) k h = rows-kind s first (last_row (table_size s) last) k h
+does-kind s object (SetCells values) k h = makes-kind (to_set s object (SetCells values)) k h
+does-kind s object (SetBytes place content) k h = makes-kind (to_set s object (SetBytes place content)) k h
 does-kind s object (Authenticate a pin) k h = h
 does-kind s object Activate k h = (open-kind s.is_open Activates k h).0
-does-kind s object Revert k h = (open-kind s.is_open (Reverts (reverted_sp object)) k h).0
+does-kind s object Revert k h = (open-kind s.is_open (Reverts (sp_of_row object)) k h).0
 does-kind s object Other k h = absurd (zero-one h)
 
--- a judgement that is no refusal: its ask is of the method, there is a row, and it is what the ask comes to
+-- a judgement that is no refusal: its ask is of the method, the method is offered, and it is what the ask comes to
 record Granted (s : Standing) (object method : Uid) (k : ℕ) (j : Judgement) : Type 0 where
   ask : Ask
   own : is_own ask method ≡ true
   row : List Uid
   has : acl_at s.sp object method ≡ Some row
-  does : does s object ask ≡ j
-  kind : kind_of ask ≡ suc k
+  does : does_ask s object ask ≡ j
+  kind : ask_kind ask ≡ suc k
 
-row-needed : (s : Standing) (object method : Uid) (ask : Ask) (row : Option (List Uid)) → acl_at s.sp object method ≡ row → denial_by s object method ask row ≡ None → (r : List Uid) × (acl_at s.sp object method ≡ Some r)
-row-needed s object method ask None is h = absurd (clash h)
-  where
-    clash : {w : Why} → Some w ≡ None → ⊥
-    clash g = cc
-row-needed s object method ask (Some r) is h = (r, is)
+with-case : (s : Standing) (object method : Uid) (k : ℕ) (j : Judgement) (ask : Ask) → is_own ask method ≡ true → (row : List Uid) → acl_at s.sp object method ≡ Some row → (b : Bool) → does_ask s object (cond b ask Other) ≡ j → kind j ≡ suc k → Granted s object method k j
+with-case s object method k j ask own row has true h g =
+    record { ask = ask; own = own; row = row; has = has; does = h; kind = does-kind s object ask k (ap kind h ∙ g) }
+with-case s object method k j ask own row has false h g = absurd (zero-one (ap kind h ∙ g))
 
 granted-by : (s : Standing) (object method : Uid) (k : ℕ) (j : Judgement) (ask : Ask) → is_own ask method ≡ true → (why : Option Why) → denial s object method ask ≡ why → unless_denied why (does s object ask) ≡ j → kind j ≡ suc k → Granted s object method k j
 granted-by s object method k j ask own (Some why) is h g = absurd (zero-one (ap kind h ∙ g))
 granted-by s object method k j ask own None is h g =
-    let r = row-needed s object method ask (acl_at s.sp object method) refl is in
-    record { ask = ask; own = own; row = r.0; has = r.1; does = h; kind = does-kind s object ask k (ap kind h ∙ g) }
+    let r = granted-row s object method ask (denial-none s object method ask is) in
+    with-case s object method k j ask own r.0 r.1 (has_ask (kind_of s.sp object) ask) h g
 
 granted : (s : Standing) (object method : Uid) (args : Trees) (k : ℕ) (j : Judgement) (ask : Option Ask) → asked s.sp object method args ≡ ask → judged s object method ask ≡ j → kind j ≡ suc k → Granted s object method k j
 granted s object method args k j None is h g = absurd (zero-one (ap kind h ∙ g))
@@ -123,7 +131,7 @@ granted s object method args k j (Some ask) is h g =
     granted-by s object method k j ask (asked-own s.sp object method args ask is) (denial s object method ask) refl h g
 
 -- Activate and Revert: a session of the Admin SP that has no transaction open
-activate-is : (ask : Ask) (method : Uid) → is_own ask method ≡ true → kind_of ask ≡ 4 → (ask ≡ Activate) × ((method.0 == activate.0) ≡ true)
+activate-is : (ask : Ask) (method : Uid) → is_own ask method ≡ true → ask_kind ask ≡ 4 → (ask ≡ Activate) × ((method.0 == activate.0) ≡ true)
 activate-is Activate method own h = (refl, own)
 activate-is (GetCells a b) method own h = cc
 activate-is (GetBytes a b) method own h = cc
@@ -133,7 +141,7 @@ activate-is (Authenticate a b) method own h = cc
 activate-is Revert method own h = cc
 activate-is Other method own h = cc
 
-revert-is : (ask : Ask) (method : Uid) → is_own ask method ≡ true → kind_of ask ≡ 5 → (ask ≡ Revert) × ((method.0 == revert.0) ≡ true)
+revert-is : (ask : Ask) (method : Uid) → is_own ask method ≡ true → ask_kind ask ≡ 5 → (ask ≡ Revert) × ((method.0 == revert.0) ≡ true)
 revert-is Revert method own h = (refl, own)
 revert-is (GetCells a b) method own h = cc
 revert-is (GetBytes a b) method own h = cc
@@ -147,35 +155,83 @@ activates-outside : (s : Standing) (object method : Uid) → Granted s object me
 activates-outside s object method g =
     let x = activate-is g.ask method g.own g.kind in (
       activate-admin s.sp object method g.row x.1 g.has,
-      (open-kind s.is_open Activates 3 (ap (λ a. kind (does s object a)) (sym x.0) ∙ ap kind g.does)).1,
+      (open-kind s.is_open Activates 3 (ap (λ a. kind (does_ask s object a)) (sym x.0) ∙ ap kind g.does)).1,
     )
 
 reverts-outside : (s : Standing) (object method : Uid) (sp : Sp) → Granted s object method 4 (Reverts sp) → (s.sp ≡ Admin) × (s.is_open ≡ false)
 reverts-outside s object method sp g =
     let x = revert-is g.ask method g.own g.kind in (
       revert-admin s.sp object method g.row x.1 g.has,
-      (open-kind s.is_open (Reverts (reverted_sp object)) 4 (ap (λ a. kind (does s object a)) (sym x.0) ∙ ap kind g.does)).1,
+      (open-kind s.is_open (Reverts (sp_of_row object)) 4 (ap (λ a. kind (does_ask s object a)) (sym x.0) ∙ ap kind g.does)).1,
     )
 
 -- a Set is of the object that was called
-made-same : {c d : Change} → Makes c ≡ Makes d → d ≡ c
+made-same : {c d : Setting} → Makes c ≡ Makes d → d ≡ c
 made-same h = cc
 
-set-row : (fault : Option SetError) (object : Uid) (cells : List (Column × Cell)) (c : Change) → set_unless fault object cells ≡ Makes c → is_of_row object c ≡ true
-set-row None object cells c h = ap (is_of_row object) (made-same h) ∙ eq-eqb object.0 object.0 refl
-set-row (Some fault) object cells c h = absurd (zero-one (ap kind h))
+none-some : {A : Type 0} {x : A} → None ≡ Some x → ⊥
+none-some h = cc
 
-sets-row : (s : Standing) (object : Uid) (cells : Option (List (Column × Cell))) (c : Change) → sets s object cells ≡ Makes c → is_of_row object c ≡ true
-sets-row s object None c h = absurd (zero-one (ap kind h))
-sets-row s object (Some cells) c h = set-row _ object cells c h
+some-same : {A : Type 0} {x y : A} → Some x ≡ Some y → y ≡ x
+some-same h = cc
 
-bytes-row : (b : Bool) (object : Uid) (place : ℕ) (content : List ℕ) (c : Change) → cond b (Makes (Mbr place content)) (Refuses 0x0c None) ≡ Makes c → is_of_row object c ≡ true
-bytes-row true object place content c h = ap (is_of_row object) (made-same h)
-bytes-row false object place content c h = absurd (zero-one (ap kind h))
+cells-row : (object : Uid) (x : Option (List (Column × Cell))) (set : Setting) → setting_of_cells object x ≡ Some set → is_of_row object (Sets set) ≡ true
+cells-row object None set h = absurd (none-some h)
+cells-row object (Some cells) set h = ap (λ y. is_of_row object (Sets y)) (some-same h) ∙ eq-eqb object.0 object.0 refl
 
-makes-row : (s : Standing) (object : Uid) (ask : Ask) (c : Change) → kind_of ask ≡ 2 → does s object ask ≡ Makes c → is_of_row object c ≡ true
-makes-row s object (SetCells values) c k h = sets-row s object _ c h
-makes-row s object (SetBytes place content) c k h = bytes-row _ object place content c h
+asked-row : (object : Uid) (types : List (Column × ColumnType)) (ask : Ask) (set : Setting) → cells_of_ask object types ask ≡ Some set → is_of_row object (Sets set) ≡ true
+asked-row object types (SetCells ps) set h = cells-row object (cells_for types ps) set h
+asked-row object types (SetBytes a b) set h = absurd (none-some h)
+asked-row object types (GetCells a b) set h = absurd (none-some h)
+asked-row object types (GetBytes a b) set h = absurd (none-some h)
+asked-row object types (Authenticate a b) set h = absurd (none-some h)
+asked-row object types Activate set h = absurd (none-some h)
+asked-row object types Revert set h = absurd (none-some h)
+asked-row object types Other set h = absurd (none-some h)
+
+bytes-if : (b : Bool) (object : Uid) (place : ℕ) (content : List ℕ) (set : Setting) → cond b (Some (bytes_set place content)) None ≡ Some set → is_of_row object (Sets set) ≡ true
+bytes-if true object place content set h = ap (λ y. is_of_row object (Sets y)) (some-same h)
+bytes-if false object place content set h = absurd (none-some h)
+
+bytes-row : (sp : Sp) (sectors : ℕ) (object : Uid) (ask : Ask) (set : Setting) → bytes_of_ask sp sectors ask ≡ Some set → is_of_row object (Sets set) ≡ true
+bytes-row Admin sectors object ask set h = absurd (none-some h)
+bytes-row Locking sectors object (SetBytes a b) set h = bytes-if (is_within sectors a b) object a b set h
+bytes-row Locking sectors object (SetCells ps) set h = absurd (none-some h)
+bytes-row Locking sectors object (GetCells a b) set h = absurd (none-some h)
+bytes-row Locking sectors object (GetBytes a b) set h = absurd (none-some h)
+bytes-row Locking sectors object (Authenticate a b) set h = absurd (none-some h)
+bytes-row Locking sectors object Activate set h = absurd (none-some h)
+bytes-row Locking sectors object Revert set h = absurd (none-some h)
+bytes-row Locking sectors object Other set h = absurd (none-some h)
+
+setting-row : (sp : Sp) (sectors : ℕ) (object : Uid) (k : Option Kind) (ask : Ask) (set : Setting) → setting sp sectors object k ask ≡ Some set → is_of_row object (Sets set) ≡ true
+setting-row sp sectors object None ask set h = asked-row object [] ask set h
+setting-row sp sectors object (Some kinds.MbrTable) ask set h = bytes-row sp sectors object ask set h
+setting-row sp sectors object (Some kinds.ThisSp) ask set h = asked-row object [] ask set h
+setting-row sp sectors object (Some kinds.Sp) ask set h = asked-row object [] ask set h
+setting-row sp sectors object (Some kinds.Authority) ask set h = asked-row object (set_types_of (Some kinds.Authority)) ask set h
+setting-row sp sectors object (Some kinds.CPin) ask set h = asked-row object (set_types_of (Some kinds.CPin)) ask set h
+setting-row sp sectors object (Some kinds.Ace) ask set h = asked-row object (set_types_of (Some kinds.Ace)) ask set h
+setting-row sp sectors object (Some kinds.Locking) ask set h = asked-row object (set_types_of (Some kinds.Locking)) ask set h
+setting-row sp sectors object (Some kinds.MbrControl) ask set h = asked-row object (set_types_of (Some kinds.MbrControl)) ask set h
+
+unfaulted : (fault : Option SetError) (set made : Setting) → unless_fault fault set ≡ Some made → made ≡ set
+unfaulted None set made h = some-same h
+unfaulted (Some fault) set made h = absurd (none-some h)
+
+valid-row : (s : Standing) (object : Uid) (x : Option Setting) (made : Setting) → ((set : Setting) → x ≡ Some set → is_of_row object (Sets set) ≡ true) → valid s x ≡ Some made → is_of_row object (Sets made) ≡ true
+valid-row s object None made h g = absurd (none-some g)
+valid-row s object (Some set) made h g = ap (λ y. is_of_row object (Sets y)) (unfaulted (fault_by s.sectors s.rows s.sp set) set made g) ∙ h set refl
+
+makes-is : (x : Option Setting) (made : Setting) → makes x ≡ Makes made → x ≡ Some made
+makes-is None made h = absurd (zero-one (ap kind h))
+makes-is (Some set) made h = ap (λ y. Some y) (sym (made-same h))
+
+makes-row : (s : Standing) (object : Uid) (ask : Ask) (made : Setting) → ask_kind ask ≡ 2 → does_ask s object ask ≡ Makes made → is_of_row object (Sets made) ≡ true
+makes-row s object (SetCells values) made k h =
+    valid-row s object (setting s.sp s.mbr_sectors object (kind_of s.sp object) (SetCells values)) made (λ set is. setting-row s.sp s.mbr_sectors object (kind_of s.sp object) (SetCells values) set is) (makes-is (to_set s object (SetCells values)) made h)
+makes-row s object (SetBytes place content) made k h =
+    valid-row s object (setting s.sp s.mbr_sectors object (kind_of s.sp object) (SetBytes place content)) made (λ set is. setting-row s.sp s.mbr_sectors object (kind_of s.sp object) (SetBytes place content) set is) (makes-is (to_set s object (SetBytes place content)) made h)
 makes-row s object (GetCells a b) c k h = cc
 makes-row s object (GetBytes a b) c k h = cc
 makes-row s object (Authenticate a b) c k h = cc
@@ -183,7 +239,7 @@ makes-row s object Activate c k h = cc
 makes-row s object Revert c k h = cc
 makes-row s object Other c k h = cc
 
-set-is : (ask : Ask) (method : Uid) → is_own ask method ≡ true → kind_of ask ≡ 2 → (method.0 == set.0) ≡ true
+set-is : (ask : Ask) (method : Uid) → is_own ask method ≡ true → ask_kind ask ≡ 2 → (method.0 == set.0) ≡ true
 set-is (SetCells a) method own h = own
 set-is (SetBytes a b) method own h = own
 set-is Activate method own h = cc
@@ -196,9 +252,9 @@ set-is Other method own h = cc
 of-same : (a b : Uid) (c : Change) → (a.0 == b.0) ≡ true → is_of_row a c ≡ true → is_of_row b c ≡ true
 of-same a b c same h = ap (λ (n : ℕ). is_of_row (record { 0 = n }) c) (sym (eqb-true a.0 b.0 same)) ∙ h
 
-makes-sid : (s : Standing) (object method : Uid) (c : Change) → Granted s object method 1 (Makes c) → s.sp ≡ Admin → is_of_row c_pin_sid c ≡ true
+makes-sid : (s : Standing) (object method : Uid) (c : Setting) → Granted s object method 1 (Makes c) → s.sp ≡ Admin → is_of_row c_pin_sid (Sets c) ≡ true
 makes-sid s object method c g admin =
-    of-same object c_pin_sid c
+    of-same object c_pin_sid (Sets c)
     (set-c_pin_sid object method g.row (set-is g.ask method g.own g.kind) (ap (λ x. acl_at x object method) (sym admin) ∙ g.has))
     (makes-row s object g.ask c g.kind g.does)
 

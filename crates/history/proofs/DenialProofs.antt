@@ -1,14 +1,11 @@
 -- What denies an act.
-use Rattle.std.proofs.Common.{◌≡◌, ℕ, ◌==◌, ◌*◌, Bool, true, false, ◌&&◌, ◌||◌, not, List, Option, Some, None, refl, sym, ◌∙◌, ap, cond, inl, inr, eqb-true}
-use Rattle.std.specs.Prelude.{is_some, nat_le, nat_lt, slice_index, length, zero, suc, Result, Ok, Err}
+use Rattle.std.proofs.Common.{◌≡◌, ℕ, ◌+◌, ◌==◌, ◌*◌, Bool, true, false, ◌&&◌, ◌||◌, not, List, Option, Some, None, refl, sym, ◌∙◌, ap, cond, inl, inr, eqb-true}
+use Rattle.std.specs.Prelude.{◌-◌, is_some, nat_le, nat_lt, slice_index, length, zero, suc, Result, Ok, Err}
 use Rattle.fis.specs.Types.{h2d_type}
 use Rattle.fis.specs.H2d.{h2d_at}
 use Rattle.fis.specs.declared.h2d.RegH2d.{RegH2d}
 use Rattle.sp_cells.specs.declared.names.Uid.{Uid}
 use Rattle.sp_cells.specs.declared.names.Sp.{Sp}
-use Rattle.sp_cells.specs.declared.names.Column.{Column}
-use Rattle.sp_cells.specs.declared.cells.Cell.{Cell}
-use Rattle.sp_cells.specs.declared.error.SetError.{SetError}
 use Rattle.locking.specs.declared.range.Op.{Op}
 use Rattle.locking.specs.declared.range.Op.TheVariants.{Read, Write}
 use Rattle.trusted_cmds.specs.Commands.{is_queued, tag_of, sector_size}
@@ -26,20 +23,26 @@ use Rattle.locking.specs.declared.ranges.Verdict.TheVariants.{Serve, Shadow, Den
 use Rattle.sessions.specs.Attempts.{failure as failure_of}
 use Rattle.call_shapes.specs.Asks.{uid_of}
 use Rattle.history.specs.Sessions.{properties, start_session, Begun}
-use Rattle.call_shapes.specs.Statuses.{fail}
+use Rattle.call_shapes.specs.Statuses.{success, fail}
 use Rattle.sessions.specs.Properties.{properties_message}
 use Rattle.sessions.specs.declared.opening.Opening.{Opening}
 use Rattle.sessions.specs.declared.opening.StartVerdict.{StartVerdict}
 use Rattle.sessions.specs.declared.opening.StartVerdict.TheVariants.{Refused, Attempted}
 use Rattle.sessions.specs.Starts.{opening_of, host_of, denied_with}
 use Rattle.call_shapes.specs.Named.{values_of}
-use Rattle.history.specs.MethodsJudge.{last_row, refusal, cells_of, asked, Standing, Judgement, Refuses, Gives, Makes, Attempts, Activates, Reverts, denial, gives, listing, bytes_between, set_unless, sets, unless_open, reverted_sp, does, unless_denied, judged}
+use Rattle.tcg_tokens.specs.Length.{len_of}
+use Rattle.methods.specs.Kinds.{kind_of}
+use Rattle.methods.specs.Settings.{Setting}
+use Rattle.methods.specs.Said.{reply_of, most_response, said_attempt}
+use Rattle.methods.specs.Effects.{cased, last_row, sp_of_row}
+use Rattle.audit.specs.declared.reason.AttemptFailure.TheVariants.{WrongPin, LockedOut, Disabled, Unknown}
+use Rattle.audit.specs.declared.reason.Why.TheVariants.{AttemptFailed}
+use Rattle.history.specs.Calls.{asked, Standing, Judgement, Refuses, Gives, Makes, Attempts, Activates, Reverts, denial, gives, listing, table_size, bytes_between, rows_given, to_set, makes, unless_open, does_ask, does, unless_denied, judged}
 use Rattle.call_shapes.specs.declared.ask.Ask.{Ask}
 use Rattle.call_shapes.specs.declared.ask.Ask.TheVariants.{GetCells, GetBytes, SetCells, SetBytes, Authenticate, Activate, Revert, Other}
-use Rattle.history.specs.Changes.{Mbr}
 use Rattle.history.specs.Events.{Unchanged, Nothing, Wrote, Took, HeldCommand, Event, did}
 use Rattle.history.specs.Facts.{Facts, session_named, has_open, standing}
-use Rattle.history.specs.Decisions.{not_found, fails, refuses, aborted, fails_queue, on_drive, verdict_on, queued_by, admitted, unqueued_by, says, answers, tried_in, start_verdict, started_by, started, is_method_of_manager, to_manager, outcome_of, judgement_on, begins_on, ends_on, in_session, is_trusted, is_session_com_id, discovery_com_id, is_manager, to_session, framed, sent, send, received, unqueued, known, while_failed, is_busy, commanded, completed_by, completed}
+use Rattle.history.specs.Decisions.{refusal, not_found, fails, refuses, aborted, fails_queue, on_drive, verdict_on, queued_by, admitted, unqueued_by, says, answers, tried_in, start_verdict, started_by, started, is_method_of_manager, to_manager, outcome_of, judgement_on, begins_on, ends_on, in_session, is_trusted, is_session_com_id, discovery_com_id, is_manager, to_session, framed, sent, send, received, unqueued, known, while_failed, is_busy, commanded, completed_by, completed}
 use Rattle.history.specs.History.{Act, Accept, Complete, Reset, event_by}
 use Rattle.history.specs.MethodLaws.{IsLookedAt, IsSent, IsCall}
 use Rattle.history.specs.DenialLaws.{Moves, read_queued, write_queued, read_dma, write_dma, IsFree, TransferDenied, MethodDenied, AttemptDenied, StartDenied, IsDenied, DenialLaw}
@@ -74,11 +77,18 @@ method-denied f act why d =
     ∙ ap (λ x. (outcome_of f d.session.sp (judged (standing f d.session) (uid_of d.object) (uid_of d.method) x)).denied) d.shaped
     ∙ ap (λ x. (outcome_of f d.session.sp (unless_denied x (does (standing f d.session) (uid_of d.object) d.ask))).denied) d.denial
 
+attempt-reason : (sp : Sp) (authority : Uid) (failure : AttemptFailure) → (said_attempt sp authority (Some failure)).denied ≡ Some (AttemptFailed sp authority failure)
+attempt-reason sp authority LockedOut = refl
+attempt-reason sp authority WrongPin = refl
+attempt-reason sp authority Disabled = refl
+attempt-reason sp authority Unknown = refl
+
 attempt-denied : (f : Facts) (act : Act) (why : Why) → AttemptDenied f act why → (event_by f act).denied ≡ Some why
 attempt-denied f act why d =
     ap (λ (e : Event). e.denied) (call_law f act d.session d.object d.method d.args d.called)
     ∙ ap (λ j. (outcome_of f d.session.sp j).denied) d.attempts
     ∙ ap (λ x. (tried_in f d.session.sp d.authority x).denied) d.fails
+    ∙ attempt-reason d.session.sp d.authority d.failure
     ∙ ap (λ y. Some y) (sym d.why_is)
 
 start-denied : (f : Facts) (act : Act) (why : Why) → StartDenied f act why → (event_by f act).denied ≡ Some why
@@ -111,7 +121,7 @@ same-why h = cc
 abbrev reason : Judgement → Option Why
 reason (Refuses status denied) = denied
 reason (Gives results) = None
-reason (Makes change) = None
+reason (Makes setting) = None
 reason (Attempts authority pin) = None
 reason Activates = None
 reason (Reverts sp) = None
@@ -120,32 +130,34 @@ clean-if : (b : Bool) (x y : Judgement) → reason x ≡ None → reason y ≡ N
 clean-if true x y h g = h
 clean-if false x y h g = g
 
-gives-clean : (t : Tree) → reason (gives t) ≡ None
-gives-clean t = clean-if _ (Gives _) (Refuses 0x11 None) refl refl
+gives-clean : (results : List Tree) → reason (gives results) ≡ None
+gives-clean results = clean-if (nat_lt most_response (len_of (reply_of results success))) (Refuses 0x11 None) (Gives results) refl refl
 
-set-clean : (fault : Option SetError) (object : Uid) (cells : List (Column × Cell)) → reason (set_unless fault object cells) ≡ None
-set-clean None object cells = refl
-set-clean (Some fault) object cells = refl
+rows-clean : (s : Standing) (first last : ℕ) → reason (rows_given s first last) ≡ None
+rows-clean s first last =
+    clean-if ((table_size s == 0) || (nat_le (table_size s) last || nat_lt last first)) (Refuses 0x0c None) _ refl
+    (clean-if (nat_lt most_response (last + 1 - first)) (Refuses 0x11 None) (gives (bytes_between s first last)) refl (gives-clean (bytes_between s first last)))
 
-sets-clean : (s : Standing) (object : Uid) (cells : Option (List (Column × Cell))) → reason (sets s object cells) ≡ None
-sets-clean s object None = refl
-sets-clean s object (Some cells) = set-clean _ object cells
+makes-clean : (x : Option Setting) → reason (makes x) ≡ None
+makes-clean None = refl
+makes-clean (Some set) = refl
 
 open-clean : (b : Bool) (j : Judgement) → reason j ≡ None → reason (unless_open b j) ≡ None
 open-clean true j h = refl
 open-clean false j h = h
 
+done-clean : (s : Standing) (object : Uid) (ask : Ask) → reason (does_ask s object ask) ≡ None
+done-clean s object (GetCells a b) = gives-clean (listing s object a b)
+done-clean s object (GetBytes a b) = rows-clean s a (last_row (table_size s) b)
+done-clean s object (SetCells values) = makes-clean (to_set s object (SetCells values))
+done-clean s object (SetBytes place content) = makes-clean (to_set s object (SetBytes place content))
+done-clean s object (Authenticate a pin) = refl
+done-clean s object Activate = open-clean s.is_open Activates refl
+done-clean s object Revert = open-clean s.is_open (Reverts (sp_of_row object)) refl
+done-clean s object Other = refl
+
 does-clean : (s : Standing) (object : Uid) (ask : Ask) → reason (does s object ask) ≡ None
-does-clean s object (GetCells a b) = gives-clean (listing s object a b)
-does-clean s object (GetBytes a b) =
-    let to = last_row s.size b in
-    clean-if (nat_le a to && nat_lt to s.size) (gives (bytes_between s a to)) (Refuses 0x0c None) (gives-clean (bytes_between s a to)) refl
-does-clean s object (SetCells values) = sets-clean s object (cells_of object values)
-does-clean s object (SetBytes place content) = clean-if _ (Makes (Mbr place content)) (Refuses 0x0c None) refl refl
-does-clean s object (Authenticate a pin) = refl
-does-clean s object Activate = open-clean s.is_open Activates refl
-does-clean s object Revert = open-clean s.is_open (Reverts (reverted_sp object)) refl
-does-clean s object Other = refl
+does-clean s object ask = done-clean s object (cased (kind_of s.sp object) ask)
 
 -- a call of a session
 refused-is : (f : Facts) (act : Act) (why : Why) (session : Begun) (object method : List ℕ) (args : Trees) → IsCall f act session object method args → (x : Option Ask) → asked session.sp (uid_of object) (uid_of method) args ≡ x
@@ -161,7 +173,7 @@ attempt-is : (f : Facts) (act : Act) (why : Why) (session : Begun) (object metho
     → (x : Option AttemptFailure) → failure_of f.rows session.sp authority pin ≡ x → (tried_in f session.sp authority x).denied ≡ Some why → IsDenied f act why
 attempt-is f act why session object method args c authority pin j None is h = absurd (nothing h)
 attempt-is f act why session object method args c authority pin j (Some failure) is h =
-    inr (inr (inl (record { session = session; object = object; method = method; args = args; called = c; authority = authority; pin = pin; attempts = j; failure = failure; fails = is; why_is = sym (same-why h) })))
+    inr (inr (inl (record { session = session; object = object; method = method; args = args; called = c; authority = authority; pin = pin; attempts = j; failure = failure; fails = is; why_is = same-why (sym h ∙ attempt-reason session.sp authority failure) })))
 
 judged-is : (f : Facts) (act : Act) (why : Why) (session : Begun) (object method : List ℕ) (args : Trees) → IsCall f act session object method args → (j : Judgement) → judgement_on f session (uid_of object) (uid_of method) args ≡ j → (outcome_of f session.sp j).denied ≡ Some why → IsDenied f act why
 judged-is f act why session object method args c (Refuses status denied) is h =

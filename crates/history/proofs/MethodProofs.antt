@@ -1,6 +1,6 @@
 -- A method takes effect, and a column is listed, exactly where entries say so.
-use Rattle.std.proofs.Common.{◌≡◌, ℕ, ◌≤◌, Bool, true, false, ◌&&◌, not, List, [], ◌∷◌, ◌++◌, Option, Some, None, refl, sym, ◌∙◌, ap, cond, ◌⊎◌, inl, inr, eq-eqb, arith}
-use Rattle.std.specs.Prelude.{is_some, unwrap_or, option_map, option_to_list, nat_le, slice_index, Ok}
+use Rattle.std.proofs.Common.{◌≡◌, ℕ, ◌==◌, ◌≤◌, Bool, true, false, ◌&&◌, not, List, [], ◌∷◌, ◌++◌, Option, Some, None, refl, sym, subst, ◌∙◌, ap, cond, ◌⊎◌, inl, inr, eq-eqb, arith}
+use Rattle.std.specs.Prelude.{length, is_some, unwrap_or, map, filter, nat_le, slice_index, Ok}
 use Rattle.std.specs.List.{flat_map}
 use Rattle.std.proofs.lemmas.Bool.Decides.{nat_tests}
 use Rattle.fis.specs.H2d.{h2d_at}
@@ -9,10 +9,12 @@ use Rattle.sp_cells.specs.declared.names.Uid.{Uid}
 use Rattle.sp_cells.specs.declared.names.Column.{Column}
 use Rattle.sp_cells.specs.declared.cells.Cell.{Cell}
 use Rattle.sp_cells.specs.Names.{get, col}
+use Rattle.sp_cells.specs.Flat.{LookUp}
 use Rattle.ace_eval.specs.Truth.{has}
 use Rattle.ace_eval.specs.Aces.{HasAce, acl_at, ace_of}
 use Rattle.ace_eval.proofs.AceLemmas.{some_ace, no_ace}
 use Rattle.audit.specs.declared.reason.AttemptFailure.{AttemptFailure}
+use Rattle.audit.specs.declared.reason.AttemptFailure.TheVariants.{WrongPin, LockedOut, Disabled, Unknown}
 use Rattle.audit.specs.declared.reason.Why.{Why}
 use Rattle.audit.specs.declared.reason.Why.TheVariants.{NoEntryHolds, NoAccessRow}
 use Rattle.sessions.specs.Attempts.{failure as failure_of}
@@ -22,16 +24,22 @@ use Rattle.sp_cells.specs.declared.names.Sp.{Sp}
 use Rattle.trusted_cmds.specs.Commands.{is_queued}
 use Rattle.compacket.specs.Frames.{Frame, reading as frame_in}
 use Rattle.tcg_tokens.specs.Reading.{reading as message_in}
-use Rattle.tcg_tokens.specs.Tree.{Tree}
+use Rattle.tcg_tokens.specs.Tree.{Tree, number, named}
 use Rattle.history.specs.TrustedCommands.{Command, Send, reading}
 use Rattle.call_shapes.specs.declared.ask.Ask.{Ask}
 use Rattle.call_shapes.specs.declared.ask.Ask.TheVariants.{GetCells, GetBytes, SetCells, SetBytes, Authenticate, Activate, Revert, Other}
-use Rattle.history.specs.MethodsJudge.{Standing, Judgement, Refuses, Gives, Makes, Attempts, Activates, Reverts, has_entry, needs, first_without, unless_any, unless_granted, denial_by, denial, listed_at, listed, column_numbers, does, unless_denied, judged}
+use Rattle.std.specs.Option.{option_or}
+use Rattle.methods.specs.Kinds.{kind_of}
+use Rattle.methods.specs.Columns.{columns_of}
+use Rattle.methods.specs.Grants.{why_denied, unless_allowed, denial as denial_of, wanted, first_some}
+use Rattle.methods.specs.Listed.{is_asked, is_listed, shown, listed_among, listed}
+use Rattle.call_shapes.specs.CellValues.{cell_tree}
+use Rattle.history.specs.Calls.{Standing, Judgement, Refuses, Gives, Makes, Attempts, Activates, Reverts, denial, does, unless_denied, judged}
 use Rattle.history.specs.Events.{Event, Nothing, did}
 use Rattle.history.specs.Facts.{Facts, standing, session_named}
 use Rattle.history.specs.Decisions.{outcome_of, tried_in, admitted, unqueued, fails_queue, refuses, aborted, answers, to_manager, to_session, in_session, framed, sent, while_failed, is_busy, known, commanded}
 use Rattle.history.specs.History.{Act, event_by}
-use Rattle.history.specs.MethodLaws.{EffectLaw, EachHasEntry, IsGranted, IsAmong, takes_effect, GrantLaw, IsListed, ListLaw, IsLookedAt, IsSent, CallLaw}
+use Rattle.history.specs.MethodLaws.{EffectLaw, EachHasAce, IsGranted, IsAmong, takes_effect, GrantLaw, IsListed, ListLaw, IsLookedAt, IsSent, CallLaw}
 
 none-some : {A : Type 0} {x : A} → None ≡ Some x → ⊥
 none-some h = cc
@@ -42,97 +50,71 @@ clash h = cc
 same-why : {x y : Why} → Some x ≡ Some y → x ≡ y
 same-why h = cc
 
--- entries by their test
-entry-holds : (s : Standing) (object method : Uid) (k : Option Column) (x : Option Uid) → ace_of s.rows s.sp object method k s.held ≡ x → is_some x ≡ true → HasAce s.rows s.sp object method k s.held
-entry-holds s object method k (Some u) is h = some_ace s.rows s.sp object method k s.held u is
-entry-holds s object method k None is h = absurd (clash h)
+-- ACEs by their test
+allowed-by : (s : Standing) (object method : Uid) (k : Option Column) (x : Option Uid) → ace_of s.rows s.sp object method k s.held ≡ x → (why : Why) → unless_allowed x why ≡ None → HasAce s.rows s.sp object method k s.held
+allowed-by s object method k (Some u) is why h = some_ace s.rows s.sp object method k s.held u is
+allowed-by s object method k None is why h = absurd (none-some (sym h))
 
-holds-entry : (s : Standing) (object method : Uid) (k : Option Column) (x : Option Uid) → ace_of s.rows s.sp object method k s.held ≡ x → HasAce s.rows s.sp object method k s.held → is_some x ≡ true
-holds-entry s object method k (Some u) is e = refl
-holds-entry s object method k None is e = absurd (no_ace s.rows s.sp object method k s.held is e)
+has-allowed : (s : Standing) (object method : Uid) (k : Option Column) (x : Option Uid) → ace_of s.rows s.sp object method k s.held ≡ x → (why : Why) → HasAce s.rows s.sp object method k s.held → unless_allowed x why ≡ None
+has-allowed s object method k (Some u) is why e = refl
+has-allowed s object method k None is why e = absurd (no_ace s.rows s.sp object method k s.held is e)
 
-entry-test : (s : Standing) (object method : Uid) (k : Option Column) → has_entry s object method k ≡ true → HasAce s.rows s.sp object method k s.held
-entry-test s object method k h = entry-holds s object method k (ace_of s.rows s.sp object method k s.held) refl h
+some-ace-test : (s : Standing) (object method : Uid) (k : Option Column) (x : Option Uid) → ace_of s.rows s.sp object method k s.held ≡ x → is_some x ≡ true → HasAce s.rows s.sp object method k s.held
+some-ace-test s object method k (Some u) is h = some_ace s.rows s.sp object method k s.held u is
+some-ace-test s object method k None is h = absurd (clash h)
 
-test-entry : (s : Standing) (object method : Uid) (k : Option Column) → HasAce s.rows s.sp object method k s.held → has_entry s object method k ≡ true
-test-entry s object method k e = holds-entry s object method k (ace_of s.rows s.sp object method k s.held) refl e
+test-some-ace : (s : Standing) (object method : Uid) (k : Option Column) (x : Option Uid) → ace_of s.rows s.sp object method k s.held ≡ x → HasAce s.rows s.sp object method k s.held → is_some x ≡ true
+test-some-ace s object method k (Some u) is e = refl
+test-some-ace s object method k None is e = absurd (no_ace s.rows s.sp object method k s.held is e)
 
--- a row is there where it has an entry
-row-there : (row : Option (List Uid)) (entry : Uid) → has (unwrap_or row []) entry ≡ true → (r : List Uid) × (row ≡ Some r)
-row-there None entry h = absurd (clash h)
-row-there (Some r) entry h = (r, refl)
+-- a method is offered where it has an ACE
+row-there : (row : Option (List Uid)) (ace : Uid) → has (unwrap_or row []) ace ≡ true → (r : List Uid) × (row ≡ Some r)
+row-there None ace h = absurd (clash h)
+row-there (Some r) ace h = (r, refl)
 
--- columns without an entry
-each-has : (s : Standing) (object method : Uid) (ps : List (ℕ × Tree)) → first_without s object method ps ≡ None → EachHasEntry s object method ps
+-- no column of these is denied where each has an ACE
+either-none : (x y : Option Why) → option_or x y ≡ None → (x ≡ None) × (y ≡ None)
+either-none None y h = (refl, h)
+either-none (Some w) y h = absurd (none-some (sym h))
+
+each-has : (s : Standing) (object method : Uid) (ks : List (Option Column)) → first_some (map (denial_of s.rows s.sp object method s.held) ks) ≡ None → EachHasAce s object method ks
 each-has s object method [] h = tt
-each-has s object method (p ∷ ps) h = by_test (has_entry s object method (Some (col p.0))) refl h (each-has s object method ps)
-  where
-    by_test : (b : Bool) → has_entry s object method (Some (col p.0)) ≡ b → cond b (first_without s object method ps) (Some p.0) ≡ None → (first_without s object method ps ≡ None → EachHasEntry s object method ps) → EachHasEntry s object method (p ∷ ps)
-    by_test true is g rest = (entry-test s object method (Some (col p.0)) is, rest g)
-    by_test false is g rest = absurd (none-some (sym g))
+each-has s object method (k ∷ ks) h =
+    let w = either-none (denial_of s.rows s.sp object method s.held k) (first_some (map (denial_of s.rows s.sp object method s.held) ks)) h in (
+      allowed-by s object method k (ace_of s.rows s.sp object method k s.held) refl (why_denied s.rows s.sp object method k (acl_at s.sp object method)) w.0,
+      each-has s object method ks w.1,
+    )
 
-has-each : (s : Standing) (object method : Uid) (ps : List (ℕ × Tree)) → EachHasEntry s object method ps → first_without s object method ps ≡ None
+has-each : (s : Standing) (object method : Uid) (ks : List (Option Column)) → EachHasAce s object method ks → first_some (map (denial_of s.rows s.sp object method s.held) ks) ≡ None
 has-each s object method [] h = refl
-has-each s object method (p ∷ ps) h = ap (λ b. cond b (first_without s object method ps) (Some p.0)) (test-entry s object method (Some (col p.0)) h.0) ∙ has-each s object method ps h.1
-
-mapped-none : {A B : Type 0} (f : A → B) (x : Option A) → option_map f x ≡ None → x ≡ None
-mapped-none f None h = refl
-mapped-none f (Some x) h = absurd (none-some (sym h))
-
-any-entry : (s : Standing) (object method : Uid) → unless_any s object method ≡ None → HasAce s.rows s.sp object method None s.held
-any-entry s object method h = entry-test s object method None (by_test (has_entry s object method None) h)
-  where
-    by_test : (b : Bool) → cond b None (Some (needs s object method None)) ≡ None → b ≡ true
-    by_test true g = refl
-    by_test false g = absurd (none-some (sym g))
-
-entry-any : (s : Standing) (object method : Uid) → HasAce s.rows s.sp object method None s.held → unless_any s object method ≡ None
-entry-any s object method e = ap (λ b. cond b None (Some (needs s object method None))) (test-entry s object method None e)
-
-granted-if : (s : Standing) (object method : Uid) (ask : Ask) → unless_granted s object method ask ≡ None → IsGranted s object method ask
-granted-if s object method (SetCells (p ∷ ps)) h = each-has s object method (p ∷ ps) (mapped-none _ (first_without s object method (p ∷ ps)) h)
-granted-if s object method (SetCells []) h = any-entry s object method h
-granted-if s object method (GetCells a b) h = any-entry s object method h
-granted-if s object method (GetBytes a b) h = any-entry s object method h
-granted-if s object method (SetBytes a b) h = any-entry s object method h
-granted-if s object method (Authenticate a b) h = any-entry s object method h
-granted-if s object method Activate h = any-entry s object method h
-granted-if s object method Revert h = any-entry s object method h
-granted-if s object method Other h = any-entry s object method h
-
-if-granted : (s : Standing) (object method : Uid) (ask : Ask) → IsGranted s object method ask → unless_granted s object method ask ≡ None
-if-granted s object method (SetCells (p ∷ ps)) h = ap (option_map (λ k. needs s object method (Some (col k)))) (has-each s object method (p ∷ ps) h)
-if-granted s object method (SetCells []) h = entry-any s object method h
-if-granted s object method (GetCells a b) h = entry-any s object method h
-if-granted s object method (GetBytes a b) h = entry-any s object method h
-if-granted s object method (SetBytes a b) h = entry-any s object method h
-if-granted s object method (Authenticate a b) h = entry-any s object method h
-if-granted s object method Activate h = entry-any s object method h
-if-granted s object method Revert h = entry-any s object method h
-if-granted s object method Other h = entry-any s object method h
-
-granted-row : (s : Standing) (object method : Uid) (ask : Ask) → IsGranted s object method ask → (r : List Uid) × (acl_at s.sp object method ≡ Some r)
-granted-row s object method (SetCells (p ∷ ps)) h = row-there (acl_at s.sp object method) h.0.ace h.0.in_row
-granted-row s object method (SetCells []) h = row-there (acl_at s.sp object method) h.ace h.in_row
-granted-row s object method (GetCells a b) h = row-there (acl_at s.sp object method) h.ace h.in_row
-granted-row s object method (GetBytes a b) h = row-there (acl_at s.sp object method) h.ace h.in_row
-granted-row s object method (SetBytes a b) h = row-there (acl_at s.sp object method) h.ace h.in_row
-granted-row s object method (Authenticate a b) h = row-there (acl_at s.sp object method) h.ace h.in_row
-granted-row s object method Activate h = row-there (acl_at s.sp object method) h.ace h.in_row
-granted-row s object method Revert h = row-there (acl_at s.sp object method) h.ace h.in_row
-granted-row s object method Other h = row-there (acl_at s.sp object method) h.ace h.in_row
+has-each s object method (k ∷ ks) h =
+    ap (λ x. option_or x (first_some (map (denial_of s.rows s.sp object method s.held) ks))) (has-allowed s object method k (ace_of s.rows s.sp object method k s.held) refl (why_denied s.rows s.sp object method k (acl_at s.sp object method)) h.0)
+    ∙ has-each s object method ks h.1
 
 pub no-denial : (s : Standing) (object method : Uid) (ask : Ask) → IsGranted s object method ask → denial s object method ask ≡ None
-no-denial s object method ask h =
-    let r = granted-row s object method ask h in
-    ap (denial_by s object method ask) r.1 ∙ if-granted s object method ask h
+no-denial s object method ask h = has-each s object method (wanted ask) h
 
 pub denial-none : (s : Standing) (object method : Uid) (ask : Ask) → denial s object method ask ≡ None → IsGranted s object method ask
-denial-none s object method ask h = by_row (acl_at s.sp object method) h
-  where
-    by_row : (x : Option (List Uid)) → denial_by s object method ask x ≡ None → IsGranted s object method ask
-    by_row None g = absurd (none-some (sym g))
-    by_row (Some r) g = granted-if s object method ask g
+denial-none s object method ask h = each-has s object method (wanted ask) h
+
+-- some ACE is wanted, and so the method is offered
+first-row : (s : Standing) (object method : Uid) (ks : List (Option Column)) (k : Option Column) (rest : List (Option Column)) → ks ≡ k ∷ rest → EachHasAce s object method ks → (r : List Uid) × (acl_at s.sp object method ≡ Some r)
+first-row s object method ks k rest is h =
+    let e : EachHasAce s object method (k ∷ rest) = subst (EachHasAce s object method) is h in row-there (acl_at s.sp object method) e.0.ace e.0.in_row
+
+not-empty : (p : ℕ × Tree) (ps : List (ℕ × Tree)) → (length (p ∷ ps) == 0) ≡ false
+not-empty p ps = grind (arith, nat_tests)
+
+pub granted-row : (s : Standing) (object method : Uid) (ask : Ask) → IsGranted s object method ask → (r : List Uid) × (acl_at s.sp object method ≡ Some r)
+granted-row s object method (SetCells []) h = first-row s object method (None ∷ []) None [] refl h
+granted-row s object method (SetCells (p ∷ ps)) h = first-row s object method (wanted (SetCells (p ∷ ps))) (Some (col p.0)) (map (λ q. Some (col q.0)) ps) (ap (λ b. cond b (None ∷ []) (map (λ q. Some (col q.0)) (p ∷ ps))) (not-empty p ps)) h
+granted-row s object method (GetCells a b) h = first-row s object method (None ∷ []) None [] refl h
+granted-row s object method (GetBytes a b) h = first-row s object method (None ∷ []) None [] refl h
+granted-row s object method (SetBytes a b) h = first-row s object method (None ∷ []) None [] refl h
+granted-row s object method (Authenticate a b) h = first-row s object method (None ∷ []) None [] refl h
+granted-row s object method Activate h = first-row s object method (None ∷ []) None [] refl h
+granted-row s object method Revert h = first-row s object method (None ∷ []) None [] refl h
+granted-row s object method Other h = first-row s object method (None ∷ []) None [] refl h
 
 effect-if : (s : Standing) (object method : Uid) (ask : Ask) (d : Option Why) → denial s object method ask ≡ d → takes_effect (unless_denied d (does s object ask)) ≡ true → IsGranted s object method ask
 effect-if s object method ask None is h = denial-none s object method ask is
@@ -178,28 +160,32 @@ flat-in f [] x y h g = absurd h
 flat-in f (a ∷ xs) x y (inl h) g = among-left (f a) (flat_map f xs) y (rw h g)
 flat-in f (a ∷ xs) x y (inr h) g = among-right (f a) (flat_map f xs) y (flat-in f xs x y h g)
 
-pairs-same : {a b : ℕ} {x y : Cell} → ◌≡◌ {A = ℕ × Cell} (a, x) (b, y) → (a ≡ b) × (x ≡ y)
-pairs-same h = (ap (λ (p : ℕ × Cell). p.0) h, ap (λ (p : ℕ × Cell). p.1) h)
+in-filter : {A : Type 0} (p : A → Bool) (xs : List A) (y : A) → IsAmong (filter p xs) y → IsAmong xs y × (p y ≡ true)
+in-filter p [] y h = absurd h
+in-filter p (x ∷ xs) y h = by_test (p x) refl h (in-filter p xs y)
+  where
+    by_test : (b : Bool) → p x ≡ b → IsAmong (cond b (x ∷ filter p xs) (filter p xs)) y → (IsAmong (filter p xs) y → IsAmong xs y × (p y ≡ true)) → IsAmong (x ∷ xs) y × (p y ≡ true)
+    by_test true is (inl g) rest = (inl g, ap p (sym g) ∙ is)
+    by_test true is (inr g) rest = let w = rest g in (inr w.0, w.1)
+    by_test false is g rest = let w = rest g in (inr w.0, w.1)
 
-record At (s : Standing) (object : Uid) (first last k : ℕ) (cell : Cell) : Type 0 where
-  from : nat_le first k ≡ true
-  to : nat_le k last ≡ true
-  entry : has_entry s object get (Some (col k)) ≡ true
-  in_view : s.rows s.sp object (col k) ≡ Some cell
+filter-in : {A : Type 0} (p : A → Bool) (xs : List A) (y : A) → IsAmong xs y → p y ≡ true → IsAmong (filter p xs) y
+filter-in p [] y h is = absurd h
+filter-in p (x ∷ xs) y (inl h) is = rw (ap p h ∙ is) (inl h)
+filter-in p (x ∷ xs) y (inr h) is = by_test (p x) (filter-in p xs y h is)
+  where
+    by_test : (b : Bool) → IsAmong (filter p xs) y → IsAmong (cond b (x ∷ filter p xs) (filter p xs)) y
+    by_test true g = inr g
+    by_test false g = g
 
-cell-at : (s : Standing) (object : Uid) (first last k n : ℕ) (cell : Cell) (a b c : Bool) (x : Option Cell) → nat_le first k ≡ a → nat_le k last ≡ b → has_entry s object get (Some (col k)) ≡ c → s.rows s.sp object (col k) ≡ x
-    → IsAmong {A = ℕ × Cell} (cond (a && b && c) (option_to_list (option_map (λ v. (k, v)) x)) []) (n, cell) → (k ≡ n) × At s object first last k cell
-cell-at s object first last k n cell true true true (Some v) e f g is (inl h) =
-    let same = pairs-same h in (same.0, record { from = e; to = f; entry = g; in_view = is ∙ ap (λ y. Some y) same.1 })
-cell-at s object first last k n cell true true true (Some v) e f g is (inr h) = absurd h
-cell-at s object first last k n cell true true true None e f g is h = absurd h
-cell-at s object first last k n cell true true false x e f g is h = absurd h
-cell-at s object first last k n cell true false c x e f g is h = absurd h
-cell-at s object first last k n cell false b c x e f g is h = absurd h
+shown-is : (k : Column) (x : Option Cell) (value : Tree) → IsAmong (shown k x) value → (cell : Cell) × (x ≡ Some cell) × (value ≡ named (number k.0) (cell_tree cell))
+shown-is k None value h = absurd h
+shown-is k (Some cell) value (inl h) = (cell, refl, sym h)
+shown-is k (Some cell) value (inr h) = absurd h
 
-at-cell : (s : Standing) (object : Uid) (first last k : ℕ) (cell : Cell) → At s object first last k cell → IsAmong (listed_at s object first last k) (k, cell)
-at-cell s object first last k cell w =
-    rw (w.from, w.to, w.entry, w.in_view) (inl refl)
+and-parts : (a b : Bool) → (a && b) ≡ true → (a ≡ true) × (b ≡ true)
+and-parts true b h = (refl, h)
+and-parts false b h = absurd (clash h)
 
 le-of : (a b : ℕ) → nat_le a b ≡ true → a ≤ b
 le-of a b h = grind (arith, nat_tests)
@@ -207,28 +193,40 @@ le-of a b h = grind (arith, nat_tests)
 of-le : (a b : ℕ) → a ≤ b → nat_le a b ≡ true
 of-le a b h = grind (arith, nat_tests)
 
-listed-is : (s : Standing) (object : Uid) (first last k : ℕ) (cell : Cell) → IsAmong (listed s object first last) (k, cell) → IsListed s object first last k cell
-listed-is s object first last k cell h =
-    let w = in-flat (listed_at s object first last) column_numbers (k, cell) h in
-    let x = cell-at s object first last w.0 k cell (nat_le first w.0) (nat_le w.0 last) (has_entry s object get (Some (col w.0))) (s.rows s.sp object (col w.0)) refl refl refl refl w.2 in
-    of_number w.0 x.0 w.1 x.1
-  where
-    of_number : (n : ℕ) → n ≡ k → IsAmong column_numbers n → At s object first last n cell → IsListed s object first last k cell
-    of_number n same known w = record {
-      known = rw (← same) known;
-      from = le-of first k (ap (nat_le first) (sym same) ∙ w.from);
-      to = le-of k last (ap (λ m. nat_le m last) (sym same) ∙ w.to);
-      entry = entry-test s object get (Some (col k)) (ap (λ m. has_entry s object get (Some (col m))) (sym same) ∙ w.entry);
-      in_view = ap (λ m. s.rows s.sp object (col m)) (sym same) ∙ w.in_view;
+listed-is : (s : Standing) (object : Uid) (first last : ℕ) (value : Tree) → IsAmong (listed s.rows s.sp object first last s.held) value → IsListed s object first last value
+unfolding listed_among
+listed-is s object first last value h =
+    let kept : List Column = filter (is_listed s.rows s.sp object first last s.held) (columns_of (kind_of s.sp object)) in
+    let w = in-flat (λ k. shown k (s.rows s.sp object k)) kept value h in
+    let column : Column = w.0 in
+    let c = in-filter (is_listed s.rows s.sp object first last s.held) (columns_of (kind_of s.sp object)) column w.1 in
+    let test = and-parts (is_asked first last column) (is_some (ace_of s.rows s.sp object get (Some column) s.held)) c.1 in
+    let range = and-parts (nat_le first column.0) (nat_le column.0 last) test.0 in
+    let v = shown-is column (s.rows s.sp object column) value w.2 in
+    record {
+      column = column;
+      known = c.0;
+      from = le-of first column.0 range.0;
+      to = le-of column.0 last range.1;
+      ace = some-ace-test s object get (Some column) (ace_of s.rows s.sp object get (Some column) s.held) refl test.1;
+      cell = v.0;
+      in_view = v.1;
+      value_is = v.2;
     }
 
-is-listed : (s : Standing) (object : Uid) (first last k : ℕ) (cell : Cell) → IsListed s object first last k cell → IsAmong (listed s object first last) (k, cell)
-is-listed s object first last k cell w =
-    flat-in (listed_at s object first last) column_numbers k (k, cell) w.known
-    (at-cell s object first last k cell (record { from = of-le first k w.from; to = of-le k last w.to; entry = test-entry s object get (Some (col k)) w.entry; in_view = w.in_view }))
+is-listed : (s : Standing) (object : Uid) (first last : ℕ) (value : Tree) → IsListed s object first last value → IsAmong (listed s.rows s.sp object first last s.held) value
+unfolding listed_among
+is-listed s object first last value w =
+    let passes : is_listed s.rows s.sp object first last s.held w.column ≡ true =
+    ap (λ b. b && nat_le w.column.0 last && is_some (ace_of s.rows s.sp object get (Some w.column) s.held)) (of-le first w.column.0 w.from)
+    ∙ ap (λ b. b && is_some (ace_of s.rows s.sp object get (Some w.column) s.held)) (of-le w.column.0 last w.to)
+    ∙ test-some-ace s object get (Some w.column) (ace_of s.rows s.sp object get (Some w.column) s.held) refl w.ace in
+    flat-in (λ k. shown k (s.rows s.sp object k)) (filter (is_listed s.rows s.sp object first last s.held) (columns_of (kind_of s.sp object))) w.column value
+    (filter-in (is_listed s.rows s.sp object first last s.held) (columns_of (kind_of s.sp object)) w.column w.known passes)
+    (rw w.in_view (inl (sym w.value_is)))
 
 pub list_law : ListLaw
-list_law s object first last k cell = (listed-is s object first last k cell, is-listed s object first last k cell)
+list_law s object first last value = (listed-is s object first last value, is-listed s object first last value)
 
 -- what is looked at
 abbrev pub looked_event : (f : Facts) (h : RegH2d) (payload : List ℕ) (command : Command) → Option ℕ → Event
@@ -271,34 +269,27 @@ of_access (NoEntryHolds sp object method column need) = true
 of_access (NoAccessRow sp object method) = true
 of_access _ = false
 
-mapped-access : (s : Standing) (object method : Uid) (x : Option ℕ) (why : Why) → option_map (λ k. needs s object method (Some (col k))) x ≡ Some why → of_access why ≡ true
-mapped-access s object method None why h = absurd (none-some h)
-mapped-access s object method (Some k) why h = ap of_access (sym (same-why h))
+unoffered-access : (look : LookUp) (sp : Sp) (object method : Uid) (k : Option Column) (row : Option (List Uid)) → of_access (why_denied look sp object method k row) ≡ true
+unoffered-access look sp object method k None = refl
+unoffered-access look sp object method k (Some row) = refl
 
-any-access : (s : Standing) (object method : Uid) (why : Why) → unless_any s object method ≡ Some why → of_access why ≡ true
-any-access s object method why h = by_test (has_entry s object method None) h
-  where
-    by_test : (b : Bool) → cond b None (Some (needs s object method None)) ≡ Some why → of_access why ≡ true
-    by_test true g = absurd (none-some g)
-    by_test false g = ap of_access (sym (same-why g))
+column-access : (s : Standing) (object method : Uid) (k : Option Column) (x : Option Uid) (why : Why) → unless_allowed x (why_denied s.rows s.sp object method k (acl_at s.sp object method)) ≡ Some why → of_access why ≡ true
+column-access s object method k None why h = ap of_access (sym (same-why h)) ∙ unoffered-access s.rows s.sp object method k (acl_at s.sp object method)
+column-access s object method k (Some ace) why h = absurd (none-some h)
 
-granted-access : (s : Standing) (object method : Uid) (ask : Ask) (why : Why) → unless_granted s object method ask ≡ Some why → of_access why ≡ true
-granted-access s object method (SetCells (p ∷ ps)) why h = mapped-access s object method (first_without s object method (p ∷ ps)) why h
-granted-access s object method (SetCells []) why h = any-access s object method why h
-granted-access s object method (GetCells a b) why h = any-access s object method why h
-granted-access s object method (GetBytes a b) why h = any-access s object method why h
-granted-access s object method (SetBytes a b) why h = any-access s object method why h
-granted-access s object method (Authenticate a b) why h = any-access s object method why h
-granted-access s object method Activate why h = any-access s object method why h
-granted-access s object method Revert why h = any-access s object method why h
-granted-access s object method Other why h = any-access s object method why h
+either-some : (x y : Option Why) (why : Why) → option_or x y ≡ Some why → (x ≡ Some why) ⊎ (y ≡ Some why)
+either-some None y why h = inr h
+either-some (Some w) y why h = inl h
+
+wanted-access : (s : Standing) (object method : Uid) (ks : List (Option Column)) (why : Why) → first_some (map (denial_of s.rows s.sp object method s.held) ks) ≡ Some why → of_access why ≡ true
+wanted-access s object method [] why h = absurd (none-some h)
+wanted-access s object method (k ∷ ks) why h = elim (either-some (denial_of s.rows s.sp object method s.held k) (first_some (map (denial_of s.rows s.sp object method s.held) ks)) why h) [
+  | inl g ↦ column-access s object method k (ace_of s.rows s.sp object method k s.held) why g
+  | inr g ↦ wanted-access s object method ks why g
+]
 
 denial-access : (s : Standing) (object method : Uid) (ask : Ask) (why : Why) → denial s object method ask ≡ Some why → of_access why ≡ true
-denial-access s object method ask why h = by_row (acl_at s.sp object method) h
-  where
-    by_row : (x : Option (List Uid)) → denial_by s object method ask x ≡ Some why → of_access why ≡ true
-    by_row None g = ap of_access (sym (same-why g))
-    by_row (Some row) g = granted-access s object method ask why g
+denial-access s object method ask why h = wanted-access s object method (wanted ask) why h
 
 -- what an effect is denied of, if anything, is an attempt's
 abbrev reason_of : Option Why → Bool
@@ -307,7 +298,10 @@ reason_of (Some why) = of_access why
 
 tried-reason : (f : Facts) (sp : Sp) (authority : Uid) (x : Option AttemptFailure) → reason_of (tried_in f sp authority x).denied ≡ false
 tried-reason f sp authority None = refl
-tried-reason f sp authority (Some failure) = refl
+tried-reason f sp authority (Some LockedOut) = refl
+tried-reason f sp authority (Some WrongPin) = refl
+tried-reason f sp authority (Some Disabled) = refl
+tried-reason f sp authority (Some Unknown) = refl
 
 effect-reason : (f : Facts) (sp : Sp) (j : Judgement) → takes_effect j ≡ true → reason_of (outcome_of f sp j).denied ≡ false
 effect-reason f sp (Refuses status denied) h = absurd (clash h)

@@ -18,7 +18,8 @@ use Rattle.sp_tables.specs.Looks.{RowLook, put_in, puts_in}
 use Rattle.sp_cells.specs.declared.names.TheConstants.{RANGES}
 use Rattle.sp_tables.specs.AtReset.{has_kind}
 use Rattle.transactions.specs.Resets.{is_range, locks_seen}
-use Rattle.history.specs.Changes.{reset_rows, Change, Cells, Mbr, Restores, Resets, apply, apply_all}
+use Rattle.methods.specs.Settings.{cells_set, bytes_set}
+use Rattle.history.specs.Changes.{reset_rows, Change, Sets, Restores, Resets, apply, apply_all}
 use Rattle.history.specs.Sessions.{Begun}
 use Rattle.sessions.specs.Starts.{is_in_use}
 use Rattle.history.specs.Events.{SessionDeed, Unchanged, Started, Tried, Changed, Began, Committed, Aborted, Ended, Activated, Reverted, Response, Deed, Nothing, InSession, OfQueue, Wrote, Took, WasReset, Event}
@@ -134,14 +135,14 @@ begun-is sp (Took c) s h = cc
 
 -- it leaves the state of the Locking SP
 abbrev spares : Change → Bool
-spares (Cells object cells) = object.0 == c_pin_sid.0
-spares (Mbr place bytes) = true
+spares (Sets (cells_set object cells)) = object.0 == c_pin_sid.0
+spares (Sets (bytes_set place bytes)) = true
 spares (Resets kind) = true
 spares Restores = false
 
 row-spares : (c : Change) → is_of_row c_pin_sid c ≡ true → spares c ≡ true
-row-spares (Cells object cells) h = h
-row-spares (Mbr place bytes) h = refl
+row-spares (Sets (cells_set object cells)) h = h
+row-spares (Sets (bytes_set place bytes)) h = refl
 row-spares (Resets kind) h = refl
 row-spares Restores h = h
 
@@ -244,8 +245,8 @@ reset-spares kind rows =
     ap (λ b. cond b (option_map (λ _. Number 0) (locked locking_sp life_cycle_state_column)) (locked locking_sp life_cycle_state_column)) (and-false (has_kind kind (locked mbr_control mbr_done_on_reset_column)))
 
 change-spares : (factory rows : RowLook) (c : Change) → spares c ≡ true → apply factory c rows locking_sp life_cycle_state_column ≡ rows locking_sp life_cycle_state_column
-change-spares factory rows (Cells object cells) h = puts-spare object cells rows h
-change-spares factory rows (Mbr place bytes) h = refl
+change-spares factory rows (Sets (cells_set object cells)) h = puts-spare object cells rows h
+change-spares factory rows (Sets (bytes_set place bytes)) h = refl
 change-spares factory rows (Resets kind) h = reset-spares kind rows
 change-spares factory rows Restores h = cc
 

@@ -20,7 +20,10 @@ use Rattle.tcg_tokens.specs.Tree.{Tree, Trees, trees_of}
 use Rattle.tcg_tokens.specs.Tree as tree
 use Rattle.transactions.specs.Resets.{is_range}
 use Rattle.sessions.specs.Starts.{sync_message}
-use Rattle.history.specs.MethodsJudge.{succeeds, refusal}
+use Rattle.methods.specs.Listed.{listed_among}
+use Rattle.methods.specs.Settings.{cells_for}
+use Rattle.history.specs.Decisions.{refusal}
+use Rattle.methods.specs.Said.{reply_of}
 use Rattle.call_shapes.specs.CellValues.{element_tree}
 use Rattle.history.specs.Decisions.{any_below}
 use Rattle.history.specs.History.{Act}
@@ -45,11 +48,11 @@ lock : Message
 lock = set_cells (range_uid 1) ((7, tree.number 1) ∷ [])
 
 entry_denied : whys activated (prepared ++ in_next lock) ≡ NoEntryHolds Locking (range_uid 1) set (Some read_locked_column) (record { items = ace_locking_admins_set ∷ ace_range_set_read_locked 1 ∷ [] }) ∷ []
-unfolding admin_sps admin_authorities locking_authorities admin_pins locking_pins locking_ranges locking_mbr_controls admin_aces authority_aces pin_aces range_aces mbr_aces this_sp_grants admin_grants authority_grants fixed_ace_gets user_ace_grants read_locked_ace_grants write_locked_ace_grants done_ace_grants pin_grants range_grants mbr_grants first_lexeme expect number_at uid_at values_up_to list_with list_value_with named_with value_of list_at status_at call_at reply_at message_at message_in number_spelling bytes_spelling any_below ranges_in verdict_of is_range zeros sectors_from authorities_of_locking any_to elements prepared in_next lock
+unfolding admin_sps admin_authorities locking_authorities admin_pins locking_pins locking_ranges locking_mbr_controls admin_aces authority_aces pin_aces range_aces mbr_aces this_sp_grants admin_grants authority_grants fixed_ace_gets user_ace_grants read_locked_ace_grants write_locked_ace_grants done_ace_grants pin_grants range_grants mbr_grants first_lexeme expect number_at uid_at values_up_to list_with list_value_with named_with value_of list_at status_at call_at reply_at message_at message_in number_spelling bytes_spelling any_below ranges_in verdict_of is_range listed_among cells_for zeros sectors_from authorities_of_locking any_to elements prepared in_next lock
 entry_denied = refl
 
 entry_granted : replies activated (prepared ++ in_next (try_pin (user_uid 2) []) ++ in_next lock) ≡
     said (sync_message 1 0x1000 0) ∷ said (refusal 0) ∷ said (refusal 0) ∷ said (refusal 0) ∷ said end_session ∷ said (sync_message 1 0x1001 0)
-    ∷ said (succeeds (tree.more (tree.number 1) tree.empty)) ∷ said (refusal 0) ∷ []
-unfolding admin_sps admin_authorities locking_authorities admin_pins locking_pins locking_ranges locking_mbr_controls admin_aces authority_aces pin_aces range_aces mbr_aces this_sp_grants admin_grants authority_grants fixed_ace_gets user_ace_grants read_locked_ace_grants write_locked_ace_grants done_ace_grants pin_grants range_grants mbr_grants first_lexeme expect number_at uid_at values_up_to list_with list_value_with named_with value_of list_at status_at call_at reply_at message_at message_in number_spelling bytes_spelling any_below ranges_in verdict_of is_range zeros sectors_from authorities_of_locking any_to elements prepared in_next lock
+    ∷ said (reply_of (tree.number 1 ∷ []) 0) ∷ said (refusal 0) ∷ []
+unfolding admin_sps admin_authorities locking_authorities admin_pins locking_pins locking_ranges locking_mbr_controls admin_aces authority_aces pin_aces range_aces mbr_aces this_sp_grants admin_grants authority_grants fixed_ace_gets user_ace_grants read_locked_ace_grants write_locked_ace_grants done_ace_grants pin_grants range_grants mbr_grants first_lexeme expect number_at uid_at values_up_to list_with list_value_with named_with value_of list_at status_at call_at reply_at message_at message_in number_spelling bytes_spelling any_below ranges_in verdict_of is_range listed_among cells_for zeros sectors_from authorities_of_locking any_to elements prepared in_next lock
 entry_granted = refl

@@ -1,5 +1,5 @@
 -- [drive] The bytes and FISes that an act gives, by the facts (Serial ATA; ACS-3, IDENTIFY DEVICE and log page 10h; Opal SSC 2.01, section 3.1.1, Level 0 discovery).
-use Rattle.std.specs.Prelude.{ℕ, ◌+◌, ◌-◌, ◌*◌, ◌/◌, ◌%◌, ◌^◌, ◌==◌, Bool, true, false, ◌&&◌, ◌||◌, nat_le, List, [], ◌∷◌, ◌++◌, length, map, take, replicate, Option, Some, None, is_some, unwrap_or, Result, Ok, Err, if◌then◌else◌}
+use Rattle.std.specs.Prelude.{ℕ, zero, suc, ◌+◌, ◌-◌, ◌*◌, ◌/◌, ◌%◌, ◌^◌, ◌==◌, Bool, true, false, ◌&&◌, ◌||◌, nat_le, List, [], ◌∷◌, ◌++◌, length, take, replicate, Option, Some, None, is_some, unwrap_or, Result, Ok, Err, if◌then◌else◌}
 use Rattle.std.specs.List.{flat_map, list_any}
 use Rattle.byteorder.specs.Endian.{big_bytes}
 use Rattle.fis.specs.H2d.{h2d_at}
@@ -18,7 +18,7 @@ use Rattle.history.specs.TrustedCommands.{Command, ReadQueued, WriteQueued, Read
 use Rattle.locking.specs.declared.ranges.Verdict.{Verdict}
 use Rattle.locking.specs.declared.ranges.Verdict.TheVariants.{Serve, Shadow, Denied}
 use Rattle.sessions.specs.Starts.{is_in_use}
-use Rattle.history.specs.MethodsJudge.{run_from}
+use Rattle.transactions.specs.Bytes.{bytes_from}
 use Rattle.history.specs.Events.{HeldCommand, Failure, Held, Deed, OfQueue, Event}
 use Rattle.history.specs.Facts.{Facts}
 use Rattle.history.specs.Decisions.{verdict_on, discovery_com_id}
@@ -34,7 +34,7 @@ sized n content = take n content ++ replicate (n - length content) 0
 -- What a read gives: the sectors, or the shadow's bytes, as they are then.
 abbrev pub read_by : Facts → ℕ → ℕ → Verdict → List ℕ
 read_by f lba count Serve = sectors_from f.sector lba count
-read_by f lba count Shadow = map f.byte (run_from (sector_size * lba) (sector_size * count))
+read_by f lba count Shadow = bytes_from f.byte (sector_size * lba) (sector_size * count)
 read_by f lba count (Denied why) = []
 
 -- Level 0 discovery: its header, and the features TPer, Locking, Geometry and Opal SSC 2.
@@ -76,6 +76,10 @@ identify_word sectors word =
 
 abbrev pub low_first : ℕ → List ℕ
 low_first word = word % 256 ∷ word / 256 ∷ []
+
+abbrev pub run_from : ℕ → ℕ → List ℕ
+run_from first zero = []
+run_from first (suc n) = first ∷ run_from (suc first) n
 
 abbrev pub identity : Facts → List ℕ
 identity f = flat_map (λ word. low_first (identify_word f.sectors word)) (run_from 0 256)

@@ -2,19 +2,16 @@
 use Rattle.std.specs.Prelude.{ℕ, ◌+◌, List, [], ◌∷◌, option_map, if◌then◌else◌}
 use Rattle.sp_cells.specs.declared.names.TheConstants.{RANGES}
 use Rattle.sp_cells.specs.declared.names.Uid.{Uid}
-use Rattle.sp_cells.specs.declared.names.Column.{Column}
-use Rattle.sp_cells.specs.declared.cells.Cell.{Cell}
 use Rattle.sp_cells.specs.declared.cells.Cell.TheVariants.{Number}
 use Rattle.sp_tables.specs.Looks.{RowLook, puts_in}
 use Rattle.sp_tables.specs.Tries.{is_tries}
 use Rattle.shadow_mbr.specs.Stored.{byte_after}
 use Rattle.transactions.specs.Resets.{locks_seen, done_seen}
+use Rattle.methods.specs.Settings.{Setting, cells_set, bytes_set}
 
 pub data Change : Type 0 where
-  -- cells of an object
-  Cells : (object : Uid) (cells : List (Column × Cell)) → Change
-  -- bytes of the shadow
-  Mbr : (at : ℕ) (bytes : List ℕ) → Change
+  -- cells of an object, or bytes of the shadow
+  Sets : (setting : Setting) → Change
   -- the factory's cells, and a shadow of zeros
   Restores : Change
   -- the locks and the shadow that a reset of this kind sets
@@ -26,8 +23,8 @@ reset_rows kind rows = done_seen kind (locks_seen (RANGES + 1) kind rows)
 
 -- The rows after a change, and after changes of which the newest comes first; `factory` has the rows of a new drive.
 abbrev pub apply : RowLook → Change → RowLook → RowLook
-apply factory (Cells object cells) rows = puts_in object cells rows
-apply factory (Mbr at bytes) rows = rows
+apply factory (Sets (cells_set object cells)) rows = puts_in object cells rows
+apply factory (Sets (bytes_set at bytes)) rows = rows
 apply factory Restores rows = factory
 apply factory (Resets kind) rows = reset_rows kind rows
 
@@ -37,8 +34,8 @@ apply_all factory (c ∷ cs) rows = apply factory c (apply_all factory cs rows)
 
 -- A byte of the shadow after a change, and after changes.
 abbrev pub byte_then : Change → ℕ → ℕ → ℕ
-byte_then (Cells object cells) before place = before
-byte_then (Mbr at bytes) before place = byte_after at bytes before place
+byte_then (Sets (cells_set object cells)) before place = before
+byte_then (Sets (bytes_set at bytes)) before place = byte_after at bytes before place
 byte_then Restores before place = 0
 byte_then (Resets kind) before place = before
 

@@ -13,9 +13,7 @@ use Rattle.locking.specs.declared.range.Op.{Op}
 use Rattle.locking.specs.declared.range.Op.TheVariants.{Read, Write}
 use Rattle.trusted_cmds.specs.Commands.{is_queued, tag_of, sector_size}
 use Rattle.audit.specs.declared.reason.AttemptFailure.{AttemptFailure}
-use Rattle.audit.specs.declared.reason.AttemptFailure.TheVariants.{LockedOut}
 use Rattle.audit.specs.declared.reason.Why.{Why}
-use Rattle.audit.specs.declared.reason.Why.TheVariants.{AttemptFailed}
 use Rattle.compacket.specs.declared.session.Session.{Session}
 use Rattle.compacket.specs.declared.error.FrameError.{FrameError}
 use Rattle.compacket.specs.Frames.{Frame, reading as frame_in}
@@ -26,7 +24,6 @@ use Rattle.tcg_tokens.specs.Reading.{reading as message_in}
 use Rattle.tcg_tokens.specs.Spelling.{item_spelling_of}
 use Rattle.tcg_tokens.specs.Tree.{Tree, Trees}
 use Rattle.call_shapes.specs.Named.{values_of}
-use Rattle.tcg_tokens.specs.Tree as tree
 use Rattle.history.specs.TrustedCommands.{Command, ReadQueued, WriteQueued, ReadDma, WriteDma, Send, Receive, Identify, ReadLog, Flush, CommandError, reading}
 use Rattle.locking.specs.declared.ranges.Verdict.{Verdict}
 use Rattle.locking.specs.declared.ranges.Verdict.TheVariants.{Serve, Shadow, Denied}
@@ -36,14 +33,16 @@ use Rattle.locking.specs.Verdict.{verdict_of}
 use Rattle.sessions.specs.Attempts.{failure as failure_of, credential}
 use Rattle.call_shapes.specs.Asks.{uid_of}
 use Rattle.history.specs.Sessions.{session_manager, properties, start_session, Begun}
-use Rattle.call_shapes.specs.Statuses.{authority_locked_out, fail}
+use Rattle.call_shapes.specs.Statuses.{success, fail}
 use Rattle.sessions.specs.declared.opening.Opening.{Opening}
 use Rattle.sessions.specs.declared.opening.StartVerdict.{StartVerdict}
 use Rattle.sessions.specs.declared.opening.StartVerdict.TheVariants.{Refused, Attempted}
 use Rattle.sessions.specs.Gains.{gained, first_held}
 use Rattle.sessions.specs.Starts.{opening_of, is_in_use, verdict, host_of, reply_to, denied_with}
 use Rattle.sessions.specs.Properties.{properties_message}
-use Rattle.history.specs.MethodsJudge.{succeeds, refusal, asked, Judgement, Refuses, Gives, Makes, Attempts, Activates, Reverts, judged}
+use Rattle.methods.specs.Said.{reply_of, said_attempt}
+use Rattle.history.specs.Changes.{Sets}
+use Rattle.history.specs.Calls.{Judgement, Refuses, Gives, Makes, Attempts, Activates, Reverts, asked, judged}
 use Rattle.history.specs.Events.{SessionDeed, Unchanged, Started, Tried, Changed, Began, Committed, Aborted, Ended, Activated, Reverted, HeldCommand, Failure, Held, Completed, CompletedWrite, QueueFailed, QueueMended, Deed, Nothing, InSession, OfQueue, Wrote, Took, Event, did}
 use Rattle.history.specs.Facts.{Facts, live, session_named, has_open, standing}
 
@@ -118,6 +117,9 @@ pub record Outcome : Type 0 where
 abbrev pub says : SessionDeed → Message → Outcome
 says deed said = record { deed = deed; said = said; denied = None }
 
+abbrev pub refusal : ℕ → Message
+refusal status = reply_of [] status
+
 abbrev pub answers : ℕ → Session → Outcome → Event
 answers com_id session outcome = record {
   failed = None;
@@ -127,22 +129,20 @@ answers com_id session outcome = record {
 
 -- Attempts. They go by the rows in force, never by an open transaction's; a right one gains the authority and its class.
 
+abbrev pub gains_of : Facts → Sp → Uid → Option AttemptFailure → List Uid
+gains_of f sp authority None = gained f.rows sp authority []
+gains_of f sp authority (Some failure) = []
+
 abbrev pub tried : Facts → Sp → Uid → Option AttemptFailure → List Uid → SessionDeed
 tried f sp authority failure gains =
     Tried (record { sp = sp; authority = authority; row = credential f.rows sp authority; failure = failure; gained = gains })
 
--- A list with 1 or 0, but a refusal where the tries are used up.
-abbrev pub flag_said : ℕ → Message
-flag_said flag = succeeds (tree.more (tree.number flag) tree.empty)
-
-abbrev pub failure_said : AttemptFailure → Message
-failure_said LockedOut = refusal authority_locked_out
-failure_said _ = flag_said 0
-
 abbrev pub tried_in : Facts → Sp → Uid → Option AttemptFailure → Outcome
-tried_in f sp authority None = says (tried f sp authority None (gained f.rows sp authority [])) (flag_said 1)
-tried_in f sp authority (Some failure) =
-    record { deed = tried f sp authority (Some failure) []; said = failure_said failure; denied = Some (AttemptFailed sp authority failure) }
+tried_in f sp authority failure = record {
+  deed = tried f sp authority failure (gains_of f sp authority failure);
+  said = (said_attempt sp authority failure).answer;
+  denied = (said_attempt sp authority failure).denied;
+}
 
 -- The session manager.
 
@@ -194,18 +194,21 @@ to_manager f com_id _ = says Unchanged (refusal fail)
 
 -- A session.
 
+abbrev pub done : Message
+done = reply_of [] success
+
 abbrev pub activates : Facts → Outcome
 activates f =
-    says (if is_in_use f.rows Locking then Unchanged else Activated (f.rows Admin c_pin_sid pin_column)) (succeeds tree.empty)
+    says (if is_in_use f.rows Locking then Unchanged else Activated (f.rows Admin c_pin_sid pin_column)) done
 
 -- What a judgement does, and how it is answered. Attempts go by the rows in force.
 abbrev pub outcome_of : Facts → Sp → Judgement → Outcome
 outcome_of f sp (Refuses status denied) = record { deed = Unchanged; said = refusal status; denied = denied }
-outcome_of f sp (Gives results) = says Unchanged (succeeds results)
-outcome_of f sp (Makes change) = says (Changed sp change) (succeeds tree.empty)
+outcome_of f sp (Gives results) = says Unchanged (reply_of results success)
+outcome_of f sp (Makes setting) = says (Changed sp (Sets setting)) done
 outcome_of f sp (Attempts authority pin) = tried_in f sp authority (failure_of f.rows sp authority pin)
 outcome_of f sp Activates = activates f
-outcome_of f sp (Reverts reverted) = says (Reverted reverted (is_in_use f.rows Locking)) (succeeds tree.empty)
+outcome_of f sp (Reverts reverted) = says (Reverted reverted (is_in_use f.rows Locking)) done
 
 abbrev pub judgement_on : Facts → Begun → Uid → Uid → Trees → Judgement
 judgement_on f session object method args = judged (standing f session) object method (asked session.sp object method args)

@@ -6,7 +6,8 @@ use Rattle.sp_cells.specs.Names.{c_pin_sid}
 use Rattle.sp_cells.specs.declared.names.Uid.{Uid}
 use Rattle.sp_cells.specs.declared.cells.Cell.{Cell}
 use Rattle.history.specs.Opening.{Origin}
-use Rattle.history.specs.Changes.{Change, Cells, Mbr, Restores, Resets}
+use Rattle.methods.specs.Settings.{cells_set, bytes_set}
+use Rattle.history.specs.Changes.{Change, Sets, Restores, Resets}
 use Rattle.history.specs.Sessions.{Begun}
 use Rattle.sessions.specs.Starts.{is_in_use}
 use Rattle.history.specs.Events.{SessionDeed, Unchanged, Started, Tried, Changed, Began, Committed, Aborted, Ended, Activated, Reverted, Response, InSession, Event}
@@ -43,8 +44,8 @@ pub record IsOutside (past : List Event) : Type 0 where
 
 -- It sets cells of this object, or bytes.
 abbrev pub is_of_row : Uid → Change → Bool
-is_of_row object (Cells its cells) = its.0 == object.0
-is_of_row object (Mbr at bytes) = true
+is_of_row object (Sets (cells_set its cells)) = its.0 == object.0
+is_of_row object (Sets (bytes_set at bytes)) = true
 is_of_row object Restores = false
 is_of_row object (Resets kind) = false
 

@@ -17,7 +17,7 @@ use Rattle.sessions.specs.Attempts.{failure as failure_of}
 use Rattle.call_shapes.specs.Asks.{uid_of}
 use Rattle.history.specs.Sessions.{properties, start_session, Begun}
 use Rattle.call_shapes.specs.declared.ask.Ask.{Ask}
-use Rattle.history.specs.MethodsJudge.{asked, Attempts, denial}
+use Rattle.history.specs.Calls.{asked, Attempts, denial}
 use Rattle.call_shapes.specs.Named.{values_of}
 use Rattle.sessions.specs.declared.opening.Opening.{Opening}
 use Rattle.sessions.specs.declared.opening.StartVerdict.TheVariants.{Attempted}

@@ -1,7 +1,7 @@
 pub mod TrustedCommands
 pub mod Changes
 pub mod Sessions
-pub mod MethodsJudge
+pub mod Calls
 pub mod Opening
 pub mod Events
 pub mod Readers

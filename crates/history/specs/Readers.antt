@@ -17,7 +17,8 @@ use Rattle.audit.specs.declared.reason.AttemptFailure.TheVariants.{WrongPin, Loc
 use Rattle.shadow_mbr.specs.Stored.{sector_size, zeros}
 use Rattle.history.specs.Opening.{Origin}
 use Rattle.sp_tables.specs.Looks.{RowLook}
-use Rattle.history.specs.Changes.{Change, Cells, Restores, Resets, apply_all, byte_in, with_tries}
+use Rattle.methods.specs.Settings.{cells_set}
+use Rattle.history.specs.Changes.{Change, Sets, Restores, Resets, apply_all, byte_in, with_tries}
 use Rattle.history.specs.Sessions.{Begun}
 use Rattle.history.specs.Events.{SessionDeed, Started, Tried, Changed, Began, Committed, Aborted, Ended, Activated, Reverted, HeldCommand, Failure, QueueDeed, Held, Completed, CompletedWrite, QueueFailed, QueueMended, Deed, InSession, OfQueue, Wrote, Took, WasReset, Event, latest, since, every, count}
 
@@ -137,12 +138,12 @@ unless_open None change = change ∷ []
 unless_open (Some number) change = []
 
 abbrev pub state_change : ℕ → List Change
-state_change state = Cells locking_sp ((life_cycle_state_column, Number state) ∷ []) ∷ []
+state_change state = Sets (cells_set locking_sp ((life_cycle_state_column, Number state) ∷ [])) ∷ []
 
 -- The Locking SP is Manufactured, and its Admin1 has SID's PIN.
 abbrev pub pin_change : Option Cell → List Change
 pin_change None = []
-pin_change (Some pin) = Cells (admin_pin_uid 1) ((pin_column, pin) ∷ []) ∷ []
+pin_change (Some pin) = Sets (cells_set (admin_pin_uid 1) ((pin_column, pin) ∷ [])) ∷ []
 
 abbrev pub activation : Option Cell → Sp → List Change
 activation pin Admin = state_change manufactured
