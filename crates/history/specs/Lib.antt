@@ -13,6 +13,7 @@ pub mod NoTrace
 pub mod Deeds
 pub mod TriesLaw
 pub mod MethodLaws
+pub mod Audit
 pub mod DenialLaws
 pub mod TransferLaws
 pub mod Agreement
