@@ -15,7 +15,7 @@ use Rattle.compacket.specs.Frames.{Frame, reading as frame_in}
 use Rattle.tcg_tokens.specs.declared.error.TokenError.{TokenError}
 use Rattle.tcg_tokens.specs.Message.{Message}
 use Rattle.tcg_tokens.specs.Reading.{reading as message_in}
-use Rattle.history.specs.TrustedCommands.{Command, ReadQueued, WriteQueued, ReadDma, WriteDma, Send, Receive, ReadLog, CommandError, reading}
+use Rattle.history.specs.Commands.{Command, ReadQueued, WriteQueued, ReadDma, WriteDma, Send, Receive, ReadLog, CommandError, reading}
 use Rattle.locking.specs.declared.ranges.Verdict.{Verdict}
 use Rattle.locking.specs.declared.ranges.Verdict.TheVariants.{Serve, Shadow, Denied}
 use Rattle.history.specs.Sessions.{Begun}

@@ -25,7 +25,7 @@ use Rattle.trusted_cmds.specs.Commands.{is_queued}
 use Rattle.compacket.specs.Frames.{Frame, reading as frame_in}
 use Rattle.tcg_tokens.specs.Reading.{reading as message_in}
 use Rattle.tcg_tokens.specs.Tree.{Tree, number, named}
-use Rattle.history.specs.TrustedCommands.{Command, Send, reading}
+use Rattle.history.specs.Commands.{Command, Send, reading}
 use Rattle.call_shapes.specs.declared.ask.Ask.{Ask}
 use Rattle.call_shapes.specs.declared.ask.Ask.TheVariants.{GetCells, GetBytes, SetCells, SetBytes, Authenticate, Activate, Revert, Other}
 use Rattle.std.specs.Option.{option_or}

@@ -14,7 +14,7 @@ use Rattle.sp_cells.specs.ColumnNames.{mbr_enable_column, mbr_done_column}
 use Rattle.compacket.specs.Spelling.{com_packet_header}
 use Rattle.locking.specs.declared.range.Op.TheVariants.{Read}
 use Rattle.shadow_mbr.specs.Stored.{sector_size, sectors_from}
-use Rattle.history.specs.TrustedCommands.{Command, ReadQueued, WriteQueued, ReadDma, Send, Receive, Identify, ReadLog, CommandError, reading}
+use Rattle.history.specs.Commands.{Command, ReadQueued, WriteQueued, ReadDma, Send, Receive, Identify, ReadLog, CommandError, reading}
 use Rattle.locking.specs.declared.ranges.Verdict.{Verdict}
 use Rattle.locking.specs.declared.ranges.Verdict.TheVariants.{Serve, Shadow, Denied}
 use Rattle.sessions.specs.Starts.{is_in_use}

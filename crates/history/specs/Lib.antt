@@ -1,4 +1,4 @@
-pub mod TrustedCommands
+pub mod Commands
 pub mod Changes
 pub mod Sessions
 pub mod Calls

@@ -12,7 +12,7 @@ use Rattle.compacket.specs.Frames.{Frame, reading as frame_in}
 use Rattle.tcg_tokens.specs.Message.{call}
 use Rattle.tcg_tokens.specs.Reading.{reading as message_in}
 use Rattle.tcg_tokens.specs.Tree.{Tree, Trees, number, named}
-use Rattle.history.specs.TrustedCommands.{Command, Send, reading}
+use Rattle.history.specs.Commands.{Command, Send, reading}
 use Rattle.call_shapes.specs.Asks.{uid_of}
 use Rattle.call_shapes.specs.Statuses.{not_authorized}
 use Rattle.history.specs.Sessions.{Begun}
