@@ -8,7 +8,7 @@ use Rattle.sp_cells.specs.declared.names.Sp.TheVariants.{Admin, Locking}
 use Rattle.sp_cells.specs.declared.names.Uid.{Uid}
 use Rattle.sp_cells.specs.Names.{anybody, admin_sp, locking_sp, session_manager, sync_session}
 use Rattle.sp_cells.specs.ColumnNames.{life_cycle_state_column}
-use Rattle.sp_cells.specs.Limits.{manufactured_inactive}
+use Rattle.sp_cells.specs.Limits.{manufactured}
 use Rattle.sp_cells.specs.Flat.{LookUp}
 use Rattle.sp_cells.specs.Ranges.{number as number_at}
 use Rattle.audit.specs.declared.reason.AttemptFailure.{AttemptFailure}
@@ -66,7 +66,7 @@ row_of_sp Locking = locking_sp
 
 -- the SP is in use, by the rows in force
 abbrev pub is_in_use : LookUp → Sp → Bool
-is_in_use look sp = not (number_at look Admin (row_of_sp sp) life_cycle_state_column == manufactured_inactive)
+is_in_use look sp = number_at look Admin (row_of_sp sp) life_cycle_state_column == manufactured
 
 -- no number is left for another session
 abbrev pub is_full : Live → Bool

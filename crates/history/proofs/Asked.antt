@@ -1,0 +1,190 @@
+-- What is asked belongs to its method; which objects have an access row.
+use Rattle.std.proofs.Common.{◌≡◌, ℕ, ◌==◌, Bool, true, false, ◌&&◌, ◌||◌, not, List, [], ◌∷◌, Option, Some, None, refl, sym, ◌∙◌, ap, cond, eqb-true}
+use Rattle.std.specs.Prelude.{◌-◌, ◌^◌, length, option_map, nat_le}
+use Rattle.std.specs.List.{list_all}
+use Rattle.sp_cells.specs.declared.names.Uid.{Uid}
+use Rattle.sp_cells.specs.declared.names.Sp.{Sp}
+use Rattle.sp_cells.specs.declared.names.Sp.TheVariants.{Admin, Locking}
+use Rattle.sp_cells.specs.Names.{get, set, authenticate, activate, revert, c_pin_sid}
+use Rattle.sp_cells.specs.Authorities.{authorities_of_locking}
+use Rattle.sp_cells.specs.Flat.{sp_eq}
+use Rattle.access_list.specs.Access.{Grant, access_list, acl_in, this_sp_grants, admin_grants, authority_grants, fixed_ace_gets, user_ace_grants, read_locked_ace_grants, write_locked_ace_grants, done_ace_grants, pin_grants, range_grants, mbr_grants}
+use Rattle.tcg_tokens.specs.Tree.{Tree, Trees}
+use Rattle.tcg_tokens.specs.Tree as tree
+use Rattle.call_shapes.specs.Named.{values_of, list_in, assignments, value_of, options, number_or, number_if_any, bytes_or_empty}
+use Rattle.call_shapes.specs.Asks.{uid_of, is_mbr_table, cellblock, columns_between, columns_in, is_ordered, rows_between, rows_in, cells_of, cells_to_set, cells_in, bytes_to_set, bytes_in, proof_of, proof_in, attempt_in, without_arguments, get_of, set_of, ask_of}
+use Rattle.call_shapes.specs.declared.ask.Ask.{Ask}
+use Rattle.call_shapes.specs.declared.ask.Ask.TheVariants.{GetCells, GetBytes, SetCells, SetBytes, Authenticate, Activate, Revert, Other}
+use Rattle.history.specs.Calls.{asked}
+
+-- the method that an ask is of; any for one that the drive does not know
+abbrev pub is_own : Ask → Uid → Bool
+is_own (GetCells first last) method = method.0 == get.0
+is_own (GetBytes first last) method = method.0 == get.0
+is_own (SetCells values) method = method.0 == set.0
+is_own (SetBytes at content) method = method.0 == set.0
+is_own (Authenticate authority pin) method = method.0 == authenticate.0
+is_own Activate method = method.0 == activate.0
+is_own Revert method = method.0 == revert.0
+is_own Other method = true
+
+-- where something is given, it passes
+record Gives {A : Type 0} (p : A → Bool) (o : Option A) : Type 0 where
+  it : (x : A) → o ≡ Some x → p x ≡ true
+
+gives-none : {A : Type 0} (p : A → Bool) → Gives p None
+gives-none p = record { it = λ x h. absurd (clash h) }
+  where
+    clash : {A : Type 0} {x : A} → None ≡ Some x → ⊥
+    clash h = cc
+
+some-same : {A : Type 0} {x y : A} → Some x ≡ Some y → y ≡ x
+some-same h = cc
+
+gives-some : {A : Type 0} (p : A → Bool) (x : A) → p x ≡ true → Gives p (Some x)
+gives-some p x h = record { it = λ y is. ap p (some-same is) ∙ h }
+
+gives-if : {A : Type 0} (p : A → Bool) (b : Bool) (x y : Option A) → Gives p x → Gives p y → Gives p (cond b x y)
+gives-if p true x y h g = h
+gives-if p false x y h g = g
+
+-- Get
+columns-gives : (p : Ask → Bool) (x : Option (List (ℕ × Tree))) → ((first last : ℕ) → p (GetCells first last) ≡ true) → Gives p (columns_in x)
+columns-gives p None h = gives-none p
+columns-gives p (Some ps) h = between (number_or 0 (value_of 3 ps)) (number_or (2 ^ 64 - 1) (value_of 4 ps))
+  where
+    between : (a b : Option ℕ) → Gives p (columns_between a b)
+    between None b = gives-none p
+    between (Some a) None = gives-none p
+    between (Some a) (Some b) = gives-if p (nat_le a b) _ None (gives-some p (GetCells a b) (h a b)) (gives-none p)
+
+rows-gives : (p : Ask → Bool) (x : Option (List (ℕ × Tree))) → ((first : ℕ) (last : Option ℕ) → p (GetBytes first last) ≡ true) → Gives p (rows_in x)
+rows-gives p None h = gives-none p
+rows-gives p (Some ps) h = between (number_or 0 (value_of 1 ps)) (number_if_any (value_of 2 ps))
+  where
+    between : (a : Option ℕ) (b : Option (Option ℕ)) → Gives p (rows_between a b)
+    between None b = gives-none p
+    between (Some a) None = gives-none p
+    between (Some a) (Some b) = gives-if p (is_ordered a b) _ None (gives-some p (GetBytes a b) (h a b)) (gives-none p)
+
+get-gives : (p : Ask → Bool) (b : Bool) (args : List Tree) → ((first : ℕ) (last : Option ℕ) → p (GetBytes first last) ≡ true) → ((first last : ℕ) → p (GetCells first last) ≡ true) → Gives p (get_of b args)
+get-gives p true args h g = rows-gives p (cellblock 1 2 args) h
+get-gives p false args h g = columns-gives p (cellblock 3 4 args) g
+
+-- Set
+assigned-gives : (p : Ask → Bool) (x : Option (List (ℕ × Tree))) → ((values : List (ℕ × Tree)) → p (SetCells values) ≡ true) → Gives p (option_map SetCells x)
+assigned-gives p None h = gives-none p
+assigned-gives p (Some values) h = gives-some p (SetCells values) (h values)
+
+list-gives : (p : Ask → Bool) (x : Option (List Tree)) → ((values : List (ℕ × Tree)) → p (SetCells values) ≡ true) → Gives p (cells_of x)
+list-gives p None h = gives-none p
+list-gives p (Some ts) h = assigned-gives p (assignments ts) h
+
+value-gives : (p : Ask → Bool) (x : Option Tree) → ((values : List (ℕ × Tree)) → p (SetCells values) ≡ true) → Gives p (cells_to_set x)
+value-gives p None h = gives-none p
+value-gives p (Some t) h = list-gives p (list_in t) h
+
+cells-gives : (p : Ask → Bool) (x : Option (List (ℕ × Tree))) → ((values : List (ℕ × Tree)) → p (SetCells values) ≡ true) → Gives p (cells_in x)
+cells-gives p None h = gives-none p
+cells-gives p (Some ps) h = value-gives p (value_of 1 ps) h
+
+bytes-gives : (p : Ask → Bool) (x : Option (List (ℕ × Tree))) → ((at : ℕ) (content : List ℕ) → p (SetBytes at content) ≡ true) → Gives p (bytes_in x)
+bytes-gives p None h = gives-none p
+bytes-gives p (Some ps) h = by_parts (number_or 0 (value_of 0 ps)) (value_of 1 ps)
+  where
+    by_parts : (a : Option ℕ) (b : Option Tree) → Gives p (bytes_to_set a b)
+    by_parts None b = gives-none p
+    by_parts (Some a) None = gives-none p
+    by_parts (Some a) (Some (tree.bytes content)) = gives-some p (SetBytes a content) (h a content)
+    by_parts (Some a) (Some (tree.number n)) = gives-none p
+    by_parts (Some a) (Some (tree.list ts)) = gives-none p
+    by_parts (Some a) (Some (tree.named n v)) = gives-none p
+
+set-gives : (p : Ask → Bool) (b : Bool) (args : List Tree) → ((at : ℕ) (content : List ℕ) → p (SetBytes at content) ≡ true) → ((values : List (ℕ × Tree)) → p (SetCells values) ≡ true) → Gives p (set_of b args)
+set-gives p true args h g = bytes-gives p (options (0 ∷ 1 ∷ []) args) h
+set-gives p false args h g = cells-gives p (options (1 ∷ []) args) g
+
+-- Authenticate, Activate, Revert
+proof-gives : (p : Ask → Bool) (a : Uid) (x : Option (List (ℕ × Tree))) → ((pin : List ℕ) → p (Authenticate a pin) ≡ true) → Gives p (proof_in a x)
+proof-gives p a None h = gives-none p
+proof-gives p a (Some ps) h = by_bytes (bytes_or_empty (value_of 0 ps))
+  where
+    by_bytes : (x : Option (List ℕ)) → Gives p (proof_of a x)
+    by_bytes None = gives-none p
+    by_bytes (Some pin) = gives-some p (Authenticate a pin) (h pin)
+
+attempt-gives : (p : Ask → Bool) (args : List Tree) → ((a : Uid) (pin : List ℕ) → p (Authenticate a pin) ≡ true) → Gives p (attempt_in args)
+attempt-gives p [] h = gives-none p
+attempt-gives p (tree.bytes b ∷ rest) h = gives-if p (length b == 8) _ None (proof-gives p (uid_of b) (options (0 ∷ []) rest) (h (uid_of b))) (gives-none p)
+attempt-gives p (tree.number n ∷ rest) h = gives-none p
+attempt-gives p (tree.list ts ∷ rest) h = gives-none p
+attempt-gives p (tree.named n v ∷ rest) h = gives-none p
+
+nothing-gives : (p : Ask → Bool) (ask : Ask) (args : List Tree) → p ask ≡ true → Gives p (without_arguments ask args)
+nothing-gives p ask [] h = gives-some p ask h
+nothing-gives p ask (t ∷ ts) h = gives-none p
+
+-- by one test after another
+by-test : (p : Ask → Bool) (b : Bool) (x y : Option Ask) → (b ≡ true → Gives p x) → (b ≡ false → Gives p y) → Gives p (cond b x y)
+by-test p true x y h g = h refl
+by-test p false x y h g = g refl
+
+asked-gives : (sp : Sp) (object method : Uid) (args : List Tree) → Gives (λ ask. is_own ask method) (ask_of sp object method args)
+asked-gives sp object method args =
+    let p : Ask → Bool = λ ask. is_own ask method in
+    by-test p (method.0 == get.0) _ _ (λ is. get-gives p (is_mbr_table sp object) args (λ a b. is) (λ a b. is)) (λ no_get.
+    by-test p (method.0 == set.0) _ _ (λ is. set-gives p (is_mbr_table sp object) args (λ a b. is) (λ a. is)) (λ no_set.
+    by-test p (method.0 == authenticate.0) _ _ (λ is. attempt-gives p args (λ a b. is)) (λ no_authenticate.
+    by-test p (method.0 == activate.0) _ _ (λ is. nothing-gives p Activate args is) (λ no_activate.
+    by-test p (method.0 == revert.0) _ _ (λ is. nothing-gives p Revert args is) (λ no_revert. gives-some p Other refl)))))
+
+pub asked-own : (sp : Sp) (object method : Uid) (args : Trees) (ask : Ask) → asked sp object method args ≡ Some ask → is_own ask method ≡ true
+asked-own sp object method args ask h = (asked-gives sp object method (values_of args)).it ask h
+
+-- the objects that have a row
+abbrev pub is_row_of : Sp → Uid → Grant → Bool
+is_row_of sp method g = sp_eq g.sp sp && (g.method.0 == method.0)
+
+row-step : (q : ℕ → Bool) (sp : Sp) (object method : Uid) (g : Grant) (rest : Option (List Uid)) (row : List Uid) (a b c : Bool) → sp_eq g.sp sp ≡ a → (g.object.0 == object.0) ≡ b → (g.method.0 == method.0) ≡ c
+    → (not (a && c) || q g.object.0) ≡ true → (rest ≡ Some row → q object.0 ≡ true) → cond (a && b && c) (Some g.acl) rest ≡ Some row → q object.0 ≡ true
+row-step q sp object method g rest row true true true is_sp is_object is_method ok later h = ap q (sym (eqb-true g.object.0 object.0 is_object)) ∙ ok
+row-step q sp object method g rest row true true false is_sp is_object is_method ok later h = later h
+row-step q sp object method g rest row true false c is_sp is_object is_method ok later h = later h
+row-step q sp object method g rest row false b c is_sp is_object is_method ok later h = later h
+
+and-true : (a b : Bool) → (a && b) ≡ true → (a ≡ true) × (b ≡ true)
+and-true true b h = (refl, h)
+and-true false b h = cc
+
+pub rows-among : (q : ℕ → Bool) (sp : Sp) (object method : Uid) (gs : List Grant) (row : List Uid) → list_all (λ g. not (is_row_of sp method g) || q g.object.0) gs ≡ true → acl_in gs sp object method ≡ Some row → q object.0 ≡ true
+rows-among q sp object method [] row ok h = cc
+rows-among q sp object method (g ∷ gs) row ok h =
+    let parts = and-true (not (is_row_of sp method g) || q g.object.0) (list_all (λ g. not (is_row_of sp method g) || q g.object.0) gs) ok in
+    row-step q sp object method g (acl_in gs sp object method) row (sp_eq g.sp sp) (g.object.0 == object.0) (g.method.0 == method.0) refl refl refl parts.0 (rows-among q sp object method gs row parts.1) h
+
+same-method : (method wanted : Uid) (sp : Sp) (object : Uid) (row : List Uid) → (method.0 == wanted.0) ≡ true → acl_in access_list sp object method ≡ Some row → acl_in access_list sp object wanted ≡ Some row
+same-method method wanted sp object row is h = ap (λ (n : ℕ). acl_in access_list sp object (record { 0 = n })) (sym (eqb-true method.0 wanted.0 is)) ∙ h
+
+no_activate : list_all (λ g. not (is_row_of Locking activate g) || false) access_list ≡ true
+unfolding this_sp_grants admin_grants authority_grants fixed_ace_gets user_ace_grants read_locked_ace_grants write_locked_ace_grants done_ace_grants pin_grants range_grants mbr_grants authorities_of_locking
+no_activate = refl
+
+no_revert : list_all (λ g. not (is_row_of Locking revert g) || false) access_list ≡ true
+unfolding this_sp_grants admin_grants authority_grants fixed_ace_gets user_ace_grants read_locked_ace_grants write_locked_ace_grants done_ace_grants pin_grants range_grants mbr_grants authorities_of_locking
+no_revert = refl
+
+only_sid_pin : list_all (λ g. not (is_row_of Admin set g) || (g.object.0 == c_pin_sid.0)) access_list ≡ true
+unfolding this_sp_grants admin_grants authority_grants fixed_ace_gets user_ace_grants read_locked_ace_grants write_locked_ace_grants done_ace_grants pin_grants range_grants mbr_grants authorities_of_locking
+only_sid_pin = refl
+
+-- Activate and Revert are of the Admin SP; a Set there is of SID's PIN row
+pub activate-admin : (sp : Sp) (object method : Uid) (row : List Uid) → (method.0 == activate.0) ≡ true → acl_in access_list sp object method ≡ Some row → sp ≡ Admin
+activate-admin Admin object method row is h = refl
+activate-admin Locking object method row is h = let g : false ≡ true = rows-among (λ n. false) Locking object activate access_list row no_activate (same-method method activate Locking object row is h) in cc
+
+pub revert-admin : (sp : Sp) (object method : Uid) (row : List Uid) → (method.0 == revert.0) ≡ true → acl_in access_list sp object method ≡ Some row → sp ≡ Admin
+revert-admin Admin object method row is h = refl
+revert-admin Locking object method row is h = let g : false ≡ true = rows-among (λ n. false) Locking object revert access_list row no_revert (same-method method revert Locking object row is h) in cc
+
+pub set-c_pin_sid : (object method : Uid) (row : List Uid) → (method.0 == set.0) ≡ true → acl_in access_list Admin object method ≡ Some row → (object.0 == c_pin_sid.0) ≡ true
+set-c_pin_sid object method row is h = rows-among (λ n. n == c_pin_sid.0) Admin object set access_list row only_sid_pin (same-method method set Admin object row is h)

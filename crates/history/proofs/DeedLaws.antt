@@ -1,0 +1,434 @@
+-- Which deed an item can do, and what follows for open transactions.
+use Rattle.std.proofs.Common.{◌≡◌, ℕ, ◌==◌, ◌+◌, Bool, true, false, not, ◌||◌, map, List, [], ◌∷◌, ◌++◌, Option, Some, None, refl, sym, ◌∙◌, ap, cond, inl, inr, eqb-true, eq-eqb}
+use Rattle.std.specs.Prelude.{◌-◌, nat_le, nat_lt, zero, suc, unwrap_or, Result, Ok, Err}
+use Rattle.std.specs.List.{list_any}
+use Rattle.sp_cells.specs.declared.names.Uid.{Uid}
+use Rattle.sp_cells.specs.declared.names.Sp.{Sp}
+use Rattle.sp_cells.specs.declared.names.Sp.TheVariants.{Admin, Locking}
+use Rattle.sp_cells.specs.declared.names.Column.{Column}
+use Rattle.sp_cells.specs.declared.cells.Cell.{Cell}
+use Rattle.sp_cells.specs.declared.error.SetError.{SetError}
+use Rattle.sp_cells.specs.Names.{set, activate, revert, c_pin_sid}
+use Rattle.ace_eval.specs.Aces.{acl_at}
+use Rattle.audit.specs.declared.reason.AttemptFailure.{AttemptFailure}
+use Rattle.audit.specs.declared.reason.Why.{Why}
+use Rattle.tcg_tokens.specs.declared.error.TokenError.{TokenError}
+use Rattle.tcg_tokens.specs.Message.{Message, call, reply, end_session, begin, end}
+use Rattle.tcg_tokens.specs.Tree.{Tree, Trees}
+use Rattle.history.specs.Opening.{Origin}
+use Rattle.history.specs.Changes.{Change, Sets}
+use Rattle.sp_cells.specs.ColumnNames.{pin_column}
+use Rattle.sessions.specs.Attempts.{failure as failure_of}
+use Rattle.call_shapes.specs.Asks.{uid_of}
+use Rattle.history.specs.Sessions.{properties, start_session, Begun}
+use Rattle.call_shapes.specs.Statuses.{fail}
+use Rattle.sessions.specs.Properties.{properties_message}
+use Rattle.tcg_tokens.specs.Length.{len_of}
+use Rattle.call_shapes.specs.Statuses.{success}
+use Rattle.methods.specs.declared.kinds.Kind.{Kind}
+use Rattle.methods.specs.declared.kinds.Kind.TheVariants as kinds
+use Rattle.methods.specs.Kinds.{kind_of}
+use Rattle.methods.specs.Columns.{set_types_of}
+use Rattle.methods.specs.Settings.{cells_for, is_within, Setting, bytes_set, setting_of_cells, cells_of_ask, bytes_of_ask, setting}
+use Rattle.methods.specs.Said.{reply_of, most_response}
+use Rattle.methods.specs.Effects.{has_ask, last_row, unless_fault, sp_of_row}
+use Rattle.sp_cells.specs.declared.values.ColumnType.{ColumnType}
+use Rattle.history.specs.Calls.{asked, Standing, Judgement, Refuses, Gives, Makes, Attempts, Activates, Reverts, denial, gives, listing, table_size, bytes_between, rows_given, fault_by, valid, to_set, makes, unless_open, does_ask, does, unless_denied, judged}
+use Rattle.sessions.specs.declared.opening.Opening.{Opening}
+use Rattle.sessions.specs.declared.opening.StartVerdict.{StartVerdict}
+use Rattle.sessions.specs.declared.opening.StartVerdict.TheVariants.{Refused, Attempted}
+use Rattle.sessions.specs.Live.{Live, lives_on}
+use Rattle.sessions.specs.Starts.{opening_of, is_in_use, sp_named, is_full, verdict_on}
+use Rattle.call_shapes.specs.Named.{values_of}
+use Rattle.sp_cells.specs.Flat.{LookUp, sp_eq}
+use Rattle.call_shapes.specs.declared.ask.Ask.{Ask}
+use Rattle.call_shapes.specs.declared.ask.Ask.TheVariants.{GetCells, GetBytes, SetCells, SetBytes, Authenticate, Activate, Revert, Other}
+use Rattle.history.specs.Events.{SessionDeed, Unchanged, Started, Tried, Changed, Began, Committed, Aborted, Ended, Activated, Reverted, Deed, Nothing, InSession, OfQueue, Wrote, Took, WasReset, Event}
+use Rattle.history.specs.Readers.{living, lives_by, restores, session_on, open_on, is_of, in_force}
+use Rattle.history.specs.Facts.{facts, numbered, live, has_open, standing}
+use Rattle.history.specs.Decisions.{refusal, Outcome, says, tried_in, start_verdict, deed_of_start, start_deed, started, is_method_of_manager, to_manager, outcome_of, judgement_on, begins_on, ended_by, ends_on, in_session}
+use Rattle.history.specs.Deeds.{IsIn, is_of_row, CanDo, DeedLaw}
+use Rattle.history.proofs.Words.{latest-here, latest-skip, sp-is, sp-same}
+use Rattle.history.proofs.Items.{item-from}
+use Rattle.history.proofs.MethodProofs.{denial-none, granted-row}
+use Rattle.history.proofs.Asked.{is_own, asked-own, activate-admin, revert-admin, set-c_pin_sid}
+
+-- the kinds of judgements, a refusal being 0, and of asks
+abbrev kind : Judgement → ℕ
+kind (Refuses status denied) = 0
+kind (Gives results) = 1
+kind (Makes setting) = 2
+kind (Attempts authority pin) = 3
+kind Activates = 4
+kind (Reverts sp) = 5
+
+abbrev ask_kind : Ask → ℕ
+ask_kind (GetCells first last) = 1
+ask_kind (GetBytes first last) = 1
+ask_kind (SetCells values) = 2
+ask_kind (SetBytes at content) = 2
+ask_kind (Authenticate authority pin) = 3
+ask_kind Activate = 4
+ask_kind Revert = 5
+ask_kind Other = 0
+
+zero-one : {k : ℕ} → 0 ≡ suc k → ⊥
+zero-one h = cc
+
+kind-if : (b : Bool) (x y : Judgement) (k n : ℕ) → kind x ≡ 0 → (kind y ≡ suc k → n ≡ suc k) → kind (cond b x y) ≡ suc k → n ≡ suc k
+kind-if false x y k n z h g = h g
+kind-if true x y k n z h g = absurd (zero-one (sym z ∙ g))
+
+gives-kind : (results : List Tree) (k : ℕ) → kind (gives results) ≡ suc k → 1 ≡ suc k
+gives-kind results k h = kind-if (nat_lt most_response (len_of (reply_of results success))) (Refuses 0x11 None) (Gives results) k 1 refl (λ g. g) h
+
+rows-kind : (s : Standing) (first last : ℕ) (k : ℕ) → kind (rows_given s first last) ≡ suc k → 1 ≡ suc k
+rows-kind s first last k h =
+    kind-if ((table_size s == 0) || (nat_le (table_size s) last || nat_lt last first)) (Refuses 0x0c None) _ k 1 refl
+    (kind-if (nat_lt most_response (last + 1 - first)) (Refuses 0x11 None) (gives (bytes_between s first last)) k 1 refl (gives-kind (bytes_between s first last) k)) h
+
+makes-kind : (x : Option Setting) (k : ℕ) → kind (makes x) ≡ suc k → 2 ≡ suc k
+makes-kind None k h = absurd (zero-one h)
+makes-kind (Some set) k h = h
+
+open-kind : (b : Bool) (j : Judgement) (k : ℕ) → kind (unless_open b j) ≡ suc k → (kind j ≡ suc k) × (b ≡ false)
+open-kind true j k h = absurd (zero-one h)
+open-kind false j k h = (h, refl)
+
+does-kind : (s : Standing) (object : Uid) (ask : Ask) (k : ℕ) → kind (does_ask s object ask) ≡ suc k → ask_kind ask ≡ suc k
+does-kind s object (GetCells first last) k h = gives-kind (listing s object first last) k h
+does-kind s object (GetBytes first last) k h = rows-kind s first (last_row (table_size s) last) k h
+does-kind s object (SetCells values) k h = makes-kind (to_set s object (SetCells values)) k h
+does-kind s object (SetBytes place content) k h = makes-kind (to_set s object (SetBytes place content)) k h
+does-kind s object (Authenticate a pin) k h = h
+does-kind s object Activate k h = (open-kind s.is_open Activates k h).0
+does-kind s object Revert k h = (open-kind s.is_open (Reverts (sp_of_row object)) k h).0
+does-kind s object Other k h = absurd (zero-one h)
+
+-- a judgement that is no refusal: its ask is of the method, the method is offered, and it is what the ask comes to
+record Granted (s : Standing) (object method : Uid) (k : ℕ) (j : Judgement) : Type 0 where
+  ask : Ask
+  own : is_own ask method ≡ true
+  row : List Uid
+  has : acl_at s.sp object method ≡ Some row
+  does : does_ask s object ask ≡ j
+  kind : ask_kind ask ≡ suc k
+
+with-case : (s : Standing) (object method : Uid) (k : ℕ) (j : Judgement) (ask : Ask) → is_own ask method ≡ true → (row : List Uid) → acl_at s.sp object method ≡ Some row → (b : Bool) → does_ask s object (cond b ask Other) ≡ j → kind j ≡ suc k → Granted s object method k j
+with-case s object method k j ask own row has true h g =
+    record { ask = ask; own = own; row = row; has = has; does = h; kind = does-kind s object ask k (ap kind h ∙ g) }
+with-case s object method k j ask own row has false h g = absurd (zero-one (ap kind h ∙ g))
+
+granted-by : (s : Standing) (object method : Uid) (k : ℕ) (j : Judgement) (ask : Ask) → is_own ask method ≡ true → (why : Option Why) → denial s object method ask ≡ why → unless_denied why (does s object ask) ≡ j → kind j ≡ suc k → Granted s object method k j
+granted-by s object method k j ask own (Some why) is h g = absurd (zero-one (ap kind h ∙ g))
+granted-by s object method k j ask own None is h g =
+    let r = granted-row s object method ask (denial-none s object method ask is) in
+    with-case s object method k j ask own r.0 r.1 (has_ask (kind_of s.sp object) ask) h g
+
+granted : (s : Standing) (object method : Uid) (args : Trees) (k : ℕ) (j : Judgement) (ask : Option Ask) → asked s.sp object method args ≡ ask → judged s object method ask ≡ j → kind j ≡ suc k → Granted s object method k j
+granted s object method args k j None is h g = absurd (zero-one (ap kind h ∙ g))
+granted s object method args k j (Some ask) is h g =
+    granted-by s object method k j ask (asked-own s.sp object method args ask is) (denial s object method ask) refl h g
+
+-- Activate and Revert: a session of the Admin SP that has no transaction open
+activate-is : (ask : Ask) (method : Uid) → is_own ask method ≡ true → ask_kind ask ≡ 4 → (ask ≡ Activate) × ((method.0 == activate.0) ≡ true)
+activate-is Activate method own h = (refl, own)
+activate-is (GetCells a b) method own h = cc
+activate-is (GetBytes a b) method own h = cc
+activate-is (SetCells a) method own h = cc
+activate-is (SetBytes a b) method own h = cc
+activate-is (Authenticate a b) method own h = cc
+activate-is Revert method own h = cc
+activate-is Other method own h = cc
+
+revert-is : (ask : Ask) (method : Uid) → is_own ask method ≡ true → ask_kind ask ≡ 5 → (ask ≡ Revert) × ((method.0 == revert.0) ≡ true)
+revert-is Revert method own h = (refl, own)
+revert-is (GetCells a b) method own h = cc
+revert-is (GetBytes a b) method own h = cc
+revert-is (SetCells a) method own h = cc
+revert-is (SetBytes a b) method own h = cc
+revert-is (Authenticate a b) method own h = cc
+revert-is Activate method own h = cc
+revert-is Other method own h = cc
+
+activates-outside : (s : Standing) (object method : Uid) → Granted s object method 3 Activates → (s.sp ≡ Admin) × (s.is_open ≡ false)
+activates-outside s object method g =
+    let x = activate-is g.ask method g.own g.kind in (
+      activate-admin s.sp object method g.row x.1 g.has,
+      (open-kind s.is_open Activates 3 (ap (λ a. kind (does_ask s object a)) (sym x.0) ∙ ap kind g.does)).1,
+    )
+
+reverts-outside : (s : Standing) (object method : Uid) (sp : Sp) → Granted s object method 4 (Reverts sp) → (s.sp ≡ Admin) × (s.is_open ≡ false)
+reverts-outside s object method sp g =
+    let x = revert-is g.ask method g.own g.kind in (
+      revert-admin s.sp object method g.row x.1 g.has,
+      (open-kind s.is_open (Reverts (sp_of_row object)) 4 (ap (λ a. kind (does_ask s object a)) (sym x.0) ∙ ap kind g.does)).1,
+    )
+
+-- a Set is of the object that was called
+made-same : {c d : Setting} → Makes c ≡ Makes d → d ≡ c
+made-same h = cc
+
+none-some : {A : Type 0} {x : A} → None ≡ Some x → ⊥
+none-some h = cc
+
+some-same : {A : Type 0} {x y : A} → Some x ≡ Some y → y ≡ x
+some-same h = cc
+
+cells-row : (object : Uid) (x : Option (List (Column × Cell))) (set : Setting) → setting_of_cells object x ≡ Some set → is_of_row object (Sets set) ≡ true
+cells-row object None set h = absurd (none-some h)
+cells-row object (Some cells) set h = ap (λ y. is_of_row object (Sets y)) (some-same h) ∙ eq-eqb object.0 object.0 refl
+
+asked-row : (object : Uid) (types : List (Column × ColumnType)) (ask : Ask) (set : Setting) → cells_of_ask object types ask ≡ Some set → is_of_row object (Sets set) ≡ true
+asked-row object types (SetCells ps) set h = cells-row object (cells_for types ps) set h
+asked-row object types (SetBytes a b) set h = absurd (none-some h)
+asked-row object types (GetCells a b) set h = absurd (none-some h)
+asked-row object types (GetBytes a b) set h = absurd (none-some h)
+asked-row object types (Authenticate a b) set h = absurd (none-some h)
+asked-row object types Activate set h = absurd (none-some h)
+asked-row object types Revert set h = absurd (none-some h)
+asked-row object types Other set h = absurd (none-some h)
+
+bytes-if : (b : Bool) (object : Uid) (place : ℕ) (content : List ℕ) (set : Setting) → cond b (Some (bytes_set place content)) None ≡ Some set → is_of_row object (Sets set) ≡ true
+bytes-if true object place content set h = ap (λ y. is_of_row object (Sets y)) (some-same h)
+bytes-if false object place content set h = absurd (none-some h)
+
+bytes-row : (sp : Sp) (sectors : ℕ) (object : Uid) (ask : Ask) (set : Setting) → bytes_of_ask sp sectors ask ≡ Some set → is_of_row object (Sets set) ≡ true
+bytes-row Admin sectors object ask set h = absurd (none-some h)
+bytes-row Locking sectors object (SetBytes a b) set h = bytes-if (is_within sectors a b) object a b set h
+bytes-row Locking sectors object (SetCells ps) set h = absurd (none-some h)
+bytes-row Locking sectors object (GetCells a b) set h = absurd (none-some h)
+bytes-row Locking sectors object (GetBytes a b) set h = absurd (none-some h)
+bytes-row Locking sectors object (Authenticate a b) set h = absurd (none-some h)
+bytes-row Locking sectors object Activate set h = absurd (none-some h)
+bytes-row Locking sectors object Revert set h = absurd (none-some h)
+bytes-row Locking sectors object Other set h = absurd (none-some h)
+
+setting-row : (sp : Sp) (sectors : ℕ) (object : Uid) (k : Option Kind) (ask : Ask) (set : Setting) → setting sp sectors object k ask ≡ Some set → is_of_row object (Sets set) ≡ true
+setting-row sp sectors object None ask set h = asked-row object [] ask set h
+setting-row sp sectors object (Some kinds.MbrTable) ask set h = bytes-row sp sectors object ask set h
+setting-row sp sectors object (Some kinds.ThisSp) ask set h = asked-row object [] ask set h
+setting-row sp sectors object (Some kinds.Sp) ask set h = asked-row object [] ask set h
+setting-row sp sectors object (Some kinds.Authority) ask set h = asked-row object (set_types_of (Some kinds.Authority)) ask set h
+setting-row sp sectors object (Some kinds.CPin) ask set h = asked-row object (set_types_of (Some kinds.CPin)) ask set h
+setting-row sp sectors object (Some kinds.Ace) ask set h = asked-row object (set_types_of (Some kinds.Ace)) ask set h
+setting-row sp sectors object (Some kinds.Locking) ask set h = asked-row object (set_types_of (Some kinds.Locking)) ask set h
+setting-row sp sectors object (Some kinds.MbrControl) ask set h = asked-row object (set_types_of (Some kinds.MbrControl)) ask set h
+
+unfaulted : (fault : Option SetError) (set made : Setting) → unless_fault fault set ≡ Some made → made ≡ set
+unfaulted None set made h = some-same h
+unfaulted (Some fault) set made h = absurd (none-some h)
+
+valid-row : (s : Standing) (object : Uid) (x : Option Setting) (made : Setting) → ((set : Setting) → x ≡ Some set → is_of_row object (Sets set) ≡ true) → valid s x ≡ Some made → is_of_row object (Sets made) ≡ true
+valid-row s object None made h g = absurd (none-some g)
+valid-row s object (Some set) made h g = ap (λ y. is_of_row object (Sets y)) (unfaulted (fault_by s.sectors s.rows s.sp set) set made g) ∙ h set refl
+
+makes-is : (x : Option Setting) (made : Setting) → makes x ≡ Makes made → x ≡ Some made
+makes-is None made h = absurd (zero-one (ap kind h))
+makes-is (Some set) made h = ap (λ y. Some y) (sym (made-same h))
+
+makes-row : (s : Standing) (object : Uid) (ask : Ask) (made : Setting) → ask_kind ask ≡ 2 → does_ask s object ask ≡ Makes made → is_of_row object (Sets made) ≡ true
+makes-row s object (SetCells values) made k h =
+    valid-row s object (setting s.sp s.mbr_sectors object (kind_of s.sp object) (SetCells values)) made (λ set is. setting-row s.sp s.mbr_sectors object (kind_of s.sp object) (SetCells values) set is) (makes-is (to_set s object (SetCells values)) made h)
+makes-row s object (SetBytes place content) made k h =
+    valid-row s object (setting s.sp s.mbr_sectors object (kind_of s.sp object) (SetBytes place content)) made (λ set is. setting-row s.sp s.mbr_sectors object (kind_of s.sp object) (SetBytes place content) set is) (makes-is (to_set s object (SetBytes place content)) made h)
+makes-row s object (GetCells a b) c k h = cc
+makes-row s object (GetBytes a b) c k h = cc
+makes-row s object (Authenticate a b) c k h = cc
+makes-row s object Activate c k h = cc
+makes-row s object Revert c k h = cc
+makes-row s object Other c k h = cc
+
+set-is : (ask : Ask) (method : Uid) → is_own ask method ≡ true → ask_kind ask ≡ 2 → (method.0 == set.0) ≡ true
+set-is (SetCells a) method own h = own
+set-is (SetBytes a b) method own h = own
+set-is Activate method own h = cc
+set-is (GetCells a b) method own h = cc
+set-is (GetBytes a b) method own h = cc
+set-is (Authenticate a b) method own h = cc
+set-is Revert method own h = cc
+set-is Other method own h = cc
+
+of-same : (a b : Uid) (c : Change) → (a.0 == b.0) ≡ true → is_of_row a c ≡ true → is_of_row b c ≡ true
+of-same a b c same h = ap (λ (n : ℕ). is_of_row (record { 0 = n }) c) (sym (eqb-true a.0 b.0 same)) ∙ h
+
+makes-sid : (s : Standing) (object method : Uid) (c : Setting) → Granted s object method 1 (Makes c) → s.sp ≡ Admin → is_of_row c_pin_sid (Sets c) ≡ true
+makes-sid s object method c g admin =
+    of-same object c_pin_sid (Sets c)
+    (set-c_pin_sid object method g.row (set-is g.ask method g.own g.kind) (ap (λ x. acl_at x object method) (sym admin) ∙ g.has))
+    (makes-row s object g.ask c g.kind g.does)
+
+-- the live session of an SP is on it
+abbrev gone : Option (Option Begun)
+gone = Some None
+
+lives-on : (sp : Sp) (d : SessionDeed) (s : Begun) → lives_by sp d ≡ Some (Some s) → s.sp ≡ sp
+lives-on sp (Started session row) s h = by_sp (sp_eq session.sp sp) refl h
+  where
+    by_sp : (b : Bool) → sp_eq session.sp sp ≡ b → cond b (Some (Some session)) None ≡ Some (Some s) → s.sp ≡ sp
+    by_sp true same k = let y : s ≡ session = cc in ap (λ (z : Begun). z.sp) y ∙ sp-is session.sp sp same
+    by_sp false same k = cc
+lives-on sp (Ended t) s h = by_sp (sp_eq t sp) h
+  where
+    by_sp : (b : Bool) → cond b gone None ≡ Some (Some s) → s.sp ≡ sp
+    by_sp true k = cc
+    by_sp false k = cc
+lives-on sp (Reverted t w) s h = by_sp (restores t sp) h
+  where
+    by_sp : (b : Bool) → cond b gone None ≡ Some (Some s) → s.sp ≡ sp
+    by_sp true k = cc
+    by_sp false k = cc
+lives-on sp Unchanged s h = cc
+lives-on sp (Tried a) s h = cc
+lives-on sp (Changed t c) s h = cc
+lives-on sp (Began t n) s h = cc
+lives-on sp (Committed t) s h = cc
+lives-on sp (Aborted t) s h = cc
+lives-on sp (Activated pin) s h = cc
+
+living-on : (sp : Sp) (d : Deed) (s : Begun) → living sp d ≡ Some (Some s) → s.sp ≡ sp
+living-on sp (InSession d r) s h = lives-on sp d s h
+living-on sp (WasReset kind) s h = cc
+living-on sp Nothing s h = cc
+living-on sp (OfQueue d) s h = cc
+living-on sp (Wrote lba bytes) s h = cc
+living-on sp (Took c) s h = cc
+
+session-step : (sp : Sp) (s : Begun) (e : Event) (es : List Event) (t : Option (Option Begun)) → living sp e.deed ≡ t → session_on (e ∷ es) sp ≡ Some s → (session_on es sp ≡ Some s → s.sp ≡ sp) → s.sp ≡ sp
+session-step sp s e es (Some x) is h before = living-on sp e.deed s (is ∙ ap (λ y. Some y) (sym (ap (λ o. unwrap_or o None) (latest-here (living sp) e es x is)) ∙ h))
+session-step sp s e es None is h before = before (sym (ap (λ o. unwrap_or o None) (latest-skip (living sp) e es is)) ∙ h)
+
+pub session-on : (past : List Event) (sp : Sp) (s : Begun) → session_on past sp ≡ Some s → s.sp ≡ sp
+session-on [] sp s h = cc
+session-on (e ∷ es) sp s h = session-step sp s e es (living sp e.deed) refl h (session-on es sp s)
+
+-- what an item of a live session can do
+in-admin : (past : List Event) (s : Begun) → session_on past s.sp ≡ Some s → s.sp ≡ Admin → IsIn past Admin s
+in-admin past s h admin = record { lives = ap (session_on past) (sym admin) ∙ h; on = admin }
+
+judged-can : (o : Origin) (past : List Event) (s : Begun) → session_on past s.sp ≡ Some s → (object method : Uid) (args : Trees) (j : Judgement) → judgement_on (facts o past) s object method args ≡ j → CanDo o past (outcome_of (facts o past) s.sp j).deed
+judged-can o past s h object method args (Refuses status denied) is = tt
+judged-can o past s h object method args (Gives results) is = tt
+judged-can o past s h object method args (Makes c) is = record {
+  session = s;
+  lives = record { lives = h; on = refl };
+  row = λ admin. makes-sid (standing (facts o past) s) object method c (granted (standing (facts o past) s) object method args 1 (Makes c) (asked s.sp object method args) refl is refl) admin;
+}
+judged-can o past s h object method args (Attempts authority pin) is = by_failure (failure_of (in_force o past) s.sp authority pin)
+  where
+    by_failure : (x : Option AttemptFailure) → CanDo o past (tried_in (facts o past) s.sp authority x).deed
+    by_failure None = tt
+    by_failure (Some x) = tt
+judged-can o past s h object method args Activates is = by_state (is_in_use (in_force o past) Locking) refl
+  where
+    outside : (s.sp ≡ Admin) × (has_open (facts o past) s ≡ false)
+    outside = activates-outside (standing (facts o past) s) object method (granted (standing (facts o past) s) object method args 3 Activates (asked s.sp object method args) refl is refl)
+
+    by_state : (b : Bool) → is_in_use (in_force o past) Locking ≡ b → CanDo o past (cond b Unchanged (Activated (in_force o past Admin c_pin_sid pin_column)))
+    by_state true g = tt
+    by_state false g = (record { session = s; lives = in-admin past s h outside.0; outside = ap (λ x. is_of s.number (open_on past x)) (sym outside.0) ∙ outside.1 }, g)
+judged-can o past s h object method args (Reverts sp) is = record { session = s; lives = in-admin past s h outside.0; outside = ap (λ x. is_of s.number (open_on past x)) (sym outside.0) ∙ outside.1 }
+  where
+    outside : (s.sp ≡ Admin) × (has_open (facts o past) s ≡ false)
+    outside = reverts-outside (standing (facts o past) s) object method sp (granted (standing (facts o past) s) object method args 4 (Reverts sp) (asked s.sp object method args) refl is refl)
+
+ended-can : (o : Origin) (past : List Event) (s : Begun) → session_on past s.sp ≡ Some s → is_of s.number (open_on past s.sp) ≡ true → (n : ℕ) → CanDo o past (ended_by s.sp n).deed
+ended-can o past s h own zero = record { session = s; lives = record { lives = h; on = refl }; own = own }
+ended-can o past s h own (suc n) = record { session = s; lives = record { lives = h; on = refl }; own = own }
+
+session-can : (o : Origin) (past : List Event) (s : Begun) → session_on past s.sp ≡ Some s → (read : Result Message TokenError) → CanDo o past (in_session (facts o past) s read).deed
+session-can o past s h (Err e) = tt
+session-can o past s h (Ok (reply results status)) = tt
+session-can o past s h (Ok end_session) = (s, record { lives = h; on = refl })
+session-can o past s h (Ok (call object method args status)) = judged-can o past s h (uid_of object) (uid_of method) args (judgement_on (facts o past) s (uid_of object) (uid_of method) args) refl
+session-can o past s h (Ok (begin n)) = by_open (open_on past s.sp) refl
+  where
+    by_open : (x : Option ℕ) → open_on past s.sp ≡ x → CanDo o past (begins_on s.sp s.number x).deed
+    by_open None is = record { session = s; lives = record { lives = h; on = refl }; own = refl; free = is }
+    by_open (Some m) is = tt
+session-can o past s h (Ok (end n)) = by_open (has_open (facts o past) s) refl
+  where
+    by_open : (b : Bool) → has_open (facts o past) s ≡ b → CanDo o past (ends_on s.sp n b).deed
+    by_open true is = ended-can o past s h is n
+    by_open false is = tt
+
+-- what an item of the session manager can do
+abbrev alive : Sp → Option Begun → Bool
+alive sp None = false
+alive sp (Some s) = sp_eq s.sp sp
+
+or-false : (b : Bool) → (b || false) ≡ b
+or-false true = refl
+or-false false = refl
+
+alive-live : (sp : Sp) (a b : Option Begun) → list_any (λ s. sp_eq s.sp sp) (map (λ e. e.1) (numbered a ++ numbered b)) ≡ (alive sp a || alive sp b)
+alive-live sp None None = refl
+alive-live sp None (Some t) = or-false (sp_eq t.sp sp)
+alive-live sp (Some s) None = refl
+alive-live sp (Some s) (Some t) = ap (λ b. sp_eq s.sp sp || b) (or-false (sp_eq t.sp sp))
+
+neither : (a b : Bool) → (a || b) ≡ false → (a ≡ false) × (b ≡ false)
+neither true b h = cc
+neither false b h = (refl, h)
+
+true-false : true ≡ false → ⊥
+true-false h = cc
+
+none-alive : (past : List Event) (sp : Sp) (x : Option Begun) → session_on past sp ≡ x → alive sp x ≡ false → session_on past sp ≡ None
+none-alive past sp None is h = is
+none-alive past sp (Some s) is h =
+    absurd (true-false (sym (ap (λ t. sp_eq t sp) (session-on past sp s is) ∙ sp-same sp) ∙ h))
+
+no-session : (o : Origin) (past : List Event) (sp : Sp) → lives_on sp (live (facts o past)) ≡ false → session_on past sp ≡ None
+no-session o past Admin h =
+    let apart = neither (alive Admin (session_on past Admin)) (alive Admin (session_on past Locking)) (sym (alive-live Admin (session_on past Admin) (session_on past Locking)) ∙ h) in
+    none-alive past Admin (session_on past Admin) refl apart.0
+no-session o past Locking h =
+    let apart = neither (alive Locking (session_on past Admin)) (alive Locking (session_on past Locking)) (sym (alive-live Locking (session_on past Admin) (session_on past Locking)) ∙ h) in
+    none-alive past Locking (session_on past Locking) refl apart.1
+
+begins-new : (look : LookUp) (l : Live) (sp sp' : Sp) (x : Option AttemptFailure) (m b n : Bool) → is_in_use look sp' ≡ m → lives_on sp' l ≡ b
+    → cond (not m) (Refused 0x0c) (cond b (Refused 3) (cond n (Refused 7) (Attempted sp' x))) ≡ Attempted sp None → (lives_on sp l ≡ false) × (is_in_use look sp ≡ true)
+begins-new look l sp sp' x false b n is lives h = cc
+begins-new look l sp sp' x true true n is lives h = cc
+begins-new look l sp sp' x true false true is lives h = cc
+begins-new look l sp sp' x true false false is lives h =
+    let same : sp' ≡ sp = cc in (ap (λ s. lives_on s l) (sym same) ∙ lives, ap (is_in_use look) (sym same) ∙ is)
+
+start-new : (look : LookUp) (l : Live) (opening : Opening) (sp : Sp) (x : Option Sp) → verdict_on look l opening x ≡ Attempted sp None → (lives_on sp l ≡ false) × (is_in_use look sp ≡ true)
+start-new look l opening sp None h = cc
+start-new look l opening sp (Some sp') h = begins-new look l sp sp' (failure_of look sp' opening.authority opening.proof) (is_in_use look sp') (lives_on sp' l) (is_full l) refl refl h
+
+started-can : (o : Origin) (past : List Event) (com_id : ℕ) (x : Option Opening) → CanDo o past (start_deed (facts o past) com_id x)
+started-can o past com_id None = tt
+started-can o past com_id (Some opening) = by_verdict (start_verdict (facts o past) (Some opening)) refl
+  where
+    by_verdict : (v : StartVerdict) → start_verdict (facts o past) (Some opening) ≡ v → CanDo o past (deed_of_start (facts o past) com_id opening v)
+    by_verdict (Refused status) is = tt
+    by_verdict (Attempted sp (Some failure)) is = tt
+    by_verdict (Attempted sp None) is =
+        let x = start-new (in_force o past) (live (facts o past)) opening sp (sp_named opening.spid) is in
+        record { free = no-session o past sp x.0; made = x.1; number = refl }
+
+either-can : (o : Origin) (past : List Event) (b : Bool) (x y : Outcome) → CanDo o past x.deed → CanDo o past y.deed → CanDo o past (cond b x y).deed
+either-can o past true x y h g = h
+either-can o past false x y h g = g
+
+manager-can : (o : Origin) (past : List Event) (com_id : ℕ) (read : Result Message TokenError) → CanDo o past (to_manager (facts o past) com_id read).deed
+manager-can o past com_id (Ok (call object method args status)) =
+    either-can o past (is_method_of_manager properties (uid_of object) (uid_of method)) (says Unchanged (properties_message (values_of args))) _ tt
+    (either-can o past (is_method_of_manager start_session (uid_of object) (uid_of method)) (started (facts o past) com_id (values_of args)) (says Unchanged (refusal fail)) (started-can o past com_id (opening_of (values_of args))) tt)
+manager-can o past com_id (Ok (reply results status)) = tt
+manager-can o past com_id (Ok (begin n)) = tt
+manager-can o past com_id (Ok (end n)) = tt
+manager-can o past com_id (Ok end_session) = tt
+manager-can o past com_id (Err e) = tt
+
+pub deed_law : DeedLaw
+deed_law o past act deed response is = elim (item-from (facts o past) act deed response is) [
+  | inl m ↦ can-by m.does (manager-can o past m.com_id m.read)
+  | inr s ↦ can-by s.does (session-can o past s.session (ap (session_on past) (session-on past s.sp s.session s.lives) ∙ s.lives) s.read)
+]
+  where
+    can-by : {x y : SessionDeed} → x ≡ y → CanDo o past y → CanDo o past x
+    can-by {x} {y} same h = rw same h

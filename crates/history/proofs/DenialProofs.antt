@@ -1,0 +1,382 @@
+-- What denies an act.
+use Rattle.std.proofs.Common.{◌≡◌, ℕ, ◌+◌, ◌==◌, ◌*◌, Bool, true, false, ◌&&◌, ◌||◌, not, List, Option, Some, None, refl, sym, ◌∙◌, ap, cond, inl, inr, eqb-true}
+use Rattle.std.specs.Prelude.{◌-◌, is_some, nat_le, nat_lt, slice_index, length, zero, suc, Result, Ok, Err}
+use Rattle.fis.specs.Types.{h2d_type}
+use Rattle.fis.specs.H2d.{h2d_at}
+use Rattle.fis.specs.declared.h2d.RegH2d.{RegH2d}
+use Rattle.sp_cells.specs.declared.names.Uid.{Uid}
+use Rattle.sp_cells.specs.declared.names.Sp.{Sp}
+use Rattle.locking.specs.declared.range.Op.{Op}
+use Rattle.locking.specs.declared.range.Op.TheVariants.{Read, Write}
+use Rattle.trusted_cmds.specs.Commands.{is_queued, tag_of, sector_size}
+use Rattle.audit.specs.declared.reason.AttemptFailure.{AttemptFailure}
+use Rattle.audit.specs.declared.reason.Why.{Why}
+use Rattle.compacket.specs.declared.error.FrameError.{FrameError}
+use Rattle.compacket.specs.Frames.{Frame, reading as frame_in}
+use Rattle.tcg_tokens.specs.declared.error.TokenError.{TokenError}
+use Rattle.tcg_tokens.specs.Message.{Message, call, reply, end_session, begin, end}
+use Rattle.tcg_tokens.specs.Reading.{reading as message_in}
+use Rattle.tcg_tokens.specs.Tree.{Tree, Trees}
+use Rattle.history.specs.Commands.{Command, ReadQueued, WriteQueued, ReadDma, WriteDma, Send, Receive, Identify, ReadLog, Flush, CommandError, reading}
+use Rattle.locking.specs.declared.ranges.Verdict.{Verdict}
+use Rattle.locking.specs.declared.ranges.Verdict.TheVariants.{Serve, Shadow, Denied}
+use Rattle.sessions.specs.Attempts.{failure as failure_of}
+use Rattle.call_shapes.specs.Asks.{uid_of}
+use Rattle.history.specs.Sessions.{properties, start_session, Begun}
+use Rattle.call_shapes.specs.Statuses.{success, fail}
+use Rattle.sessions.specs.Properties.{properties_message}
+use Rattle.sessions.specs.declared.opening.Opening.{Opening}
+use Rattle.sessions.specs.declared.opening.StartVerdict.{StartVerdict}
+use Rattle.sessions.specs.declared.opening.StartVerdict.TheVariants.{Refused, Attempted}
+use Rattle.sessions.specs.Starts.{opening_of, host_of, denied_with}
+use Rattle.call_shapes.specs.Named.{values_of}
+use Rattle.tcg_tokens.specs.Length.{len_of}
+use Rattle.methods.specs.Kinds.{kind_of}
+use Rattle.methods.specs.Settings.{Setting}
+use Rattle.methods.specs.Said.{reply_of, most_response, said_attempt}
+use Rattle.methods.specs.Effects.{cased, last_row, sp_of_row}
+use Rattle.audit.specs.declared.reason.AttemptFailure.TheVariants.{WrongPin, LockedOut, Disabled, Unknown}
+use Rattle.audit.specs.declared.reason.Why.TheVariants.{AttemptFailed}
+use Rattle.history.specs.Calls.{asked, Standing, Judgement, Refuses, Gives, Makes, Attempts, Activates, Reverts, denial, gives, listing, table_size, bytes_between, rows_given, to_set, makes, unless_open, does_ask, does, unless_denied, judged}
+use Rattle.call_shapes.specs.declared.ask.Ask.{Ask}
+use Rattle.call_shapes.specs.declared.ask.Ask.TheVariants.{GetCells, GetBytes, SetCells, SetBytes, Authenticate, Activate, Revert, Other}
+use Rattle.history.specs.Events.{Unchanged, Nothing, Wrote, Took, HeldCommand, Event, did}
+use Rattle.history.specs.Facts.{Facts, session_named, has_open, standing}
+use Rattle.history.specs.Decisions.{refusal, not_found, fails, refuses, aborted, fails_queue, on_drive, verdict_on, queued_by, admitted, unqueued_by, says, answers, tried_in, start_verdict, started_by, started, is_method_of_manager, to_manager, outcome_of, judgement_on, begins_on, ends_on, in_session, is_trusted, is_session_com_id, discovery_com_id, is_manager, to_session, framed, sent, send, received, unqueued, known, while_failed, is_busy, commanded, completed_by, completed}
+use Rattle.history.specs.History.{Act, Accept, Complete, Reset, event_by}
+use Rattle.history.specs.MethodLaws.{IsLookedAt, IsSent, IsCall}
+use Rattle.history.specs.DenialLaws.{Moves, read_queued, write_queued, read_dma, write_dma, IsFree, TransferDenied, MethodDenied, AttemptDenied, StartDenied, IsDenied, DenialLaw}
+use Rattle.history.proofs.MethodProofs.{looked_event, looked_law, sent_law, call_law}
+
+-- forward: each of the four is denied for its reason
+
+moved : (f : Facts) (h : RegH2d) (payload : List ℕ) (command : Command) (tag : Option ℕ) (op : Op) (lba count : ℕ) (why : Why) → Moves command tag op lba count → IsFree f tag → on_drive f lba count ≡ true → verdict_on f op lba count ≡ Denied why → (looked_event f h payload command tag).denied ≡ Some why
+moved f h payload c tag op lba count why (read_queued {lba = l} {count = n} {tag = t}) free drive v =
+    ap (λ x. (admitted f h t (ReadQueued l n) (is_some x)).denied) free
+    ∙ ap (λ b. (cond b (queued_by h t (ReadQueued l n) (verdict_on f Read l n)) (fails_queue (Some t) not_found h None)).denied) drive
+    ∙ ap (λ x. (queued_by h t (ReadQueued l n) x).denied) v
+moved f h payload c tag op lba count why (write_queued {lba = l} {count = n} {tag = t}) free drive v =
+    ap (λ x. (admitted f h t (WriteQueued l n) (is_some x)).denied) free
+    ∙ ap (λ b. (cond b (queued_by h t (WriteQueued l n) (verdict_on f Write l n)) (fails_queue (Some t) not_found h None)).denied) drive
+    ∙ ap (λ x. (queued_by h t (WriteQueued l n) x).denied) v
+moved f h payload c tag op lba count why (read_dma {lba = l} {count = n}) free drive v =
+    ap (λ b. (cond b (unqueued_by Nothing (verdict_on f Read l n)) (fails not_found None)).denied) drive
+    ∙ ap (λ x. (unqueued_by Nothing x).denied) v
+moved f h payload c tag op lba count why (write_dma {lba = l} {count = n}) free drive v =
+    ap (λ b. (cond b (unqueued_by (Wrote l payload) (verdict_on f Write l n)) (fails not_found None)).denied) drive
+    ∙ ap (λ x. (unqueued_by (Wrote l payload) x).denied) v
+
+transfer-denied : (f : Facts) (act : Act) (why : Why) → TransferDenied f act why → (event_by f act).denied ≡ Some why
+transfer-denied f act why d =
+    ap (λ (e : Event). e.denied) (looked_law f act d.command d.tag d.looked)
+    ∙ moved f (h2d_at d.looked.fis) d.looked.payload d.command d.tag d.op d.lba d.count why d.moves d.free d.on_drive d.verdict
+
+method-denied : (f : Facts) (act : Act) (why : Why) → MethodDenied f act why → (event_by f act).denied ≡ Some why
+method-denied f act why d =
+    ap (λ (e : Event). e.denied) (call_law f act d.session d.object d.method d.args d.called)
+    ∙ ap (λ x. (outcome_of f d.session.sp (judged (standing f d.session) (uid_of d.object) (uid_of d.method) x)).denied) d.shaped
+    ∙ ap (λ x. (outcome_of f d.session.sp (unless_denied x (does (standing f d.session) (uid_of d.object) d.ask))).denied) d.denial
+
+attempt-reason : (sp : Sp) (authority : Uid) (failure : AttemptFailure) → (said_attempt sp authority (Some failure)).denied ≡ Some (AttemptFailed sp authority failure)
+attempt-reason sp authority LockedOut = refl
+attempt-reason sp authority WrongPin = refl
+attempt-reason sp authority Disabled = refl
+attempt-reason sp authority Unknown = refl
+
+attempt-denied : (f : Facts) (act : Act) (why : Why) → AttemptDenied f act why → (event_by f act).denied ≡ Some why
+attempt-denied f act why d =
+    ap (λ (e : Event). e.denied) (call_law f act d.session d.object d.method d.args d.called)
+    ∙ ap (λ j. (outcome_of f d.session.sp j).denied) d.attempts
+    ∙ ap (λ x. (tried_in f d.session.sp d.authority x).denied) d.fails
+    ∙ attempt-reason d.session.sp d.authority d.failure
+    ∙ ap (λ y. Some y) (sym d.why_is)
+
+start-denied : (f : Facts) (act : Act) (why : Why) → StartDenied f act why → (event_by f act).denied ≡ Some why
+start-denied f act why d =
+    let o = uid_of d.object in let m = uid_of d.method in
+    ap (λ (e : Event). e.denied) (sent_law f act d.com_id d.frame d.sent)
+    ∙ ap (λ b. (cond b (answers d.com_id d.frame.session (to_manager f d.com_id (message_in d.frame.payload))) (to_session f d.com_id d.frame.session d.frame.payload (session_named f d.com_id d.frame.session))).denied) d.manager
+    ∙ ap (λ r. (to_manager f d.com_id r).denied) d.calls
+    ∙ ap (λ b. (cond b (says Unchanged (properties_message (values_of d.args))) (cond (is_method_of_manager start_session o m) (started f d.com_id (values_of d.args)) (says Unchanged (refusal fail)))).denied) d.no_properties
+    ∙ ap (λ b. (cond b (started f d.com_id (values_of d.args)) (says Unchanged (refusal fail))).denied) d.starts
+    ∙ ap (λ x. (started_by f d.com_id (host_of (values_of d.args)) x).denied) d.shaped
+    ∙ ap (λ v. denied_with (Some d.opening) v) d.fails
+    ∙ ap (λ y. Some y) (sym d.why_is)
+
+denied-if : (f : Facts) (act : Act) (why : Why) → IsDenied f act why → (event_by f act).denied ≡ Some why
+denied-if f act why (inl d) = transfer-denied f act why d
+denied-if f act why (inr (inl d)) = method-denied f act why d
+denied-if f act why (inr (inr (inl d))) = attempt-denied f act why d
+denied-if f act why (inr (inr (inr d))) = start-denied f act why d
+
+-- back: what has a reason is one of the four
+
+nothing : {why : Why} → None ≡ Some why → ⊥
+nothing h = cc
+
+same-why : {x y : Why} → Some x ≡ Some y → x ≡ y
+same-why h = cc
+
+-- the reason in a judgement; what a granted call comes to has none
+abbrev reason : Judgement → Option Why
+reason (Refuses status denied) = denied
+reason (Gives results) = None
+reason (Makes setting) = None
+reason (Attempts authority pin) = None
+reason Activates = None
+reason (Reverts sp) = None
+
+clean-if : (b : Bool) (x y : Judgement) → reason x ≡ None → reason y ≡ None → reason (cond b x y) ≡ None
+clean-if true x y h g = h
+clean-if false x y h g = g
+
+gives-clean : (results : List Tree) → reason (gives results) ≡ None
+gives-clean results = clean-if (nat_lt most_response (len_of (reply_of results success))) (Refuses 0x11 None) (Gives results) refl refl
+
+rows-clean : (s : Standing) (first last : ℕ) → reason (rows_given s first last) ≡ None
+rows-clean s first last =
+    clean-if ((table_size s == 0) || (nat_le (table_size s) last || nat_lt last first)) (Refuses 0x0c None) _ refl
+    (clean-if (nat_lt most_response (last + 1 - first)) (Refuses 0x11 None) (gives (bytes_between s first last)) refl (gives-clean (bytes_between s first last)))
+
+makes-clean : (x : Option Setting) → reason (makes x) ≡ None
+makes-clean None = refl
+makes-clean (Some set) = refl
+
+open-clean : (b : Bool) (j : Judgement) → reason j ≡ None → reason (unless_open b j) ≡ None
+open-clean true j h = refl
+open-clean false j h = h
+
+done-clean : (s : Standing) (object : Uid) (ask : Ask) → reason (does_ask s object ask) ≡ None
+done-clean s object (GetCells a b) = gives-clean (listing s object a b)
+done-clean s object (GetBytes a b) = rows-clean s a (last_row (table_size s) b)
+done-clean s object (SetCells values) = makes-clean (to_set s object (SetCells values))
+done-clean s object (SetBytes place content) = makes-clean (to_set s object (SetBytes place content))
+done-clean s object (Authenticate a pin) = refl
+done-clean s object Activate = open-clean s.is_open Activates refl
+done-clean s object Revert = open-clean s.is_open (Reverts (sp_of_row object)) refl
+done-clean s object Other = refl
+
+does-clean : (s : Standing) (object : Uid) (ask : Ask) → reason (does s object ask) ≡ None
+does-clean s object ask = done-clean s object (cased (kind_of s.sp object) ask)
+
+-- a call of a session
+refused-is : (f : Facts) (act : Act) (why : Why) (session : Begun) (object method : List ℕ) (args : Trees) → IsCall f act session object method args → (x : Option Ask) → asked session.sp (uid_of object) (uid_of method) args ≡ x
+    → reason (judged (standing f session) (uid_of object) (uid_of method) x) ≡ Some why → IsDenied f act why
+refused-is f act why session object method args c None is h = absurd (nothing h)
+refused-is f act why session object method args c (Some ask) is h = by_denial (denial (standing f session) (uid_of object) (uid_of method) ask) refl h
+  where
+    by_denial : (d : Option Why) → denial (standing f session) (uid_of object) (uid_of method) ask ≡ d → reason (unless_denied d (does (standing f session) (uid_of object) ask)) ≡ Some why → IsDenied f act why
+    by_denial None no_why g = absurd (nothing (sym (does-clean (standing f session) (uid_of object) ask) ∙ g))
+    by_denial (Some w) some_why g = inr (inl (record { session = session; object = object; method = method; args = args; called = c; ask = ask; shaped = is; denial = some_why ∙ g }))
+
+attempt-is : (f : Facts) (act : Act) (why : Why) (session : Begun) (object method : List ℕ) (args : Trees) → IsCall f act session object method args → (authority : Uid) (pin : List ℕ) → judgement_on f session (uid_of object) (uid_of method) args ≡ Attempts authority pin
+    → (x : Option AttemptFailure) → failure_of f.rows session.sp authority pin ≡ x → (tried_in f session.sp authority x).denied ≡ Some why → IsDenied f act why
+attempt-is f act why session object method args c authority pin j None is h = absurd (nothing h)
+attempt-is f act why session object method args c authority pin j (Some failure) is h =
+    inr (inr (inl (record { session = session; object = object; method = method; args = args; called = c; authority = authority; pin = pin; attempts = j; failure = failure; fails = is; why_is = same-why (sym h ∙ attempt-reason session.sp authority failure) })))
+
+judged-is : (f : Facts) (act : Act) (why : Why) (session : Begun) (object method : List ℕ) (args : Trees) → IsCall f act session object method args → (j : Judgement) → judgement_on f session (uid_of object) (uid_of method) args ≡ j → (outcome_of f session.sp j).denied ≡ Some why → IsDenied f act why
+judged-is f act why session object method args c (Refuses status denied) is h =
+    refused-is f act why session object method args c (asked session.sp (uid_of object) (uid_of method) args) refl (ap reason is ∙ h)
+judged-is f act why session object method args c (Attempts authority pin) is h = attempt-is f act why session object method args c authority pin is (failure_of f.rows session.sp authority pin) refl h
+judged-is f act why session object method args c (Gives results) is h = absurd (nothing h)
+judged-is f act why session object method args c (Makes change) is h = absurd (nothing h)
+judged-is f act why session object method args c Activates is h = absurd (nothing h)
+judged-is f act why session object method args c (Reverts sp) is h = absurd (nothing h)
+
+begun-none : (sp : Sp) (n : ℕ) (x : Option ℕ) → (begins_on sp n x).denied ≡ None
+begun-none sp n None = refl
+begun-none sp n (Some m) = refl
+
+ended-none : (sp : Sp) (n : ℕ) (b : Bool) → (ends_on sp n b).denied ≡ None
+ended-none sp zero true = refl
+ended-none sp (suc n) true = refl
+ended-none sp n false = refl
+
+session-is : (f : Facts) (act : Act) (why : Why) (com_id : ℕ) (frame : Frame) → IsSent f act com_id frame → is_manager frame.session ≡ false → (session : Begun) → session_named f com_id frame.session ≡ Some session
+    → (r : Result Message TokenError) → message_in frame.payload ≡ r → (in_session f session r).denied ≡ Some why → IsDenied f act why
+session-is f act why com_id frame sent no_manager session named (Ok (call object method args status)) is h =
+    judged-is f act why session object method args (record { com_id = com_id; frame = frame; sent = sent; no_manager = no_manager; named = named; status = status; calls = is }) (judgement_on f session (uid_of object) (uid_of method) args) refl h
+session-is f act why com_id frame sent no_manager session named (Ok (begin n)) is h = absurd (nothing (sym (begun-none session.sp session.number (f.open_on session.sp)) ∙ h))
+session-is f act why com_id frame sent no_manager session named (Ok (end n)) is h = absurd (nothing (sym (ended-none session.sp n (has_open f session)) ∙ h))
+session-is f act why com_id frame sent no_manager session named (Ok end_session) is h = absurd (nothing h)
+session-is f act why com_id frame sent no_manager session named (Ok (reply results status)) is h = absurd (nothing h)
+session-is f act why com_id frame sent no_manager session named (Err e) is h = absurd (nothing h)
+
+-- the session manager
+called-is : (f : Facts) (act : Act) (why : Why) (com_id : ℕ) (frame : Frame) → IsSent f act com_id frame → is_manager frame.session ≡ true → (object method : List ℕ) (args : Trees) (status : List ℕ) → message_in frame.payload ≡ Ok (call object method args status)
+    → (p q : Bool) → is_method_of_manager properties (uid_of object) (uid_of method) ≡ p → is_method_of_manager start_session (uid_of object) (uid_of method) ≡ q
+    → (cond p (says Unchanged (properties_message (values_of args))) (cond q (started f com_id (values_of args)) (says Unchanged (refusal fail)))).denied ≡ Some why → IsDenied f act why
+called-is f act why com_id frame sent manager object method args status calls true q is_p is_q h = absurd (nothing h)
+called-is f act why com_id frame sent manager object method args status calls false false is_p is_q h = absurd (nothing h)
+called-is f act why com_id frame sent manager object method args status calls false true is_p is_q h = by_opening (opening_of (values_of args)) refl h
+  where
+    by_verdict : (c : Opening) → opening_of (values_of args) ≡ Some c → (v : StartVerdict) → start_verdict f (Some c) ≡ v → denied_with (Some c) v ≡ Some why → IsDenied f act why
+    by_verdict c shaped (Refused s) is g = absurd (nothing g)
+    by_verdict c shaped (Attempted sp None) is g = absurd (nothing g)
+    by_verdict c shaped (Attempted sp (Some failure)) is g = inr (inr (inr (record {
+      com_id = com_id;
+      frame = frame;
+      sent = sent;
+      manager = manager;
+      object = object;
+      method = method;
+      args = args;
+      status = status;
+      calls = calls;
+      no_properties = is_p;
+      starts = is_q;
+      opening = c;
+      shaped = shaped;
+      sp = sp;
+      failure = failure;
+      fails = is;
+      why_is = sym (same-why g);
+    })))
+
+    by_opening : (x : Option Opening) → opening_of (values_of args) ≡ x → (started_by f com_id (host_of (values_of args)) x).denied ≡ Some why → IsDenied f act why
+    by_opening None is g = absurd (nothing g)
+    by_opening (Some c) is g = by_verdict c is (start_verdict f (Some c)) refl g
+
+manager-is : (f : Facts) (act : Act) (why : Why) (com_id : ℕ) (frame : Frame) → IsSent f act com_id frame → is_manager frame.session ≡ true → (r : Result Message TokenError) → message_in frame.payload ≡ r → (to_manager f com_id r).denied ≡ Some why → IsDenied f act why
+manager-is f act why com_id frame sent manager (Ok (call object method args status)) is h =
+    called-is f act why com_id frame sent manager object method args status is (is_method_of_manager properties (uid_of object) (uid_of method)) (is_method_of_manager start_session (uid_of object) (uid_of method)) refl refl h
+manager-is f act why com_id frame sent manager (Ok (reply results status)) is h = absurd (nothing h)
+manager-is f act why com_id frame sent manager (Ok end_session) is h = absurd (nothing h)
+manager-is f act why com_id frame sent manager (Ok (begin n)) is h = absurd (nothing h)
+manager-is f act why com_id frame sent manager (Ok (end n)) is h = absurd (nothing h)
+manager-is f act why com_id frame sent manager (Err e) is h = absurd (nothing h)
+
+framed-is : (f : Facts) (act : Act) (why : Why) (com_id : ℕ) (frame : Frame) → IsSent f act com_id frame → (framed f com_id frame).denied ≡ Some why → IsDenied f act why
+framed-is f act why com_id frame sent h = by_manager (is_manager frame.session) refl h
+  where
+    by_session : is_manager frame.session ≡ false → (x : Option Begun) → session_named f com_id frame.session ≡ x → (to_session f com_id frame.session frame.payload x).denied ≡ Some why → IsDenied f act why
+    by_session no_manager None is g = absurd (nothing g)
+    by_session no_manager (Some session) is g = session-is f act why com_id frame sent no_manager session is (message_in frame.payload) refl g
+
+    by_manager : (b : Bool) → is_manager frame.session ≡ b → (cond b (answers com_id frame.session (to_manager f com_id (message_in frame.payload))) (to_session f com_id frame.session frame.payload (session_named f com_id frame.session))).denied ≡ Some why → IsDenied f act why
+    by_manager true is g = manager-is f act why com_id frame sent is (message_in frame.payload) refl g
+    by_manager false is g = by_session is (session_named f com_id frame.session) refl g
+
+send-is : (f : Facts) (act : Act) (why : Why) (protocol com_id blocks : ℕ) (dma : Bool) (looked : IsLookedAt f act (Send protocol com_id blocks dma) None) → (send f protocol com_id blocks looked.payload).denied ≡ Some why → IsDenied f act why
+send-is f act why protocol com_id blocks dma looked h = by_taken (is_trusted protocol blocks && is_session_com_id com_id && not (is_some (f.waiting com_id))) refl h
+  where
+    by_id : (is_trusted protocol blocks && is_session_com_id com_id && not (is_some (f.waiting com_id))) ≡ true → (frame : Frame) → frame_in looked.payload ≡ Ok frame → (b : Bool) → (frame.com_id == com_id) ≡ b → (cond b (framed f com_id frame) (did Nothing)).denied ≡ Some why → IsDenied f act why
+    by_id taken frame is false same g = absurd (nothing g)
+    by_id taken frame is true same g = framed-is f act why com_id frame (record { protocol = protocol; blocks = blocks; dma = dma; looked = looked; taken = taken; framed = is; addressed = same }) g
+
+    by_frame : (is_trusted protocol blocks && is_session_com_id com_id && not (is_some (f.waiting com_id))) ≡ true → (r : Result Frame FrameError) → frame_in looked.payload ≡ r → (sent f com_id r).denied ≡ Some why → IsDenied f act why
+    by_frame taken (Err e) is g = absurd (nothing g)
+    by_frame taken (Ok frame) is g = by_id taken frame is (frame.com_id == com_id) refl g
+
+    by_taken : (b : Bool) → (is_trusted protocol blocks && is_session_com_id com_id && not (is_some (f.waiting com_id))) ≡ b → (cond b (sent f com_id (frame_in looked.payload)) refuses).denied ≡ Some why → IsDenied f act why
+    by_taken false is g = absurd (nothing g)
+    by_taken true is g = by_frame is (frame_in looked.payload) refl g
+
+-- transfers
+moves-is : (f : Facts) (act : Act) (why : Why) (command : Command) (tag : Option ℕ) → IsLookedAt f act command tag → (op : Op) (lba count : ℕ) → Moves command tag op lba count → IsFree f tag → (make : Verdict → Event) (otherwise : Event)
+    → otherwise.denied ≡ None → (make Serve).denied ≡ None → (make Shadow).denied ≡ None → ((w : Why) → (make (Denied w)).denied ≡ Some w) → (cond (on_drive f lba count) (make (verdict_on f op lba count)) otherwise).denied ≡ Some why → IsDenied f act why
+moves-is f act why command tag looked op lba count moves free make otherwise no_other no_serve no_shadow denies h = by_drive (on_drive f lba count) refl h
+  where
+    by_verdict : on_drive f lba count ≡ true → (v : Verdict) → verdict_on f op lba count ≡ v → (make v).denied ≡ Some why → IsDenied f act why
+    by_verdict drive Serve is g = absurd (nothing (sym no_serve ∙ g))
+    by_verdict drive Shadow is g = absurd (nothing (sym no_shadow ∙ g))
+    by_verdict drive (Denied w) is g =
+        inl (record { command = command; tag = tag; looked = looked; op = op; lba = lba; count = count; moves = moves; free = free; on_drive = drive; verdict = is ∙ ap Denied (same-why (sym (denies w) ∙ g)) })
+
+    by_drive : (b : Bool) → on_drive f lba count ≡ b → (cond b (make (verdict_on f op lba count)) otherwise).denied ≡ Some why → IsDenied f act why
+    by_drive false is g = absurd (nothing (sym no_other ∙ g))
+    by_drive true is g = by_verdict is (verdict_on f op lba count) refl g
+
+queued-is : (f : Facts) (act : Act) (why : Why) (command : Command) (tag : ℕ) (looked : IsLookedAt f act command (Some tag)) → f.held tag ≡ None → (admitted f (h2d_at looked.fis) tag command false).denied ≡ Some why → IsDenied f act why
+queued-is f act why (ReadQueued l n) tag looked free h = moves-is f act why (ReadQueued l n) (Some tag) looked Read l n read_queued free (queued_by (h2d_at looked.fis) tag (ReadQueued l n)) (fails_queue (Some tag) not_found (h2d_at looked.fis) None) refl refl refl (λ w. refl) h
+queued-is f act why (WriteQueued l n) tag looked free h = moves-is f act why (WriteQueued l n) (Some tag) looked Write l n write_queued free (queued_by (h2d_at looked.fis) tag (WriteQueued l n)) (fails_queue (Some tag) not_found (h2d_at looked.fis) None) refl refl refl (λ w. refl) h
+queued-is f act why (ReadDma l n) tag looked free h = absurd (nothing h)
+queued-is f act why (WriteDma l n) tag looked free h = absurd (nothing h)
+queued-is f act why (Send p c b d) tag looked free h = absurd (nothing h)
+queued-is f act why (Receive p c b d) tag looked free h = absurd (nothing h)
+queued-is f act why Identify tag looked free h = absurd (nothing h)
+queued-is f act why (ReadLog d) tag looked free h = absurd (nothing h)
+queued-is f act why Flush tag looked free h = absurd (nothing h)
+
+received-none : (com_id blocks : ℕ) (x : Option (List ℕ)) → (received com_id blocks x).denied ≡ None
+received-none com_id blocks None = refl
+received-none com_id blocks (Some r) = by_room (nat_le (length r) (sector_size * blocks))
+  where
+    by_room : (b : Bool) → (cond b (did (Took com_id)) (did Nothing)).denied ≡ None
+    by_room true = refl
+    by_room false = refl
+
+none-if : (b : Bool) (x y : Event) → x.denied ≡ None → y.denied ≡ None → (cond b x y).denied ≡ None
+none-if true x y h g = h
+none-if false x y h g = g
+
+unqueued-is : (f : Facts) (act : Act) (why : Why) (command : Command) (looked : IsLookedAt f act command None) → (unqueued f looked.payload command).denied ≡ Some why → IsDenied f act why
+unqueued-is f act why (ReadDma l n) looked h = moves-is f act why (ReadDma l n) None looked Read l n read_dma tt (unqueued_by Nothing) (fails not_found None) refl refl refl (λ w. refl) h
+unqueued-is f act why (WriteDma l n) looked h = moves-is f act why (WriteDma l n) None looked Write l n write_dma tt (unqueued_by (Wrote l looked.payload)) (fails not_found None) refl refl refl (λ w. refl) h
+unqueued-is f act why (Send p c b d) looked h = send-is f act why p c b d looked h
+unqueued-is f act why (Receive p c b d) looked h =
+    absurd (nothing (sym (none-if (is_trusted p b && (is_session_com_id c || c == discovery_com_id)) (received c b (f.waiting c)) refuses (received-none c b (f.waiting c)) refl) ∙ h))
+unqueued-is f act why (ReadQueued l n) looked h = absurd (nothing h)
+unqueued-is f act why (WriteQueued l n) looked h = absurd (nothing h)
+unqueued-is f act why Identify looked h = absurd (nothing h)
+unqueued-is f act why (ReadLog d) looked h = absurd (nothing h)
+unqueued-is f act why Flush looked h = absurd (nothing h)
+
+looked-is : (f : Facts) (act : Act) (why : Why) (command : Command) (tag : Option ℕ) (looked : IsLookedAt f act command tag) → (looked_event f (h2d_at looked.fis) looked.payload command tag).denied ≡ Some why → IsDenied f act why
+looked-is f act why command None looked h = unqueued-is f act why command looked h
+looked-is f act why command (Some tag) looked h = by_held (f.held tag) refl h
+  where
+    by_held : (x : Option HeldCommand) → f.held tag ≡ x → (admitted f (h2d_at looked.fis) tag command (is_some x)).denied ≡ Some why → IsDenied f act why
+    by_held None is g = queued-is f act why command tag looked is g
+    by_held (Some held) is g = absurd (nothing g)
+
+-- acts
+while_failed-none : (r : Result (Command × Option ℕ) CommandError) → (while_failed r).denied ≡ None
+while_failed-none (Ok (ReadLog dma, tag)) = refl
+while_failed-none _ = refl
+
+accept-is : (f : Facts) (fis payload : List ℕ) (why : Why) → (event_by f (Accept fis payload)).denied ≡ Some why → IsDenied f (Accept fis payload) why
+accept-is f fis payload why h = by_kind (slice_index fis 0 == h2d_type) refl h
+  where
+    c : RegH2d
+    c = h2d_at fis
+
+    by_reading : (slice_index fis 0 == h2d_type) ≡ true → c.is_command ≡ true → f.failure ≡ None → (is_busy f && not (is_queued c.command)) ≡ false → (r : Result (Command × Option ℕ) CommandError) → reading c ≡ r → (known f c payload r).denied ≡ Some why → IsDenied f (Accept fis payload) why
+    by_reading kind commands mended unmixed (Err e) is g = absurd (nothing (sym (none-if (is_queued c.command) (fails_queue (Some (tag_of c)) aborted c None) refuses refl refl) ∙ g))
+    by_reading kind commands mended unmixed (Ok (command, Some tag)) is g =
+        looked-is f (Accept fis payload) why command (Some tag) (record { fis = fis; payload = payload; accepts = refl; kind = eqb-true (slice_index fis 0) h2d_type kind; commands = commands; mended = mended; unmixed = unmixed; reads = is }) g
+    by_reading kind commands mended unmixed (Ok (command, None)) is g =
+        looked-is f (Accept fis payload) why command None (record { fis = fis; payload = payload; accepts = refl; kind = eqb-true (slice_index fis 0) h2d_type kind; commands = commands; mended = mended; unmixed = unmixed; reads = is }) g
+
+    by_mix : (slice_index fis 0 == h2d_type) ≡ true → c.is_command ≡ true → f.failure ≡ None → (b : Bool) → (is_busy f && not (is_queued c.command)) ≡ b → (cond b (fails_queue None aborted c None) (known f c payload (reading c))).denied ≡ Some why → IsDenied f (Accept fis payload) why
+    by_mix kind commands mended true is g = absurd (nothing g)
+    by_mix kind commands mended false is g = by_reading kind commands mended is (reading c) refl g
+
+    by_failure : (slice_index fis 0 == h2d_type) ≡ true → c.is_command ≡ true → (x : _) → f.failure ≡ x → (cond (is_some x) (while_failed (reading c)) (cond (is_busy f && not (is_queued c.command)) (fails_queue None aborted c None) (known f c payload (reading c)))).denied ≡ Some why → IsDenied f (Accept fis payload) why
+    by_failure kind commands (Some x) is g = absurd (nothing (sym (while_failed-none (reading c)) ∙ g))
+    by_failure kind commands None is g = by_mix kind commands is (is_busy f && not (is_queued c.command)) refl g
+
+    by_command : (slice_index fis 0 == h2d_type) ≡ true → (b : Bool) → c.is_command ≡ b → (cond (not b) refuses (cond (is_some f.failure) (while_failed (reading c)) (cond (is_busy f && not (is_queued c.command)) (fails_queue None aborted c None) (known f c payload (reading c))))).denied ≡ Some why → IsDenied f (Accept fis payload) why
+    by_command kind false is g = absurd (nothing g)
+    by_command kind true is g = by_failure kind is f.failure refl g
+
+    by_kind : (b : Bool) → (slice_index fis 0 == h2d_type) ≡ b → (cond b (commanded f c payload) refuses).denied ≡ Some why → IsDenied f (Accept fis payload) why
+    by_kind false is g = absurd (nothing g)
+    by_kind true is g = by_command is c.is_command refl g
+
+completed-none : (tag : ℕ) (payload : List ℕ) (x : Option HeldCommand) → (completed tag payload x).denied ≡ None
+completed-none tag payload None = refl
+completed-none tag payload (Some h) = by_command h.command
+  where
+    by_command : (c : Command) → (completed_by tag payload c).denied ≡ None
+    by_command (WriteQueued l n) = refl
+    by_command _ = refl
+
+is-denied : (f : Facts) (act : Act) (why : Why) → (event_by f act).denied ≡ Some why → IsDenied f act why
+is-denied f (Accept fis payload) why h = accept-is f fis payload why h
+is-denied f (Complete tag payload) why h = absurd (nothing (sym (completed-none tag payload (f.held tag)) ∙ h))
+is-denied f (Reset kind) why h = absurd (nothing h)
+
+pub denial_law : DenialLaw
+denial_law f act why = (is-denied f act why, denied-if f act why)

@@ -1,0 +1,246 @@
+-- What is held was accepted at an act of the list, and permitted there.
+use Rattle.std.proofs.Common.{◌≡◌, ℕ, ◌==◌, ◌*◌, Bool, true, false, ◌&&◌, ◌||◌, not, List, [], ◌∷◌, Option, Some, None, refl, sym, ◌∙◌, ap, cond, eqb-true, ◌%◌, ◌/◌, ◌<◌, arith}
+use Rattle.std.specs.Prelude.{is_some, unwrap_or, slice_index, nat_le, length, Result, Ok, Err}
+use Rattle.fis.specs.Types.{h2d_type}
+use Rattle.fis.specs.H2d.{h2d_at}
+use Rattle.fis.specs.declared.h2d.RegH2d.{RegH2d}
+use Rattle.locking.specs.declared.range.Op.{Op}
+use Rattle.locking.specs.declared.range.Op.TheVariants.{Read, Write}
+use Rattle.trusted_cmds.specs.Commands.{is_queued, tag_of, sector_size}
+use Rattle.compacket.specs.declared.session.Session.{Session}
+use Rattle.compacket.specs.declared.error.FrameError.{FrameError}
+use Rattle.compacket.specs.Frames.{Frame, reading as frame_in}
+use Rattle.tcg_tokens.specs.Reading.{reading as message_in}
+use Rattle.history.specs.Opening.{Origin}
+use Rattle.history.specs.Commands.{fault_of, read_unless, Command, ReadQueued, WriteQueued, ReadDma, WriteDma, Send, Receive, Identify, ReadLog, Flush, CommandError, reading}
+use Rattle.locking.specs.declared.ranges.Verdict.{Verdict}
+use Rattle.locking.specs.declared.ranges.Verdict.TheVariants.{Serve, Shadow, Denied}
+use Rattle.history.specs.Sessions.{Begun}
+use Rattle.history.specs.Events.{HeldCommand, Failure, Held, Completed, CompletedWrite, QueueFailed, QueueMended, Deed, Nothing, InSession, OfQueue, Wrote, Took, WasReset, Event, did}
+use Rattle.history.specs.Readers.{holding, held}
+use Rattle.history.specs.Facts.{Facts, facts, session_named}
+use Rattle.history.specs.Decisions.{not_found, aborted, fails, refuses, fails_queue, on_drive, ranges_in_force, verdict_on, queued_by, admitted, unqueued_by, answers, to_manager, is_trusted, is_session_com_id, discovery_com_id, is_manager, to_session, framed, sent, received, unqueued, known, while_failed, is_busy, commanded, completed_by, completed}
+use Rattle.history.specs.Answers.{is_holding}
+use Rattle.history.specs.History.{Act, Accept, Complete, Reset, event, event_by, log}
+use Rattle.history.specs.MethodLaws.{IsLookedAt}
+use Rattle.history.specs.DenialLaws.{Moves, read_queued, write_queued}
+use Rattle.history.specs.TransferLaws.{TagLaw, is_denied, WasAccepted, HeldLaw}
+use Rattle.history.proofs.Words.{latest-here, latest-skip}
+use Rattle.history.proofs.TransferProofs.{verdict_law}
+
+clash : {b : Bool} → b ≡ true → b ≡ false → ⊥
+clash h g = absurd (true-false (sym h ∙ g))
+  where
+    true-false : true ≡ false → ⊥
+    true-false k = cc
+
+-- what is read as held
+holds-if : (b : Bool) (x h : HeldCommand) → cond b (Some (Some x)) None ≡ Some (Some h) → (b ≡ true) × (x ≡ h)
+holds-if true x h g = (refl, cc)
+holds-if false x h g = cc
+
+abbrev dropped : Option (Option HeldCommand)
+dropped = Some None
+
+drops-if : (b : Bool) (h : HeldCommand) → cond b dropped None ≡ Some (Some h) → ⊥
+drops-if true h g = cc
+drops-if false h g = cc
+
+holds-is : (tag : ℕ) (d : Deed) (h : HeldCommand) → holding tag d ≡ Some (Some h) → d ≡ OfQueue (Held tag h)
+holds-is tag (OfQueue (Held t x)) h g = let w = holds-if (t == tag) x h g in ap (λ n. OfQueue (Held n x)) (eqb-true t tag w.0) ∙ ap (λ y. OfQueue (Held tag y)) w.1
+holds-is tag (OfQueue (Completed t)) h g = absurd (drops-if (t == tag) h g)
+holds-is tag (OfQueue (CompletedWrite t lba bytes)) h g = absurd (drops-if (t == tag) h g)
+holds-is tag (OfQueue (QueueFailed failure)) h g = cc
+holds-is tag (OfQueue QueueMended) h g = cc
+holds-is tag Nothing h g = cc
+holds-is tag (InSession d r) h g = cc
+holds-is tag (Wrote lba bytes) h g = cc
+holds-is tag (Took c) h g = cc
+holds-is tag (WasReset kind) h g = cc
+
+-- what is not queued holds nothing
+none-if : (b : Bool) (x y : Event) → is_holding x.deed ≡ false → is_holding y.deed ≡ false → is_holding (cond b x y).deed ≡ false
+none-if true x y h g = h
+none-if false x y h g = g
+
+unqueued_by-none : (d : Deed) (v : Verdict) → is_holding d ≡ false → is_holding (unqueued_by d v).deed ≡ false
+unqueued_by-none d Serve h = h
+unqueued_by-none d Shadow h = h
+unqueued_by-none d (Denied why) h = refl
+
+to_session-none : (f : Facts) (com_id : ℕ) (named : Session) (payload : List ℕ) (x : Option Begun) → is_holding (to_session f com_id named payload x).deed ≡ false
+to_session-none f com_id named payload None = refl
+to_session-none f com_id named payload (Some s) = refl
+
+sent-none : (f : Facts) (com_id : ℕ) (r : Result Frame FrameError) → is_holding (sent f com_id r).deed ≡ false
+sent-none f com_id (Err e) = refl
+sent-none f com_id (Ok frame) =
+    none-if (frame.com_id == com_id) (framed f com_id frame) (did Nothing)
+    (none-if (is_manager frame.session) (answers com_id frame.session (to_manager f com_id (message_in frame.payload))) (to_session f com_id frame.session frame.payload (session_named f com_id frame.session)) refl (to_session-none f com_id frame.session frame.payload (session_named f com_id frame.session)))
+    refl
+
+received-none : (com_id blocks : ℕ) (x : Option (List ℕ)) → is_holding (received com_id blocks x).deed ≡ false
+received-none com_id blocks None = refl
+received-none com_id blocks (Some r) = none-if (nat_le (length r) (sector_size * blocks)) (did (Took com_id)) (did Nothing) refl refl
+
+unqueued-none : (f : Facts) (payload : List ℕ) (c : Command) → is_holding (unqueued f payload c).deed ≡ false
+unqueued-none f payload (ReadDma l n) = none-if (on_drive f l n) (unqueued_by Nothing (verdict_on f Read l n)) (fails not_found None) (unqueued_by-none Nothing (verdict_on f Read l n) refl) refl
+unqueued-none f payload (WriteDma l n) = none-if (on_drive f l n) (unqueued_by (Wrote l payload) (verdict_on f Write l n)) (fails not_found None) (unqueued_by-none (Wrote l payload) (verdict_on f Write l n) refl) refl
+unqueued-none f payload (Send p c b d) = none-if (is_trusted p b && is_session_com_id c && not (is_some (f.waiting c))) (sent f c (frame_in payload)) refuses (sent-none f c (frame_in payload)) refl
+unqueued-none f payload (Receive p c b d) = none-if (is_trusted p b && (is_session_com_id c || c == discovery_com_id)) (received c b (f.waiting c)) refuses (received-none c b (f.waiting c)) refl
+unqueued-none f payload _ = refl
+
+-- an act that holds a command
+record HeldBy (f : Facts) (act : Act) (tag : ℕ) (h : HeldCommand) : Type 0 where
+  looked : IsLookedAt f act h.command (Some tag)
+  op : Op
+  lba : ℕ
+  count : ℕ
+  moves : Moves h.command (Some tag) op lba count
+  on_drive : on_drive f lba count ≡ true
+  verdict : verdict_on f op lba count ≡ h.verdict
+  served : is_denied h.verdict ≡ false
+
+held-as : (f : Facts) (act : Act) (t tag : ℕ) (x h : HeldCommand) → OfQueue (Held t x) ≡ OfQueue (Held tag h) → HeldBy f act t x → HeldBy f act tag h
+held-as f act t tag x h same w = let is_tag : t ≡ tag = cc in let is_held : x ≡ h = cc in rw (← is_tag, ← is_held) w
+
+not-held : {d : Deed} {tag : ℕ} {h : HeldCommand} → is_holding d ≡ false → d ≡ OfQueue (Held tag h) → ⊥
+not-held g is = clash (ap is_holding is) g
+
+moved-is : (f : Facts) (act : Act) (tag t : ℕ) (h : HeldCommand) (c : Command) (op : Op) (lba count : ℕ) (r : RegH2d) → IsLookedAt f act c (Some t) → Moves c (Some t) op lba count → (b : Bool) (v : Verdict) → on_drive f lba count ≡ b → verdict_on f op lba count ≡ v
+    → (cond b (queued_by r t c v) (fails_queue (Some t) not_found r None)).deed ≡ OfQueue (Held tag h) → HeldBy f act tag h
+moved-is f act tag t h c op lba count r looked moves false v drive is g = absurd (not-held refl g)
+moved-is f act tag t h c op lba count r looked moves true (Denied why) drive is g = absurd (not-held refl g)
+moved-is f act tag t h c op lba count r looked moves true Serve drive is g =
+    held-as f act t tag (record { command = c; verdict = Serve }) h g (record { looked = looked; op = op; lba = lba; count = count; moves = moves; on_drive = drive; verdict = is; served = refl })
+moved-is f act tag t h c op lba count r looked moves true Shadow drive is g =
+    held-as f act t tag (record { command = c; verdict = Shadow }) h g (record { looked = looked; op = op; lba = lba; count = count; moves = moves; on_drive = drive; verdict = is; served = refl })
+
+admitted-is : (f : Facts) (act : Act) (tag t : ℕ) (h : HeldCommand) (c : Command) (looked : IsLookedAt f act c (Some t)) → (b : Bool) → (admitted f (h2d_at looked.fis) t c b).deed ≡ OfQueue (Held tag h) → HeldBy f act tag h
+admitted-is f act tag t h c looked true g = absurd (not-held refl g)
+admitted-is f act tag t h (ReadQueued l n) looked false g = moved-is f act tag t h (ReadQueued l n) Read l n (h2d_at looked.fis) looked read_queued (on_drive f l n) (verdict_on f Read l n) refl refl g
+admitted-is f act tag t h (WriteQueued l n) looked false g = moved-is f act tag t h (WriteQueued l n) Write l n (h2d_at looked.fis) looked write_queued (on_drive f l n) (verdict_on f Write l n) refl refl g
+admitted-is f act tag t h (ReadDma l n) looked false g = absurd (not-held refl g)
+admitted-is f act tag t h (WriteDma l n) looked false g = absurd (not-held refl g)
+admitted-is f act tag t h (Send p c b d) looked false g = absurd (not-held refl g)
+admitted-is f act tag t h (Receive p c b d) looked false g = absurd (not-held refl g)
+admitted-is f act tag t h Identify looked false g = absurd (not-held refl g)
+admitted-is f act tag t h (ReadLog d) looked false g = absurd (not-held refl g)
+admitted-is f act tag t h Flush looked false g = absurd (not-held refl g)
+
+while_failed-none : (r : Result (Command × Option ℕ) CommandError) → is_holding (while_failed r).deed ≡ false
+while_failed-none (Ok (ReadLog dma, tag)) = refl
+while_failed-none _ = refl
+
+accept-is : (f : Facts) (fis payload : List ℕ) (tag : ℕ) (h : HeldCommand) → (event_by f (Accept fis payload)).deed ≡ OfQueue (Held tag h) → HeldBy f (Accept fis payload) tag h
+accept-is f fis payload tag h g = by_kind (slice_index fis 0 == h2d_type) refl g
+  where
+    c : RegH2d
+    c = h2d_at fis
+
+    by_reading : (slice_index fis 0 == h2d_type) ≡ true → c.is_command ≡ true → f.failure ≡ None → (is_busy f && not (is_queued c.command)) ≡ false → (r : Result (Command × Option ℕ) CommandError) → reading c ≡ r → (known f c payload r).deed ≡ OfQueue (Held tag h) → HeldBy f (Accept fis payload) tag h
+    by_reading kind commands mended unmixed (Err e) is k = absurd (not-held (none-if (is_queued c.command) (fails_queue (Some (tag_of c)) aborted c None) refuses refl refl) k)
+    by_reading kind commands mended unmixed (Ok (command, None)) is k = absurd (not-held (unqueued-none f payload command) k)
+    by_reading kind commands mended unmixed (Ok (command, Some t)) is k =
+        admitted-is f (Accept fis payload) tag t h command (record { fis = fis; payload = payload; accepts = refl; kind = eqb-true (slice_index fis 0) h2d_type kind; commands = commands; mended = mended; unmixed = unmixed; reads = is }) (is_some (f.held t)) k
+
+    by_mix : (slice_index fis 0 == h2d_type) ≡ true → c.is_command ≡ true → f.failure ≡ None → (b : Bool) → (is_busy f && not (is_queued c.command)) ≡ b → (cond b (fails_queue None aborted c None) (known f c payload (reading c))).deed ≡ OfQueue (Held tag h) → HeldBy f (Accept fis payload) tag h
+    by_mix kind commands mended true is k = absurd (not-held refl k)
+    by_mix kind commands mended false is k = by_reading kind commands mended is (reading c) refl k
+
+    by_failure : (slice_index fis 0 == h2d_type) ≡ true → c.is_command ≡ true → (x : Option Failure) → f.failure ≡ x → (cond (is_some x) (while_failed (reading c)) (cond (is_busy f && not (is_queued c.command)) (fails_queue None aborted c None) (known f c payload (reading c)))).deed ≡ OfQueue (Held tag h) → HeldBy f (Accept fis payload) tag h
+    by_failure kind commands (Some x) is k = absurd (not-held (while_failed-none (reading c)) k)
+    by_failure kind commands None is k = by_mix kind commands is (is_busy f && not (is_queued c.command)) refl k
+
+    by_command : (slice_index fis 0 == h2d_type) ≡ true → (b : Bool) → c.is_command ≡ b → (cond (not b) refuses (cond (is_some f.failure) (while_failed (reading c)) (cond (is_busy f && not (is_queued c.command)) (fails_queue None aborted c None) (known f c payload (reading c))))).deed ≡ OfQueue (Held tag h) → HeldBy f (Accept fis payload) tag h
+    by_command kind false is k = absurd (not-held refl k)
+    by_command kind true is k = by_failure kind is f.failure refl k
+
+    by_kind : (b : Bool) → (slice_index fis 0 == h2d_type) ≡ b → (cond b (commanded f c payload) refuses).deed ≡ OfQueue (Held tag h) → HeldBy f (Accept fis payload) tag h
+    by_kind false is k = absurd (not-held refl k)
+    by_kind true is k = by_command is c.is_command refl k
+
+completed-none : (tag : ℕ) (payload : List ℕ) (x : Option HeldCommand) → is_holding (completed tag payload x).deed ≡ false
+completed-none tag payload None = refl
+completed-none tag payload (Some h) = by_command h.command
+  where
+    by_command : (c : Command) → is_holding (completed_by tag payload c).deed ≡ false
+    by_command (WriteQueued l n) = refl
+    by_command _ = refl
+
+later : (o : Origin) (act : Act) (acts : List Act) (tag : ℕ) (h : HeldCommand) → WasAccepted o acts tag h → WasAccepted o (act ∷ acts) tag h
+later o act acts tag h w = record {
+  before = w.before;
+  later = act ∷ w.later;
+  fis = w.fis;
+  payload = w.payload;
+  place = ap (λ (rest : List Act). act ∷ rest) w.place;
+  looked = w.looked;
+  op = w.op;
+  lba = w.lba;
+  count = w.count;
+  moves = w.moves;
+  on_drive = w.on_drive;
+  verdict = w.verdict;
+  permitted = w.permitted;
+}
+
+here : (o : Origin) (act : Act) (acts : List Act) (tag : ℕ) (h : HeldCommand) → (event o (log o acts) act).deed ≡ OfQueue (Held tag h) → WasAccepted o (act ∷ acts) tag h
+here o (Complete t payload) acts tag h g = absurd (not-held (completed-none t payload (held (log o acts) t)) g)
+here o (Reset kind) acts tag h g = absurd (not-held refl g)
+here o (Accept fis payload) acts tag h g =
+    let w = accept-is (facts o (log o acts)) fis payload tag h g in
+    record {
+      before = acts;
+      later = [];
+      fis = fis;
+      payload = payload;
+      place = refl;
+      looked = w.looked;
+      op = w.op;
+      lba = w.lba;
+      count = w.count;
+      moves = w.moves;
+      on_drive = w.on_drive;
+      verdict = w.verdict;
+      permitted = (verdict_law (ranges_in_force (facts o (log o acts))) w.op w.lba w.count).served.0 (ap is_denied w.verdict ∙ w.served);
+    }
+
+held-step : (o : Origin) (act : Act) (acts : List Act) (tag : ℕ) (h : HeldCommand) → (x : Option (Option HeldCommand)) → holding tag (event o (log o acts) act).deed ≡ x → held (log o (act ∷ acts)) tag ≡ Some h → (held (log o acts) tag ≡ Some h → WasAccepted o acts tag h) → WasAccepted o (act ∷ acts) tag h
+held-step o act acts tag h None is g before = later o act acts tag h (before (sym (ap (λ y. unwrap_or y None) (latest-skip (holding tag) (event o (log o acts) act) (log o acts) is)) ∙ g))
+held-step o act acts tag h (Some x) is g before =
+    here o act acts tag h (holds-is tag (event o (log o acts) act).deed h (is ∙ ap (λ y. Some y) (sym (ap (λ y. unwrap_or y None) (latest-here (holding tag) (event o (log o acts) act) (log o acts) x is)) ∙ g)))
+
+pub held_law : HeldLaw
+held_law o [] tag h g = absurd (nothing g)
+  where
+    nothing : {x : HeldCommand} → None ≡ Some x → ⊥
+    nothing k = cc
+held_law o (act ∷ acts) tag h g = held-step o act acts tag h (holding tag (event o (log o acts) act).deed) refl g (held_law o acts tag h)
+
+-- the tag of a FIS is below 32
+tag-below : (n tag : ℕ) → n % 32 ≡ tag → tag < 32
+tag-below n tag h = omega (arith, h)
+
+ok-same : {p q : Command × Option ℕ} → ◌≡◌ {A = Result (Command × Option ℕ) CommandError} (Ok p) (Ok q) → p ≡ q
+ok-same h = cc
+
+ok-tag : {c d : Command} {x y : Option ℕ} → ◌≡◌ {A = Result (Command × Option ℕ) CommandError} (Ok (c, x)) (Ok (d, y)) → x ≡ y
+ok-tag h = ap (λ (p : Command × Option ℕ). p.1) (ok-same h)
+
+read-tag : (h : RegH2d) (c : Command) (tag : ℕ) (x : Option CommandError) → read_unless x h ≡ Ok (c, Some tag) → tag < 32
+read-tag h c tag (Some e) g = absurd (clashes g)
+  where
+    clashes : {e : CommandError} {x : Command × Option ℕ} → ◌≡◌ {A = Result (Command × Option ℕ) CommandError} (Err e) (Ok x) → ⊥
+    clashes k = cc
+read-tag h c tag None g = by_code (is_queued h.command) (ok-tag g)
+  where
+    same-tag : {a b : ℕ} → Some a ≡ Some b → a ≡ b
+    same-tag k = cc
+
+    by_code : (b : Bool) → cond b (Some (tag_of h)) None ≡ Some tag → tag < 32
+    by_code true k = tag-below (h.count / 8) tag (same-tag k)
+    by_code false k = cc
+
+pub tag_law : TagLaw
+tag_law o acts tag h g = let w = held_law o acts tag h g in read-tag (h2d_at w.looked.fis) h.command tag (fault_of (h2d_at w.looked.fis)) w.looked.reads

@@ -1,0 +1,158 @@
+-- Where the deed of an item comes from: the session manager, or a live session.
+use Rattle.std.proofs.Common.{◌≡◌, ℕ, ◌*◌, ◌==◌, Bool, true, false, ◌&&◌, ◌||◌, not, List, Option, Some, None, refl, sym, ◌∙◌, ap, cond, ◌⊎◌, inl, inr}
+use Rattle.std.specs.Prelude.{is_some, nat_le, slice_index, length, Result, Ok, Err}
+use Rattle.fis.specs.Types.{h2d_type}
+use Rattle.fis.specs.H2d.{h2d_at}
+use Rattle.fis.specs.declared.h2d.RegH2d.{RegH2d}
+use Rattle.sp_cells.specs.declared.names.Sp.{Sp}
+use Rattle.sp_cells.specs.declared.names.Sp.TheVariants.{Admin, Locking}
+use Rattle.locking.specs.declared.range.Op.{Op}
+use Rattle.locking.specs.declared.range.Op.TheVariants.{Read, Write}
+use Rattle.trusted_cmds.specs.Commands.{is_queued, tag_of, sector_size}
+use Rattle.compacket.specs.declared.session.Session.{Session}
+use Rattle.compacket.specs.declared.error.FrameError.{FrameError}
+use Rattle.compacket.specs.Frames.{Frame, reading as frame_in}
+use Rattle.tcg_tokens.specs.declared.error.TokenError.{TokenError}
+use Rattle.tcg_tokens.specs.Message.{Message}
+use Rattle.tcg_tokens.specs.Reading.{reading as message_in}
+use Rattle.history.specs.Commands.{Command, ReadQueued, WriteQueued, ReadDma, WriteDma, Send, Receive, ReadLog, CommandError, reading}
+use Rattle.locking.specs.declared.ranges.Verdict.{Verdict}
+use Rattle.locking.specs.declared.ranges.Verdict.TheVariants.{Serve, Shadow, Denied}
+use Rattle.history.specs.Sessions.{Begun}
+use Rattle.history.specs.Events.{SessionDeed, Response, HeldCommand, Deed, Nothing, InSession, Wrote, Event, or_else}
+use Rattle.history.specs.Facts.{Facts, is_named, if_named, session_named}
+use Rattle.history.specs.Decisions.{aborted, not_found, fails, refuses, fails_queue, on_drive, verdict_on, queued_by, queued_transfer, admitted, unqueued_by, unqueued_transfer, answers, to_manager, in_session, is_trusted, is_session_com_id, discovery_com_id, is_manager, to_session, framed, sent, received, unqueued, known, while_failed, is_busy, commanded, completed_by, completed}
+use Rattle.history.specs.History.{Act, Accept, Complete, Reset, event_by}
+
+pub record OfManager (f : Facts) (deed : SessionDeed) : Type 0 where
+  pub com_id : ℕ
+  pub read : Result Message TokenError
+  pub does : deed ≡ (to_manager f com_id read).deed
+
+pub record OfSession (f : Facts) (deed : SessionDeed) : Type 0 where
+  pub sp : Sp
+  pub session : Begun
+  pub lives : f.session_on sp ≡ Some session
+  pub read : Result Message TokenError
+  pub does : deed ≡ (in_session f session read).deed
+
+record Comes (f : Facts) (e : Event) : Type 0 where
+  from : (deed : SessionDeed) (response : Response) → e.deed ≡ InSession deed response → OfManager f deed ⊎ OfSession f deed
+
+abbrev is_item : Deed → Bool
+is_item (InSession deed response) = true
+is_item _ = false
+
+no_item : {f : Facts} {e : Event} → is_item e.deed ≡ false → Comes f e
+no_item {f} {e} h = record { from = λ d r is. absurd (clash (sym h ∙ ap is_item is)) }
+  where
+    clash : false ≡ true → ⊥
+    clash g = cc
+
+either : (f : Facts) (b : Bool) (e g : Event) → Comes f e → Comes f g → Comes f (cond b e g)
+either f true e g h k = h
+either f false e g h k = k
+
+deed-same : {d d' : SessionDeed} {r r' : Response} → InSession d r ≡ InSession d' r' → d' ≡ d
+deed-same h = cc
+
+of_manager : (f : Facts) (com_id : ℕ) (session : Session) (read : Result Message TokenError) → Comes f (answers com_id session (to_manager f com_id read))
+of_manager f com_id session read = record { from = λ d r is. inl (record { com_id = com_id; read = read; does = deed-same is }) }
+
+of_session : (f : Facts) (com_id : ℕ) (named : Session) (sp : Sp) (session : Begun) (read : Result Message TokenError) → f.session_on sp ≡ Some session → Comes f (answers com_id named (in_session f session read))
+of_session f com_id named sp session read lives = record { from = λ d r is. inr (record { sp = sp; session = session; lives = lives; read = read; does = deed-same is }) }
+
+-- the session that a packet names lives
+if_named-is : (com_id : ℕ) (named : Session) (x : Option Begun) (s : Begun) → if_named com_id named x ≡ Some s → x ≡ Some s
+if_named-is com_id named None s h = cc
+if_named-is com_id named (Some t) s h = by_name (is_named com_id named t) h
+  where
+    by_name : (b : Bool) → cond b (Some t) None ≡ Some s → Some t ≡ Some s
+    by_name true g = g
+    by_name false g = cc
+
+first-or : (x y : Option Begun) (s : Begun) → or_else x y ≡ Some s → (x ≡ Some s) ⊎ (y ≡ Some s)
+first-or (Some t) y s h = inl h
+first-or None y s h = inr h
+
+pub named-lives : (f : Facts) (com_id : ℕ) (named : Session) (s : Begun) → session_named f com_id named ≡ Some s → (sp : Sp) × (f.session_on sp ≡ Some s)
+named-lives f com_id named s h = elim (first-or (if_named com_id named (f.session_on Admin)) (if_named com_id named (f.session_on Locking)) s h) [
+  | inl x ↦ (Admin, if_named-is com_id named (f.session_on Admin) s x)
+  | inr x ↦ (Locking, if_named-is com_id named (f.session_on Locking) s x)
+]
+
+to_session-comes : (f : Facts) (com_id : ℕ) (named : Session) (payload : List ℕ) (s : Option Begun) → session_named f com_id named ≡ s → Comes f (to_session f com_id named payload s)
+to_session-comes f com_id named payload None h = no_item refl
+to_session-comes f com_id named payload (Some s) h = let x = named-lives f com_id named s h in of_session f com_id named x.0 s (message_in payload) x.1
+
+framed-comes : (f : Facts) (com_id : ℕ) (frame : Frame) → Comes f (framed f com_id frame)
+framed-comes f com_id frame = either f (is_manager frame.session) _ _ (of_manager f com_id frame.session (message_in frame.payload)) (to_session-comes f com_id frame.session frame.payload (session_named f com_id frame.session) refl)
+
+sent-comes : (f : Facts) (com_id : ℕ) (r : Result Frame FrameError) → Comes f (sent f com_id r)
+sent-comes f com_id (Err e) = no_item refl
+sent-comes f com_id (Ok frame) = either f (frame.com_id == com_id) _ _ (framed-comes f com_id frame) (no_item refl)
+
+received-comes : (f : Facts) (com_id blocks : ℕ) (w : Option (List ℕ)) → Comes f (received com_id blocks w)
+received-comes f com_id blocks None = no_item refl
+received-comes f com_id blocks (Some r) = either f (nat_le (length r) (sector_size * blocks)) _ _ (no_item refl) (no_item refl)
+
+unqueued_by-comes : (f : Facts) (d : Deed) (v : Verdict) → is_item d ≡ false → Comes f (unqueued_by d v)
+unqueued_by-comes f d (Denied why) h = no_item refl
+unqueued_by-comes f d Serve h = no_item h
+unqueued_by-comes f d Shadow h = no_item h
+
+transfer-comes : (f : Facts) (d : Deed) (op : Op) (lba count : ℕ) → is_item d ≡ false → Comes f (unqueued_transfer f d op lba count)
+transfer-comes f d op lba count h = either f (on_drive f lba count) _ (fails not_found None) (unqueued_by-comes f d (verdict_on f op lba count) h) (no_item refl)
+
+unqueued-comes : (f : Facts) (payload : List ℕ) (c : Command) → Comes f (unqueued f payload c)
+unqueued-comes f payload (ReadDma lba count) = transfer-comes f Nothing Read lba count refl
+unqueued-comes f payload (WriteDma lba count) = transfer-comes f (Wrote lba payload) Write lba count refl
+unqueued-comes f payload (Send protocol com_id blocks dma) = either f (is_trusted protocol blocks && is_session_com_id com_id && not (is_some (f.waiting com_id))) _ refuses (sent-comes f com_id (frame_in payload)) (no_item refl)
+unqueued-comes f payload (Receive protocol com_id blocks dma) = either f (is_trusted protocol blocks && (is_session_com_id com_id || com_id == discovery_com_id)) _ refuses (received-comes f com_id blocks (f.waiting com_id)) (no_item refl)
+unqueued-comes f payload _ = no_item refl
+
+queued_by-comes : (f : Facts) (h : RegH2d) (tag : ℕ) (c : Command) (v : Verdict) → Comes f (queued_by h tag c v)
+queued_by-comes f h tag c (Denied why) = no_item refl
+queued_by-comes f h tag c Serve = no_item refl
+queued_by-comes f h tag c Shadow = no_item refl
+
+queued-comes : (f : Facts) (h : RegH2d) (tag : ℕ) (c : Command) (op : Op) (lba count : ℕ) → Comes f (queued_transfer f h tag c op lba count)
+queued-comes f h tag c op lba count = either f (on_drive f lba count) _ (fails_queue (Some tag) not_found h None) (queued_by-comes f h tag c (verdict_on f op lba count)) (no_item refl)
+
+admitted-comes : (f : Facts) (h : RegH2d) (tag : ℕ) (c : Command) (b : Bool) → Comes f (admitted f h tag c b)
+admitted-comes f h tag c true = no_item refl
+admitted-comes f h tag (ReadQueued lba count) false = queued-comes f h tag (ReadQueued lba count) Read lba count
+admitted-comes f h tag (WriteQueued lba count) false = queued-comes f h tag (WriteQueued lba count) Write lba count
+admitted-comes f h tag _ false = no_item refl
+
+known-comes : (f : Facts) (h : RegH2d) (payload : List ℕ) (r : Result (Command × Option ℕ) CommandError) → Comes f (known f h payload r)
+known-comes f h payload (Err e) = either f (is_queued h.command) (fails_queue (Some (tag_of h)) aborted h None) refuses (no_item refl) (no_item refl)
+known-comes f h payload (Ok (c, Some tag)) = admitted-comes f h tag c (is_some (f.held tag))
+known-comes f h payload (Ok (c, None)) = unqueued-comes f payload c
+
+while_failed-comes : (f : Facts) (r : Result (Command × Option ℕ) CommandError) → Comes f (while_failed r)
+while_failed-comes f (Ok (ReadLog dma, tag)) = no_item refl
+while_failed-comes f _ = no_item refl
+
+commanded-comes : (f : Facts) (h : RegH2d) (payload : List ℕ) → Comes f (commanded f h payload)
+commanded-comes f h payload =
+    either f (not h.is_command) refuses _ (no_item refl)
+    (either f (is_some f.failure) (while_failed (reading h)) _ (while_failed-comes f (reading h))
+    (either f (is_busy f && not (is_queued h.command)) (fails_queue None aborted h None) (known f h payload (reading h)) (no_item refl) (known-comes f h payload (reading h))))
+
+completed_by-comes : (f : Facts) (tag : ℕ) (payload : List ℕ) (c : Command) → Comes f (completed_by tag payload c)
+completed_by-comes f tag payload (WriteQueued lba count) = no_item refl
+completed_by-comes f tag payload _ = no_item refl
+
+completed-comes : (f : Facts) (tag : ℕ) (payload : List ℕ) (h : Option HeldCommand) → Comes f (completed tag payload h)
+completed-comes f tag payload None = no_item refl
+completed-comes f tag payload (Some h) = completed_by-comes f tag payload h.command
+
+event-comes : (f : Facts) (act : Act) → Comes f (event_by f act)
+event-comes f (Accept fis payload) = either f (slice_index fis 0 == h2d_type) (commanded f (h2d_at fis) payload) refuses (commanded-comes f (h2d_at fis) payload) (no_item refl)
+event-comes f (Complete tag payload) = completed-comes f tag payload (f.held tag)
+event-comes f (Reset kind) = no_item refl
+
+-- an item's deed comes from the session manager or from a live session
+pub item-from : (f : Facts) (act : Act) (deed : SessionDeed) (response : Response) → (event_by f act).deed ≡ InSession deed response → OfManager f deed ⊎ OfSession f deed
+item-from f act deed response is = (event-comes f act).from deed response is

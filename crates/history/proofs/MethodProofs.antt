@@ -1,0 +1,327 @@
+-- A method takes effect, and a column is listed, exactly where entries say so.
+use Rattle.std.proofs.Common.{◌≡◌, ℕ, ◌==◌, ◌≤◌, Bool, true, false, ◌&&◌, not, List, [], ◌∷◌, ◌++◌, Option, Some, None, refl, sym, subst, ◌∙◌, ap, cond, ◌⊎◌, inl, inr, eq-eqb, arith}
+use Rattle.std.specs.Prelude.{length, is_some, unwrap_or, map, filter, nat_le, slice_index, Ok}
+use Rattle.std.specs.List.{flat_map}
+use Rattle.std.proofs.lemmas.Bool.Decides.{nat_tests}
+use Rattle.fis.specs.H2d.{h2d_at}
+use Rattle.fis.specs.declared.h2d.RegH2d.{RegH2d}
+use Rattle.sp_cells.specs.declared.names.Uid.{Uid}
+use Rattle.sp_cells.specs.declared.names.Column.{Column}
+use Rattle.sp_cells.specs.declared.cells.Cell.{Cell}
+use Rattle.sp_cells.specs.Names.{get, col}
+use Rattle.sp_cells.specs.Flat.{LookUp}
+use Rattle.ace_eval.specs.Truth.{has}
+use Rattle.ace_eval.specs.Aces.{HasAce, acl_at, ace_of}
+use Rattle.ace_eval.proofs.AceLemmas.{some_ace, no_ace}
+use Rattle.audit.specs.declared.reason.AttemptFailure.{AttemptFailure}
+use Rattle.audit.specs.declared.reason.AttemptFailure.TheVariants.{WrongPin, LockedOut, Disabled, Unknown}
+use Rattle.audit.specs.declared.reason.Why.{Why}
+use Rattle.audit.specs.declared.reason.Why.TheVariants.{NoEntryHolds, NoAccessRow}
+use Rattle.sessions.specs.Attempts.{failure as failure_of}
+use Rattle.call_shapes.specs.Asks.{uid_of}
+use Rattle.history.specs.Sessions.{Begun}
+use Rattle.sp_cells.specs.declared.names.Sp.{Sp}
+use Rattle.trusted_cmds.specs.Commands.{is_queued}
+use Rattle.compacket.specs.Frames.{Frame, reading as frame_in}
+use Rattle.tcg_tokens.specs.Reading.{reading as message_in}
+use Rattle.tcg_tokens.specs.Tree.{Tree, number, named}
+use Rattle.history.specs.Commands.{Command, Send, reading}
+use Rattle.call_shapes.specs.declared.ask.Ask.{Ask}
+use Rattle.call_shapes.specs.declared.ask.Ask.TheVariants.{GetCells, GetBytes, SetCells, SetBytes, Authenticate, Activate, Revert, Other}
+use Rattle.std.specs.Option.{option_or}
+use Rattle.methods.specs.Kinds.{kind_of}
+use Rattle.methods.specs.Columns.{columns_of}
+use Rattle.methods.specs.Grants.{why_denied, unless_allowed, denial as denial_of, wanted, first_some}
+use Rattle.methods.specs.Listed.{is_asked, is_listed, shown, listed_among, listed}
+use Rattle.call_shapes.specs.CellValues.{cell_tree}
+use Rattle.history.specs.Calls.{Standing, Judgement, Refuses, Gives, Makes, Attempts, Activates, Reverts, denial, does, unless_denied, judged}
+use Rattle.history.specs.Events.{Event, Nothing, did}
+use Rattle.history.specs.Facts.{Facts, standing, session_named}
+use Rattle.history.specs.Decisions.{outcome_of, tried_in, admitted, unqueued, fails_queue, refuses, aborted, answers, to_manager, to_session, in_session, framed, sent, while_failed, is_busy, known, commanded}
+use Rattle.history.specs.History.{Act, event_by}
+use Rattle.history.specs.MethodLaws.{EffectLaw, EachHasAce, IsGranted, IsAmong, takes_effect, GrantLaw, IsListed, ListLaw, IsLookedAt, IsSent, CallLaw}
+
+none-some : {A : Type 0} {x : A} → None ≡ Some x → ⊥
+none-some h = cc
+
+clash : false ≡ true → ⊥
+clash h = cc
+
+same-why : {x y : Why} → Some x ≡ Some y → x ≡ y
+same-why h = cc
+
+-- ACEs by their test
+allowed-by : (s : Standing) (object method : Uid) (k : Option Column) (x : Option Uid) → ace_of s.rows s.sp object method k s.held ≡ x → (why : Why) → unless_allowed x why ≡ None → HasAce s.rows s.sp object method k s.held
+allowed-by s object method k (Some u) is why h = some_ace s.rows s.sp object method k s.held u is
+allowed-by s object method k None is why h = absurd (none-some (sym h))
+
+has-allowed : (s : Standing) (object method : Uid) (k : Option Column) (x : Option Uid) → ace_of s.rows s.sp object method k s.held ≡ x → (why : Why) → HasAce s.rows s.sp object method k s.held → unless_allowed x why ≡ None
+has-allowed s object method k (Some u) is why e = refl
+has-allowed s object method k None is why e = absurd (no_ace s.rows s.sp object method k s.held is e)
+
+some-ace-test : (s : Standing) (object method : Uid) (k : Option Column) (x : Option Uid) → ace_of s.rows s.sp object method k s.held ≡ x → is_some x ≡ true → HasAce s.rows s.sp object method k s.held
+some-ace-test s object method k (Some u) is h = some_ace s.rows s.sp object method k s.held u is
+some-ace-test s object method k None is h = absurd (clash h)
+
+test-some-ace : (s : Standing) (object method : Uid) (k : Option Column) (x : Option Uid) → ace_of s.rows s.sp object method k s.held ≡ x → HasAce s.rows s.sp object method k s.held → is_some x ≡ true
+test-some-ace s object method k (Some u) is e = refl
+test-some-ace s object method k None is e = absurd (no_ace s.rows s.sp object method k s.held is e)
+
+-- a method is offered where it has an ACE
+row-there : (row : Option (List Uid)) (ace : Uid) → has (unwrap_or row []) ace ≡ true → (r : List Uid) × (row ≡ Some r)
+row-there None ace h = absurd (clash h)
+row-there (Some r) ace h = (r, refl)
+
+-- no column of these is denied where each has an ACE
+either-none : (x y : Option Why) → option_or x y ≡ None → (x ≡ None) × (y ≡ None)
+either-none None y h = (refl, h)
+either-none (Some w) y h = absurd (none-some (sym h))
+
+each-has : (s : Standing) (object method : Uid) (ks : List (Option Column)) → first_some (map (denial_of s.rows s.sp object method s.held) ks) ≡ None → EachHasAce s object method ks
+each-has s object method [] h = tt
+each-has s object method (k ∷ ks) h =
+    let w = either-none (denial_of s.rows s.sp object method s.held k) (first_some (map (denial_of s.rows s.sp object method s.held) ks)) h in (
+      allowed-by s object method k (ace_of s.rows s.sp object method k s.held) refl (why_denied s.rows s.sp object method k (acl_at s.sp object method)) w.0,
+      each-has s object method ks w.1,
+    )
+
+has-each : (s : Standing) (object method : Uid) (ks : List (Option Column)) → EachHasAce s object method ks → first_some (map (denial_of s.rows s.sp object method s.held) ks) ≡ None
+has-each s object method [] h = refl
+has-each s object method (k ∷ ks) h =
+    ap (λ x. option_or x (first_some (map (denial_of s.rows s.sp object method s.held) ks))) (has-allowed s object method k (ace_of s.rows s.sp object method k s.held) refl (why_denied s.rows s.sp object method k (acl_at s.sp object method)) h.0)
+    ∙ has-each s object method ks h.1
+
+pub no-denial : (s : Standing) (object method : Uid) (ask : Ask) → IsGranted s object method ask → denial s object method ask ≡ None
+no-denial s object method ask h = has-each s object method (wanted ask) h
+
+pub denial-none : (s : Standing) (object method : Uid) (ask : Ask) → denial s object method ask ≡ None → IsGranted s object method ask
+denial-none s object method ask h = each-has s object method (wanted ask) h
+
+-- some ACE is wanted, and so the method is offered
+first-row : (s : Standing) (object method : Uid) (ks : List (Option Column)) (k : Option Column) (rest : List (Option Column)) → ks ≡ k ∷ rest → EachHasAce s object method ks → (r : List Uid) × (acl_at s.sp object method ≡ Some r)
+first-row s object method ks k rest is h =
+    let e : EachHasAce s object method (k ∷ rest) = subst (EachHasAce s object method) is h in row-there (acl_at s.sp object method) e.0.ace e.0.in_row
+
+not-empty : (p : ℕ × Tree) (ps : List (ℕ × Tree)) → (length (p ∷ ps) == 0) ≡ false
+not-empty p ps = grind (arith, nat_tests)
+
+pub granted-row : (s : Standing) (object method : Uid) (ask : Ask) → IsGranted s object method ask → (r : List Uid) × (acl_at s.sp object method ≡ Some r)
+granted-row s object method (SetCells []) h = first-row s object method (None ∷ []) None [] refl h
+granted-row s object method (SetCells (p ∷ ps)) h = first-row s object method (wanted (SetCells (p ∷ ps))) (Some (col p.0)) (map (λ q. Some (col q.0)) ps) (ap (λ b. cond b (None ∷ []) (map (λ q. Some (col q.0)) (p ∷ ps))) (not-empty p ps)) h
+granted-row s object method (GetCells a b) h = first-row s object method (None ∷ []) None [] refl h
+granted-row s object method (GetBytes a b) h = first-row s object method (None ∷ []) None [] refl h
+granted-row s object method (SetBytes a b) h = first-row s object method (None ∷ []) None [] refl h
+granted-row s object method (Authenticate a b) h = first-row s object method (None ∷ []) None [] refl h
+granted-row s object method Activate h = first-row s object method (None ∷ []) None [] refl h
+granted-row s object method Revert h = first-row s object method (None ∷ []) None [] refl h
+granted-row s object method Other h = first-row s object method (None ∷ []) None [] refl h
+
+effect-if : (s : Standing) (object method : Uid) (ask : Ask) (d : Option Why) → denial s object method ask ≡ d → takes_effect (unless_denied d (does s object ask)) ≡ true → IsGranted s object method ask
+effect-if s object method ask None is h = denial-none s object method ask is
+effect-if s object method ask (Some why) is h = absurd (clash h)
+
+denied-if : (s : Standing) (object method : Uid) (ask : Ask) (d : Option Why) → denial s object method ask ≡ d → (IsGranted s object method ask → ⊥) → (why : Why) × (unless_denied d (does s object ask) ≡ Refuses 1 (Some why))
+denied-if s object method ask None is h = absurd (h (denial-none s object method ask is))
+denied-if s object method ask (Some why) is h = (why, refl)
+
+pub grant_law : GrantLaw
+grant_law s object method ask =
+    let same : IsGranted s object method ask → judged s object method (Some ask) ≡ does s object ask = λ h. ap (λ d. unless_denied d (does s object ask)) (no-denial s object method ask h) in
+    record {
+      effect = λ valid. ((λ h. effect-if s object method ask (denial s object method ask) refl h), (λ h. ap takes_effect (same h) ∙ valid));
+      granted = same;
+      denied = λ h. denied-if s object method ask (denial s object method ask) refl h;
+    }
+
+-- what is listed
+among-left : {A : Type 0} (xs ys : List A) (y : A) → IsAmong xs y → IsAmong (xs ++ ys) y
+among-left [] ys y h = absurd h
+among-left (x ∷ xs) ys y (inl h) = inl h
+among-left (x ∷ xs) ys y (inr h) = inr (among-left xs ys y h)
+
+among-right : {A : Type 0} (xs ys : List A) (y : A) → IsAmong ys y → IsAmong (xs ++ ys) y
+among-right [] ys y h = h
+among-right (x ∷ xs) ys y h = inr (among-right xs ys y h)
+
+among-cases : {A : Type 0} (xs ys : List A) (y : A) → IsAmong (xs ++ ys) y → IsAmong xs y ⊎ IsAmong ys y
+among-cases [] ys y h = inr h
+among-cases (x ∷ xs) ys y (inl h) = inl (inl h)
+among-cases (x ∷ xs) ys y (inr h) = elim (among-cases xs ys y h) [ inl g ↦ inl (inr g) | inr g ↦ inr g ]
+
+in-flat : {A B : Type 0} (f : A → List B) (xs : List A) (y : B) → IsAmong (flat_map f xs) y → (x : A) × IsAmong xs x × IsAmong (f x) y
+in-flat f [] y h = absurd h
+in-flat f (x ∷ xs) y h = elim (among-cases (f x) (flat_map f xs) y h) [
+  | inl here ↦ (x, inl refl, here)
+  | inr rest ↦ let w = in-flat f xs y rest in (w.0, inr w.1, w.2)
+]
+
+flat-in : {A B : Type 0} (f : A → List B) (xs : List A) (x : A) (y : B) → IsAmong xs x → IsAmong (f x) y → IsAmong (flat_map f xs) y
+flat-in f [] x y h g = absurd h
+flat-in f (a ∷ xs) x y (inl h) g = among-left (f a) (flat_map f xs) y (rw h g)
+flat-in f (a ∷ xs) x y (inr h) g = among-right (f a) (flat_map f xs) y (flat-in f xs x y h g)
+
+in-filter : {A : Type 0} (p : A → Bool) (xs : List A) (y : A) → IsAmong (filter p xs) y → IsAmong xs y × (p y ≡ true)
+in-filter p [] y h = absurd h
+in-filter p (x ∷ xs) y h = by_test (p x) refl h (in-filter p xs y)
+  where
+    by_test : (b : Bool) → p x ≡ b → IsAmong (cond b (x ∷ filter p xs) (filter p xs)) y → (IsAmong (filter p xs) y → IsAmong xs y × (p y ≡ true)) → IsAmong (x ∷ xs) y × (p y ≡ true)
+    by_test true is (inl g) rest = (inl g, ap p (sym g) ∙ is)
+    by_test true is (inr g) rest = let w = rest g in (inr w.0, w.1)
+    by_test false is g rest = let w = rest g in (inr w.0, w.1)
+
+filter-in : {A : Type 0} (p : A → Bool) (xs : List A) (y : A) → IsAmong xs y → p y ≡ true → IsAmong (filter p xs) y
+filter-in p [] y h is = absurd h
+filter-in p (x ∷ xs) y (inl h) is = rw (ap p h ∙ is) (inl h)
+filter-in p (x ∷ xs) y (inr h) is = by_test (p x) (filter-in p xs y h is)
+  where
+    by_test : (b : Bool) → IsAmong (filter p xs) y → IsAmong (cond b (x ∷ filter p xs) (filter p xs)) y
+    by_test true g = inr g
+    by_test false g = g
+
+shown-is : (k : Column) (x : Option Cell) (value : Tree) → IsAmong (shown k x) value → (cell : Cell) × (x ≡ Some cell) × (value ≡ named (number k.0) (cell_tree cell))
+shown-is k None value h = absurd h
+shown-is k (Some cell) value (inl h) = (cell, refl, sym h)
+shown-is k (Some cell) value (inr h) = absurd h
+
+and-parts : (a b : Bool) → (a && b) ≡ true → (a ≡ true) × (b ≡ true)
+and-parts true b h = (refl, h)
+and-parts false b h = absurd (clash h)
+
+le-of : (a b : ℕ) → nat_le a b ≡ true → a ≤ b
+le-of a b h = grind (arith, nat_tests)
+
+of-le : (a b : ℕ) → a ≤ b → nat_le a b ≡ true
+of-le a b h = grind (arith, nat_tests)
+
+listed-is : (s : Standing) (object : Uid) (first last : ℕ) (value : Tree) → IsAmong (listed s.rows s.sp object first last s.held) value → IsListed s object first last value
+unfolding listed_among
+listed-is s object first last value h =
+    let kept : List Column = filter (is_listed s.rows s.sp object first last s.held) (columns_of (kind_of s.sp object)) in
+    let w = in-flat (λ k. shown k (s.rows s.sp object k)) kept value h in
+    let column : Column = w.0 in
+    let c = in-filter (is_listed s.rows s.sp object first last s.held) (columns_of (kind_of s.sp object)) column w.1 in
+    let test = and-parts (is_asked first last column) (is_some (ace_of s.rows s.sp object get (Some column) s.held)) c.1 in
+    let range = and-parts (nat_le first column.0) (nat_le column.0 last) test.0 in
+    let v = shown-is column (s.rows s.sp object column) value w.2 in
+    record {
+      column = column;
+      known = c.0;
+      from = le-of first column.0 range.0;
+      to = le-of column.0 last range.1;
+      ace = some-ace-test s object get (Some column) (ace_of s.rows s.sp object get (Some column) s.held) refl test.1;
+      cell = v.0;
+      in_view = v.1;
+      value_is = v.2;
+    }
+
+is-listed : (s : Standing) (object : Uid) (first last : ℕ) (value : Tree) → IsListed s object first last value → IsAmong (listed s.rows s.sp object first last s.held) value
+unfolding listed_among
+is-listed s object first last value w =
+    let passes : is_listed s.rows s.sp object first last s.held w.column ≡ true =
+    ap (λ b. b && nat_le w.column.0 last && is_some (ace_of s.rows s.sp object get (Some w.column) s.held)) (of-le first w.column.0 w.from)
+    ∙ ap (λ b. b && is_some (ace_of s.rows s.sp object get (Some w.column) s.held)) (of-le w.column.0 last w.to)
+    ∙ test-some-ace s object get (Some w.column) (ace_of s.rows s.sp object get (Some w.column) s.held) refl w.ace in
+    flat-in (λ k. shown k (s.rows s.sp object k)) (filter (is_listed s.rows s.sp object first last s.held) (columns_of (kind_of s.sp object))) w.column value
+    (filter-in (is_listed s.rows s.sp object first last s.held) (columns_of (kind_of s.sp object)) w.column w.known passes)
+    (rw w.in_view (inl (sym w.value_is)))
+
+pub list_law : ListLaw
+list_law s object first last value = (listed-is s object first last value, is-listed s object first last value)
+
+-- what is looked at
+abbrev pub looked_event : (f : Facts) (h : RegH2d) (payload : List ℕ) (command : Command) → Option ℕ → Event
+looked_event f h payload command (Some tag) = admitted f h tag command (is_some (f.held tag))
+looked_event f h payload command None = unqueued f payload command
+
+known-looked : (f : Facts) (h : RegH2d) (payload : List ℕ) (command : Command) (tag : Option ℕ) → known f h payload (Ok (command, tag)) ≡ looked_event f h payload command tag
+known-looked f h payload command (Some tag) = refl
+known-looked f h payload command None = refl
+
+pub looked_law : (f : Facts) (act : Act) (command : Command) (tag : Option ℕ) (c : IsLookedAt f act command tag) → event_by f act ≡ looked_event f (h2d_at c.fis) c.payload command tag
+looked_law f act command tag c =
+    let h = h2d_at c.fis in
+    ap (event_by f) c.accepts
+    ∙ ap (λ b. cond b (commanded f h c.payload) refuses) (eq-eqb (slice_index c.fis 0) 0x27 c.kind)
+    ∙ ap (λ b. cond (not b) refuses (cond (is_some f.failure) (while_failed (reading h)) (cond (is_busy f && not (is_queued h.command)) (fails_queue None aborted h None) (known f h c.payload (reading h))))) c.commands
+    ∙ ap (λ x. cond (is_some x) (while_failed (reading h)) (cond (is_busy f && not (is_queued h.command)) (fails_queue None aborted h None) (known f h c.payload (reading h)))) c.mended
+    ∙ ap (λ b. cond b (fails_queue None aborted h None) (known f h c.payload (reading h))) c.unmixed
+    ∙ ap (known f h c.payload) c.reads
+    ∙ known-looked f h c.payload command tag
+
+-- a frame that is taken
+pub sent_law : (f : Facts) (act : Act) (com_id : ℕ) (frame : Frame) → IsSent f act com_id frame → event_by f act ≡ framed f com_id frame
+sent_law f act com_id frame c =
+    looked_law f act (Send c.protocol com_id c.blocks c.dma) None c.looked
+    ∙ ap (λ b. cond b (sent f com_id (frame_in c.looked.payload)) refuses) c.taken
+    ∙ ap (sent f com_id) c.framed
+    ∙ ap (λ b. cond b (framed f com_id frame) (did Nothing)) c.addressed
+
+pub call_law : CallLaw
+call_law f act session object method args c =
+    sent_law f act c.com_id c.frame c.sent
+    ∙ ap (λ b. cond b (answers c.com_id c.frame.session (to_manager f c.com_id (message_in c.frame.payload))) (to_session f c.com_id c.frame.session c.frame.payload (session_named f c.com_id c.frame.session))) c.no_manager
+    ∙ ap (to_session f c.com_id c.frame.session c.frame.payload) c.named
+    ∙ ap (λ r. answers c.com_id c.frame.session (in_session f session r)) c.calls
+
+-- the reason of an access denial is none of an attempt
+abbrev of_access : Why → Bool
+of_access (NoEntryHolds sp object method column need) = true
+of_access (NoAccessRow sp object method) = true
+of_access _ = false
+
+unoffered-access : (look : LookUp) (sp : Sp) (object method : Uid) (k : Option Column) (row : Option (List Uid)) → of_access (why_denied look sp object method k row) ≡ true
+unoffered-access look sp object method k None = refl
+unoffered-access look sp object method k (Some row) = refl
+
+column-access : (s : Standing) (object method : Uid) (k : Option Column) (x : Option Uid) (why : Why) → unless_allowed x (why_denied s.rows s.sp object method k (acl_at s.sp object method)) ≡ Some why → of_access why ≡ true
+column-access s object method k None why h = ap of_access (sym (same-why h)) ∙ unoffered-access s.rows s.sp object method k (acl_at s.sp object method)
+column-access s object method k (Some ace) why h = absurd (none-some h)
+
+either-some : (x y : Option Why) (why : Why) → option_or x y ≡ Some why → (x ≡ Some why) ⊎ (y ≡ Some why)
+either-some None y why h = inr h
+either-some (Some w) y why h = inl h
+
+wanted-access : (s : Standing) (object method : Uid) (ks : List (Option Column)) (why : Why) → first_some (map (denial_of s.rows s.sp object method s.held) ks) ≡ Some why → of_access why ≡ true
+wanted-access s object method [] why h = absurd (none-some h)
+wanted-access s object method (k ∷ ks) why h = elim (either-some (denial_of s.rows s.sp object method s.held k) (first_some (map (denial_of s.rows s.sp object method s.held) ks)) why h) [
+  | inl g ↦ column-access s object method k (ace_of s.rows s.sp object method k s.held) why g
+  | inr g ↦ wanted-access s object method ks why g
+]
+
+denial-access : (s : Standing) (object method : Uid) (ask : Ask) (why : Why) → denial s object method ask ≡ Some why → of_access why ≡ true
+denial-access s object method ask why h = wanted-access s object method (wanted ask) why h
+
+-- what an effect is denied of, if anything, is an attempt's
+abbrev reason_of : Option Why → Bool
+reason_of None = false
+reason_of (Some why) = of_access why
+
+tried-reason : (f : Facts) (sp : Sp) (authority : Uid) (x : Option AttemptFailure) → reason_of (tried_in f sp authority x).denied ≡ false
+tried-reason f sp authority None = refl
+tried-reason f sp authority (Some LockedOut) = refl
+tried-reason f sp authority (Some WrongPin) = refl
+tried-reason f sp authority (Some Disabled) = refl
+tried-reason f sp authority (Some Unknown) = refl
+
+effect-reason : (f : Facts) (sp : Sp) (j : Judgement) → takes_effect j ≡ true → reason_of (outcome_of f sp j).denied ≡ false
+effect-reason f sp (Refuses status denied) h = absurd (clash h)
+effect-reason f sp (Gives results) h = refl
+effect-reason f sp (Makes change) h = refl
+effect-reason f sp (Attempts authority pin) h = tried-reason f sp authority (failure_of f.rows sp authority pin)
+effect-reason f sp Activates h = refl
+effect-reason f sp (Reverts r) h = refl
+
+effect-back : (f : Facts) (session : Begun) (object method : Uid) (ask : Ask) (d : Option Why) → denial (standing f session) object method ask ≡ d → takes_effect (does (standing f session) object ask) ≡ true
+    → (outcome_of f session.sp (unless_denied d (does (standing f session) object ask))).denied ≡ (outcome_of f session.sp (does (standing f session) object ask)).denied → IsGranted (standing f session) object method ask
+effect-back f session object method ask None is valid same = denial-none (standing f session) object method ask is
+effect-back f session object method ask (Some why) is valid same =
+    absurd (clash (sym (effect-reason f session.sp (does (standing f session) object ask) valid) ∙ ap reason_of (sym same) ∙ denial-access (standing f session) object method ask why is))
+
+pub effect_law : EffectLaw
+effect_law f act session object method args c ask shaped valid =
+    let s = standing f session in let o = uid_of object in let m = uid_of method in
+    let answer : Judgement → Event = λ j. answers c.com_id c.frame.session (outcome_of f session.sp j) in
+    let here : event_by f act ≡ answer (judged s o m (Some ask)) = call_law f act session object method args c ∙ ap (λ x. answer (judged s o m x)) shaped in (
+      (λ h. effect-back f session o m ask (denial s o m ask) refl valid (ap (λ (e : Event). e.denied) (sym here ∙ h))),
+      (λ g. here ∙ ap answer ((grant_law s o m ask).granted g)),
+    )

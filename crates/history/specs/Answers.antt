@@ -1,0 +1,218 @@
+-- [drive] The bytes and FISes that an act gives, by the facts (Serial ATA; ACS-3, IDENTIFY DEVICE and log page 10h; Opal SSC 2.01, section 3.1.1, Level 0 discovery).
+use Rattle.std.specs.Prelude.{ℕ, zero, suc, ◌+◌, ◌-◌, ◌*◌, ◌/◌, ◌%◌, ◌^◌, ◌==◌, Bool, true, false, ◌&&◌, ◌||◌, nat_le, List, [], ◌∷◌, ◌++◌, length, take, replicate, Option, Some, None, is_some, unwrap_or, Result, Ok, Err, if◌then◌else◌}
+use Rattle.std.specs.List.{flat_map, list_any}
+use Rattle.byteorder.specs.Endian.{big_bytes}
+use Rattle.fis.specs.H2d.{h2d_at}
+use Rattle.fis.specs.declared.any.Fis.{Fis}
+use Rattle.fis.specs.declared.any.Fis.TheVariants as fises
+use Rattle.sp_cells.specs.declared.names.TheConstants.{ADMINS, USERS}
+use Rattle.sp_cells.specs.declared.names.Sp.TheVariants.{Locking}
+use Rattle.sp_cells.specs.Authorities.{all_ranges}
+use Rattle.sp_cells.specs.Names.{mbr_control}
+use Rattle.sp_cells.specs.Ranges.{number, read_lock_enabled, write_lock_enabled, read_locked, write_locked}
+use Rattle.sp_cells.specs.ColumnNames.{mbr_enable_column, mbr_done_column}
+use Rattle.compacket.specs.Spelling.{com_packet_header}
+use Rattle.locking.specs.declared.range.Op.TheVariants.{Read}
+use Rattle.shadow_mbr.specs.Stored.{sector_size, sectors_from}
+use Rattle.history.specs.Commands.{Command, ReadQueued, WriteQueued, ReadDma, Send, Receive, Identify, ReadLog, CommandError, reading}
+use Rattle.locking.specs.declared.ranges.Verdict.{Verdict}
+use Rattle.locking.specs.declared.ranges.Verdict.TheVariants.{Serve, Shadow, Denied}
+use Rattle.sessions.specs.Starts.{is_in_use}
+use Rattle.transactions.specs.Bytes.{bytes_from}
+use Rattle.history.specs.Events.{HeldCommand, Failure, Held, Deed, OfQueue, Event}
+use Rattle.history.specs.Facts.{Facts}
+use Rattle.history.specs.Decisions.{verdict_on, discovery_com_id}
+
+abbrev pub bit : Bool → ℕ
+bit true = 1
+bit false = 0
+
+-- Bytes with zeros behind them up to a length, or cut at it.
+abbrev pub sized : ℕ → List ℕ → List ℕ
+sized n content = take n content ++ replicate (n - length content) 0
+
+-- What a read gives: the sectors, or the shadow's bytes, as they are then.
+abbrev pub read_by : Facts → ℕ → ℕ → Verdict → List ℕ
+read_by f lba count Serve = sectors_from f.sector lba count
+read_by f lba count Shadow = bytes_from f.byte (sector_size * lba) (sector_size * count)
+read_by f lba count (Denied why) = []
+
+-- Level 0 discovery: its header, and the features TPer, Locking, Geometry and Opal SSC 2.
+
+abbrev pub has_lock : Facts → ℕ → Bool
+has_lock f range =
+    (read_lock_enabled f.rows range == 1 && read_locked f.rows range == 1) || (write_lock_enabled f.rows range == 1 && write_locked f.rows range == 1)
+
+-- Bit 0 the drive can lock, bit 1 the Locking SP is Manufactured, bit 2 some range is locked, bit 4 MBR Enable, bit 5 Done.
+abbrev pub locking_flags : Facts → ℕ
+locking_flags f =
+    1 + 2 * bit (is_in_use f.rows Locking) + 4 * bit (list_any (has_lock f) all_ranges)
+    + 16 * bit (number f.rows Locking mbr_control mbr_enable_column == 1) + 32 * bit (number f.rows Locking mbr_control mbr_done_column == 1)
+
+abbrev pub feature : ℕ → List ℕ → List ℕ
+feature code content = big_bytes 2 code ++ 0x10 ∷ length content ∷ content
+
+abbrev pub discovery_features : Facts → List ℕ
+discovery_features f =
+    feature 0x0001 (0x11 ∷ replicate 11 0)
+    ++ feature 0x0002 (locking_flags f ∷ replicate 11 0)
+    ++ feature 0x0003 (replicate 8 0 ++ big_bytes 4 sector_size ++ big_bytes 8 1 ++ big_bytes 8 0)
+    ++ feature 0x0203 (big_bytes 2 0x1000 ++ big_bytes 2 4 ++ 0 ∷ big_bytes 2 ADMINS ++ big_bytes 2 USERS ++ 0 ∷ 0 ∷ replicate 5 0)
+
+abbrev pub discovery : Facts → List ℕ
+discovery f = big_bytes 4 (44 + length (discovery_features f)) ++ big_bytes 4 1 ++ replicate 40 0 ++ discovery_features f
+
+-- IDENTIFY DEVICE: 256 words, of which the low byte comes first.
+abbrev pub sectors_word : ℕ → ℕ → ℕ
+sectors_word sectors word = sectors / 2 ^ (16 * (word - 100)) % 65536
+
+abbrev pub identify_word : ℕ → ℕ → ℕ
+identify_word sectors word =
+    if word == 48 then 0x4001
+    else (if word == 75 then 0x001f
+    else (if word == 76 then 0x0100
+    else (if word == 83 then 0x6400
+    else (if nat_le 100 word && nat_le word 103 then sectors_word sectors word else 0))))
+
+abbrev pub low_first : ℕ → List ℕ
+low_first word = word % 256 ∷ word / 256 ∷ []
+
+abbrev pub run_from : ℕ → ℕ → List ℕ
+run_from first zero = []
+run_from first (suc n) = first ∷ run_from (suc first) n
+
+abbrev pub identity : Facts → List ℕ
+identity f = flat_map (λ word. low_first (identify_word f.sectors word)) (run_from 0 256)
+
+-- Log page 10h: bit 7 of byte 0 says that no queued command failed; the last byte makes the sum of all a multiple of 256.
+abbrev pub lba_bytes : ℕ → ℕ → List ℕ
+lba_bytes lba first = lba / 2 ^ first % 256 ∷ lba / 2 ^ (first + 8) % 256 ∷ lba / 2 ^ (first + 16) % 256 ∷ []
+
+abbrev pub page_head : Option Failure → List ℕ
+page_head None = 0x80 ∷ []
+page_head (Some failure) =
+    unwrap_or failure.tag 0x80 ∷ 0 ∷ 0x51 ∷ failure.error ∷ lba_bytes failure.lba 0 ++ failure.device ∷ lba_bytes failure.lba 24 ++ 0 ∷ low_first failure.count
+
+abbrev pub total : List ℕ → ℕ
+total [] = 0
+total (b ∷ bs) = b + total bs
+
+abbrev pub with_sum : List ℕ → List ℕ
+with_sum content = content ++ (256 - total content % 256) % 256 ∷ []
+
+abbrev pub error_log : Facts → List ℕ
+error_log f = with_sum (sized 511 (page_head f.failure))
+
+-- A receive: the response where it fits, else a header that tells its size, or a header alone where none waits.
+abbrev pub received_bytes : ℕ → ℕ → Option (List ℕ) → List ℕ
+received_bytes com_id room None = com_packet_header com_id 0 0 0
+received_bytes com_id room (Some response) =
+    if nat_le (length response) room then response else com_packet_header com_id (length response) (length response) 0
+
+abbrev pub receive_data : Facts → ℕ → ℕ → List ℕ
+receive_data f com_id room =
+    if com_id == discovery_com_id then sized room (discovery f) else sized room (received_bytes com_id room (f.waiting com_id))
+
+-- The data block of an unqueued command that is served.
+abbrev pub data_of : Facts → Command → List ℕ
+data_of f (ReadDma lba count) = read_by f lba count (verdict_on f Read lba count)
+data_of f (Receive protocol com_id blocks dma) = receive_data f com_id (sector_size * blocks)
+data_of f Identify = identity f
+data_of f (ReadLog dma) = error_log f
+data_of f _ = []
+
+abbrev pub data_read : Facts → Result (Command × Option ℕ) CommandError → List ℕ
+data_read f (Ok (command, None)) = data_of f command
+data_read f _ = []
+
+-- Of an accepted FIS with its event.
+abbrev pub accepted_data : Facts → List ℕ → Event → List ℕ
+accepted_data f fis event = if is_some event.failed then [] else data_read f (reading (h2d_at fis))
+
+-- Of a completion.
+abbrev pub held_data : Facts → HeldCommand → List ℕ
+held_data f h = held_read h.command
+  where
+    held_read : Command → List ℕ
+    held_read (ReadQueued lba count) = read_by f lba count h.verdict
+    held_read _ = []
+
+-- How many bytes a completion brings: the sectors of a held write.
+abbrev pub expected_by : Command → ℕ
+expected_by (WriteQueued lba count) = sector_size * count
+expected_by _ = 0
+
+abbrev pub expected : Option HeldCommand → ℕ
+expected None = 0
+expected (Some h) = expected_by h.command
+
+abbrev pub completed_data : Facts → Option HeldCommand → List ℕ
+completed_data f None = []
+completed_data f (Some h) = held_data f h
+
+-- FISes.
+
+-- DRDY, with the bit that ACS-3 calls command dependent; with ERR; with DRQ; with BSY.
+abbrev pub ready : ℕ
+ready = 0x50
+
+abbrev pub failed : ℕ
+failed = 0x51
+
+abbrev pub data_requested : ℕ
+data_requested = 0x58
+
+abbrev pub busy : ℕ
+busy = 0xd0
+
+abbrev pub status_of : Option ℕ → ℕ
+status_of None = ready
+status_of (Some error) = failed
+
+-- A register FIS with bit I, the status and the error; its other fields are 0.
+abbrev pub answer_fis : Bool → ℕ → ℕ → Fis
+answer_fis interrupt status error =
+    fises.D2h (record { interrupt = interrupt; port = 0; status = status; error = error; lba = 0; device = 0; count = 0 })
+
+-- A PIO Setup FIS, one for all blocks.
+abbrev pub pio_fis : Bool → ℕ → Fis
+pio_fis to_host end_status =
+    fises.PioSetup (record { interrupt = to_host; to_host = to_host; port = 0; status = data_requested; error = 0; lba = 0; device = 0; count = 0; end_status = end_status; transfer_count = sector_size })
+
+-- The PIO forms: a send has one PIO Setup FIS in front; IDENTIFY, a receive and a log read have it alone.
+abbrev pub served_fises : Command → List Fis
+served_fises (Send protocol com_id blocks false) = pio_fis false busy ∷ answer_fis true ready 0 ∷ []
+served_fises (Receive protocol com_id blocks false) = pio_fis true ready ∷ []
+served_fises (ReadLog false) = pio_fis true ready ∷ []
+served_fises Identify = pio_fis true ready ∷ []
+served_fises _ = answer_fis true ready 0 ∷ []
+
+abbrev pub fises_read : Result (Command × Option ℕ) CommandError → List Fis
+fises_read (Ok (command, tag)) = served_fises command
+fises_read (Err e) = []
+
+abbrev pub is_holding : Deed → Bool
+is_holding (OfQueue (Held tag held)) = true
+is_holding _ = false
+
+abbrev pub accepted_fises : List ℕ → Event → List Fis
+accepted_fises fis event =
+    if is_some event.failed then answer_fis true failed (unwrap_or event.failed 0) ∷ []
+    else (if is_holding event.deed then answer_fis false ready 0 ∷ [] else fises_read (reading (h2d_at fis)))
+
+-- A completion: a DMA Setup FIS with bit D for a read, the tag and the count of bytes, and a Set Device Bits FIS with bit I and the tag's bit of SActive.
+abbrev pub setup_fis : Bool → ℕ → ℕ → Fis
+setup_fis to_host tag count =
+    fises.DmaSetup (record { auto_activate = false; interrupt = false; to_host = to_host; port = 0; buffer_low = tag; buffer_high = 0; offset = 0; count = count })
+
+abbrev pub moved_fis : ℕ → Fis
+moved_fis tag = fises.SetDeviceBits (record { notification = false; interrupt = true; port = 0; status = ready; error = 0; active = 2 ^ tag })
+
+abbrev pub fises_of : ℕ → Command → List Fis
+fises_of tag (ReadQueued lba count) = setup_fis true tag (sector_size * count) ∷ moved_fis tag ∷ []
+fises_of tag (WriteQueued lba count) = setup_fis false tag (sector_size * count) ∷ moved_fis tag ∷ []
+fises_of tag _ = []
+
+abbrev pub completed_fises : ℕ → Option HeldCommand → List Fis
+completed_fises tag None = []
+completed_fises tag (Some h) = fises_of tag h.command

@@ -1,0 +1,93 @@
+-- Which deed an item can do after a past: a law over every act. And with it, when no transaction can be open.
+use Rattle.std.specs.Prelude.{◌≡◌, ◌==◌, ℕ, Bool, true, false, List, ◌∷◌, Option, Some, None}
+use Rattle.sp_cells.specs.declared.names.Sp.{Sp}
+use Rattle.sp_cells.specs.declared.names.Sp.TheVariants.{Admin, Locking}
+use Rattle.sp_cells.specs.Names.{c_pin_sid}
+use Rattle.sp_cells.specs.declared.names.Uid.{Uid}
+use Rattle.sp_cells.specs.declared.cells.Cell.{Cell}
+use Rattle.history.specs.Opening.{Origin}
+use Rattle.methods.specs.Settings.{cells_set, bytes_set}
+use Rattle.history.specs.Changes.{Change, Sets, Restores, Resets}
+use Rattle.history.specs.Sessions.{Begun}
+use Rattle.sessions.specs.Starts.{is_in_use}
+use Rattle.history.specs.Events.{SessionDeed, Unchanged, Started, Tried, Changed, Began, Committed, Aborted, Ended, Activated, Reverted, Response, InSession, Event}
+use Rattle.history.specs.Readers.{session_on, next_number, open_on, is_of, in_force}
+use Rattle.history.specs.History.{Act, event, log}
+
+-- A session lives on the SP.
+pub record IsIn (past : List Event) (sp : Sp) (session : Begun) : Type 0 where
+  pub lives : session_on past sp ≡ Some session
+  pub on : session.sp ≡ sp
+
+-- It began on an SP that is Manufactured and had no session, with the next number.
+pub record IsNew (o : Origin) (past : List Event) (session : Begun) : Type 0 where
+  pub free : session_on past session.sp ≡ None
+  pub made : is_in_use (in_force o past) session.sp ≡ true
+  pub number : session.number ≡ next_number past
+
+pub record Begins (past : List Event) (sp : Sp) (number : ℕ) : Type 0 where
+  pub session : Begun
+  pub lives : IsIn past sp session
+  pub own : session.number ≡ number
+  pub free : open_on past sp ≡ None
+
+pub record Closes (past : List Event) (sp : Sp) : Type 0 where
+  pub session : Begun
+  pub lives : IsIn past sp session
+  pub own : is_of session.number (open_on past sp) ≡ true
+
+-- A session of the Admin SP that has no transaction open.
+pub record IsOutside (past : List Event) : Type 0 where
+  pub session : Begun
+  pub lives : IsIn past Admin session
+  pub outside : is_of session.number (open_on past Admin) ≡ false
+
+-- It sets cells of this object, or bytes.
+abbrev pub is_of_row : Uid → Change → Bool
+is_of_row object (Sets (cells_set its cells)) = its.0 == object.0
+is_of_row object (Sets (bytes_set at bytes)) = true
+is_of_row object Restores = false
+is_of_row object (Resets kind) = false
+
+-- A Set of a live session; on the Admin SP of SID's PIN alone.
+pub record Changes (past : List Event) (sp : Sp) (change : Change) : Type 0 where
+  pub session : Begun
+  pub lives : IsIn past sp session
+  pub row : sp ≡ Admin → is_of_row c_pin_sid change ≡ true
+
+abbrev pub CanDo : Origin → List Event → SessionDeed → Type 0
+CanDo o past Unchanged = Unit {0}
+CanDo o past (Started session row) = IsNew o past session
+CanDo o past (Tried attempt) = Unit {0}
+CanDo o past (Changed sp change) = Changes past sp change
+CanDo o past (Began sp number) = Begins past sp number
+CanDo o past (Committed sp) = Closes past sp
+CanDo o past (Aborted sp) = Closes past sp
+CanDo o past (Ended sp) = (session : Begun) × IsIn past sp session
+CanDo o past (Activated pin) = IsOutside past × (is_in_use (in_force o past) Locking ≡ false)
+CanDo o past (Reverted sp wipes) = IsOutside past
+
+abbrev pub DeedLaw : Type 0
+DeedLaw = (o : Origin) (past : List Event) (act : Act) (deed : SessionDeed) (response : Response) → (event o past act).deed ≡ InSession deed response → CanDo o past deed
+
+-- An open transaction is that of the live session of its SP.
+abbrev pub OwnerLaw : Type 0
+OwnerLaw =
+    (o : Origin) (acts : List Act) (sp : Sp) (number : ℕ) → open_on (log o acts) sp ≡ Some number
+    → (session : Begun) × (session_on (log o acts) sp ≡ Some session) × (session.number ≡ number)
+
+-- While a session of the Locking SP lives, the SP is Manufactured.
+abbrev pub LifeLaw : Type 0
+LifeLaw = (o : Origin) (acts : List Act) (session : Begun) → session_on (log o acts) Locking ≡ Some session → is_in_use (in_force o (log o acts)) Locking ≡ true
+
+-- At an Activate that takes effect no transaction is open.
+abbrev pub ActivateLaw : Type 0
+ActivateLaw =
+    (o : Origin) (acts : List Act) (act : Act) (pin : Option Cell) (response : Response) → (event o (log o acts) act).deed ≡ InSession (Activated pin) response
+    → (sp : Sp) → open_on (log o acts) sp ≡ None
+
+-- At a Revert none is open on the Admin SP: so none but that of a session of the Locking SP, which the Revert ends.
+abbrev pub RevertLaw : Type 0
+RevertLaw =
+    (o : Origin) (acts : List Act) (act : Act) (sp : Sp) (wipes : Bool) (response : Response) → (event o (log o acts) act).deed ≡ InSession (Reverted sp wipes) response
+    → (open_on (log o acts) Admin ≡ None) × (session_on (event o (log o acts) act ∷ log o acts) Locking ≡ None)

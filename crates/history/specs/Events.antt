@@ -1,0 +1,109 @@
+-- [drive] What an act turned out to do, and the words by which a list of events is read. The newest event comes first.
+-- A deed names its SP, and records what it did: the session as it began, the PIN that an Activate copied, whether media were wiped, the bytes of a response.
+use Rattle.std.specs.Prelude.{ℕ, ◌+◌, Bool, List, [], ◌∷◌, ◌++◌, Option, Some, None, option_to_list, if◌then◌else◌}
+use Rattle.sp_cells.specs.declared.names.Uid.{Uid}
+use Rattle.sp_cells.specs.declared.names.Sp.{Sp}
+use Rattle.sp_cells.specs.declared.cells.Cell.{Cell}
+use Rattle.audit.specs.declared.reason.AttemptFailure.{AttemptFailure}
+use Rattle.audit.specs.declared.reason.Why.{Why}
+use Rattle.history.specs.Commands.{Command}
+use Rattle.locking.specs.declared.ranges.Verdict.{Verdict}
+use Rattle.history.specs.Changes.{Change}
+use Rattle.history.specs.Sessions.{Begun}
+
+-- An attempt that began no session: on an authority of an SP whose C_PIN row is `row`. A right one, which has no failure, was made in a
+-- session, which gained these authorities.
+pub record Attempt : Type 0 where
+  pub sp : Sp
+  pub authority : Uid
+  pub row : Uid
+  pub failure : Option AttemptFailure
+  pub gained : List Uid
+
+-- What an item did, in a session or to the session manager.
+pub data SessionDeed : Type 0 where
+  Unchanged : SessionDeed
+  Started : (session : Begun) (row : Uid) → SessionDeed
+  Tried : (attempt : Attempt) → SessionDeed
+  Changed : (sp : Sp) (change : Change) → SessionDeed
+  Began : (sp : Sp) (number : ℕ) → SessionDeed
+  Committed : (sp : Sp) → SessionDeed
+  Aborted : (sp : Sp) → SessionDeed
+  Ended : (sp : Sp) → SessionDeed
+  Activated : (pin : Option Cell) → SessionDeed
+  Reverted : (sp : Sp) (wipes : Bool) → SessionDeed
+
+-- The response that an item left on its ComID: the bytes of a frame.
+pub record Response : Type 0 where
+  pub com_id : ℕ
+  pub bytes : List ℕ
+
+-- A command that is held, with the verdict of its acceptance.
+pub record HeldCommand : Type 0 where
+  pub command : Command
+  pub verdict : Verdict
+
+-- What log page 10h will tell of the command that failed the queue: its tag where it is queued, the error, and fields of its FIS.
+pub record Failure : Type 0 where
+  pub tag : Option ℕ
+  pub error : ℕ
+  pub lba : ℕ
+  pub device : ℕ
+  pub count : ℕ
+
+-- What became of the queue.
+pub data QueueDeed : Type 0 where
+  Held : (tag : ℕ) (held : HeldCommand) → QueueDeed
+  Completed : (tag : ℕ) → QueueDeed
+  CompletedWrite : (tag lba : ℕ) (bytes : List ℕ) → QueueDeed
+  QueueFailed : (failure : Failure) → QueueDeed
+  QueueMended : QueueDeed
+
+-- What an act did, by the part of the drive that it did it to.
+pub data Deed : Type 0 where
+  Nothing : Deed
+  -- an item that was taken, and its response
+  InSession : (deed : SessionDeed) (response : Response) → Deed
+  OfQueue : (deed : QueueDeed) → Deed
+  -- an unqueued write
+  Wrote : (lba : ℕ) (bytes : List ℕ) → Deed
+  -- a receive that took the waiting response
+  Took : (com_id : ℕ) → Deed
+  WasReset : (kind : ℕ) → Deed
+
+pub record Event : Type 0 where
+  -- the error of a command that failed
+  pub failed : Option ℕ
+  pub deed : Deed
+  -- what denied it
+  pub denied : Option Why
+
+abbrev pub did : Deed → Event
+did deed = record { failed = None; deed = deed; denied = None }
+
+-- The words.
+
+-- The first, or else the second.
+abbrev pub or_else : {A : Type 0} → Option A → Option A → Option A
+or_else (Some x) y = Some x
+or_else None y = y
+
+-- What f reads off the latest event off which it reads something.
+abbrev pub latest : {A : Type 0} → (Deed → Option A) → List Event → Option A
+latest f [] = None
+latest f (event ∷ before) = or_else (f event.deed) (latest f before)
+
+-- What came after the latest event that passes.
+abbrev pub since : (Deed → Bool) → List Event → List Event
+since p [] = []
+since p (event ∷ before) = if p event.deed then [] else event ∷ since p before
+
+-- All that f reads, the newest first.
+abbrev pub every : {A : Type 0} → (Deed → Option A) → List Event → List A
+every f [] = []
+every f (event ∷ before) = option_to_list (f event.deed) ++ every f before
+
+-- How many pass.
+abbrev pub count : (Deed → Bool) → List Event → ℕ
+count p [] = 0
+count p (event ∷ before) = if p event.deed then count p before + 1 else count p before

@@ -1,0 +1,122 @@
+-- A method takes effect, and a column is listed, exactly where an access entry that names it holds of the session's authorities in its view.
+use Rattle.std.specs.Prelude.{◌≡◌, ◌⊎◌, ℕ, ◌≤◌, ◌==◌, ◌↔◌, ◌&&◌, Bool, true, false, not, is_some, slice_index, List, [], ◌∷◌, Option, Some, None, Ok}
+use Rattle.fis.specs.Types.{h2d_type}
+use Rattle.fis.specs.H2d.{h2d_at}
+use Rattle.sp_cells.specs.declared.names.Uid.{Uid}
+use Rattle.sp_cells.specs.declared.cells.Cell.{Cell}
+use Rattle.sp_cells.specs.Names.{get}
+use Rattle.ace_eval.specs.Aces.{HasAce}
+use Rattle.audit.specs.declared.reason.Why.{Why}
+use Rattle.trusted_cmds.specs.Commands.{is_queued}
+use Rattle.compacket.specs.Frames.{Frame, reading as frame_in}
+use Rattle.tcg_tokens.specs.Message.{call}
+use Rattle.tcg_tokens.specs.Reading.{reading as message_in}
+use Rattle.tcg_tokens.specs.Tree.{Tree, Trees, number, named}
+use Rattle.history.specs.Commands.{Command, Send, reading}
+use Rattle.call_shapes.specs.Asks.{uid_of}
+use Rattle.call_shapes.specs.Statuses.{not_authorized}
+use Rattle.history.specs.Sessions.{Begun}
+use Rattle.call_shapes.specs.declared.ask.Ask.{Ask}
+use Rattle.methods.specs.Kinds.{kind_of}
+use Rattle.methods.specs.Columns.{columns_of}
+use Rattle.methods.specs.Grants.{wanted}
+use Rattle.methods.specs.Listed.{listed}
+use Rattle.call_shapes.specs.CellValues.{cell_tree}
+use Rattle.sp_cells.specs.declared.names.Column.{Column}
+use Rattle.history.specs.Calls.{Standing, Judgement, Refuses, Gives, Makes, Attempts, Activates, Reverts, asked, does, judged}
+use Rattle.history.specs.Facts.{Facts, session_named, standing}
+use Rattle.history.specs.Decisions.{answers, is_trusted, is_session_com_id, is_manager, is_busy, outcome_of, judgement_on}
+use Rattle.history.specs.History.{Act, Accept, event_by}
+
+-- Each of these columns, or with none asked for the method, has an ACE: one that names it, and whose expression is the writing of a tree
+-- that is true of the authorities.
+abbrev pub EachHasAce : Standing → Uid → Uid → List (Option Column) → Type 0
+EachHasAce s object method [] = Unit {0}
+EachHasAce s object method (k ∷ ks) = HasAce s.rows s.sp object method k s.held × EachHasAce s object method ks
+
+-- A Set of columns wants an ACE for each, any other call one that holds.
+abbrev pub IsGranted : Standing → Uid → Uid → Ask → Type 0
+IsGranted s object method ask = EachHasAce s object method (wanted ask)
+
+abbrev pub takes_effect : Judgement → Bool
+takes_effect (Refuses status denied) = false
+takes_effect (Gives results) = true
+takes_effect (Makes setting) = true
+takes_effect (Attempts authority pin) = true
+takes_effect Activates = true
+takes_effect (Reverts sp) = true
+
+-- Of a call of the right shape: with valid values it takes effect exactly where it is granted, and then it is what the ask comes to; where it is
+-- not granted, it is refused with a reason.
+pub record IsJudgedByAces (s : Standing) (object method : Uid) (ask : Ask) : Type 0 where
+  pub effect : takes_effect (does s object ask) ≡ true → (takes_effect (judged s object method (Some ask)) ≡ true) ↔ IsGranted s object method ask
+  pub granted : IsGranted s object method ask → judged s object method (Some ask) ≡ does s object ask
+  pub denied : (IsGranted s object method ask → ⊥) → (why : Why) × (judged s object method (Some ask) ≡ Refuses not_authorized (Some why))
+
+abbrev pub GrantLaw : Type 0
+GrantLaw = (s : Standing) (object method : Uid) (ask : Ask) → IsJudgedByAces s object method ask
+
+-- An element of a list.
+abbrev pub IsAmong : {A : Type 0} → List A → A → Type 0
+IsAmong [] y = ⊥
+IsAmong (x ∷ xs) y = (x ≡ y) ⊎ IsAmong xs y
+
+-- A column is listed, with its cell: it is one of the object's, it is asked for, an ACE that names it holds, and the view has that cell.
+pub record IsListed (s : Standing) (object : Uid) (first last : ℕ) (value : Tree) : Type 0 where
+  pub column : Column
+  pub known : IsAmong (columns_of (kind_of s.sp object)) column
+  pub from : first ≤ column.0
+  pub to : column.0 ≤ last
+  pub ace : HasAce s.rows s.sp object get (Some column) s.held
+  pub cell : Cell
+  pub in_view : s.rows s.sp object column ≡ Some cell
+  pub value_is : value ≡ named (number column.0) (cell_tree cell)
+
+abbrev pub ListLaw : Type 0
+ListLaw =
+    (s : Standing) (object : Uid) (first last : ℕ) (value : Tree)
+    → IsAmong (listed s.rows s.sp object first last s.held) value ↔ IsListed s object first last value
+
+-- An accepted FIS whose command is looked at: it is one, the queue has not failed, and a command that is not queued stands beside no held one.
+pub record IsLookedAt (f : Facts) (act : Act) (command : Command) (tag : Option ℕ) : Type 0 where
+  pub fis : List ℕ
+  pub payload : List ℕ
+  pub accepts : act ≡ Accept fis payload
+  pub kind : slice_index fis 0 ≡ h2d_type
+  pub commands : (h2d_at fis).is_command ≡ true
+  pub mended : f.failure ≡ None
+  pub unmixed : (is_busy f && not (is_queued (h2d_at fis).command)) ≡ false
+  pub reads : reading (h2d_at fis) ≡ Ok (command, tag)
+
+-- An act sends a frame on its ComID, on which no response waits: it is taken.
+pub record IsSent (f : Facts) (act : Act) (com_id : ℕ) (frame : Frame) : Type 0 where
+  pub protocol : ℕ
+  pub blocks : ℕ
+  pub dma : Bool
+  pub looked : IsLookedAt f act (Send protocol com_id blocks dma) None
+  pub taken : (is_trusted protocol blocks && is_session_com_id com_id && not (is_some (f.waiting com_id))) ≡ true
+  pub framed : frame_in looked.payload ≡ Ok frame
+  pub addressed : (frame.com_id == com_id) ≡ true
+
+-- And it has a call to a live session.
+pub record IsCall (f : Facts) (act : Act) (session : Begun) (object method : List ℕ) (args : Trees) : Type 0 where
+  pub com_id : ℕ
+  pub frame : Frame
+  pub sent : IsSent f act com_id frame
+  pub no_manager : is_manager frame.session ≡ false
+  pub named : session_named f com_id frame.session ≡ Some session
+  pub status : List ℕ
+  pub calls : message_in frame.payload ≡ Ok (call object method args status)
+
+-- What is judged of it decides what it does and how it is answered.
+abbrev pub CallLaw : Type 0
+CallLaw =
+    (f : Facts) (act : Act) (session : Begun) (object method : List ℕ) (args : Trees) (c : IsCall f act session object method args)
+    → event_by f act ≡ answers c.com_id c.frame.session (outcome_of f session.sp (judgement_on f session (uid_of object) (uid_of method) args))
+
+-- And so, act by act: of a call of the right shape with valid values, the act does and answers what its ask comes to exactly where it is granted.
+abbrev pub EffectLaw : Type 0
+EffectLaw =
+    (f : Facts) (act : Act) (session : Begun) (object method : List ℕ) (args : Trees) (c : IsCall f act session object method args) (ask : Ask)
+    → asked session.sp (uid_of object) (uid_of method) args ≡ Some ask → takes_effect (does (standing f session) (uid_of object) ask) ≡ true
+    → (event_by f act ≡ answers c.com_id c.frame.session (outcome_of f session.sp (does (standing f session) (uid_of object) ask))) ↔ IsGranted (standing f session) (uid_of object) (uid_of method) ask

@@ -1,0 +1,303 @@
+-- [drive] What is read off a list of events: sessions, transactions, changes in force, Tries, media, the queue, waiting responses. By SP, as
+-- an SP has one session at a time. The newest event comes first.
+use Rattle.std.specs.Prelude.{ℕ, ◌+◌, ◌-◌, ◌*◌, ◌/◌, ◌^◌, ◌==◌, Bool, true, false, ◌&&◌, nat_le, nat_lt, List, [], ◌∷◌, ◌++◌, length, take, drop, Option, Some, None, unwrap_or, if◌then◌else◌}
+use Rattle.std.specs.List.{flat_map}
+use Rattle.sp_cells.specs.declared.names.Uid.{Uid}
+use Rattle.sp_cells.specs.declared.names.Sp.{Sp}
+use Rattle.sp_cells.specs.declared.names.Sp.TheVariants.{Admin, Locking}
+use Rattle.sp_cells.specs.declared.cells.Cell.{Cell}
+use Rattle.sp_cells.specs.declared.cells.Cell.TheVariants.{Number}
+use Rattle.sp_cells.specs.Limits.{manufactured, manufactured_inactive}
+use Rattle.sp_cells.specs.Names.{locking_sp, admin_pin_uid}
+use Rattle.sp_cells.specs.Flat.{LookUp, sp_eq}
+use Rattle.sp_cells.specs.ColumnNames.{life_cycle_state_column, pin_column}
+use Rattle.sp_tables.specs.Contents.{look_up, factory_contents}
+use Rattle.audit.specs.declared.reason.AttemptFailure.{AttemptFailure}
+use Rattle.audit.specs.declared.reason.AttemptFailure.TheVariants.{WrongPin, LockedOut, Disabled, Unknown}
+use Rattle.shadow_mbr.specs.Stored.{sector_size, zeros}
+use Rattle.history.specs.Opening.{Origin}
+use Rattle.sp_tables.specs.Looks.{RowLook}
+use Rattle.methods.specs.Settings.{cells_set}
+use Rattle.history.specs.Changes.{Change, Sets, Restores, Resets, apply_all, byte_in, with_tries}
+use Rattle.history.specs.Sessions.{Begun}
+use Rattle.history.specs.Events.{SessionDeed, Started, Tried, Changed, Began, Committed, Aborted, Ended, Activated, Reverted, HeldCommand, Failure, QueueDeed, Held, Completed, CompletedWrite, QueueFailed, QueueMended, Deed, InSession, OfQueue, Wrote, Took, WasReset, Event, latest, since, every, count}
+
+-- It speaks of this SP.
+abbrev pub on_sp : {A : Type 0} → Sp → Sp → A → Option A
+on_sp sp named x = if sp_eq named sp then Some x else None
+
+-- A Revert of the Admin SP restores both.
+abbrev pub restores : Sp → Sp → Bool
+restores Admin sp = true
+restores Locking sp = sp_eq Locking sp
+
+abbrev pub if_restored : {A : Type 0} → Sp → Sp → A → Option A
+if_restored reverted sp x = if restores reverted sp then Some x else None
+
+-- Sessions.
+
+abbrev pub is_start : Deed → Bool
+is_start (InSession (Started session row) response) = true
+is_start _ = false
+
+-- The number of the next session: they count up from 1000h, over resets and Reverts too.
+abbrev pub next_number : List Event → ℕ
+next_number past = 0x1000 + count is_start past
+
+abbrev pub lives_by : Sp → SessionDeed → Option (Option Begun)
+lives_by sp (Started session row) = on_sp sp session.sp (Some session)
+lives_by sp (Ended ended) = on_sp sp ended None
+lives_by sp (Reverted reverted wipes) = if_restored reverted sp None
+lives_by sp _ = None
+
+abbrev pub living : Sp → Deed → Option (Option Begun)
+living sp (InSession deed response) = lives_by sp deed
+living sp (WasReset kind) = Some None
+living sp _ = None
+
+-- The live session of an SP: the latest that began on it, unless its own end, a Revert of its SP or a reset came since.
+abbrev pub session_on : List Event → Sp → Option Begun
+session_on past sp = unwrap_or (latest (living sp) past) None
+
+abbrev pub starts_by : Sp → SessionDeed → Bool
+starts_by sp (Started session row) = sp_eq session.sp sp
+starts_by sp _ = false
+
+abbrev pub starts : Sp → Deed → Bool
+starts sp (InSession deed response) = starts_by sp deed
+starts sp _ = false
+
+abbrev pub gains_by : Sp → SessionDeed → Option (List Uid)
+gains_by sp (Tried attempt) = on_sp sp attempt.sp attempt.gained
+gains_by sp _ = None
+
+abbrev pub gains : Sp → Deed → Option (List Uid)
+gains sp (InSession deed response) = gains_by sp deed
+gains sp _ = None
+
+-- The authorities of the session of an SP: those that it began with, and those gained since.
+abbrev pub authorities : List Event → Begun → List Uid
+authorities past session = flat_map (λ us. us) (every (gains session.sp) (since (starts session.sp) past)) ++ session.authorities
+
+-- Transactions.
+
+abbrev pub turns_by : Sp → SessionDeed → Option (Option ℕ)
+turns_by sp (Began begun number) = on_sp sp begun (Some number)
+turns_by sp (Committed committed) = on_sp sp committed None
+turns_by sp (Aborted aborted) = on_sp sp aborted None
+turns_by sp (Ended ended) = on_sp sp ended None
+turns_by sp (Activated pin) = Some None
+turns_by sp (Reverted reverted wipes) = Some None
+turns_by sp _ = None
+
+abbrev pub turns : Sp → Deed → Option (Option ℕ)
+turns sp (InSession deed response) = turns_by sp deed
+turns sp (WasReset kind) = Some None
+turns sp _ = None
+
+-- The session whose transaction is open on an SP. An Activate and a Revert leave none open; that none but those of ended sessions is open
+-- there is a law.
+abbrev pub open_on : List Event → Sp → Option ℕ
+open_on past sp = unwrap_or (latest (turns sp) past) None
+
+abbrev pub begins_by : Sp → SessionDeed → Bool
+begins_by sp (Began begun number) = sp_eq begun sp
+begins_by sp _ = false
+
+abbrev pub begins : Sp → Deed → Bool
+begins sp (InSession deed response) = begins_by sp deed
+begins sp _ = false
+
+abbrev pub changes_by : Sp → SessionDeed → Option Change
+changes_by sp (Changed changed change) = on_sp sp changed change
+changes_by sp _ = None
+
+abbrev pub changes_on : Sp → Deed → Option Change
+changes_on sp (InSession deed response) = changes_by sp deed
+changes_on sp _ = None
+
+-- The Sets on an SP since its latest begin, the newest first.
+abbrev pub own_changes : List Event → Sp → List Change
+own_changes past sp = every (changes_on sp) (since (begins sp) past)
+
+abbrev pub if_open : Option ℕ → List Change → List Change
+if_open None own = []
+if_open (Some number) own = own
+
+-- Those of the transaction that is open, if one is.
+abbrev pub open_changes : List Event → Sp → List Change
+open_changes past sp = if_open (open_on past sp) (own_changes past sp)
+
+-- Changes in force.
+
+abbrev pub only_on : Sp → Sp → List Change → List Change
+only_on sp named changes = if sp_eq named sp then changes else []
+
+abbrev pub unless_open : Option ℕ → Change → List Change
+unless_open None change = change ∷ []
+unless_open (Some number) change = []
+
+abbrev pub state_change : ℕ → List Change
+state_change state = Sets (cells_set locking_sp ((life_cycle_state_column, Number state) ∷ [])) ∷ []
+
+-- The Locking SP is Manufactured, and its Admin1 has SID's PIN.
+abbrev pub pin_change : Option Cell → List Change
+pin_change None = []
+pin_change (Some pin) = Sets (cells_set (admin_pin_uid 1) ((pin_column, pin) ∷ [])) ∷ []
+
+abbrev pub activation : Option Cell → Sp → List Change
+activation pin Admin = state_change manufactured
+activation pin Locking = pin_change pin
+
+-- The factory's cells; after a Revert of the Locking SP alone the Admin SP knows it as Manufactured-Inactive.
+abbrev pub restoring : Sp → Sp → List Change
+restoring Admin sp = Restores ∷ []
+restoring Locking Locking = Restores ∷ []
+restoring Locking Admin = state_change manufactured_inactive
+
+abbrev pub brought_by : List Event → Sp → SessionDeed → List Change
+brought_by past sp (Changed changed change) = only_on sp changed (unless_open (open_on past sp) change)
+brought_by past sp (Committed committed) = only_on sp committed (open_changes past sp)
+brought_by past sp (Activated pin) = activation pin sp
+brought_by past sp (Reverted reverted wipes) = restoring reverted sp
+brought_by past sp _ = []
+
+-- What an act brought into force on an SP, after those events.
+abbrev pub brought : List Event → Sp → Deed → List Change
+brought past sp (InSession deed response) = brought_by past sp deed
+brought past sp (WasReset kind) = Resets kind ∷ []
+brought past sp _ = []
+
+-- The changes in force on an SP, the newest first.
+abbrev pub changes : List Event → Sp → List Change
+changes [] sp = []
+changes (event ∷ before) sp = brought before sp event.deed ++ changes before sp
+
+-- Tries.
+
+-- The largest number of a cell stays.
+abbrev pub most_tries : ℕ
+most_tries = 2 ^ 64 - 1
+
+abbrev pub one_more : ℕ → ℕ
+one_more n = if n == most_tries then n else n + 1
+
+abbrev pub same_row : Sp → Uid → Sp → Uid → Bool
+same_row sp row sp' row' = sp_eq sp sp' && row.0 == row'.0
+
+-- A wrong PIN counts, a right one and what restores the row or cuts the power makes them 0.
+abbrev pub tries_tried : Option AttemptFailure → ℕ → ℕ
+tries_tried None before = 0
+tries_tried (Some WrongPin) before = one_more before
+tries_tried (Some LockedOut) before = before
+tries_tried (Some Disabled) before = before
+tries_tried (Some Unknown) before = before
+
+abbrev pub tries_by : Sp → Uid → SessionDeed → ℕ → ℕ
+tries_by sp row (Started session its_row) before = if same_row session.sp its_row sp row then 0 else before
+tries_by sp row (Tried attempt) before = if same_row attempt.sp attempt.row sp row then tries_tried attempt.failure before else before
+tries_by sp row (Reverted reverted wipes) before = if restores reverted sp then 0 else before
+tries_by sp row _ before = before
+
+abbrev pub tries_then : Sp → Uid → Deed → ℕ → ℕ
+tries_then sp row (InSession deed response) before = tries_by sp row deed before
+tries_then sp row (WasReset kind) before = if kind == 0 then 0 else before
+tries_then sp row _ before = before
+
+-- The Tries of a C_PIN row.
+abbrev pub tries : List Event → Sp → Uid → ℕ
+tries [] sp row = 0
+tries (event ∷ before) sp row = tries_then sp row event.deed (tries before sp row)
+
+-- Rows and the shadow's bytes, in force and in a session's view.
+
+abbrev pub factory_rows : Origin → LookUp
+factory_rows o = look_up (factory_contents o.tables.config)
+
+abbrev pub rows_after : Origin → List Event → Sp → RowLook
+rows_after o past sp = apply_all (factory_rows o sp) (changes past sp) (look_up o.tables sp)
+
+-- With the Sets of the transaction that is open on an SP.
+abbrev pub rows_within : Origin → List Event → Sp → RowLook
+rows_within o past sp = apply_all (factory_rows o sp) (open_changes past sp) (rows_after o past sp)
+
+-- The transaction is this session's.
+abbrev pub is_of : ℕ → Option ℕ → Bool
+is_of number None = false
+is_of number (Some owner) = owner == number
+
+abbrev pub rows_seen : Origin → List Event → ℕ → Sp → RowLook
+rows_seen o past number sp = if is_of number (open_on past sp) then rows_within o past sp else rows_after o past sp
+
+abbrev pub in_force : Origin → List Event → LookUp
+in_force o past sp = with_tries (tries past sp) (rows_after o past sp)
+
+abbrev pub view : Origin → List Event → ℕ → LookUp
+view o past number sp = with_tries (tries past sp) (rows_seen o past number sp)
+
+abbrev pub byte_in_force : List Event → ℕ → ℕ
+byte_in_force past place = byte_in (changes past Locking) place
+
+abbrev pub byte_in_view : List Event → ℕ → ℕ → ℕ
+byte_in_view past number place =
+    if is_of number (open_on past Locking) then byte_in (open_changes past Locking ++ changes past Locking) place else byte_in_force past place
+
+-- Media: a sector holds what the latest act that moved data over it wrote there; a Revert while the Locking SP was Manufactured makes zeros.
+
+abbrev pub part_of : ℕ → ℕ → List ℕ → Option (List ℕ)
+part_of place lba bytes =
+    if nat_le lba place && nat_lt place (lba + length bytes / sector_size) then Some (take sector_size (drop (sector_size * (place - lba)) bytes)) else None
+
+abbrev pub wipes : SessionDeed → Option (List ℕ)
+wipes (Reverted reverted true) = Some zeros
+wipes _ = None
+
+abbrev pub writing : ℕ → Deed → Option (List ℕ)
+writing place (OfQueue (CompletedWrite tag lba bytes)) = part_of place lba bytes
+writing place (Wrote lba bytes) = part_of place lba bytes
+writing place (InSession deed response) = wipes deed
+writing place _ = None
+
+abbrev pub sector : List Event → ℕ → List ℕ
+sector past place = unwrap_or (latest (writing place) past) zeros
+
+-- The queue: what is held, and how it failed.
+
+abbrev pub holds_by : ℕ → QueueDeed → Option (Option HeldCommand)
+holds_by tag (Held its held) = if its == tag then Some (Some held) else None
+holds_by tag (Completed its) = if its == tag then Some None else None
+holds_by tag (CompletedWrite its lba bytes) = if its == tag then Some None else None
+holds_by tag (QueueFailed failure) = Some None
+holds_by tag QueueMended = None
+
+abbrev pub holding : ℕ → Deed → Option (Option HeldCommand)
+holding tag (OfQueue deed) = holds_by tag deed
+holding tag (WasReset kind) = Some None
+holding tag _ = None
+
+abbrev pub held : List Event → ℕ → Option HeldCommand
+held past tag = unwrap_or (latest (holding tag) past) None
+
+abbrev pub fails_by : QueueDeed → Option (Option Failure)
+fails_by (QueueFailed failure) = Some (Some failure)
+fails_by QueueMended = Some None
+fails_by _ = None
+
+abbrev pub failing : Deed → Option (Option Failure)
+failing (OfQueue deed) = fails_by deed
+failing (WasReset kind) = Some None
+failing _ = None
+
+abbrev pub failure : List Event → Option Failure
+failure past = unwrap_or (latest failing past) None
+
+-- Waiting responses, by their ComIDs.
+
+abbrev pub waits : ℕ → Deed → Option (Option (List ℕ))
+waits com_id (InSession deed response) = if response.com_id == com_id then Some (Some response.bytes) else None
+waits com_id (Took its) = if its == com_id then Some None else None
+waits com_id (WasReset kind) = Some None
+waits com_id _ = None
+
+abbrev pub waiting : List Event → ℕ → Option (List ℕ)
+waiting past com_id = unwrap_or (latest (waits com_id) past) None

@@ -1,0 +1,90 @@
+-- Transfers, over every list of acts: the verdict by sectors, what is held, and what comes to the policy.
+use Rattle.std.specs.Prelude.{◌≡◌, ◌⊎◌, ◌↔◌, ℕ, ◌+◌, ◌≤◌, ◌<◌, Bool, true, false, List, ◌∷◌, ◌++◌, Option, Some, None}
+use Rattle.locking.specs.Range.{RangeRows, row_at, is_shadowed}
+use Rattle.locking.specs.Verdict.{AreOpen, ArePermitted, AreShadowed, IsLeastDenied, why_of, shadow_why, verdict_of}
+use Rattle.locking.specs.declared.range.Op.{Op}
+use Rattle.locking.specs.declared.range.Op.TheVariants.{Read}
+use Rattle.audit.specs.declared.reason.Why.{Why}
+use Rattle.fis.specs.Tags.{slot_count}
+use Rattle.history.specs.Opening.{Origin}
+use Rattle.history.specs.Commands.{Command}
+use Rattle.locking.specs.declared.ranges.Verdict.{Verdict}
+use Rattle.locking.specs.declared.ranges.Verdict.TheVariants.{Serve, Shadow, Denied}
+use Rattle.history.specs.Events.{HeldCommand}
+use Rattle.history.specs.Readers.{held}
+use Rattle.history.specs.Facts.{Facts, facts}
+use Rattle.history.specs.Decisions.{aborted, on_drive, ranges_in_force, verdict_on}
+use Rattle.history.specs.History.{Act, Accept, event_by, log}
+use Rattle.history.specs.MethodLaws.{IsLookedAt}
+use Rattle.history.specs.DenialLaws.{Moves, IsFree}
+
+abbrev pub is_denied : Verdict → Bool
+is_denied Serve = false
+is_denied Shadow = false
+is_denied (Denied why) = true
+
+-- No sector is shadowed and the range of each permits the transfer; or it is a read of shadowed sectors alone.
+abbrev pub IsPermitted : RangeRows → Op → ℕ → ℕ → Type 0
+IsPermitted ranges op lba count =
+    (AreOpen ranges lba (lba + count) × ArePermitted ranges op lba (lba + count))
+    ⊎ ((op ≡ Read) × AreShadowed ranges lba (lba + count))
+
+-- The reason is the shadow, where a sector is shadowed.
+pub record NamesShadow (ranges : RangeRows) (op : Op) (lba count : ℕ) (why : Why) : Type 0 where
+  pub sector : ℕ
+  pub from : lba ≤ sector
+  pub below : sector < lba + count
+  pub shadowed : is_shadowed ranges sector ≡ true
+  pub names : why ≡ shadow_why op lba count
+
+-- Else it is the range and the flag of the least denied sector.
+pub record NamesRange (ranges : RangeRows) (op : Op) (lba count : ℕ) (why : Why) : Type 0 where
+  pub opened : AreOpen ranges lba (lba + count)
+  pub sector : ℕ
+  pub least : IsLeastDenied ranges op lba count sector
+  pub names : why ≡ why_of op lba count (row_at ranges sector).range
+
+abbrev pub IsReason : RangeRows → Op → ℕ → ℕ → Why → Type 0
+IsReason ranges op lba count why =
+    NamesShadow ranges op lba count why ⊎ NamesRange ranges op lba count why
+
+-- The verdict serves exactly what is permitted, and a denial has its reason.
+pub record IsBySectors (ranges : RangeRows) (op : Op) (lba count : ℕ) : Type 0 where
+  pub served : (is_denied (verdict_of ranges op lba count) ≡ false) ↔ IsPermitted ranges op lba count
+  pub reason : (why : Why) → verdict_of ranges op lba count ≡ Denied why → IsReason ranges op lba count why
+
+abbrev pub VerdictLaw : Type 0
+VerdictLaw = (ranges : RangeRows) (op : Op) (lba count : ℕ) → IsBySectors ranges op lba count
+
+-- A held command was accepted at an act of the list, on the drive, with the verdict of the rows in force there, which permitted it.
+pub record WasAccepted (o : Origin) (acts : List Act) (tag : ℕ) (h : HeldCommand) : Type 0 where
+  pub before : List Act
+  pub later : List Act
+  pub fis : List ℕ
+  pub payload : List ℕ
+  pub place : acts ≡ later ++ Accept fis payload ∷ before
+  pub looked : IsLookedAt (facts o (log o before)) (Accept fis payload) h.command (Some tag)
+  pub op : Op
+  pub lba : ℕ
+  pub count : ℕ
+  pub moves : Moves h.command (Some tag) op lba count
+  pub on_drive : on_drive (facts o (log o before)) lba count ≡ true
+  pub verdict : verdict_on (facts o (log o before)) op lba count ≡ h.verdict
+  pub permitted : IsPermitted (ranges_in_force (facts o (log o before))) op lba count
+
+abbrev pub HeldLaw : Type 0
+HeldLaw = (o : Origin) (acts : List Act) (tag : ℕ) (h : HeldCommand) → held (log o acts) tag ≡ Some h → WasAccepted o acts tag h
+
+-- A transfer, queued or not, that comes to the policy is served exactly where it is permitted, and else aborted.
+pub record IsServed (f : Facts) (act : Act) (op : Op) (lba count : ℕ) : Type 0 where
+  pub served : ((event_by f act).failed ≡ None) ↔ IsPermitted (ranges_in_force f) op lba count
+  pub denied : (IsPermitted (ranges_in_force f) op lba count → ⊥) → (event_by f act).failed ≡ Some aborted
+
+abbrev pub ServiceLaw : Type 0
+ServiceLaw =
+    (f : Facts) (act : Act) (command : Command) (tag : Option ℕ) (op : Op) (lba count : ℕ) → IsLookedAt f act command tag → Moves command tag op lba count → IsFree f tag → on_drive f lba count ≡ true
+    → IsServed f act op lba count
+
+-- Nothing is held under a tag that no slot has.
+abbrev pub TagLaw : Type 0
+TagLaw = (o : Origin) (acts : List Act) (tag : ℕ) (h : HeldCommand) → held (log o acts) tag ≡ Some h → tag < slot_count
