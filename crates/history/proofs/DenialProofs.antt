@@ -17,7 +17,10 @@ use Rattle.tcg_tokens.specs.declared.error.TokenError.{TokenError}
 use Rattle.tcg_tokens.specs.Message.{Message, call, reply, end_session, begin, end}
 use Rattle.tcg_tokens.specs.Reading.{reading as message_in}
 use Rattle.tcg_tokens.specs.Tree.{Tree, Trees}
-use Rattle.history.specs.Commands.{Command, ReadQueued, WriteQueued, ReadDma, WriteDma, Send, Receive, Identify, ReadLog, Flush, CommandError, reading}
+use Rattle.trusted_cmds.specs.declared.command.Command.{Command}
+use Rattle.trusted_cmds.specs.declared.command.Command.TheVariants.{ReadQueued, WriteQueued, ReadDma, WriteDma, Send, Receive, Identify, ReadLog10, Flush}
+use Rattle.trusted_cmds.specs.declared.command.CommandError.{CommandError}
+use Rattle.trusted_cmds.specs.Commands.{reading}
 use Rattle.locking.specs.declared.ranges.Verdict.{Verdict}
 use Rattle.locking.specs.declared.ranges.Verdict.TheVariants.{Serve, Shadow, Denied}
 use Rattle.sessions.specs.Attempts.{failure as failure_of}
@@ -296,7 +299,7 @@ queued-is f act why (WriteDma l n) tag looked free h = absurd (nothing h)
 queued-is f act why (Send p c b d) tag looked free h = absurd (nothing h)
 queued-is f act why (Receive p c b d) tag looked free h = absurd (nothing h)
 queued-is f act why Identify tag looked free h = absurd (nothing h)
-queued-is f act why (ReadLog d) tag looked free h = absurd (nothing h)
+queued-is f act why (ReadLog10 d) tag looked free h = absurd (nothing h)
 queued-is f act why Flush tag looked free h = absurd (nothing h)
 
 received-none : (com_id blocks : ℕ) (x : Option (List ℕ)) → (received com_id blocks x).denied ≡ None
@@ -320,7 +323,7 @@ unqueued-is f act why (Receive p c b d) looked h =
 unqueued-is f act why (ReadQueued l n) looked h = absurd (nothing h)
 unqueued-is f act why (WriteQueued l n) looked h = absurd (nothing h)
 unqueued-is f act why Identify looked h = absurd (nothing h)
-unqueued-is f act why (ReadLog d) looked h = absurd (nothing h)
+unqueued-is f act why (ReadLog10 d) looked h = absurd (nothing h)
 unqueued-is f act why Flush looked h = absurd (nothing h)
 
 looked-is : (f : Facts) (act : Act) (why : Why) (command : Command) (tag : Option ℕ) (looked : IsLookedAt f act command tag) → (looked_event f (h2d_at looked.fis) looked.payload command tag).denied ≡ Some why → IsDenied f act why
@@ -333,7 +336,7 @@ looked-is f act why command (Some tag) looked h = by_held (f.held tag) refl h
 
 -- acts
 while_failed-none : (r : Result (Command × Option ℕ) CommandError) → (while_failed r).denied ≡ None
-while_failed-none (Ok (ReadLog dma, tag)) = refl
+while_failed-none (Ok (ReadLog10 dma, tag)) = refl
 while_failed-none _ = refl
 
 accept-is : (f : Facts) (fis payload : List ℕ) (why : Why) → (event_by f (Accept fis payload)).denied ≡ Some why → IsDenied f (Accept fis payload) why

@@ -12,7 +12,10 @@ use Rattle.compacket.specs.declared.error.FrameError.{FrameError}
 use Rattle.compacket.specs.Frames.{Frame, reading as frame_in}
 use Rattle.tcg_tokens.specs.Reading.{reading as message_in}
 use Rattle.history.specs.Opening.{Origin}
-use Rattle.history.specs.Commands.{fault_of, read_unless, Command, ReadQueued, WriteQueued, ReadDma, WriteDma, Send, Receive, Identify, ReadLog, Flush, CommandError, reading}
+use Rattle.trusted_cmds.specs.declared.command.Command.{Command}
+use Rattle.trusted_cmds.specs.declared.command.Command.TheVariants.{ReadQueued, WriteQueued, ReadDma, WriteDma, Send, Receive, Identify, ReadLog10, Flush}
+use Rattle.trusted_cmds.specs.declared.command.CommandError.{CommandError}
+use Rattle.trusted_cmds.specs.Commands.{fault_of, read_unless, reading}
 use Rattle.locking.specs.declared.ranges.Verdict.{Verdict}
 use Rattle.locking.specs.declared.ranges.Verdict.TheVariants.{Serve, Shadow, Denied}
 use Rattle.history.specs.Sessions.{Begun}
@@ -125,11 +128,11 @@ admitted-is f act tag t h (WriteDma l n) looked false g = absurd (not-held refl 
 admitted-is f act tag t h (Send p c b d) looked false g = absurd (not-held refl g)
 admitted-is f act tag t h (Receive p c b d) looked false g = absurd (not-held refl g)
 admitted-is f act tag t h Identify looked false g = absurd (not-held refl g)
-admitted-is f act tag t h (ReadLog d) looked false g = absurd (not-held refl g)
+admitted-is f act tag t h (ReadLog10 d) looked false g = absurd (not-held refl g)
 admitted-is f act tag t h Flush looked false g = absurd (not-held refl g)
 
 while_failed-none : (r : Result (Command × Option ℕ) CommandError) → is_holding (while_failed r).deed ≡ false
-while_failed-none (Ok (ReadLog dma, tag)) = refl
+while_failed-none (Ok (ReadLog10 dma, tag)) = refl
 while_failed-none _ = refl
 
 accept-is : (f : Facts) (fis payload : List ℕ) (tag : ℕ) (h : HeldCommand) → (event_by f (Accept fis payload)).deed ≡ OfQueue (Held tag h) → HeldBy f (Accept fis payload) tag h

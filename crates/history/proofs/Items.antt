@@ -15,7 +15,10 @@ use Rattle.compacket.specs.Frames.{Frame, reading as frame_in}
 use Rattle.tcg_tokens.specs.declared.error.TokenError.{TokenError}
 use Rattle.tcg_tokens.specs.Message.{Message}
 use Rattle.tcg_tokens.specs.Reading.{reading as message_in}
-use Rattle.history.specs.Commands.{Command, ReadQueued, WriteQueued, ReadDma, WriteDma, Send, Receive, ReadLog, CommandError, reading}
+use Rattle.trusted_cmds.specs.declared.command.Command.{Command}
+use Rattle.trusted_cmds.specs.declared.command.Command.TheVariants.{ReadQueued, WriteQueued, ReadDma, WriteDma, Send, Receive, ReadLog10}
+use Rattle.trusted_cmds.specs.declared.command.CommandError.{CommandError}
+use Rattle.trusted_cmds.specs.Commands.{reading}
 use Rattle.locking.specs.declared.ranges.Verdict.{Verdict}
 use Rattle.locking.specs.declared.ranges.Verdict.TheVariants.{Serve, Shadow, Denied}
 use Rattle.history.specs.Sessions.{Begun}
@@ -131,7 +134,7 @@ known-comes f h payload (Ok (c, Some tag)) = admitted-comes f h tag c (is_some (
 known-comes f h payload (Ok (c, None)) = unqueued-comes f payload c
 
 while_failed-comes : (f : Facts) (r : Result (Command × Option ℕ) CommandError) → Comes f (while_failed r)
-while_failed-comes f (Ok (ReadLog dma, tag)) = no_item refl
+while_failed-comes f (Ok (ReadLog10 dma, tag)) = no_item refl
 while_failed-comes f _ = no_item refl
 
 commanded-comes : (f : Facts) (h : RegH2d) (payload : List ℕ) → Comes f (commanded f h payload)

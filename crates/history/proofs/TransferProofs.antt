@@ -11,7 +11,8 @@ use Rattle.locking.specs.declared.ranges.Verdict.{Verdict}
 use Rattle.locking.specs.declared.ranges.Verdict.TheVariants.{Serve, Shadow, Denied}
 use Rattle.locking.proofs.Verdicts.{permitted_is_served, is_verdict_of, verdict_is}
 use Rattle.audit.specs.declared.reason.Why.{Why}
-use Rattle.history.specs.Commands.{Command, ReadQueued, WriteQueued}
+use Rattle.trusted_cmds.specs.declared.command.Command.{Command}
+use Rattle.trusted_cmds.specs.declared.command.Command.TheVariants.{ReadQueued, WriteQueued}
 use Rattle.history.specs.Events.{Deed, Nothing, Wrote, Event}
 use Rattle.history.specs.Facts.{Facts}
 use Rattle.history.specs.Decisions.{not_found, aborted, fails, fails_queue, on_drive, ranges_in_force, verdict_on, queued_by, admitted, unqueued_by}

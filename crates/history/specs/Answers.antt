@@ -14,7 +14,10 @@ use Rattle.sp_cells.specs.ColumnNames.{mbr_enable_column, mbr_done_column}
 use Rattle.compacket.specs.Spelling.{com_packet_header}
 use Rattle.locking.specs.declared.range.Op.TheVariants.{Read}
 use Rattle.shadow_mbr.specs.Stored.{sector_size, sectors_from}
-use Rattle.history.specs.Commands.{Command, ReadQueued, WriteQueued, ReadDma, Send, Receive, Identify, ReadLog, CommandError, reading}
+use Rattle.trusted_cmds.specs.declared.command.Command.{Command}
+use Rattle.trusted_cmds.specs.declared.command.Command.TheVariants.{ReadQueued, WriteQueued, ReadDma, Send, Receive, Identify, ReadLog10}
+use Rattle.trusted_cmds.specs.declared.command.CommandError.{CommandError}
+use Rattle.trusted_cmds.specs.Commands.{reading}
 use Rattle.locking.specs.declared.ranges.Verdict.{Verdict}
 use Rattle.locking.specs.declared.ranges.Verdict.TheVariants.{Serve, Shadow, Denied}
 use Rattle.sessions.specs.Starts.{is_in_use}
@@ -118,7 +121,7 @@ abbrev pub data_of : Facts → Command → List ℕ
 data_of f (ReadDma lba count) = read_by f lba count (verdict_on f Read lba count)
 data_of f (Receive protocol com_id blocks dma) = receive_data f com_id (sector_size * blocks)
 data_of f Identify = identity f
-data_of f (ReadLog dma) = error_log f
+data_of f (ReadLog10 dma) = error_log f
 data_of f _ = []
 
 abbrev pub data_read : Facts → Result (Command × Option ℕ) CommandError → List ℕ
@@ -183,7 +186,7 @@ pio_fis to_host end_status =
 abbrev pub served_fises : Command → List Fis
 served_fises (Send protocol com_id blocks false) = pio_fis false busy ∷ answer_fis true ready 0 ∷ []
 served_fises (Receive protocol com_id blocks false) = pio_fis true ready ∷ []
-served_fises (ReadLog false) = pio_fis true ready ∷ []
+served_fises (ReadLog10 false) = pio_fis true ready ∷ []
 served_fises Identify = pio_fis true ready ∷ []
 served_fises _ = answer_fis true ready 0 ∷ []
 

@@ -24,7 +24,10 @@ use Rattle.tcg_tokens.specs.Reading.{reading as message_in}
 use Rattle.tcg_tokens.specs.Spelling.{item_spelling_of}
 use Rattle.tcg_tokens.specs.Tree.{Tree, Trees}
 use Rattle.call_shapes.specs.Named.{values_of}
-use Rattle.history.specs.Commands.{Command, ReadQueued, WriteQueued, ReadDma, WriteDma, Send, Receive, Identify, ReadLog, Flush, CommandError, reading}
+use Rattle.trusted_cmds.specs.declared.command.Command.{Command}
+use Rattle.trusted_cmds.specs.declared.command.Command.TheVariants.{ReadQueued, WriteQueued, ReadDma, WriteDma, Send, Receive, Identify, ReadLog10, Flush}
+use Rattle.trusted_cmds.specs.declared.command.CommandError.{CommandError}
+use Rattle.trusted_cmds.specs.Commands.{reading}
 use Rattle.locking.specs.declared.ranges.Verdict.{Verdict}
 use Rattle.locking.specs.declared.ranges.Verdict.TheVariants.{Serve, Shadow, Denied}
 use Rattle.locking.specs.Range.{RangeRows}
@@ -287,7 +290,7 @@ unqueued f payload (WriteDma lba count) = unqueued_transfer f (Wrote lba payload
 unqueued f payload (Send protocol com_id blocks dma) = send f protocol com_id blocks payload
 unqueued f payload (Receive protocol com_id blocks dma) = receive f protocol com_id blocks
 unqueued f payload Identify = did Nothing
-unqueued f payload (ReadLog dma) = did Nothing
+unqueued f payload (ReadLog10 dma) = did Nothing
 unqueued f payload Flush = did Nothing
 unqueued f payload (ReadQueued lba count) = refuses
 unqueued f payload (WriteQueued lba count) = refuses
@@ -300,7 +303,7 @@ known f h payload (Ok (command, None)) = unqueued f payload command
 
 -- While the queue has failed: log page 10h is read, which ends it.
 abbrev pub while_failed : Result (Command × Option ℕ) CommandError → Event
-while_failed (Ok (ReadLog dma, tag)) = did (OfQueue QueueMended)
+while_failed (Ok (ReadLog10 dma, tag)) = did (OfQueue QueueMended)
 while_failed _ = refuses
 
 -- Some number below n passes.

@@ -11,7 +11,8 @@ use Rattle.tcg_tokens.specs.Message.{call}
 use Rattle.tcg_tokens.specs.Reading.{reading as message_in}
 use Rattle.tcg_tokens.specs.Tree.{Trees}
 use Rattle.compacket.specs.Frames.{Frame}
-use Rattle.history.specs.Commands.{Command, ReadQueued, WriteQueued, ReadDma, WriteDma}
+use Rattle.trusted_cmds.specs.declared.command.Command.{Command}
+use Rattle.trusted_cmds.specs.declared.command.Command.TheVariants.{ReadQueued, WriteQueued, ReadDma, WriteDma}
 use Rattle.locking.specs.declared.ranges.Verdict.TheVariants.{Denied}
 use Rattle.sessions.specs.Attempts.{failure as failure_of}
 use Rattle.call_shapes.specs.Asks.{uid_of}

@@ -6,7 +6,7 @@ use Rattle.sp_cells.specs.declared.names.Sp.{Sp}
 use Rattle.sp_cells.specs.declared.cells.Cell.{Cell}
 use Rattle.audit.specs.declared.reason.AttemptFailure.{AttemptFailure}
 use Rattle.audit.specs.declared.reason.Why.{Why}
-use Rattle.history.specs.Commands.{Command}
+use Rattle.trusted_cmds.specs.declared.command.Command.{Command}
 use Rattle.locking.specs.declared.ranges.Verdict.{Verdict}
 use Rattle.history.specs.Changes.{Change}
 use Rattle.history.specs.Sessions.{Begun}

@@ -12,7 +12,9 @@ use Rattle.compacket.specs.Frames.{Frame, reading as frame_in}
 use Rattle.tcg_tokens.specs.Message.{call}
 use Rattle.tcg_tokens.specs.Reading.{reading as message_in}
 use Rattle.tcg_tokens.specs.Tree.{Tree, Trees, number, named}
-use Rattle.history.specs.Commands.{Command, Send, reading}
+use Rattle.trusted_cmds.specs.declared.command.Command.{Command}
+use Rattle.trusted_cmds.specs.declared.command.Command.TheVariants.{Send}
+use Rattle.trusted_cmds.specs.Commands.{reading}
 use Rattle.call_shapes.specs.Asks.{uid_of}
 use Rattle.call_shapes.specs.Statuses.{not_authorized}
 use Rattle.history.specs.Sessions.{Begun}
@@ -25,14 +27,14 @@ use Rattle.call_shapes.specs.CellValues.{cell_tree}
 use Rattle.sp_cells.specs.declared.names.Column.{Column}
 use Rattle.history.specs.Calls.{Standing, Judgement, Refuses, Gives, Makes, Attempts, Activates, Reverts, asked, does, judged}
 use Rattle.history.specs.Facts.{Facts, session_named, standing}
+use Rattle.methods.specs.Laws.{EachHasAce as each_has_ace}
 use Rattle.history.specs.Decisions.{answers, is_trusted, is_session_com_id, is_manager, is_busy, outcome_of, judgement_on}
 use Rattle.history.specs.History.{Act, Accept, event_by}
 
 -- Each of these columns, or with none asked for the method, has an ACE: one that names it, and whose expression is the writing of a tree
 -- that is true of the authorities.
 abbrev pub EachHasAce : Standing → Uid → Uid → List (Option Column) → Type 0
-EachHasAce s object method [] = Unit {0}
-EachHasAce s object method (k ∷ ks) = HasAce s.rows s.sp object method k s.held × EachHasAce s object method ks
+EachHasAce s object method columns = each_has_ace s.rows s.sp object method s.held columns
 
 -- A Set of columns wants an ACE for each, any other call one that holds.
 abbrev pub IsGranted : Standing → Uid → Uid → Ask → Type 0
@@ -55,27 +57,6 @@ pub record IsJudgedByAces (s : Standing) (object method : Uid) (ask : Ask) : Typ
 
 abbrev pub GrantLaw : Type 0
 GrantLaw = (s : Standing) (object method : Uid) (ask : Ask) → IsJudgedByAces s object method ask
-
--- An element of a list.
-abbrev pub IsAmong : {A : Type 0} → List A → A → Type 0
-IsAmong [] y = ⊥
-IsAmong (x ∷ xs) y = (x ≡ y) ⊎ IsAmong xs y
-
--- A column is listed, with its cell: it is one of the object's, it is asked for, an ACE that names it holds, and the view has that cell.
-pub record IsListed (s : Standing) (object : Uid) (first last : ℕ) (value : Tree) : Type 0 where
-  pub column : Column
-  pub known : IsAmong (columns_of (kind_of s.sp object)) column
-  pub from : first ≤ column.0
-  pub to : column.0 ≤ last
-  pub ace : HasAce s.rows s.sp object get (Some column) s.held
-  pub cell : Cell
-  pub in_view : s.rows s.sp object column ≡ Some cell
-  pub value_is : value ≡ named (number column.0) (cell_tree cell)
-
-abbrev pub ListLaw : Type 0
-ListLaw =
-    (s : Standing) (object : Uid) (first last : ℕ) (value : Tree)
-    → IsAmong (listed s.rows s.sp object first last s.held) value ↔ IsListed s object first last value
 
 -- An accepted FIS whose command is looked at: it is one, the queue has not failed, and a command that is not queued stands beside no held one.
 pub record IsLookedAt (f : Facts) (act : Act) (command : Command) (tag : Option ℕ) : Type 0 where

@@ -7,7 +7,7 @@ use Rattle.locking.specs.declared.range.Op.TheVariants.{Read}
 use Rattle.audit.specs.declared.reason.Why.{Why}
 use Rattle.fis.specs.Tags.{slot_count}
 use Rattle.history.specs.Opening.{Origin}
-use Rattle.history.specs.Commands.{Command}
+use Rattle.trusted_cmds.specs.declared.command.Command.{Command}
 use Rattle.locking.specs.declared.ranges.Verdict.{Verdict}
 use Rattle.locking.specs.declared.ranges.Verdict.TheVariants.{Serve, Shadow, Denied}
 use Rattle.history.specs.Events.{HeldCommand}
