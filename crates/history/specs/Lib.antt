@@ -17,3 +17,4 @@ pub mod Audit
 pub mod DenialLaws
 pub mod TransferLaws
 pub mod Agreement
+pub mod Bounds
