@@ -29,7 +29,7 @@ use Rattle.methods.specs.declared.kinds.Kind.{Kind}
 use Rattle.methods.specs.declared.kinds.Kind.TheVariants as kinds
 use Rattle.methods.specs.Kinds.{kind_of}
 use Rattle.methods.specs.Columns.{set_types_of}
-use Rattle.methods.specs.Settings.{cells_for, is_within, Setting, bytes_set, setting_of_cells, cells_of_ask, bytes_of_ask, setting}
+use Rattle.methods.specs.Settings.{cells_for, is_within, Setting, cells_set, bytes_set, setting_of_cells, cells_of_ask, bytes_of_ask, setting}
 use Rattle.methods.specs.Said.{reply_of, most_response}
 use Rattle.methods.specs.Effects.{has_ask, last_row, unless_fault, sp_of_row}
 use Rattle.sp_cells.specs.declared.values.ColumnType.{ColumnType}
@@ -47,7 +47,7 @@ use Rattle.history.specs.Events.{SessionDeed, Unchanged, Started, Tried, Changed
 use Rattle.history.specs.Readers.{living, lives_by, restores, session_on, open_on, is_of, in_force}
 use Rattle.history.specs.Facts.{facts, numbered, live, has_open, standing}
 use Rattle.history.specs.Decisions.{refusal, Outcome, says, tried_in, start_verdict, deed_of_start, start_deed, started, is_method_of_manager, to_manager, outcome_of, judgement_on, begins_on, ended_by, ends_on, in_session}
-use Rattle.history.specs.Deeds.{IsIn, is_of_row, CanDo, DeedLaw}
+use Rattle.history.specs.Deeds.{IsIn, is_of_row, is_inside, CanDo, DeedLaw}
 use Rattle.history.proofs.Words.{latest-here, latest-skip, sp-is, sp-same}
 use Rattle.history.proofs.Items.{item-from}
 use Rattle.history.proofs.MethodProofs.{denial-none, granted-row}
@@ -175,69 +175,90 @@ none-some h = cc
 some-same : {A : Type 0} {x y : A} → Some x ≡ Some y → y ≡ x
 some-same h = cc
 
-cells-row : (object : Uid) (x : Option (List (Column × Cell))) (set : Setting) → setting_of_cells object x ≡ Some set → is_of_row object (Sets set) ≡ true
-cells-row object None set h = absurd (none-some h)
-cells-row object (Some cells) set h = ap (λ y. is_of_row object (Sets y)) (some-same h) ∙ eq-eqb object.0 object.0 refl
+-- what a call sets: cells of its object, or on the Locking SP bytes within the table
+record AreFit (p : Setting → Bool) (sp : Sp) (sectors : ℕ) (object : Uid) : Type 0 where
+  cells : (cells : List (Column × Cell)) → p (cells_set object cells) ≡ true
+  bytes : (at : ℕ) (content : List ℕ) → sp ≡ Locking → is_within sectors at content ≡ true → p (bytes_set at content) ≡ true
 
-asked-row : (object : Uid) (types : List (Column × ColumnType)) (ask : Ask) (set : Setting) → cells_of_ask object types ask ≡ Some set → is_of_row object (Sets set) ≡ true
-asked-row object types (SetCells ps) set h = cells-row object (cells_for types ps) set h
-asked-row object types (SetBytes a b) set h = absurd (none-some h)
-asked-row object types (GetCells a b) set h = absurd (none-some h)
-asked-row object types (GetBytes a b) set h = absurd (none-some h)
-asked-row object types (Authenticate a b) set h = absurd (none-some h)
-asked-row object types Activate set h = absurd (none-some h)
-asked-row object types Revert set h = absurd (none-some h)
-asked-row object types Other set h = absurd (none-some h)
+cells-fit : (p : Setting → Bool) (sp : Sp) (sectors : ℕ) (object : Uid) → AreFit p sp sectors object → (x : Option (List (Column × Cell))) (set : Setting) → setting_of_cells object x ≡ Some set → p set ≡ true
+cells-fit p sp sectors object fit None set h = absurd (none-some h)
+cells-fit p sp sectors object fit (Some cells) set h = ap p (some-same h) ∙ fit.cells cells
 
-bytes-if : (b : Bool) (object : Uid) (place : ℕ) (content : List ℕ) (set : Setting) → cond b (Some (bytes_set place content)) None ≡ Some set → is_of_row object (Sets set) ≡ true
-bytes-if true object place content set h = ap (λ y. is_of_row object (Sets y)) (some-same h)
-bytes-if false object place content set h = absurd (none-some h)
+asked-fit : (p : Setting → Bool) (sp : Sp) (sectors : ℕ) (object : Uid) → AreFit p sp sectors object → (types : List (Column × ColumnType)) (ask : Ask) (set : Setting) → cells_of_ask object types ask ≡ Some set → p set ≡ true
+asked-fit p sp sectors object fit types (SetCells ps) set h = cells-fit p sp sectors object fit (cells_for types ps) set h
+asked-fit p sp sectors object fit types (SetBytes a b) set h = absurd (none-some h)
+asked-fit p sp sectors object fit types (GetCells a b) set h = absurd (none-some h)
+asked-fit p sp sectors object fit types (GetBytes a b) set h = absurd (none-some h)
+asked-fit p sp sectors object fit types (Authenticate a b) set h = absurd (none-some h)
+asked-fit p sp sectors object fit types Activate set h = absurd (none-some h)
+asked-fit p sp sectors object fit types Revert set h = absurd (none-some h)
+asked-fit p sp sectors object fit types Other set h = absurd (none-some h)
 
-bytes-row : (sp : Sp) (sectors : ℕ) (object : Uid) (ask : Ask) (set : Setting) → bytes_of_ask sp sectors ask ≡ Some set → is_of_row object (Sets set) ≡ true
-bytes-row Admin sectors object ask set h = absurd (none-some h)
-bytes-row Locking sectors object (SetBytes a b) set h = bytes-if (is_within sectors a b) object a b set h
-bytes-row Locking sectors object (SetCells ps) set h = absurd (none-some h)
-bytes-row Locking sectors object (GetCells a b) set h = absurd (none-some h)
-bytes-row Locking sectors object (GetBytes a b) set h = absurd (none-some h)
-bytes-row Locking sectors object (Authenticate a b) set h = absurd (none-some h)
-bytes-row Locking sectors object Activate set h = absurd (none-some h)
-bytes-row Locking sectors object Revert set h = absurd (none-some h)
-bytes-row Locking sectors object Other set h = absurd (none-some h)
+bytes-if : (p : Setting → Bool) (place : ℕ) (content : List ℕ) (b : Bool) (set : Setting) → (b ≡ true → p (bytes_set place content) ≡ true) → cond b (Some (bytes_set place content)) None ≡ Some set → p set ≡ true
+bytes-if p place content true set fit h = ap p (some-same h) ∙ fit refl
+bytes-if p place content false set fit h = absurd (none-some h)
 
-setting-row : (sp : Sp) (sectors : ℕ) (object : Uid) (k : Option Kind) (ask : Ask) (set : Setting) → setting sp sectors object k ask ≡ Some set → is_of_row object (Sets set) ≡ true
-setting-row sp sectors object None ask set h = asked-row object [] ask set h
-setting-row sp sectors object (Some kinds.MbrTable) ask set h = bytes-row sp sectors object ask set h
-setting-row sp sectors object (Some kinds.ThisSp) ask set h = asked-row object [] ask set h
-setting-row sp sectors object (Some kinds.Sp) ask set h = asked-row object [] ask set h
-setting-row sp sectors object (Some kinds.Authority) ask set h = asked-row object (set_types_of (Some kinds.Authority)) ask set h
-setting-row sp sectors object (Some kinds.CPin) ask set h = asked-row object (set_types_of (Some kinds.CPin)) ask set h
-setting-row sp sectors object (Some kinds.Ace) ask set h = asked-row object (set_types_of (Some kinds.Ace)) ask set h
-setting-row sp sectors object (Some kinds.Locking) ask set h = asked-row object (set_types_of (Some kinds.Locking)) ask set h
-setting-row sp sectors object (Some kinds.MbrControl) ask set h = asked-row object (set_types_of (Some kinds.MbrControl)) ask set h
+bytes-fit : (p : Setting → Bool) (sp : Sp) (sectors : ℕ) (object : Uid) → AreFit p sp sectors object → (ask : Ask) (set : Setting) → bytes_of_ask sp sectors ask ≡ Some set → p set ≡ true
+bytes-fit p Admin sectors object fit ask set h = absurd (none-some h)
+bytes-fit p Locking sectors object fit (SetBytes a b) set h = bytes-if p a b (is_within sectors a b) set (λ is. fit.bytes a b refl is) h
+bytes-fit p Locking sectors object fit (SetCells ps) set h = absurd (none-some h)
+bytes-fit p Locking sectors object fit (GetCells a b) set h = absurd (none-some h)
+bytes-fit p Locking sectors object fit (GetBytes a b) set h = absurd (none-some h)
+bytes-fit p Locking sectors object fit (Authenticate a b) set h = absurd (none-some h)
+bytes-fit p Locking sectors object fit Activate set h = absurd (none-some h)
+bytes-fit p Locking sectors object fit Revert set h = absurd (none-some h)
+bytes-fit p Locking sectors object fit Other set h = absurd (none-some h)
+
+setting-fit : (p : Setting → Bool) (sp : Sp) (sectors : ℕ) (object : Uid) → AreFit p sp sectors object → (k : Option Kind) (ask : Ask) (set : Setting) → setting sp sectors object k ask ≡ Some set → p set ≡ true
+setting-fit p sp sectors object fit None ask set h = asked-fit p sp sectors object fit [] ask set h
+setting-fit p sp sectors object fit (Some kinds.MbrTable) ask set h = bytes-fit p sp sectors object fit ask set h
+setting-fit p sp sectors object fit (Some kinds.ThisSp) ask set h = asked-fit p sp sectors object fit [] ask set h
+setting-fit p sp sectors object fit (Some kinds.Sp) ask set h = asked-fit p sp sectors object fit [] ask set h
+setting-fit p sp sectors object fit (Some kinds.Authority) ask set h = asked-fit p sp sectors object fit (set_types_of (Some kinds.Authority)) ask set h
+setting-fit p sp sectors object fit (Some kinds.CPin) ask set h = asked-fit p sp sectors object fit (set_types_of (Some kinds.CPin)) ask set h
+setting-fit p sp sectors object fit (Some kinds.Ace) ask set h = asked-fit p sp sectors object fit (set_types_of (Some kinds.Ace)) ask set h
+setting-fit p sp sectors object fit (Some kinds.Locking) ask set h = asked-fit p sp sectors object fit (set_types_of (Some kinds.Locking)) ask set h
+setting-fit p sp sectors object fit (Some kinds.MbrControl) ask set h = asked-fit p sp sectors object fit (set_types_of (Some kinds.MbrControl)) ask set h
 
 unfaulted : (fault : Option SetError) (set made : Setting) → unless_fault fault set ≡ Some made → made ≡ set
 unfaulted None set made h = some-same h
 unfaulted (Some fault) set made h = absurd (none-some h)
 
-valid-row : (s : Standing) (object : Uid) (x : Option Setting) (made : Setting) → ((set : Setting) → x ≡ Some set → is_of_row object (Sets set) ≡ true) → valid s x ≡ Some made → is_of_row object (Sets made) ≡ true
-valid-row s object None made h g = absurd (none-some g)
-valid-row s object (Some set) made h g = ap (λ y. is_of_row object (Sets y)) (unfaulted (fault_by s.sectors s.rows s.sp set) set made g) ∙ h set refl
+valid-fit : (p : Setting → Bool) (s : Standing) (x : Option Setting) (made : Setting) → ((set : Setting) → x ≡ Some set → p set ≡ true) → valid s x ≡ Some made → p made ≡ true
+valid-fit p s None made h g = absurd (none-some g)
+valid-fit p s (Some set) made h g = ap p (unfaulted (fault_by s.sectors s.rows s.sp set) set made g) ∙ h set refl
 
 makes-is : (x : Option Setting) (made : Setting) → makes x ≡ Makes made → x ≡ Some made
 makes-is None made h = absurd (zero-one (ap kind h))
 makes-is (Some set) made h = ap (λ y. Some y) (sym (made-same h))
 
-makes-row : (s : Standing) (object : Uid) (ask : Ask) (made : Setting) → ask_kind ask ≡ 2 → does_ask s object ask ≡ Makes made → is_of_row object (Sets made) ≡ true
-makes-row s object (SetCells values) made k h =
-    valid-row s object (setting s.sp s.mbr_sectors object (kind_of s.sp object) (SetCells values)) made (λ set is. setting-row s.sp s.mbr_sectors object (kind_of s.sp object) (SetCells values) set is) (makes-is (to_set s object (SetCells values)) made h)
-makes-row s object (SetBytes place content) made k h =
-    valid-row s object (setting s.sp s.mbr_sectors object (kind_of s.sp object) (SetBytes place content)) made (λ set is. setting-row s.sp s.mbr_sectors object (kind_of s.sp object) (SetBytes place content) set is) (makes-is (to_set s object (SetBytes place content)) made h)
-makes-row s object (GetCells a b) c k h = cc
-makes-row s object (GetBytes a b) c k h = cc
-makes-row s object (Authenticate a b) c k h = cc
-makes-row s object Activate c k h = cc
-makes-row s object Revert c k h = cc
-makes-row s object Other c k h = cc
+makes-fit : (p : Setting → Bool) (s : Standing) (object : Uid) → AreFit p s.sp s.mbr_sectors object → (ask : Ask) (made : Setting) → ask_kind ask ≡ 2 → does_ask s object ask ≡ Makes made → p made ≡ true
+makes-fit p s object fit (SetCells values) made k h =
+    valid-fit p s (setting s.sp s.mbr_sectors object (kind_of s.sp object) (SetCells values)) made (λ set is. setting-fit p s.sp s.mbr_sectors object fit (kind_of s.sp object) (SetCells values) set is) (makes-is (to_set s object (SetCells values)) made h)
+makes-fit p s object fit (SetBytes place content) made k h =
+    valid-fit p s (setting s.sp s.mbr_sectors object (kind_of s.sp object) (SetBytes place content)) made (λ set is. setting-fit p s.sp s.mbr_sectors object fit (kind_of s.sp object) (SetBytes place content) set is) (makes-is (to_set s object (SetBytes place content)) made h)
+makes-fit p s object fit (GetCells a b) c k h = cc
+makes-fit p s object fit (GetBytes a b) c k h = cc
+makes-fit p s object fit (Authenticate a b) c k h = cc
+makes-fit p s object fit Activate c k h = cc
+makes-fit p s object fit Revert c k h = cc
+makes-fit p s object fit Other c k h = cc
+
+row-fit : (s : Standing) (object : Uid) → AreFit (λ y. is_of_row object (Sets y)) s.sp s.mbr_sectors object
+row-fit s object = record { cells = λ cells. eq-eqb object.0 object.0 refl; bytes = λ place content on is. refl }
+
+inside-fit : (s : Standing) (object : Uid) → AreFit (λ y. is_inside s.mbr_sectors s.sp (Sets y)) s.sp s.mbr_sectors object
+inside-fit s object = record {
+  cells = λ cells. of_cells s.sp cells;
+  bytes = λ place content on is. ap (λ x. is_inside s.mbr_sectors x (Sets (bytes_set place content))) on ∙ is;
+}
+  where
+    of_cells : (sp : Sp) (cells : List (Column × Cell)) → is_inside s.mbr_sectors sp (Sets (cells_set object cells)) ≡ true
+    of_cells Admin cells = refl
+    of_cells Locking cells = refl
+
+makes-inside : (s : Standing) (object method : Uid) (c : Setting) → Granted s object method 1 (Makes c) → is_inside s.mbr_sectors s.sp (Sets c) ≡ true
+makes-inside s object method c g = makes-fit (λ y. is_inside s.mbr_sectors s.sp (Sets y)) s object (inside-fit s object) g.ask c g.kind g.does
 
 set-is : (ask : Ask) (method : Uid) → is_own ask method ≡ true → ask_kind ask ≡ 2 → (method.0 == set.0) ≡ true
 set-is (SetCells a) method own h = own
@@ -256,7 +277,7 @@ makes-sid : (s : Standing) (object method : Uid) (c : Setting) → Granted s obj
 makes-sid s object method c g admin =
     of-same object c_pin_sid (Sets c)
     (set-c_pin_sid object method g.row (set-is g.ask method g.own g.kind) (ap (λ x. acl_at x object method) (sym admin) ∙ g.has))
-    (makes-row s object g.ask c g.kind g.does)
+    (makes-fit (λ y. is_of_row object (Sets y)) s object (row-fit s object) g.ask c g.kind g.does)
 
 -- the live session of an SP is on it
 abbrev gone : Option (Option Begun)
@@ -313,6 +334,7 @@ judged-can o past s h object method args (Makes c) is = record {
   session = s;
   lives = record { lives = h; on = refl };
   row = λ admin. makes-sid (standing (facts o past) s) object method c (granted (standing (facts o past) s) object method args 1 (Makes c) (asked s.sp object method args) refl is refl) admin;
+  inside = makes-inside (standing (facts o past) s) object method c (granted (standing (facts o past) s) object method args 1 (Makes c) (asked s.sp object method args) refl is refl);
 }
 judged-can o past s h object method args (Attempts authority pin) is = by_failure (failure_of (in_force o past) s.sp authority pin)
   where

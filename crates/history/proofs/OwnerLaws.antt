@@ -147,7 +147,7 @@ row-spares (Resets kind) h = refl
 row-spares Restores h = h
 
 -- a Set on an SP
-changed-is : (sp : Sp) (d : Deed) (c : Change) → changes_on sp d ≡ Some c → (r : Response) × (d ≡ InSession (Changed sp c) r)
+pub changed-is : (sp : Sp) (d : Deed) (c : Change) → changes_on sp d ≡ Some c → (r : Response) × (d ≡ InSession (Changed sp c) r)
 changed-is sp (InSession (Changed s k) r) c h = by_sp (sp_eq s sp) refl h
   where
     by_sp : (b : Bool) → sp_eq s sp ≡ b → cond b (Some k) None ≡ Some c → (r' : Response) × (InSession (Changed s k) r ≡ InSession (Changed sp c) r')
@@ -219,7 +219,7 @@ own-kept o e es can k = by_begin (begins Admin e.deed) refl
     by_change None is = k.own
     by_change (Some c) is =
         let d = changed-is Admin e.deed c is in
-        let set : Changes es Admin c = can (Changed Admin c) d.0 d.1 in
+        let set : Changes o es Admin c = can (Changed Admin c) d.0 d.1 in
         ap (λ b. b && list_all spares (own_changes es Admin)) (row-spares c (set.row refl)) ∙ k.own
 
     by_begin : (b : Bool) → begins Admin e.deed ≡ b → list_all spares (own_changes (e ∷ es) Admin) ≡ true
@@ -283,7 +283,7 @@ is_activation _ = false
 
 brought-spare : (o : Origin) (es : List Event) (d : Deed) → ((x : SessionDeed) (r : Response) → d ≡ InSession x r → CanDo o es x) → list_all spares (own_changes es Admin) ≡ true → is_activation d ≡ false → list_all spares (brought es Admin d) ≡ true
 brought-spare o es (InSession (Changed t c) r) can own h =
-    let set : Changes es t c = can (Changed t c) r refl in
+    let set : Changes o es t c = can (Changed t c) r refl in
     only-spare t (unless_open (open_on es Admin) c) (λ admin. set-spare (open_on es Admin) c (row-spares c (set.row admin)))
 brought-spare o es (InSession (Committed t) r) can own h = only-spare t (open_changes es Admin) (λ admin. open-spare (open_on es Admin) (own_changes es Admin) own)
 brought-spare o es (InSession Unchanged r) can own h = refl

@@ -6,7 +6,7 @@ use Rattle.sp_cells.specs.Names.{c_pin_sid}
 use Rattle.sp_cells.specs.declared.names.Uid.{Uid}
 use Rattle.sp_cells.specs.declared.cells.Cell.{Cell}
 use Rattle.history.specs.Opening.{Origin}
-use Rattle.methods.specs.Settings.{cells_set, bytes_set}
+use Rattle.methods.specs.Settings.{cells_set, bytes_set, is_within}
 use Rattle.history.specs.Changes.{Change, Sets, Restores, Resets}
 use Rattle.history.specs.Sessions.{Begun}
 use Rattle.sessions.specs.Starts.{is_in_use}
@@ -49,17 +49,26 @@ is_of_row object (Sets (bytes_set at bytes)) = true
 is_of_row object Restores = false
 is_of_row object (Resets kind) = false
 
+-- Bytes of the shadow are set by sessions of the Locking SP alone, within its table of so many sectors.
+abbrev pub is_inside : ℕ → Sp → Change → Bool
+is_inside mbr_sectors Locking (Sets (bytes_set at content)) = is_within mbr_sectors at content
+is_inside mbr_sectors Admin (Sets (bytes_set at content)) = false
+is_inside mbr_sectors sp (Sets (cells_set object cells)) = true
+is_inside mbr_sectors sp Restores = true
+is_inside mbr_sectors sp (Resets kind) = true
+
 -- A Set of a live session; on the Admin SP of SID's PIN alone.
-pub record Changes (past : List Event) (sp : Sp) (change : Change) : Type 0 where
+pub record Changes (o : Origin) (past : List Event) (sp : Sp) (change : Change) : Type 0 where
   pub session : Begun
   pub lives : IsIn past sp session
   pub row : sp ≡ Admin → is_of_row c_pin_sid change ≡ true
+  pub inside : is_inside o.tables.config.mbr_sectors sp change ≡ true
 
 abbrev pub CanDo : Origin → List Event → SessionDeed → Type 0
 CanDo o past Unchanged = Unit {0}
 CanDo o past (Started session row) = IsNew o past session
 CanDo o past (Tried attempt) = Unit {0}
-CanDo o past (Changed sp change) = Changes past sp change
+CanDo o past (Changed sp change) = Changes o past sp change
 CanDo o past (Began sp number) = Begins past sp number
 CanDo o past (Committed sp) = Closes past sp
 CanDo o past (Aborted sp) = Closes past sp

@@ -16,3 +16,4 @@ pub mod Audit
 pub mod DenialLaws
 pub mod TransferLaws
 pub mod Agreement
+pub mod Bounds

@@ -41,8 +41,11 @@ is_start (InSession (Started session row) response) = true
 is_start _ = false
 
 -- The number of the next session: they count up from 1000h, over resets and Reverts too.
+abbrev pub first_number : ℕ
+first_number = 0x1000
+
 abbrev pub next_number : List Event → ℕ
-next_number past = 0x1000 + count is_start past
+next_number past = first_number + count is_start past
 
 abbrev pub lives_by : Sp → SessionDeed → Option (Option Begun)
 lives_by sp (Started session row) = on_sp sp session.sp (Some session)

@@ -1,0 +1,56 @@
+-- What is nowhere, after any acts: cells that no table has, bytes of the shadow past its table, responses on other ComIDs.
+use Rattle.std.specs.Prelude.{◌≡◌, ℕ, ◌+◌, ◌*◌, ◌≤◌, ◌<◌, false, List, length, None, Ok}
+use Rattle.sp_cells.specs.declared.names.Sp.{Sp}
+use Rattle.sp_cells.specs.declared.names.Sp.TheVariants.{Admin, Locking}
+use Rattle.sp_cells.specs.declared.names.Uid.{Uid}
+use Rattle.sp_cells.specs.declared.names.Column.{Column}
+use Rattle.sp_cells.specs.ColumnNames.{credential_column}
+use Rattle.sp_cells.specs.Config.{Config}
+use Rattle.sp_tables.specs.Contents.{look_up}
+use Rattle.shadow_mbr.specs.Stored.{sector_size}
+use Rattle.locking.specs.declared.range.RangeRow.{RangeRow}
+use Rattle.history.specs.Opening.{Origin, factory_origin, origin_with}
+use Rattle.history.specs.Events.{Event}
+use Rattle.history.specs.Readers.{factory_rows, in_force, view, byte_in_force, byte_in_view, waiting}
+use Rattle.history.specs.Decisions.{is_session_com_id}
+use Rattle.history.specs.History.{Act, log}
+
+-- Neither what a drive starts from nor a new drive has a cell there: then there is none after any events.
+pub record IsNowhere (o : Origin) (sp : Sp) (object : Uid) (column : Column) : Type 0 where
+  pub opened : look_up o.tables sp object column ≡ None
+  pub factory : factory_rows o sp object column ≡ None
+
+pub record HasNone (o : Origin) (past : List Event) (sp : Sp) (object : Uid) (column : Column) : Type 0 where
+  pub rows : in_force o past sp object column ≡ None
+  pub views : (number : ℕ) → view o past number sp object column ≡ None
+
+abbrev pub CellLaw : Type 0
+CellLaw =
+    (o : Origin) (past : List Event) (sp : Sp) (object : Uid) (column : Column) → IsNowhere o sp object column
+    → HasNone o past sp object column
+
+-- No opening has a column behind the last one that tables have.
+abbrev pub HasNoColumn : Origin → Column → Type 0
+HasNoColumn o column = (sp : Sp) (object : Uid) → IsNowhere o sp object column
+
+abbrev pub ColumnLaw : Type 0
+ColumnLaw =
+    (config : Config) (column : Column) → credential_column.0 < column.0
+    → HasNoColumn (factory_origin config) column
+    × ((rows : List RangeRow) (o : Origin) → origin_with config rows ≡ Ok o → HasNoColumn o column)
+
+-- Past the table of the shadow there are zeros.
+pub record IsZero (past : List Event) (place : ℕ) : Type 0 where
+  pub byte : byte_in_force past place ≡ 0
+  pub views : (number : ℕ) → byte_in_view past number place ≡ 0
+
+abbrev pub TableLaw : Type 0
+TableLaw =
+    (o : Origin) (acts : List Act) (place : ℕ) → sector_size * o.tables.config.mbr_sectors ≤ place
+    → IsZero (log o acts) place
+
+-- No response waits on a ComID that is not one for sessions.
+abbrev pub ResponseLaw : Type 0
+ResponseLaw =
+    (o : Origin) (acts : List Act) (com_id : ℕ) → is_session_com_id com_id ≡ false
+    → waiting (log o acts) com_id ≡ None
