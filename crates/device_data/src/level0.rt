@@ -1,0 +1,101 @@
+//! Level 0 discovery (Core 2.01, section 3.3.6; Opal SSC 2.01, section 3.1.1).
+
+ghost use Rattle.std.specs.Prelude.{◌≡◌, ◌≤◌, ◌||◌};
+ghost use Rattle.sp_cells.specs.declared.names.TheConstants.{RANGES};
+ghost use Rattle.device_data.specs.Discovery.{is_set, has_lock, any_below, is_locked, is_manufactured, is_shadow_flag, locking_flags, discovery};
+
+use sp_cells::limits::MANUFACTURED;
+use sp_cells::{ADMINS, Column, RANGES, Rows, Sp, USERS, Uid, number_at};
+
+/// How many bytes Level 0 discovery has.
+pub const DISCOVERY_LENGTH: usize = 132;
+
+/// Whether a column of a range has 1 in it.
+fn is_set<R: Rows>(rows: &R, range: u8, column: Column) -> bool
+    requires { range ≤ RANGES }
+    ensures { result ≡ is_set (R.look_up rows.now) range column }
+{
+    number_at(rows, Sp::Locking, Uid::range(range), column) == 1
+}
+
+/// Whether a lock of a range is set, and enabled.
+fn has_lock<R: Rows>(rows: &R, range: u8) -> bool
+    requires { range ≤ RANGES }
+    ensures { result ≡ has_lock (R.look_up rows.now) range }
+{
+    is_set(rows, range, Column::READ_LOCK_ENABLED) && is_set(rows, range, Column::READ_LOCKED)
+        || is_set(rows, range, Column::WRITE_LOCK_ENABLED)
+            && is_set(rows, range, Column::WRITE_LOCKED)
+}
+
+/// Whether one of the ranges before was locked, or this one is.
+fn or_locked<R: Rows>(before: bool, rows: &R, range: u8) -> bool
+    requires { range ≤ RANGES }
+    ensures { result ≡ (before || has_lock (R.look_up rows.now) range) }
+{
+    before || has_lock(rows, range)
+}
+
+/// Whether some range is locked.
+#[tactic(auto, unfolding(crate::specs::Discovery::any_below))]
+fn is_locked<R: Rows>(rows: &R) -> bool
+    ensures { result ≡ is_locked (R.look_up rows.now) }
+{
+    let mut locked = false;
+    for range in 0..RANGES + 1 {
+        locked = or_locked(locked, rows, range);
+    }
+    locked
+}
+
+/// Whether the Locking SP is Manufactured.
+fn is_manufactured<R: Rows>(rows: &R) -> bool
+    ensures { result ≡ is_manufactured (R.look_up rows.now) }
+{
+    number_at(
+        rows,
+        Sp::Admin,
+        Uid::LOCKING_SP,
+        Column::LIFE_CYCLE_STATE,
+    ) == MANUFACTURED
+}
+
+/// A flag of the shadow MBR.
+fn shadow_flag<R: Rows>(rows: &R, column: Column) -> bool
+    ensures { result ≡ is_shadow_flag (R.look_up rows.now) column }
+{
+    number_at(rows, Sp::Locking, Uid::MBR_CONTROL, column) == 1
+}
+
+/// The flags of the Locking feature.
+fn locking_flags<R: Rows>(rows: &R) -> u8
+    ensures { result ≡ locking_flags (R.look_up rows.now) }
+{
+    1 + 2 * u8::from(is_manufactured(rows))
+        + 4 * u8::from(is_locked(rows))
+        + 16 * u8::from(shadow_flag(rows, Column::MBR_ENABLE))
+        + 32 * u8::from(shadow_flag(rows, Column::MBR_DONE))
+}
+
+/// Level 0 discovery by these rows: the header, and the features TPer, Locking, Geometry and Opal SSC 2.
+pub fn discovery<R: Rows>(rows: &R) -> [u8; DISCOVERY_LENGTH]
+    ensures { result ≡ discovery (R.look_up rows.now) }
+{
+    let flags = locking_flags(rows);
+    [
+        // the header: the length of what follows, version 1, 40 reserved and vendor's bytes
+        0, 0, 0, 0x80, 0, 0, 0, 1, 0, 0, 0, 0, 0, 0, 0, 0, //
+        0, 0, 0, 0, 0, 0, 0, 0, 0, 0, 0, 0, 0, 0, 0, 0, //
+        0, 0, 0, 0, 0, 0, 0, 0, 0, 0, 0, 0, 0, 0, 0, 0, //
+        // TPer
+        0x00, 0x01, 0x10, 12, 0x11, 0, 0, 0, 0, 0, 0, 0, 0, 0, 0, 0, //
+        // Locking
+        0x00, 0x02, 0x10, 12, flags, 0, 0, 0, 0, 0, 0, 0, 0, 0, 0, 0, //
+        // Geometry: sectors of 512 bytes, aligned to one
+        0x00, 0x03, 0x10, 28, 0, 0, 0, 0, 0, 0, 0, 0, 0, 0, 2, 0, //
+        0, 0, 0, 0, 0, 0, 0, 1, 0, 0, 0, 0, 0, 0, 0, 0, //
+        // Opal SSC 2: ComIDs from 1000h on, four of them, the Admins and the Users
+        0x02, 0x03, 0x10, 16, 0x10, 0x00, 0, 4, 0, 0, ADMINS, 0, USERS, 0, 0, 0, //
+        0, 0, 0, 0,
+    ]
+}
