@@ -6,11 +6,12 @@ use Rattle.hex.specs.declared.error.FromHexError.{FromHexError}
 use Rattle.sp_cells.specs.Config.{Config, IsWithinLimits}
 use Rattle.tool.specs.OptionTexts.{WritesConfig}
 use Rattle.tool.specs.Scripts.{script_lines, EndsWith}
+use Rattle.tool.specs.Level0.{level0_text}
 use Rattle.tool.specs.TokenLines.{token_text}
 use Rattle.clap.specs.Words.{IsAmong, Kinds, Text, fault_of}
 use Rattle.clap.specs.declared.error.kind.ErrorKind.{ErrorKind}
 use Rattle.clap.specs.declared.error.kind.ErrorKind.TheVariants.{DisplayHelp, DisplayVersion}
-use Rattle.opalport.specs.CommandLine.{Asked, run, tokens, asked_by, opalport_line}
+use Rattle.opalport.specs.CommandLine.{Asked, run, level0, tokens, asked_by, opalport_line}
 
 -- the texts write a configuration within the limits
 abbrev pub Opens : Text → Text → Text → Type 0
@@ -21,6 +22,14 @@ Opens sectors shadow msid =
 abbrev pub RunEnds : Text → Text → Text → Option (List ℕ) → ℕ → Option (List ℕ) → Option (List ℕ) → Type 0
 RunEnds sectors shadow msid input status old new =
     (Opens sectors shadow msid × IfSome input (λ text. EndsWith status (script_lines text)))
+    ⊎ ((Opens sectors shadow msid → ⊥) × (status ≡ 2) × (new ≡ old))
+
+-- the discovery of a new drive is printed with status 0; where the options open no drive, the status is 2, and nothing
+-- is printed
+abbrev pub Level0Ends : Text → Text → Text → ℕ → Option (List ℕ) → Option (List ℕ) → Type 0
+Level0Ends sectors shadow msid status old new =
+    ((config : Config) × WritesConfig sectors shadow msid config × IsWithinLimits config.sectors config.mbr_sectors config.msid
+        × (status ≡ 0) × Appends old new (level0_text config))
     ⊎ ((Opens sectors shadow msid → ⊥) × (status ≡ 2) × (new ≡ old))
 
 -- the item is printed with status 0; where the text is no hex, the status is 2, and nothing is printed
@@ -39,6 +48,7 @@ pub record Told (kind : ErrorKind) (status : ℕ) (old new : Option (List ℕ)) 
 abbrev pub Serves : Option Asked → Option (List ℕ) → ℕ → Option (List ℕ) → Option (List ℕ) → Type 0
 Serves None input status old new = status ≡ 2
 Serves (Some (run sectors shadow msid)) input status old new = RunEnds sectors shadow msid input status old new
+Serves (Some (level0 sectors shadow msid)) input status old new = Level0Ends sectors shadow msid status old new
 Serves (Some (tokens hex)) input status old new = TokensEnd hex status old new
 
 -- the words are no command line, and one of their faults is told

@@ -1,6 +1,6 @@
 //! The words of the command line, and what they ask for.
 
-ghost use Rattle.std.specs.Prelude.{◌≡◌, IfOk, false, map, option_map, option_and_then, string_bytes};
+ghost use Rattle.std.specs.Prelude.{◌≡◌, IfOk, false, map, option_map, option_and_then, string_bytes, codes};
 ghost use Rattle.clap.specs.Words.{FailsBy, app_of, fault_of, found_of, rows_of, rule_of, subcommand_rows_of};
 ghost use Rattle.opalport.specs.CommandLine.{option_rule, drive_line, tokens_line, opalport_line, text_of, asked, asked_of, asked_by};
 
@@ -20,6 +20,8 @@ pub struct DriveTexts<'a> {
 pub enum Request<'a> {
     /// To run a script on a drive.
     Run(DriveTexts<'a>),
+    /// To print the Level 0 discovery of a new drive.
+    Level0(DriveTexts<'a>),
     /// To tell a token stream, written in hex, as text.
     Tokens(&'a str),
 }
@@ -108,6 +110,7 @@ fn command<'a>(alloc: Global) -> Result<Command<'a>, AllocError>
         .subcommand_required(true)
         .arg_required_else_help(true)
         .subcommand(drive_command(alloc, "run", "Runs a script from standard input", LINES)?)?
+        .subcommand(drive_command(alloc, "level0", "Prints the Level 0 discovery of a new drive, in hex", "")?)?
         .subcommand(tokens_command(alloc)?)
 }
 
@@ -118,17 +121,27 @@ fn text_of<'a>(matches: &ArgMatches<'a>, id: &str) -> &'a str
     matches.get_str(id).unwrap_or("")
 }
 
+/// The options that say which drive.
+fn drive_texts<'a>(matches: &ArgMatches<'a>) -> DriveTexts<'a>
+    ensures sectors { result.sectors.now ≡ text_of (codes "sectors") (rows_of (found_of matches.now)) }
+    ensures shadow { result.shadow.now ≡ text_of (codes "shadow") (rows_of (found_of matches.now)) }
+    ensures msid { result.msid.now ≡ text_of (codes "msid") (rows_of (found_of matches.now)) }
+{
+    DriveTexts {
+        sectors: text_of(matches, "sectors"),
+        shadow: text_of(matches, "shadow"),
+        msid: text_of(matches, "msid"),
+    }
+}
+
 /// What the matches of a command line ask for.
 fn request_in<'a>(matches: &ArgMatches<'a>) -> Option<Request<'a>>
     ensures { option_map asked result ≡ option_and_then asked_of (subcommand_rows_of matches.now) }
 {
     let (name, matches) = matches.subcommand()?;
     match name {
-        "run" => Some(Request::Run(DriveTexts {
-            sectors: text_of(matches, "sectors"),
-            shadow: text_of(matches, "shadow"),
-            msid: text_of(matches, "msid"),
-        })),
+        "run" => Some(Request::Run(drive_texts(matches))),
+        "level0" => Some(Request::Level0(drive_texts(matches))),
         "tokens" => Some(Request::Tokens(text_of(matches, "hex"))),
         _ => None,
     }

@@ -2,13 +2,15 @@
 
 ghost use Rattle.std.specs.Prelude.{◌≡◌, ◌≢◌, ◌≤◌, IfOk, map, string_bytes};
 ghost use Rattle.clap.specs.Words.{kind_of};
-ghost use Rattle.opalport.specs.Program.{Told, RunEnds, TokensEnd, Ends};
+ghost use Rattle.opalport.specs.Program.{Told, RunEnds, Level0Ends, TokensEnd, Ends};
 
 use crate::command_line::{DriveTexts, Request, request_of};
 use clap::error::ErrorKind;
 use std::alloc::Global;
 use std::io::{Read, Write};
-use tool::{Options, OptionsFault, RunError, run_script_with_faults, run_tokens_with_faults};
+use tool::{
+    Options, OptionsFault, RunError, run_level0, run_script_with_faults, run_tokens_with_faults,
+};
 
 /// Runs a script on the drive that the options open, and gives the status.
 fn run<R: Read + Drop, W: Write, E: Write>(
@@ -28,6 +30,32 @@ fn run<R: Read + Drop, W: Write, E: Write>(
         drive.msid.as_bytes(),
     ) {
         Ok(options) => run_script_with_faults(alloc, input, output, faults, &options),
+        Err(OptionsFault::OutOfMemory) => Err(RunError::Memory),
+        Err(fault) => {
+            writeln!(faults, "error: {fault}").map_err(|_| RunError::Write)?;
+            Ok(2)
+        }
+    }
+}
+
+/// Prints the Level 0 discovery of a new drive, and gives the status.
+fn level0<W: Write, E: Write>(
+    alloc: Global,
+    drive: &DriveTexts<'_>,
+    output: &mut W,
+    faults: &mut E,
+) -> Result<u8, RunError>
+    ensures most { IfOk result (λ status. status ≤ 2) }
+    ensures ends { IfOk result (λ status. Level0Ends drive.now.sectors.now drive.now.shadow.now drive.now.msid.now
+        status (W.contents output.old) (W.contents output.new)) }
+{
+    match Options::parse(
+        alloc,
+        drive.sectors.as_bytes(),
+        drive.shadow.as_bytes(),
+        drive.msid.as_bytes(),
+    ) {
+        Ok(options) => run_level0(alloc, output, &options),
         Err(OptionsFault::OutOfMemory) => Err(RunError::Memory),
         Err(fault) => {
             writeln!(faults, "error: {fault}").map_err(|_| RunError::Write)?;
@@ -93,6 +121,7 @@ pub fn ends<R: Read + Drop, W: Write, E: Write>(
 {
     match request_of(alloc, words) {
         Ok(Some(Request::Run(drive))) => run(alloc, &drive, input, output, faults),
+        Ok(Some(Request::Level0(drive))) => level0(alloc, &drive, output, faults),
         Ok(Some(Request::Tokens(hex))) => tokens(alloc, hex, output, faults),
         Ok(None) => Ok(2),
         Err(error) => tell(&error, output, faults),

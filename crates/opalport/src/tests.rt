@@ -19,6 +19,9 @@ fn asked(alloc: Global, line: &str) -> Result<String, AllocError> {
         Ok(Some(Request::Run(drive))) => {
             format!(in alloc; "run {} {} {}", drive.sectors, drive.shadow, drive.msid)
         }
+        Ok(Some(Request::Level0(drive))) => {
+            format!(in alloc; "level0 {} {} {}", drive.sectors, drive.shadow, drive.msid)
+        }
         Ok(Some(Request::Tokens(hex))) => format!(in alloc; "tokens {hex}"),
         Ok(None) => format!(in alloc; "nothing"),
         Err(error) => format!(in alloc; "{:?}", error.kind()),
@@ -47,6 +50,7 @@ fn asks_what_is_written(rt: HostRuntime) -> Result<(), Fail> {
             "opalport run --msid 00 --shadow=2 --sectors 3",
             "run 3 2 00",
         ),
+        ("opalport level0 --msid=00", "level0 1000 8 00"),
         ("opalport tokens f8", "tokens f8"),
     ] {
         assert_eq!(rt; asked(rt.alloc(), line)?.as_str(), wanted, "at {line}");
@@ -140,6 +144,24 @@ fn ends_with_a_status(rt: HostRuntime) -> Result<(), Fail> {
             "at {line}"
         );
     }
+    Ok(())
+}
+
+/// Level 0 discovery of a new drive, byte for byte: the header, TPer, Locking (flags 01h: the Locking SP is not active),
+/// Geometry, Opal SSC 2.
+#[test]
+fn prints_the_discovery_of_a_new_drive(rt: HostRuntime) -> Result<(), Fail> {
+    let (status, output, faults) = end(&rt, "opalport level0 --sectors 12", b"")?;
+    assert_eq!(rt; (status, faults.is_empty()), (0, true));
+    let printed = "0000008000000001\
+        00000000000000000000000000000000000000000000000000000000000000000000000000000000\
+        0001100c110000000000000000000000\
+        0002100c010000000000000000000000\
+        0003101c00000000000000000000020000000000000000010000000000000000\
+        0203101010000004000004000800000000000000\n";
+    assert_eq!(rt; output.as_slice(), printed.as_bytes());
+    let (status, output, _) = end(&rt, "opalport level0 --sectors 7", b"")?;
+    assert_eq!(rt; (status, output.is_empty()), (2, true));
     Ok(())
 }
 

@@ -2,6 +2,7 @@
 #![tactic(auto)]
 
 mod ending;
+mod level0;
 mod opening;
 mod options;
 mod reading;
@@ -10,6 +11,7 @@ mod script;
 mod tokens;
 
 pub use ending::RunError;
+pub use level0::run_level0;
 pub use options::{Options, OptionsFault};
 pub use script::{laws_of_limits, run_script, run_script_with_faults};
 pub use tokens::{run_tokens, run_tokens_with_faults};

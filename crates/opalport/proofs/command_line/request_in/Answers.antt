@@ -9,6 +9,12 @@ returns-in-run c =
     entered_as _ _ _ _ _ c.in_ok-name.ensures.name c.in_ok-name.ensures.rows in
     rw (entered, c.in-run.is) (cc)
 
+pub returns-in-level0 : goal.returns-in-level0
+returns-in-level0 c =
+    let entered : subcommand_rows_of c.args.matches.now ≡ Some (c.in_ok-name.name.now, rows_of (found_of c.in_ok-name.matches.now)) =
+    entered_as _ _ _ _ _ c.in_ok-name.ensures.name c.in_ok-name.ensures.rows in
+    rw (entered, c.in-level0.is) (cc)
+
 pub returns-in-tokens : goal.returns-in-tokens
 returns-in-tokens c =
     let entered : subcommand_rows_of c.args.matches.now ≡ Some (c.in_ok-name.name.now, rows_of (found_of c.in_ok-name.matches.now)) =

@@ -1,0 +1,47 @@
+//! Level 0 discovery of a new drive, in hex.
+
+ghost use Rattle.std.specs.Prelude.{◌≡◌, ◌⊎◌, IfOk, IfErr, Err, string_bytes};
+ghost use Rattle.std.specs.Io.KnownBytes.{Appends};
+ghost use Rattle.tool.specs.Level0.{discovery_text, level0_text};
+ghost use Rattle.tool.specs.declared.ending.RunError.{RunError};
+
+use crate::ending::RunError;
+use crate::options::Options;
+use device_data::discovery;
+use sp_cells::DriveConfig;
+use sp_tables::Tables;
+use std::alloc::{AllocError, Global};
+use std::io::Write;
+
+/// The bytes of the discovery in hex.
+fn discovery_text(alloc: Global, config: &DriveConfig) -> Result<String, AllocError>
+    ensures { IfOk result (λ text. string_bytes text ≡ discovery_text config.now) }
+{
+    let tables = Tables::factory(alloc, config)?;
+    hex::encode(alloc, discovery(&tables))
+}
+
+/// Prints the 132 bytes that a drive as it leaves the factory gives to a TRUSTED RECEIVE of Level 0 discovery, in
+/// hex, with status 0.
+///
+/// # Errors
+///
+/// Want of memory, and then nothing is printed; a call of the writer that fails.
+pub fn run_level0<W: Write>(
+    alloc: Global,
+    output: &mut W,
+    options: &Options,
+) -> Result<u8, RunError>
+    ensures printed { IfOk result (λ status. (status ≡ 0)
+        × Appends (W.contents output.old) (W.contents output.new) (level0_text options.now)) }
+    ensures memory { result ≡ Err RunError.Memory → W.contents output.new ≡ W.contents output.old }
+    ensures errors { IfErr result (λ error. (error ≡ RunError.Memory) ⊎ (error ≡ RunError.Write)) }
+{
+    let mut line = discovery_text(alloc, &options.config())?;
+    line.push_str("\n")?;
+    output
+        .write_all(line.as_bytes())
+        .map_err(|_| RunError::Write)?;
+    output.flush().map_err(|_| RunError::Write)?;
+    Ok(0)
+}
