@@ -1,9 +1,7 @@
 -- What accepted commands and completions are answered: FISes, statuses, bytes (Serial ATA, FISes to the host; ACS-3, Status and Error).
-use Rattle.std.proofs.Common.{◌≡◌, ℕ, Bool, true, false, List, [], ◌∷◌, ◌++◌, reverse, replicate, Some, refl}
-use Rattle.std.specs.Prelude.{take}
+use Rattle.std.proofs.Common.{◌≡◌, ℕ, Bool, true, false, List, [], ◌∷◌, ◌++◌, reverse, replicate, refl}
 use Rattle.fis.specs.declared.any.Fis.{Fis}
 use Rattle.fis.specs.declared.any.Fis.TheVariants as fises
-use Rattle.sp_cells.specs.Names.{admin_sp}
 use Rattle.sp_cells.specs.Authorities.{authorities_of_locking}
 use Rattle.sp_tables.specs.Faults.{any_to}
 use Rattle.sp_factory.specs.Factory.{admin_sps, admin_authorities, locking_authorities, admin_pins, locking_pins, locking_ranges, locking_mbr_controls, admin_aces, authority_aces, pin_aces, range_aces, mbr_aces}
@@ -17,13 +15,12 @@ use Rattle.tcg_tokens.specs.Spelling.{number_spelling, bytes_spelling}
 use Rattle.transactions.specs.Resets.{is_range}
 use Rattle.methods.specs.Listed.{listed_among}
 use Rattle.methods.specs.Settings.{cells_for}
-use Rattle.history.specs.Opening.{Origin}
 use Rattle.history.specs.Readers.{held}
 use Rattle.history.specs.Facts.{facts}
 use Rattle.history.specs.Decisions.{any_below}
 use Rattle.history.specs.Answers.{accepted_fises, completed_fises, completed_data, expected}
 use Rattle.history.specs.History.{Act, Accept, event, log}
-use Rattle.history.proofs.Scripts.{new_drive, range_row, opened, fis, start_anybody, send}
+use Rattle.history.proofs.Scripts.{new_drive, fis}
 
 -- Register FISes with and without an interrupt, and the PIO Setup FIS of data to the host.
 abbrev register : Bool → ℕ → ℕ → Fis

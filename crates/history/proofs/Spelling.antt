@@ -2,7 +2,7 @@
 use Rattle.std.proofs.Common.{◌≡◌, ℕ, ◌+◌, ◌*◌, ◌/◌, ◌%◌, ◌<◌, ◌≤◌, true, false, refl, arith}
 use Rattle.std.proofs.lemmas.Grind.{common_steps}
 use Rattle.trusted_cmds.specs.Commands.{sectors, sectors_field}
-use Rattle.history.specs.Commands.{Command, ReadQueued, WriteQueued, ReadDma, WriteDma, Send, Receive, Identify, ReadLog, Flush, SpellingLaw}
+use Rattle.history.specs.Commands.{ReadQueued, WriteQueued, ReadDma, WriteDma, Send, Receive, Identify, ReadLog, Flush, SpellingLaw}
 
 count-back : (count : ℕ) → 0 < count → count ≤ 65536 → sectors (sectors_field count) ≡ count
 count-back count some most = grind (arith, common_steps)

@@ -1,7 +1,6 @@
 -- What is nowhere, after any acts: cells that no table has, bytes of the shadow past its table, responses on other ComIDs.
-use Rattle.std.specs.Prelude.{◌≡◌, ℕ, ◌+◌, ◌*◌, ◌≤◌, ◌<◌, false, List, length, None, Ok}
+use Rattle.std.specs.Prelude.{◌≡◌, ℕ, ◌*◌, ◌≤◌, ◌<◌, false, List, None, Ok}
 use Rattle.sp_cells.specs.declared.names.Sp.{Sp}
-use Rattle.sp_cells.specs.declared.names.Sp.TheVariants.{Admin, Locking}
 use Rattle.sp_cells.specs.declared.names.Uid.{Uid}
 use Rattle.sp_cells.specs.declared.names.Column.{Column}
 use Rattle.sp_cells.specs.ColumnNames.{credential_column}
