@@ -18,3 +18,4 @@ pub mod DenialLaws
 pub mod TransferLaws
 pub mod Agreement
 pub mod Bounds
+pub mod CallsAgree
