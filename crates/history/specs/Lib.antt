@@ -19,3 +19,4 @@ pub mod TransferLaws
 pub mod Agreement
 pub mod Bounds
 pub mod CallsAgree
+pub mod SessionsAgree
