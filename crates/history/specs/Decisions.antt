@@ -1,4 +1,4 @@
--- [drive] What an act does, by the facts (ACS-3, NCQ and trusted computing feature sets; Core 2.01, chapter 3). The order of the rules stands here once.
+-- What an act does, by the facts (ACS-3, NCQ and trusted computing feature sets; Core 2.01, chapter 3). The order of the rules stands here once.
 use Rattle.std.specs.Prelude.{ℕ, zero, suc, ◌+◌, ◌*◌, ◌==◌, Bool, true, false, not, ◌&&◌, ◌||◌, nat_le, nat_lt, List, [], length, slice_index, Option, Some, None, is_some, Result, Ok, Err, if◌then◌else◌}
 use Rattle.fis.specs.Types.{h2d_type}
 use Rattle.fis.specs.Tags.{slot_count}

@@ -52,7 +52,7 @@ pub record TransferDenied (f : Facts) (act : Act) (why : Why) : Type 0 where
   pub on_drive : on_drive f lba count ≡ true
   pub verdict : verdict_on f op lba count ≡ Denied why
 
--- A call of the right shape that its entries deny.
+-- A call of the right shape that its ACEs deny.
 pub record MethodDenied (f : Facts) (act : Act) (why : Why) : Type 0 where
   pub session : Begun
   pub object : List ℕ

@@ -1,4 +1,4 @@
--- [drive] What an act turned out to do, and the words by which a list of events is read. The newest event comes first.
+-- What an act turned out to do, and the words by which a list of events is read. The newest event comes first.
 -- A deed names its SP, and records what it did: the session as it began, the PIN that an Activate copied, whether media were wiped, the bytes of a response.
 use Rattle.std.specs.Prelude.{ℕ, ◌+◌, Bool, List, [], ◌∷◌, ◌++◌, Option, Some, None, option_to_list, if◌then◌else◌}
 use Rattle.sp_cells.specs.declared.names.Uid.{Uid}

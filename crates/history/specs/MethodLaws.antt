@@ -1,4 +1,4 @@
--- A method takes effect, and a column is listed, exactly where an access entry that names it holds of the session's authorities in its view.
+-- A method takes effect, and a column is listed, exactly where an ACE that names it holds of the session's authorities in its view.
 use Rattle.std.specs.Prelude.{◌≡◌, ◌⊎◌, ℕ, ◌≤◌, ◌==◌, ◌↔◌, ◌&&◌, Bool, true, false, not, is_some, slice_index, List, [], ◌∷◌, Option, Some, None, Ok}
 use Rattle.fis.specs.Types.{h2d_type}
 use Rattle.fis.specs.H2d.{h2d_at}

@@ -1,4 +1,4 @@
--- [drive] What is read off a list of events: sessions, transactions, changes in force, Tries, media, the queue, waiting responses. By SP, as
+-- What is read off a list of events: sessions, transactions, changes in force, Tries, media, the queue, waiting responses. By SP, as
 -- an SP has one session at a time. The newest event comes first.
 use Rattle.std.specs.Prelude.{ℕ, ◌+◌, ◌-◌, ◌*◌, ◌/◌, ◌^◌, ◌==◌, Bool, true, false, ◌&&◌, nat_le, nat_lt, List, [], ◌∷◌, ◌++◌, length, take, drop, Option, Some, None, unwrap_or, if◌then◌else◌}
 use Rattle.std.specs.List.{flat_map}
