@@ -3,7 +3,7 @@ use Rattle.std.proofs.Common.{◌≡◌, ◌+◌, ℕ, List, [], ◌∷◌, ◌+
 use Rattle.audit.specs.declared.reason.Why.{Why}
 use Rattle.audit.specs.declared.reason.AuditLine.{AuditLine}
 use Rattle.history.specs.Opening.{Origin}
-use Rattle.history.specs.MethodLaws.{IsAmong}
+use Rattle.methods.specs.Laws.{IsAmong}
 use Rattle.history.specs.Audit.{ClientAct, event_of, line_for, audit, IsLineOf, AuditLaw}
 
 none-some : {A : Type 0} {x : A} → None ≡ Some x → ⊥

@@ -25,9 +25,9 @@ use Rattle.methods.specs.Kinds.{kind_of}
 use Rattle.methods.specs.Grants.{denied}
 use Rattle.methods.specs.Settings.{Setting, cells_set, bytes_set, setting}
 use Rattle.methods.specs.Said.{Said, reply_of, says, refuses, fits, most_response}
-use Rattle.methods.specs.Effects.{cased, seen_by, is_inside, bytes_from as bytes_among, last_row, rows_said, fault_of_setting, unless_fault, valid_setting, to_set as to_set_of, set_said, unless_inside, sp_of_row, said_ask}
-use Rattle.methods.specs.Calls.{said_unless}
-use Rattle.history.specs.Calls.{Standing, Judgement, Refuses, Gives, Makes, Attempts, Activates, Reverts, gives, listing, table_size, bytes_between, rows_given, fault_by, valid, to_set, makes, unless_open, does_ask, does, unless_denied}
+use Rattle.methods.specs.Effects.{ask_at, seen_by, is_inside, bytes_from as bytes_among, last_row, rows_said, fault_of_setting, unless_fault, valid_setting, to_set as to_set_of, set_said, unless_inside, sp_of_row, said_ask}
+use Rattle.methods.specs.Calls.{said_unless, said_shaped}
+use Rattle.history.specs.Calls.{Standing, Judgement, Refuses, Gives, Makes, Attempts, Activates, Reverts, gives, listing, table_size, bytes_between, rows_given, fault_by, valid, to_set, makes, unless_open, does_ask, does, unless_denied, judged}
 use Rattle.history.specs.CallsAgree.{said_of, SaidLaw, standing_on, AnswerLaw}
 
 pub said_law : SaidLaw
@@ -106,7 +106,10 @@ denied-same rows sp wipes None j = refl
 denied-same rows sp wipes (Some why) j = refl
 
 pub answer_law : AnswerLaw
-answer_law store session object method held None h = refl
-answer_law store session object method held (Some ask) h =
-    ap (said_unless (denied (seen_by store session) session.sp object method held ask)) (ask-same store session object held h (cased (kind_of session.sp object) ask))
-    ∙ denied-same (in_force store) session.sp (is_manufactured store) (denied (seen_by store session) session.sp object method held ask) (does (standing_on store session held) object ask)
+answer_law store c h = by_ask c.ask
+  where
+    by_ask : (x : Option Ask) → said_shaped store c x ≡ said_of (in_force store) c.session.sp (is_manufactured store) (judged (standing_on store c.session c.held) c.object c.method x)
+    by_ask None = refl
+    by_ask (Some ask) =
+        ap (said_unless (denied (seen_by store c.session) c.session.sp c.object c.method c.held ask)) (ask-same store c.session c.object c.held h (ask_at c.session.sp c.object ask))
+        ∙ denied-same (in_force store) c.session.sp (is_manufactured store) (denied (seen_by store c.session) c.session.sp c.object c.method c.held ask) (does (standing_on store c.session c.held) c.object ask)

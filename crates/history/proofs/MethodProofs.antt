@@ -32,14 +32,15 @@ use Rattle.std.specs.Option.{option_or}
 use Rattle.methods.specs.Kinds.{kind_of}
 use Rattle.methods.specs.Columns.{columns_of}
 use Rattle.methods.specs.Grants.{why_denied, unless_allowed, denial as denial_of, wanted, first_some}
-use Rattle.methods.specs.Listed.{is_asked, is_listed, shown, listed_among, listed}
 use Rattle.call_shapes.specs.CellValues.{cell_tree}
+use Rattle.methods.specs.Laws.{EachHasAce}
+use Rattle.methods.proofs.GrantLaws.{grant_law as grants}
 use Rattle.history.specs.Calls.{Standing, Judgement, Refuses, Gives, Makes, Attempts, Activates, Reverts, denial, does, unless_denied, judged}
 use Rattle.history.specs.Events.{Event, Nothing, did}
 use Rattle.history.specs.Facts.{Facts, standing, session_named}
 use Rattle.history.specs.Decisions.{outcome_of, tried_in, admitted, unqueued, fails_queue, refuses, aborted, answers, to_manager, to_session, in_session, framed, sent, while_failed, is_busy, known, commanded}
 use Rattle.history.specs.History.{Act, event_by}
-use Rattle.history.specs.MethodLaws.{EffectLaw, EachHasAce, IsGranted, IsAmong, takes_effect, GrantLaw, IsListed, ListLaw, IsLookedAt, IsSent, CallLaw}
+use Rattle.history.specs.MethodLaws.{EffectLaw, IsGranted, takes_effect, GrantLaw, IsLookedAt, IsSent, CallLaw}
 
 none-some : {A : Type 0} {x : A} → None ≡ Some x → ⊥
 none-some h = cc
@@ -50,57 +51,22 @@ clash h = cc
 same-why : {x y : Why} → Some x ≡ Some y → x ≡ y
 same-why h = cc
 
--- ACEs by their test
-allowed-by : (s : Standing) (object method : Uid) (k : Option Column) (x : Option Uid) → ace_of s.rows s.sp object method k s.held ≡ x → (why : Why) → unless_allowed x why ≡ None → HasAce s.rows s.sp object method k s.held
-allowed-by s object method k (Some u) is why h = some_ace s.rows s.sp object method k s.held u is
-allowed-by s object method k None is why h = absurd (none-some (sym h))
-
-has-allowed : (s : Standing) (object method : Uid) (k : Option Column) (x : Option Uid) → ace_of s.rows s.sp object method k s.held ≡ x → (why : Why) → HasAce s.rows s.sp object method k s.held → unless_allowed x why ≡ None
-has-allowed s object method k (Some u) is why e = refl
-has-allowed s object method k None is why e = absurd (no_ace s.rows s.sp object method k s.held is e)
-
-some-ace-test : (s : Standing) (object method : Uid) (k : Option Column) (x : Option Uid) → ace_of s.rows s.sp object method k s.held ≡ x → is_some x ≡ true → HasAce s.rows s.sp object method k s.held
-some-ace-test s object method k (Some u) is h = some_ace s.rows s.sp object method k s.held u is
-some-ace-test s object method k None is h = absurd (clash h)
-
-test-some-ace : (s : Standing) (object method : Uid) (k : Option Column) (x : Option Uid) → ace_of s.rows s.sp object method k s.held ≡ x → HasAce s.rows s.sp object method k s.held → is_some x ≡ true
-test-some-ace s object method k (Some u) is e = refl
-test-some-ace s object method k None is e = absurd (no_ace s.rows s.sp object method k s.held is e)
-
 -- a method is offered where it has an ACE
 row-there : (row : Option (List Uid)) (ace : Uid) → has (unwrap_or row []) ace ≡ true → (r : List Uid) × (row ≡ Some r)
 row-there None ace h = absurd (clash h)
 row-there (Some r) ace h = (r, refl)
 
--- no column of these is denied where each has an ACE
-either-none : (x y : Option Why) → option_or x y ≡ None → (x ≡ None) × (y ≡ None)
-either-none None y h = (refl, h)
-either-none (Some w) y h = absurd (none-some (sym h))
-
-each-has : (s : Standing) (object method : Uid) (ks : List (Option Column)) → first_some (map (denial_of s.rows s.sp object method s.held) ks) ≡ None → EachHasAce s object method ks
-each-has s object method [] h = tt
-each-has s object method (k ∷ ks) h =
-    let w = either-none (denial_of s.rows s.sp object method s.held k) (first_some (map (denial_of s.rows s.sp object method s.held) ks)) h in (
-      allowed-by s object method k (ace_of s.rows s.sp object method k s.held) refl (why_denied s.rows s.sp object method k (acl_at s.sp object method)) w.0,
-      each-has s object method ks w.1,
-    )
-
-has-each : (s : Standing) (object method : Uid) (ks : List (Option Column)) → EachHasAce s object method ks → first_some (map (denial_of s.rows s.sp object method s.held) ks) ≡ None
-has-each s object method [] h = refl
-has-each s object method (k ∷ ks) h =
-    ap (λ x. option_or x (first_some (map (denial_of s.rows s.sp object method s.held) ks))) (has-allowed s object method k (ace_of s.rows s.sp object method k s.held) refl (why_denied s.rows s.sp object method k (acl_at s.sp object method)) h.0)
-    ∙ has-each s object method ks h.1
-
+-- a call is denied exactly where it is not granted
 pub no-denial : (s : Standing) (object method : Uid) (ask : Ask) → IsGranted s object method ask → denial s object method ask ≡ None
-no-denial s object method ask h = has-each s object method (wanted ask) h
+no-denial s object method ask h = (grants s.rows s.sp object method s.held ask).1 h
 
 pub denial-none : (s : Standing) (object method : Uid) (ask : Ask) → denial s object method ask ≡ None → IsGranted s object method ask
-denial-none s object method ask h = each-has s object method (wanted ask) h
+denial-none s object method ask h = (grants s.rows s.sp object method s.held ask).0 h
 
 -- some ACE is wanted, and so the method is offered
-first-row : (s : Standing) (object method : Uid) (ks : List (Option Column)) (k : Option Column) (rest : List (Option Column)) → ks ≡ k ∷ rest → EachHasAce s object method ks → (r : List Uid) × (acl_at s.sp object method ≡ Some r)
+first-row : (s : Standing) (object method : Uid) (ks : List (Option Column)) (k : Option Column) (rest : List (Option Column)) → ks ≡ k ∷ rest → EachHasAce s.rows s.sp object method s.held ks → (r : List Uid) × (acl_at s.sp object method ≡ Some r)
 first-row s object method ks k rest is h =
-    let e : EachHasAce s object method (k ∷ rest) = subst (EachHasAce s object method) is h in row-there (acl_at s.sp object method) e.0.ace e.0.in_row
+    let e : EachHasAce s.rows s.sp object method s.held (k ∷ rest) = subst (EachHasAce s.rows s.sp object method s.held) is h in row-there (acl_at s.sp object method) e.0.ace e.0.in_row
 
 not-empty : (p : ℕ × Tree) (ps : List (ℕ × Tree)) → (length (p ∷ ps) == 0) ≡ false
 not-empty p ps = grind (arith, nat_tests)
@@ -132,101 +98,6 @@ grant_law s object method ask =
       granted = same;
       denied = λ h. denied-if s object method ask (denial s object method ask) refl h;
     }
-
--- what is listed
-among-left : {A : Type 0} (xs ys : List A) (y : A) → IsAmong xs y → IsAmong (xs ++ ys) y
-among-left [] ys y h = absurd h
-among-left (x ∷ xs) ys y (inl h) = inl h
-among-left (x ∷ xs) ys y (inr h) = inr (among-left xs ys y h)
-
-among-right : {A : Type 0} (xs ys : List A) (y : A) → IsAmong ys y → IsAmong (xs ++ ys) y
-among-right [] ys y h = h
-among-right (x ∷ xs) ys y h = inr (among-right xs ys y h)
-
-among-cases : {A : Type 0} (xs ys : List A) (y : A) → IsAmong (xs ++ ys) y → IsAmong xs y ⊎ IsAmong ys y
-among-cases [] ys y h = inr h
-among-cases (x ∷ xs) ys y (inl h) = inl (inl h)
-among-cases (x ∷ xs) ys y (inr h) = elim (among-cases xs ys y h) [ inl g ↦ inl (inr g) | inr g ↦ inr g ]
-
-in-flat : {A B : Type 0} (f : A → List B) (xs : List A) (y : B) → IsAmong (flat_map f xs) y → (x : A) × IsAmong xs x × IsAmong (f x) y
-in-flat f [] y h = absurd h
-in-flat f (x ∷ xs) y h = elim (among-cases (f x) (flat_map f xs) y h) [
-  | inl here ↦ (x, inl refl, here)
-  | inr rest ↦ let w = in-flat f xs y rest in (w.0, inr w.1, w.2)
-]
-
-flat-in : {A B : Type 0} (f : A → List B) (xs : List A) (x : A) (y : B) → IsAmong xs x → IsAmong (f x) y → IsAmong (flat_map f xs) y
-flat-in f [] x y h g = absurd h
-flat-in f (a ∷ xs) x y (inl h) g = among-left (f a) (flat_map f xs) y (rw h g)
-flat-in f (a ∷ xs) x y (inr h) g = among-right (f a) (flat_map f xs) y (flat-in f xs x y h g)
-
-in-filter : {A : Type 0} (p : A → Bool) (xs : List A) (y : A) → IsAmong (filter p xs) y → IsAmong xs y × (p y ≡ true)
-in-filter p [] y h = absurd h
-in-filter p (x ∷ xs) y h = by_test (p x) refl h (in-filter p xs y)
-  where
-    by_test : (b : Bool) → p x ≡ b → IsAmong (cond b (x ∷ filter p xs) (filter p xs)) y → (IsAmong (filter p xs) y → IsAmong xs y × (p y ≡ true)) → IsAmong (x ∷ xs) y × (p y ≡ true)
-    by_test true is (inl g) rest = (inl g, ap p (sym g) ∙ is)
-    by_test true is (inr g) rest = let w = rest g in (inr w.0, w.1)
-    by_test false is g rest = let w = rest g in (inr w.0, w.1)
-
-filter-in : {A : Type 0} (p : A → Bool) (xs : List A) (y : A) → IsAmong xs y → p y ≡ true → IsAmong (filter p xs) y
-filter-in p [] y h is = absurd h
-filter-in p (x ∷ xs) y (inl h) is = rw (ap p h ∙ is) (inl h)
-filter-in p (x ∷ xs) y (inr h) is = by_test (p x) (filter-in p xs y h is)
-  where
-    by_test : (b : Bool) → IsAmong (filter p xs) y → IsAmong (cond b (x ∷ filter p xs) (filter p xs)) y
-    by_test true g = inr g
-    by_test false g = g
-
-shown-is : (k : Column) (x : Option Cell) (value : Tree) → IsAmong (shown k x) value → (cell : Cell) × (x ≡ Some cell) × (value ≡ named (number k.0) (cell_tree cell))
-shown-is k None value h = absurd h
-shown-is k (Some cell) value (inl h) = (cell, refl, sym h)
-shown-is k (Some cell) value (inr h) = absurd h
-
-and-parts : (a b : Bool) → (a && b) ≡ true → (a ≡ true) × (b ≡ true)
-and-parts true b h = (refl, h)
-and-parts false b h = absurd (clash h)
-
-le-of : (a b : ℕ) → nat_le a b ≡ true → a ≤ b
-le-of a b h = grind (arith, nat_tests)
-
-of-le : (a b : ℕ) → a ≤ b → nat_le a b ≡ true
-of-le a b h = grind (arith, nat_tests)
-
-listed-is : (s : Standing) (object : Uid) (first last : ℕ) (value : Tree) → IsAmong (listed s.rows s.sp object first last s.held) value → IsListed s object first last value
-unfolding listed_among
-listed-is s object first last value h =
-    let kept : List Column = filter (is_listed s.rows s.sp object first last s.held) (columns_of (kind_of s.sp object)) in
-    let w = in-flat (λ k. shown k (s.rows s.sp object k)) kept value h in
-    let column : Column = w.0 in
-    let c = in-filter (is_listed s.rows s.sp object first last s.held) (columns_of (kind_of s.sp object)) column w.1 in
-    let test = and-parts (is_asked first last column) (is_some (ace_of s.rows s.sp object get (Some column) s.held)) c.1 in
-    let range = and-parts (nat_le first column.0) (nat_le column.0 last) test.0 in
-    let v = shown-is column (s.rows s.sp object column) value w.2 in
-    record {
-      column = column;
-      known = c.0;
-      from = le-of first column.0 range.0;
-      to = le-of column.0 last range.1;
-      ace = some-ace-test s object get (Some column) (ace_of s.rows s.sp object get (Some column) s.held) refl test.1;
-      cell = v.0;
-      in_view = v.1;
-      value_is = v.2;
-    }
-
-is-listed : (s : Standing) (object : Uid) (first last : ℕ) (value : Tree) → IsListed s object first last value → IsAmong (listed s.rows s.sp object first last s.held) value
-unfolding listed_among
-is-listed s object first last value w =
-    let passes : is_listed s.rows s.sp object first last s.held w.column ≡ true =
-    ap (λ b. b && nat_le w.column.0 last && is_some (ace_of s.rows s.sp object get (Some w.column) s.held)) (of-le first w.column.0 w.from)
-    ∙ ap (λ b. b && is_some (ace_of s.rows s.sp object get (Some w.column) s.held)) (of-le w.column.0 last w.to)
-    ∙ test-some-ace s object get (Some w.column) (ace_of s.rows s.sp object get (Some w.column) s.held) refl w.ace in
-    flat-in (λ k. shown k (s.rows s.sp object k)) (filter (is_listed s.rows s.sp object first last s.held) (columns_of (kind_of s.sp object))) w.column value
-    (filter-in (is_listed s.rows s.sp object first last s.held) (columns_of (kind_of s.sp object)) w.column w.known passes)
-    (rw w.in_view (inl (sym w.value_is)))
-
-pub list_law : ListLaw
-list_law s object first last value = (listed-is s object first last value, is-listed s object first last value)
 
 -- what is looked at
 abbrev pub looked_event : (f : Facts) (h : RegH2d) (payload : List ℕ) (command : Command) → Option ℕ → Event

@@ -5,7 +5,7 @@ use Rattle.audit.specs.declared.reason.AuditLine.{AuditLine}
 use Rattle.history.specs.Opening.{Origin}
 use Rattle.history.specs.Events.{Event}
 use Rattle.history.specs.History.{Act, event, log}
-use Rattle.history.specs.MethodLaws.{IsAmong}
+use Rattle.methods.specs.Laws.{IsAmong}
 
 -- An act with the client that it is for.
 abbrev pub ClientAct : Type 0

@@ -1,6 +1,6 @@
 -- What comes of a call in a session, by the definitions of the crate that does it: its shape, its ACEs, its values, in this order.
 -- Over any view and any authorities.
-use Rattle.std.specs.Prelude.{ℕ, ◌+◌, ◌-◌, ◌*◌, ◌==◌, ◌||◌, Bool, true, false, nat_le, nat_lt, List, [], ◌∷◌, Option, Some, None, if◌then◌else◌}
+use Rattle.std.specs.Prelude.{ℕ, ◌+◌, ◌-◌, ◌*◌, ◌==◌, ◌||◌, Bool, true, false, nat_le, nat_lt, List, [], ◌∷◌, map, Option, Some, None, if◌then◌else◌}
 use Rattle.sp_cells.specs.declared.names.Uid.{Uid}
 use Rattle.sp_cells.specs.declared.names.Sp.{Sp}
 use Rattle.sp_cells.specs.declared.error.SetError.{SetError}
@@ -20,10 +20,10 @@ use Rattle.call_shapes.specs.Asks.{ask_of}
 use Rattle.call_shapes.specs.Statuses.{success, not_authorized, invalid_parameter, response_overflow, fail}
 use Rattle.methods.specs.Kinds.{kind_of}
 use Rattle.methods.specs.Grants.{denied}
-use Rattle.methods.specs.Listed.{listed}
+use Rattle.methods.specs.Listed.{listed, cell_value}
 use Rattle.methods.specs.Settings.{Setting, cells_set, bytes_set, setting}
 use Rattle.methods.specs.Said.{reply_of, most_response}
-use Rattle.methods.specs.Effects.{cased, last_row, sp_of_row, unless_fault}
+use Rattle.methods.specs.Effects.{ask_at, last_row, sp_of_row, unless_fault}
 
 -- What the rules ask of a session: the drive's sectors, those of its shadow, the rows and the shadow's bytes in its view,
 -- its SP, the authorities that it holds, and whether it has a transaction open.
@@ -59,7 +59,7 @@ gives results =
 
 -- What a Get of columns gives: those that are listed, with their values.
 abbrev pub listing : Standing → Uid → ℕ → ℕ → List Tree
-listing s object first last = list (trees_of (listed s.rows s.sp object first last s.held)) ∷ []
+listing s object first last = list (trees_of (map cell_value (listed s.rows s.sp object first last s.held))) ∷ []
 
 -- What a Get of bytes gives: rows of the shadow's table.
 abbrev pub table_size : Standing → ℕ
@@ -109,7 +109,7 @@ does_ask s object Revert = unless_open s.is_open (Reverts (sp_of_row object))
 does_ask s object Other = Refuses fail None
 
 abbrev pub does : Standing → Uid → Ask → Judgement
-does s object ask = does_ask s object (cased (kind_of s.sp object) ask)
+does s object ask = does_ask s object (ask_at s.sp object ask)
 
 abbrev pub unless_denied : Option Why → Judgement → Judgement
 unless_denied None judgement = judgement

@@ -11,7 +11,7 @@ use Rattle.sessions.specs.Attempts.{failure}
 use Rattle.sessions.specs.Answers.{in_force}
 use Rattle.methods.specs.Said.{Said, says, refuses, said_attempt}
 use Rattle.methods.specs.Effects.{seen_by, is_inside}
-use Rattle.methods.specs.Calls.{said_call}
+use Rattle.methods.specs.Calls.{Called, said_call}
 use Rattle.history.specs.Calls.{Standing, Judgement, Refuses, Gives, Makes, Attempts, Activates, Reverts, judged}
 use Rattle.history.specs.Facts.{Facts}
 use Rattle.history.specs.Decisions.{outcome_of}
@@ -48,7 +48,6 @@ standing_on store session held = record {
 -- Where a change is judged by what the session sees, each call is answered alike.
 abbrev pub AnswerLaw : Type 0
 AnswerLaw =
-    (store : Stored) (session : SessionId) (object method : Uid) (held : List Uid) (ask : Option Ask)
-    → latest_look store ≡ seen_by store session
-    → said_call store session object method held ask
-      ≡ said_of (in_force store) session.sp (is_manufactured store) (judged (standing_on store session held) object method ask)
+    (store : Stored) (c : Called) → latest_look store ≡ seen_by store c.session
+    → said_call store c
+      ≡ said_of (in_force store) c.session.sp (is_manufactured store) (judged (standing_on store c.session c.held) c.object c.method c.ask)

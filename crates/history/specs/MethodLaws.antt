@@ -1,4 +1,4 @@
--- A method takes effect, and a column is listed, exactly where an ACE that names it holds of the session's authorities in its view.
+-- A method takes effect exactly where it is granted to the session's authorities in its view.
 use Rattle.std.specs.Prelude.{◌≡◌, ◌⊎◌, ℕ, ◌≤◌, ◌==◌, ◌↔◌, ◌&&◌, Bool, true, false, not, is_some, slice_index, List, [], ◌∷◌, Option, Some, None, Ok}
 use Rattle.fis.specs.Types.{h2d_type}
 use Rattle.fis.specs.H2d.{h2d_at}
@@ -17,10 +17,7 @@ use Rattle.call_shapes.specs.Asks.{uid_of}
 use Rattle.call_shapes.specs.Statuses.{not_authorized}
 use Rattle.history.specs.Sessions.{Begun}
 use Rattle.call_shapes.specs.declared.ask.Ask.{Ask}
-use Rattle.methods.specs.Kinds.{kind_of}
-use Rattle.methods.specs.Columns.{columns_of}
-use Rattle.methods.specs.Grants.{wanted}
-use Rattle.methods.specs.Listed.{listed}
+use Rattle.methods.specs.Laws.{IsGranted as IsGrantedBy}
 use Rattle.call_shapes.specs.CellValues.{cell_tree}
 use Rattle.sp_cells.specs.declared.names.Column.{Column}
 use Rattle.history.specs.Calls.{Standing, Judgement, Refuses, Gives, Makes, Attempts, Activates, Reverts, asked, does, judged}
@@ -28,15 +25,9 @@ use Rattle.history.specs.Facts.{Facts, session_named, standing}
 use Rattle.history.specs.Decisions.{answers, is_trusted, is_session_com_id, is_manager, is_busy, outcome_of, judgement_on}
 use Rattle.history.specs.History.{Act, Accept, event_by}
 
--- Each of these columns, or with none asked for the method, has an ACE: one that names it, and whose expression is the writing of a tree
--- that is true of the authorities.
-abbrev pub EachHasAce : Standing → Uid → Uid → List (Option Column) → Type 0
-EachHasAce s object method [] = Unit {0}
-EachHasAce s object method (k ∷ ks) = HasAce s.rows s.sp object method k s.held × EachHasAce s object method ks
-
--- A Set of columns wants an ACE for each, any other call one that holds.
+-- Each column for which a call wants an ACE has one, of those that the standing has.
 abbrev pub IsGranted : Standing → Uid → Uid → Ask → Type 0
-IsGranted s object method ask = EachHasAce s object method (wanted ask)
+IsGranted s object method ask = IsGrantedBy s.rows s.sp object method s.held ask
 
 abbrev pub takes_effect : Judgement → Bool
 takes_effect (Refuses status denied) = false
@@ -55,27 +46,6 @@ pub record IsJudgedByAces (s : Standing) (object method : Uid) (ask : Ask) : Typ
 
 abbrev pub GrantLaw : Type 0
 GrantLaw = (s : Standing) (object method : Uid) (ask : Ask) → IsJudgedByAces s object method ask
-
--- An element of a list.
-abbrev pub IsAmong : {A : Type 0} → List A → A → Type 0
-IsAmong [] y = ⊥
-IsAmong (x ∷ xs) y = (x ≡ y) ⊎ IsAmong xs y
-
--- A column is listed, with its cell: it is one of the object's, it is asked for, an ACE that names it holds, and the view has that cell.
-pub record IsListed (s : Standing) (object : Uid) (first last : ℕ) (value : Tree) : Type 0 where
-  pub column : Column
-  pub known : IsAmong (columns_of (kind_of s.sp object)) column
-  pub from : first ≤ column.0
-  pub to : column.0 ≤ last
-  pub ace : HasAce s.rows s.sp object get (Some column) s.held
-  pub cell : Cell
-  pub in_view : s.rows s.sp object column ≡ Some cell
-  pub value_is : value ≡ named (number column.0) (cell_tree cell)
-
-abbrev pub ListLaw : Type 0
-ListLaw =
-    (s : Standing) (object : Uid) (first last : ℕ) (value : Tree)
-    → IsAmong (listed s.rows s.sp object first last s.held) value ↔ IsListed s object first last value
 
 -- An accepted FIS whose command is looked at: it is one, the queue has not failed, and a command that is not queued stands beside no held one.
 pub record IsLookedAt (f : Facts) (act : Act) (command : Command) (tag : Option ℕ) : Type 0 where

@@ -11,7 +11,7 @@ use Rattle.transactions.specs.declared.change.Change.TheVariants.{Cells, Mbr}
 use Rattle.transactions.specs.Stored.{Stored, Part, Transaction, part_set, at_part}
 use Rattle.transactions.specs.Changes.{fault_of_change}
 use Rattle.methods.specs.Settings.{Setting, setting}
-use Rattle.methods.specs.Changes.{setting_seen}
+use Rattle.methods.specs.Changes.{setting_seen, object_of}
 use Rattle.methods.specs.Cases.{has_case}
 use Rattle.methods.specs.Effects.{fault_of_setting, fault_of_set, part_with, is_told, stored_after, unless_fault, valid_setting, set_stored, set_said, to_set, held_of, bytes_from}
 use Rattle.call_shapes.specs.Statuses.{invalid_parameter}
@@ -28,6 +28,7 @@ use Rattle.call_shapes.specs.declared.ask.Ask.{Ask}
 use Rattle.sessions.specs.Live.{Holder}
 use Rattle.transactions.specs.declared.change.SessionId.{SessionId}
 use Rattle.sp_tables.specs.Faults.{IsFault}
+use Rattle.methods.proofs.ObjectLemmas.{set_there}
 
 -- a change does what its setting says
 part_made : (change : Change) (p : Part) (o : Option Transaction) → p.pending ≡ o → part_set change p ≡ part_with (setting_seen change) p p.pending
@@ -36,17 +37,20 @@ part_made (Cells object cells) p (Some t) e = rw e refl
 part_made (Mbr at bytes) p None e = rw e refl
 part_made (Mbr at bytes) p (Some t) e = rw e refl
 
-pub set_made : (change : Change) (sp : Sp) (s : Stored) → at_part sp (part_set change) s ≡ at_part sp (λ p. part_with (setting_seen change) p p.pending) s
+set_made : (change : Change) (sp : Sp) (s : Stored) → at_part sp (part_set change) s ≡ at_part sp (λ p. part_with (setting_seen change) p p.pending) s
 set_made change Admin s = ap (λ (p : Part). record s { admin = p }) (part_made change s.admin s.admin.pending refl)
 set_made change Locking s = ap (λ (p : Part). record s { locking = p }) (part_made change s.locking s.locking.pending refl)
 
-pub fault_made : (change : Change) (sp : Sp) (s : Stored) → fault_of_change s sp change ≡ fault_of_setting s sp (setting_seen change)
+fault_made : (change : Change) (sp : Sp) (s : Stored) → fault_of_change s sp change ≡ fault_of_setting s sp (setting_seen change)
 fault_made (Cells object cells) sp s = refl
 fault_made (Mbr at bytes) sp s = refl
 
 -- where the object's kind has Set, it is the change that may have a fault
-pub fault_as : (s : Stored) (session : SessionId) (object : Uid) (change : Change) → has_case session.sp object set ≡ true → fault_of_set s session object change ≡ fault_of_change s session.sp change
-fault_as s session object change e = rw e refl
+fault_here : (s : Stored) (session : SessionId) (change : Change) → has_case session.sp (object_of change) set ≡ true → fault_of_set s session change ≡ fault_of_change s session.sp change
+fault_here s session change e = rw e refl
+
+fault_as : (s : Stored) (session : SessionId) (object : Uid) (ask : Ask) (change : Change) → has_case session.sp object set ≡ true → Some (setting_seen change) ≡ setting session.sp s.config.mbr_sectors object (kind_of session.sp object) ask → fault_of_set s session change ≡ fault_of_setting s session.sp (setting_seen change)
+fault_as s session object ask change h e = fault_here s session change (set_there session.sp s.config.mbr_sectors object ask change e h) ∙ fault_made change session.sp s
 
 -- what a session holds
 pub held_is : (o : Option Holder) (h : List Uid) → Some h ≡ option_map (λ s. s.held) o → h ≡ held_of o
@@ -94,13 +98,11 @@ said_by (Some x) st true e = cc
 said_by (Some x) st false e = refl
 
 -- the store, and the answer, of a Set whose values are read
-pub stored_set : (s : Stored) (session : SessionId) (object : Uid) (ask : Ask) (change : Change) → Some (setting_seen change) ≡ setting session.sp s.config.mbr_sectors object (kind_of session.sp object) ask → stored_after (fault_of_change s session.sp change) session.sp change s ≡ set_stored s session.sp (to_set s session object ask)
-stored_set s session object ask change e = ap (λ o. stored_after o session.sp change s) (fault_made change session.sp s) ∙ set_by (fault_of_setting s session.sp (setting_seen change)) session.sp change s ∙ ap (λ o. set_stored s session.sp (valid_setting s session.sp o)) e
+pub stored_set : (s : Stored) (session : SessionId) (object : Uid) (ask : Ask) (change : Change) → has_case session.sp object set ≡ true → Some (setting_seen change) ≡ setting session.sp s.config.mbr_sectors object (kind_of session.sp object) ask → stored_after (fault_of_set s session change) session.sp change s ≡ set_stored s session.sp (to_set s session object ask)
+stored_set s session object ask change h e = ap (λ o. stored_after o session.sp change s) (fault_as s session object ask change h e) ∙ set_by (fault_of_setting s session.sp (setting_seen change)) session.sp change s ∙ ap (λ o. set_stored s session.sp (valid_setting s session.sp o)) e
 
-pub said_set : (s : Stored) (session : SessionId) (object : Uid) (ask : Ask) (change : Change) (b : Bool) → Some (setting_seen change) ≡ setting session.sp s.config.mbr_sectors object (kind_of session.sp object) ask → b ≡ not (is_some (fault_of_change s session.sp change)) → (if b then says [] None false else refuses invalid_parameter None) ≡ set_said (to_set s session object ask)
-said_set s session object ask change b e made = sym (said_by (fault_of_change s session.sp change) (setting_seen change) b made) ∙ ap (λ o. set_said (unless_fault o (setting_seen change))) (fault_made change session.sp s) ∙ ap (λ o. set_said (valid_setting s session.sp o)) e
-
-pub ruleset setting_made = (set_made, fault_made)
+pub said_set : (s : Stored) (session : SessionId) (object : Uid) (ask : Ask) (change : Change) (b : Bool) → has_case session.sp object set ≡ true → Some (setting_seen change) ≡ setting session.sp s.config.mbr_sectors object (kind_of session.sp object) ask → b ≡ not (is_some (fault_of_set s session change)) → (if b then says [] None false else refuses invalid_parameter None) ≡ set_said (to_set s session object ask)
+said_set s session object ask change b h e made = sym (said_by (fault_of_set s session change) (setting_seen change) b made) ∙ ap (λ o. set_said (unless_fault o (setting_seen change))) (fault_as s session object ask change h e) ∙ ap (λ o. set_said (valid_setting s session.sp o)) e
 
 pub ruleset setting_done = (stored_set, said_set)
 

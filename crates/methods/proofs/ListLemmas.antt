@@ -9,9 +9,9 @@ use Rattle.sp_cells.specs.Flat.{LookUp}
 use Rattle.tcg_tokens.specs.Tree.{tree}
 use Rattle.tcg_tokens.specs.declared.value.Value.{Value}
 use Rattle.methods.specs.declared.kinds.Kind.{Kind}
-use Rattle.methods.specs.Columns.{types_of}
-use Rattle.methods.specs.Listed.{listed_among}
+use Rattle.methods.specs.Columns.{columns_of}
+use Rattle.methods.specs.Listed.{listed_among, cell_value}
 
 -- the values are those of the listed columns of an object of this kind
 abbrev pub Lists : LookUp → Sp → Uid → (first last : ℕ) → List Uid → Result (Vec Value Global) AllocError → Option Kind → Type 0
-Lists look sp object first last held result kind = IfOk result (λ vs. map tree vs.items ≡ listed_among look sp object first last held (types_of kind))
+Lists look sp object first last held result kind = IfOk result (λ vs. map tree vs.items ≡ map cell_value (listed_among look sp object first last held (columns_of kind)))

@@ -1,6 +1,6 @@
 -- What a granted call does: what it is answered, and what it leaves of the store and of the sessions. It goes by what
 -- the session sees; attempts go by the rows in force.
-use Rattle.std.specs.Prelude.{◌==◌, ◌+◌, ◌-◌, ◌*◌, ◌||◌, nat_le, nat_lt, slice_index, ℕ, zero, suc, Bool, true, false, List, [], ◌∷◌, Option, None, Some, if◌then◌else◌}
+use Rattle.std.specs.Prelude.{◌==◌, ◌+◌, ◌-◌, ◌*◌, ◌||◌, nat_le, nat_lt, slice_index, ℕ, zero, suc, Bool, true, false, List, [], ◌∷◌, map, Option, None, Some, if◌then◌else◌}
 use Rattle.sp_cells.specs.declared.names.Uid.{Uid}
 use Rattle.sp_cells.specs.declared.names.Sp.{Sp}
 use Rattle.sp_cells.specs.declared.names.Sp.TheVariants.{Admin, Locking}
@@ -12,6 +12,7 @@ use Rattle.sp_rows.specs.Items.{Item, with_items}
 use Rattle.sp_tables.specs.Looks.{fault_seen}
 use Rattle.sp_tables.specs.Tries.{names_tries}
 use Rattle.tcg_tokens.specs.Tree.{bytes as octets_tree, list, trees_of}
+use Rattle.audit.specs.declared.reason.AttemptFailure.{AttemptFailure}
 use Rattle.transactions.specs.declared.change.SessionId.{SessionId}
 use Rattle.transactions.specs.declared.change.Change.{Change}
 use Rattle.transactions.specs.Bytes.{written}
@@ -22,12 +23,13 @@ use Rattle.call_shapes.specs.declared.ask.Ask.{Ask}
 use Rattle.call_shapes.specs.declared.ask.Ask.TheVariants.{GetCells, GetBytes, SetCells, SetBytes, Authenticate, Activate, Revert, Other}
 use Rattle.sessions.specs.Attempts.{failure}
 use Rattle.sessions.specs.Answers.{in_force, after_attempt, gaining_if}
-use Rattle.sessions.specs.Live.{Holder, unless_on}
+use Rattle.sessions.specs.Live.{Live, Holder, session_at, holder_on, unless_on}
 use Rattle.methods.specs.declared.kinds.Kind.{Kind}
 use Rattle.methods.specs.declared.kinds.Kind.TheVariants as kinds
 use Rattle.methods.specs.Kinds.{kind_of}
 use Rattle.methods.specs.Cases.{has_case}
-use Rattle.methods.specs.Listed.{listed}
+use Rattle.methods.specs.Listed.{listed, cell_value}
+use Rattle.methods.specs.Changes.{object_of}
 use Rattle.methods.specs.Settings.{Setting, cells_set, bytes_set, setting}
 use Rattle.call_shapes.specs.Statuses.{invalid_parameter, response_overflow, fail}
 use Rattle.methods.specs.Said.{Said, says, refuses, fits, said_attempt, most_response}
@@ -56,6 +58,21 @@ has_ask _ _ = false
 abbrev pub cased : Option Kind → Ask → Ask
 cased kind ask = if has_ask kind ask then ask else Other
 
+abbrev pub ask_at : Sp → Uid → Ask → Ask
+ask_at sp object ask = cased (kind_of sp object) ask
+
+-- a session, where it lives on its SP
+abbrev pub holder_of : Live → SessionId → Option Holder
+holder_of live session = holder_on session.sp (session_at live session.tsn)
+
+-- the authorities that it holds; none where it does not live
+abbrev pub held_of : Option Holder → List Uid
+held_of None = []
+held_of (Some h) = h.held
+
+abbrev pub held_in : Live → SessionId → List Uid
+held_in live session = held_of (holder_of live session)
+
 -- the rows that a session sees
 abbrev pub seen_by : Stored → SessionId → LookUp
 seen_by s session = look_up (sight_of s session)
@@ -66,7 +83,7 @@ is_inside s session = is_open (part s session.sp).pending session.tsn
 
 -- Get of columns: one list
 abbrev pub columns_said : LookUp → Sp → Uid → ℕ → ℕ → List Uid → Said
-columns_said look sp object first last held = fits (list (trees_of (listed look sp object first last held)) ∷ [])
+columns_said look sp object first last held = fits (list (trees_of (map cell_value (listed look sp object first last held))) ∷ [])
 
 -- so many bytes from a place on
 abbrev pub bytes_from : List ℕ → ℕ → ℕ → List ℕ
@@ -93,9 +110,9 @@ abbrev pub fault_of_setting : Stored → Sp → Setting → Option SetError
 fault_of_setting s sp (cells_set object cells) = if names_tries object cells then Some faults.NoCell else fault_seen s.config.sectors (latest_look s) sp object cells
 fault_of_setting s sp (bytes_set at bytes) = None
 
--- why a Set of this object does not make a change: its kind has no Set, or the change has a fault
-abbrev pub fault_of_set : Stored → SessionId → Uid → Change → Option SetError
-fault_of_set s session object change = if has_case session.sp object set then fault_of_change s session.sp change else Some faults.NoCell
+-- why a Set does not make a change: the object's kind has no Set, or the change has a fault
+abbrev pub fault_of_set : Stored → SessionId → Change → Option SetError
+fault_of_set s session change = if has_case session.sp (object_of change) set then fault_of_change s session.sp change else Some faults.NoCell
 
 -- the store after a change that has this fault, or none
 abbrev pub stored_after : Option SetError → Sp → Change → Stored → Stored
@@ -157,10 +174,9 @@ stored_unless false s t = t
 abbrev pub sp_of_row : Uid → Sp
 sp_of_row object = if object.0 == admin_sp.0 then Admin else Locking
 
--- what a session holds; nothing where it does not live
-abbrev pub held_of : Option Holder → List Uid
-held_of None = []
-held_of (Some h) = h.held
+-- how an attempt fails by the rows in force; None where it is right
+abbrev pub tried : Stored → SessionId → Uid → List ℕ → Option AttemptFailure
+tried s session authority proof = failure (in_force s) session.sp authority proof
 
 -- the answer
 abbrev pub said_ask : Stored → SessionId → Uid → List Uid → Ask → Said
@@ -168,7 +184,7 @@ said_ask s session object held (GetCells first last) = columns_said (seen_by s s
 said_ask s session object held (GetBytes first last) = bytes_said (sight_of s session) first last
 said_ask s session object held (SetCells ps) = set_said (to_set s session object (SetCells ps))
 said_ask s session object held (SetBytes at bytes) = set_said (to_set s session object (SetBytes at bytes))
-said_ask s session object held (Authenticate authority proof) = said_attempt session.sp authority (failure (in_force s) session.sp authority proof)
+said_ask s session object held (Authenticate authority proof) = said_attempt session.sp authority (tried s session authority proof)
 said_ask s session object held Activate = unless_inside (is_inside s session) (says [] None false)
 said_ask s session object held Revert = unless_inside (is_inside s session) (says [] None (is_manufactured s))
 said_ask s session object held Other = refuses fail None
@@ -177,7 +193,7 @@ said_ask s session object held Other = refuses fail None
 abbrev pub stored_ask : Stored → SessionId → Uid → Ask → Stored
 stored_ask s session object (SetCells ps) = set_stored s session.sp (to_set s session object (SetCells ps))
 stored_ask s session object (SetBytes at bytes) = set_stored s session.sp (to_set s session object (SetBytes at bytes))
-stored_ask s session object (Authenticate authority proof) = after_attempt session.sp authority (failure (in_force s) session.sp authority proof) s
+stored_ask s session object (Authenticate authority proof) = after_attempt session.sp authority (tried s session authority proof) s
 stored_ask s session object Activate = stored_unless (is_inside s session) s (activated s)
 stored_ask s session object Revert = stored_unless (is_inside s session) s (reverted (sp_of_row object) s)
 stored_ask s session object _ = s
@@ -191,7 +207,10 @@ abbrev pub ended_unless : Bool → Sp → Option Holder → Option Holder
 ended_unless true sp o = o
 ended_unless false sp o = ended_by sp o
 
+abbrev pub gaining : Stored → SessionId → Uid → List ℕ → ℕ → Option Holder → Option Holder
+gaining s session authority proof n o = if session.tsn == n then gaining_if (in_force s) authority (tried s session authority proof) o else o
+
 abbrev pub holder_ask : Stored → SessionId → Uid → Ask → ℕ → Option Holder → Option Holder
-holder_ask s session object (Authenticate authority proof) n o = if session.tsn == n then gaining_if (in_force s) authority (failure (in_force s) session.sp authority proof) o else o
+holder_ask s session object (Authenticate authority proof) n o = gaining s session authority proof n o
 holder_ask s session object Revert n o = ended_unless (is_inside s session) (sp_of_row object) o
 holder_ask s session object _ n o = o

@@ -5,14 +5,13 @@ use Rattle.sp_cells.specs.declared.names.Uid.{Uid}
 use Rattle.sp_cells.specs.declared.names.Sp.{Sp}
 use Rattle.sp_cells.specs.declared.names.Column.{Column}
 use Rattle.sp_cells.specs.declared.cells.Cell.{Cell}
-use Rattle.sp_cells.specs.declared.values.ColumnType.{ColumnType}
 use Rattle.sp_cells.specs.Names.{get}
 use Rattle.sp_cells.specs.Flat.{LookUp}
 use Rattle.tcg_tokens.specs.Tree.{Tree, number, named}
 use Rattle.ace_eval.specs.Aces.{ace_of}
 use Rattle.call_shapes.specs.CellValues.{cell_tree}
 use Rattle.methods.specs.Kinds.{kind_of}
-use Rattle.methods.specs.Columns.{types_of, columns_in}
+use Rattle.methods.specs.Columns.{columns_of}
 
 -- the column is among those that are asked for
 abbrev pub is_asked : (first last : ℕ) → Column → Bool
@@ -23,14 +22,18 @@ abbrev pub is_listed : LookUp → Sp → Uid → (first last : ℕ) → List Uid
 is_listed look sp object first last held k = is_asked first last k && is_some (ace_of look sp object get (Some k) held)
 
 -- a column with its value, where there is one
-abbrev pub shown : Column → Option Cell → List Tree
+abbrev pub shown : Column → Option Cell → List (Column × Cell)
 shown k None = []
-shown k (Some value) = named (number k.0) (cell_tree value) ∷ []
+shown k (Some value) = (k, value) ∷ []
 
 -- those of these columns that are listed and exist, each with its value
-unfoldable pub listed_among : LookUp → Sp → Uid → (first last : ℕ) → List Uid → List (Column × ColumnType) → List Tree
-listed_among look sp object first last held types = flat_map (λ k. shown k (look sp object k)) (filter (is_listed look sp object first last held) (columns_in types))
+unfoldable pub listed_among : LookUp → Sp → Uid → (first last : ℕ) → List Uid → List Column → List (Column × Cell)
+listed_among look sp object first last held columns = flat_map (λ k. shown k (look sp object k)) (filter (is_listed look sp object first last held) columns)
 
--- the listed columns of the object, rising
-abbrev pub listed : LookUp → Sp → Uid → (first last : ℕ) → List Uid → List Tree
-listed look sp object first last held = listed_among look sp object first last held (types_of (kind_of sp object))
+-- the columns of the object that Get lists, rising, each with its value
+abbrev pub listed : LookUp → Sp → Uid → (first last : ℕ) → List Uid → List (Column × Cell)
+listed look sp object first last held = listed_among look sp object first last held (columns_of (kind_of sp object))
+
+-- how Get writes one
+abbrev pub cell_value : Column × Cell → Tree
+cell_value p = named (number p.0.0) (cell_tree p.1)

@@ -2,13 +2,11 @@
 
 ghost use Rattle.std.specs.Prelude.{◌≡◌, ◌↔◌, ℕ, Err, Some, None, IfOk, OnOk, OnErr, option_map, map};
 ghost use Rattle.tcg_tokens.specs.Tree.{tree};
-ghost use Rattle.sessions.specs.Live.{session_at, holder_on};
-ghost use Rattle.methods.specs.Kinds.{kind_of as kind_of_object};
+ghost use Rattle.sessions.specs.Live.{session_at};
 ghost use Rattle.methods.specs.Grants.{denied as denied_by};
 ghost use Rattle.methods.specs.Said.{said_seen};
-ghost use Rattle.methods.specs.Effects.{seen_by, held_of, cased, said_ask, stored_ask, holder_ask};
-ghost use Rattle.methods.specs.Calls.{said_call, stored_call, holder_call};
-ghost use Rattle.call_shapes.specs.Asks.{ask_of, uid_of as uid_of_octets};
+ghost use Rattle.methods.specs.Effects.{seen_by, holder_of, held_in, ask_at, said_ask, stored_ask, holder_ask};
+ghost use Rattle.methods.specs.Calls.{called as called_by, called_with, call_in, said_call, stored_call, holder_call};
 ghost use Rattle.methods.specs.declared.outcome.MethodFault.TheVariants as faults;
 
 use crate::cases::method_cases;
@@ -86,15 +84,22 @@ fn perform(
     object: Uid,
     ask: &Ask,
 ) -> Result<Outcome, MethodFault>
-    ensures outcome { IfOk result (λ out. said_seen out ≡ said_ask store.old session object (held_of (holder_on session.sp (session_at sessions.old session.tsn))) (cased (kind_of_object session.sp object) ask.now)) }
-    ensures store { OnOk result (store.new ≡ stored_ask store.old session object (cased (kind_of_object session.sp object) ask.now)) }
-    ensures points { OnOk result ((n : ℕ) → session_at sessions.new n ≡ holder_ask store.old session object (cased (kind_of_object session.sp object) ask.now) n (session_at sessions.old n)) }
+    ensures outcome { IfOk result (λ out. said_seen out
+        ≡ said_ask store.old session object (held_in sessions.old session)
+        (ask_at session.sp object ask.now)) }
+    ensures store { OnOk result (store.new
+        ≡ stored_ask store.old session object (ask_at session.sp object ask.now)) }
+    ensures points { OnOk result ((n : ℕ) → session_at sessions.new n
+        ≡ holder_ask store.old session object (ask_at session.sp object ask.now)
+        n (session_at sessions.old n)) }
     ensures next { OnOk result (sessions.new.next ≡ sessions.old.next) }
     ensures err_store { OnErr result (store.new ≡ store.old) }
     ensures err_sessions { OnErr result (sessions.new ≡ sessions.old) }
-    ensures no_session { (result ≡ Err faults.NoSession) → (holder_on session.sp (session_at sessions.old session.tsn) ≡ None) }
+    ensures no_session { (result ≡ Err faults.NoSession) → (holder_of sessions.old session ≡ None) }
 {
-    method_cases!(call_arms (kind_of(session.sp, object), ask, alloc, (alloc store sessions session object ask)))
+    method_cases!(call_arms(
+        kind_of(session.sp, object), ask, alloc, (alloc store sessions session object ask)
+    ))
 }
 
 /// Why a call is denied in a session, by what it sees and what it holds.
@@ -106,7 +111,9 @@ fn denied_in(
     method: Uid,
     ask: &Ask,
 ) -> Option<Why>
-    ensures { result ≡ denied_by (seen_by store.now session) session.sp object method (held_of (holder_on session.sp (session_at sessions.now session.tsn))) ask.now }
+    ensures { result
+        ≡ denied_by (seen_by store.now session) session.sp object method
+        (held_in sessions.now session) ask.now }
 {
     match sessions.authorities(session) {
         Some(held) => denied(&store.view(session), session.sp, object, method, held, ask),
@@ -131,13 +138,17 @@ fn call_asked(
     method: Uid,
     ask: &Ask,
 ) -> Result<Outcome, MethodFault>
-    ensures outcome { IfOk result (λ out. said_seen out ≡ said_call store.old session object method (held_of (holder_on session.sp (session_at sessions.old session.tsn))) (Some ask.now)) }
-    ensures store { OnOk result (store.new ≡ stored_call store.old session object method (held_of (holder_on session.sp (session_at sessions.old session.tsn))) (Some ask.now)) }
-    ensures points { OnOk result ((n : ℕ) → session_at sessions.new n ≡ holder_call store.old session object method (held_of (holder_on session.sp (session_at sessions.old session.tsn))) (Some ask.now) n (session_at sessions.old n)) }
+    ensures outcome { IfOk result (λ out. said_seen out
+        ≡ said_call store.old (called_by sessions.old session object method (Some ask.now))) }
+    ensures store { OnOk result (store.new
+        ≡ stored_call store.old (called_by sessions.old session object method (Some ask.now))) }
+    ensures points { OnOk result ((n : ℕ) → session_at sessions.new n
+        ≡ holder_call store.old (called_by sessions.old session object method (Some ask.now))
+        n (session_at sessions.old n)) }
     ensures next { OnOk result (sessions.new.next ≡ sessions.old.next) }
     ensures err_store { OnErr result (store.new ≡ store.old) }
     ensures err_sessions { OnErr result (sessions.new ≡ sessions.old) }
-    ensures no_session { (result ≡ Err faults.NoSession) → (holder_on session.sp (session_at sessions.old session.tsn) ≡ None) }
+    ensures no_session { (result ≡ Err faults.NoSession) → (holder_of sessions.old session ≡ None) }
 {
     match denied_in(store, sessions, session, object, method, ask) {
         Some(why) => Ok(refused(alloc, status::NOT_AUTHORIZED, Some(why))),
@@ -155,13 +166,19 @@ fn called(
     method: Uid,
     args: &[Value],
 ) -> Result<Outcome, MethodFault>
-    ensures outcome { IfOk result (λ out. said_seen out ≡ said_call store.old session object method (held_of (holder_on session.sp (session_at sessions.old session.tsn))) (ask_of session.sp object method (map tree args.now))) }
-    ensures store { OnOk result (store.new ≡ stored_call store.old session object method (held_of (holder_on session.sp (session_at sessions.old session.tsn))) (ask_of session.sp object method (map tree args.now))) }
-    ensures points { OnOk result ((n : ℕ) → session_at sessions.new n ≡ holder_call store.old session object method (held_of (holder_on session.sp (session_at sessions.old session.tsn))) (ask_of session.sp object method (map tree args.now)) n (session_at sessions.old n)) }
+    ensures outcome { IfOk result (λ out. said_seen out
+        ≡ said_call store.old
+        (called_with sessions.old session object method (map tree args.now))) }
+    ensures store { OnOk result (store.new
+        ≡ stored_call store.old
+        (called_with sessions.old session object method (map tree args.now))) }
+    ensures points { OnOk result ((n : ℕ) → session_at sessions.new n
+        ≡ holder_call store.old (called_with sessions.old session object method (map tree args.now))
+        n (session_at sessions.old n)) }
     ensures next { OnOk result (sessions.new.next ≡ sessions.old.next) }
     ensures err_store { OnErr result (store.new ≡ store.old) }
     ensures err_sessions { OnErr result (sessions.new ≡ sessions.old) }
-    ensures no_session { (result ≡ Err faults.NoSession) → (holder_on session.sp (session_at sessions.old session.tsn) ≡ None) }
+    ensures no_session { (result ≡ Err faults.NoSession) → (holder_of sessions.old session ≡ None) }
 {
     match read_ask(alloc, session.sp, object, method, args)? {
         Some(ask) => call_asked(alloc, store, sessions, session, object, method, &ask),
@@ -181,13 +198,17 @@ pub fn invoke(
     session: SessionId,
     call: &Call,
 ) -> Result<Outcome, MethodFault>
-    ensures outcome { IfOk result (λ out. said_seen out ≡ said_call store.old session (uid_of_octets call.now.object) (uid_of_octets call.now.method) (held_of (holder_on session.sp (session_at sessions.old session.tsn))) (ask_of session.sp (uid_of_octets call.now.object) (uid_of_octets call.now.method) (map tree call.now.args.items))) }
-    ensures store { OnOk result (store.new ≡ stored_call store.old session (uid_of_octets call.now.object) (uid_of_octets call.now.method) (held_of (holder_on session.sp (session_at sessions.old session.tsn))) (ask_of session.sp (uid_of_octets call.now.object) (uid_of_octets call.now.method) (map tree call.now.args.items))) }
-    ensures points { OnOk result ((n : ℕ) → session_at sessions.new n ≡ holder_call store.old session (uid_of_octets call.now.object) (uid_of_octets call.now.method) (held_of (holder_on session.sp (session_at sessions.old session.tsn))) (ask_of session.sp (uid_of_octets call.now.object) (uid_of_octets call.now.method) (map tree call.now.args.items)) n (session_at sessions.old n)) }
+    ensures outcome { IfOk result (λ out. said_seen out
+        ≡ said_call store.old (call_in sessions.old session call.now)) }
+    ensures store { OnOk result (store.new
+        ≡ stored_call store.old (call_in sessions.old session call.now)) }
+    ensures points { OnOk result ((n : ℕ) → session_at sessions.new n
+        ≡ holder_call store.old (call_in sessions.old session call.now)
+        n (session_at sessions.old n)) }
     ensures next { OnOk result (sessions.new.next ≡ sessions.old.next) }
     ensures err_store { OnErr result (store.new ≡ store.old) }
     ensures err_sessions { OnErr result (sessions.new ≡ sessions.old) }
-    ensures no_session { (result ≡ Err faults.NoSession) ↔ (holder_on session.sp (session_at sessions.old session.tsn) ≡ None) }
+    ensures no_session { (result ≡ Err faults.NoSession) ↔ (holder_of sessions.old session ≡ None) }
 {
     if sessions.authorities(session).is_none() {
         return Err(MethodFault::NoSession);

@@ -42,7 +42,9 @@ fn first_denial<R: Rows>(
     held: &Authorities,
     assignments: &Assignments,
 ) -> Option<Why>
-    ensures { result ≡ first_some (map (denial_of (R.look_up rows.now) sp object method held.now) (map (λ p. Some (col p.0)) assignments.now)) }
+    ensures { result
+        ≡ first_some (map (denial_of (R.look_up rows.now) sp object method held.now)
+        (map (λ p. Some (col p.0)) assignments.now)) }
 {
     for (column, _) in assignments.as_slice() {
         let why = denial(rows, sp, object, method, held, Some(Column(*column)));

@@ -1,19 +1,18 @@
 //! The handlers of granted calls. In each, all that can fail comes before the first change.
 
 ghost use Rattle.std.specs.Prelude.{◌≡◌, ◌==◌, ◌↔◌, ◌+◌, ◌*◌, ◌≤◌, ◌<◌, ◌-◌, length, ℕ, Err, [], ◌∷◌, Some, None, true, false, not, is_some, option_map, IfOk, OnOk, OnErr, IfErr, if◌then◌else◌};
-ghost use Rattle.sessions.specs.Live.{session_at, holder_on};
+ghost use Rattle.sessions.specs.Live.{session_at};
 ghost use Rattle.methods.specs.Kinds.{kind_of as kind_of_object};
 ghost use Rattle.methods.specs.Said.{said_seen, said_attempt};
 ghost use Rattle.methods.specs.Settings.{setting};
 ghost use Rattle.methods.specs.Changes.{setting_seen};
-ghost use Rattle.methods.specs.Effects.{columns_said, bytes_said, bytes_from, seen_by, held_of, to_set, valid_setting, set_said, set_stored, is_inside, unless_inside, stored_unless, ended_unless, sp_of_row as sp_of};
+ghost use Rattle.methods.specs.Effects.{columns_said, bytes_said, bytes_from, seen_by, holder_of, held_in, tried, gaining, to_set, valid_setting, set_said, set_stored, is_inside, unless_inside, stored_unless, ended_unless, sp_of_row as sp_of};
 ghost use Rattle.methods.specs.Cases.{has_case};
 ghost use Rattle.methods.specs.Said.{says};
 ghost use Rattle.sp_cells.specs.Names.{set};
 ghost use Rattle.transactions.specs.Stored.{reverted};
 ghost use Rattle.transactions.specs.Sights.{sight_of, activated, is_manufactured};
-ghost use Rattle.sessions.specs.Answers.{in_force, after_attempt, gaining_if};
-ghost use Rattle.sessions.specs.Attempts.{failure as failure_of};
+ghost use Rattle.sessions.specs.Answers.{after_attempt};
 ghost use Rattle.methods.specs.declared.outcome.MethodFault.TheVariants as faults;
 
 use crate::changes::apply_set;
@@ -40,7 +39,8 @@ fn columns_outcome<R: Rows>(
     last: u64,
     held: &Authorities,
 ) -> Result<Outcome, AllocError>
-    ensures { IfOk result (λ out. said_seen out ≡ columns_said (R.look_up rows.now) sp object first last held.now) }
+    ensures { IfOk result (λ out. said_seen out
+        ≡ columns_said (R.look_up rows.now) sp object first last held.now) }
 {
     let listed = list_columns(alloc, rows, sp, object, first, last, held)?;
     let mut results = Vec::new(alloc);
@@ -58,8 +58,9 @@ pub(crate) fn read_cells(
     first: u64,
     last: u64,
 ) -> Result<Outcome, MethodFault>
-    ensures outcome { IfOk result (λ out. said_seen out ≡ columns_said (seen_by store.now session) session.sp object first last (held_of (holder_on session.sp (session_at sessions.now session.tsn)))) }
-    ensures no_session { (result ≡ Err faults.NoSession) ↔ (holder_on session.sp (session_at sessions.now session.tsn) ≡ None) }
+    ensures outcome { IfOk result (λ out. said_seen out ≡ columns_said (seen_by store.now session)
+        session.sp object first last (held_in sessions.now session)) }
+    ensures no_session { (result ≡ Err faults.NoSession) ↔ (holder_of sessions.now session ≡ None) }
 {
     let Some(held) = sessions.authorities(session) else {
         return Err(MethodFault::NoSession);
@@ -137,7 +138,8 @@ pub(crate) fn read_bytes(
     first: u64,
     last: Option<u64>,
 ) -> Result<Outcome, MethodFault>
-    ensures outcome { IfOk result (λ out. said_seen out ≡ bytes_said (sight_of store.now session) first last) }
+    ensures outcome { IfOk result (λ out. said_seen out
+        ≡ bytes_said (sight_of store.now session) first last) }
     ensures memory { IfErr result (λ e. e ≡ faults.OutOfMemory) }
 {
     let outcome = bytes_outcome(alloc, &store.view(session), first, last)?;
@@ -154,15 +156,17 @@ pub(crate) fn write(
     ask: &Ask,
 ) -> Result<Outcome, MethodFault>
     requires { has_case session.sp object set ≡ true }
-    ensures outcome { IfOk result (λ out. said_seen out ≡ set_said (to_set store.old session object ask.now)) }
-    ensures store { OnOk result (store.new ≡ set_stored store.old session.sp (to_set store.old session object ask.now)) }
+    ensures outcome { IfOk result (λ out. said_seen out
+        ≡ set_said (to_set store.old session object ask.now)) }
+    ensures store { OnOk result (store.new
+        ≡ set_stored store.old session.sp (to_set store.old session object ask.now)) }
     ensures err { OnErr result (store.new ≡ store.old) }
     ensures memory { IfErr result (λ e. e ≡ faults.OutOfMemory) }
 {
     let Some(change) = check_set(alloc, &store.view(session), session.sp, object, ask)? else {
         return Ok(refused(alloc, status::INVALID_PARAMETER, None));
     };
-    if apply_set(store, session, object, &change)? {
+    if apply_set(store, session, &change)? {
         Ok(said(Vec::new(alloc), None, false))
     } else {
         Ok(refused(alloc, status::INVALID_PARAMETER, None))
@@ -178,9 +182,12 @@ pub(crate) fn authenticate(
     authority: Uid,
     proof: &[u8],
 ) -> Result<Outcome, MethodFault>
-    ensures outcome { IfOk result (λ out. said_seen out ≡ said_attempt session.sp authority (failure_of (in_force store.old) session.sp authority proof.now)) }
-    ensures store { OnOk result (store.new ≡ after_attempt session.sp authority (failure_of (in_force store.old) session.sp authority proof.now) store.old) }
-    ensures points { OnOk result ((n : ℕ) → session_at sessions.new n ≡ (if session.tsn == n then gaining_if (in_force store.old) authority (failure_of (in_force store.old) session.sp authority proof.now) (session_at sessions.old n) else session_at sessions.old n)) }
+    ensures outcome { IfOk result (λ out. said_seen out
+        ≡ said_attempt session.sp authority (tried store.old session authority proof.now)) }
+    ensures store { OnOk result (store.new
+        ≡ after_attempt session.sp authority (tried store.old session authority proof.now) store.old) }
+    ensures points { OnOk result ((n : ℕ) → session_at sessions.new n
+        ≡ gaining store.old session authority proof.now n (session_at sessions.old n)) }
     ensures next { OnOk result (sessions.new.next ≡ sessions.old.next) }
     ensures err_store { OnErr result (store.new ≡ store.old) }
     ensures err_sessions { OnErr result (sessions.new ≡ sessions.old) }
@@ -209,8 +216,10 @@ pub(crate) fn activate(
     store: &mut Store,
     session: SessionId,
 ) -> Result<Outcome, MethodFault>
-    ensures outcome { IfOk result (λ out. said_seen out ≡ unless_inside (is_inside store.old session) (says [] None false)) }
-    ensures store { OnOk result (store.new ≡ stored_unless (is_inside store.old session) store.old (activated store.old)) }
+    ensures outcome { IfOk result (λ out. said_seen out
+        ≡ unless_inside (is_inside store.old session) (says [] None false)) }
+    ensures store { OnOk result (store.new
+        ≡ stored_unless (is_inside store.old session) store.old (activated store.old)) }
     ensures err { OnErr result (store.new ≡ store.old) }
     ensures memory { IfErr result (λ e. e ≡ faults.OutOfMemory) }
 {
@@ -252,9 +261,13 @@ pub(crate) fn revert(
     session: SessionId,
     object: Uid,
 ) -> Result<Outcome, MethodFault>
-    ensures outcome { IfOk result (λ out. said_seen out ≡ unless_inside (is_inside store.old session) (says [] None (is_manufactured store.old))) }
-    ensures store { OnOk result (store.new ≡ stored_unless (is_inside store.old session) store.old (reverted (sp_of object) store.old)) }
-    ensures points { OnOk result ((n : ℕ) → session_at sessions.new n ≡ ended_unless (is_inside store.old session) (sp_of object) (session_at sessions.old n)) }
+    ensures outcome { IfOk result (λ out. said_seen out
+        ≡ unless_inside (is_inside store.old session) (says [] None (is_manufactured store.old))) }
+    ensures store { OnOk result (store.new
+        ≡ stored_unless (is_inside store.old session) store.old
+        (reverted (sp_of object) store.old)) }
+    ensures points { OnOk result ((n : ℕ) → session_at sessions.new n
+        ≡ ended_unless (is_inside store.old session) (sp_of object) (session_at sessions.old n)) }
     ensures next { OnOk result (sessions.new.next ≡ sessions.old.next) }
     ensures err_store { OnErr result (store.new ≡ store.old) }
     ensures err_sessions { OnErr result (sessions.new ≡ sessions.old) }

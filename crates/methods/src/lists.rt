@@ -4,8 +4,8 @@ ghost use Rattle.std.specs.Prelude.{◌≡◌, ◌≤◌, ◌/◌, ◌<◌, ◌=
 ghost use Rattle.std.specs.List.{flat_map};
 ghost use Rattle.tcg_tokens.specs.Tree.{tree, number, named};
 ghost use Rattle.call_shapes.specs.CellValues.{cell_tree};
-ghost use Rattle.methods.specs.Columns.{columns_of};
-ghost use Rattle.methods.specs.Listed.{is_listed as is_listed_by, shown, listed_among, listed};
+ghost use Rattle.methods.specs.Columns.{columns_in};
+ghost use Rattle.methods.specs.Listed.{is_listed as is_listed_by, shown, listed_among, listed, cell_value};
 
 use crate::cases::method_cases;
 use crate::grants::denial;
@@ -63,7 +63,9 @@ fn show<R: Rows>(
     column: Column,
     values: &mut Vec<Value>,
 ) -> Result<(), AllocError>
-    ensures { OnOk result (map tree values.new.items ≡ map tree values.old.items ++ shown column (R.look_up rows.now sp object column)) }
+    ensures { OnOk result (map tree values.new.items
+        ≡ map tree values.old.items
+        ++ map cell_value (shown column (R.look_up rows.now sp object column))) }
 {
     if let Some(cell) = rows.cell(sp, object, column) {
         let value = value_of(alloc, cell)?;
@@ -85,7 +87,9 @@ fn list_each<R: Rows>(
     held: &Authorities,
     columns: &[(Column, ColumnType)],
 ) -> Result<Vec<Value>, AllocError>
-    ensures { IfOk result (λ vs. map tree vs.items ≡ listed_among (R.look_up rows.now) sp object first last held.now columns.now) }
+    ensures { IfOk result (λ vs. map tree vs.items
+        ≡ map cell_value (listed_among (R.look_up rows.now) sp object first last held.now
+        (columns_in columns.now))) }
 {
     let mut values = Vec::new(alloc);
     for (column, _) in columns {
@@ -111,7 +115,8 @@ pub fn list_columns<R: Rows>(
     last: u64,
     held: &Authorities,
 ) -> Result<Vec<Value>, AllocError>
-    ensures { IfOk result (λ vs. map tree vs.items ≡ listed (R.look_up rows.now) sp object first last held.now) }
+    ensures { IfOk result (λ vs. map tree vs.items
+        ≡ map cell_value (listed (R.look_up rows.now) sp object first last held.now)) }
 {
     method_cases!(column_arms(
         kind_of(sp, object),

@@ -54,7 +54,8 @@ fn check_cells(
     types: &[(Column, ColumnType)],
     assignments: &Assignments,
 ) -> Result<Option<Vec<(Column, Cell)>>, AllocError>
-    ensures { IfOk result (λ cs. option_map (λ v. v.items) cs ≡ cells_for types.now assignments.now) }
+    ensures { IfOk result (λ cs. option_map (λ v. v.items) cs
+        ≡ cells_for types.now assignments.now) }
 {
     let mut cells = Vec::new(alloc);
     for (column, value) in assignments.as_slice() {
@@ -98,7 +99,8 @@ fn bytes_to_set<R: Rows>(
     sp: Sp,
     ask: &Ask,
 ) -> Result<Option<Change>, AllocError>
-    ensures { IfOk result (λ c. option_map setting_seen c ≡ bytes_of_ask sp (R.shadow_sectors rows.now) ask.now) }
+    ensures { IfOk result (λ c. option_map setting_seen c
+        ≡ bytes_of_ask sp (R.shadow_sectors rows.now) ask.now) }
 {
     if sp == Sp::Admin {
         return Ok(None);
@@ -150,7 +152,8 @@ pub fn check_set<R: Rows>(
     object: Uid,
     ask: &Ask,
 ) -> Result<Option<Change>, AllocError>
-    ensures { IfOk result (λ c. option_map setting_seen c ≡ setting sp (R.shadow_sectors rows.now) object (kind_of_object sp object) ask.now) }
+    ensures { IfOk result (λ c. option_map setting_seen c
+        ≡ setting sp (R.shadow_sectors rows.now) object (kind_of_object sp object) ask.now) }
 {
     method_cases!(set_arms(kind_of(sp, object), alloc, rows, sp, object, ask))
 }

@@ -1,0 +1,95 @@
+-- The object that a Set changes is the one that its call names.
+use Rattle.std.proofs.Common.{◌≡◌, ℕ, Bool, true, false, List, [], ◌∷◌, Option, None, Some, refl, ap, ◌∙◌, sym, if◌then◌else◌}
+use Rattle.sp_cells.specs.declared.names.Uid.{Uid}
+use Rattle.sp_cells.specs.declared.names.Column.{Column}
+use Rattle.sp_cells.specs.declared.names.Sp.{Sp}
+use Rattle.sp_cells.specs.declared.names.Sp.TheVariants.{Admin, Locking}
+use Rattle.sp_cells.specs.declared.cells.Cell.{Cell}
+use Rattle.sp_cells.specs.declared.values.ColumnType.{ColumnType}
+use Rattle.sp_cells.specs.Names.{set, mbr_table}
+use Rattle.transactions.specs.declared.change.Change.{Change}
+use Rattle.transactions.specs.declared.change.Change.TheVariants.{Cells, Mbr}
+use Rattle.call_shapes.specs.declared.ask.Ask.{Ask}
+use Rattle.call_shapes.specs.declared.ask.Ask.TheVariants.{GetCells, GetBytes, SetCells, SetBytes, Authenticate, Activate, Revert, Other}
+use Rattle.methods.specs.declared.kinds.Kind.{Kind}
+use Rattle.methods.specs.declared.kinds.Kind.TheVariants as kinds
+use Rattle.methods.specs.Kinds.{kind_of}
+use Rattle.methods.specs.Columns.{set_types_of}
+use Rattle.methods.specs.Cases.{has_case}
+use Rattle.methods.specs.Settings.{Setting, cells_set, bytes_set, setting, setting_of_cells, cells_of_ask, cells_for, bytes_of_ask, is_within}
+use Rattle.methods.specs.Changes.{setting_seen, object_of}
+
+-- cells that are set are of the object
+cells_there : (object o : Uid) (cells : List (Column × Cell)) (c : Option (List (Column × Cell))) → setting_of_cells object c ≡ Some (cells_set o cells) → object ≡ o
+cells_there object o cells None e = cc
+cells_there object o cells (Some cs) e = cc
+
+asked_there : (object o : Uid) (cells : List (Column × Cell)) (types : List (Column × ColumnType)) (ask : Ask) → cells_of_ask object types ask ≡ Some (cells_set o cells) → object ≡ o
+asked_there object o cells types (SetCells ps) e = cells_there object o cells (cells_for types ps) e
+asked_there object o cells types (GetCells first last) e = cc
+asked_there object o cells types (GetBytes first last) e = cc
+asked_there object o cells types (SetBytes at bs) e = cc
+asked_there object o cells types (Authenticate a p) e = cc
+asked_there object o cells types Activate e = cc
+asked_there object o cells types Revert e = cc
+asked_there object o cells types Other e = cc
+
+-- Set of columns sets no byte
+no_bytes_of : (object : Uid) (at : ℕ) (bs : List ℕ) (c : Option (List (Column × Cell))) → setting_of_cells object c ≡ Some (bytes_set at bs) → ⊥
+no_bytes_of object at bs None e = cc
+no_bytes_of object at bs (Some cs) e = cc
+
+no_bytes : (object : Uid) (at : ℕ) (bs : List ℕ) (types : List (Column × ColumnType)) (ask : Ask) → cells_of_ask object types ask ≡ Some (bytes_set at bs) → ⊥
+no_bytes object at bs types (SetCells ps) e = no_bytes_of object at bs (cells_for types ps) e
+no_bytes object at bs types (GetCells first last) e = cc
+no_bytes object at bs types (GetBytes first last) e = cc
+no_bytes object at bs types (SetBytes a b) e = cc
+no_bytes object at bs types (Authenticate a p) e = cc
+no_bytes object at bs types Activate e = cc
+no_bytes object at bs types Revert e = cc
+no_bytes object at bs types Other e = cc
+
+-- Set of bytes sets no cell
+no_cells_if : (o : Uid) (cells : List (Column × Cell)) (at : ℕ) (bs : List ℕ) (b : Bool) → (if b then Some (bytes_set at bs) else None) ≡ Some (cells_set o cells) → ⊥
+no_cells_if o cells at bs true e = cc
+no_cells_if o cells at bs false e = cc
+
+no_cells : (o : Uid) (cells : List (Column × Cell)) (sp : Sp) (n : ℕ) (ask : Ask) → bytes_of_ask sp n ask ≡ Some (cells_set o cells) → ⊥
+no_cells o cells Admin n ask e = cc
+no_cells o cells Locking n (SetBytes at bs) e = no_cells_if o cells at bs (is_within n at bs) e
+no_cells o cells Locking n (SetCells ps) e = cc
+no_cells o cells Locking n (GetCells first last) e = cc
+no_cells o cells Locking n (GetBytes first last) e = cc
+no_cells o cells Locking n (Authenticate a p) e = cc
+no_cells o cells Locking n Activate e = cc
+no_cells o cells Locking n Revert e = cc
+no_cells o cells Locking n Other e = cc
+
+cells_of_object : (sp : Sp) (n : ℕ) (object o : Uid) (cells : List (Column × Cell)) (kind : Option Kind) (ask : Ask) → setting sp n object kind ask ≡ Some (cells_set o cells) → object ≡ o
+cells_of_object sp n object o cells (Some kinds.MbrTable) ask e = absurd (no_cells o cells sp n ask e)
+cells_of_object sp n object o cells (Some kinds.ThisSp) ask e = asked_there object o cells (set_types_of (Some kinds.ThisSp)) ask e
+cells_of_object sp n object o cells (Some kinds.Sp) ask e = asked_there object o cells (set_types_of (Some kinds.Sp)) ask e
+cells_of_object sp n object o cells (Some kinds.Authority) ask e = asked_there object o cells (set_types_of (Some kinds.Authority)) ask e
+cells_of_object sp n object o cells (Some kinds.CPin) ask e = asked_there object o cells (set_types_of (Some kinds.CPin)) ask e
+cells_of_object sp n object o cells (Some kinds.Ace) ask e = asked_there object o cells (set_types_of (Some kinds.Ace)) ask e
+cells_of_object sp n object o cells (Some kinds.Locking) ask e = asked_there object o cells (set_types_of (Some kinds.Locking)) ask e
+cells_of_object sp n object o cells (Some kinds.MbrControl) ask e = asked_there object o cells (set_types_of (Some kinds.MbrControl)) ask e
+cells_of_object sp n object o cells None ask e = asked_there object o cells (set_types_of None) ask e
+
+-- no bytes are set in the Admin SP
+bytes_of_locking : (n : ℕ) (object : Uid) (at : ℕ) (bs : List ℕ) (kind : Option Kind) (ask : Ask) → setting Admin n object kind ask ≡ Some (bytes_set at bs) → ⊥
+bytes_of_locking n object at bs (Some kinds.MbrTable) ask e = cc
+bytes_of_locking n object at bs (Some kinds.ThisSp) ask e = no_bytes object at bs (set_types_of (Some kinds.ThisSp)) ask e
+bytes_of_locking n object at bs (Some kinds.Sp) ask e = no_bytes object at bs (set_types_of (Some kinds.Sp)) ask e
+bytes_of_locking n object at bs (Some kinds.Authority) ask e = no_bytes object at bs (set_types_of (Some kinds.Authority)) ask e
+bytes_of_locking n object at bs (Some kinds.CPin) ask e = no_bytes object at bs (set_types_of (Some kinds.CPin)) ask e
+bytes_of_locking n object at bs (Some kinds.Ace) ask e = no_bytes object at bs (set_types_of (Some kinds.Ace)) ask e
+bytes_of_locking n object at bs (Some kinds.Locking) ask e = no_bytes object at bs (set_types_of (Some kinds.Locking)) ask e
+bytes_of_locking n object at bs (Some kinds.MbrControl) ask e = no_bytes object at bs (set_types_of (Some kinds.MbrControl)) ask e
+bytes_of_locking n object at bs None ask e = no_bytes object at bs (set_types_of None) ask e
+
+-- where the object that a call names has Set, the object of what it sets has it
+pub set_there : (sp : Sp) (n : ℕ) (object : Uid) (ask : Ask) (change : Change) → Some (setting_seen change) ≡ setting sp n object (kind_of sp object) ask → has_case sp object set ≡ true → has_case sp (object_of change) set ≡ true
+set_there sp n object ask (Cells o cells) e h = ap (λ u. has_case sp u set) (sym (cells_of_object sp n object o cells.items (kind_of sp object) ask (sym e))) ∙ h
+set_there Admin n object ask (Mbr at bs) e h = absurd (bytes_of_locking n object at bs.items (kind_of Admin object) ask (sym e))
+set_there Locking n object ask (Mbr at bs) e h = refl
