@@ -16,12 +16,14 @@ use Rattle.history.specs.Calls.{Standing, Judgement, Refuses, Gives, Makes, Atte
 use Rattle.history.specs.Facts.{Facts}
 use Rattle.history.specs.Decisions.{outcome_of}
 
--- What is answered to a judgement, by the rows in force; a Revert tells whether the media become zeros.
+-- What is answered to a judgement, by the rows in force; a Revert tells whether the media become
+-- zeros.
 abbrev pub said_of : LookUp → Sp → Bool → Judgement → Said
 said_of rows sp wipes (Refuses status denied) = refuses status denied
 said_of rows sp wipes (Gives results) = says results None false
 said_of rows sp wipes (Makes setting) = says [] None false
-said_of rows sp wipes (Attempts authority pin) = said_attempt sp authority (failure rows sp authority pin)
+said_of rows sp wipes (Attempts authority pin) =
+    said_attempt sp authority (failure rows sp authority pin)
 said_of rows sp wipes Activates = says [] None false
 said_of rows sp wipes (Reverts reverted) = says [] None wipes
 
@@ -50,4 +52,5 @@ abbrev pub AnswerLaw : Type 0
 AnswerLaw =
     (store : Stored) (c : Called) → latest_look store ≡ seen_by store c.session
     → said_call store c
-      ≡ said_of (in_force store) c.session.sp (is_manufactured store) (judged (standing_on store c.session c.held) c.object c.method c.ask)
+    ≡ said_of (in_force store) c.session.sp (is_manufactured store)
+    (judged (standing_on store c.session c.held) c.object c.method c.ask)

@@ -98,8 +98,10 @@ pub record StartDenied (f : Facts) (act : Act) (why : Why) : Type 0 where
   pub why_is : why ≡ AttemptFailed sp opening.authority failure
 
 abbrev pub IsDenied : Facts → Act → Why → Type 0
-IsDenied f act why = TransferDenied f act why ⊎ MethodDenied f act why ⊎ AttemptDenied f act why ⊎ StartDenied f act why
+IsDenied f act why =
+    TransferDenied f act why ⊎ MethodDenied f act why ⊎ AttemptDenied f act why ⊎ StartDenied f act why
 
 -- Exactly where it was denied for this reason; the left side has one reason at most.
 abbrev pub DenialLaw : Type 0
-DenialLaw = (f : Facts) (act : Act) (why : Why) → ((event_by f act).denied ≡ Some why) ↔ IsDenied f act why
+DenialLaw =
+    (f : Facts) (act : Act) (why : Why) → ((event_by f act).denied ≡ Some why) ↔ IsDenied f act why

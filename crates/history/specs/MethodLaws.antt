@@ -37,17 +37,21 @@ takes_effect (Attempts authority pin) = true
 takes_effect Activates = true
 takes_effect (Reverts sp) = true
 
--- Of a call of the right shape: with valid values it takes effect exactly where it is granted, and then it is what the ask comes to; where it is
--- not granted, it is refused with a reason.
+-- Of a call of the right shape: with valid values it takes effect exactly where it is granted, and
+-- then it is what the ask comes to; where it is not granted, it is refused with a reason.
 pub record IsJudgedByAces (s : Standing) (object method : Uid) (ask : Ask) : Type 0 where
-  pub effect : takes_effect (does s object ask) ≡ true → (takes_effect (judged s object method (Some ask)) ≡ true) ↔ IsGranted s object method ask
-  pub granted : IsGranted s object method ask → judged s object method (Some ask) ≡ does s object ask
-  pub denied : (IsGranted s object method ask → ⊥) → (why : Why) × (judged s object method (Some ask) ≡ Refuses not_authorized (Some why))
+  pub effect : takes_effect (does s object ask) ≡ true
+      → (takes_effect (judged s object method (Some ask)) ≡ true) ↔ IsGranted s object method ask
+  pub granted : IsGranted s object method ask
+      → judged s object method (Some ask) ≡ does s object ask
+  pub denied : (IsGranted s object method ask → ⊥)
+      → (why : Why) × (judged s object method (Some ask) ≡ Refuses not_authorized (Some why))
 
 abbrev pub GrantLaw : Type 0
 GrantLaw = (s : Standing) (object method : Uid) (ask : Ask) → IsJudgedByAces s object method ask
 
--- An accepted FIS whose command is looked at: it is one, the queue has not failed, and a command that is not queued stands beside no held one.
+-- An accepted FIS whose command is looked at: it is one, the queue has not failed, and a command
+-- that is not queued stands beside no held one.
 pub record IsLookedAt (f : Facts) (act : Act) (command : Command) (tag : Option ℕ) : Type 0 where
   pub fis : List ℕ
   pub payload : List ℕ
@@ -81,12 +85,21 @@ pub record IsCall (f : Facts) (act : Act) (session : Begun) (object method : Lis
 -- What is judged of it decides what it does and how it is answered.
 abbrev pub CallLaw : Type 0
 CallLaw =
-    (f : Facts) (act : Act) (session : Begun) (object method : List ℕ) (args : Trees) (c : IsCall f act session object method args)
-    → event_by f act ≡ answers c.com_id c.frame.session (outcome_of f session.sp (judgement_on f session (uid_of object) (uid_of method) args))
+    (f : Facts) (act : Act) (session : Begun) (object method : List ℕ) (args : Trees)
+    (c : IsCall f act session object method args)
+    → event_by f act
+    ≡ answers c.com_id c.frame.session
+    (outcome_of f session.sp (judgement_on f session (uid_of object) (uid_of method) args))
 
--- And so, act by act: of a call of the right shape with valid values, the act does and answers what its ask comes to exactly where it is granted.
+-- And so, act by act: of a call of the right shape with valid values, the act does and answers what
+-- its ask comes to exactly where it is granted.
 abbrev pub EffectLaw : Type 0
 EffectLaw =
-    (f : Facts) (act : Act) (session : Begun) (object method : List ℕ) (args : Trees) (c : IsCall f act session object method args) (ask : Ask)
-    → asked session.sp (uid_of object) (uid_of method) args ≡ Some ask → takes_effect (does (standing f session) (uid_of object) ask) ≡ true
-    → (event_by f act ≡ answers c.com_id c.frame.session (outcome_of f session.sp (does (standing f session) (uid_of object) ask))) ↔ IsGranted (standing f session) (uid_of object) (uid_of method) ask
+    (f : Facts) (act : Act) (session : Begun) (object method : List ℕ) (args : Trees)
+    (c : IsCall f act session object method args) (ask : Ask)
+    → asked session.sp (uid_of object) (uid_of method) args ≡ Some ask
+    → takes_effect (does (standing f session) (uid_of object) ask) ≡ true
+    → (event_by f act
+    ≡ answers c.com_id c.frame.session
+    (outcome_of f session.sp (does (standing f session) (uid_of object) ask)))
+    ↔ IsGranted (standing f session) (uid_of object) (uid_of method) ask

@@ -17,10 +17,12 @@ use Rattle.history.specs.Decisions.{begun}
 abbrev pub BegunLaw : Type 0
 BegunLaw =
     (f : Facts) (com_id : ℕ) (opening : Opening) (sp : Sp) (before : Option Holder)
-    → begun_by f.rows com_id opening (Attempted sp None) true before ≡ Some (holder_of (begun f com_id opening sp))
+    → begun_by f.rows com_id opening (Attempted sp None) true before
+    ≡ Some (holder_of (begun f com_id opening sp))
 
 -- What it gains by a right attempt is what that attempt alone brings, beside what it held.
 abbrev pub GainLaw : Type 0
 GainLaw =
     (rows : LookUp) (sp : Sp) (authority : Uid) (held : List Uid) (other : Uid)
-    → has (gained rows sp authority held) other ≡ (has held other || has (gained rows sp authority []) other)
+    → has (gained rows sp authority held) other
+    ≡ (has held other || has (gained rows sp authority []) other)
