@@ -15,10 +15,10 @@ use Rattle.call_shapes.specs.declared.ask.Ask.{Ask}
 use Rattle.call_shapes.specs.declared.ask.Ask.TheVariants.{GetCells, GetBytes, SetCells, SetBytes, Authenticate, Activate, Revert, Other}
 use Rattle.std.specs.Option.{option_or}
 use Rattle.methods.specs.Kinds.{kind_of}
-use Rattle.methods.specs.Columns.{types_of, columns_in}
-use Rattle.methods.specs.Effects.{cased}
+use Rattle.methods.specs.Columns.{columns_of}
+use Rattle.methods.specs.Effects.{ask_at}
 use Rattle.methods.specs.Grants.{why_denied, unless_allowed, denial as denial_of, wanted, first_some}
-use Rattle.methods.specs.Listed.{cell_value, is_asked, shown, listed_among, listed}
+use Rattle.methods.specs.Listed.{is_asked, shown, listed_among, listed, cell_value}
 use Rattle.history.specs.Calls.{Standing, denial, gives, does_ask, does, unless_denied, judged}
 use Rattle.sp_cells.specs.Names.{get}
 use Rattle.sp_cells.specs.Flat.{LookUp}
@@ -78,10 +78,10 @@ denial-alike look sp object method held other h (k ∷ ks) =
 listed-alike : (look : LookUp) (sp : Sp) (object : Uid) (first last : ℕ) (held other : List Uid) → SameHeld held other → listed look sp object first last other ≡ listed look sp object first last held
 unfolding listed_among
 listed-alike look sp object first last held other h =
-    ap (λ p. flat_map (λ k. shown k (look sp object k)) (filter p (columns_in (types_of (kind_of sp object))))) (fun_ext (λ k. ap (λ x. is_asked first last k && is_some x) (entry-alike look sp object get (Some k) held other h)))
+    ap (λ p. flat_map (λ k. shown k (look sp object k)) (filter p (columns_of (kind_of sp object)))) (fun_ext (λ k. ap (λ x. is_asked first last k && is_some x) (entry-alike look sp object get (Some k) held other h)))
 
 done-alike : (s : Standing) (other : List Uid) → SameHeld s.held other → (object : Uid) (ask : Ask) → does_ask (with_held s other) object ask ≡ does_ask s object ask
-done-alike s other h object (GetCells a b) = ap (λ (listing : List (Column × Cell)). gives (list (trees_of (map cell_value listing)) ∷ [])) (listed-alike s.rows s.sp object a b s.held other h)
+done-alike s other h object (GetCells a b) = ap (λ values. gives (list (trees_of (map cell_value values)) ∷ [])) (listed-alike s.rows s.sp object a b s.held other h)
 done-alike s other h object (GetBytes a b) = refl
 done-alike s other h object (SetCells values) = refl
 done-alike s other h object (SetBytes a b) = refl
@@ -93,4 +93,4 @@ done-alike s other h object Other = refl
 pub judged-alike : (s : Standing) (other : List Uid) → SameHeld s.held other → (object method : Uid) (ask : Option Ask) → judged (with_held s other) object method ask ≡ judged s object method ask
 judged-alike s other h object method None = refl
 judged-alike s other h object method (Some ask) =
-    ap (λ d. unless_denied d (does (with_held s other) object ask)) (denial-alike s.rows s.sp object method s.held other h (wanted ask)) ∙ ap (unless_denied (denial s object method ask)) (done-alike s other h object (cased (kind_of s.sp object) ask))
+    ap (λ d. unless_denied d (does (with_held s other) object ask)) (denial-alike s.rows s.sp object method s.held other h (wanted ask)) ∙ ap (unless_denied (denial s object method ask)) (done-alike s other h object (ask_at s.sp object ask))

@@ -1,5 +1,5 @@
 -- No change makes a cell, and no opening has one behind the last column.
-use Rattle.std.proofs.Common.{◌≡◌, ℕ, ◌+◌, ◌<◌, ◌==◌, Bool, true, false, ◌&&◌, List, [], ◌∷◌, ◌++◌, Option, Some, None, refl, sym, ◌∙◌, ap, cond, eqb-true, arith}
+use Rattle.std.proofs.Common.{◌≡◌, ℕ, ◌+◌, ◌<◌, ◌==◌, Bool, true, false, ◌&&◌, List, [], ◌∷◌, Option, Some, None, refl, ◌∙◌, ap, cond, arith}
 use Rattle.std.specs.Prelude.{nat_le, option_map, Result, Ok, Err}
 use Rattle.std.specs.List.{list_all}
 use Rattle.std.proofs.lemmas.List.Folds.{list_all-append}
@@ -26,10 +26,9 @@ use Rattle.locking.specs.declared.range.RangeRow.{RangeRow}
 use Rattle.transactions.specs.Resets.{is_range, is_lock, locks_seen}
 use Rattle.methods.specs.Settings.{cells_set, bytes_set}
 use Rattle.history.specs.Changes.{Change, Sets, Restores, Resets, reset_rows, apply, apply_all, with_tries}
-use Rattle.history.specs.Opening.{Origin, factory_origin, life_cycle, pin, activated_origin, changes_of, row_fault, with_range, unless, origin_after, origin_with}
-use Rattle.history.specs.Events.{Event}
+use Rattle.history.specs.Opening.{Origin, factory_origin, life_cycle, pin, activated_origin, changes_of, row_fault, with_range, unless, origin_after}
 use Rattle.history.specs.Readers.{open_on, open_changes, changes, tries, factory_rows, rows_after, rows_within, is_of}
-use Rattle.history.specs.Bounds.{IsNowhere, HasNone, CellLaw, HasNoColumn, ColumnLaw}
+use Rattle.history.specs.Bounds.{CellLaw, HasNoColumn, ColumnLaw}
 
 -- another value in a cell that is none
 none-if : (b : Bool) (x y : Option Cell) → x ≡ None → y ≡ None → cond b x y ≡ None

@@ -37,7 +37,7 @@ use Rattle.tcg_tokens.specs.Length.{len_of}
 use Rattle.methods.specs.Kinds.{kind_of}
 use Rattle.methods.specs.Settings.{Setting}
 use Rattle.methods.specs.Said.{reply_of, most_response, said_attempt}
-use Rattle.methods.specs.Effects.{cased, last_row, sp_of_row}
+use Rattle.methods.specs.Effects.{ask_at, last_row, sp_of_row}
 use Rattle.audit.specs.declared.reason.AttemptFailure.TheVariants.{WrongPin, LockedOut, Disabled, Unknown}
 use Rattle.audit.specs.declared.reason.Why.TheVariants.{AttemptFailed}
 use Rattle.history.specs.Calls.{asked, Standing, Judgement, Refuses, Gives, Makes, Attempts, Activates, Reverts, denial, gives, listing, table_size, bytes_between, rows_given, to_set, makes, unless_open, does_ask, does, unless_denied, judged}
@@ -160,7 +160,7 @@ done-clean s object Revert = open-clean s.is_open (Reverts (sp_of_row object)) r
 done-clean s object Other = refl
 
 does-clean : (s : Standing) (object : Uid) (ask : Ask) → reason (does s object ask) ≡ None
-does-clean s object ask = done-clean s object (cased (kind_of s.sp object) ask)
+does-clean s object ask = done-clean s object (ask_at s.sp object ask)
 
 -- a call of a session
 refused-is : (f : Facts) (act : Act) (why : Why) (session : Begun) (object method : List ℕ) (args : Trees) → IsCall f act session object method args → (x : Option Ask) → asked session.sp (uid_of object) (uid_of method) args ≡ x

@@ -34,14 +34,15 @@ use Rattle.std.specs.Option.{option_or}
 use Rattle.methods.specs.Kinds.{kind_of}
 use Rattle.methods.specs.Columns.{columns_of}
 use Rattle.methods.specs.Grants.{why_denied, unless_allowed, denial as denial_of, wanted, first_some}
-use Rattle.methods.specs.Listed.{is_asked, is_listed, shown, listed_among, listed}
 use Rattle.call_shapes.specs.CellValues.{cell_tree}
+use Rattle.methods.specs.Laws.{EachHasAce}
+use Rattle.methods.proofs.GrantLaws.{grant_law as grants}
 use Rattle.history.specs.Calls.{Standing, Judgement, Refuses, Gives, Makes, Attempts, Activates, Reverts, denial, does, unless_denied, judged}
 use Rattle.history.specs.Events.{Event, Nothing, did}
 use Rattle.history.specs.Facts.{Facts, standing, session_named}
 use Rattle.history.specs.Decisions.{outcome_of, tried_in, admitted, unqueued, fails_queue, refuses, aborted, answers, to_manager, to_session, in_session, framed, sent, while_failed, is_busy, known, commanded}
 use Rattle.history.specs.History.{Act, event_by}
-use Rattle.history.specs.MethodLaws.{EffectLaw, EachHasAce, IsGranted, takes_effect, GrantLaw, IsLookedAt, IsSent, CallLaw}
+use Rattle.history.specs.MethodLaws.{EffectLaw, IsGranted, takes_effect, GrantLaw, IsLookedAt, IsSent, CallLaw}
 
 none-some : {A : Type 0} {x : A} → None ≡ Some x → ⊥
 none-some h = cc
@@ -52,57 +53,22 @@ clash h = cc
 same-why : {x y : Why} → Some x ≡ Some y → x ≡ y
 same-why h = cc
 
--- ACEs by their test
-allowed-by : (s : Standing) (object method : Uid) (k : Option Column) (x : Option Uid) → ace_of s.rows s.sp object method k s.held ≡ x → (why : Why) → unless_allowed x why ≡ None → HasAce s.rows s.sp object method k s.held
-allowed-by s object method k (Some u) is why h = some_ace s.rows s.sp object method k s.held u is
-allowed-by s object method k None is why h = absurd (none-some (sym h))
-
-has-allowed : (s : Standing) (object method : Uid) (k : Option Column) (x : Option Uid) → ace_of s.rows s.sp object method k s.held ≡ x → (why : Why) → HasAce s.rows s.sp object method k s.held → unless_allowed x why ≡ None
-has-allowed s object method k (Some u) is why e = refl
-has-allowed s object method k None is why e = absurd (no_ace s.rows s.sp object method k s.held is e)
-
-some-ace-test : (s : Standing) (object method : Uid) (k : Option Column) (x : Option Uid) → ace_of s.rows s.sp object method k s.held ≡ x → is_some x ≡ true → HasAce s.rows s.sp object method k s.held
-some-ace-test s object method k (Some u) is h = some_ace s.rows s.sp object method k s.held u is
-some-ace-test s object method k None is h = absurd (clash h)
-
-test-some-ace : (s : Standing) (object method : Uid) (k : Option Column) (x : Option Uid) → ace_of s.rows s.sp object method k s.held ≡ x → HasAce s.rows s.sp object method k s.held → is_some x ≡ true
-test-some-ace s object method k (Some u) is e = refl
-test-some-ace s object method k None is e = absurd (no_ace s.rows s.sp object method k s.held is e)
-
 -- a method is offered where it has an ACE
 row-there : (row : Option (List Uid)) (ace : Uid) → has (unwrap_or row []) ace ≡ true → (r : List Uid) × (row ≡ Some r)
 row-there None ace h = absurd (clash h)
 row-there (Some r) ace h = (r, refl)
 
--- no column of these is denied where each has an ACE
-either-none : (x y : Option Why) → option_or x y ≡ None → (x ≡ None) × (y ≡ None)
-either-none None y h = (refl, h)
-either-none (Some w) y h = absurd (none-some (sym h))
-
-each-has : (s : Standing) (object method : Uid) (ks : List (Option Column)) → first_some (map (denial_of s.rows s.sp object method s.held) ks) ≡ None → EachHasAce s object method ks
-each-has s object method [] h = tt
-each-has s object method (k ∷ ks) h =
-    let w = either-none (denial_of s.rows s.sp object method s.held k) (first_some (map (denial_of s.rows s.sp object method s.held) ks)) h in (
-      allowed-by s object method k (ace_of s.rows s.sp object method k s.held) refl (why_denied s.rows s.sp object method k (acl_at s.sp object method)) w.0,
-      each-has s object method ks w.1,
-    )
-
-has-each : (s : Standing) (object method : Uid) (ks : List (Option Column)) → EachHasAce s object method ks → first_some (map (denial_of s.rows s.sp object method s.held) ks) ≡ None
-has-each s object method [] h = refl
-has-each s object method (k ∷ ks) h =
-    ap (λ x. option_or x (first_some (map (denial_of s.rows s.sp object method s.held) ks))) (has-allowed s object method k (ace_of s.rows s.sp object method k s.held) refl (why_denied s.rows s.sp object method k (acl_at s.sp object method)) h.0)
-    ∙ has-each s object method ks h.1
-
+-- a call is denied exactly where it is not granted
 pub no-denial : (s : Standing) (object method : Uid) (ask : Ask) → IsGranted s object method ask → denial s object method ask ≡ None
-no-denial s object method ask h = has-each s object method (wanted ask) h
+no-denial s object method ask h = (grants s.rows s.sp object method s.held ask).1 h
 
 pub denial-none : (s : Standing) (object method : Uid) (ask : Ask) → denial s object method ask ≡ None → IsGranted s object method ask
-denial-none s object method ask h = each-has s object method (wanted ask) h
+denial-none s object method ask h = (grants s.rows s.sp object method s.held ask).0 h
 
 -- some ACE is wanted, and so the method is offered
-first-row : (s : Standing) (object method : Uid) (ks : List (Option Column)) (k : Option Column) (rest : List (Option Column)) → ks ≡ k ∷ rest → EachHasAce s object method ks → (r : List Uid) × (acl_at s.sp object method ≡ Some r)
+first-row : (s : Standing) (object method : Uid) (ks : List (Option Column)) (k : Option Column) (rest : List (Option Column)) → ks ≡ k ∷ rest → EachHasAce s.rows s.sp object method s.held ks → (r : List Uid) × (acl_at s.sp object method ≡ Some r)
 first-row s object method ks k rest is h =
-    let e : EachHasAce s object method (k ∷ rest) = subst (EachHasAce s object method) is h in row-there (acl_at s.sp object method) e.0.ace e.0.in_row
+    let e : EachHasAce s.rows s.sp object method s.held (k ∷ rest) = subst (EachHasAce s.rows s.sp object method s.held) is h in row-there (acl_at s.sp object method) e.0.ace e.0.in_row
 
 not-empty : (p : ℕ × Tree) (ps : List (ℕ × Tree)) → (length (p ∷ ps) == 0) ≡ false
 not-empty p ps = grind (arith, nat_tests)

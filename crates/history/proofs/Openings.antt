@@ -1,9 +1,8 @@
 -- A drive that has done no act agrees with none.
-use Rattle.std.proofs.Common.{◌≡◌, ℕ, ◌==◌, ◌+◌, ◌/◌, suc, zero, Bool, true, false, ◌&&◌, ◌||◌, not, List, [], ◌∷◌, ◌++◌, map, Option, Some, None, refl, sym, ◌∙◌, ap, cond, eqb-true, arith}
-use Rattle.std.proofs.Math.Path.{fun_ext}
+use Rattle.std.proofs.Common.{◌≡◌, ℕ, ◌==◌, ◌+◌, ◌/◌, suc, zero, Bool, true, false, ◌&&◌, ◌||◌, not, List, [], ◌∷◌, Option, Some, None, refl, ◌∙◌, ap, cond, eqb-true, arith}
 use Rattle.std.specs.Prelude.{option_map, Result, Ok, Err}
-use Rattle.std.specs.List.{list_all, list_any}
-use Rattle.std.proofs.lemmas.List.Folds.{list_all-append, list_all-map}
+use Rattle.std.specs.List.{list_all}
+use Rattle.std.proofs.lemmas.List.Folds.{list_all-append}
 use Rattle.std.proofs.lemmas.Bool.Decides.{nat_tests}
 use Rattle.sp_cells.specs.declared.names.Uid.{Uid}
 use Rattle.sp_cells.specs.declared.names.Sp.{Sp}
@@ -15,15 +14,14 @@ use Rattle.sp_cells.specs.declared.error.SetError.{SetError}
 use Rattle.sp_cells.specs.Config.{Config}
 use Rattle.sp_cells.specs.Flat.{PlacedCell, sp_eq, cell_at}
 use Rattle.sp_cells.specs.Names.{c_pin_table, range_base, locking_sp, range_uid, admin_pin_uid}
-use Rattle.sp_rows.specs.Items.{Item, on, is_here, with_item, with_items}
+use Rattle.sp_rows.specs.Items.{Item, on, with_item, with_items}
 use Rattle.sp_factory.specs.Factory.{admin_factory, locking_factory, admin_sps, admin_authorities, locking_authorities, admin_pins, locking_pins, locking_ranges, locking_mbr_controls, admin_aces, authority_aces, pin_aces, range_aces, mbr_aces}
-use Rattle.sp_tables.specs.Contents.{Contents, look_up, flat, with_row}
+use Rattle.sp_tables.specs.Contents.{Contents, look_up, flat}
 use Rattle.sp_tables.specs.Tries.{is_pin, is_tries, names_tries}
 use Rattle.locking.specs.declared.range.RangeRow.{RangeRow}
-use Rattle.history.specs.Opening.{Origin, factory_origin, life_cycle, pin, activated_origin, changes_of, row_fault, with_range, unless, origin_after, origin_with}
-use Rattle.history.specs.Readers.{in_force, view}
+use Rattle.history.specs.Opening.{Origin, factory_origin, life_cycle, pin, activated_origin, changes_of, row_fault, with_range, unless, origin_after}
 use Rattle.history.specs.Changes.{with_tries}
-use Rattle.history.specs.Agreement.{ShowsRows, ShowsSessions, ShowsQueue, fresh, HasNoTries, FreshLaw, FactoryLaw, OpeningLaw}
+use Rattle.history.specs.Agreement.{HasNoTries, FreshLaw, FactoryLaw, OpeningLaw}
 
 true-false : true ≡ false → ⊥
 true-false h = cc

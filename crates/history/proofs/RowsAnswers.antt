@@ -1,9 +1,7 @@
 -- What accepted commands and completions are answered: FISes, statuses, bytes (Serial ATA, FISes to the host; ACS-3, Status and Error).
-use Rattle.std.proofs.Common.{◌≡◌, ℕ, Bool, true, false, List, [], ◌∷◌, ◌++◌, reverse, replicate, Some, refl}
-use Rattle.std.specs.Prelude.{take}
+use Rattle.std.proofs.Common.{◌≡◌, ℕ, Bool, true, false, List, [], ◌∷◌, ◌++◌, reverse, replicate, refl}
 use Rattle.fis.specs.declared.any.Fis.{Fis}
 use Rattle.fis.specs.declared.any.Fis.TheVariants as fises
-use Rattle.sp_cells.specs.Names.{admin_sp}
 use Rattle.sp_cells.specs.Authorities.{authorities_of_locking}
 use Rattle.sp_tables.specs.Faults.{any_to}
 use Rattle.sp_factory.specs.Factory.{admin_sps, admin_authorities, locking_authorities, admin_pins, locking_pins, locking_ranges, locking_mbr_controls, admin_aces, authority_aces, pin_aces, range_aces, mbr_aces}
@@ -17,13 +15,12 @@ use Rattle.tcg_tokens.specs.Spelling.{number_spelling, bytes_spelling}
 use Rattle.transactions.specs.Resets.{is_range}
 use Rattle.methods.specs.Listed.{listed_among}
 use Rattle.methods.specs.Settings.{cells_for}
-use Rattle.history.specs.Opening.{Origin}
 use Rattle.history.specs.Readers.{held}
 use Rattle.history.specs.Facts.{facts}
 use Rattle.history.specs.Decisions.{any_below}
 use Rattle.history.specs.Answers.{accepted_fises, completed_fises, completed_data, expected}
 use Rattle.history.specs.History.{Act, Accept, event, log}
-use Rattle.history.proofs.Scripts.{new_drive, range_row, opened, fis, start_anybody, send}
+use Rattle.history.proofs.Scripts.{new_drive, fis}
 
 -- Register FISes with and without an interrupt, and the PIO Setup FIS of data to the host.
 abbrev register : Bool → ℕ → ℕ → Fis
@@ -46,6 +43,11 @@ held_answer = refl
 failed_answer : answer (fis 0x60 1 1000 40) [] ≡ register true 0x51 0x10 ∷ []
 unfolding admin_sps admin_authorities locking_authorities admin_pins locking_pins locking_ranges locking_mbr_controls admin_aces authority_aces pin_aces range_aces mbr_aces this_sp_grants admin_grants authority_grants fixed_ace_gets user_ace_grants read_locked_ace_grants write_locked_ace_grants done_ace_grants pin_grants range_grants mbr_grants first_lexeme expect number_at uid_at values_up_to list_with list_value_with named_with value_of list_at status_at call_at reply_at message_at message_in number_spelling bytes_spelling any_below ranges_in verdict_of is_range listed_among cells_for zeros sectors_from authorities_of_locking any_to
 failed_answer = refl
+
+-- The last sector is on the drive, and the one behind it is not.
+last_sector : answer (fis 0x25 0 999 1) [] ++ answer (fis 0x60 2 998 40) [] ++ answer (fis 0x60 2 999 40) [] ≡ register true 0x50 0 ∷ register false 0x50 0 ∷ register true 0x51 0x10 ∷ []
+unfolding admin_sps admin_authorities locking_authorities admin_pins locking_pins locking_ranges locking_mbr_controls admin_aces authority_aces pin_aces range_aces mbr_aces this_sp_grants admin_grants authority_grants fixed_ace_gets user_ace_grants read_locked_ace_grants write_locked_ace_grants done_ace_grants pin_grants range_grants mbr_grants first_lexeme expect number_at uid_at values_up_to list_with list_value_with named_with value_of list_at status_at call_at reply_at message_at message_in number_spelling bytes_spelling any_below ranges_in verdict_of is_range listed_among cells_for zeros sectors_from authorities_of_locking any_to
+last_sector = refl
 
 unknown_answer : answer (fis 0x20 1 5 40) [] ≡ register true 0x51 4 ∷ []
 unfolding admin_sps admin_authorities locking_authorities admin_pins locking_pins locking_ranges locking_mbr_controls admin_aces authority_aces pin_aces range_aces mbr_aces this_sp_grants admin_grants authority_grants fixed_ace_gets user_ace_grants read_locked_ace_grants write_locked_ace_grants done_ace_grants pin_grants range_grants mbr_grants first_lexeme expect number_at uid_at values_up_to list_with list_value_with named_with value_of list_at status_at call_at reply_at message_at message_in number_spelling bytes_spelling any_below ranges_in verdict_of is_range listed_among cells_for zeros sectors_from authorities_of_locking any_to

@@ -1,7 +1,6 @@
 -- The audit lines of worked scripts, and their texts.
-use Rattle.std.proofs.Common.{◌≡◌, ℕ, true, false, List, [], ◌∷◌, ◌++◌, map, reverse, refl}
+use Rattle.std.proofs.Common.{◌≡◌, ℕ, true, false, List, [], ◌∷◌, map, reverse, refl}
 use Rattle.std.specs.Prelude.{codes}
-use Rattle.std.specs.List.{flat_map}
 use Rattle.std.specs.Fmt.{digits}
 use Rattle.hex.specs.Hex.{encode_with}
 use Rattle.audit.specs.AuditText.{line_text}
@@ -23,7 +22,7 @@ use Rattle.history.specs.Opening.{Origin}
 use Rattle.history.specs.Decisions.{any_below}
 use Rattle.history.specs.Audit.{ClientAct, audit}
 use Rattle.history.specs.History.{Act}
-use Rattle.history.proofs.Scripts.{new_drive, range_row, opened, dread, dwrite, read_queued, send, receive, start_anybody, get_cells}
+use Rattle.history.proofs.Scripts.{new_drive, range_row, opened, dread, dwrite, send, receive, start_anybody, get_cells}
 
 -- The texts of the lines, in the order of time.
 abbrev texts : Origin → List ClientAct → List (List ℕ)

@@ -2,7 +2,7 @@
 use Rattle.std.proofs.Common.{◌≡◌, ℕ, true, false, List, [], ◌∷◌, ◌++◌, reverse, replicate, Option, Some, None, refl}
 use Rattle.std.specs.Prelude.{take, length}
 use Rattle.sp_cells.specs.Authorities.{authorities_of_locking}
-use Rattle.sp_cells.specs.Names.{locking_sp, admin_uid, mbr_control, mbr_table, get}
+use Rattle.sp_cells.specs.Names.{locking_sp, admin_uid, mbr_control, mbr_table, get, admin_sp}
 use Rattle.sp_tables.specs.Faults.{any_to}
 use Rattle.sp_factory.specs.Factory.{admin_sps, admin_authorities, locking_authorities, admin_pins, locking_pins, locking_ranges, locking_mbr_controls, admin_aces, authority_aces, pin_aces, range_aces, mbr_aces}
 use Rattle.access_list.specs.Access.{this_sp_grants, admin_grants, authority_grants, fixed_ace_gets, user_ace_grants, read_locked_ace_grants, write_locked_ace_grants, done_ace_grants, pin_grants, range_grants, mbr_grants}
@@ -24,8 +24,8 @@ use Rattle.history.specs.Readers.{waiting}
 use Rattle.history.specs.Facts.{facts}
 use Rattle.history.specs.Decisions.{any_below}
 use Rattle.history.specs.Answers.{sized, accepted_data, identity, error_log, locking_flags}
-use Rattle.history.specs.History.{Act, Accept, event, log}
-use Rattle.history.proofs.Scripts.{msid, new_drive, range_row, activated, opened, fis, dread, read_queued, send, receive, tell, call_of, start_as, in_it, set_cells, fails_with, said}
+use Rattle.history.specs.History.{Act, Accept, event, log, Reset}
+use Rattle.history.proofs.Scripts.{msid, new_drive, range_row, activated, opened, fis, dread, read_queued, send, receive, tell, call_of, start_as, in_it, set_cells, fails_with, said, start_anybody}
 
 discovery_bytes : accepted_data (facts new_drive []) (fis 0x5d 1 0x100 1) (event new_drive [] (receive 1 1)) ≡ sized 512 (
     0 ∷ 0 ∷ 0 ∷ 0x80 ∷ 0 ∷ 0 ∷ 0 ∷ 1 ∷ replicate 40 0
@@ -74,6 +74,11 @@ short_room = refl
 response_stays : fails_with activated (long ++ receive 0x1000 1 ∷ send 0x1000 0x1000 1 get_534 ∷ receive 0x1000 2 ∷ send 0x1000 0x1000 1 get_534 ∷ []) ≡ 4 ∷ []
 unfolding admin_sps admin_authorities locking_authorities admin_pins locking_pins locking_ranges locking_mbr_controls admin_aces authority_aces pin_aces range_aces mbr_aces this_sp_grants admin_grants authority_grants fixed_ace_gets user_ace_grants read_locked_ace_grants write_locked_ace_grants done_ace_grants pin_grants range_grants mbr_grants first_lexeme expect number_at uid_at values_up_to list_with list_value_with named_with value_of list_at status_at call_at reply_at message_at message_in number_spelling bytes_spelling any_below ranges_in verdict_of is_range listed_among cells_for zeros sectors_from authorities_of_locking any_to signed_in get_534 long
 response_stays = refl
+
+-- A reset drops it: the next send is taken.
+response_dropped : fails_with new_drive (send 0x1000 0 0 (start_anybody admin_sp) ∷ send 0x1000 0 0 (start_anybody admin_sp) ∷ Reset 1 ∷ send 0x1000 0 0 (start_anybody admin_sp) ∷ []) ≡ 4 ∷ []
+unfolding admin_sps admin_authorities locking_authorities admin_pins locking_pins locking_ranges locking_mbr_controls admin_aces authority_aces pin_aces range_aces mbr_aces this_sp_grants admin_grants authority_grants fixed_ace_gets user_ace_grants read_locked_ace_grants write_locked_ace_grants done_ace_grants pin_grants range_grants mbr_grants first_lexeme expect number_at uid_at values_up_to list_with list_value_with named_with value_of list_at status_at call_at reply_at message_at message_in number_spelling bytes_spelling any_below ranges_in verdict_of is_range listed_among cells_for zeros sectors_from authorities_of_locking any_to
+response_dropped = refl
 
 waiting_length : Option (List ℕ) → ℕ
 waiting_length None = 0

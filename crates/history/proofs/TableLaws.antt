@@ -6,11 +6,11 @@ use Rattle.std.proofs.lemmas.List.Folds.{list_all-append}
 use Rattle.std.proofs.lemmas.Bool.Decides.{nat_tests}
 use Rattle.sp_cells.specs.declared.names.Sp.{Sp}
 use Rattle.sp_cells.specs.declared.names.Sp.TheVariants.{Admin, Locking}
-use Rattle.methods.specs.Settings.{cells_set, bytes_set, is_within}
+use Rattle.methods.specs.Settings.{cells_set, bytes_set}
 use Rattle.history.specs.Changes.{Change, Sets, Restores, Resets, byte_then, byte_in}
 use Rattle.history.specs.Opening.{Origin}
 use Rattle.history.specs.Events.{SessionDeed, Unchanged, Started, Tried, Changed, Began, Committed, Aborted, Ended, Activated, Reverted, Response, Deed, Nothing, InSession, OfQueue, Wrote, Took, WasReset, Event}
-use Rattle.history.specs.Readers.{changes_on, begins, open_on, own_changes, if_open, open_changes, only_on, unless_open, pin_change, brought, changes, is_of, byte_in_view}
+use Rattle.history.specs.Readers.{changes_on, begins, open_on, own_changes, if_open, open_changes, only_on, unless_open, pin_change, brought, changes, is_of}
 use Rattle.history.specs.History.{Act, event, log}
 use Rattle.history.specs.Deeds.{is_inside, Changes, CanDo}
 use Rattle.history.specs.Bounds.{TableLaw}
@@ -92,8 +92,8 @@ inside o (act ∷ acts) =
     record {
       own = own-inside o e es can before.own;
       all = list_all-append (is_inside (size_of o) Locking) (brought es Locking e.deed) (changes es Locking)
-      ∙ ap (λ b. b && are_inside (size_of o) (changes es Locking)) (brought-inside o es e.deed can before.own)
-      ∙ before.all;
+          ∙ ap (λ b. b && are_inside (size_of o) (changes es Locking)) (brought-inside o es e.deed can before.own)
+          ∙ before.all;
     }
 
 -- bytes past the table

@@ -1,4 +1,5 @@
--- [drive] The bytes and FISes that an act gives, by the facts (Serial ATA; ACS-3, IDENTIFY DEVICE and log page 10h; Opal SSC 2.01, section 3.1.1, Level 0 discovery).
+-- The bytes and FISes that an act gives, by the facts (Serial ATA; ACS-3, IDENTIFY DEVICE and log
+-- page 10h; Opal SSC 2.01, section 3.1.1, Level 0 discovery).
 use Rattle.std.specs.Prelude.{ℕ, zero, suc, ◌+◌, ◌-◌, ◌*◌, ◌/◌, ◌%◌, ◌^◌, ◌==◌, Bool, true, false, ◌&&◌, ◌||◌, nat_le, List, [], ◌∷◌, ◌++◌, length, take, replicate, Option, Some, None, is_some, unwrap_or, Result, Ok, Err, if◌then◌else◌}
 use Rattle.std.specs.List.{flat_map, list_any}
 use Rattle.byteorder.specs.Endian.{big_bytes}
@@ -44,13 +45,16 @@ read_by f lba count (Denied why) = []
 
 abbrev pub has_lock : Facts → ℕ → Bool
 has_lock f range =
-    (read_lock_enabled f.rows range == 1 && read_locked f.rows range == 1) || (write_lock_enabled f.rows range == 1 && write_locked f.rows range == 1)
+    (read_lock_enabled f.rows range == 1 && read_locked f.rows range == 1)
+    || (write_lock_enabled f.rows range == 1 && write_locked f.rows range == 1)
 
--- Bit 0 the drive can lock, bit 1 the Locking SP is Manufactured, bit 2 some range is locked, bit 4 MBR Enable, bit 5 Done.
+-- Bit 0 the drive can lock, bit 1 the Locking SP is Manufactured, bit 2 some range is locked, bit 4
+-- MBR Enable, bit 5 Done.
 abbrev pub locking_flags : Facts → ℕ
 locking_flags f =
     1 + 2 * bit (is_in_use f.rows Locking) + 4 * bit (list_any (has_lock f) all_ranges)
-    + 16 * bit (number f.rows Locking mbr_control mbr_enable_column == 1) + 32 * bit (number f.rows Locking mbr_control mbr_done_column == 1)
+    + 16 * bit (number f.rows Locking mbr_control mbr_enable_column == 1)
+    + 32 * bit (number f.rows Locking mbr_control mbr_done_column == 1)
 
 abbrev pub feature : ℕ → List ℕ → List ℕ
 feature code content = big_bytes 2 code ++ 0x10 ∷ length content ∷ content
@@ -60,10 +64,13 @@ discovery_features f =
     feature 0x0001 (0x11 ∷ replicate 11 0)
     ++ feature 0x0002 (locking_flags f ∷ replicate 11 0)
     ++ feature 0x0003 (replicate 8 0 ++ big_bytes 4 sector_size ++ big_bytes 8 1 ++ big_bytes 8 0)
-    ++ feature 0x0203 (big_bytes 2 0x1000 ++ big_bytes 2 4 ++ 0 ∷ big_bytes 2 ADMINS ++ big_bytes 2 USERS ++ 0 ∷ 0 ∷ replicate 5 0)
+    ++ feature 0x0203 (big_bytes 2 0x1000 ++ big_bytes 2 4 ++ 0 ∷ big_bytes 2 ADMINS
+    ++ big_bytes 2 USERS ++ 0 ∷ 0 ∷ replicate 5 0)
 
 abbrev pub discovery : Facts → List ℕ
-discovery f = big_bytes 4 (44 + length (discovery_features f)) ++ big_bytes 4 1 ++ replicate 40 0 ++ discovery_features f
+discovery f =
+    big_bytes 4 (44 + length (discovery_features f)) ++ big_bytes 4 1 ++ replicate 40 0
+    ++ discovery_features f
 
 -- IDENTIFY DEVICE: 256 words, of which the low byte comes first.
 abbrev pub sectors_word : ℕ → ℕ → ℕ
@@ -87,14 +94,17 @@ run_from first (suc n) = first ∷ run_from (suc first) n
 abbrev pub identity : Facts → List ℕ
 identity f = flat_map (λ word. low_first (identify_word f.sectors word)) (run_from 0 256)
 
--- Log page 10h: bit 7 of byte 0 says that no queued command failed; the last byte makes the sum of all a multiple of 256.
+-- Log page 10h: bit 7 of byte 0 says that no queued command failed; the last byte makes the sum of
+-- all a multiple of 256.
 abbrev pub lba_bytes : ℕ → ℕ → List ℕ
-lba_bytes lba first = lba / 2 ^ first % 256 ∷ lba / 2 ^ (first + 8) % 256 ∷ lba / 2 ^ (first + 16) % 256 ∷ []
+lba_bytes lba first =
+    lba / 2 ^ first % 256 ∷ lba / 2 ^ (first + 8) % 256 ∷ lba / 2 ^ (first + 16) % 256 ∷ []
 
 abbrev pub page_head : Option Failure → List ℕ
 page_head None = 0x80 ∷ []
 page_head (Some failure) =
-    unwrap_or failure.tag 0x80 ∷ 0 ∷ 0x51 ∷ failure.error ∷ lba_bytes failure.lba 0 ++ failure.device ∷ lba_bytes failure.lba 24 ++ 0 ∷ low_first failure.count
+    unwrap_or failure.tag 0x80 ∷ 0 ∷ 0x51 ∷ failure.error ∷ lba_bytes failure.lba 0
+    ++ failure.device ∷ lba_bytes failure.lba 24 ++ 0 ∷ low_first failure.count
 
 abbrev pub total : List ℕ → ℕ
 total [] = 0
@@ -106,15 +116,18 @@ with_sum content = content ++ (256 - total content % 256) % 256 ∷ []
 abbrev pub error_log : Facts → List ℕ
 error_log f = with_sum (sized 511 (page_head f.failure))
 
--- A receive: the response where it fits, else a header that tells its size, or a header alone where none waits.
+-- A receive: the response where it fits, else a header that tells its size, or a header alone where
+-- none waits.
 abbrev pub received_bytes : ℕ → ℕ → Option (List ℕ) → List ℕ
 received_bytes com_id room None = com_packet_header com_id 0 0 0
 received_bytes com_id room (Some response) =
-    if nat_le (length response) room then response else com_packet_header com_id (length response) (length response) 0
+    if nat_le (length response) room
+    then response else com_packet_header com_id (length response) (length response) 0
 
 abbrev pub receive_data : Facts → ℕ → ℕ → List ℕ
 receive_data f com_id room =
-    if com_id == discovery_com_id then sized room (discovery f) else sized room (received_bytes com_id room (f.waiting com_id))
+    if com_id == discovery_com_id
+    then sized room (discovery f) else sized room (received_bytes com_id room (f.waiting com_id))
 
 -- The data block of an unqueued command that is served.
 abbrev pub data_of : Facts → Command → List ℕ
@@ -175,14 +188,34 @@ status_of (Some error) = failed
 -- A register FIS with bit I, the status and the error; its other fields are 0.
 abbrev pub answer_fis : Bool → ℕ → ℕ → Fis
 answer_fis interrupt status error =
-    fises.D2h (record { interrupt = interrupt; port = 0; status = status; error = error; lba = 0; device = 0; count = 0 })
+    fises.D2h (record {
+      interrupt = interrupt;
+      port = 0;
+      status = status;
+      error = error;
+      lba = 0;
+      device = 0;
+      count = 0;
+    })
 
 -- A PIO Setup FIS, one for all blocks.
 abbrev pub pio_fis : Bool → ℕ → Fis
 pio_fis to_host end_status =
-    fises.PioSetup (record { interrupt = to_host; to_host = to_host; port = 0; status = data_requested; error = 0; lba = 0; device = 0; count = 0; end_status = end_status; transfer_count = sector_size })
+    fises.PioSetup (record {
+      interrupt = to_host;
+      to_host = to_host;
+      port = 0;
+      status = data_requested;
+      error = 0;
+      lba = 0;
+      device = 0;
+      count = 0;
+      end_status = end_status;
+      transfer_count = sector_size;
+    })
 
--- The PIO forms: a send has one PIO Setup FIS in front; IDENTIFY, a receive and a log read have it alone.
+-- The PIO forms: a send has one PIO Setup FIS in front; IDENTIFY, a receive and a log read have it
+-- alone.
 abbrev pub served_fises : Command → List Fis
 served_fises (Send protocol com_id blocks false) = pio_fis false busy ∷ answer_fis true ready 0 ∷ []
 served_fises (Receive protocol com_id blocks false) = pio_fis true ready ∷ []
@@ -201,19 +234,39 @@ is_holding _ = false
 abbrev pub accepted_fises : List ℕ → Event → List Fis
 accepted_fises fis event =
     if is_some event.failed then answer_fis true failed (unwrap_or event.failed 0) ∷ []
-    else (if is_holding event.deed then answer_fis false ready 0 ∷ [] else fises_read (reading (h2d_at fis)))
+    else (if is_holding event.deed
+    then answer_fis false ready 0 ∷ [] else fises_read (reading (h2d_at fis)))
 
--- A completion: a DMA Setup FIS with bit D for a read, the tag and the count of bytes, and a Set Device Bits FIS with bit I and the tag's bit of SActive.
+-- A completion: a DMA Setup FIS with bit D for a read, the tag and the count of bytes, and a Set
+-- Device Bits FIS with bit I and the tag's bit of SActive.
 abbrev pub setup_fis : Bool → ℕ → ℕ → Fis
 setup_fis to_host tag count =
-    fises.DmaSetup (record { auto_activate = false; interrupt = false; to_host = to_host; port = 0; buffer_low = tag; buffer_high = 0; offset = 0; count = count })
+    fises.DmaSetup (record {
+      auto_activate = false;
+      interrupt = false;
+      to_host = to_host;
+      port = 0;
+      buffer_low = tag;
+      buffer_high = 0;
+      offset = 0;
+      count = count;
+    })
 
 abbrev pub moved_fis : ℕ → Fis
-moved_fis tag = fises.SetDeviceBits (record { notification = false; interrupt = true; port = 0; status = ready; error = 0; active = 2 ^ tag })
+moved_fis tag =
+    fises.SetDeviceBits (record {
+      notification = false;
+      interrupt = true;
+      port = 0;
+      status = ready;
+      error = 0;
+      active = 2 ^ tag;
+    })
 
 abbrev pub fises_of : ℕ → Command → List Fis
 fises_of tag (ReadQueued lba count) = setup_fis true tag (sector_size * count) ∷ moved_fis tag ∷ []
-fises_of tag (WriteQueued lba count) = setup_fis false tag (sector_size * count) ∷ moved_fis tag ∷ []
+fises_of tag (WriteQueued lba count) =
+    setup_fis false tag (sector_size * count) ∷ moved_fis tag ∷ []
 fises_of tag _ = []
 
 abbrev pub completed_fises : ℕ → Option HeldCommand → List Fis

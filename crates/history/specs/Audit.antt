@@ -1,5 +1,6 @@
--- The audit lines of a list of acts: one for each act that was denied, with its number and its client. The newest comes first.
-use Rattle.std.specs.Prelude.{◌≡◌, ◌⊎◌, ◌↔◌, ◌+◌, ℕ, List, [], ◌∷◌, ◌++◌, length, map, Option, Some, None}
+-- The audit lines of a list of acts: one for each act that was denied, with its number and its
+-- client. The newest comes first.
+use Rattle.std.specs.Prelude.{◌≡◌, ◌↔◌, ◌+◌, ℕ, List, [], ◌∷◌, ◌++◌, length, map, Option, Some, None}
 use Rattle.audit.specs.declared.reason.Why.{Why}
 use Rattle.audit.specs.declared.reason.AuditLine.{AuditLine}
 use Rattle.history.specs.Opening.{Origin}
@@ -25,7 +26,8 @@ line_for step client (Some why) = record { step = step; client = client; why = w
 -- Acts are counted from 1.
 abbrev pub audit : Origin → List ClientAct → List AuditLine
 audit o [] = []
-audit o (c ∷ before) = line_for (length before + 1) c.0 (event_of o c before).denied ++ audit o before
+audit o (c ∷ before) =
+    line_for (length before + 1) c.0 (event_of o c before).denied ++ audit o before
 
 -- The line of a denied act: with its number, its client and what denied it.
 pub record IsLineOf (o : Origin) (made : List ClientAct) (line : AuditLine) : Type 0 where
@@ -39,4 +41,6 @@ pub record IsLineOf (o : Origin) (made : List ClientAct) (line : AuditLine) : Ty
 
 -- The lines are those of the denied acts, and no others.
 abbrev pub AuditLaw : Type 0
-AuditLaw = (o : Origin) (made : List ClientAct) (line : AuditLine) → IsAmong (audit o made) line ↔ IsLineOf o made line
+AuditLaw =
+    (o : Origin) (made : List ClientAct) (line : AuditLine)
+    → IsAmong (audit o made) line ↔ IsLineOf o made line

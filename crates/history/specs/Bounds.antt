@@ -1,7 +1,7 @@
--- What is nowhere, after any acts: cells that no table has, bytes of the shadow past its table, responses on other ComIDs.
-use Rattle.std.specs.Prelude.{◌≡◌, ℕ, ◌+◌, ◌*◌, ◌≤◌, ◌<◌, false, List, length, None, Ok}
+-- What is nowhere, after any acts: cells that no table has, bytes of the shadow past its table,
+-- responses on other ComIDs.
+use Rattle.std.specs.Prelude.{◌≡◌, ℕ, ◌*◌, ◌≤◌, ◌<◌, false, List, None, Ok}
 use Rattle.sp_cells.specs.declared.names.Sp.{Sp}
-use Rattle.sp_cells.specs.declared.names.Sp.TheVariants.{Admin, Locking}
 use Rattle.sp_cells.specs.declared.names.Uid.{Uid}
 use Rattle.sp_cells.specs.declared.names.Column.{Column}
 use Rattle.sp_cells.specs.ColumnNames.{credential_column}
@@ -15,7 +15,8 @@ use Rattle.history.specs.Readers.{factory_rows, in_force, view, byte_in_force, b
 use Rattle.history.specs.Decisions.{is_session_com_id}
 use Rattle.history.specs.History.{Act, log}
 
--- Neither what a drive starts from nor a new drive has a cell there: then there is none after any events.
+-- Neither what a drive starts from nor a new drive has a cell there: then there is none after any
+-- events.
 pub record IsNowhere (o : Origin) (sp : Sp) (object : Uid) (column : Column) : Type 0 where
   pub opened : look_up o.tables sp object column ≡ None
   pub factory : factory_rows o sp object column ≡ None
@@ -26,7 +27,8 @@ pub record HasNone (o : Origin) (past : List Event) (sp : Sp) (object : Uid) (co
 
 abbrev pub CellLaw : Type 0
 CellLaw =
-    (o : Origin) (past : List Event) (sp : Sp) (object : Uid) (column : Column) → IsNowhere o sp object column
+    (o : Origin) (past : List Event) (sp : Sp) (object : Uid) (column : Column)
+    → IsNowhere o sp object column
     → HasNone o past sp object column
 
 -- No opening has a column behind the last one that tables have.

@@ -1,6 +1,6 @@
--- What comes of a call in a session, by the definitions of the crate that does it: its shape, its ACEs, its values, in this order.
--- Over any view and any authorities.
-use Rattle.std.specs.Prelude.{map, ℕ, ◌+◌, ◌-◌, ◌*◌, ◌==◌, ◌||◌, Bool, true, false, nat_le, nat_lt, List, [], ◌∷◌, Option, Some, None, if◌then◌else◌}
+-- What comes of a call in a session, by the definitions of the crate that does it: its shape, its
+-- ACEs, its values, in this order. Over any view and any authorities.
+use Rattle.std.specs.Prelude.{ℕ, ◌+◌, ◌-◌, ◌*◌, ◌==◌, ◌||◌, Bool, true, false, nat_le, nat_lt, List, [], ◌∷◌, map, Option, Some, None, if◌then◌else◌}
 use Rattle.sp_cells.specs.declared.names.Uid.{Uid}
 use Rattle.sp_cells.specs.declared.names.Sp.{Sp}
 use Rattle.sp_cells.specs.declared.error.SetError.{SetError}
@@ -20,13 +20,14 @@ use Rattle.call_shapes.specs.Asks.{ask_of}
 use Rattle.call_shapes.specs.Statuses.{success, not_authorized, invalid_parameter, response_overflow, fail}
 use Rattle.methods.specs.Kinds.{kind_of}
 use Rattle.methods.specs.Grants.{denied}
-use Rattle.methods.specs.Listed.{cell_value, listed}
+use Rattle.methods.specs.Listed.{listed, cell_value}
 use Rattle.methods.specs.Settings.{Setting, cells_set, bytes_set, setting}
 use Rattle.methods.specs.Said.{reply_of, most_response}
-use Rattle.methods.specs.Effects.{cased, last_row, sp_of_row, unless_fault}
+use Rattle.methods.specs.Effects.{ask_at, last_row, sp_of_row, unless_fault}
 
--- What the rules ask of a session: the drive's sectors, those of its shadow, the rows and the shadow's bytes in its view,
--- its SP, the authorities that it holds, and whether it has a transaction open.
+-- What the rules ask of a session: the drive's sectors, those of its shadow, the rows and the
+-- shadow's bytes in its view, its SP, the authorities that it holds, and whether it has a
+-- transaction open.
 pub record Standing : Type 0 where
   pub sectors : ℕ
   pub mbr_sectors : ℕ
@@ -55,7 +56,8 @@ denial s object method ask = denied s.rows s.sp object method s.held ask
 -- Results, where the response is not too long.
 abbrev pub gives : List Tree → Judgement
 gives results =
-    if nat_lt most_response (len_of (reply_of results success)) then Refuses response_overflow None else Gives results
+    if nat_lt most_response (len_of (reply_of results success))
+    then Refuses response_overflow None else Gives results
 
 -- What a Get of columns gives: those that are listed, with their values.
 abbrev pub listing : Standing → Uid → ℕ → ℕ → List Tree
@@ -71,11 +73,13 @@ bytes_between s first last = bytes (bytes_from s.byte first (last + 1 - first)) 
 
 abbrev pub rows_given : Standing → ℕ → ℕ → Judgement
 rows_given s first last =
-    if (table_size s == 0) || (nat_le (table_size s) last || nat_lt last first) then Refuses invalid_parameter None
+    if (table_size s == 0) || (nat_le (table_size s) last || nat_lt last first)
+    then Refuses invalid_parameter None
     else (if nat_lt most_response (last + 1 - first) then Refuses response_overflow None
     else gives (bytes_between s first last))
 
--- Why what a Set sets is not set, by the rows as the session sees them. Tries are no cells that a change names.
+-- Why what a Set sets is not set, by the rows as the session sees them. Tries are no cells that a
+-- change names.
 abbrev pub fault_by : ℕ → LookUp → Sp → Setting → Option SetError
 fault_by sectors look sp (cells_set object cells) =
     if names_tries object cells then Some faults.NoCell else fault_seen sectors look sp object cells
@@ -110,7 +114,7 @@ does_ask s object Revert = unless_open s.is_open (Reverts (sp_of_row object))
 does_ask s object Other = Refuses fail None
 
 abbrev pub does : Standing → Uid → Ask → Judgement
-does s object ask = does_ask s object (cased (kind_of s.sp object) ask)
+does s object ask = does_ask s object (ask_at s.sp object ask)
 
 abbrev pub unless_denied : Option Why → Judgement → Judgement
 unless_denied None judgement = judgement

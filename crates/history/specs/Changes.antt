@@ -1,4 +1,5 @@
--- What comes into force: changes of the rows of one SP and of the shadow's bytes. A change makes rows of rows, and no new cell.
+-- What comes into force: changes of the rows of one SP and of the shadow's bytes. A change makes
+-- rows of rows, and no new cell.
 use Rattle.std.specs.Prelude.{ℕ, ◌+◌, List, [], ◌∷◌, option_map, if◌then◌else◌}
 use Rattle.sp_cells.specs.declared.names.TheConstants.{RANGES}
 use Rattle.sp_cells.specs.declared.names.Uid.{Uid}
@@ -17,11 +18,13 @@ pub data Change : Type 0 where
   -- the locks and the shadow that a reset of this kind sets
   Resets : (kind : ℕ) → Change
 
--- ReadLocked and WriteLocked of each range whose LockOnReset has the kind are set, and Done is cleared where DoneOnReset has it.
+-- ReadLocked and WriteLocked of each range whose LockOnReset has the kind are set, and Done is
+-- cleared where DoneOnReset has it.
 abbrev pub reset_rows : ℕ → RowLook → RowLook
 reset_rows kind rows = done_seen kind (locks_seen (RANGES + 1) kind rows)
 
--- The rows after a change, and after changes of which the newest comes first; `factory` has the rows of a new drive.
+-- The rows after a change, and after changes of which the newest comes first; `factory` has the
+-- rows of a new drive.
 abbrev pub apply : RowLook → Change → RowLook → RowLook
 apply factory (Sets (cells_set object cells)) rows = puts_in object cells rows
 apply factory (Sets (bytes_set at bytes)) rows = rows
@@ -46,4 +49,5 @@ byte_in (c ∷ cs) place = byte_then c (byte_in cs place) place
 -- Tries stand apart: a C_PIN row shows as many as these, whatever the rows have there.
 abbrev pub with_tries : (Uid → ℕ) → RowLook → RowLook
 with_tries tries rows object column =
-    if is_tries object column then option_map (λ _. Number (tries object)) (rows object column) else rows object column
+    if is_tries object column
+    then option_map (λ _. Number (tries object)) (rows object column) else rows object column

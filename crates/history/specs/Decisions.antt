@@ -1,4 +1,5 @@
--- [drive] What an act does, by the facts (ACS-3, NCQ and trusted computing feature sets; Core 2.01, chapter 3). The order of the rules stands here once.
+-- What an act does, by the facts (ACS-3, NCQ and trusted computing feature sets; Core 2.01, chapter
+-- 3). The order of the rules stands here once.
 use Rattle.std.specs.Prelude.{ℕ, zero, suc, ◌+◌, ◌*◌, ◌==◌, Bool, true, false, not, ◌&&◌, ◌||◌, nat_le, nat_lt, List, [], length, slice_index, Option, Some, None, is_some, Result, Ok, Err, if◌then◌else◌}
 use Rattle.fis.specs.Types.{h2d_type}
 use Rattle.fis.specs.Tags.{slot_count}
@@ -49,7 +50,8 @@ use Rattle.history.specs.Calls.{Judgement, Refuses, Gives, Makes, Attempts, Acti
 use Rattle.history.specs.Events.{SessionDeed, Unchanged, Started, Tried, Changed, Began, Committed, Aborted, Ended, Activated, Reverted, HeldCommand, Failure, Held, Completed, CompletedWrite, QueueFailed, QueueMended, Deed, Nothing, InSession, OfQueue, Wrote, Took, Event, did}
 use Rattle.history.specs.Facts.{Facts, live, session_named, has_open, standing}
 
--- The Error field of a command that is aborted or denied, and of one whose sectors are not all on the drive (ACS-3, ABRT and IDNF).
+-- The Error field of a command that is aborted or denied, and of one whose sectors are not all on
+-- the drive (ACS-3, ABRT and IDNF).
 abbrev pub aborted : ℕ
 aborted = 0x04
 
@@ -63,11 +65,16 @@ abbrev pub refuses : Event
 refuses = fails aborted None
 
 abbrev pub failure_by : Option ℕ → ℕ → RegH2d → Failure
-failure_by tag error h = record { tag = tag; error = error; lba = h.lba; device = h.device; count = h.count }
+failure_by tag error h =
+    record { tag = tag; error = error; lba = h.lba; device = h.device; count = h.count }
 
 -- The queue fails with the command of a FIS: its error, and what denied it.
 abbrev pub fails_queue : Option ℕ → ℕ → RegH2d → Option Why → Event
-fails_queue tag error h denied = record { failed = Some error; deed = OfQueue (QueueFailed (failure_by tag error h)); denied = denied }
+fails_queue tag error h denied = record {
+  failed = Some error;
+  deed = OfQueue (QueueFailed (failure_by tag error h));
+  denied = denied;
+}
 
 -- Transfers. The addresses come before the policy.
 
@@ -91,13 +98,17 @@ queued_by h tag command Shadow = holds tag command Shadow
 
 abbrev pub queued_transfer : Facts → RegH2d → ℕ → Command → Op → ℕ → ℕ → Event
 queued_transfer f h tag command op lba count =
-    if on_drive f lba count then queued_by h tag command (verdict_on f op lba count) else fails_queue (Some tag) not_found h None
+    if on_drive f lba count
+    then queued_by h tag command (verdict_on f op lba count)
+    else fails_queue (Some tag) not_found h None
 
 -- A tag that is held fails the queue.
 abbrev pub admitted : Facts → RegH2d → ℕ → Command → Bool → Event
 admitted f h tag command true = fails_queue (Some tag) aborted h None
-admitted f h tag (ReadQueued lba count) false = queued_transfer f h tag (ReadQueued lba count) Read lba count
-admitted f h tag (WriteQueued lba count) false = queued_transfer f h tag (WriteQueued lba count) Write lba count
+admitted f h tag (ReadQueued lba count) false =
+    queued_transfer f h tag (ReadQueued lba count) Read lba count
+admitted f h tag (WriteQueued lba count) false =
+    queued_transfer f h tag (WriteQueued lba count) Write lba count
 admitted f h tag _ false = refuses
 
 -- A transfer that is not queued is executed whole: a write moves its data here.
@@ -108,7 +119,8 @@ unqueued_by deed Shadow = did deed
 
 abbrev pub unqueued_transfer : Facts → Deed → Op → ℕ → ℕ → Event
 unqueued_transfer f deed op lba count =
-    if on_drive f lba count then unqueued_by deed (verdict_on f op lba count) else fails not_found None
+    if on_drive f lba count
+    then unqueued_by deed (verdict_on f op lba count) else fails not_found None
 
 -- Items. What one does and is answered, and what denied it.
 
@@ -126,11 +138,15 @@ refusal status = reply_of [] status
 abbrev pub answers : ℕ → Session → Outcome → Event
 answers com_id session outcome = record {
   failed = None;
-  deed = InSession outcome.deed (record { com_id = com_id; bytes = frame_bytes com_id session (item_spelling_of outcome.said) });
+  deed = InSession outcome.deed (record {
+    com_id = com_id;
+    bytes = frame_bytes com_id session (item_spelling_of outcome.said);
+  });
   denied = outcome.denied;
 }
 
--- Attempts. They go by the rows in force, never by an open transaction's; a right one gains the authority and its class.
+-- Attempts. They go by the rows in force, never by an open transaction's; a right one gains the
+-- authority and its class.
 
 abbrev pub gains_of : Facts → Sp → Uid → Option AttemptFailure → List Uid
 gains_of f sp authority None = gained f.rows sp authority []
@@ -138,7 +154,13 @@ gains_of f sp authority (Some failure) = []
 
 abbrev pub tried : Facts → Sp → Uid → Option AttemptFailure → List Uid → SessionDeed
 tried f sp authority failure gains =
-    Tried (record { sp = sp; authority = authority; row = credential f.rows sp authority; failure = failure; gained = gains })
+    Tried (record {
+      sp = sp;
+      authority = authority;
+      row = credential f.rows sp authority;
+      failure = failure;
+      gained = gains;
+    })
 
 abbrev pub tried_in : Facts → Sp → Uid → Option AttemptFailure → Outcome
 tried_in f sp authority failure = record {
@@ -164,7 +186,8 @@ start_verdict f opening = verdict f.rows (live f) opening
 
 abbrev pub deed_of_start : Facts → ℕ → Opening → StartVerdict → SessionDeed
 deed_of_start f com_id opening (Refused status) = Unchanged
-deed_of_start f com_id opening (Attempted sp (Some failure)) = tried f sp opening.authority (Some failure) []
+deed_of_start f com_id opening (Attempted sp (Some failure)) =
+    tried f sp opening.authority (Some failure) []
 deed_of_start f com_id opening (Attempted sp None) =
     Started (begun f com_id opening sp) (credential f.rows sp opening.authority)
 
@@ -192,7 +215,8 @@ called_manager f com_id object method args =
     else says Unchanged (refusal fail))
 
 abbrev pub to_manager : Facts → ℕ → Result Message TokenError → Outcome
-to_manager f com_id (Ok (call object method args status)) = called_manager f com_id (uid_of object) (uid_of method) (values_of args)
+to_manager f com_id (Ok (call object method args status)) =
+    called_manager f com_id (uid_of object) (uid_of method) (values_of args)
 to_manager f com_id _ = says Unchanged (refusal fail)
 
 -- A session.
@@ -206,15 +230,18 @@ activates f =
 
 -- What a judgement does, and how it is answered. Attempts go by the rows in force.
 abbrev pub outcome_of : Facts → Sp → Judgement → Outcome
-outcome_of f sp (Refuses status denied) = record { deed = Unchanged; said = refusal status; denied = denied }
+outcome_of f sp (Refuses status denied) =
+    record { deed = Unchanged; said = refusal status; denied = denied }
 outcome_of f sp (Gives results) = says Unchanged (reply_of results success)
 outcome_of f sp (Makes setting) = says (Changed sp (Sets setting)) done
-outcome_of f sp (Attempts authority pin) = tried_in f sp authority (failure_of f.rows sp authority pin)
+outcome_of f sp (Attempts authority pin) =
+    tried_in f sp authority (failure_of f.rows sp authority pin)
 outcome_of f sp Activates = activates f
 outcome_of f sp (Reverts reverted) = says (Reverted reverted (is_in_use f.rows Locking)) done
 
 abbrev pub judgement_on : Facts → Begun → Uid → Uid → Trees → Judgement
-judgement_on f session object method args = judged (standing f session) object method (asked session.sp object method args)
+judgement_on f session object method args =
+    judged (standing f session) object method (asked session.sp object method args)
 
 -- A transaction on an SP is opened where none is open, and closed where the session has one open.
 abbrev pub begins_on : Sp → ℕ → Option ℕ → Outcome
@@ -256,11 +283,13 @@ is_manager session = session.tsn == 0 && session.hsn == 0
 -- An item for no live session is taken, and leaves no response.
 abbrev pub to_session : Facts → ℕ → Session → List ℕ → Option Begun → Event
 to_session f com_id named payload None = did Nothing
-to_session f com_id named payload (Some session) = answers com_id named (in_session f session (message_in payload))
+to_session f com_id named payload (Some session) =
+    answers com_id named (in_session f session (message_in payload))
 
 abbrev pub framed : Facts → ℕ → Frame → Event
 framed f com_id frame =
-    if is_manager frame.session then answers com_id frame.session (to_manager f com_id (message_in frame.payload))
+    if is_manager frame.session
+    then answers com_id frame.session (to_manager f com_id (message_in frame.payload))
     else to_session f com_id frame.session frame.payload (session_named f com_id frame.session)
 
 -- A frame that is none, or that names another ComID, is taken likewise.
@@ -271,16 +300,19 @@ sent f com_id (Ok frame) = if frame.com_id == com_id then framed f com_id frame 
 -- A send while a response waits is aborted.
 abbrev pub send : Facts → ℕ → ℕ → ℕ → List ℕ → Event
 send f protocol com_id blocks payload =
-    if is_trusted protocol blocks && is_session_com_id com_id && not (is_some (f.waiting com_id)) then sent f com_id (frame_in payload) else refuses
+    if is_trusted protocol blocks && is_session_com_id com_id && not (is_some (f.waiting com_id))
+    then sent f com_id (frame_in payload) else refuses
 
 -- The waiting response is taken where the transfer has room for it.
 abbrev pub received : ℕ → ℕ → Option (List ℕ) → Event
 received com_id blocks None = did Nothing
-received com_id blocks (Some response) = if nat_le (length response) (sector_size * blocks) then did (Took com_id) else did Nothing
+received com_id blocks (Some response) =
+    if nat_le (length response) (sector_size * blocks) then did (Took com_id) else did Nothing
 
 abbrev pub receive : Facts → ℕ → ℕ → ℕ → Event
 receive f protocol com_id blocks =
-    if is_trusted protocol blocks && (is_session_com_id com_id || com_id == discovery_com_id) then received com_id blocks (f.waiting com_id) else refuses
+    if is_trusted protocol blocks && (is_session_com_id com_id || com_id == discovery_com_id)
+    then received com_id blocks (f.waiting com_id) else refuses
 
 -- Commands.
 
@@ -295,9 +327,11 @@ unqueued f payload Flush = did Nothing
 unqueued f payload (ReadQueued lba count) = refuses
 unqueued f payload (WriteQueued lba count) = refuses
 
--- A command that the mixing of queues does not refuse. A queued one whose FIS has a fault fails the queue.
+-- A command that the mixing of queues does not refuse. A queued one whose FIS has a fault fails the
+-- queue.
 abbrev pub known : Facts → RegH2d → List ℕ → Result (Command × Option ℕ) CommandError → Event
-known f h payload (Err e) = if is_queued h.command then fails_queue (Some (tag_of h)) aborted h None else refuses
+known f h payload (Err e) =
+    if is_queued h.command then fails_queue (Some (tag_of h)) aborted h None else refuses
 known f h payload (Ok (command, Some tag)) = admitted f h tag command (is_some (f.held tag))
 known f h payload (Ok (command, None)) = unqueued f payload command
 
@@ -323,7 +357,8 @@ commanded f h payload =
     else known f h payload (reading h)))
 
 abbrev pub accepted : Facts → List ℕ → List ℕ → Event
-accepted f fis payload = if slice_index fis 0 == h2d_type then commanded f (h2d_at fis) payload else refuses
+accepted f fis payload =
+    if slice_index fis 0 == h2d_type then commanded f (h2d_at fis) payload else refuses
 
 -- A completion moves the data of what is held.
 abbrev pub completed_by : ℕ → List ℕ → Command → Event

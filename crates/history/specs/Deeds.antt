@@ -1,4 +1,5 @@
--- Which deed an item can do after a past: a law over every act. And with it, when no transaction can be open.
+-- Which deed an item can do after a past: a law over every act. And with it, when no transaction
+-- can be open.
 use Rattle.std.specs.Prelude.{◌≡◌, ◌==◌, ℕ, Bool, true, false, List, ◌∷◌, Option, Some, None}
 use Rattle.sp_cells.specs.declared.names.Sp.{Sp}
 use Rattle.sp_cells.specs.declared.names.Sp.TheVariants.{Admin, Locking}
@@ -49,7 +50,8 @@ is_of_row object (Sets (bytes_set at bytes)) = true
 is_of_row object Restores = false
 is_of_row object (Resets kind) = false
 
--- Bytes of the shadow are set by sessions of the Locking SP alone, within its table of so many sectors.
+-- Bytes of the shadow are set by sessions of the Locking SP alone, within its table of so many
+-- sectors.
 abbrev pub is_inside : ℕ → Sp → Change → Bool
 is_inside mbr_sectors Locking (Sets (bytes_set at content)) = is_within mbr_sectors at content
 is_inside mbr_sectors Admin (Sets (bytes_set at content)) = false
@@ -77,7 +79,9 @@ CanDo o past (Activated pin) = IsOutside past × (is_in_use (in_force o past) Lo
 CanDo o past (Reverted sp wipes) = IsOutside past
 
 abbrev pub DeedLaw : Type 0
-DeedLaw = (o : Origin) (past : List Event) (act : Act) (deed : SessionDeed) (response : Response) → (event o past act).deed ≡ InSession deed response → CanDo o past deed
+DeedLaw =
+    (o : Origin) (past : List Event) (act : Act) (deed : SessionDeed) (response : Response)
+    → (event o past act).deed ≡ InSession deed response → CanDo o past deed
 
 -- An open transaction is that of the live session of its SP.
 abbrev pub OwnerLaw : Type 0
@@ -87,16 +91,23 @@ OwnerLaw =
 
 -- While a session of the Locking SP lives, the SP is Manufactured.
 abbrev pub LifeLaw : Type 0
-LifeLaw = (o : Origin) (acts : List Act) (session : Begun) → session_on (log o acts) Locking ≡ Some session → is_in_use (in_force o (log o acts)) Locking ≡ true
+LifeLaw =
+    (o : Origin) (acts : List Act) (session : Begun)
+    → session_on (log o acts) Locking ≡ Some session
+    → is_in_use (in_force o (log o acts)) Locking ≡ true
 
 -- At an Activate that takes effect no transaction is open.
 abbrev pub ActivateLaw : Type 0
 ActivateLaw =
-    (o : Origin) (acts : List Act) (act : Act) (pin : Option Cell) (response : Response) → (event o (log o acts) act).deed ≡ InSession (Activated pin) response
+    (o : Origin) (acts : List Act) (act : Act) (pin : Option Cell) (response : Response)
+    → (event o (log o acts) act).deed ≡ InSession (Activated pin) response
     → (sp : Sp) → open_on (log o acts) sp ≡ None
 
--- At a Revert none is open on the Admin SP: so none but that of a session of the Locking SP, which the Revert ends.
+-- At a Revert none is open on the Admin SP: so none but that of a session of the Locking SP, which
+-- the Revert ends.
 abbrev pub RevertLaw : Type 0
 RevertLaw =
-    (o : Origin) (acts : List Act) (act : Act) (sp : Sp) (wipes : Bool) (response : Response) → (event o (log o acts) act).deed ≡ InSession (Reverted sp wipes) response
-    → (open_on (log o acts) Admin ≡ None) × (session_on (event o (log o acts) act ∷ log o acts) Locking ≡ None)
+    (o : Origin) (acts : List Act) (act : Act) (sp : Sp) (wipes : Bool) (response : Response)
+    → (event o (log o acts) act).deed ≡ InSession (Reverted sp wipes) response
+    → (open_on (log o acts) Admin ≡ None)
+    × (session_on (event o (log o acts) act ∷ log o acts) Locking ≡ None)

@@ -53,7 +53,7 @@ pub record TransferDenied (f : Facts) (act : Act) (why : Why) : Type 0 where
   pub on_drive : on_drive f lba count ≡ true
   pub verdict : verdict_on f op lba count ≡ Denied why
 
--- A call of the right shape that its entries deny.
+-- A call of the right shape that its ACEs deny.
 pub record MethodDenied (f : Facts) (act : Act) (why : Why) : Type 0 where
   pub session : Begun
   pub object : List ℕ
@@ -99,8 +99,10 @@ pub record StartDenied (f : Facts) (act : Act) (why : Why) : Type 0 where
   pub why_is : why ≡ AttemptFailed sp opening.authority failure
 
 abbrev pub IsDenied : Facts → Act → Why → Type 0
-IsDenied f act why = TransferDenied f act why ⊎ MethodDenied f act why ⊎ AttemptDenied f act why ⊎ StartDenied f act why
+IsDenied f act why =
+    TransferDenied f act why ⊎ MethodDenied f act why ⊎ AttemptDenied f act why ⊎ StartDenied f act why
 
 -- Exactly where it was denied for this reason; the left side has one reason at most.
 abbrev pub DenialLaw : Type 0
-DenialLaw = (f : Facts) (act : Act) (why : Why) → ((event_by f act).denied ≡ Some why) ↔ IsDenied f act why
+DenialLaw =
+    (f : Facts) (act : Act) (why : Why) → ((event_by f act).denied ≡ Some why) ↔ IsDenied f act why

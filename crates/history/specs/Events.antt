@@ -1,5 +1,6 @@
--- [drive] What an act turned out to do, and the words by which a list of events is read. The newest event comes first.
--- A deed names its SP, and records what it did: the session as it began, the PIN that an Activate copied, whether media were wiped, the bytes of a response.
+-- What an act turned out to do, and the words by which a list of events is read. The newest event
+-- comes first. A deed names its SP, and records what it did: the session as it began, the PIN that
+-- an Activate copied, whether media were wiped, the bytes of a response.
 use Rattle.std.specs.Prelude.{ℕ, ◌+◌, Bool, List, [], ◌∷◌, ◌++◌, Option, Some, None, option_to_list, if◌then◌else◌}
 use Rattle.sp_cells.specs.declared.names.Uid.{Uid}
 use Rattle.sp_cells.specs.declared.names.Sp.{Sp}
@@ -11,8 +12,8 @@ use Rattle.locking.specs.declared.ranges.Verdict.{Verdict}
 use Rattle.history.specs.Changes.{Change}
 use Rattle.history.specs.Sessions.{Begun}
 
--- An attempt that began no session: on an authority of an SP whose C_PIN row is `row`. A right one, which has no failure, was made in a
--- session, which gained these authorities.
+-- An attempt that began no session: on an authority of an SP whose C_PIN row is `row`. A right one,
+-- which has no failure, was made in a session, which gained these authorities.
 pub record Attempt : Type 0 where
   pub sp : Sp
   pub authority : Uid
@@ -43,7 +44,8 @@ pub record HeldCommand : Type 0 where
   pub command : Command
   pub verdict : Verdict
 
--- What log page 10h will tell of the command that failed the queue: its tag where it is queued, the error, and fields of its FIS.
+-- What log page 10h will tell of the command that failed the queue: its tag where it is queued, the
+-- error, and fields of its FIS.
 pub record Failure : Type 0 where
   pub tag : Option ℕ
   pub error : ℕ

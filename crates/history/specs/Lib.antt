@@ -17,3 +17,5 @@ pub mod DenialLaws
 pub mod TransferLaws
 pub mod Agreement
 pub mod Bounds
+pub mod CallsAgree
+pub mod SessionsAgree

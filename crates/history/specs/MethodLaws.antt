@@ -1,4 +1,4 @@
--- A method takes effect, and a column is listed, exactly where an access entry that names it holds of the session's authorities in its view.
+-- A method takes effect exactly where it is granted to the session's authorities in its view.
 use Rattle.std.specs.Prelude.{◌≡◌, ◌⊎◌, ℕ, ◌≤◌, ◌==◌, ◌↔◌, ◌&&◌, Bool, true, false, not, is_some, slice_index, List, [], ◌∷◌, Option, Some, None, Ok}
 use Rattle.fis.specs.Types.{h2d_type}
 use Rattle.fis.specs.H2d.{h2d_at}
@@ -19,26 +19,17 @@ use Rattle.call_shapes.specs.Asks.{uid_of}
 use Rattle.call_shapes.specs.Statuses.{not_authorized}
 use Rattle.history.specs.Sessions.{Begun}
 use Rattle.call_shapes.specs.declared.ask.Ask.{Ask}
-use Rattle.methods.specs.Kinds.{kind_of}
-use Rattle.methods.specs.Columns.{columns_of}
-use Rattle.methods.specs.Grants.{wanted}
-use Rattle.methods.specs.Listed.{listed}
+use Rattle.methods.specs.Laws.{IsGranted as IsGrantedBy}
 use Rattle.call_shapes.specs.CellValues.{cell_tree}
 use Rattle.sp_cells.specs.declared.names.Column.{Column}
 use Rattle.history.specs.Calls.{Standing, Judgement, Refuses, Gives, Makes, Attempts, Activates, Reverts, asked, does, judged}
 use Rattle.history.specs.Facts.{Facts, session_named, standing}
-use Rattle.methods.specs.Laws.{EachHasAce as each_has_ace}
 use Rattle.history.specs.Decisions.{answers, is_trusted, is_session_com_id, is_manager, is_busy, outcome_of, judgement_on}
 use Rattle.history.specs.History.{Act, Accept, event_by}
 
--- Each of these columns, or with none asked for the method, has an ACE: one that names it, and whose expression is the writing of a tree
--- that is true of the authorities.
-abbrev pub EachHasAce : Standing → Uid → Uid → List (Option Column) → Type 0
-EachHasAce s object method columns = each_has_ace s.rows s.sp object method s.held columns
-
--- A Set of columns wants an ACE for each, any other call one that holds.
+-- Each column for which a call wants an ACE has one, of those that the standing has.
 abbrev pub IsGranted : Standing → Uid → Uid → Ask → Type 0
-IsGranted s object method ask = EachHasAce s object method (wanted ask)
+IsGranted s object method ask = IsGrantedBy s.rows s.sp object method s.held ask
 
 abbrev pub takes_effect : Judgement → Bool
 takes_effect (Refuses status denied) = false
@@ -48,17 +39,21 @@ takes_effect (Attempts authority pin) = true
 takes_effect Activates = true
 takes_effect (Reverts sp) = true
 
--- Of a call of the right shape: with valid values it takes effect exactly where it is granted, and then it is what the ask comes to; where it is
--- not granted, it is refused with a reason.
+-- Of a call of the right shape: with valid values it takes effect exactly where it is granted, and
+-- then it is what the ask comes to; where it is not granted, it is refused with a reason.
 pub record IsJudgedByAces (s : Standing) (object method : Uid) (ask : Ask) : Type 0 where
-  pub effect : takes_effect (does s object ask) ≡ true → (takes_effect (judged s object method (Some ask)) ≡ true) ↔ IsGranted s object method ask
-  pub granted : IsGranted s object method ask → judged s object method (Some ask) ≡ does s object ask
-  pub denied : (IsGranted s object method ask → ⊥) → (why : Why) × (judged s object method (Some ask) ≡ Refuses not_authorized (Some why))
+  pub effect : takes_effect (does s object ask) ≡ true
+      → (takes_effect (judged s object method (Some ask)) ≡ true) ↔ IsGranted s object method ask
+  pub granted : IsGranted s object method ask
+      → judged s object method (Some ask) ≡ does s object ask
+  pub denied : (IsGranted s object method ask → ⊥)
+      → (why : Why) × (judged s object method (Some ask) ≡ Refuses not_authorized (Some why))
 
 abbrev pub GrantLaw : Type 0
 GrantLaw = (s : Standing) (object method : Uid) (ask : Ask) → IsJudgedByAces s object method ask
 
--- An accepted FIS whose command is looked at: it is one, the queue has not failed, and a command that is not queued stands beside no held one.
+-- An accepted FIS whose command is looked at: it is one, the queue has not failed, and a command
+-- that is not queued stands beside no held one.
 pub record IsLookedAt (f : Facts) (act : Act) (command : Command) (tag : Option ℕ) : Type 0 where
   pub fis : List ℕ
   pub payload : List ℕ
@@ -92,12 +87,21 @@ pub record IsCall (f : Facts) (act : Act) (session : Begun) (object method : Lis
 -- What is judged of it decides what it does and how it is answered.
 abbrev pub CallLaw : Type 0
 CallLaw =
-    (f : Facts) (act : Act) (session : Begun) (object method : List ℕ) (args : Trees) (c : IsCall f act session object method args)
-    → event_by f act ≡ answers c.com_id c.frame.session (outcome_of f session.sp (judgement_on f session (uid_of object) (uid_of method) args))
+    (f : Facts) (act : Act) (session : Begun) (object method : List ℕ) (args : Trees)
+    (c : IsCall f act session object method args)
+    → event_by f act
+    ≡ answers c.com_id c.frame.session
+    (outcome_of f session.sp (judgement_on f session (uid_of object) (uid_of method) args))
 
--- And so, act by act: of a call of the right shape with valid values, the act does and answers what its ask comes to exactly where it is granted.
+-- And so, act by act: of a call of the right shape with valid values, the act does and answers what
+-- its ask comes to exactly where it is granted.
 abbrev pub EffectLaw : Type 0
 EffectLaw =
-    (f : Facts) (act : Act) (session : Begun) (object method : List ℕ) (args : Trees) (c : IsCall f act session object method args) (ask : Ask)
-    → asked session.sp (uid_of object) (uid_of method) args ≡ Some ask → takes_effect (does (standing f session) (uid_of object) ask) ≡ true
-    → (event_by f act ≡ answers c.com_id c.frame.session (outcome_of f session.sp (does (standing f session) (uid_of object) ask))) ↔ IsGranted (standing f session) (uid_of object) (uid_of method) ask
+    (f : Facts) (act : Act) (session : Begun) (object method : List ℕ) (args : Trees)
+    (c : IsCall f act session object method args) (ask : Ask)
+    → asked session.sp (uid_of object) (uid_of method) args ≡ Some ask
+    → takes_effect (does (standing f session) (uid_of object) ask) ≡ true
+    → (event_by f act
+    ≡ answers c.com_id c.frame.session
+    (outcome_of f session.sp (does (standing f session) (uid_of object) ask)))
+    ↔ IsGranted (standing f session) (uid_of object) (uid_of method) ask

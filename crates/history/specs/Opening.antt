@@ -27,7 +27,8 @@ ranges_of tables = ranges_in tables.config.mbr_sectors (look_up tables)
 abbrev pub factory_origin : Config → Origin
 factory_origin config = record { tables = factory_contents config }
 
--- After an Activate the Locking SP is Manufactured, and the PIN of its Admin1 is the MSID (Opal SSC, Activate).
+-- After an Activate the Locking SP is Manufactured, and the PIN of its Admin1 is the MSID (Opal
+-- SSC, Activate).
 abbrev pub life_cycle : List (Column × Cell)
 life_cycle = (life_cycle_state_column, Number manufactured) ∷ []
 
@@ -48,7 +49,8 @@ abbrev pub flag : Bool → Cell
 flag true = Number 1
 flag false = Number 0
 
--- RangeStart, RangeLength, ReadLockEnabled, WriteLockEnabled, ReadLocked, WriteLocked (Opal SSC, Locking table).
+-- RangeStart, RangeLength, ReadLockEnabled, WriteLockEnabled, ReadLocked, WriteLocked (Opal SSC,
+-- Locking table).
 abbrev pub changes_of : RangeRow → List (Column × Cell)
 changes_of row =
     (range_start_column, Number row.start) ∷ (range_length_column, Number row.length)
@@ -89,5 +91,6 @@ ActivationLaw =
 -- A row behind others is set where it has no fault, and else decides.
 abbrev pub RowLaw : Type 0
 RowLaw =
-    (config : Config) (rows : List RangeRow) (row : RangeRow) (o : Origin) → origin_with config rows ≡ Ok o
+    (config : Config) (rows : List RangeRow) (row : RangeRow) (o : Origin)
+    → origin_with config rows ≡ Ok o
     → origin_with config (rows ++ row ∷ []) ≡ unless (row_fault o row) (Ok (with_range row o))

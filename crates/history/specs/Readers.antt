@@ -1,5 +1,6 @@
--- [drive] What is read off a list of events: sessions, transactions, changes in force, Tries, media, the queue, waiting responses. By SP, as
--- an SP has one session at a time. The newest event comes first.
+-- What is read off a list of events: sessions, transactions, changes in force, Tries, media, the
+-- queue, waiting responses. By SP, as an SP has one session at a time. The newest event comes
+-- first.
 use Rattle.std.specs.Prelude.{ℕ, ◌+◌, ◌-◌, ◌*◌, ◌/◌, ◌^◌, ◌==◌, Bool, true, false, ◌&&◌, nat_le, nat_lt, List, [], ◌∷◌, ◌++◌, length, take, drop, Option, Some, None, unwrap_or, if◌then◌else◌}
 use Rattle.std.specs.List.{flat_map}
 use Rattle.sp_cells.specs.declared.names.Uid.{Uid}
@@ -58,7 +59,8 @@ living sp (InSession deed response) = lives_by sp deed
 living sp (WasReset kind) = Some None
 living sp _ = None
 
--- The live session of an SP: the latest that began on it, unless its own end, a Revert of its SP or a reset came since.
+-- The live session of an SP: the latest that began on it, unless its own end, a Revert of its SP or
+-- a reset came since.
 abbrev pub session_on : List Event → Sp → Option Begun
 session_on past sp = unwrap_or (latest (living sp) past) None
 
@@ -80,7 +82,9 @@ gains sp _ = None
 
 -- The authorities of the session of an SP: those that it began with, and those gained since.
 abbrev pub authorities : List Event → Begun → List Uid
-authorities past session = flat_map (λ us. us) (every (gains session.sp) (since (starts session.sp) past)) ++ session.authorities
+authorities past session =
+    flat_map (λ us. us) (every (gains session.sp) (since (starts session.sp) past))
+    ++ session.authorities
 
 -- Transactions.
 
@@ -98,8 +102,8 @@ turns sp (InSession deed response) = turns_by sp deed
 turns sp (WasReset kind) = Some None
 turns sp _ = None
 
--- The session whose transaction is open on an SP. An Activate and a Revert leave none open; that none but those of ended sessions is open
--- there is a law.
+-- The session whose transaction is open on an SP. An Activate and a Revert leave none open; that
+-- none but those of ended sessions is open there is a law.
 abbrev pub open_on : List Event → Sp → Option ℕ
 open_on past sp = unwrap_or (latest (turns sp) past) None
 
@@ -152,14 +156,16 @@ abbrev pub activation : Option Cell → Sp → List Change
 activation pin Admin = state_change manufactured
 activation pin Locking = pin_change pin
 
--- The factory's cells; after a Revert of the Locking SP alone the Admin SP knows it as Manufactured-Inactive.
+-- The factory's cells; after a Revert of the Locking SP alone the Admin SP knows it as
+-- Manufactured-Inactive.
 abbrev pub restoring : Sp → Sp → List Change
 restoring Admin sp = Restores ∷ []
 restoring Locking Locking = Restores ∷ []
 restoring Locking Admin = state_change manufactured_inactive
 
 abbrev pub brought_by : List Event → Sp → SessionDeed → List Change
-brought_by past sp (Changed changed change) = only_on sp changed (unless_open (open_on past sp) change)
+brought_by past sp (Changed changed change) =
+    only_on sp changed (unless_open (open_on past sp) change)
 brought_by past sp (Committed committed) = only_on sp committed (open_changes past sp)
 brought_by past sp (Activated pin) = activation pin sp
 brought_by past sp (Reverted reverted wipes) = restoring reverted sp
@@ -197,8 +203,10 @@ tries_tried (Some Disabled) before = before
 tries_tried (Some Unknown) before = before
 
 abbrev pub tries_by : Sp → Uid → SessionDeed → ℕ → ℕ
-tries_by sp row (Started session its_row) before = if same_row session.sp its_row sp row then 0 else before
-tries_by sp row (Tried attempt) before = if same_row attempt.sp attempt.row sp row then tries_tried attempt.failure before else before
+tries_by sp row (Started session its_row) before =
+    if same_row session.sp its_row sp row then 0 else before
+tries_by sp row (Tried attempt) before =
+    if same_row attempt.sp attempt.row sp row then tries_tried attempt.failure before else before
 tries_by sp row (Reverted reverted wipes) before = if restores reverted sp then 0 else before
 tries_by sp row _ before = before
 
@@ -230,7 +238,8 @@ is_of number None = false
 is_of number (Some owner) = owner == number
 
 abbrev pub rows_seen : Origin → List Event → ℕ → Sp → RowLook
-rows_seen o past number sp = if is_of number (open_on past sp) then rows_within o past sp else rows_after o past sp
+rows_seen o past number sp =
+    if is_of number (open_on past sp) then rows_within o past sp else rows_after o past sp
 
 abbrev pub in_force : Origin → List Event → LookUp
 in_force o past sp = with_tries (tries past sp) (rows_after o past sp)
@@ -243,13 +252,17 @@ byte_in_force past place = byte_in (changes past Locking) place
 
 abbrev pub byte_in_view : List Event → ℕ → ℕ → ℕ
 byte_in_view past number place =
-    if is_of number (open_on past Locking) then byte_in (open_changes past Locking ++ changes past Locking) place else byte_in_force past place
+    if is_of number (open_on past Locking)
+    then byte_in (open_changes past Locking ++ changes past Locking) place
+    else byte_in_force past place
 
--- Media: a sector holds what the latest act that moved data over it wrote there; a Revert while the Locking SP was Manufactured makes zeros.
+-- Media: a sector holds what the latest act that moved data over it wrote there; a Revert while the
+-- Locking SP was Manufactured makes zeros.
 
 abbrev pub part_of : ℕ → ℕ → List ℕ → Option (List ℕ)
 part_of place lba bytes =
-    if nat_le lba place && nat_lt place (lba + length bytes / sector_size) then Some (take sector_size (drop (sector_size * (place - lba)) bytes)) else None
+    if nat_le lba place && nat_lt place (lba + length bytes / sector_size)
+    then Some (take sector_size (drop (sector_size * (place - lba)) bytes)) else None
 
 abbrev pub wipes : SessionDeed → Option (List ℕ)
 wipes (Reverted reverted true) = Some zeros
@@ -297,7 +310,8 @@ failure past = unwrap_or (latest failing past) None
 -- Waiting responses, by their ComIDs.
 
 abbrev pub waits : ℕ → Deed → Option (Option (List ℕ))
-waits com_id (InSession deed response) = if response.com_id == com_id then Some (Some response.bytes) else None
+waits com_id (InSession deed response) =
+    if response.com_id == com_id then Some (Some response.bytes) else None
 waits com_id (Took its) = if its == com_id then Some None else None
 waits com_id (WasReset kind) = Some None
 waits com_id _ = None

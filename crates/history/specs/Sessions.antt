@@ -1,4 +1,5 @@
--- A session as the past has it, and the session manager's names (Core 2.01, sections 3.3.7 and 5.2).
+-- A session as the past has it, and the session manager's names (Core 2.01, sections 3.3.7 and
+-- 5.2).
 use Rattle.std.specs.Prelude.{ℕ, ◌+◌, List}
 use Rattle.sp_cells.specs.declared.names.Uid.{Uid}
 use Rattle.sp_cells.specs.declared.names.Sp.{Sp}

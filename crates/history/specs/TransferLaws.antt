@@ -1,4 +1,5 @@
--- Transfers, over every list of acts: the verdict by sectors, what is held, and what comes to the policy.
+-- Transfers, over every list of acts: the verdict by sectors, what is held, and what comes to the
+-- policy.
 use Rattle.std.specs.Prelude.{◌≡◌, ◌⊎◌, ◌↔◌, ℕ, ◌+◌, ◌≤◌, ◌<◌, Bool, true, false, List, ◌∷◌, ◌++◌, Option, Some, None}
 use Rattle.locking.specs.Range.{RangeRows, row_at, is_shadowed}
 use Rattle.locking.specs.Verdict.{AreOpen, ArePermitted, AreShadowed, IsLeastDenied, why_of, shadow_why, verdict_of}
@@ -23,7 +24,8 @@ is_denied Serve = false
 is_denied Shadow = false
 is_denied (Denied why) = true
 
--- No sector is shadowed and the range of each permits the transfer; or it is a read of shadowed sectors alone.
+-- No sector is shadowed and the range of each permits the transfer; or it is a read of shadowed
+-- sectors alone.
 abbrev pub IsPermitted : RangeRows → Op → ℕ → ℕ → Type 0
 IsPermitted ranges op lba count =
     (AreOpen ranges lba (lba + count) × ArePermitted ranges op lba (lba + count))
@@ -51,12 +53,14 @@ IsReason ranges op lba count why =
 -- The verdict serves exactly what is permitted, and a denial has its reason.
 pub record IsBySectors (ranges : RangeRows) (op : Op) (lba count : ℕ) : Type 0 where
   pub served : (is_denied (verdict_of ranges op lba count) ≡ false) ↔ IsPermitted ranges op lba count
-  pub reason : (why : Why) → verdict_of ranges op lba count ≡ Denied why → IsReason ranges op lba count why
+  pub reason : (why : Why) → verdict_of ranges op lba count ≡ Denied why
+      → IsReason ranges op lba count why
 
 abbrev pub VerdictLaw : Type 0
 VerdictLaw = (ranges : RangeRows) (op : Op) (lba count : ℕ) → IsBySectors ranges op lba count
 
--- A held command was accepted at an act of the list, on the drive, with the verdict of the rows in force there, which permitted it.
+-- A held command was accepted at an act of the list, on the drive, with the verdict of the rows in
+-- force there, which permitted it.
 pub record WasAccepted (o : Origin) (acts : List Act) (tag : ℕ) (h : HeldCommand) : Type 0 where
   pub before : List Act
   pub later : List Act
@@ -73,18 +77,26 @@ pub record WasAccepted (o : Origin) (acts : List Act) (tag : ℕ) (h : HeldComma
   pub permitted : IsPermitted (ranges_in_force (facts o (log o before))) op lba count
 
 abbrev pub HeldLaw : Type 0
-HeldLaw = (o : Origin) (acts : List Act) (tag : ℕ) (h : HeldCommand) → held (log o acts) tag ≡ Some h → WasAccepted o acts tag h
+HeldLaw =
+    (o : Origin) (acts : List Act) (tag : ℕ) (h : HeldCommand) → held (log o acts) tag ≡ Some h
+    → WasAccepted o acts tag h
 
--- A transfer, queued or not, that comes to the policy is served exactly where it is permitted, and else aborted.
+-- A transfer, queued or not, that comes to the policy is served exactly where it is permitted, and
+-- else aborted.
 pub record IsServed (f : Facts) (act : Act) (op : Op) (lba count : ℕ) : Type 0 where
   pub served : ((event_by f act).failed ≡ None) ↔ IsPermitted (ranges_in_force f) op lba count
-  pub denied : (IsPermitted (ranges_in_force f) op lba count → ⊥) → (event_by f act).failed ≡ Some aborted
+  pub denied : (IsPermitted (ranges_in_force f) op lba count → ⊥)
+      → (event_by f act).failed ≡ Some aborted
 
 abbrev pub ServiceLaw : Type 0
 ServiceLaw =
-    (f : Facts) (act : Act) (command : Command) (tag : Option ℕ) (op : Op) (lba count : ℕ) → IsLookedAt f act command tag → Moves command tag op lba count → IsFree f tag → on_drive f lba count ≡ true
+    (f : Facts) (act : Act) (command : Command) (tag : Option ℕ) (op : Op) (lba count : ℕ)
+    → IsLookedAt f act command tag → Moves command tag op lba count → IsFree f tag
+    → on_drive f lba count ≡ true
     → IsServed f act op lba count
 
 -- Nothing is held under a tag that no slot has.
 abbrev pub TagLaw : Type 0
-TagLaw = (o : Origin) (acts : List Act) (tag : ℕ) (h : HeldCommand) → held (log o acts) tag ≡ Some h → tag < slot_count
+TagLaw =
+    (o : Origin) (acts : List Act) (tag : ℕ) (h : HeldCommand) → held (log o acts) tag ≡ Some h
+    → tag < slot_count

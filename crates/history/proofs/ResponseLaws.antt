@@ -1,0 +1,144 @@
+-- A response is left on the ComID of its send, and so on none that is not one for sessions.
+use Rattle.std.proofs.Common.{◌≡◌, ℕ, ◌*◌, ◌==◌, Bool, true, false, ◌&&◌, ◌||◌, not, List, [], ◌∷◌, Option, Some, None, refl, sym, ◌∙◌, ap, cond, eqb-true}
+use Rattle.std.specs.Prelude.{is_some, nat_le, slice_index, length, Result, Ok, Err, unwrap_or}
+use Rattle.fis.specs.Types.{h2d_type}
+use Rattle.fis.specs.H2d.{h2d_at}
+use Rattle.fis.specs.declared.h2d.RegH2d.{RegH2d}
+use Rattle.locking.specs.declared.range.Op.{Op}
+use Rattle.locking.specs.declared.range.Op.TheVariants.{Read, Write}
+use Rattle.trusted_cmds.specs.Commands.{is_queued, tag_of, sector_size}
+use Rattle.compacket.specs.declared.session.Session.{Session}
+use Rattle.compacket.specs.declared.error.FrameError.{FrameError}
+use Rattle.compacket.specs.Frames.{Frame, reading as frame_in}
+use Rattle.tcg_tokens.specs.Reading.{reading as message_in}
+use Rattle.trusted_cmds.specs.declared.command.Command.{Command}
+use Rattle.trusted_cmds.specs.declared.command.Command.TheVariants.{ReadQueued, WriteQueued, ReadDma, WriteDma, Send, Receive, ReadLog10}
+use Rattle.trusted_cmds.specs.declared.command.CommandError.{CommandError}
+use Rattle.trusted_cmds.specs.Commands.{reading}
+use Rattle.locking.specs.declared.ranges.Verdict.{Verdict}
+use Rattle.locking.specs.declared.ranges.Verdict.TheVariants.{Serve, Shadow, Denied}
+use Rattle.history.specs.Sessions.{Begun}
+use Rattle.history.specs.Events.{did, HeldCommand, Deed, Nothing, InSession, Wrote, Event, or_else, OfQueue, Took, WasReset, latest}
+use Rattle.history.specs.Facts.{Facts, facts, session_named}
+use Rattle.history.specs.Decisions.{aborted, not_found, fails, refuses, fails_queue, on_drive, verdict_on, queued_by, queued_transfer, admitted, unqueued_by, unqueued_transfer, answers, to_manager, is_trusted, is_session_com_id, discovery_com_id, is_manager, to_session, framed, sent, received, unqueued, known, while_failed, is_busy, commanded, completed_by, completed}
+use Rattle.history.specs.History.{Act, Accept, Complete, Reset, event_by, event, log}
+use Rattle.history.specs.Readers.{waits, waiting}
+use Rattle.history.specs.Bounds.{ResponseLaw}
+
+abbrev on_session : Deed → Bool
+on_session (InSession deed response) = is_session_com_id response.com_id
+on_session _ = true
+
+either : (b : Bool) (e g : Event) → (b ≡ true → on_session e.deed ≡ true) → on_session g.deed ≡ true → on_session (cond b e g).deed ≡ true
+either true e g h k = h refl
+either false e g h k = k
+
+to_session-on : (f : Facts) (com_id : ℕ) (named : Session) (payload : List ℕ) (s : Option Begun) → is_session_com_id com_id ≡ true → on_session (to_session f com_id named payload s).deed ≡ true
+to_session-on f com_id named payload None h = refl
+to_session-on f com_id named payload (Some s) h = h
+
+framed-on : (f : Facts) (com_id : ℕ) (frame : Frame) → is_session_com_id com_id ≡ true → on_session (framed f com_id frame).deed ≡ true
+framed-on f com_id frame h =
+    either (is_manager frame.session) (answers com_id frame.session (to_manager f com_id (message_in frame.payload))) _ (λ is. h) (to_session-on f com_id frame.session frame.payload (session_named f com_id frame.session) h)
+
+sent-on : (f : Facts) (com_id : ℕ) (r : Result Frame FrameError) → is_session_com_id com_id ≡ true → on_session (sent f com_id r).deed ≡ true
+sent-on f com_id (Err e) h = refl
+sent-on f com_id (Ok frame) h = either (frame.com_id == com_id) (framed f com_id frame) (did Nothing) (λ is. framed-on f com_id frame h) refl
+
+middle : (a b c : Bool) → (a && b && c) ≡ true → b ≡ true
+middle true true c h = refl
+middle true false c h = cc
+middle false b c h = cc
+
+received-on : (com_id blocks : ℕ) (w : Option (List ℕ)) → on_session (received com_id blocks w).deed ≡ true
+received-on com_id blocks None = refl
+received-on com_id blocks (Some r) = either (nat_le (length r) (sector_size * blocks)) (did (Took com_id)) (did Nothing) (λ is. refl) refl
+
+unqueued_by-on : (d : Deed) (v : Verdict) → on_session d ≡ true → on_session (unqueued_by d v).deed ≡ true
+unqueued_by-on d (Denied why) h = refl
+unqueued_by-on d Serve h = h
+unqueued_by-on d Shadow h = h
+
+transfer-on : (f : Facts) (d : Deed) (op : Op) (lba count : ℕ) → on_session d ≡ true → on_session (unqueued_transfer f d op lba count).deed ≡ true
+transfer-on f d op lba count h = either (on_drive f lba count) _ (fails not_found None) (λ is. unqueued_by-on d (verdict_on f op lba count) h) refl
+
+unqueued-on : (f : Facts) (payload : List ℕ) (c : Command) → on_session (unqueued f payload c).deed ≡ true
+unqueued-on f payload (ReadDma lba count) = transfer-on f Nothing Read lba count refl
+unqueued-on f payload (WriteDma lba count) = transfer-on f (Wrote lba payload) Write lba count refl
+unqueued-on f payload (Send protocol com_id blocks dma) =
+    either (is_trusted protocol blocks && is_session_com_id com_id && not (is_some (f.waiting com_id))) _ refuses
+    (λ is. sent-on f com_id (frame_in payload) (middle (is_trusted protocol blocks) (is_session_com_id com_id) (not (is_some (f.waiting com_id))) is)) refl
+unqueued-on f payload (Receive protocol com_id blocks dma) = either (is_trusted protocol blocks && (is_session_com_id com_id || com_id == discovery_com_id)) _ refuses (λ is. received-on com_id blocks (f.waiting com_id)) refl
+unqueued-on f payload _ = refl
+
+queued_by-on : (h : RegH2d) (tag : ℕ) (c : Command) (v : Verdict) → on_session (queued_by h tag c v).deed ≡ true
+queued_by-on h tag c (Denied why) = refl
+queued_by-on h tag c Serve = refl
+queued_by-on h tag c Shadow = refl
+
+queued-on : (f : Facts) (h : RegH2d) (tag : ℕ) (c : Command) (op : Op) (lba count : ℕ) → on_session (queued_transfer f h tag c op lba count).deed ≡ true
+queued-on f h tag c op lba count = either (on_drive f lba count) _ (fails_queue (Some tag) not_found h None) (λ is. queued_by-on h tag c (verdict_on f op lba count)) refl
+
+admitted-on : (f : Facts) (h : RegH2d) (tag : ℕ) (c : Command) (b : Bool) → on_session (admitted f h tag c b).deed ≡ true
+admitted-on f h tag c true = refl
+admitted-on f h tag (ReadQueued lba count) false = queued-on f h tag (ReadQueued lba count) Read lba count
+admitted-on f h tag (WriteQueued lba count) false = queued-on f h tag (WriteQueued lba count) Write lba count
+admitted-on f h tag _ false = refl
+
+known-on : (f : Facts) (h : RegH2d) (payload : List ℕ) (r : Result (Command × Option ℕ) CommandError) → on_session (known f h payload r).deed ≡ true
+known-on f h payload (Err e) = either (is_queued h.command) (fails_queue (Some (tag_of h)) aborted h None) refuses (λ is. refl) refl
+known-on f h payload (Ok (c, Some tag)) = admitted-on f h tag c (is_some (f.held tag))
+known-on f h payload (Ok (c, None)) = unqueued-on f payload c
+
+while_failed-on : (r : Result (Command × Option ℕ) CommandError) → on_session (while_failed r).deed ≡ true
+while_failed-on (Ok (ReadLog10 dma, tag)) = refl
+while_failed-on _ = refl
+
+commanded-on : (f : Facts) (h : RegH2d) (payload : List ℕ) → on_session (commanded f h payload).deed ≡ true
+commanded-on f h payload =
+    either (not h.is_command) refuses _ (λ is. refl)
+    (either (is_some f.failure) (while_failed (reading h)) _ (λ is. while_failed-on (reading h))
+    (either (is_busy f && not (is_queued h.command)) (fails_queue None aborted h None) (known f h payload (reading h)) (λ is. refl) (known-on f h payload (reading h))))
+
+completed_by-on : (tag : ℕ) (payload : List ℕ) (c : Command) → on_session (completed_by tag payload c).deed ≡ true
+completed_by-on tag payload (WriteQueued lba count) = refl
+completed_by-on tag payload _ = refl
+
+completed-on : (tag : ℕ) (payload : List ℕ) (h : Option HeldCommand) → on_session (completed tag payload h).deed ≡ true
+completed-on tag payload None = refl
+completed-on tag payload (Some h) = completed_by-on tag payload h.command
+
+event-on : (f : Facts) (act : Act) → on_session (event_by f act).deed ≡ true
+event-on f (Accept fis payload) = either (slice_index fis 0 == h2d_type) (commanded f (h2d_at fis) payload) refuses (λ is. commanded-on f (h2d_at fis) payload) refl
+event-on f (Complete tag payload) = completed-on tag payload (f.held tag)
+event-on f (Reset kind) = refl
+
+-- and so none waits elsewhere
+true-false : true ≡ false → ⊥
+true-false h = cc
+
+apart : (com_id its : ℕ) → is_session_com_id com_id ≡ false → is_session_com_id its ≡ true → (its == com_id) ≡ false
+apart com_id its other one = by_test (its == com_id) refl
+  where
+    by_test : (b : Bool) → (its == com_id) ≡ b → b ≡ false
+    by_test false is = refl
+    by_test true is = absurd (true-false (sym one ∙ ap is_session_com_id (eqb-true its com_id is) ∙ other))
+
+abbrev left : ℕ → Option (Option (List ℕ)) → List Event → Option (List ℕ)
+left com_id here past = unwrap_or (or_else here (latest (waits com_id) past)) None
+
+taken : (com_id its : ℕ) (past : List Event) (b : Bool) → waiting past com_id ≡ None → left com_id (cond b (Some None) None) past ≡ None
+taken com_id its past true h = refl
+taken com_id its past false h = h
+
+left-none : (com_id : ℕ) (d : Deed) (past : List Event) → is_session_com_id com_id ≡ false → on_session d ≡ true → waiting past com_id ≡ None → left com_id (waits com_id d) past ≡ None
+left-none com_id (InSession deed response) past other on h = ap (λ b. left com_id (cond b (Some (Some response.bytes)) None) past) (apart com_id response.com_id other on) ∙ h
+left-none com_id (Took its) past other on h = taken com_id its past (its == com_id) h
+left-none com_id (WasReset kind) past other on h = refl
+left-none com_id Nothing past other on h = h
+left-none com_id (OfQueue d) past other on h = h
+left-none com_id (Wrote lba bytes) past other on h = h
+
+pub response_law : ResponseLaw
+response_law o [] com_id other = refl
+response_law o (act ∷ acts) com_id other = left-none com_id (event o (log o acts) act).deed (log o acts) other (event-on (facts o (log o acts)) act) (response_law o acts com_id other)
