@@ -24,13 +24,13 @@ has_lock look range =
     || (is_set look range write_lock_enabled_column && is_set look range write_locked_column)
 
 -- Some number below n passes.
-unfoldable pub any_below : (ℕ → Bool) → ℕ → Bool
-any_below p zero = false
-any_below p (suc n) = any_below p n || p n
+unfoldable pub any_range_below : (ℕ → Bool) → ℕ → Bool
+any_range_below p zero = false
+any_range_below p (suc n) = any_range_below p n || p n
 
 -- Some range is locked: the global one, or a numbered one.
 abbrev pub is_locked : LookUp → Bool
-is_locked look = any_below (has_lock look) (RANGES + 1)
+is_locked look = any_range_below (has_lock look) (RANGES + 1)
 
 abbrev pub is_manufactured : LookUp → Bool
 is_manufactured look = number look Admin locking_sp life_cycle_state_column == manufactured

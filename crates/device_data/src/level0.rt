@@ -2,7 +2,7 @@
 
 ghost use Rattle.std.specs.Prelude.{◌≡◌, ◌≤◌, ◌||◌};
 ghost use Rattle.sp_cells.specs.declared.names.TheConstants.{RANGES};
-ghost use Rattle.device_data.specs.Discovery.{is_set, has_lock, any_below, is_locked, is_manufactured, is_shadow_flag, locking_flags, discovery};
+ghost use Rattle.device_data.specs.Discovery.{is_set, has_lock, any_range_below, is_locked, is_manufactured, is_shadow_flag, locking_flags, discovery};
 
 use sp_cells::limits::MANUFACTURED;
 use sp_cells::{ADMINS, Column, RANGES, Rows, Sp, USERS, Uid, number_at};
@@ -37,7 +37,7 @@ fn or_locked<R: Rows>(before: bool, rows: &R, range: u8) -> bool
 }
 
 /// Whether some range is locked.
-#[tactic(auto, unfolding(crate::specs::Discovery::any_below))]
+#[tactic(auto, unfolding(crate::specs::Discovery::any_range_below))]
 fn is_locked<R: Rows>(rows: &R) -> bool
     ensures { result ≡ is_locked (R.look_up rows.now) }
 {

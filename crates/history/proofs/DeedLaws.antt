@@ -20,7 +20,8 @@ use Rattle.history.specs.Changes.{Change, Sets}
 use Rattle.sp_cells.specs.ColumnNames.{pin_column}
 use Rattle.sessions.specs.Attempts.{failure as failure_of}
 use Rattle.call_shapes.specs.Asks.{uid_of}
-use Rattle.history.specs.Sessions.{properties, start_session, Begun}
+use Rattle.sp_cells.specs.Names.{properties, start_session}
+use Rattle.history.specs.Sessions.{Begun}
 use Rattle.call_shapes.specs.Statuses.{fail}
 use Rattle.sessions.specs.Properties.{properties_message}
 use Rattle.tcg_tokens.specs.Length.{len_of}

@@ -20,7 +20,7 @@ use Rattle.tcg_tokens.specs.Message.{end_session}
 use Rattle.transactions.specs.Resets.{is_range}
 use Rattle.methods.specs.Listed.{listed_among}
 use Rattle.methods.specs.Settings.{cells_for}
-use Rattle.history.specs.Sessions.{session_manager, properties}
+use Rattle.sp_cells.specs.Names.{session_manager, properties}
 use Rattle.sessions.specs.Starts.{sync_message}
 use Rattle.sessions.specs.Properties.{properties_message}
 use Rattle.history.specs.Decisions.{refusal}

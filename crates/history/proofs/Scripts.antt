@@ -14,7 +14,7 @@ use Rattle.tcg_tokens.specs.Message.{Message, call}
 use Rattle.tcg_tokens.specs.Tree.{Tree, Trees, trees_of}
 use Rattle.tcg_tokens.specs.Tree as tree
 use Rattle.history.specs.Opening.{Origin, factory_origin, activated_origin, with_range}
-use Rattle.history.specs.Sessions.{session_manager, start_session}
+use Rattle.sp_cells.specs.Names.{session_manager, start_session}
 use Rattle.history.specs.Events.{Event, Deed, InSession}
 use Rattle.history.specs.Answers.{sized}
 use Rattle.history.specs.History.{Act, Accept, log}

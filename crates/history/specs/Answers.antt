@@ -2,7 +2,7 @@
 -- page 10h; Opal SSC 2.01, section 3.1.1, Level 0 discovery).
 use Rattle.std.specs.Prelude.{ℕ, zero, suc, ◌+◌, ◌-◌, ◌*◌, ◌/◌, ◌%◌, ◌^◌, ◌==◌, Bool, true, false, ◌&&◌, ◌||◌, nat_le, List, [], ◌∷◌, ◌++◌, length, take, replicate, Option, Some, None, is_some, unwrap_or, Result, Ok, Err, if◌then◌else◌}
 use Rattle.std.specs.List.{flat_map, list_any}
-use Rattle.byteorder.specs.Endian.{big_bytes}
+use Rattle.device_data.specs.Discovery.{discovery}
 use Rattle.fis.specs.H2d.{h2d_at}
 use Rattle.fis.specs.declared.any.Fis.{Fis}
 use Rattle.fis.specs.declared.any.Fis.TheVariants as fises
@@ -27,10 +27,6 @@ use Rattle.history.specs.Events.{HeldCommand, Failure, Held, Deed, OfQueue, Even
 use Rattle.history.specs.Facts.{Facts}
 use Rattle.history.specs.Decisions.{verdict_on, discovery_com_id}
 
-abbrev pub bit : Bool → ℕ
-bit true = 1
-bit false = 0
-
 -- Bytes with zeros behind them up to a length, or cut at it.
 abbrev pub sized : ℕ → List ℕ → List ℕ
 sized n content = take n content ++ replicate (n - length content) 0
@@ -40,37 +36,6 @@ abbrev pub read_by : Facts → ℕ → ℕ → Verdict → List ℕ
 read_by f lba count Serve = sectors_from f.sector lba count
 read_by f lba count Shadow = bytes_from f.byte (sector_size * lba) (sector_size * count)
 read_by f lba count (Denied why) = []
-
--- Level 0 discovery: its header, and the features TPer, Locking, Geometry and Opal SSC 2.
-
-abbrev pub has_lock : Facts → ℕ → Bool
-has_lock f range =
-    (read_lock_enabled f.rows range == 1 && read_locked f.rows range == 1)
-    || (write_lock_enabled f.rows range == 1 && write_locked f.rows range == 1)
-
--- Bit 0 the drive can lock, bit 1 the Locking SP is Manufactured, bit 2 some range is locked, bit 4
--- MBR Enable, bit 5 Done.
-abbrev pub locking_flags : Facts → ℕ
-locking_flags f =
-    1 + 2 * bit (is_in_use f.rows Locking) + 4 * bit (list_any (has_lock f) all_ranges)
-    + 16 * bit (number f.rows Locking mbr_control mbr_enable_column == 1)
-    + 32 * bit (number f.rows Locking mbr_control mbr_done_column == 1)
-
-abbrev pub feature : ℕ → List ℕ → List ℕ
-feature code content = big_bytes 2 code ++ 0x10 ∷ length content ∷ content
-
-abbrev pub discovery_features : Facts → List ℕ
-discovery_features f =
-    feature 0x0001 (0x11 ∷ replicate 11 0)
-    ++ feature 0x0002 (locking_flags f ∷ replicate 11 0)
-    ++ feature 0x0003 (replicate 8 0 ++ big_bytes 4 sector_size ++ big_bytes 8 1 ++ big_bytes 8 0)
-    ++ feature 0x0203 (big_bytes 2 0x1000 ++ big_bytes 2 4 ++ 0 ∷ big_bytes 2 ADMINS
-    ++ big_bytes 2 USERS ++ 0 ∷ 0 ∷ replicate 5 0)
-
-abbrev pub discovery : Facts → List ℕ
-discovery f =
-    big_bytes 4 (44 + length (discovery_features f)) ++ big_bytes 4 1 ++ replicate 40 0
-    ++ discovery_features f
 
 -- IDENTIFY DEVICE: 256 words, of which the low byte comes first.
 abbrev pub sectors_word : ℕ → ℕ → ℕ
@@ -127,7 +92,7 @@ received_bytes com_id room (Some response) =
 abbrev pub receive_data : Facts → ℕ → ℕ → List ℕ
 receive_data f com_id room =
     if com_id == discovery_com_id
-    then sized room (discovery f) else sized room (received_bytes com_id room (f.waiting com_id))
+    then sized room (discovery f.rows) else sized room (received_bytes com_id room (f.waiting com_id))
 
 -- The data block of an unqueued command that is served.
 abbrev pub data_of : Facts → Command → List ℕ

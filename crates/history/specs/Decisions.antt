@@ -36,7 +36,8 @@ use Rattle.locking.specs.Ranges.{ranges_in}
 use Rattle.locking.specs.Verdict.{verdict_of}
 use Rattle.sessions.specs.Attempts.{failure as failure_of, credential}
 use Rattle.call_shapes.specs.Asks.{uid_of}
-use Rattle.history.specs.Sessions.{session_manager, properties, start_session, Begun}
+use Rattle.sp_cells.specs.Names.{session_manager, properties, start_session}
+use Rattle.history.specs.Sessions.{Begun}
 use Rattle.call_shapes.specs.Statuses.{success, fail}
 use Rattle.sessions.specs.declared.opening.Opening.{Opening}
 use Rattle.sessions.specs.declared.opening.StartVerdict.{StartVerdict}

@@ -16,7 +16,8 @@ use Rattle.trusted_cmds.specs.declared.command.Command.TheVariants.{ReadQueued, 
 use Rattle.locking.specs.declared.ranges.Verdict.TheVariants.{Denied}
 use Rattle.sessions.specs.Attempts.{failure as failure_of}
 use Rattle.call_shapes.specs.Asks.{uid_of}
-use Rattle.history.specs.Sessions.{properties, start_session, Begun}
+use Rattle.sp_cells.specs.Names.{properties, start_session}
+use Rattle.history.specs.Sessions.{Begun}
 use Rattle.call_shapes.specs.declared.ask.Ask.{Ask}
 use Rattle.history.specs.Calls.{asked, Attempts, denial}
 use Rattle.call_shapes.specs.Named.{values_of}
