@@ -22,7 +22,7 @@ use Rattle.audit.specs.declared.reason.AttemptFailure.{AttemptFailure}
 use Rattle.audit.specs.declared.reason.AttemptFailure.TheVariants.{WrongPin, LockedOut, Disabled, Unknown}
 use Rattle.sessions.specs.declared.answers.AuthAnswer.TheVariants.{Wrong}
 use Rattle.sessions.specs.Answers.{answer_to}
-use Rattle.transactions.specs.Sights.{sight_on}
+use Rattle.transactions.specs.Sights.{Sight, sight_on, sight_of}
 use Rattle.methods.specs.Kinds.{kind_of}
 use Rattle.call_shapes.specs.declared.ask.Ask.{Ask}
 use Rattle.sessions.specs.Live.{Holder}
@@ -62,9 +62,16 @@ held_none None e = refl
 held_none (Some s) e = cc
 
 -- every view has the store's configuration
-pub config_seen : (sp : Sp) (n : ℕ) (s : Stored) → (sight_on sp n s).config ≡ s.config
+config_seen : (sp : Sp) (n : ℕ) (s : Stored) → (sight_on sp n s).config ≡ s.config
 config_seen Admin n s = refl
 config_seen Locking n s = refl
+
+-- what is set by what a session sees is set by the store
+pub read_setting : (s : Stored) (session : SessionId) (object : Uid) (ask : Ask) (v : Sight) (change : Change) → Some (setting_seen change) ≡ setting session.sp v.config.mbr_sectors object (kind_of session.sp object) ask → v ≡ sight_of s session → Some (setting_seen change) ≡ setting session.sp s.config.mbr_sectors object (kind_of session.sp object) ask
+read_setting s session object ask v change read seen =
+    read
+    ∙ ap (λ (w : Sight). setting session.sp w.config.mbr_sectors object (kind_of session.sp object) ask) seen
+    ∙ ap (λ config. setting session.sp config.mbr_sectors object (kind_of session.sp object) ask) (config_seen session.sp session.tsn s)
 
 -- a wrong attempt, and its answer
 pub wrong_said : (sp : Sp) (a : Uid) (f : Option AttemptFailure) (why : Why) → Wrong why ≡ answer_to sp a f → says (number 0 ∷ []) (Some why) false ≡ said_attempt sp a f

@@ -31,8 +31,9 @@ use Rattle.methods.specs.Cases.{has_case}
 use Rattle.methods.specs.Listed.{listed, cell_value}
 use Rattle.methods.specs.Changes.{object_of}
 use Rattle.methods.specs.Settings.{Setting, cells_set, bytes_set, setting}
+use Rattle.call_shapes.specs.Limits.{most_response}
 use Rattle.call_shapes.specs.Statuses.{invalid_parameter, response_overflow, fail}
-use Rattle.methods.specs.Said.{Said, says, refuses, fits, said_attempt, most_response}
+use Rattle.methods.specs.Said.{Said, says, refuses, fits, said_attempt}
 
 -- a kind of object has a method in this shape
 abbrev pub has_ask : Option Kind → Ask → Bool

@@ -9,6 +9,7 @@ use Rattle.audit.specs.declared.reason.AttemptFailure.{AttemptFailure}
 use Rattle.audit.specs.declared.reason.AttemptFailure.TheVariants.{WrongPin, LockedOut, Disabled, Unknown}
 use Rattle.audit.specs.declared.reason.Why.{Why}
 use Rattle.audit.specs.declared.reason.Why.TheVariants.{AttemptFailed}
+use Rattle.call_shapes.specs.Limits.{most_response}
 use Rattle.call_shapes.specs.Statuses.{success, response_overflow, authority_locked_out}
 use Rattle.methods.specs.declared.outcome.Outcome.{Outcome}
 
@@ -20,10 +21,6 @@ pub record Said : Type 0 where
 
 abbrev pub said_seen : Outcome → Said
 said_seen out = record { answer = message out.reply; denied = out.denied; wipe = out.wipe }
-
--- the most bytes of a response's tokens (this drive)
-abbrev pub most_response : ℕ
-most_response = 65480
 
 abbrev pub reply_of : List Tree → ℕ → Message
 reply_of results status = reply (trees_of results) (status ∷ 0 ∷ 0 ∷ [])

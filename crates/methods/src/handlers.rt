@@ -17,10 +17,11 @@ ghost use Rattle.methods.specs.declared.outcome.MethodFault.TheVariants as fault
 
 use crate::changes::apply_set;
 use crate::lists::list_columns;
-use crate::outcome::{MOST_RESPONSE, MethodFault, Outcome, fitting, number_result, refused, said};
+use crate::outcome::{MethodFault, Outcome, fitting, number_result, refused, said};
 use crate::settings::check_set;
 use ace_eval::Authorities;
 use audit::{AttemptFailure, Why};
+use call_shapes::limits::MOST_RESPONSE;
 use call_shapes::{Ask, list_value, status};
 use sessions::{AuthAnswer, Sessions};
 use sp_cells::limits::MANUFACTURED;
@@ -98,7 +99,7 @@ fn bytes_outcome(
         return Ok(refused(alloc, status::INVALID_PARAMETER, None));
     }
     let count = last + 1 - u128::from(first);
-    if count > MOST_RESPONSE as u128 {
+    if count > u128::from(MOST_RESPONSE) {
         return Ok(refused(alloc, status::RESPONSE_OVERFLOW, None));
     }
     let read = read_rows(alloc, view, first, count as usize)?;

@@ -6,12 +6,10 @@ ghost use Rattle.tcg_tokens.specs.Message.{message};
 ghost use Rattle.methods.specs.Said.{Said, said_seen, reply_of, says, refuses, fits};
 
 use audit::Why;
+use call_shapes::limits::MOST_RESPONSE;
 use call_shapes::status;
 use std::alloc::{AllocError, AllocFailed, Global};
 use tcg_tokens::{Item, Reply, Value, item_len};
-
-/// The most bytes of a response's tokens.
-pub(crate) const MOST_RESPONSE: usize = 65_480;
 
 /// What comes of a call: the reply, why it was denied, and whether all media become zeros.
 #[derive(Drop)]
@@ -91,7 +89,7 @@ pub(crate) fn fitting(alloc: Global, results: Vec<Value>) -> Outcome
     ensures { said_seen result ≡ fits (map tree results.items) }
 {
     let reply = reply(results, status::SUCCESS);
-    if item_len(&reply) > MOST_RESPONSE {
+    if item_len(&reply) as u64 > MOST_RESPONSE {
         return refused(alloc, status::RESPONSE_OVERFLOW, None);
     }
     Outcome {
