@@ -24,7 +24,8 @@ use Rattle.sessions.specs.Answers.{in_force}
 use Rattle.methods.specs.Kinds.{kind_of}
 use Rattle.methods.specs.Grants.{denied}
 use Rattle.methods.specs.Settings.{Setting, cells_set, bytes_set, setting}
-use Rattle.methods.specs.Said.{Said, reply_of, says, refuses, fits, most_response}
+use Rattle.methods.specs.Said.{Said, reply_of, says, refuses, fits}
+use Rattle.call_shapes.specs.Limits.{most_response}
 use Rattle.methods.specs.Effects.{ask_at, seen_by, is_inside, bytes_from as bytes_among, last_row, rows_said, fault_of_setting, unless_fault, valid_setting, to_set as to_set_of, set_said, unless_inside, sp_of_row, said_ask}
 use Rattle.methods.specs.Calls.{said_unless, said_shaped}
 use Rattle.history.specs.Calls.{Standing, Judgement, Refuses, Gives, Makes, Attempts, Activates, Reverts, gives, listing, table_size, bytes_between, rows_given, fault_by, valid, to_set, makes, unless_open, does_ask, does, unless_denied, judged}

@@ -31,7 +31,8 @@ use Rattle.methods.specs.declared.kinds.Kind.TheVariants as kinds
 use Rattle.methods.specs.Kinds.{kind_of}
 use Rattle.methods.specs.Columns.{set_types_of}
 use Rattle.methods.specs.Settings.{cells_for, is_within, Setting, cells_set, bytes_set, setting_of_cells, cells_of_ask, bytes_of_ask, setting}
-use Rattle.methods.specs.Said.{reply_of, most_response}
+use Rattle.methods.specs.Said.{reply_of}
+use Rattle.call_shapes.specs.Limits.{most_response}
 use Rattle.methods.specs.Effects.{has_ask, last_row, unless_fault, sp_of_row}
 use Rattle.sp_cells.specs.declared.values.ColumnType.{ColumnType}
 use Rattle.history.specs.Calls.{asked, Standing, Judgement, Refuses, Gives, Makes, Attempts, Activates, Reverts, denial, gives, listing, table_size, bytes_between, rows_given, fault_by, valid, to_set, makes, unless_open, does_ask, does, unless_denied, judged}

@@ -37,7 +37,8 @@ use Rattle.call_shapes.specs.Named.{values_of}
 use Rattle.tcg_tokens.specs.Length.{len_of}
 use Rattle.methods.specs.Kinds.{kind_of}
 use Rattle.methods.specs.Settings.{Setting}
-use Rattle.methods.specs.Said.{reply_of, most_response, said_attempt}
+use Rattle.methods.specs.Said.{reply_of, said_attempt}
+use Rattle.call_shapes.specs.Limits.{most_response}
 use Rattle.methods.specs.Effects.{ask_at, last_row, sp_of_row}
 use Rattle.audit.specs.declared.reason.AttemptFailure.TheVariants.{WrongPin, LockedOut, Disabled, Unknown}
 use Rattle.audit.specs.declared.reason.Why.TheVariants.{AttemptFailed}

@@ -22,7 +22,8 @@ use Rattle.methods.specs.Kinds.{kind_of}
 use Rattle.methods.specs.Grants.{denied}
 use Rattle.methods.specs.Listed.{listed, cell_value}
 use Rattle.methods.specs.Settings.{Setting, cells_set, bytes_set, setting}
-use Rattle.methods.specs.Said.{reply_of, most_response}
+use Rattle.methods.specs.Said.{reply_of}
+use Rattle.call_shapes.specs.Limits.{most_response}
 use Rattle.methods.specs.Effects.{ask_at, last_row, sp_of_row, unless_fault}
 
 -- What the rules ask of a session: the drive's sectors, those of its shadow, the rows and the

@@ -4,14 +4,15 @@ use Rattle.std.specs.Prelude.{◌≡◌, ◌⊎◌, ◌↔◌, ℕ, ◌+◌, ◌
 use Rattle.locking.specs.Range.{RangeRows, row_at, is_shadowed}
 use Rattle.locking.specs.Verdict.{AreOpen, ArePermitted, AreShadowed, IsLeastDenied, why_of, shadow_why, verdict_of}
 use Rattle.locking.specs.declared.range.Op.{Op}
-use Rattle.locking.specs.declared.range.Op.TheVariants.{Read}
+use Rattle.locking.specs.declared.range.Op.TheVariants.{Read, Write}
 use Rattle.audit.specs.declared.reason.Why.{Why}
 use Rattle.fis.specs.Tags.{slot_count}
 use Rattle.history.specs.Opening.{Origin}
 use Rattle.trusted_cmds.specs.declared.command.Command.{Command}
+use Rattle.trusted_cmds.specs.declared.command.Command.TheVariants.{WriteDma}
 use Rattle.locking.specs.declared.ranges.Verdict.{Verdict}
 use Rattle.locking.specs.declared.ranges.Verdict.TheVariants.{Serve, Shadow, Denied}
-use Rattle.history.specs.Events.{HeldCommand}
+use Rattle.history.specs.Events.{HeldCommand, Wrote}
 use Rattle.history.specs.Readers.{held}
 use Rattle.history.specs.Facts.{Facts, facts}
 use Rattle.history.specs.Decisions.{aborted, on_drive, ranges_in_force, verdict_on}
@@ -100,3 +101,16 @@ abbrev pub TagLaw : Type 0
 TagLaw =
     (o : Origin) (acts : List Act) (tag : ℕ) (h : HeldCommand) → held (log o acts) tag ≡ Some h
     → tag < slot_count
+
+-- An unqueued write that moved its data: of sectors on the drive, and permitted.
+pub record Writes (f : Facts) (act : Act) (lba : ℕ) (bytes : List ℕ) : Type 0 where
+  pub count : ℕ
+  pub looked : IsLookedAt f act (WriteDma lba count) None
+  pub payload : bytes ≡ looked.payload
+  pub on_drive : on_drive f lba count ≡ true
+  pub permitted : IsPermitted (ranges_in_force f) Write lba count
+
+abbrev pub WriteLaw : Type 0
+WriteLaw =
+    (f : Facts) (act : Act) (lba : ℕ) (bytes : List ℕ)
+    → (event_by f act).deed ≡ Wrote lba bytes → Writes f act lba bytes
