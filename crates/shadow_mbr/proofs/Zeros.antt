@@ -10,8 +10,9 @@ pub length_zeros : length zeros ≡ 512
 unfolding zeros
 length_zeros = refl
 
-pub sound_when_empty : (sectors : ℕ) (kept : List (ℕ × List ℕ)) → kept ≡ [] → IsStrictlySortedBy nat_cmp (keys_of kept) → sectors ≤ 2 ^ 48 → IsSound (record { sectors = sectors; kept = kept })
-sound_when_empty sectors kept none sorted few = record { few = few; sorted = sorted; whole = λ sector. rw none length_zeros }
+pub sound_when_empty : (sectors : ℕ) (kept : List (ℕ × List ℕ)) → kept ≡ [] → sectors ≤ 2 ^ 48 → IsSound (record { sectors = sectors; kept = kept })
+unfolding IsStrictlySortedBy
+sound_when_empty sectors kept none few = rw none (record { few = few; sorted = tt; whole = λ sector. length_zeros })
 
 -- A byte of a sector of zeros.
 zero_byte : (i : ℕ) → get_or zeros i 0 ≡ 0
