@@ -6,7 +6,7 @@ use Rattle.std.specs.List.Sorted.{IsStrictlySortedBy}
 use Rattle.std.specs.BTreeMap.{is_at}
 use Rattle.std.specs.Map.{keys_of}
 use Rattle.std.specs.Option.{option_map}
-use Rattle.std.specs.Prelude.{is_some, unwrap_or}
+use Rattle.std.specs.Prelude.{is_some, unwrap_or, IfSome}
 use Rattle.std.proofs.lemmas.Bool.{cases_lt, cases_eq, cases_Bool}
 use Rattle.std.proofs.lemmas.Bool.Decides.{nat_tests}
 use Rattle.std.proofs.lemmas.Map.Made.{lookup-map_values, keys_of-map_values}
@@ -259,3 +259,25 @@ own_none places blocks none empty = rw (none, empty) (record {
   apart = λ s t p is it. let no = is in cc;
   whole = λ p lt. absurd (omega arith);
 })
+
+pub has_block : (places : List (ℕ × ℕ)) (blocks : List (List ℕ)) (s : ℕ) (o : Option ℕ) → AreOwn places blocks → o ≡ place_at places s → IfSome o (λ p. p < length blocks)
+has_block places blocks s None own is = tt
+has_block places blocks s (Some p) own is = own.below s p (sym is)
+
+pub its_block : (places : List (ℕ × ℕ)) (blocks : List (List ℕ)) (s : ℕ) (o : Option ℕ) → o ≡ place_at places s → unwrap_or (option_map (block_at blocks) o) zeros ≡ unwrap_or (block_in (blocks_of places blocks) s) zeros
+its_block places blocks s o is = rw (is, block_in-blocks_of places blocks s) refl
+
+whole_of : (places : List (ℕ × ℕ)) (blocks : List (List ℕ)) (s : ℕ) → AreOwn places blocks → (o : Option ℕ) → place_at places s ≡ o → length (unwrap_or (option_map (block_at blocks) o) zeros) ≡ 512
+whole_of places blocks s own None is = length_zeros
+whole_of places blocks s own (Some p) is = own.whole p (own.below s p is)
+
+pub whole_block : (places : List (ℕ × ℕ)) (blocks : List (List ℕ)) (s : ℕ) → AreOwn places blocks → length (unwrap_or (block_in (blocks_of places blocks) s) zeros) ≡ 512
+whole_block places blocks s own = rw (block_in-blocks_of places blocks s) (whole_of places blocks s own (place_at places s) refl)
+
+still : (o : Option ℕ) (blocks : List (List ℕ)) → is_some (option_map (block_at blocks) o) ≡ is_some o
+still None blocks = refl
+still (Some p) blocks = refl
+
+-- A sector has no block where it has no place.
+pub same_none : (places : List (ℕ × ℕ)) (blocks : List (List ℕ)) (s : ℕ) (o : Option ℕ) → o ≡ place_at places s → is_some (block_in (blocks_of places blocks) s) ≡ is_some o
+same_none places blocks s o is = rw (is, block_in-blocks_of places blocks s) (still (place_at places s) blocks)

@@ -1,6 +1,6 @@
 //! The sectors that are kept, by the places of their blocks.
 
-ghost use Rattle.std.specs.Prelude.{◌≡◌, ◌+◌, ◌<◌, ◌≤◌, ◌++◌, ◌^◌, ◌==◌, ℕ, None, OnOk, OnErr, true, if◌then◌else◌, length, nat_eq, set, take, drop, vec_len};
+ghost use Rattle.std.specs.Prelude.{IfSome, option_map, unwrap_or, ◌≡◌, ◌+◌, ◌<◌, ◌≤◌, ◌++◌, ◌^◌, ◌==◌, ℕ, None, OnOk, OnErr, true, if◌then◌else◌, length, nat_eq, set, take, drop, vec_len};
 ghost use Rattle.std.specs.List.{list_any};
 ghost use Rattle.std.specs.List.Sorted.{IsStrictlySortedBy};
 ghost use Rattle.std.specs.Map.{keys_of};
@@ -46,6 +46,17 @@ fn zeros() -> &'static Block
     &ZEROS
 }
 
+/// The block at a place, zeros for none.
+fn block_or_zeros(blocks: &[Block], place: Option<usize>) -> &Block
+    requires { IfSome place (λ p. p < length blocks.now) }
+    ensures { result.now ≡ unwrap_or (option_map (block_at blocks.now) place) zeros }
+{
+    match place {
+        Some(place) => &blocks[place],
+        None => zeros(),
+    }
+}
+
 /// Writes some bytes of one block.
 fn write_block(blocks: &mut Vec<Block>, place: usize, from: usize, bytes: &[u8])
     requires there { place < vec_len blocks.old }
@@ -85,12 +96,12 @@ fn place_all(places: &mut Places, sectors: &[u64], from: usize) -> Result<(), Al
 }
 
 impl Kept {
-    ghost use Rattle.std.specs.Prelude.{◌≡◌, ◌==◌, ◌+◌, ◌<◌, ◌≤◌, ◌++◌, ℕ, [], None, Some, OnOk, OnErr, true, length, nat_eq, take, drop, is_some, unwrap_or, if◌then◌else◌};
+    ghost use Rattle.std.specs.Prelude.{◌≡◌, ◌==◌, ◌-◌, ◌&&◌, nat_le, nat_lt, not, ◌+◌, ◌<◌, ◌≤◌, ◌++◌, ℕ, [], None, Some, OnOk, OnErr, true, length, nat_eq, take, drop, is_some, unwrap_or, if◌then◌else◌};
     ghost use Rattle.std.specs.List.{list_any};
     ghost use Rattle.std.specs.List.Sorted.{IsStrictlySortedBy};
     ghost use Rattle.std.specs.Map.{keys_of};
     ghost use Rattle.std.specs.Ordering.{nat_cmp};
-    ghost use Rattle.shadow_mbr.specs.Stored.{sector_size, zeros, block_in};
+    ghost use Rattle.shadow_mbr.specs.Stored.{sector_size, zeros, block_in, sectors_from};
 
     pub(crate) fn new(alloc: Global) -> Kept
         ensures { result ≡ [] }
@@ -121,10 +132,49 @@ impl Kept {
         ensures value { result.now ≡ unwrap_or (block_in self.now sector) zeros }
         ensures whole { length result.now ≡ sector_size }
     {
-        match self.places.get(sector) {
-            Some(place) => &self.blocks[place],
-            None => zeros(),
+        block_or_zeros(&self.blocks, self.places.get(sector))
+    }
+
+    /// Appends what sectors hold, from one to before another, zeros where one is not kept.
+    #[tactic(auto, using(crate::proofs::Walks::no_sector))]
+    pub(crate) fn append_run(
+        &self,
+        bytes: &mut Vec<u8>,
+        first: u64,
+        end: u64,
+    ) -> Result<(), AllocError>
+        requires { first ≤ end }
+        ensures { OnOk result (bytes.new.items ≡ bytes.old.items ++ sectors_from (λ s. unwrap_or (block_in self.now s) zeros) first (end - first)) }
+    {
+        // Each place has a block: the fields say so once they are used.
+        let _ = &self.blocks;
+        let mut finder = self.places.finder(first);
+        for sector in first..end {
+            bytes.extend_from_slice(block_or_zeros(&self.blocks, finder.at(sector)))?;
         }
+        Ok(())
+    }
+
+    /// Lists the sectors of a run that are not kept.
+    pub(crate) fn list_missing(
+        &self,
+        missing: &mut Vec<u64>,
+        first: u64,
+        end: u64,
+    ) -> Result<(), AllocError>
+        requires from { first ≤ end }
+        requires none { missing.old.items ≡ [] }
+        ensures { OnOk result ((s : ℕ) → list_any (nat_eq s) missing.new.items ≡ (nat_le first s && nat_lt s end && not (is_some (block_in self.now s)))) }
+    {
+        // Each place has a block: the fields say so once they are used.
+        let _ = &self.blocks;
+        let mut finder = self.places.finder(first);
+        for sector in first..end {
+            if finder.at(sector).is_none() {
+                missing.push(sector)?;
+            }
+        }
+        Ok(())
     }
 
     /// Writes some bytes of a sector that is kept.

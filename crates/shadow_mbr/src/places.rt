@@ -35,6 +35,52 @@ impl Model for Places {
     ghost invariant = { λ a. IsStrictlySortedBy nat_cmp (keys_of a.groups.entries) };
 }
 
+/// A search that remembers the group that it found last.
+#[derive(Drop)]
+pub(crate) struct Finder<'a> {
+    groups: &'a BTreeMap<u64, Group>,
+    number: u64,
+    found: Option<&'a Group>,
+}
+
+impl<'a> Model for Finder<'a> {
+    ghost use Rattle.std.specs.Prelude.{◌≡◌, List, ℕ};
+    ghost use Rattle.std.specs.Option.{option_copied};
+    ghost use Rattle.std.specs.BTreeMap.{get_by};
+    ghost use Rattle.std.specs.Ordering.{nat_cmp};
+    ghost use Rattle.std.specs.Map.{keys_of};
+    ghost use Rattle.std.specs.List.Sorted.{IsStrictlySortedBy};
+    ghost use Rattle.shadow_mbr.specs.Places.{placed_in};
+
+    ghost Value = { List (ℕ × ℕ) };
+
+    ghost view = { λ a. placed_in a.groups.now.entries };
+
+    ghost invariant = { λ a. IsStrictlySortedBy nat_cmp (keys_of a.groups.now.entries)
+        × (option_copied a.found ≡ get_by (nat_cmp a.number) a.groups.now) };
+}
+
+impl<'a> Finder<'a> {
+    ghost use Rattle.std.specs.Prelude.{◌≡◌};
+    ghost use Rattle.shadow_mbr.specs.Places.{place_at};
+
+    /// Where the sector stands.
+    pub(crate) fn at(&mut self, sector: u64) -> Option<usize>
+        ensures value { result ≡ place_at self.old sector }
+        ensures same { self.new ≡ self.old }
+    {
+        let number = sector / GROUP;
+        if number != self.number {
+            self.number = number;
+            self.found = self.groups.get(&number);
+        }
+        match self.found {
+            Some(group) => group[(sector % GROUP) as usize],
+            None => None,
+        }
+    }
+}
+
 /// Puts a place, or none, into a group.
 fn put_place(group: &mut Group, index: usize, place: Option<usize>)
     requires { index < GROUP_SIZE }
@@ -74,6 +120,18 @@ impl Places {
         match self.groups.get(&(sector / GROUP)) {
             Some(group) => group[(sector % GROUP) as usize],
             None => None,
+        }
+    }
+
+    /// A search that begins at a sector.
+    pub(crate) fn finder(&self, sector: u64) -> Finder<'_>
+        ensures { result ≡ self.now }
+    {
+        let number = sector / GROUP;
+        Finder {
+            groups: &self.groups,
+            number,
+            found: self.groups.get(&number),
         }
     }
 

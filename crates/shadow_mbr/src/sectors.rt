@@ -160,9 +160,7 @@ impl Sectors {
         let mut bytes = buffer;
         bytes.clear();
         bytes.reserve(SECTOR_SIZE * count as usize)?;
-        for sector in first..end {
-            bytes.extend_from_slice(self.kept.sector(sector))?;
-        }
+        self.kept.append_run(&mut bytes, first, end)?;
         Ok(bytes)
     }
 
@@ -228,11 +226,7 @@ impl Sectors {
         // The sectors are few and whole: the fields say so once they are used.
         let _ = &self.kept;
         let mut missing = Vec::new(self.alloc);
-        for sector in first..end {
-            if !self.kept.has(sector) {
-                missing.push(sector)?;
-            }
-        }
+        self.kept.list_missing(&mut missing, first, end)?;
         Ok(missing)
     }
 

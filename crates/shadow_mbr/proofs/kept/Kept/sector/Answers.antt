@@ -1,19 +1,18 @@
-use Rattle.std.proofs.Common.{refl, sym, ◌∙◌}
-use Rattle.std.proofs.lemmas.List.{get_or_default}
+use Rattle.std.proofs.Common.{◌≡◌, ap, sym, ◌∙◌, length, List, ℕ}
+use Rattle.std.specs.Prelude.{unwrap_or, option_map}
 use Rattle.shadow_mbr.specs.Stored.{zeros}
-use Rattle.shadow_mbr.proofs.Zeros.{length_zeros}
-use Rattle.shadow_mbr.proofs.Blocks.{found_block, no_block}
+use Rattle.shadow_mbr.specs.Places.{block_at}
+use Rattle.shadow_mbr.proofs.Blocks.{its_block, whole_block}
 use Rattle.shadow_mbr.proofs.kept.Kept.sector.Goals as goal
 
-pub returns-in-Some-clause-value : goal.returns-in-Some-clause-value
-returns-in-Some-clause-value c =
-    let there = sym c.in-Some.ensures.value in
-    rw (sym c.self.view_is, found_block c.self.inside.places c.self.inside.blocks.items c.args.sector c.in-Some.place there)
-    (c.index.ensures ∙ get_or_default c.self.inside.blocks.items c.in-Some.place c.index.result.now zeros (c.self.invariant.below c.args.sector c.in-Some.place there))
+pub returns-clause-value : goal.returns-clause-value
+returns-clause-value c =
+    rw (sym c.self.view_is)
+    (c.block_or_zeros.ensures
+    ∙ ap (λ (bs : List (List ℕ)). unwrap_or (option_map (block_at bs) c.get.result) zeros) c.deref.ensures.value
+    ∙ its_block c.self.inside.places c.self.inside.blocks.items c.args.sector c.get.result c.get.ensures.value)
 
-pub returns-in-None-clause-value : goal.returns-in-None-clause-value
-returns-in-None-clause-value c =
-    rw (sym c.self.view_is, no_block c.self.inside.places c.self.inside.blocks.items c.args.sector (sym c.in-None.ensures.value)) c.zeros.ensures
-
-pub returns-in-None-clause-whole : goal.returns-in-None-clause-whole
-returns-in-None-clause-whole c = rw c.zeros.ensures length_zeros
+pub returns-clause-whole : goal.returns-clause-whole
+returns-clause-whole c =
+    ap (λ (b : List ℕ). length b) (returns-clause-value c)
+    ∙ rw (sym c.self.view_is) (whole_block c.self.inside.places c.self.inside.blocks.items c.args.sector c.self.invariant)
