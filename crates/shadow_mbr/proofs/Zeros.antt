@@ -1,8 +1,7 @@
 -- A sector of zeros, and sectors of which none is kept.
-use Rattle.std.proofs.Common.{◌≡◌, ℕ, ◌^◌, ◌<◌, ◌≤◌, List, [], length, refl, nat_cmp, get_or, ◌%◌, ⊎_elim, replicate}
+use Rattle.std.proofs.Common.{◌≡◌, ℕ, ◌^◌, ◌<◌, ◌≤◌, List, [], length, refl, get_or, ◌%◌, ⊎_elim, replicate}
 use Rattle.std.proofs.lemmas.Bool.{cases_lt}
 use Rattle.std.proofs.lemmas.List.{get_or-replicate, get_or_past}
-use Rattle.std.specs.Map.{keys_of}
 use Rattle.std.specs.List.Sorted.{IsStrictlySortedBy}
 use Rattle.shadow_mbr.specs.Stored.{Stored, zeros, byte_at, IsSound}
 

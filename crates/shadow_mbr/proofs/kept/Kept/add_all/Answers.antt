@@ -1,6 +1,4 @@
-use Rattle.std.proofs.Common.{arith, ◌≡◌, ◌+◌, ◌-◌, ◌++◌, ℕ, List, length, take, replicate, sym, ◌∙◌, refl}
-use Rattle.shadow_mbr.specs.Stored.{zeros}
-use Rattle.shadow_mbr.specs.Places.{AddsPlaces}
+use Rattle.std.proofs.Common.{arith, ◌≡◌, length, sym}
 use Rattle.shadow_mbr.proofs.Blocks.{added_block, own_more, no_place, grown}
 use Rattle.shadow_mbr.proofs.kept.Kept.add_all.Goals as goal
 

@@ -1,4 +1,4 @@
-use Rattle.std.proofs.Common.{inl, inr, [], ◌∷◌, ◌++◌, ◌≡◌, ◌+◌, ◌&&◌, ◌||◌, ◌≤◌, ℕ, List, Bool, true, false, not, nat_le, nat_lt, nat_eq, Option, ap, refl, sym, ◌∙◌, arith}
+use Rattle.std.proofs.Common.{inl, inr, [], ◌∷◌, ◌++◌, ◌≡◌, ◌+◌, ◌&&◌, ◌||◌, ◌≤◌, ℕ, List, Bool, true, false, not, nat_le, nat_lt, nat_eq, ap, refl, sym, ◌∙◌, arith}
 use Rattle.std.specs.Prelude.{is_some}
 use Rattle.std.proofs.lemmas.Bool.Decides.{nat_tests}
 use Rattle.shadow_mbr.specs.Stored.{block_in}

@@ -1,4 +1,4 @@
-use Rattle.std.proofs.Common.{◌≡◌, ℕ, List, sym}
+use Rattle.std.proofs.Common.{sym}
 use Rattle.shadow_mbr.proofs.Blocks.{put_bytes, put_keeps, no_block}
 use Rattle.shadow_mbr.proofs.kept.Kept.put.Goals as goal
 

@@ -1,4 +1,4 @@
-use Rattle.std.proofs.Common.{◌≡◌, ap, sym, ◌∙◌, length, List, ℕ}
+use Rattle.std.proofs.Common.{ap, sym, ◌∙◌, length, List, ℕ}
 use Rattle.std.specs.Prelude.{unwrap_or, option_map}
 use Rattle.shadow_mbr.specs.Stored.{zeros}
 use Rattle.shadow_mbr.specs.Places.{block_at}

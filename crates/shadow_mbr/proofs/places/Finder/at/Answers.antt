@@ -1,7 +1,7 @@
-use Rattle.std.proofs.Common.{◌≡◌, ◌%◌, ◌/◌, refl, sym, nat_cmp}
+use Rattle.std.proofs.Common.{◌≡◌, ◌/◌, refl, sym, nat_cmp}
 use Rattle.std.specs.Option.{option_copied}
 use Rattle.std.specs.BTreeMap.{get_by}
-use Rattle.shadow_mbr.proofs.Groups.{place_in_group, in_group}
+use Rattle.shadow_mbr.proofs.Groups.{place_in_group}
 use Rattle.shadow_mbr.proofs.places.Finder.at.Goals as goal
 use Rattle.shadow_mbr.proofs.places.Finder.at.Goals.{then-number-self, else-number-self, in-Some, in-None}
 

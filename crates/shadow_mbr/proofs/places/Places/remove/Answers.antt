@@ -1,5 +1,4 @@
-use Rattle.std.proofs.Common.{◌≡◌, ◌%◌, ◌/◌, ℕ, List, Option, Some, None, ap, sym, refl, arith}
-use Rattle.shadow_mbr.specs.Places.{place_at, placed_in}
+use Rattle.std.proofs.Common.{None, ap, sym, refl, arith}
 use Rattle.shadow_mbr.proofs.Groups.{in_group, put_in_group, none_left}
 use Rattle.shadow_mbr.proofs.places.Places.remove.Goals as goal
 use Rattle.shadow_mbr.proofs.places.Places.remove.Goals.{in-Some, in_default}
