@@ -107,7 +107,7 @@ pub(crate) fn decide(
     if !h.is_command || queue.failure.is_some() {
         return Decision::Refused;
     }
-    if queue.is_busy() && !is_queued(h.command) {
+    if !is_queued(h.command) && queue.is_busy() {
         return queue_failure(None, ABORTED, &h, None);
     }
     match of_fis(&h) {

@@ -16,6 +16,7 @@ use sp_cells::{DriveConfig, SetError};
 use sp_tables::Tables;
 use std::alloc::{AllocError, Global};
 use std::marker::Model;
+use std::mem::replace;
 
 /// A drive.
 #[derive(Drop)]
@@ -25,6 +26,8 @@ pub struct Drive {
     ranges: Ranges,
     media: Media,
     queue: Queue,
+    /// A vector for the bytes of the next read.
+    spare: Vec<u8>,
 }
 
 impl Model for Drive {
@@ -101,6 +104,7 @@ impl Drive {
             ranges,
             media: Media::new(alloc, sectors),
             queue: Queue::new(),
+            spare: Vec::new(alloc),
         })
     }
 
@@ -186,6 +190,16 @@ impl Drive {
         self.finish(tag, payload)
     }
 
+    /// Takes back the vector of a completion: the next read puts its bytes there, and takes no memory
+    /// where there is room.
+    pub fn give_back(&mut self, bytes: Vec<u8>)
+        ensures { self.new ≡ self.old }
+    {
+        if self.spare.capacity() < bytes.capacity() {
+            self.spare = bytes;
+        }
+    }
+
     fn finish(&mut self, tag: Tag, payload: &[u8]) -> Result<Completed, DriveError>
         requires { length payload.now ≡ expected_size (slot_at self.old.queue.slots tag) }
         ensures slot { tag < slot_count }
@@ -199,7 +213,8 @@ impl Drive {
         match self.queue.at(tag) {
             None => Err(DriveError::NotHeld),
             Some(transfer) => {
-                let bytes = transfer.carry_out(&mut self.media, self.alloc, payload)?;
+                let buffer = replace(&mut self.spare, Vec::new(self.alloc));
+                let bytes = transfer.carry_out(&mut self.media, buffer, payload)?;
                 self.queue.release(tag);
                 Ok(Completed {
                     fises: completion_fises(tag, &transfer),

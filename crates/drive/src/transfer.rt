@@ -5,7 +5,7 @@ ghost use Rattle.trusted_cmds.specs.Commands.{most_sectors};
 
 use locking::Op;
 use shadow_mbr::{Media, SECTOR_SIZE};
-use std::alloc::{AllocError, Global};
+use std::alloc::AllocError;
 use std::marker::Model;
 use trusted_cmds::Command;
 
@@ -111,11 +111,11 @@ impl Transfer {
         self.lba <= sectors && u64::from(self.count.number()) <= sectors - self.lba
     }
 
-    /// Moves the data, and gives the bytes that were read.
+    /// Moves the data, and gives the bytes that were read, in the memory of a vector that is given.
     pub(crate) fn carry_out(
         &self,
         media: &mut Media,
-        alloc: Global,
+        buffer: Vec<u8>,
         payload: &[u8],
     ) -> Result<Vec<u8>, AllocError>
         requires length { length payload.now ≡ payload_size_of self.now }
@@ -127,10 +127,12 @@ impl Transfer {
         ensures err { OnErr result (media.new ≡ media.old) }
     {
         match self.op {
-            Op::Read => media.read_sectors(self.lba, self.count.number()),
+            Op::Read => media.read_sectors_into(buffer, self.lba, self.count.number()),
             Op::Write => {
                 media.write(self.lba, payload)?;
-                Ok(Vec::new(alloc))
+                let mut none = buffer;
+                none.clear();
+                Ok(none)
             }
         }
     }

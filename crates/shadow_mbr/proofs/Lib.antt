@@ -1,7 +1,9 @@
 pub mod Zeros
 pub mod Pieces
 pub mod Writes
-pub mod Same
 pub mod Whole
 pub mod Touched
 pub mod Walks
+pub mod Numbers
+pub mod Groups
+pub mod Blocks

@@ -1,8 +1,7 @@
 -- A sector of zeros, and sectors of which none is kept.
-use Rattle.std.proofs.Common.{◌≡◌, ℕ, ◌^◌, ◌<◌, ◌≤◌, List, [], length, refl, nat_cmp, get_or, ◌%◌, ⊎_elim, replicate}
+use Rattle.std.proofs.Common.{◌≡◌, ℕ, ◌^◌, ◌<◌, ◌≤◌, List, [], length, refl, get_or, ◌%◌, ⊎_elim, replicate}
 use Rattle.std.proofs.lemmas.Bool.{cases_lt}
 use Rattle.std.proofs.lemmas.List.{get_or-replicate, get_or_past}
-use Rattle.std.specs.Map.{keys_of}
 use Rattle.std.specs.List.Sorted.{IsStrictlySortedBy}
 use Rattle.shadow_mbr.specs.Stored.{Stored, zeros, byte_at, IsSound}
 
@@ -10,8 +9,9 @@ pub length_zeros : length zeros ≡ 512
 unfolding zeros
 length_zeros = refl
 
-pub sound_when_empty : (sectors : ℕ) (kept : List (ℕ × List ℕ)) → kept ≡ [] → IsStrictlySortedBy nat_cmp (keys_of kept) → sectors ≤ 2 ^ 48 → IsSound (record { sectors = sectors; kept = kept })
-sound_when_empty sectors kept none sorted few = record { few = few; sorted = sorted; whole = λ sector. rw none length_zeros }
+pub sound_when_empty : (sectors : ℕ) (kept : List (ℕ × List ℕ)) → kept ≡ [] → sectors ≤ 2 ^ 48 → IsSound (record { sectors = sectors; kept = kept })
+unfolding IsStrictlySortedBy
+sound_when_empty sectors kept none few = rw none (record { few = few; sorted = tt; whole = λ sector. length_zeros })
 
 -- A byte of a sector of zeros.
 zero_byte : (i : ℕ) → get_or zeros i 0 ≡ 0

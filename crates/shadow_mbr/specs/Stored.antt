@@ -19,9 +19,13 @@ sector_size = 512
 unfoldable pub zeros : List ℕ
 zeros = replicate sector_size 0
 
+-- the bytes of a sector among those of all sectors that are kept
+abbrev pub block_in : List (ℕ × List ℕ) → ℕ → Option (List ℕ)
+block_in kept sector = lookup (is_at (nat_cmp sector)) kept
+
 -- what is kept of a sector
 abbrev pub kept_at : Stored → ℕ → Option (List ℕ)
-kept_at stored sector = lookup (is_at (nat_cmp sector)) stored.kept
+kept_at stored sector = block_in stored.kept sector
 
 -- What a sector holds: the bytes that are kept, else zeros.
 abbrev pub sector_at : Stored → ℕ → List ℕ

@@ -4,10 +4,12 @@
 //! that was never written takes no memory.
 #![tactic(auto)]
 
+mod kept;
 mod mbr;
 mod media;
+mod places;
 mod sectors;
 
+pub use kept::{Block, SECTOR_SIZE};
 pub use mbr::Mbr;
 pub use media::Media;
-pub use sectors::{Block, SECTOR_SIZE};

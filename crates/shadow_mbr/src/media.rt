@@ -1,4 +1,5 @@
-use crate::sectors::{Block, SECTOR, Sectors};
+use crate::kept::Block;
+use crate::sectors::{SECTOR, Sectors};
 use std::alloc::{AllocError, Global};
 use std::marker::Model;
 
@@ -65,13 +66,26 @@ impl Media {
         self.held.read(SECTOR * lba, buffer);
     }
 
-    /// The bytes of so many sectors from `lba` on, in a vector of their own. It goes once over the
-    /// sectors that were written.
+    /// The bytes of so many sectors from `lba` on, in a vector of their own.
     pub fn read_sectors(&self, lba: u64, count: u32) -> Result<Vec<u8>, AllocError>
         requires { lba + count ≤ self.now.sectors }
         ensures { IfOk result (λ bytes. bytes.items ≡ sectors_from (sector_at self.now) lba count) }
     {
         self.held.read_sectors(lba, count)
+    }
+
+    /// The bytes of so many sectors from `lba` on, in the memory of a vector that is given: what it
+    /// held is gone, and where its room is enough none is taken.
+    pub fn read_sectors_into(
+        &self,
+        buffer: Vec<u8>,
+        lba: u64,
+        count: u32,
+    ) -> Result<Vec<u8>, AllocError>
+        requires { lba + count ≤ self.now.sectors }
+        ensures { IfOk result (λ bytes. bytes.items ≡ sectors_from (sector_at self.now) lba count) }
+    {
+        self.held.read_sectors_into(buffer, lba, count)
     }
 
     /// Writes whole sectors from `lba` on. Where memory is refused, nothing changes.

@@ -2,26 +2,18 @@ ghost use Rattle.std.specs.Prelude.{◌≡◌, ◌+◌, ◌-◌, ◌%◌, ◌^�
 ghost use Rattle.std.specs.List.{list_any};
 ghost use Rattle.shadow_mbr.specs.Stored.{sector_size, zeros, has_byte};
 
+use crate::kept::{Block, Kept, SECTOR_SIZE};
 use std::alloc::{AllocError, Global};
-use std::collections::BTreeMap;
 use std::marker::Model;
 
-/// How many bytes a sector has (ACS-3, IDENTIFY DEVICE word 106).
-pub const SECTOR_SIZE: usize = 512;
-
 pub(crate) const SECTOR: u64 = SECTOR_SIZE as u64;
-
-/// What a sector holds.
-pub type Block = [u8; SECTOR_SIZE];
-
-static ZEROS: Block = [0; SECTOR_SIZE];
 
 /// So many sectors, of which those that were never written are not kept.
 #[derive(Drop)]
 pub(crate) struct Sectors {
     alloc: Global,
     sectors: u64,
-    kept: BTreeMap<u64, Block>,
+    kept: Kept,
 }
 
 impl Model for Sectors {
@@ -30,16 +22,9 @@ impl Model for Sectors {
 
     ghost Value = { Stored };
 
-    ghost view = { λ a. record { sectors = a.sectors; kept = a.kept.entries } };
+    ghost view = { λ a. record { sectors = a.sectors; kept = a.kept } };
 
-    ghost invariant = { λ a. IsSound (record { sectors = a.sectors; kept = a.kept.entries }) };
-}
-
-#[tactic(auto, unfolding(crate::specs::Stored::zeros))]
-fn zeros() -> &'static Block
-    ensures { result.now ≡ zeros }
-{
-    &ZEROS
+    ghost invariant = { λ a. IsSound (record { sectors = a.sectors; kept = a.kept }) };
 }
 
 /// How many of the bytes from a place on are in its sector.
@@ -67,26 +52,6 @@ fn sectors_of(at: u64, len: usize) -> (u64, u64)
     }
 }
 
-/// Lists the numbers of a run too.
-fn push_run(numbers: &mut Vec<u64>, first: u64, end: u64) -> Result<(), AllocError>
-    requires { first ≤ end }
-    ensures { OnOk result ((s : ℕ) → list_any (nat_eq s) numbers.new.items ≡ (list_any (nat_eq s) numbers.old.items || (nat_le first s && nat_lt s end))) }
-{
-    for number in first..end {
-        numbers.push(number)?;
-    }
-    Ok(())
-}
-
-/// Fills up with zeros to so many bytes.
-fn fill_to(bytes: &mut Vec<u8>, len: usize) -> Result<(), AllocError>
-    requires { length bytes.old.items ≤ len }
-    ensures { OnOk result (bytes.new.items ≡ bytes.old.items ++ replicate (len - length bytes.old.items) 0) }
-{
-    bytes.resize(len, 0)?;
-    Ok(())
-}
-
 impl Sectors {
     ghost use Rattle.std.specs.Prelude.{◌≡◌, ◌+◌, ◌*◌, ◌/◌, ◌%◌, ◌≤◌, ◌<◌, ◌^◌, ◌==◌, ◌++◌, ℕ, length, OnOk, OnErr, IfOk, IsTrue, ◌↔◌, [], true, is_some, slice_index, take, drop, if◌then◌else◌};
     ghost use Rattle.std.specs.Prelude.{nat_eq, ◌||◌, None, Some};
@@ -101,7 +66,7 @@ impl Sectors {
         Sectors {
             alloc,
             sectors,
-            kept: BTreeMap::new(alloc),
+            kept: Kept::new(alloc),
         }
     }
 
@@ -122,16 +87,13 @@ impl Sectors {
         ensures value { result.now ≡ sector_at self.now sector }
         ensures sound { IsSound self.now }
     {
-        match self.kept.get(&sector) {
-            Some(block) => block,
-            None => zeros(),
-        }
+        self.kept.sector(sector)
     }
 
     fn has(&self, sector: u64) -> bool
         ensures { result ≡ is_some (kept_at self.now sector) }
     {
-        self.kept.contains_key(&sector)
+        self.kept.has(sector)
     }
 
     fn put(&mut self, sector: u64, from: usize, bytes: &[u8])
@@ -142,9 +104,7 @@ impl Sectors {
         ensures bytes { (s : ℕ) → sector_at self.new s ≡ (if s == sector then take from (sector_at self.old s) ++ bytes.now ++ drop (from + length bytes.now) (sector_at self.old s) else sector_at self.old s) }
         ensures sound { IsSound self.new }
     {
-        if let Some(block) = self.kept.get_mut(&sector) {
-            block[from..from + bytes.len()].copy_from_slice(bytes);
-        }
+        self.kept.put(sector, from, bytes);
     }
 
     /// Some bytes of one sector, from a place on.
@@ -176,22 +136,31 @@ impl Sectors {
         }
     }
 
-    /// The bytes of so many sectors from one on. It goes once over those that are kept.
+    /// The bytes of so many sectors from one on.
     pub(crate) fn read_sectors(&self, first: u64, count: u32) -> Result<Vec<u8>, AllocError>
+        requires { first + count ≤ self.now.sectors }
+        ensures { IfOk result (λ bytes. bytes.items ≡ sectors_from (sector_at self.now) first count) }
+    {
+        self.read_sectors_into(Vec::new(self.alloc), first, count)
+    }
+
+    /// The bytes of so many sectors from one on, in the memory of a vector that is given.
+    pub(crate) fn read_sectors_into(
+        &self,
+        buffer: Vec<u8>,
+        first: u64,
+        count: u32,
+    ) -> Result<Vec<u8>, AllocError>
         requires { first + count ≤ self.now.sectors }
         ensures { IfOk result (λ bytes. bytes.items ≡ sectors_from (sector_at self.now) first count) }
     {
         // The sectors are few and whole: the fields say so once they are used.
         let _ = &self.kept;
         let end = first + u64::from(count);
-        let mut bytes = Vec::with_capacity(self.alloc, SECTOR_SIZE * count as usize)?;
-        let mut next = first;
-        for (sector, block) in self.kept.range(first..end) {
-            fill_to(&mut bytes, SECTOR_SIZE * (*sector - first) as usize)?;
-            bytes.extend_from_slice(block)?;
-            next = *sector + 1;
-        }
-        fill_to(&mut bytes, SECTOR_SIZE * (end - first) as usize)?;
+        let mut bytes = buffer;
+        bytes.clear();
+        bytes.reserve(SECTOR_SIZE * count as usize)?;
+        self.kept.append_run(&mut bytes, first, end)?;
         Ok(bytes)
     }
 
@@ -247,7 +216,7 @@ impl Sectors {
         true
     }
 
-    /// The sectors of a run that are not kept. It goes once over those that are.
+    /// The sectors of a run that are not kept.
     fn missing(&self, first: u64, end: u64) -> Result<Vec<u64>, AllocError>
         requires from { first ≤ end }
         requires within { end ≤ self.now.sectors }
@@ -257,66 +226,8 @@ impl Sectors {
         // The sectors are few and whole: the fields say so once they are used.
         let _ = &self.kept;
         let mut missing = Vec::new(self.alloc);
-        let mut next = first;
-        for (sector, _) in self.kept.range(first..end) {
-            push_run(&mut missing, next, *sector)?;
-            next = *sector + 1;
-        }
-        push_run(&mut missing, next, end)?;
+        self.kept.list_missing(&mut missing, first, end)?;
         Ok(missing)
-    }
-
-    /// Keeps the sector no more.
-    #[tactic(auto, using(crate::proofs::Zeros::length_zeros))]
-    fn remove(&mut self, sector: u64)
-        ensures size { self.new.sectors ≡ self.old.sectors }
-        ensures kept { (s : ℕ) → kept_at self.new s ≡ (if s == sector then None else kept_at self.old s) }
-        ensures sound { IsSound self.old × IsSound self.new }
-    {
-        self.kept.remove(&sector);
-    }
-
-    /// Keeps the sector, as zeros.
-    #[tactic(auto, using(crate::proofs::Zeros::length_zeros))]
-    fn add(&mut self, sector: u64) -> Result<(), AllocError>
-        ensures size { self.new.sectors ≡ self.old.sectors }
-        ensures kept { OnOk result ((s : ℕ) → kept_at self.new s ≡ (if s == sector then Some zeros else kept_at self.old s)) }
-        ensures err { OnErr result (self.new ≡ self.old) }
-        ensures sound { IsSound self.old × IsSound self.new }
-    {
-        self.kept.insert(sector, *zeros())?;
-        Ok(())
-    }
-
-    /// Keeps no sector that is listed.
-    fn remove_all(&mut self, sectors: &[u64])
-        ensures size { self.new.sectors ≡ self.old.sectors }
-        ensures kept { (s : ℕ) → kept_at self.new s ≡ (if list_any (nat_eq s) sectors.now then None else kept_at self.old s) }
-    {
-        for sector in sectors {
-            self.remove(*sector);
-        }
-    }
-
-    /// Keeps the listed sectors too, as zeros.
-    fn add_all(&mut self, sectors: &[u64]) -> Result<(), AllocError>
-        requires { (s : ℕ) → list_any (nat_eq s) sectors.now ≡ true → kept_at self.old s ≡ None }
-        ensures size { self.new.sectors ≡ self.old.sectors }
-        ensures kept { OnOk result ((s : ℕ) → kept_at self.new s ≡ (if list_any (nat_eq s) sectors.now then Some zeros else kept_at self.old s)) }
-        ensures err { OnErr result (self.new ≡ self.old) }
-        ensures sound { IsSound self.new }
-    {
-        // The sectors are whole: the fields say so once they are used.
-        let _ = &self.kept;
-        for (i, sector) in sectors.iter().enumerate() {
-            if let Err(refused) = self.add(*sector) {
-                self.remove_all(&sectors[..i]);
-                // So is what is left.
-                let _ = &self.kept;
-                return Err(refused);
-            }
-        }
-        Ok(())
     }
 
     /// Keeps each sector that has one of so many bytes.
@@ -332,7 +243,7 @@ impl Sectors {
         let _ = &self.kept;
         let (first, end) = sectors_of(at, len);
         let missing = self.missing(first, end)?;
-        self.add_all(&missing)?;
+        self.kept.add_all(&missing)?;
         Ok(())
     }
 

@@ -137,7 +137,9 @@ impl RunningPhase {
             return Err(AllocError);
         };
         self.acts = self.acts.wrapping_add(1);
-        report.print_data(&done.bytes)
+        report.print_data(&done.bytes)?;
+        self.drive.give_back(done.bytes);
+        Ok(())
     }
 
     /// Gives the drive the FIS of a queued command.

@@ -2,7 +2,7 @@ use Rattle.shadow_mbr.proofs.Zeros.{sound_when_empty}
 use Rattle.shadow_mbr.proofs.sectors.Sectors.new.Goals as goal
 
 pub invariant_of-result : goal.invariant_of-result
-invariant_of-result c = sound_when_empty _ _ c.new.ensures.empty c.new.ensures.ordered c.requires
+invariant_of-result c = sound_when_empty _ _ c.new.ensures c.requires
 
 pub returns-clause-sound : goal.returns-clause-sound
-returns-clause-sound c = sound_when_empty _ _ c.new.ensures.empty c.new.ensures.ordered c.requires
+returns-clause-sound c = sound_when_empty _ _ c.new.ensures c.requires

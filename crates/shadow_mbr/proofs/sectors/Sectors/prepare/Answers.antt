@@ -1,4 +1,3 @@
-use Rattle.std.proofs.Common.{sym}
 use Rattle.shadow_mbr.proofs.sectors.Sectors.prepare.Goals as goal
 
 pub missing-requires-clause-within : goal.missing-requires-clause-within

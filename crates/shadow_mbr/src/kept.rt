@@ -1,0 +1,210 @@
+//! The sectors that are kept, by the places of their blocks.
+
+ghost use Rattle.std.specs.Prelude.{IfSome, option_map, unwrap_or, ◌≡◌, ◌+◌, ◌<◌, ◌≤◌, ◌++◌, ◌^◌, ◌==◌, ℕ, None, OnOk, OnErr, true, if◌then◌else◌, length, nat_eq, set, take, drop, vec_len};
+ghost use Rattle.std.specs.List.{list_any};
+ghost use Rattle.std.specs.List.Sorted.{IsStrictlySortedBy};
+ghost use Rattle.std.specs.Map.{keys_of};
+ghost use Rattle.std.specs.Ordering.{nat_cmp};
+ghost use Rattle.shadow_mbr.specs.Stored.{sector_size, zeros};
+ghost use Rattle.shadow_mbr.specs.Places.{place_at, block_at, AddsPlaces};
+
+use crate::places::Places;
+use std::alloc::{AllocError, Global};
+use std::marker::Model;
+
+/// How many bytes a sector has (ACS-3, IDENTIFY DEVICE word 106).
+pub const SECTOR_SIZE: usize = 512;
+
+/// What a sector holds.
+pub type Block = [u8; SECTOR_SIZE];
+
+static ZEROS: Block = [0; SECTOR_SIZE];
+
+/// The blocks of the sectors that are kept, and where each stands.
+#[derive(Drop)]
+pub(crate) struct Kept {
+    places: Places,
+    blocks: Vec<Block>,
+}
+
+impl Model for Kept {
+    ghost use Rattle.std.specs.Prelude.{List, ℕ};
+    ghost use Rattle.shadow_mbr.specs.Places.{blocks_of, AreOwn};
+
+    ghost Value = { List (ℕ × List ℕ) };
+
+    ghost view = { λ a. blocks_of a.places a.blocks.items };
+
+    ghost invariant = { λ a. AreOwn a.places a.blocks.items };
+}
+
+/// A sector of zeros.
+#[tactic(auto, unfolding(crate::specs::Stored::zeros))]
+fn zeros() -> &'static Block
+    ensures { result.now ≡ zeros }
+{
+    &ZEROS
+}
+
+/// The block at a place, zeros for none.
+fn block_or_zeros(blocks: &[Block], place: Option<usize>) -> &Block
+    requires { IfSome place (λ p. p < length blocks.now) }
+    ensures { result.now ≡ unwrap_or (option_map (block_at blocks.now) place) zeros }
+{
+    match place {
+        Some(place) => &blocks[place],
+        None => zeros(),
+    }
+}
+
+/// Writes some bytes of one block.
+fn write_block(blocks: &mut Vec<Block>, place: usize, from: usize, bytes: &[u8])
+    requires there { place < vec_len blocks.old }
+    requires fits { from + length bytes.now ≤ sector_size }
+    ensures { blocks.new.items ≡ set blocks.old.items place (take from (block_at blocks.old.items place) ++ bytes.now ++ drop (from + length bytes.now) (block_at blocks.old.items place)) }
+{
+    blocks[place][from..from + bytes.len()].copy_from_slice(bytes);
+}
+
+/// Takes the places of sectors away.
+fn remove_all(places: &mut Places, sectors: &[u64])
+    ensures removed { (s : ℕ) → place_at places.new s ≡ (if list_any (nat_eq s) sectors.now then None else place_at places.old s) }
+    ensures sorted { IsStrictlySortedBy nat_cmp (keys_of places.old) → IsStrictlySortedBy nat_cmp (keys_of places.new) }
+{
+    for sector in sectors {
+        places.remove(*sector);
+    }
+}
+
+/// Gives sectors that have no place the places from one on. Where memory is refused, nothing
+/// changes.
+fn place_all(places: &mut Places, sectors: &[u64], from: usize) -> Result<(), AllocError>
+    requires sorted { IsStrictlySortedBy nat_cmp (keys_of places.old) }
+    requires fresh { (s : ℕ) → list_any (nat_eq s) sectors.now ≡ true → place_at places.old s ≡ None }
+    requires fits { from + length sectors.now < 2 ^ 64 }
+    ensures adds { OnOk result (AddsPlaces places.old places.new sectors.now from) }
+    ensures sorted { IsStrictlySortedBy nat_cmp (keys_of places.new) }
+    ensures err { OnErr result (places.new ≡ places.old) }
+{
+    for (i, sector) in sectors.iter().enumerate() {
+        if let Err(refused) = places.set(*sector, from + i) {
+            remove_all(places, &sectors[..i]);
+            return Err(refused);
+        }
+    }
+    Ok(())
+}
+
+impl Kept {
+    ghost use Rattle.std.specs.Prelude.{◌≡◌, ◌==◌, ◌-◌, ◌&&◌, nat_le, nat_lt, not, ◌+◌, ◌<◌, ◌≤◌, ◌++◌, ℕ, [], None, Some, OnOk, OnErr, true, length, nat_eq, take, drop, is_some, unwrap_or, if◌then◌else◌};
+    ghost use Rattle.std.specs.List.{list_any};
+    ghost use Rattle.std.specs.List.Sorted.{IsStrictlySortedBy};
+    ghost use Rattle.std.specs.Map.{keys_of};
+    ghost use Rattle.std.specs.Ordering.{nat_cmp};
+    ghost use Rattle.shadow_mbr.specs.Stored.{sector_size, zeros, block_in, sectors_from};
+
+    pub(crate) fn new(alloc: Global) -> Kept
+        ensures { result ≡ [] }
+    {
+        Kept {
+            places: Places::new(alloc),
+            blocks: Vec::new(alloc),
+        }
+    }
+
+    pub(crate) fn clear(&mut self)
+        ensures { self.new ≡ [] }
+    {
+        self.places.clear();
+        self.blocks.clear();
+    }
+
+    /// Whether the sector is kept.
+    pub(crate) fn has(&self, sector: u64) -> bool
+        ensures value { result ≡ is_some (block_in self.now sector) }
+        ensures sorted { IsStrictlySortedBy nat_cmp (keys_of self.now) }
+    {
+        self.places.get(sector).is_some()
+    }
+
+    /// What the sector holds, zeros where it is not kept.
+    pub(crate) fn sector(&self, sector: u64) -> &Block
+        ensures value { result.now ≡ unwrap_or (block_in self.now sector) zeros }
+        ensures whole { length result.now ≡ sector_size }
+    {
+        block_or_zeros(&self.blocks, self.places.get(sector))
+    }
+
+    /// Appends what sectors hold, from one to before another, zeros where one is not kept.
+    #[tactic(auto, using(crate::proofs::Walks::no_sector))]
+    pub(crate) fn append_run(
+        &self,
+        bytes: &mut Vec<u8>,
+        first: u64,
+        end: u64,
+    ) -> Result<(), AllocError>
+        requires { first ≤ end }
+        ensures { OnOk result (bytes.new.items ≡ bytes.old.items ++ sectors_from (λ s. unwrap_or (block_in self.now s) zeros) first (end - first)) }
+    {
+        // Each place has a block: the fields say so once they are used.
+        let _ = &self.blocks;
+        let mut finder = self.places.finder(first);
+        for sector in first..end {
+            bytes.extend_from_slice(block_or_zeros(&self.blocks, finder.at(sector)))?;
+        }
+        Ok(())
+    }
+
+    /// Lists the sectors of a run that are not kept.
+    pub(crate) fn list_missing(
+        &self,
+        missing: &mut Vec<u64>,
+        first: u64,
+        end: u64,
+    ) -> Result<(), AllocError>
+        requires from { first ≤ end }
+        requires none { missing.old.items ≡ [] }
+        ensures { OnOk result ((s : ℕ) → list_any (nat_eq s) missing.new.items ≡ (nat_le first s && nat_lt s end && not (is_some (block_in self.now s)))) }
+    {
+        // Each place has a block: the fields say so once they are used.
+        let _ = &self.blocks;
+        let mut finder = self.places.finder(first);
+        for sector in first..end {
+            if finder.at(sector).is_none() {
+                missing.push(sector)?;
+            }
+        }
+        Ok(())
+    }
+
+    /// Writes some bytes of a sector that is kept.
+    #[tactic(auto, using(crate::proofs::Blocks::sorted_blocks))]
+    pub(crate) fn put(&mut self, sector: u64, from: usize, bytes: &[u8])
+        requires kept { is_some (block_in self.old sector) ≡ true }
+        requires fits { from + length bytes.now ≤ sector_size }
+        ensures kept { (s : ℕ) → is_some (block_in self.new s) ≡ is_some (block_in self.old s) }
+        ensures bytes { (s : ℕ) → unwrap_or (block_in self.new s) zeros ≡ (if s == sector then take from (unwrap_or (block_in self.old s) zeros) ++ bytes.now ++ drop (from + length bytes.now) (unwrap_or (block_in self.old s) zeros) else unwrap_or (block_in self.old s) zeros) }
+        ensures sorted { IsStrictlySortedBy nat_cmp (keys_of self.new) }
+    {
+        if let Some(place) = self.places.get(sector) {
+            write_block(&mut self.blocks, place, from, bytes);
+        }
+    }
+
+    /// Keeps the listed sectors too, as zeros. Where memory is refused, nothing changes.
+    #[tactic(auto, using(crate::proofs::Blocks::sorted_blocks))]
+    pub(crate) fn add_all(&mut self, sectors: &[u64]) -> Result<(), AllocError>
+        requires { (s : ℕ) → list_any (nat_eq s) sectors.now ≡ true → block_in self.old s ≡ None }
+        ensures kept { OnOk result ((s : ℕ) → block_in self.new s ≡ (if list_any (nat_eq s) sectors.now then Some zeros else block_in self.old s)) }
+        ensures sorted { IsStrictlySortedBy nat_cmp (keys_of self.new) }
+        ensures err { OnErr result (self.new ≡ self.old) }
+    {
+        let count = self.blocks.len();
+        self.blocks.resize(count + sectors.len(), *zeros())?;
+        if let Err(refused) = place_all(&mut self.places, sectors, count) {
+            self.blocks.truncate(count);
+            return Err(refused);
+        }
+        Ok(())
+    }
+}
