@@ -61,15 +61,18 @@ fn block_or_zeros(blocks: &[Block], place: Option<usize>) -> &Block
 fn write_block(blocks: &mut Vec<Block>, place: usize, from: usize, bytes: &[u8])
     requires there { place < vec_len blocks.old }
     requires fits { from + length bytes.now ≤ sector_size }
-    ensures { blocks.new.items ≡ set blocks.old.items place (take from (block_at blocks.old.items place) ++ bytes.now ++ drop (from + length bytes.now) (block_at blocks.old.items place)) }
+    ensures { blocks.new.items
+        ≡ set blocks.old.items place (take from (block_at blocks.old.items place) ++ bytes.now ++ drop (from + length bytes.now) (block_at blocks.old.items place)) }
 {
     blocks[place][from..from + bytes.len()].copy_from_slice(bytes);
 }
 
 /// Takes the places of sectors away.
 fn remove_all(places: &mut Places, sectors: &[u64])
-    ensures removed { (s : ℕ) → place_at places.new s ≡ (if list_any (nat_eq s) sectors.now then None else place_at places.old s) }
-    ensures sorted { IsStrictlySortedBy nat_cmp (keys_of places.old) → IsStrictlySortedBy nat_cmp (keys_of places.new) }
+    ensures removed { (s : ℕ) → place_at places.new s
+        ≡ (if list_any (nat_eq s) sectors.now then None else place_at places.old s) }
+    ensures sorted { IsStrictlySortedBy nat_cmp (keys_of places.old)
+        → IsStrictlySortedBy nat_cmp (keys_of places.new) }
 {
     for sector in sectors {
         places.remove(*sector);
@@ -80,7 +83,8 @@ fn remove_all(places: &mut Places, sectors: &[u64])
 /// changes.
 fn place_all(places: &mut Places, sectors: &[u64], from: usize) -> Result<(), AllocError>
     requires sorted { IsStrictlySortedBy nat_cmp (keys_of places.old) }
-    requires fresh { (s : ℕ) → list_any (nat_eq s) sectors.now ≡ true → place_at places.old s ≡ None }
+    requires fresh { (s : ℕ) → list_any (nat_eq s) sectors.now ≡ true
+        → place_at places.old s ≡ None }
     requires fits { from + length sectors.now < 2 ^ 64 }
     ensures adds { OnOk result (AddsPlaces places.old places.new sectors.now from) }
     ensures sorted { IsStrictlySortedBy nat_cmp (keys_of places.new) }
@@ -144,7 +148,8 @@ impl Kept {
         end: u64,
     ) -> Result<(), AllocError>
         requires { first ≤ end }
-        ensures { OnOk result (bytes.new.items ≡ bytes.old.items ++ sectors_from (λ s. unwrap_or (block_in self.now s) zeros) first (end - first)) }
+        ensures { OnOk result (bytes.new.items
+            ≡ bytes.old.items ++ sectors_from (λ s. unwrap_or (block_in self.now s) zeros) first (end - first)) }
     {
         // Each place has a block: the fields say so once they are used.
         let _ = &self.blocks;
@@ -164,7 +169,8 @@ impl Kept {
     ) -> Result<(), AllocError>
         requires from { first ≤ end }
         requires none { missing.old.items ≡ [] }
-        ensures { OnOk result ((s : ℕ) → list_any (nat_eq s) missing.new.items ≡ (nat_le first s && nat_lt s end && not (is_some (block_in self.now s)))) }
+        ensures { OnOk result ((s : ℕ) → list_any (nat_eq s) missing.new.items
+            ≡ (nat_le first s && nat_lt s end && not (is_some (block_in self.now s)))) }
     {
         // Each place has a block: the fields say so once they are used.
         let _ = &self.blocks;
@@ -183,7 +189,9 @@ impl Kept {
         requires kept { is_some (block_in self.old sector) ≡ true }
         requires fits { from + length bytes.now ≤ sector_size }
         ensures kept { (s : ℕ) → is_some (block_in self.new s) ≡ is_some (block_in self.old s) }
-        ensures bytes { (s : ℕ) → unwrap_or (block_in self.new s) zeros ≡ (if s == sector then take from (unwrap_or (block_in self.old s) zeros) ++ bytes.now ++ drop (from + length bytes.now) (unwrap_or (block_in self.old s) zeros) else unwrap_or (block_in self.old s) zeros) }
+        ensures bytes { (s : ℕ) → unwrap_or (block_in self.new s) zeros
+            ≡ (if s == sector
+            then take from (unwrap_or (block_in self.old s) zeros) ++ bytes.now ++ drop (from + length bytes.now) (unwrap_or (block_in self.old s) zeros) else unwrap_or (block_in self.old s) zeros) }
         ensures sorted { IsStrictlySortedBy nat_cmp (keys_of self.new) }
     {
         if let Some(place) = self.places.get(sector) {
@@ -195,7 +203,8 @@ impl Kept {
     #[tactic(auto, using(crate::proofs::Blocks::sorted_blocks))]
     pub(crate) fn add_all(&mut self, sectors: &[u64]) -> Result<(), AllocError>
         requires { (s : ℕ) → list_any (nat_eq s) sectors.now ≡ true → block_in self.old s ≡ None }
-        ensures kept { OnOk result ((s : ℕ) → block_in self.new s ≡ (if list_any (nat_eq s) sectors.now then Some zeros else block_in self.old s)) }
+        ensures kept { OnOk result ((s : ℕ) → block_in self.new s
+            ≡ (if list_any (nat_eq s) sectors.now then Some zeros else block_in self.old s)) }
         ensures sorted { IsStrictlySortedBy nat_cmp (keys_of self.new) }
         ensures err { OnErr result (self.new ≡ self.old) }
     {

@@ -44,7 +44,8 @@ impl Mbr {
     /// Fills the buffer with the bytes from a place on.
     pub fn read(&self, at: u64, buffer: &mut [u8])
         requires { at + length buffer.old ≤ sector_size * self.now.sectors }
-        ensures { (k : ℕ) → k < length buffer.new → slice_index buffer.new k ≡ byte_at self.now (at + k) }
+        ensures { (k : ℕ) → k < length buffer.new
+            → slice_index buffer.new k ≡ byte_at self.now (at + k) }
     {
         self.held.read(at, buffer);
     }
@@ -54,11 +55,13 @@ impl Mbr {
     pub fn write(&mut self, at: u64, bytes: &[u8]) -> Result<(), AllocError>
         requires { at + length bytes.now ≤ sector_size * self.old.sectors }
         ensures size { self.new.sectors ≡ self.old.sectors }
-        ensures bytes { OnOk result ((place : ℕ) → byte_at self.new place ≡ byte_after at bytes.now (byte_at self.old place) place) }
+        ensures bytes { OnOk result ((place : ℕ)
+            → byte_at self.new place ≡ byte_after at bytes.now (byte_at self.old place) place) }
 
         // What was written is covered then, and what was covered stays so.
         ensures covered { OnOk result (AreKept self.new at (length bytes.now)) }
-        ensures kept { OnOk result ((s : ℕ) → is_some (kept_at self.new s) ≡ (is_some (kept_at self.old s) || has_byte at (length bytes.now) s)) }
+        ensures kept { OnOk result ((s : ℕ) → is_some (kept_at self.new s)
+            ≡ (is_some (kept_at self.old s) || has_byte at (length bytes.now) s)) }
         ensures stays { (from len : ℕ) → AreKept self.old from len → AreKept self.new from len }
         ensures err { OnErr result (self.new ≡ self.old) }
     {
@@ -80,7 +83,8 @@ impl Mbr {
         requires inside { at + length bytes.now ≤ sector_size * self.old.sectors }
         requires covered { AreKept self.old at (length bytes.now) }
         ensures size { self.new.sectors ≡ self.old.sectors }
-        ensures bytes { (place : ℕ) → byte_at self.new place ≡ byte_after at bytes.now (byte_at self.old place) place }
+        ensures bytes { (place : ℕ) → byte_at self.new place
+            ≡ byte_after at bytes.now (byte_at self.old place) place }
         ensures stays { (from len : ℕ) → AreKept self.old from len → AreKept self.new from len }
     {
         self.held.overwrite(at, bytes);

@@ -58,9 +58,13 @@ impl Media {
     pub fn read(&self, lba: u64, buffer: &mut [u8])
         requires whole { length buffer.old % sector_size ≡ 0 }
         requires inside { sector_size * lba + length buffer.old ≤ sector_size * self.now.sectors }
-        ensures bytes { (k : ℕ) → k < length buffer.new → slice_index buffer.new k ≡ byte_at self.now (sector_size * lba + k) }
-        ensures chunks { (k : ℕ) → sector_size * k < length buffer.new → slice_range buffer.new (sector_size * k) (sector_size * k + sector_size) ≡ sector_at self.now (lba + k) }
-        ensures exact { buffer.new ≡ sectors_from (sector_at self.now) lba (length buffer.old / sector_size) }
+        ensures bytes { (k : ℕ) → k < length buffer.new
+            → slice_index buffer.new k ≡ byte_at self.now (sector_size * lba + k) }
+        ensures chunks { (k : ℕ) → sector_size * k < length buffer.new
+            → slice_range buffer.new (sector_size * k) (sector_size * k + sector_size)
+            ≡ sector_at self.now (lba + k) }
+        ensures exact { buffer.new
+            ≡ sectors_from (sector_at self.now) lba (length buffer.old / sector_size) }
         ensures each { (sector : ℕ) → length (sector_at self.now sector) ≡ sector_size }
     {
         self.held.read(SECTOR * lba, buffer);
@@ -94,9 +98,16 @@ impl Media {
         requires whole { length bytes.now % sector_size ≡ 0 }
         requires inside { sector_size * lba + length bytes.now ≤ sector_size * self.old.sectors }
         ensures size { self.new.sectors ≡ self.old.sectors }
-        ensures sectors { OnOk result ((sector : ℕ) → sector_at self.new sector ≡ sector_after lba bytes.now (sector_at self.old sector) sector) }
-        ensures bytes { OnOk result ((place : ℕ) → byte_at self.new place ≡ byte_after (sector_size * lba) bytes.now (byte_at self.old place) place) }
-        ensures kept { OnOk result ((sector : ℕ) → is_some (kept_at self.new sector) ≡ (is_some (kept_at self.old sector) || has_byte (sector_size * lba) (length bytes.now) sector)) }
+        ensures sectors { OnOk result ((sector : ℕ)
+            → sector_at self.new sector
+            ≡ sector_after lba bytes.now (sector_at self.old sector) sector) }
+        ensures bytes { OnOk result ((place : ℕ)
+            → byte_at self.new place
+            ≡ byte_after (sector_size * lba) bytes.now (byte_at self.old place) place) }
+        ensures kept { OnOk result ((sector : ℕ)
+            → is_some (kept_at self.new sector)
+            ≡ (is_some (kept_at self.old sector)
+            || has_byte (sector_size * lba) (length bytes.now) sector)) }
         ensures err { OnErr result (self.new ≡ self.old) }
     {
         self.held.write(SECTOR * lba, bytes)?;

@@ -138,7 +138,8 @@ impl Places {
     /// The sector stands there from now on.
     #[tactic(auto, using(crate::proofs::Groups::sorted_in))]
     pub(crate) fn set(&mut self, sector: u64, place: usize) -> Result<(), AllocError>
-        ensures set { OnOk result ((s : ℕ) → place_at self.new s ≡ (if s == sector then Some place else place_at self.old s)) }
+        ensures set { OnOk result ((s : ℕ) → place_at self.new s
+            ≡ (if s == sector then Some place else place_at self.old s)) }
         ensures err { OnErr result (self.new ≡ self.old) }
         ensures sorted { IsStrictlySortedBy nat_cmp (keys_of self.new) }
     {
@@ -156,7 +157,8 @@ impl Places {
     /// The sector stands nowhere from now on.
     #[tactic(auto, using(crate::proofs::Groups::sorted_in))]
     pub(crate) fn remove(&mut self, sector: u64)
-        ensures removed { (s : ℕ) → place_at self.new s ≡ (if s == sector then None else place_at self.old s) }
+        ensures removed { (s : ℕ) → place_at self.new s
+            ≡ (if s == sector then None else place_at self.old s) }
         ensures sorted { IsStrictlySortedBy nat_cmp (keys_of self.new) }
     {
         if let Some(group) = self.groups.get_mut(&(sector / GROUP)) {

@@ -101,7 +101,9 @@ impl Sectors {
         requires fits { from + length bytes.now ≤ sector_size }
         ensures size { self.new.sectors ≡ self.old.sectors }
         ensures kept { (s : ℕ) → is_some (kept_at self.new s) ≡ is_some (kept_at self.old s) }
-        ensures bytes { (s : ℕ) → sector_at self.new s ≡ (if s == sector then take from (sector_at self.old s) ++ bytes.now ++ drop (from + length bytes.now) (sector_at self.old s) else sector_at self.old s) }
+        ensures bytes { (s : ℕ) → sector_at self.new s
+            ≡ (if s == sector
+            then take from (sector_at self.old s) ++ bytes.now ++ drop (from + length bytes.now) (sector_at self.old s) else sector_at self.old s) }
         ensures sound { IsSound self.new }
     {
         self.kept.put(sector, from, bytes);
@@ -112,7 +114,8 @@ impl Sectors {
     fn part(&self, place: u64, len: usize) -> &[u8]
         requires { place % sector_size + len ≤ sector_size }
         ensures len { length result.now ≡ len }
-        ensures bytes { (i : ℕ) → i < len → slice_index result.now i ≡ byte_at self.now (place + i) }
+        ensures bytes { (i : ℕ) → i < len → slice_index result.now i
+            ≡ byte_at self.now (place + i) }
     {
         let block = self.sector(place / SECTOR);
         let from = (place % SECTOR) as usize;
@@ -122,7 +125,8 @@ impl Sectors {
     /// The bytes from a place on.
     pub(crate) fn read(&self, at: u64, buffer: &mut [u8])
         requires { at + length buffer.old ≤ sector_size * self.now.sectors }
-        ensures bytes { (k : ℕ) → k < length buffer.new → slice_index buffer.new k ≡ byte_at self.now (at + k) }
+        ensures bytes { (k : ℕ) → k < length buffer.new
+            → slice_index buffer.new k ≡ byte_at self.now (at + k) }
         ensures sound { IsSound self.now }
     {
         // The sectors are whole: the fields say so once they are used.
@@ -139,7 +143,8 @@ impl Sectors {
     /// The bytes of so many sectors from one on.
     pub(crate) fn read_sectors(&self, first: u64, count: u32) -> Result<Vec<u8>, AllocError>
         requires { first + count ≤ self.now.sectors }
-        ensures { IfOk result (λ bytes. bytes.items ≡ sectors_from (sector_at self.now) first count) }
+        ensures { IfOk result (λ bytes. bytes.items
+            ≡ sectors_from (sector_at self.now) first count) }
     {
         self.read_sectors_into(Vec::new(self.alloc), first, count)
     }
@@ -152,7 +157,8 @@ impl Sectors {
         count: u32,
     ) -> Result<Vec<u8>, AllocError>
         requires { first + count ≤ self.now.sectors }
-        ensures { IfOk result (λ bytes. bytes.items ≡ sectors_from (sector_at self.now) first count) }
+        ensures { IfOk result (λ bytes. bytes.items
+            ≡ sectors_from (sector_at self.now) first count) }
     {
         // The sectors are few and whole: the fields say so once they are used.
         let _ = &self.kept;
@@ -170,7 +176,8 @@ impl Sectors {
         requires kept { is_some (kept_at self.old (place / sector_size)) ≡ true }
         ensures size { self.new.sectors ≡ self.old.sectors }
         ensures kept { (s : ℕ) → is_some (kept_at self.new s) ≡ is_some (kept_at self.old s) }
-        ensures bytes { (p : ℕ) → byte_at self.new p ≡ byte_after place bytes.now (byte_at self.old p) p }
+        ensures bytes { (p : ℕ) → byte_at self.new p
+            ≡ byte_after place bytes.now (byte_at self.old p) p }
         ensures sound { IsSound self.new }
     {
         // The sectors are whole: the fields say so once they are used.
@@ -184,7 +191,8 @@ impl Sectors {
         requires kept { AreKept self.old at (length bytes.now) }
         ensures size { self.new.sectors ≡ self.old.sectors }
         ensures kept { (s : ℕ) → is_some (kept_at self.new s) ≡ is_some (kept_at self.old s) }
-        ensures bytes { (p : ℕ) → byte_at self.new p ≡ byte_after at bytes.now (byte_at self.old p) p }
+        ensures bytes { (p : ℕ) → byte_at self.new p
+            ≡ byte_after at bytes.now (byte_at self.old p) p }
         ensures sound { IsSound self.new }
     {
         // The sectors are whole: the fields say so once they are used.
@@ -234,7 +242,8 @@ impl Sectors {
     fn prepare(&mut self, at: u64, len: usize) -> Result<(), AllocError>
         requires { at + len ≤ sector_size * self.old.sectors }
         ensures size { self.new.sectors ≡ self.old.sectors }
-        ensures kept { OnOk result ((s : ℕ) → is_some (kept_at self.new s) ≡ (is_some (kept_at self.old s) || has_byte at len s)) }
+        ensures kept { OnOk result ((s : ℕ) → is_some (kept_at self.new s)
+            ≡ (is_some (kept_at self.old s) || has_byte at len s)) }
         ensures bytes { (s : ℕ) → sector_at self.new s ≡ sector_at self.old s }
         ensures err { OnErr result (self.new ≡ self.old) }
         ensures sound { IsSound self.new }
@@ -252,8 +261,10 @@ impl Sectors {
     pub(crate) fn write(&mut self, at: u64, bytes: &[u8]) -> Result<(), AllocError>
         requires { at + length bytes.now ≤ sector_size * self.old.sectors }
         ensures size { self.new.sectors ≡ self.old.sectors }
-        ensures kept { OnOk result ((s : ℕ) → is_some (kept_at self.new s) ≡ (is_some (kept_at self.old s) || has_byte at (length bytes.now) s)) }
-        ensures bytes { OnOk result ((p : ℕ) → byte_at self.new p ≡ byte_after at bytes.now (byte_at self.old p) p) }
+        ensures kept { OnOk result ((s : ℕ) → is_some (kept_at self.new s)
+            ≡ (is_some (kept_at self.old s) || has_byte at (length bytes.now) s)) }
+        ensures bytes { OnOk result ((p : ℕ) → byte_at self.new p
+            ≡ byte_after at bytes.now (byte_at self.old p) p) }
         ensures err { OnErr result (self.new ≡ self.old) }
         ensures sound { IsSound self.new }
     {

@@ -69,7 +69,8 @@ impl Store {
 
     /// The session whose transaction is open on the SP.
     pub fn open_on(&self, sp: Sp) -> Option<SessionId>
-        ensures { result ≡ option_map (λ t. record { tsn = t.tsn; sp = sp }) (part self.now sp).pending }
+        ensures { result
+            ≡ option_map (λ t. record { tsn = t.tsn; sp = sp }) (part self.now sp).pending }
     {
         match sp {
             Sp::Admin => session_of(&self.admin, sp),
@@ -141,7 +142,8 @@ impl Store {
 
     /// Makes what the session sees the rows and bytes in force. It takes no memory.
     pub fn commit(&mut self, session: SessionId) -> Result<(), NotOpen>
-        ensures ok { OnOk result (self.new ≡ at_part session.sp (part_commit session.tsn) self.old) }
+        ensures ok { OnOk result (self.new
+            ≡ at_part session.sp (part_commit session.tsn) self.old) }
         ensures not_open { IsErr result ↔ (is_open_in (part self.old session.sp).pending session.tsn ≡ false) }
         ensures err { OnErr result (self.new ≡ self.old) }
     {
@@ -233,7 +235,8 @@ impl Store {
         object: Uid,
         cells: &Vec<(Column, Cell)>,
     ) -> Result<(), SetError>
-        ensures ok { OnOk result (self.new ≡ at_part sp (part_change (λ rows. with_items rows object cells.now.items) (λ bytes. bytes)) self.old) }
+        ensures ok { OnOk result (self.new
+            ≡ at_part sp (part_change (λ rows. with_items rows object cells.now.items) (λ bytes. bytes)) self.old) }
         ensures fault { TellsFault (fault_of_cells self.old sp object cells.now.items) result }
         ensures err { OnErr result (self.new ≡ self.old) }
     {
@@ -252,7 +255,8 @@ impl Store {
         cells: &Vec<(Column, Cell)>,
     ) -> Result<(), AllocError>
         requires { fault_of_cells self.old sp object cells.now.items ≡ None }
-        ensures ok { OnOk result (self.new ≡ at_part sp (part_change (λ rows. with_items rows object cells.now.items) (λ bytes. bytes)) self.old) }
+        ensures ok { OnOk result (self.new
+            ≡ at_part sp (part_change (λ rows. with_items rows object cells.now.items) (λ bytes. bytes)) self.old) }
         ensures err { OnErr result (self.new ≡ self.old) }
     {
         let copies = copied(self.alloc, cells)?;
@@ -265,7 +269,8 @@ impl Store {
 
     fn set_bytes(&mut self, at: u64, bytes: &[u8]) -> Result<(), AllocError>
         requires { at + length bytes.now ≤ sector_size * self.old.config.mbr_sectors }
-        ensures ok { OnOk result (self.new ≡ at_part Locking (part_change (λ rows. rows) (written at bytes.now)) self.old) }
+        ensures ok { OnOk result (self.new
+            ≡ at_part Locking (part_change (λ rows. rows) (written at bytes.now)) self.old) }
         ensures err { OnErr result (self.new ≡ self.old) }
     {
         change_bytes(self.alloc, &mut self.mbr, &mut self.locking, at, bytes)?;
@@ -315,7 +320,8 @@ impl Store {
 
     /// The PIN of SID that is in force, copied.
     fn c_pin_sid(&self) -> Result<Option<Cell>, AllocError>
-        ensures { IfOk result (λ pin. pin ≡ look_up (committed_sight self.now) Admin c_pin_sid pin_column) }
+        ensures { IfOk result (λ pin. pin
+            ≡ look_up (committed_sight self.now) Admin c_pin_sid pin_column) }
     {
         let view = self.committed();
         match view.cell(Sp::Admin, Uid::C_PIN_SID, Column::PIN) {
@@ -358,7 +364,8 @@ impl Store {
     }
 
     fn restore_locking(&mut self) -> Result<(), AllocError>
-        ensures ok { OnOk result (self.new ≡ at_part Locking (λ p. part_of locking_factory (blank p.bytes)) self.old) }
+        ensures ok { OnOk result (self.new
+            ≡ at_part Locking (λ p. part_of locking_factory (blank p.bytes)) self.old) }
         ensures err { OnErr result (self.new ≡ self.old) }
     {
         self.tables.restore_factory(Sp::Locking)?;
