@@ -4,14 +4,13 @@ use Rattle.std.specs.Prelude.{nat_le, nat_lt, ◌-◌, slice_index}
 use Rattle.sp_cells.specs.declared.names.Uid.{Uid}
 use Rattle.sp_cells.specs.declared.names.Sp.{Sp}
 use Rattle.sp_cells.specs.declared.names.Sp.TheVariants.{Admin, Locking}
-use Rattle.sp_cells.specs.declared.error.SetError.{SetError}
 use Rattle.sp_cells.specs.declared.error.SetError.TheVariants as faults
 use Rattle.sp_cells.specs.Config.{Config}
 use Rattle.sp_cells.specs.Flat.{LookUp}
 use Rattle.sp_tables.specs.Looks.{fault_seen}
 use Rattle.sp_tables.specs.Tries.{names_tries}
 use Rattle.tcg_tokens.specs.Length.{len_of}
-use Rattle.tcg_tokens.specs.Tree.{Tree, bytes, list, trees_of}
+use Rattle.tcg_tokens.specs.Tree.{Tree, bytes}
 use Rattle.transactions.specs.declared.change.SessionId.{SessionId}
 use Rattle.transactions.specs.Bytes.{bytes_from}
 use Rattle.transactions.specs.Stored.{Stored}
@@ -24,11 +23,11 @@ use Rattle.sessions.specs.Answers.{in_force}
 use Rattle.methods.specs.Kinds.{kind_of}
 use Rattle.methods.specs.Grants.{denied}
 use Rattle.methods.specs.Settings.{Setting, cells_set, bytes_set, setting}
-use Rattle.methods.specs.Said.{Said, reply_of, says, refuses, fits}
+use Rattle.methods.specs.Said.{reply_of, says, refuses, fits}
 use Rattle.call_shapes.specs.Limits.{most_response}
-use Rattle.methods.specs.Effects.{ask_at, seen_by, is_inside, bytes_from as bytes_among, last_row, rows_said, fault_of_setting, unless_fault, valid_setting, to_set as to_set_of, set_said, unless_inside, sp_of_row, said_ask}
+use Rattle.methods.specs.Effects.{ask_at, seen_by, is_inside, bytes_from as bytes_among, last_row, rows_said, fault_of_setting, unless_fault, valid_setting, set_said, unless_inside, sp_of_row, said_ask}
 use Rattle.methods.specs.Calls.{said_unless, said_shaped}
-use Rattle.history.specs.Calls.{Standing, Judgement, Refuses, Gives, Makes, Attempts, Activates, Reverts, gives, listing, table_size, bytes_between, rows_given, fault_by, valid, to_set, makes, unless_open, does_ask, does, unless_denied, judged}
+use Rattle.history.specs.Calls.{Standing, Judgement, Refuses, Gives, Makes, Attempts, Activates, Reverts, gives, listing, table_size, rows_given, fault_by, valid, to_set, makes, unless_open, does_ask, does, unless_denied, judged}
 use Rattle.history.specs.CallsAgree.{said_of, SaidLaw, standing_on, AnswerLaw}
 
 pub said_law : SaidLaw

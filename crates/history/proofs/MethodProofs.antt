@@ -1,18 +1,15 @@
 -- A method takes effect, and a column is listed, exactly where entries say so.
-use Rattle.std.proofs.Common.{◌≡◌, ℕ, ◌==◌, ◌≤◌, Bool, true, false, ◌&&◌, not, List, [], ◌∷◌, ◌++◌, Option, Some, None, refl, sym, subst, ◌∙◌, ap, cond, ◌⊎◌, inl, inr, eq-eqb, arith}
-use Rattle.std.specs.Prelude.{length, is_some, unwrap_or, map, filter, nat_le, slice_index, Ok}
-use Rattle.std.specs.List.{flat_map}
+use Rattle.std.proofs.Common.{◌≡◌, ℕ, ◌==◌, Bool, true, false, ◌&&◌, not, List, [], ◌∷◌, Option, Some, None, refl, sym, subst, ◌∙◌, ap, cond, ◌⊎◌, inl, inr, eq-eqb, arith}
+use Rattle.std.specs.Prelude.{length, is_some, unwrap_or, map, slice_index, Ok}
 use Rattle.std.proofs.lemmas.Bool.Decides.{nat_tests}
 use Rattle.fis.specs.H2d.{h2d_at}
 use Rattle.fis.specs.declared.h2d.RegH2d.{RegH2d}
 use Rattle.sp_cells.specs.declared.names.Uid.{Uid}
 use Rattle.sp_cells.specs.declared.names.Column.{Column}
-use Rattle.sp_cells.specs.declared.cells.Cell.{Cell}
-use Rattle.sp_cells.specs.Names.{get, col}
+use Rattle.sp_cells.specs.Names.{col}
 use Rattle.sp_cells.specs.Flat.{LookUp}
 use Rattle.ace_eval.specs.Truth.{has}
-use Rattle.ace_eval.specs.Aces.{HasAce, acl_at, ace_of}
-use Rattle.ace_eval.proofs.AceLemmas.{some_ace, no_ace}
+use Rattle.ace_eval.specs.Aces.{acl_at, ace_of}
 use Rattle.audit.specs.declared.reason.AttemptFailure.{AttemptFailure}
 use Rattle.audit.specs.declared.reason.AttemptFailure.TheVariants.{WrongPin, LockedOut, Disabled, Unknown}
 use Rattle.audit.specs.declared.reason.Why.{Why}
@@ -24,17 +21,14 @@ use Rattle.sp_cells.specs.declared.names.Sp.{Sp}
 use Rattle.trusted_cmds.specs.Commands.{is_queued}
 use Rattle.compacket.specs.Frames.{Frame, reading as frame_in}
 use Rattle.tcg_tokens.specs.Reading.{reading as message_in}
-use Rattle.tcg_tokens.specs.Tree.{Tree, number, named}
+use Rattle.tcg_tokens.specs.Tree.{Tree}
 use Rattle.trusted_cmds.specs.declared.command.Command.{Command}
 use Rattle.trusted_cmds.specs.declared.command.Command.TheVariants.{Send}
 use Rattle.trusted_cmds.specs.Commands.{reading}
 use Rattle.call_shapes.specs.declared.ask.Ask.{Ask}
 use Rattle.call_shapes.specs.declared.ask.Ask.TheVariants.{GetCells, GetBytes, SetCells, SetBytes, Authenticate, Activate, Revert, Other}
 use Rattle.std.specs.Option.{option_or}
-use Rattle.methods.specs.Kinds.{kind_of}
-use Rattle.methods.specs.Columns.{columns_of}
 use Rattle.methods.specs.Grants.{why_denied, unless_allowed, denial as denial_of, wanted, first_some}
-use Rattle.call_shapes.specs.CellValues.{cell_tree}
 use Rattle.methods.specs.Laws.{EachHasAce}
 use Rattle.methods.proofs.GrantLaws.{grant_law as grants}
 use Rattle.history.specs.Calls.{Standing, Judgement, Refuses, Gives, Makes, Attempts, Activates, Reverts, denial, does, unless_denied, judged}

@@ -3,7 +3,6 @@ use Rattle.std.proofs.Common.{◌≡◌, ◌==◌, Bool, true, false, ◌&&◌, 
 use Rattle.sp_cells.specs.declared.names.Uid.{Uid}
 use Rattle.sp_cells.specs.declared.names.Sp.{Sp}
 use Rattle.sp_cells.specs.ColumnNames.{class_column}
-use Rattle.sp_cells.specs.Flat.{LookUp}
 use Rattle.ace_eval.specs.Truth.{has}
 use Rattle.sessions.specs.Known.{is_known}
 use Rattle.sessions.specs.Attempts.{uid_in}

@@ -1,34 +1,28 @@
 -- What moves data is on the drive, and permitted.
-use Rattle.std.proofs.Common.{◌≡◌, ℕ, ◌==◌, ◌*◌, Bool, true, false, ◌&&◌, ◌||◌, not, List, [], ◌∷◌, Option, Some, None, refl, sym, subst, ◌∙◌, ap, cond, eqb-true, ◌%◌, ◌/◌, ◌<◌, arith}
-use Rattle.std.specs.Prelude.{is_some, unwrap_or, slice_index, nat_le, length, Result, Ok, Err}
+use Rattle.std.proofs.Common.{◌≡◌, ℕ, ◌==◌, ◌*◌, Bool, true, false, ◌&&◌, ◌||◌, not, List, [], Option, Some, None, refl, sym, subst, ◌∙◌, ap, cond, eqb-true}
+use Rattle.std.specs.Prelude.{is_some, slice_index, nat_le, length, Result, Ok, Err}
 use Rattle.fis.specs.Types.{h2d_type}
 use Rattle.fis.specs.H2d.{h2d_at}
 use Rattle.fis.specs.declared.h2d.RegH2d.{RegH2d}
-use Rattle.locking.specs.declared.range.Op.{Op}
 use Rattle.locking.specs.declared.range.Op.TheVariants.{Read, Write}
 use Rattle.trusted_cmds.specs.Commands.{is_queued, tag_of, sector_size}
 use Rattle.compacket.specs.declared.session.Session.{Session}
 use Rattle.compacket.specs.declared.error.FrameError.{FrameError}
 use Rattle.compacket.specs.Frames.{Frame, reading as frame_in}
 use Rattle.tcg_tokens.specs.Reading.{reading as message_in}
-use Rattle.history.specs.Opening.{Origin}
 use Rattle.trusted_cmds.specs.declared.command.Command.{Command}
 use Rattle.trusted_cmds.specs.declared.command.Command.TheVariants.{ReadQueued, WriteQueued, ReadDma, WriteDma, Send, Receive, Identify, ReadLog10, Flush}
 use Rattle.trusted_cmds.specs.declared.command.CommandError.{CommandError}
-use Rattle.trusted_cmds.specs.Commands.{fault_of, read_unless, reading}
+use Rattle.trusted_cmds.specs.Commands.{reading}
 use Rattle.locking.specs.declared.ranges.Verdict.{Verdict}
 use Rattle.locking.specs.declared.ranges.Verdict.TheVariants.{Serve, Shadow, Denied}
 use Rattle.history.specs.Sessions.{Begun}
-use Rattle.history.specs.Events.{HeldCommand, Failure, Held, Completed, CompletedWrite, QueueFailed, QueueMended, Deed, Nothing, InSession, OfQueue, Wrote, Took, WasReset, Event, did}
-use Rattle.history.specs.Readers.{holding, held}
-use Rattle.history.specs.Facts.{Facts, facts, session_named}
+use Rattle.history.specs.Events.{HeldCommand, Failure, Deed, Nothing, Wrote, Took, Event, did}
+use Rattle.history.specs.Facts.{Facts, session_named}
 use Rattle.history.specs.Decisions.{not_found, aborted, fails, refuses, fails_queue, on_drive, ranges_in_force, verdict_on, queued_by, admitted, unqueued_by, answers, to_manager, is_trusted, is_session_com_id, discovery_com_id, is_manager, to_session, framed, sent, received, unqueued, known, while_failed, is_busy, commanded, completed_by, completed}
-use Rattle.history.specs.Answers.{is_holding}
-use Rattle.history.specs.History.{Act, Accept, Complete, Reset, event, event_by, log}
+use Rattle.history.specs.History.{Act, Accept, Complete, Reset, event_by}
 use Rattle.history.specs.MethodLaws.{IsLookedAt}
-use Rattle.history.specs.DenialLaws.{Moves, read_queued, write_queued}
 use Rattle.history.specs.TransferLaws.{IsPermitted, is_denied, Writes, WriteLaw}
-use Rattle.history.proofs.Words.{latest-here, latest-skip}
 use Rattle.history.proofs.TransferProofs.{verdict_law}
 
 abbrev is_write : Deed → Bool

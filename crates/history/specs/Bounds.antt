@@ -1,19 +1,23 @@
 -- What is nowhere, after any acts: cells that no table has, bytes of the shadow past its table,
 -- responses on other ComIDs.
-use Rattle.std.specs.Prelude.{◌≡◌, ℕ, ◌*◌, ◌≤◌, ◌<◌, false, List, None, Ok}
+use Rattle.std.specs.Prelude.{◌≡◌, ℕ, ◌*◌, ◌≤◌, ◌<◌, false, List, [], ◌∷◌, length, None, Ok}
 use Rattle.sp_cells.specs.declared.names.Sp.{Sp}
 use Rattle.sp_cells.specs.declared.names.Uid.{Uid}
 use Rattle.sp_cells.specs.declared.names.Column.{Column}
 use Rattle.sp_cells.specs.ColumnNames.{credential_column}
 use Rattle.sp_cells.specs.Config.{Config}
 use Rattle.sp_tables.specs.Contents.{look_up}
-use Rattle.shadow_mbr.specs.Stored.{sector_size}
+use Rattle.shadow_mbr.specs.Stored.{sector_size, zeros}
 use Rattle.locking.specs.declared.range.RangeRow.{RangeRow}
 use Rattle.history.specs.Opening.{Origin, factory_origin, origin_with}
 use Rattle.history.specs.Events.{Event}
-use Rattle.history.specs.Readers.{factory_rows, in_force, view, byte_in_force, byte_in_view, waiting}
+use Rattle.history.specs.Readers.{factory_rows, in_force, view, byte_in_force, byte_in_view, sector, waiting}
+use Rattle.fis.specs.H2d.{h2d_at}
+use Rattle.trusted_cmds.specs.Commands.{payload_length}
+use Rattle.history.specs.Facts.{Facts, facts}
+use Rattle.history.specs.Answers.{expected}
 use Rattle.history.specs.Decisions.{is_session_com_id}
-use Rattle.history.specs.History.{Act, log}
+use Rattle.history.specs.History.{Act, Accept, Complete, Reset, log}
 
 -- Neither what a drive starts from nor a new drive has a cell there: then there is none after any
 -- events.
@@ -56,3 +60,19 @@ abbrev pub ResponseLaw : Type 0
 ResponseLaw =
     (o : Origin) (acts : List Act) (com_id : ℕ) → is_session_com_id com_id ≡ false
     → waiting (log o acts) com_id ≡ None
+
+-- An act brings as many bytes as its command wants.
+abbrev pub IsFed : Facts → Act → Type 0
+IsFed f (Accept fis payload) = length payload ≡ payload_length (h2d_at fis)
+IsFed f (Complete tag payload) = length payload ≡ expected (f.held tag)
+IsFed f (Reset kind) = Unit {0}
+
+abbrev pub AreFed : Origin → List Act → Type 0
+AreFed o [] = Unit {0}
+AreFed o (act ∷ acts) = IsFed (facts o (log o acts)) act × AreFed o acts
+
+-- Then sectors behind the last one are zeros.
+abbrev pub SectorLaw : Type 0
+SectorLaw =
+    (o : Origin) (acts : List Act) (place : ℕ) → AreFed o acts → o.tables.config.sectors ≤ place
+    → sector (log o acts) place ≡ zeros

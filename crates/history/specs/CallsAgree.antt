@@ -1,12 +1,11 @@
 -- What the crate of methods answers to a call, over what is kept, is what comes of it here.
-use Rattle.std.specs.Prelude.{◌≡◌, ℕ, Bool, false, [], List, slice_index, Option, None}
+use Rattle.std.specs.Prelude.{◌≡◌, Bool, false, [], List, slice_index, None}
 use Rattle.sp_cells.specs.declared.names.Uid.{Uid}
 use Rattle.sp_cells.specs.declared.names.Sp.{Sp}
 use Rattle.sp_cells.specs.Flat.{LookUp}
 use Rattle.transactions.specs.declared.change.SessionId.{SessionId}
 use Rattle.transactions.specs.Stored.{Stored}
 use Rattle.transactions.specs.Sights.{sight_of, latest_look, is_manufactured}
-use Rattle.call_shapes.specs.declared.ask.Ask.{Ask}
 use Rattle.sessions.specs.Attempts.{failure}
 use Rattle.sessions.specs.Answers.{in_force}
 use Rattle.methods.specs.Said.{Said, says, refuses, said_attempt}

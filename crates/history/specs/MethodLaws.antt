@@ -1,17 +1,14 @@
 -- A method takes effect exactly where it is granted to the session's authorities in its view.
-use Rattle.std.specs.Prelude.{◌≡◌, ◌⊎◌, ℕ, ◌≤◌, ◌==◌, ◌↔◌, ◌&&◌, Bool, true, false, not, is_some, slice_index, List, [], ◌∷◌, Option, Some, None, Ok}
+use Rattle.std.specs.Prelude.{◌≡◌, ℕ, ◌==◌, ◌↔◌, ◌&&◌, Bool, true, false, not, is_some, slice_index, List, Option, Some, None, Ok}
 use Rattle.fis.specs.Types.{h2d_type}
 use Rattle.fis.specs.H2d.{h2d_at}
 use Rattle.sp_cells.specs.declared.names.Uid.{Uid}
-use Rattle.sp_cells.specs.declared.cells.Cell.{Cell}
-use Rattle.sp_cells.specs.Names.{get}
-use Rattle.ace_eval.specs.Aces.{HasAce}
 use Rattle.audit.specs.declared.reason.Why.{Why}
 use Rattle.trusted_cmds.specs.Commands.{is_queued}
 use Rattle.compacket.specs.Frames.{Frame, reading as frame_in}
 use Rattle.tcg_tokens.specs.Message.{call}
 use Rattle.tcg_tokens.specs.Reading.{reading as message_in}
-use Rattle.tcg_tokens.specs.Tree.{Tree, Trees, number, named}
+use Rattle.tcg_tokens.specs.Tree.{Trees}
 use Rattle.trusted_cmds.specs.declared.command.Command.{Command}
 use Rattle.trusted_cmds.specs.declared.command.Command.TheVariants.{Send}
 use Rattle.trusted_cmds.specs.Commands.{reading}
@@ -20,8 +17,6 @@ use Rattle.call_shapes.specs.Statuses.{not_authorized}
 use Rattle.history.specs.Sessions.{Begun}
 use Rattle.call_shapes.specs.declared.ask.Ask.{Ask}
 use Rattle.methods.specs.Laws.{IsGranted as IsGrantedBy}
-use Rattle.call_shapes.specs.CellValues.{cell_tree}
-use Rattle.sp_cells.specs.declared.names.Column.{Column}
 use Rattle.history.specs.Calls.{Standing, Judgement, Refuses, Gives, Makes, Attempts, Activates, Reverts, asked, does, judged}
 use Rattle.history.specs.Facts.{Facts, session_named, standing}
 use Rattle.history.specs.Decisions.{answers, is_trusted, is_session_com_id, is_manager, is_busy, outcome_of, judgement_on}

@@ -1,6 +1,7 @@
 use Rattle.history.proofs.CellLaws.{cell_law, column_law}
 use Rattle.history.proofs.TableLaws.{table_law}
 use Rattle.history.proofs.ResponseLaws.{response_law}
+use Rattle.history.proofs.SectorProofs.{sector_law}
 use Rattle.history.proofs.laws_of_bounds.Goals as goal
 
 pub returns-clause-cells : goal.returns-clause-cells
@@ -14,3 +15,6 @@ returns-clause-table c = table_law
 
 pub returns-clause-responses : goal.returns-clause-responses
 returns-clause-responses c = response_law
+
+pub returns-clause-sectors : goal.returns-clause-sectors
+returns-clause-sectors c = sector_law

@@ -1,0 +1,155 @@
+-- A wrong PIN counts below the limit alone.
+use Rattle.std.proofs.Common.{◌≡◌, ℕ, ◌==◌, ◌+◌, Bool, true, false, not, ◌||◌, map, List, [], ◌∷◌, ◌++◌, Option, Some, None, refl, sym, ◌∙◌, ap, cond, inl, inr, eqb-true, eq-eqb}
+use Rattle.std.specs.Prelude.{◌-◌, nat_le, nat_lt, zero, suc, unwrap_or, Result, Ok, Err}
+use Rattle.std.specs.List.{list_any}
+use Rattle.sp_cells.specs.declared.names.Uid.{Uid}
+use Rattle.sp_cells.specs.declared.names.Sp.{Sp}
+use Rattle.sp_cells.specs.declared.names.Sp.TheVariants.{Admin, Locking}
+use Rattle.sp_cells.specs.declared.names.Column.{Column}
+use Rattle.sp_cells.specs.declared.cells.Cell.{Cell}
+use Rattle.sp_cells.specs.declared.error.SetError.{SetError}
+use Rattle.sp_cells.specs.Names.{set, activate, revert, c_pin_sid, anybody}
+use Rattle.ace_eval.specs.Aces.{acl_at}
+use Rattle.audit.specs.declared.reason.AttemptFailure.{AttemptFailure}
+use Rattle.audit.specs.declared.reason.Why.{Why}
+use Rattle.tcg_tokens.specs.declared.error.TokenError.{TokenError}
+use Rattle.tcg_tokens.specs.Message.{Message, call, reply, end_session, begin, end}
+use Rattle.tcg_tokens.specs.Tree.{Tree, Trees}
+use Rattle.history.specs.Opening.{Origin}
+use Rattle.history.specs.Changes.{Change, Sets}
+use Rattle.sp_cells.specs.ColumnNames.{pin_column, try_limit_column, tries_column, is_class_column, enabled_column}
+use Rattle.sessions.specs.Attempts.{failure as failure_of, credential, is_pin, is_used_up}
+use Rattle.call_shapes.specs.Asks.{uid_of}
+use Rattle.sp_cells.specs.Names.{properties, start_session}
+use Rattle.history.specs.Sessions.{Begun}
+use Rattle.call_shapes.specs.Statuses.{fail, success}
+use Rattle.sessions.specs.Properties.{properties_message}
+use Rattle.tcg_tokens.specs.Length.{len_of}
+use Rattle.methods.specs.declared.kinds.Kind.{Kind}
+use Rattle.methods.specs.declared.kinds.Kind.TheVariants as kinds
+use Rattle.methods.specs.Kinds.{kind_of}
+use Rattle.methods.specs.Columns.{set_types_of}
+use Rattle.methods.specs.Settings.{cells_for, is_within, Setting, cells_set, bytes_set, setting_of_cells, cells_of_ask, bytes_of_ask, setting}
+use Rattle.methods.specs.Said.{reply_of}
+use Rattle.call_shapes.specs.Limits.{most_response}
+use Rattle.methods.specs.Effects.{has_ask, last_row, unless_fault, sp_of_row}
+use Rattle.sp_cells.specs.declared.values.ColumnType.{ColumnType}
+use Rattle.history.specs.Calls.{asked, Standing, Judgement, Refuses, Gives, Makes, Attempts, Activates, Reverts, denial, gives, listing, table_size, bytes_between, rows_given, fault_by, valid, to_set, makes, unless_open, does_ask, does, unless_denied, judged}
+use Rattle.sessions.specs.declared.opening.Opening.{Opening}
+use Rattle.sessions.specs.declared.opening.StartVerdict.{StartVerdict}
+use Rattle.sessions.specs.declared.opening.StartVerdict.TheVariants.{Refused, Attempted}
+use Rattle.sessions.specs.Live.{Live, lives_on}
+use Rattle.sessions.specs.Starts.{opening_of, is_in_use, sp_named, is_full, verdict_on}
+use Rattle.call_shapes.specs.Named.{values_of}
+use Rattle.sp_cells.specs.Flat.{LookUp, sp_eq}
+use Rattle.call_shapes.specs.declared.ask.Ask.{Ask}
+use Rattle.call_shapes.specs.declared.ask.Ask.TheVariants.{GetCells, GetBytes, SetCells, SetBytes, Authenticate, Activate, Revert, Other}
+use Rattle.history.specs.Events.{SessionDeed, Unchanged, Started, Tried, Changed, Began, Committed, Aborted, Ended, Activated, Reverted, Deed, Nothing, InSession, OfQueue, Wrote, Took, WasReset, Event}
+use Rattle.history.specs.Readers.{living, lives_by, restores, session_on, open_on, is_of, in_force}
+use Rattle.history.specs.Facts.{facts, numbered, live, has_open, standing, Facts}
+use Rattle.history.specs.Decisions.{refusal, Outcome, says, tried_in, start_verdict, deed_of_start, start_deed, started, is_method_of_manager, to_manager, outcome_of, judgement_on, begins_on, ended_by, ends_on, in_session}
+use Rattle.history.specs.Deeds.{IsIn, is_of_row, is_inside, CanDo, DeedLaw}
+use Rattle.history.proofs.Words.{latest-here, latest-skip, sp-is, sp-same}
+use Rattle.history.proofs.Items.{item-from}
+use Rattle.history.proofs.MethodProofs.{denial-none, granted-row}
+use Rattle.history.proofs.Asked.{is_own, asked-own, activate-admin, revert-admin, set-c_pin_sid}
+use Rattle.sp_cells.specs.Ranges.{number}
+use Rattle.audit.specs.declared.reason.AttemptFailure.TheVariants.{WrongPin, LockedOut, Disabled, Unknown}
+use Rattle.sessions.specs.Known.{is_known}
+use Rattle.history.specs.TriesLaw.{is_below_limit, LimitLaw}
+
+-- the tests of an attempt
+by-tests : (a b c u p : Bool) → cond a (Some Unknown) (cond b (Some Disabled) (cond c None (cond u (Some LockedOut) (cond p None (Some WrongPin))))) ≡ Some WrongPin → not u ≡ true
+by-tests true b c u p h = cc
+by-tests false true c u p h = cc
+by-tests false false true u p h = cc
+by-tests false false false true p h = cc
+by-tests false false false false p h = refl
+
+failed-below : (look : LookUp) (sp : Sp) (authority : Uid) (proof : List ℕ) → failure_of look sp authority proof ≡ Some WrongPin
+    → not (is_used_up (number look sp (credential look sp authority) try_limit_column) (number look sp (credential look sp authority) tries_column)) ≡ true
+failed-below look sp authority proof h =
+    let row : Uid = credential look sp authority in
+    by-tests (not (is_known sp authority) || (number look sp authority is_class_column == 1)) (not (number look sp authority enabled_column == 1)) (authority.0 == anybody.0)
+    (is_used_up (number look sp row try_limit_column) (number look sp row tries_column)) (is_pin proof (look sp row pin_column)) h
+
+-- a StartSession that fails by its attempt
+attempted-by : (look : LookUp) (l : Live) (opening : Opening) (sp s : Sp) (g f : Option AttemptFailure) (a b c : Bool) → g ≡ failure_of look s opening.authority opening.proof
+    → cond (not a) (Refused 0x0c) (cond b (Refused 3) (cond c (Refused 7) (Attempted s g))) ≡ Attempted sp f → failure_of look sp opening.authority opening.proof ≡ f
+attempted-by look l opening sp s g f false b c is h = cc
+attempted-by look l opening sp s g f true true c is h = cc
+attempted-by look l opening sp s g f true false true is h = cc
+attempted-by look l opening sp s g f true false false is h =
+    let same : s ≡ sp = cc in
+    let other : g ≡ f = cc in
+    ap (λ x. failure_of look x opening.authority opening.proof) (sym same) ∙ sym is ∙ other
+
+attempted : (look : LookUp) (l : Live) (opening : Opening) (sp : Sp) (f : Option AttemptFailure) (named : Option Sp) → verdict_on look l opening named ≡ Attempted sp f → failure_of look sp opening.authority opening.proof ≡ f
+attempted look l opening sp f None h = cc
+attempted look l opening sp f (Some s) h = attempted-by look l opening sp s (failure_of look s opening.authority opening.proof) f (is_in_use look s) (lives_on s l) (is_full l) refl h
+
+-- each deed
+abbrev Below : Facts → SessionDeed → Type 0
+Below f (Tried attempt) = attempt.failure ≡ Some WrongPin → is_below_limit f attempt ≡ true
+Below f _ = Unit {0}
+
+start-below : (f : Facts) (com_id : ℕ) (opening : Opening) (v : StartVerdict) → start_verdict f (Some opening) ≡ v → Below f (deed_of_start f com_id opening v)
+start-below f com_id opening (Refused status) is = tt
+start-below f com_id opening (Attempted sp None) is = tt
+start-below f com_id opening (Attempted sp (Some failure)) is = λ h. failed-below f.rows sp opening.authority opening.proof (attempted f.rows (live f) opening sp (Some failure) (sp_named opening.spid) is ∙ h)
+
+started-below : (f : Facts) (com_id : ℕ) (x : Option Opening) → Below f (start_deed f com_id x)
+started-below f com_id None = tt
+started-below f com_id (Some opening) = start-below f com_id opening (start_verdict f (Some opening)) refl
+
+either-below : (f : Facts) (b : Bool) (x y : Outcome) → Below f x.deed → Below f y.deed → Below f (cond b x y).deed
+either-below f true x y h g = h
+either-below f false x y h g = g
+
+manager-below : (f : Facts) (com_id : ℕ) (read : Result Message TokenError) → Below f (to_manager f com_id read).deed
+manager-below f com_id (Ok (call object method args status)) =
+    either-below f (is_method_of_manager properties (uid_of object) (uid_of method)) (says Unchanged (properties_message (values_of args))) _ tt
+    (either-below f (is_method_of_manager start_session (uid_of object) (uid_of method)) (started f com_id (values_of args)) (says Unchanged (refusal fail)) (started-below f com_id (opening_of (values_of args))) tt)
+manager-below f com_id (Ok (reply results status)) = tt
+manager-below f com_id (Ok (begin n)) = tt
+manager-below f com_id (Ok (end n)) = tt
+manager-below f com_id (Ok end_session) = tt
+manager-below f com_id (Err e) = tt
+
+judged-below : (f : Facts) (sp : Sp) (j : Judgement) → Below f (outcome_of f sp j).deed
+judged-below f sp (Refuses status why) = tt
+judged-below f sp (Gives results) = tt
+judged-below f sp (Makes set) = tt
+judged-below f sp (Attempts authority pin) = λ h. failed-below f.rows sp authority pin h
+judged-below f sp Activates = by_state (is_in_use f.rows Locking)
+  where
+    by_state : (b : Bool) → Below f (cond b Unchanged (Activated (f.rows Admin c_pin_sid pin_column)))
+    by_state true = tt
+    by_state false = tt
+judged-below f sp (Reverts r) = tt
+
+begun-below : (f : Facts) (sp : Sp) (n : ℕ) (x : Option ℕ) → Below f (begins_on sp n x).deed
+begun-below f sp n None = tt
+begun-below f sp n (Some m) = tt
+
+ended-below : (f : Facts) (sp : Sp) (n : ℕ) (b : Bool) → Below f (ends_on sp n b).deed
+ended-below f sp zero true = tt
+ended-below f sp (suc n) true = tt
+ended-below f sp n false = tt
+
+session-below : (f : Facts) (s : Begun) (read : Result Message TokenError) → Below f (in_session f s read).deed
+session-below f s (Ok (call object method args status)) = judged-below f s.sp (judgement_on f s (uid_of object) (uid_of method) args)
+session-below f s (Ok (begin n)) = begun-below f s.sp s.number (f.open_on s.sp)
+session-below f s (Ok (end n)) = ended-below f s.sp n (has_open f s)
+session-below f s (Ok end_session) = tt
+session-below f s (Ok (reply results status)) = tt
+session-below f s (Err e) = tt
+
+pub limit_law : LimitLaw
+limit_law f act attempt response is = elim (item-from f act (Tried attempt) response is) [
+  | inl m ↦ below m.does (manager-below f m.com_id m.read)
+  | inr s ↦ below s.does (session-below f s.session s.read)
+]
+  where
+    below : {x y : SessionDeed} → x ≡ y → Below f y → Below f x
+    below {x} {y} same h = rw same h

@@ -1,0 +1,264 @@
+-- What moves data lies on the drive, and so sectors behind the last one stay zeros.
+use Rattle.std.proofs.Common.{◌≡◌, ℕ, ◌*◌, ◌==◌, Bool, true, false, ◌&&◌, ◌||◌, not, List, [], ◌∷◌, Option, Some, None, refl, sym, ◌∙◌, ap, cond, ◌+◌, ◌≤◌, ◌/◌, subst, arith}
+use Rattle.std.specs.Prelude.{is_some, nat_le, slice_index, length, Result, Ok, Err, unwrap_or, nat_lt, take, drop, ◌-◌}
+use Rattle.fis.specs.Types.{h2d_type}
+use Rattle.fis.specs.H2d.{h2d_at}
+use Rattle.fis.specs.declared.h2d.RegH2d.{RegH2d}
+use Rattle.locking.specs.declared.range.Op.{Op}
+use Rattle.locking.specs.declared.range.Op.TheVariants.{Read, Write}
+use Rattle.trusted_cmds.specs.Commands.{is_queued, tag_of, sector_size, blocks, trusted_send, trusted_send_dma, sectors, write_dma, read_queued, write_queued, payload_length}
+use Rattle.compacket.specs.declared.session.Session.{Session}
+use Rattle.compacket.specs.declared.error.FrameError.{FrameError}
+use Rattle.compacket.specs.Frames.{Frame, reading as frame_in}
+use Rattle.tcg_tokens.specs.Reading.{reading as message_in}
+use Rattle.trusted_cmds.specs.declared.command.Command.{Command}
+use Rattle.trusted_cmds.specs.declared.command.Command.TheVariants.{ReadQueued, WriteQueued, ReadDma, WriteDma, Send, Receive, ReadLog10, Identify, Flush}
+use Rattle.trusted_cmds.specs.declared.command.CommandError.{CommandError}
+use Rattle.trusted_cmds.specs.Commands.{reading, trusted_receive_dma, read_log_dma, read_dma, protocol_of, com_id_of, fault_of, read_unless, is_send, is_receive, is_log_read, identify}
+use Rattle.locking.specs.declared.ranges.Verdict.{Verdict}
+use Rattle.locking.specs.declared.ranges.Verdict.TheVariants.{Serve, Shadow, Denied}
+use Rattle.history.specs.Sessions.{Begun}
+use Rattle.history.specs.Opening.{Origin}
+use Rattle.history.specs.Events.{SessionDeed, did, HeldCommand, Deed, Nothing, InSession, Wrote, Event, or_else, OfQueue, Took, WasReset, latest, CompletedWrite, Completed, Held, QueueFailed, QueueMended, Reverted}
+use Rattle.history.specs.Facts.{Facts, facts, session_named}
+use Rattle.history.specs.Decisions.{aborted, not_found, fails, refuses, fails_queue, on_drive, verdict_on, queued_by, queued_transfer, admitted, unqueued_by, unqueued_transfer, answers, to_manager, is_trusted, is_session_com_id, discovery_com_id, is_manager, to_session, framed, sent, received, unqueued, known, while_failed, is_busy, commanded, completed_by, completed}
+use Rattle.history.specs.History.{Act, Accept, Complete, Reset, event_by, log}
+use Rattle.history.specs.Readers.{part_of, wipes, writing, sector}
+use Rattle.history.specs.Bounds.{IsFed, SectorLaw}
+use Rattle.std.proofs.lemmas.Bool.Decides.{nat_tests}
+use Rattle.shadow_mbr.specs.Stored.{zeros}
+use Rattle.history.specs.Answers.{expected}
+use Rattle.history.specs.DenialLaws.{Moves, read_queued as moves_read_queued, write_queued as moves_write_queued, read_dma as moves_read_dma, write_dma as moves_write_dma}
+use Rattle.history.specs.TransferLaws.{Writes, WasAccepted}
+use Rattle.history.proofs.HeldProofs.{held_law}
+use Rattle.history.proofs.WriteProofs.{write_law}
+
+-- no accepted command completes a write
+abbrev quiet : Deed → Bool
+quiet (OfQueue (CompletedWrite tag lba bytes)) = false
+quiet _ = true
+
+either : (b : Bool) (e g : Event) → (b ≡ true → quiet e.deed ≡ true) → quiet g.deed ≡ true → quiet (cond b e g).deed ≡ true
+either true e g h k = h refl
+either false e g h k = k
+
+to_session-quiet : (f : Facts) (com_id : ℕ) (named : Session) (payload : List ℕ) (s : Option Begun) → is_session_com_id com_id ≡ true → quiet (to_session f com_id named payload s).deed ≡ true
+to_session-quiet f com_id named payload None h = refl
+to_session-quiet f com_id named payload (Some s) h = refl
+
+framed-quiet : (f : Facts) (com_id : ℕ) (frame : Frame) → is_session_com_id com_id ≡ true → quiet (framed f com_id frame).deed ≡ true
+framed-quiet f com_id frame h =
+    either (is_manager frame.session) (answers com_id frame.session (to_manager f com_id (message_in frame.payload))) _ (λ is. refl) (to_session-quiet f com_id frame.session frame.payload (session_named f com_id frame.session) h)
+
+sent-quiet : (f : Facts) (com_id : ℕ) (r : Result Frame FrameError) → is_session_com_id com_id ≡ true → quiet (sent f com_id r).deed ≡ true
+sent-quiet f com_id (Err e) h = refl
+sent-quiet f com_id (Ok frame) h = either (frame.com_id == com_id) (framed f com_id frame) (did Nothing) (λ is. framed-quiet f com_id frame h) refl
+
+middle : (a b c : Bool) → (a && b && c) ≡ true → b ≡ true
+middle true true c h = refl
+middle true false c h = cc
+middle false b c h = cc
+
+received-quiet : (com_id blocks : ℕ) (w : Option (List ℕ)) → quiet (received com_id blocks w).deed ≡ true
+received-quiet com_id blocks None = refl
+received-quiet com_id blocks (Some r) = either (nat_le (length r) (sector_size * blocks)) (did (Took com_id)) (did Nothing) (λ is. refl) refl
+
+unqueued_by-quiet : (d : Deed) (v : Verdict) → quiet d ≡ true → quiet (unqueued_by d v).deed ≡ true
+unqueued_by-quiet d (Denied why) h = refl
+unqueued_by-quiet d Serve h = h
+unqueued_by-quiet d Shadow h = h
+
+transfer-quiet : (f : Facts) (d : Deed) (op : Op) (lba count : ℕ) → quiet d ≡ true → quiet (unqueued_transfer f d op lba count).deed ≡ true
+transfer-quiet f d op lba count h = either (on_drive f lba count) _ (fails not_found None) (λ is. unqueued_by-quiet d (verdict_on f op lba count) h) refl
+
+unqueued-quiet : (f : Facts) (payload : List ℕ) (c : Command) → quiet (unqueued f payload c).deed ≡ true
+unqueued-quiet f payload (ReadDma lba count) = transfer-quiet f Nothing Read lba count refl
+unqueued-quiet f payload (WriteDma lba count) = transfer-quiet f (Wrote lba payload) Write lba count refl
+unqueued-quiet f payload (Send protocol com_id blocks dma) =
+    either (is_trusted protocol blocks && is_session_com_id com_id && not (is_some (f.waiting com_id))) _ refuses
+    (λ is. sent-quiet f com_id (frame_in payload) (middle (is_trusted protocol blocks) (is_session_com_id com_id) (not (is_some (f.waiting com_id))) is)) refl
+unqueued-quiet f payload (Receive protocol com_id blocks dma) = either (is_trusted protocol blocks && (is_session_com_id com_id || com_id == discovery_com_id)) _ refuses (λ is. received-quiet com_id blocks (f.waiting com_id)) refl
+unqueued-quiet f payload _ = refl
+
+queued_by-quiet : (h : RegH2d) (tag : ℕ) (c : Command) (v : Verdict) → quiet (queued_by h tag c v).deed ≡ true
+queued_by-quiet h tag c (Denied why) = refl
+queued_by-quiet h tag c Serve = refl
+queued_by-quiet h tag c Shadow = refl
+
+queued-quiet : (f : Facts) (h : RegH2d) (tag : ℕ) (c : Command) (op : Op) (lba count : ℕ) → quiet (queued_transfer f h tag c op lba count).deed ≡ true
+queued-quiet f h tag c op lba count = either (on_drive f lba count) _ (fails_queue (Some tag) not_found h None) (λ is. queued_by-quiet h tag c (verdict_on f op lba count)) refl
+
+admitted-quiet : (f : Facts) (h : RegH2d) (tag : ℕ) (c : Command) (b : Bool) → quiet (admitted f h tag c b).deed ≡ true
+admitted-quiet f h tag c true = refl
+admitted-quiet f h tag (ReadQueued lba count) false = queued-quiet f h tag (ReadQueued lba count) Read lba count
+admitted-quiet f h tag (WriteQueued lba count) false = queued-quiet f h tag (WriteQueued lba count) Write lba count
+admitted-quiet f h tag _ false = refl
+
+known-quiet : (f : Facts) (h : RegH2d) (payload : List ℕ) (r : Result (Command × Option ℕ) CommandError) → quiet (known f h payload r).deed ≡ true
+known-quiet f h payload (Err e) = either (is_queued h.command) (fails_queue (Some (tag_of h)) aborted h None) refuses (λ is. refl) refl
+known-quiet f h payload (Ok (c, Some tag)) = admitted-quiet f h tag c (is_some (f.held tag))
+known-quiet f h payload (Ok (c, None)) = unqueued-quiet f payload c
+
+while_failed-quiet : (r : Result (Command × Option ℕ) CommandError) → quiet (while_failed r).deed ≡ true
+while_failed-quiet (Ok (ReadLog10 dma, tag)) = refl
+while_failed-quiet _ = refl
+
+commanded-quiet : (f : Facts) (h : RegH2d) (payload : List ℕ) → quiet (commanded f h payload).deed ≡ true
+commanded-quiet f h payload =
+    either (not h.is_command) refuses _ (λ is. refl)
+    (either (is_some f.failure) (while_failed (reading h)) _ (λ is. while_failed-quiet (reading h))
+    (either (is_busy f && not (is_queued h.command)) (fails_queue None aborted h None) (known f h payload (reading h)) (λ is. refl) (known-quiet f h payload (reading h))))
+
+-- bytes that end on the drive have no part behind it
+behind : (place lba n sectors_on : ℕ) → lba + n ≤ sectors_on → sectors_on ≤ place → nat_lt place (lba + n) ≡ false
+behind place lba n sectors_on on le = grind (arith, nat_tests)
+
+and-false : (b : Bool) → (b && false) ≡ false
+and-false true = refl
+and-false false = refl
+
+le-of : (a b : ℕ) → nat_le a b ≡ true → a ≤ b
+le-of a b h = grind (arith, nat_tests)
+
+no-part : (place lba count sectors_on : ℕ) (bytes : List ℕ) → length bytes ≡ 512 * count → nat_le (lba + count) sectors_on ≡ true → sectors_on ≤ place → part_of place lba bytes ≡ None
+no-part place lba count sectors_on bytes size on le =
+    let whole : length bytes / 512 ≡ count = omega (arith, size) in
+    let off : nat_lt place (lba + length bytes / 512) ≡ false = behind place lba (length bytes / 512) sectors_on (omega (arith, whole, le-of (lba + count) sectors_on on)) le in
+    ap (λ b. cond (nat_le lba place && b) (Some (take 512 (drop (512 * (place - lba)) bytes))) None) off
+    ∙ ap (λ b. cond b (Some (take 512 (drop (512 * (place - lba)) bytes))) None) (and-false (nat_le lba place))
+
+-- the command of an unqueued write
+record IsWrite (code field lba count : ℕ) : Type 0 where
+  code_is : (code == write_dma) ≡ true
+  count_is : count ≡ sectors field
+
+abbrev code_of : Command → ℕ
+code_of (WriteDma lba count) = 1
+code_of _ = 0
+
+abbrev count_of : Command → ℕ
+count_of (WriteDma lba count) = count
+count_of _ = 0
+
+zero-one : ◌≡◌ {A = ℕ} 0 1 → ⊥
+zero-one h = cc
+
+rest-other : (a b c d : Bool) (w x y z v : Command) → code_of w ≡ 0 → code_of x ≡ 0 → code_of y ≡ 0 → code_of z ≡ 0 → code_of v ≡ 0 → code_of (cond a w (cond b x (cond c y (cond d z v)))) ≡ 0
+rest-other true b c d w x y z v hw hx hy hz hv = hw
+rest-other false true c d w x y z v hw hx hy hz hv = hx
+rest-other false false true d w x y z v hw hx hy hz hv = hy
+rest-other false false false true w x y z v hw hx hy hz hv = hz
+rest-other false false false false w x y z v hw hx hy hz hv = hv
+
+is-write : (h : RegH2d) (a b c d : Bool) (rest : Command) (l n lba count : ℕ) → (h.command == write_dma) ≡ d → code_of rest ≡ 0
+    → cond a (ReadQueued l n) (cond b (WriteQueued l n) (cond c (ReadDma l (sectors h.count)) (cond d (WriteDma l (sectors h.count)) rest))) ≡ WriteDma lba count → IsWrite h.command h.count lba count
+is-write h true b c d rest l n lba count is other g = absurd (zero-one (ap code_of g))
+is-write h false true c d rest l n lba count is other g = absurd (zero-one (ap code_of g))
+is-write h false false true d rest l n lba count is other g = absurd (zero-one (ap code_of g))
+is-write h false false false true rest l n lba count is other g = record { code_is = is; count_is = sym (ap count_of g) }
+is-write h false false false false rest l n lba count is other g = absurd (zero-one (sym other ∙ ap code_of g))
+
+ok-command : {c d : Command} {x y : Option ℕ} → ◌≡◌ {A = Result (Command × Option ℕ) CommandError} (Ok (c, x)) (Ok (d, y)) → c ≡ d
+ok-command h = ap (λ (p : Command × Option ℕ). p.0) (pair h)
+  where
+    pair : {p q : Command × Option ℕ} → ◌≡◌ {A = Result (Command × Option ℕ) CommandError} (Ok p) (Ok q) → p ≡ q
+    pair g = cc
+
+read-write : (h : RegH2d) (lba count : ℕ) (x : Option CommandError) → read_unless x h ≡ Ok (WriteDma lba count, None) → IsWrite h.command h.count lba count
+read-write h lba count (Some e) g = absurd (clashes g)
+  where
+    clashes : {e : CommandError} {x : Command × Option ℕ} → ◌≡◌ {A = Result (Command × Option ℕ) CommandError} (Err e) (Ok x) → ⊥
+    clashes k = cc
+read-write h lba count None g =
+    let send : Command = Send (protocol_of h) (com_id_of h) (blocks h) (h.command == trusted_send_dma) in
+    let receive : Command = Receive (protocol_of h) (com_id_of h) (blocks h) (h.command == trusted_receive_dma) in
+    let log : Command = ReadLog10 (h.command == read_log_dma) in
+    is-write h (h.command == read_queued) (h.command == write_queued) (h.command == read_dma) (h.command == write_dma)
+    (cond (is_send h.command) send (cond (is_receive h.command) receive (cond (is_log_read h.command) log (cond (h.command == identify) Identify Flush))))
+    h.lba (sectors h.feature) lba count refl
+    (rest-other (is_send h.command) (is_receive h.command) (is_log_read h.command) (h.command == identify) send receive log Identify Flush refl refl refl refl refl)
+    (ok-command g)
+
+write-size : (h : RegH2d) (lba count : ℕ) → reading h ≡ Ok (WriteDma lba count, None) → payload_length h ≡ 512 * count
+write-size h lba count g =
+    let w = read-write h lba count (fault_of h) g in
+    ap (λ b. cond b (512 * sectors h.count) (cond (h.command == trusted_send || h.command == trusted_send_dma) (512 * blocks h) 0)) w.code_is ∙ ap (λ n. 512 * n) (sym w.count_is)
+
+wrote-none : (f : Facts) (act : Act) (place lba : ℕ) (bytes : List ℕ) → IsFed f act → f.sectors ≤ place → (event_by f act).deed ≡ Wrote lba bytes → part_of place lba bytes ≡ None
+wrote-none f act place lba bytes fed le g =
+    let w : Writes f act lba bytes = write_law f act lba bytes g in
+    let size : length w.looked.payload ≡ payload_length (h2d_at w.looked.fis) = subst (IsFed f) w.looked.accepts fed in
+    no-part place lba w.count f.sectors bytes (ap length w.payload ∙ size ∙ write-size (h2d_at w.looked.fis) lba w.count w.looked.reads) w.on_drive le
+
+-- the transfer of a held write
+record Is (l n lba count : ℕ) : Type 0 where
+  first : lba ≡ l
+  size : count ≡ n
+
+moved-same : (l n : ℕ) (c : Command) (t : Option ℕ) (op : Op) (lba count : ℕ) → Moves c t op lba count → c ≡ WriteQueued l n → Is l n lba count
+moved-same l n c t op lba count (moves_read_queued {lba = x} {count = y} {tag = z}) g = cc
+moved-same l n c t op lba count (moves_write_queued {lba = x} {count = y} {tag = z}) g = record { first = cc; size = cc }
+moved-same l n c t op lba count (moves_read_dma {lba = x} {count = y}) g = cc
+moved-same l n c t op lba count (moves_write_dma {lba = x} {count = y}) g = cc
+
+held-fits : (o : Origin) (acts : List Act) (tag l n : ℕ) (h : HeldCommand) → (facts o (log o acts)).held tag ≡ Some h → h.command ≡ WriteQueued l n → nat_le (l + n) o.tables.config.sectors ≡ true
+held-fits o acts tag l n h is command =
+    let w : WasAccepted o acts tag h = held_law o acts tag h is in
+    let same = moved-same l n h.command (Some tag) w.op w.lba w.count w.moves command in
+    ap (λ x. nat_le (x + n) o.tables.config.sectors) (sym same.first) ∙ ap (λ x. nat_le (w.lba + x) o.tables.config.sectors) (sym same.size) ∙ w.on_drive
+
+abbrev left : ℕ → Option (List ℕ) → List Event → List ℕ
+left place here past = unwrap_or (or_else here (latest (writing place) past)) zeros
+
+left-none : (place : ℕ) (past : List Event) (x : Option (List ℕ)) → x ≡ None → sector past place ≡ zeros → left place x past ≡ zeros
+left-none place past x is rest = ap (λ y. left place y past) is ∙ rest
+
+wiped : (place : ℕ) (past : List Event) (d : SessionDeed) → sector past place ≡ zeros → left place (wipes d) past ≡ zeros
+wiped place past (Reverted s true) rest = refl
+wiped place past (Reverted s false) rest = rest
+wiped place past _ rest = rest
+
+true-false : true ≡ false → ⊥
+true-false h = cc
+
+queue-left : (place : ℕ) (past : List Event) (d : _) → quiet (OfQueue d) ≡ true → sector past place ≡ zeros → left place (writing place (OfQueue d)) past ≡ zeros
+queue-left place past (CompletedWrite t l bytes) h rest = absurd (true-false (sym h))
+queue-left place past (Completed t) h rest = rest
+queue-left place past (Held t x) h rest = rest
+queue-left place past (QueueFailed x) h rest = rest
+queue-left place past QueueMended h rest = rest
+
+deed-left : (f : Facts) (act : Act) (place : ℕ) (past : List Event) (d : Deed) → IsFed f act → f.sectors ≤ place → (event_by f act).deed ≡ d → quiet d ≡ true → sector past place ≡ zeros → left place (writing place d) past ≡ zeros
+deed-left f act place past (Wrote lba bytes) fed le is h rest = left-none place past (part_of place lba bytes) (wrote-none f act place lba bytes fed le is) rest
+deed-left f act place past (OfQueue d) fed le is h rest = queue-left place past d h rest
+deed-left f act place past (InSession d r) fed le is h rest = wiped place past d rest
+deed-left f act place past Nothing fed le is h rest = rest
+deed-left f act place past (Took c) fed le is h rest = rest
+deed-left f act place past (WasReset kind) fed le is h rest = rest
+
+completed-left : (o : Origin) (acts : List Act) (tag place : ℕ) (payload : List ℕ) (x : Option HeldCommand) → (facts o (log o acts)).held tag ≡ x → length payload ≡ expected x → o.tables.config.sectors ≤ place → sector (log o acts) place ≡ zeros
+    → left place (writing place (completed tag payload x).deed) (log o acts) ≡ zeros
+completed-left o acts tag place payload None is size le rest = rest
+completed-left o acts tag place payload (Some h) is size le rest = by_command h.command refl
+  where
+    by_command : (c : Command) → h.command ≡ c → left place (writing place (completed_by tag payload c).deed) (log o acts) ≡ zeros
+    by_command (WriteQueued l n) command =
+        left-none place (log o acts) (part_of place l payload) (no-part place l n o.tables.config.sectors payload (size ∙ ap (λ c. expected (Some (record { command = c; verdict = h.verdict }))) command) (held-fits o acts tag l n h is command) le) rest
+    by_command (ReadQueued l n) command = rest
+    by_command (ReadDma l n) command = rest
+    by_command (WriteDma l n) command = rest
+    by_command (Send p c b d) command = rest
+    by_command (Receive p c b d) command = rest
+    by_command Identify command = rest
+    by_command (ReadLog10 d) command = rest
+    by_command Flush command = rest
+
+accept-quiet : (f : Facts) (fis payload : List ℕ) → quiet (event_by f (Accept fis payload)).deed ≡ true
+accept-quiet f fis payload = either (slice_index fis 0 == h2d_type) (commanded f (h2d_at fis) payload) refuses (λ is. commanded-quiet f (h2d_at fis) payload) refl
+
+pub sector_law : SectorLaw
+sector_law o [] place fed le = refl
+sector_law o (Accept fis payload ∷ acts) place fed le =
+    deed-left (facts o (log o acts)) (Accept fis payload) place (log o acts) (event_by (facts o (log o acts)) (Accept fis payload)).deed fed.0 le refl (accept-quiet (facts o (log o acts)) fis payload) (sector_law o acts place fed.1 le)
+sector_law o (Complete tag payload ∷ acts) place fed le = completed-left o acts tag place payload ((facts o (log o acts)).held tag) refl fed.0 le (sector_law o acts place fed.1 le)
+sector_law o (Reset kind ∷ acts) place fed le = sector_law o acts place fed.1 le
