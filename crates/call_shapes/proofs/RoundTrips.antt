@@ -1,10 +1,9 @@
 -- What Get writes of a cell, Set reads back.
-use Rattle.std.proofs.Common.{◌≡◌, ℕ, Bool, true, false, ◌&&◌, ◌<◌, ◌^◌, List, [], ◌∷◌, map, length, Option, None, Some, is_some, if◌then◌else◌, refl, ap, sym, ◌∙◌, arith, option_map, nat_le, nat_lt}
+use Rattle.std.proofs.Common.{◌≡◌, ℕ, Bool, true, false, ◌&&◌, ◌<◌, ◌^◌, List, [], ◌∷◌, map, length, Option, None, Some, is_some, if◌then◌else◌, refl, ap, ◌∙◌, arith, option_map, nat_le, nat_lt}
 use Rattle.std.proofs.lemmas.Bool.Decides.{nat_tests}
 use Rattle.std.proofs.lemmas.Nat.{from_be_bytes-to_be_bytes_8}
 use Rattle.std.specs.List.{list_all, filter_map}
-use Rattle.std.specs.Int.{w64, to_be_bytes, from_be_bytes}
-use Rattle.tcg_tokens.specs.Tree.{Tree, number, bytes, list, named, trees_of}
+use Rattle.tcg_tokens.specs.Tree.{Tree, number, trees_of}
 use Rattle.sp_cells.specs.declared.names.Uid.{Uid as UidType}
 use Rattle.sp_cells.specs.declared.names.Column.{Column}
 use Rattle.sp_cells.specs.declared.cells.Cell.{Cell}
@@ -12,15 +11,13 @@ use Rattle.sp_cells.specs.declared.cells.Cell.TheVariants.{Number, Bytes, Uid, N
 use Rattle.sp_cells.specs.declared.cells.ResetTypes.{ResetTypes}
 use Rattle.sp_cells.specs.declared.cells.Element.{Element}
 use Rattle.sp_cells.specs.declared.cells.Element.TheVariants.{Authority, And, Or}
-use Rattle.sp_cells.specs.declared.values.ColumnType.{ColumnType}
 use Rattle.sp_cells.specs.declared.values.ColumnType.TheVariants as types
 use Rattle.sp_cells.specs.Names.{uid, col}
-use Rattle.sp_cells.specs.Limits.{most_pin_bytes, most_elements}
-use Rattle.sp_cells.specs.Resets.{is_reset_set, reset_set, reset_numbers}
-use Rattle.sp_cells.specs.Values.{is_of}
+use Rattle.sp_cells.specs.Limits.{most_elements}
+use Rattle.sp_cells.specs.Resets.{reset_numbers}
 use Rattle.call_shapes.specs.Named.{values_of}
-use Rattle.call_shapes.specs.CellValues.{uid_tree, uid_in, element_tree, element_in, number_in, each_of, numbers_in, numbers_tree, resets_of, expression_of, columns_of, cell_tree, cell_in}
-use Rattle.call_shapes.specs.Laws.{is_short, is_short_element, is_short_cell, RoundTrip}
+use Rattle.call_shapes.specs.CellValues.{uid_tree, uid_in, element_tree, element_in, number_in, each_of, resets_of, expression_of, columns_of}
+use Rattle.call_shapes.specs.Laws.{is_short, is_short_element, RoundTrip}
 
 clash : false ≡ true → ⊥
 clash h = cc

@@ -19,6 +19,8 @@ mod media;
 #[cfg(test)]
 mod memory;
 #[cfg(test)]
+mod method_calls;
+#[cfg(test)]
 mod ranges;
 #[cfg(test)]
 mod registers;

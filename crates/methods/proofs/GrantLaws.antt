@@ -1,5 +1,5 @@
 -- A call does what it asks exactly where it is granted, and is denied by the first column without an ACE.
-use Rattle.std.proofs.Common.{◌≡◌, ℕ, true, false, List, [], ◌∷◌, ◌++◌, map, Option, None, Some, refl, sym, ◌∙◌, ap, is_some}
+use Rattle.std.proofs.Common.{◌≡◌, List, [], ◌∷◌, ◌++◌, map, Option, None, Some, refl, sym, ◌∙◌, ap}
 use Rattle.sp_cells.specs.declared.names.Uid.{Uid}
 use Rattle.sp_cells.specs.declared.names.Sp.{Sp}
 use Rattle.sp_cells.specs.declared.names.Column.{Column}
@@ -9,11 +9,10 @@ use Rattle.ace_eval.proofs.AceLemmas.{some_ace, no_ace}
 use Rattle.audit.specs.declared.reason.Why.{Why}
 use Rattle.transactions.specs.Stored.{Stored}
 use Rattle.call_shapes.specs.declared.ask.Ask.{Ask}
-use Rattle.sessions.specs.Live.{Holder}
-use Rattle.methods.specs.Grants.{denial, wanted, unless_allowed, why_denied, first_some, denied}
+use Rattle.methods.specs.Grants.{denial, wanted, unless_allowed, why_denied, first_some}
 use Rattle.methods.specs.Effects.{seen_by, ask_at, said_ask, stored_ask, holder_ask}
-use Rattle.methods.specs.Calls.{Called, denied_call, said_unless, said_shaped, stored_unless_denied, stored_shaped, holder_unless, holder_shaped, said_call, stored_call, holder_call}
-use Rattle.methods.specs.Laws.{EachHasAce, IsGranted, IsGrantedCall, GrantLaw, IsDeniedBy, DenyLaw, TakesEffect, IsRefused, ComesTo, EffectLaw}
+use Rattle.methods.specs.Calls.{Called, denied_call, said_unless, said_shaped, stored_unless_denied, stored_shaped, holder_unless, holder_shaped}
+use Rattle.methods.specs.Laws.{EachHasAce, IsGrantedCall, GrantLaw, DenyLaw, TakesEffect, IsRefused, EffectLaw}
 
 clash : {A : Type 0} {x : A} → None ≡ Some x → ⊥
 clash h = cc

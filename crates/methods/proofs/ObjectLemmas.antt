@@ -1,12 +1,12 @@
 -- The object that a Set changes is the one that its call names.
-use Rattle.std.proofs.Common.{◌≡◌, ℕ, Bool, true, false, List, [], ◌∷◌, Option, None, Some, refl, ap, ◌∙◌, sym, if◌then◌else◌}
+use Rattle.std.proofs.Common.{◌≡◌, ℕ, Bool, true, false, List, Option, None, Some, refl, ap, ◌∙◌, sym, if◌then◌else◌}
 use Rattle.sp_cells.specs.declared.names.Uid.{Uid}
 use Rattle.sp_cells.specs.declared.names.Column.{Column}
 use Rattle.sp_cells.specs.declared.names.Sp.{Sp}
 use Rattle.sp_cells.specs.declared.names.Sp.TheVariants.{Admin, Locking}
 use Rattle.sp_cells.specs.declared.cells.Cell.{Cell}
 use Rattle.sp_cells.specs.declared.values.ColumnType.{ColumnType}
-use Rattle.sp_cells.specs.Names.{set, mbr_table}
+use Rattle.sp_cells.specs.Names.{set}
 use Rattle.transactions.specs.declared.change.Change.{Change}
 use Rattle.transactions.specs.declared.change.Change.TheVariants.{Cells, Mbr}
 use Rattle.call_shapes.specs.declared.ask.Ask.{Ask}
@@ -16,7 +16,7 @@ use Rattle.methods.specs.declared.kinds.Kind.TheVariants as kinds
 use Rattle.methods.specs.Kinds.{kind_of}
 use Rattle.methods.specs.Columns.{set_types_of}
 use Rattle.methods.specs.Cases.{has_case}
-use Rattle.methods.specs.Settings.{Setting, cells_set, bytes_set, setting, setting_of_cells, cells_of_ask, cells_for, bytes_of_ask, is_within}
+use Rattle.methods.specs.Settings.{cells_set, bytes_set, setting, setting_of_cells, cells_of_ask, cells_for, bytes_of_ask, is_within}
 use Rattle.methods.specs.Changes.{setting_seen, object_of}
 
 -- cells that are set are of the object
