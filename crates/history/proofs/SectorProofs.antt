@@ -14,7 +14,7 @@ use Rattle.tcg_tokens.specs.Reading.{reading as message_in}
 use Rattle.trusted_cmds.specs.declared.command.Command.{Command}
 use Rattle.trusted_cmds.specs.declared.command.Command.TheVariants.{ReadQueued, WriteQueued, ReadDma, WriteDma, Send, Receive, ReadLog10, Identify, Flush}
 use Rattle.trusted_cmds.specs.declared.command.CommandError.{CommandError}
-use Rattle.trusted_cmds.specs.Commands.{reading, trusted_receive_dma, read_log_dma, read_dma, protocol_of, com_id_of, fault_of, read_unless, is_send, is_receive, is_log_read, identify}
+use Rattle.trusted_cmds.specs.Commands.{reading, trusted_receive_dma, read_log_dma, read_dma, protocol_of, sp_specific_of, fault_of, read_unless, is_send, is_receive, is_log_read, identify_device}
 use Rattle.locking.specs.declared.ranges.Verdict.{Verdict}
 use Rattle.locking.specs.declared.ranges.Verdict.TheVariants.{Serve, Shadow, Denied}
 use Rattle.history.specs.Sessions.{Begun}
@@ -170,13 +170,13 @@ read-write h lba count (Some e) g = absurd (clashes g)
     clashes : {e : CommandError} {x : Command × Option ℕ} → ◌≡◌ {A = Result (Command × Option ℕ) CommandError} (Err e) (Ok x) → ⊥
     clashes k = cc
 read-write h lba count None g =
-    let send : Command = Send (protocol_of h) (com_id_of h) (blocks h) (h.command == trusted_send_dma) in
-    let receive : Command = Receive (protocol_of h) (com_id_of h) (blocks h) (h.command == trusted_receive_dma) in
+    let send : Command = Send (protocol_of h) (sp_specific_of h) (blocks h) (h.command == trusted_send_dma) in
+    let receive : Command = Receive (protocol_of h) (sp_specific_of h) (blocks h) (h.command == trusted_receive_dma) in
     let log : Command = ReadLog10 (h.command == read_log_dma) in
     is-write h (h.command == read_queued) (h.command == write_queued) (h.command == read_dma) (h.command == write_dma)
-    (cond (is_send h.command) send (cond (is_receive h.command) receive (cond (is_log_read h.command) log (cond (h.command == identify) Identify Flush))))
+    (cond (is_send h.command) send (cond (is_receive h.command) receive (cond (is_log_read h.command) log (cond (h.command == identify_device) Identify Flush))))
     h.lba (sectors h.feature) lba count refl
-    (rest-other (is_send h.command) (is_receive h.command) (is_log_read h.command) (h.command == identify) send receive log Identify Flush refl refl refl refl refl)
+    (rest-other (is_send h.command) (is_receive h.command) (is_log_read h.command) (h.command == identify_device) send receive log Identify Flush refl refl refl refl refl)
     (ok-command g)
 
 write-size : (h : RegH2d) (lba count : ℕ) → reading h ≡ Ok (WriteDma lba count, None) → payload_length h ≡ 512 * count
