@@ -160,7 +160,25 @@ fn wrong_pins_lock_out(rt: HostRuntime) -> Result<(), Fail> {
     Ok(())
 }
 
-/// Attempts in a session: a class, an authority that no row names, a disabled one, a wrong PIN, the right one.
+/// An authority that no row names is wrong, and counts nothing.
+#[test]
+fn an_unknown_authority(rt: HostRuntime) -> Result<(), Fail> {
+    let alloc = rt.alloc();
+    let mut store = active_store(alloc)?;
+    let mut sessions = Sessions::new(alloc);
+    let _ = started(alloc, &mut sessions, &mut store, START_LOCKING)?;
+    let session = SessionId {
+        tsn: 0x1000,
+        sp: Sp::Locking,
+    };
+    let fifth_admin = Uid(0x0000_0009_0001_0005);
+    let unknown = sessions.authenticate(&mut store, session, fifth_admin, b"");
+    assert!(rt; matches!(&unknown, AuthAnswer::Wrong(_)));
+    assert_eq!(rt; tries(&store), 0);
+    Ok(())
+}
+
+/// Attempts in a session: a class, a disabled authority, a wrong PIN, the right one.
 #[test]
 fn attempts_in_a_session(rt: HostRuntime) -> Result<(), Fail> {
     let alloc = rt.alloc();
@@ -188,7 +206,7 @@ fn attempts_in_a_session(rt: HostRuntime) -> Result<(), Fail> {
     Ok(())
 }
 
-/// Properties with no arguments is answered by 138 bytes.
+/// Properties with no arguments is answered by the six properties, 138 bytes.
 #[test]
 fn properties_of_the_drive(rt: HostRuntime) -> Result<(), Fail> {
     let alloc = rt.alloc();
@@ -199,12 +217,15 @@ fn properties_of_the_drive(rt: HostRuntime) -> Result<(), Fail> {
     let reply = Sessions::properties(alloc, &asked)?;
     assert!(rt; writable(&reply));
     let bytes = write_item(alloc, &reply)?;
-    assert_eq!(rt; bytes.len(), 138);
     let hex = hex::encode(alloc, bytes.as_slice())?;
-    assert!(rt;
-        hex.as_str()
-            .starts_with("f8a800000000000000ffa8000000000000ff01f0f0f2")
-    );
-    assert!(rt; hex.as_str().ends_with("82ffc8f3f1f1f9f0000000f1"));
+    let wanted = "f8a800000000000000ffa8000000000000ff01f0f0\
+        f2aa4d61784d6574686f647301f3\
+        f2ad4d61785375627061636b65747301f3\
+        f2ad4d61785061636b657453697a6582ffecf3\
+        f2aa4d61785061636b65747301f3\
+        f2d0104d6178436f6d5061636b657453697a6583010000f3\
+        f2af4d6178496e64546f6b656e53697a6582ffc8f3\
+        f1f1f9f0000000f1";
+    assert_eq!(rt; hex.as_str(), wanted);
     Ok(())
 }
