@@ -65,7 +65,7 @@ geometry_feature =
 abbrev pub opal_feature : List ℕ
 opal_feature =
     feature 0x0203 (to_be_bytes w16 0x1000 ++ to_be_bytes w16 4 ++ 0 ∷ to_be_bytes w16 ADMINS
-        ++ to_be_bytes w16 USERS ++ 0 ∷ 0 ∷ replicate 5 0)
+    ++ to_be_bytes w16 USERS ++ 0 ∷ 0 ∷ replicate 5 0)
 
 abbrev pub features : LookUp → List ℕ
 features look = tper_feature ++ locking_feature look ++ geometry_feature ++ opal_feature

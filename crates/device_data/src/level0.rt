@@ -52,12 +52,7 @@ fn is_locked<R: Rows>(rows: &R) -> bool
 fn is_manufactured<R: Rows>(rows: &R) -> bool
     ensures { result ≡ is_manufactured (R.look_up rows.now) }
 {
-    number_at(
-        rows,
-        Sp::Admin,
-        Uid::LOCKING_SP,
-        Column::LIFE_CYCLE_STATE,
-    ) == MANUFACTURED
+    number_at(rows, Sp::Admin, Uid::LOCKING_SP, Column::LIFE_CYCLE_STATE) == MANUFACTURED
 }
 
 /// A flag of the shadow MBR.

@@ -45,9 +45,10 @@ tag-of-reading (Err e) = None
 -- what is read with a tag is a queued command
 no_fault : (h : RegH2d) (command : Command) (tag : ℕ) → reading h ≡ Ok (command, Some tag) → (h.is_command ≡ true) × (is_queued h.command ≡ true)
 no_fault h command tag e =
-    let fine : fault_of h ≡ None = read-ok (fault_of h) h (command, Some tag) e in
-    (is_fine h.is_command (is_known h.command) (is_transfer h.command && not (has_lba_bit h.device)) (is_log_read h.command && not (names_error_log h)) fine,
-     tag-in (is_queued h.command) (tag_of h) tag (ap tag-of-reading (sym (ap (λ f. read_unless f h) fine) ∙ e)))
+    let fine : fault_of h ≡ None = read-ok (fault_of h) h (command, Some tag) e in (
+      is_fine h.is_command (is_known h.command) (is_transfer h.command && not (has_lba_bit h.device)) (is_log_read h.command && not (names_error_log h)) fine,
+      tag-in (is_queued h.command) (tag_of h) tag (ap tag-of-reading (sym (ap (λ f. read_unless f h) fine) ∙ e)),
+    )
 
 and_false : (b : Bool) → (b && false) ≡ false
 and_false true = refl

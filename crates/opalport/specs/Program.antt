@@ -29,7 +29,7 @@ RunEnds sectors shadow msid input status old new =
 abbrev pub Level0Ends : Text → Text → Text → ℕ → Option (List ℕ) → Option (List ℕ) → Type 0
 Level0Ends sectors shadow msid status old new =
     ((config : Config) × WritesConfig sectors shadow msid config × IsWithinLimits config.sectors config.mbr_sectors config.msid
-        × (status ≡ 0) × Appends old new (level0_text config))
+    × (status ≡ 0) × Appends old new (level0_text config))
     ⊎ ((Opens sectors shadow msid → ⊥) × (status ≡ 2) × (new ≡ old))
 
 -- the item is printed with status 0; where the text is no hex, the status is 2, and nothing is printed

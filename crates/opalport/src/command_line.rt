@@ -110,7 +110,12 @@ fn command<'a>(alloc: Global) -> Result<Command<'a>, AllocError>
         .subcommand_required(true)
         .arg_required_else_help(true)
         .subcommand(drive_command(alloc, "run", "Runs a script from standard input", LINES)?)?
-        .subcommand(drive_command(alloc, "level0", "Prints the Level 0 discovery of a new drive, in hex", "")?)?
+        .subcommand(drive_command(
+            alloc,
+            "level0",
+            "Prints the Level 0 discovery of a new drive, in hex",
+            "",
+        )?)?
         .subcommand(tokens_command(alloc)?)
 }
 

@@ -7,13 +7,25 @@ use thiserror::Error;
 #[derive(Clone, Copy, Debug, PartialEq, Eq)]
 pub enum Command {
     /// READ FPDMA QUEUED (ACS-3, "READ FPDMA QUEUED").
-    ReadQueued { lba: u64, count: u32 },
+    ReadQueued {
+        lba: u64,
+        count: u32,
+    },
     /// WRITE FPDMA QUEUED (ACS-3, "WRITE FPDMA QUEUED").
-    WriteQueued { lba: u64, count: u32 },
+    WriteQueued {
+        lba: u64,
+        count: u32,
+    },
     /// READ DMA EXT (ACS-3, "READ DMA EXT").
-    ReadDma { lba: u64, count: u32 },
+    ReadDma {
+        lba: u64,
+        count: u32,
+    },
     /// WRITE DMA EXT (ACS-3, "WRITE DMA EXT").
-    WriteDma { lba: u64, count: u32 },
+    WriteDma {
+        lba: u64,
+        count: u32,
+    },
     /// TRUSTED SEND and TRUSTED SEND DMA (ACS-3, "TRUSTED SEND"): the SP Specific field is a ComID.
     Send {
         protocol: u8,
@@ -31,7 +43,9 @@ pub enum Command {
     /// IDENTIFY DEVICE (ACS-3, "IDENTIFY DEVICE").
     Identify,
     /// READ LOG EXT and READ LOG DMA EXT of the NCQ Command Error log, address 10h (ACS-3, "READ LOG EXT").
-    ReadLog10 { dma: bool },
+    ReadLog10 {
+        dma: bool,
+    },
     /// FLUSH CACHE EXT (ACS-3, "FLUSH CACHE EXT").
     Flush,
 }

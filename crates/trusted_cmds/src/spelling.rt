@@ -97,7 +97,13 @@ pub fn to_fis(command: &Command, tag: Tag) -> RegH2d
         ),
         Command::Identify => fis_with(IDENTIFY_DEVICE, 0, 0, 0, 0),
         Command::ReadLog10 { dma } => {
-            fis_with(by_dma(dma, READ_LOG, READ_LOG_DMA), 0, ERROR_LOG_ADDRESS, 0, 1)
+            fis_with(
+                by_dma(dma, READ_LOG, READ_LOG_DMA),
+                0,
+                ERROR_LOG_ADDRESS,
+                0,
+                1,
+            )
         }
         Command::Flush => fis_with(FLUSH_CACHE, 0, 0, 0, 0),
     }

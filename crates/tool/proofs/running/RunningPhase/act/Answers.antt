@@ -10,12 +10,12 @@ use Rattle.tool.proofs.running.RunningPhase.act.Goals as goal
 pub returns-in-Read-clause-does : goal.returns-in-Read-clause-does
 returns-in-Read-clause-does c = rw c.in-Read.is (of_command c.transfer.result
     (λ (command : Command). (o : Origin) (acts : List Act) → RunsOn c.args.self.now o acts
-        → Transfers c.transfer.new.self o acts command c.in-Read.transfer 0 c.args.report.now c.transfer.new.report)
+    → Transfers c.transfer.new.self o acts command c.in-Read.transfer 0 c.args.report.now c.transfer.new.report)
     c.read_of.result (read_of c.in-Read.transfer) c.read_of.ensures c.transfer.ensures.does)
 
 -- src/running.rt:106:5
 pub returns-in-Write-clause-does : goal.returns-in-Write-clause-does
 returns-in-Write-clause-does c = rw c.in-Write.is (of_command c.transfer-in-Write.result
     (λ (command : Command). (o : Origin) (acts : List Act) → RunsOn c.args.self.now o acts
-        → Transfers c.transfer-in-Write.new.self o acts command c.in-Write.transfer c.in-Write.byte c.args.report.now c.transfer-in-Write.new.report)
+    → Transfers c.transfer-in-Write.new.self o acts command c.in-Write.transfer c.in-Write.byte c.args.report.now c.transfer-in-Write.new.report)
     c.write_of.result (write_of c.in-Write.transfer) c.write_of.ensures c.transfer-in-Write.ensures.does)
