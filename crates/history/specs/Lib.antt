@@ -19,3 +19,6 @@ pub mod Agreement
 pub mod Bounds
 pub mod CallsAgree
 pub mod SessionsAgree
+pub mod KeptStore
+pub mod KeptSessions
+pub mod KeptCalls

@@ -1,0 +1,146 @@
+-- When a store keeps what the past says, and what each deed makes of a store. Part by part, and by
+-- points.
+use Rattle.std.specs.Prelude.{◌≡◌, ◌≤◌, ℕ, ◌+◌, ◌*◌, Bool, true, false, List, [], ◌∷◌, ◌++◌, length, slice_index, Option, None, Some, is_some, option_map, if◌then◌else◌}
+use Rattle.sp_cells.specs.declared.names.Uid.{Uid}
+use Rattle.sp_cells.specs.declared.names.Sp.{Sp}
+use Rattle.sp_cells.specs.declared.names.Sp.TheVariants.{Admin, Locking}
+use Rattle.sp_cells.specs.declared.names.Column.{Column}
+use Rattle.sp_cells.specs.declared.cells.Cell.TheVariants.{Number}
+use Rattle.sp_cells.specs.ColumnNames.{tries_column}
+use Rattle.sp_cells.specs.Ranges.{number}
+use Rattle.sp_rows.specs.Items.{item_at}
+use Rattle.sp_tables.specs.Contents.{Contents}
+use Rattle.sp_tables.specs.Looks.{RowLook}
+use Rattle.sp_tables.specs.Tries.{is_tries, names_tries}
+use Rattle.shadow_mbr.specs.Stored.{Stored as Bytes, sector_size, byte_at}
+use Rattle.audit.specs.declared.reason.AttemptFailure.{AttemptFailure}
+use Rattle.audit.specs.declared.reason.AttemptFailure.TheVariants.{WrongPin, LockedOut, Disabled, Unknown}
+use Rattle.transactions.specs.Stored.{Transaction, Part, Stored, part, at_part, part_begin, part_commit, part_close, part_tries, bytes_seen, new_store, reverted, after_reset}
+use Rattle.transactions.specs.Sights.{look_up, committed_sight, side_at, side_for, activated_with}
+use Rattle.sessions.specs.Answers.{in_force as rows_in_force, up}
+use Rattle.methods.specs.Settings.{Setting, cells_set, bytes_set, is_within}
+use Rattle.methods.specs.Effects.{set_stored}
+use Rattle.history.specs.Opening.{Origin}
+use Rattle.history.specs.Changes.{Change, Sets, Restores, Resets, byte_in}
+use Rattle.history.specs.Events.{Attempt, SessionDeed, Unchanged, Started, Tried, Changed, Began, Committed, Aborted, Ended, Activated, Reverted, Deed, Nothing, InSession, OfQueue, Wrote, Took, WasReset, Event}
+use Rattle.history.specs.Readers.{changes, open_changes, open_on, rows_after, rows_within, tries, in_force, view, byte_in_force, byte_in_view}
+use Rattle.history.specs.Agreement.{HasNoTries}
+
+-- The rows of an SP but for Tries, and the Tries alone.
+abbrev pub but_tries : RowLook → RowLook
+but_tries rows object column = if is_tries object column then None else rows object column
+
+abbrev pub tries_alone : (Uid → ℕ) → RowLook → RowLook
+tries_alone counted rows object column =
+    if is_tries object column
+    then option_map (λ _. Number (counted object)) (rows object column) else None
+
+-- What is kept of an SP: its rows in force, its Tries, and the rows that an open transaction sees,
+-- which has the places that the rows in force have.
+pub record KeepsPart (p : Part) (o : Origin) (past : List Event) (sp : Sp) : Type 0 where
+  pub rows : (object : Uid) (column : Column)
+      → item_at p.rows object column ≡ but_tries (rows_after o past sp) object column
+  pub tries : (object : Uid) (column : Column)
+      → item_at p.tries object column ≡ tries_alone (tries past sp) (rows_after o past sp) object column
+  pub transaction : option_map (λ t. t.tsn) p.pending ≡ open_on past sp
+  pub within : (t : Transaction) → p.pending ≡ Some t → (object : Uid) (column : Column)
+      → item_at t.rows object column ≡ but_tries (rows_within o past sp) object column
+  pub places : (object : Uid) (column : Column)
+      → is_some (rows_within o past sp object column) ≡ is_some (rows_after o past sp object column)
+
+-- The bytes of the shadow: all of its table, in force and within an open transaction.
+pub record KeepsBytes (p : Part) (o : Origin) (past : List Event) : Type 0 where
+  pub size : length p.bytes ≡ sector_size * o.tables.config.mbr_sectors
+  pub bytes : (place : ℕ) → slice_index p.bytes place ≡ byte_in_force past place
+  pub size_within : (t : Transaction) → p.pending ≡ Some t
+      → length t.bytes ≡ sector_size * o.tables.config.mbr_sectors
+  pub within : (t : Transaction) → p.pending ≡ Some t → (place : ℕ)
+      → slice_index t.bytes place ≡ byte_in (open_changes past Locking ++ changes past Locking) place
+
+pub record KeepsStore (s : Stored) (o : Origin) (past : List Event) : Type 0 where
+  pub config : s.config ≡ o.tables.config
+  pub parts : (sp : Sp) → KeepsPart (part s sp) o past sp
+  pub bytes : KeepsBytes s.locking o past
+
+-- What a deed makes of a store.
+
+abbrev pub StoresSetting : Sp → Setting → Stored → Stored → Type 0
+StoresSetting sp (cells_set object cells) s t =
+    (names_tries object cells ≡ false) × (t ≡ set_stored s sp (Some (cells_set object cells)))
+StoresSetting Locking (bytes_set at content) s t =
+    (is_within s.config.mbr_sectors at content ≡ true)
+    × (t ≡ set_stored s Locking (Some (bytes_set at content)))
+StoresSetting Admin (bytes_set at content) s t = ⊥
+
+abbrev pub StoresChange : Sp → Change → Stored → Stored → Type 0
+StoresChange sp (Sets setting) s t = StoresSetting sp setting s t
+StoresChange sp Restores s t = ⊥
+StoresChange sp (Resets kind) s t = ⊥
+
+abbrev pub with_count : Sp → Uid → ℕ → Stored → Stored
+with_count sp row n s = at_part sp (part_tries row n) s
+
+-- A right PIN makes the Tries of its row 0, and a wrong one counts.
+abbrev pub StoresAttempt : Sp → Uid → Option AttemptFailure → Stored → Stored → Type 0
+StoresAttempt sp row None s t = t ≡ with_count sp row 0 s
+StoresAttempt sp row (Some WrongPin) s t =
+    t ≡ with_count sp row (up (number (rows_in_force s) sp row tries_column)) s
+StoresAttempt sp row (Some LockedOut) s t = t ≡ s
+StoresAttempt sp row (Some Disabled) s t = t ≡ s
+StoresAttempt sp row (Some Unknown) s t = t ≡ s
+
+abbrev pub Opens : Sp → ℕ → Stored → Stored → Type 0
+Opens sp number s t =
+    ((part s sp).pending ≡ None) × (t ≡ at_part sp (part_begin number) s)
+
+abbrev pub Commits : Sp → Stored → Stored → Type 0
+Commits sp s t =
+    (its : Transaction) × ((part s sp).pending ≡ Some its)
+    × (t ≡ at_part sp (part_commit its.tsn) s)
+
+abbrev pub StoresAs : SessionDeed → Stored → Stored → Type 0
+StoresAs Unchanged s t = t ≡ s
+StoresAs (Started session row) s t = t ≡ with_count session.sp row 0 s
+StoresAs (Tried attempt) s t = StoresAttempt attempt.sp attempt.row attempt.failure s t
+StoresAs (Changed sp change) s t = StoresChange sp change s t
+StoresAs (Began sp number) s t = Opens sp number s t
+StoresAs (Committed sp) s t = Commits sp s t
+StoresAs (Aborted sp) s t = t ≡ at_part sp part_close s
+StoresAs (Ended sp) s t = t ≡ at_part sp part_close s
+StoresAs (Activated pin) s t = t ≡ activated_with pin s
+StoresAs (Reverted sp wipes) s t = t ≡ reverted sp s
+
+abbrev pub StoresBy : Deed → Stored → Stored → Type 0
+StoresBy Nothing s t = t ≡ s
+StoresBy (InSession deed response) s t = StoresAs deed s t
+StoresBy (OfQueue deed) s t = t ≡ s
+StoresBy (Wrote lba bytes) s t = t ≡ s
+StoresBy (Took com_id) s t = t ≡ s
+StoresBy (WasReset kind) s t = t ≡ after_reset kind s
+
+-- Laws.
+
+-- A store over the tables and the zeros that a drive starts from keeps what no acts say.
+abbrev pub StoreOpeningLaw : Type 0
+StoreOpeningLaw =
+    (tables : Contents) (mbr : Bytes) → HasNoTries (record { tables = tables })
+    → mbr.sectors ≡ tables.config.mbr_sectors → ((place : ℕ) → byte_at mbr place ≡ 0)
+    → KeepsStore (new_store tables mbr) (record { tables = tables }) []
+
+-- What a deed makes of a store keeps what one more event says.
+abbrev pub StoreLaw : Type 0
+StoreLaw =
+    (o : Origin) (past : List Event) (e : Event) (s t : Stored) → KeepsStore s o past
+    → StoresBy e.deed s t → KeepsStore t o (e ∷ past)
+
+-- What is read of a store is what the past says.
+pub record ReadsStore (s : Stored) (o : Origin) (past : List Event) : Type 0 where
+  pub rows : look_up (committed_sight s) ≡ in_force o past
+  pub bytes : slice_index s.locking.bytes ≡ byte_in_force past
+  pub views : (number : ℕ) (sp : Sp) → side_at (side_for (part s sp) number) ≡ view o past number sp
+  pub view_bytes : (number place : ℕ)
+      → slice_index (bytes_seen s.locking number) place
+      ≡ byte_in_view past number place
+
+abbrev pub StoreReadLaw : Type 0
+StoreReadLaw = (s : Stored) (o : Origin) (past : List Event) → KeepsStore s o past → ReadsStore s o past
