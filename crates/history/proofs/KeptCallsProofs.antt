@@ -1,5 +1,5 @@
 -- What comes of a call, by what is kept, is what comes of it by the past.
-use Rattle.std.proofs.Common.{◌≡◌, ℕ, ◌==◌, Bool, true, false, ◌&&◌, ◌||◌, List, [], ◌∷◌, Option, Some, None, refl, sym, subst, ◌∙◌, ap, cond, eqb-true, eq-eqb}
+use Rattle.std.proofs.Common.{◌≡◌, ℕ, ◌==◌, Bool, true, false, ◌&&◌, ◌||◌, List, [], Option, Some, None, refl, sym, subst, ◌∙◌, ap, cond, eqb-true}
 use Rattle.sp_cells.specs.declared.names.Uid.{Uid}
 use Rattle.sp_cells.specs.declared.names.Sp.{Sp}
 use Rattle.sp_cells.specs.declared.names.Sp.TheVariants.{Admin, Locking}
@@ -7,14 +7,13 @@ use Rattle.sp_cells.specs.Names.{c_pin_sid}
 use Rattle.sp_cells.specs.ColumnNames.{pin_column}
 use Rattle.sp_cells.specs.Flat.{LookUp, sp_eq}
 use Rattle.ace_eval.specs.Truth.{has}
-use Rattle.tcg_tokens.specs.Tree.{Trees}
 use Rattle.audit.specs.declared.reason.AttemptFailure.{AttemptFailure}
 use Rattle.audit.specs.declared.reason.AttemptFailure.TheVariants.{WrongPin, LockedOut, Disabled, Unknown}
 use Rattle.call_shapes.specs.Named.{values_of}
 use Rattle.call_shapes.specs.declared.ask.Ask.{Ask}
 use Rattle.transactions.specs.declared.change.SessionId.{SessionId}
 use Rattle.transactions.specs.Stored.{Stored}
-use Rattle.transactions.specs.Sights.{latest_look, is_manufactured, activated_with, activated}
+use Rattle.transactions.specs.Sights.{latest_look, is_manufactured, activated_with}
 use Rattle.sessions.specs.Attempts.{credential, failure}
 use Rattle.sessions.specs.Answers.{in_force, after_attempt, gaining_if}
 use Rattle.sessions.specs.Gains.{gained}
@@ -24,17 +23,16 @@ use Rattle.methods.specs.Settings.{cells_set, bytes_set}
 use Rattle.methods.specs.Said.{said_attempt}
 use Rattle.methods.specs.Effects.{seen_by}
 use Rattle.methods.specs.Calls.{Called, called_with, said_call, stored_call, holder_call}
-use Rattle.history.specs.Opening.{Origin}
 use Rattle.history.specs.Calls.{Judgement, Refuses, Gives, Makes, Attempts, Activates, Reverts, asked, judged}
 use Rattle.history.specs.CallsAgree.{said_of, standing_on}
 use Rattle.history.specs.Sessions.{Begun}
 use Rattle.history.specs.Events.{Attempt, SessionDeed, Unchanged, Activated, Event, or_else}
 use Rattle.history.specs.Readers.{session_on, authorities}
-use Rattle.history.specs.Facts.{Facts, facts, standing}
+use Rattle.history.specs.Facts.{Facts, facts}
 use Rattle.history.specs.Decisions.{gains_of, outcome_of, judgement_on}
-use Rattle.history.specs.History.{Act, log}
-use Rattle.history.specs.KeptStore.{KeepsStore, StoresAttempt, StoresAs, StoresSetting}
-use Rattle.history.specs.KeptSessions.{IsKeptAs, if_number, session_numbered, KeepsSession, KeepsSessions, Gains, GainsAt, LivesAs, id_of}
+use Rattle.history.specs.History.{log}
+use Rattle.history.specs.KeptStore.{StoresAttempt, StoresAs, StoresSetting}
+use Rattle.history.specs.KeptSessions.{IsKeptAs, if_number, session_numbered, KeepsSessions, GainsAt, LivesAs, id_of}
 use Rattle.history.specs.KeptCalls.{wipes_by, Meets, CallLaw}
 use Rattle.history.proofs.Words.{sp-same, sp-is}
 use Rattle.history.proofs.Authorities.{judged-alike}
@@ -232,8 +230,8 @@ kept_call_law o acts s l m session object method args store keeps lives next at 
     let ask : Option Ask = asked session.sp object method args in
     let j : Judgement = judgement_on f session object method args in
     let same : judged (standing_on s (id_of session) c.held) object method ask ≡ j =
-        sym (judged-alike (standing_on s (id_of session) c.held) (authorities (log o acts) session) (held-same (log o acts) l session keeps lives) object method ask)
-        ∙ ap (λ st. judged st object method ask) (standing-same o acts s l session c.held store keeps lives) in
+    sym (judged-alike (standing_on s (id_of session) c.held) (authorities (log o acts) session) (held-same (log o acts) l session keeps lives) object method ask)
+    ∙ ap (λ st. judged st object method ask) (standing-same o acts s l session c.held store keeps lives) in
     subst (λ out. Meets out (said_call s c).answer (said_call s c).denied (said_call s c).wipe s (stored_call s c) l m)
     (ap (λ (rows : LookUp). outcome_of (record f { rows = rows }) session.sp j) (in_force-read s o (log o acts) store))
     (made-meets f s l m c j (latest-seen o acts s session store lives) same next at (alone-at (log o acts) l session keeps lives))
