@@ -8,7 +8,7 @@ use Rattle.sp_cells.specs.declared.error.SetError.TheVariants as faults
 use Rattle.sp_cells.specs.Config.{Config}
 use Rattle.sp_cells.specs.Flat.{LookUp}
 use Rattle.sp_tables.specs.Tries.{names_tries}
-use Rattle.tcg_tokens.specs.Length.{len_of}
+use Rattle.call_shapes.specs.Carried.{is_carried}
 use Rattle.tcg_tokens.specs.Tree.{Tree, bytes}
 use Rattle.transactions.specs.declared.change.SessionId.{SessionId}
 use Rattle.transactions.specs.Bytes.{bytes_from}
@@ -41,9 +41,9 @@ said_law f sp (Reverts reverted) wipes = record { said = refl; denied = refl }
 -- results, by their length
 fits-gives : (rows : LookUp) (sp : Sp) (wipes : Bool) (results : List Tree) → fits results ≡ said_of rows sp wipes (gives results)
 unfolding fits
-fits-gives rows sp wipes results = by_length (nat_lt most_response (len_of (reply_of results success)))
+fits-gives rows sp wipes results = by_length (is_carried (reply_of results success))
   where
-    by_length : (b : Bool) → cond b (refuses 0x11 None) (says results None false) ≡ said_of rows sp wipes (cond b (Refuses 0x11 None) (Gives results))
+    by_length : (b : Bool) → cond b (says results None false) (refuses 0x11 None) ≡ said_of rows sp wipes (cond b (Gives results) (Refuses 0x11 None))
     by_length true = refl
     by_length false = refl
 

@@ -11,7 +11,7 @@ use Rattle.sp_cells.specs.declared.error.SetError.{SetError}
 use Rattle.sp_cells.specs.declared.error.SetError.TheVariants as faults
 use Rattle.sp_tables.specs.Looks.{fault_seen}
 use Rattle.sp_tables.specs.Tries.{names_tries}
-use Rattle.tcg_tokens.specs.Length.{len_of}
+use Rattle.call_shapes.specs.Carried.{is_carried}
 use Rattle.tcg_tokens.specs.Tree.{Tree}
 use Rattle.audit.specs.declared.reason.Why.{Why}
 use Rattle.transactions.specs.declared.change.SessionId.{SessionId}
@@ -68,7 +68,7 @@ idle-if true x y h g = h
 idle-if false x y h g = g
 
 gives-idle : (results : List Tree) → idle (gives results) ≡ true
-gives-idle results = idle-if (nat_lt most_response (len_of (reply_of results success))) (Refuses 0x11 None) (Gives results) refl refl
+gives-idle results = idle-if (is_carried (reply_of results success)) (Gives results) (Refuses 0x11 None) refl refl
 
 rows-idle : (s : Standing) (first last : ℕ) → idle (rows_given s first last) ≡ true
 rows-idle s first last =
