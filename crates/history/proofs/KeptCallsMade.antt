@@ -1,5 +1,5 @@
 -- What a call makes of a store and of sessions, by the judgement of it; and what is set at all.
-use Rattle.std.proofs.Common.{◌≡◌, ℕ, ◌+◌, ◌==◌, Bool, true, false, ◌||◌, List, [], ◌∷◌, Option, Some, None, refl, sym, ◌∙◌, ap, cond}
+use Rattle.std.proofs.Common.{◌≡◌, ℕ, ◌+◌, ◌==◌, Bool, true, false, ◌||◌, List, Option, Some, None, refl, sym, ◌∙◌, ap, cond}
 use Rattle.std.specs.Prelude.{nat_le, nat_lt, ◌-◌}
 use Rattle.sp_cells.specs.declared.names.Uid.{Uid}
 use Rattle.sp_cells.specs.declared.names.Sp.{Sp}
@@ -33,7 +33,7 @@ use Rattle.methods.specs.Settings.{Setting, cells_set, bytes_set, cells_for, is_
 use Rattle.methods.specs.Said.{reply_of}
 use Rattle.methods.specs.Effects.{ask_at, seen_by, is_inside, last_row, unless_fault, set_stored, stored_unless, sp_of_row, stored_ask, ended_by, ended_unless, gaining, holder_ask}
 use Rattle.methods.specs.Calls.{Called, stored_unless_denied, stored_shaped, stored_call, holder_unless, holder_shaped, holder_call}
-use Rattle.history.specs.Calls.{Standing, Judgement, Refuses, Gives, Makes, Attempts, Activates, Reverts, denial, gives, listing, table_size, bytes_between, rows_given, fault_by, valid, to_set, makes, unless_open, does_ask, does, unless_denied, judged}
+use Rattle.history.specs.Calls.{Standing, Judgement, Refuses, Gives, Makes, Attempts, Activates, Reverts, denial, gives, listing, table_size, bytes_between, rows_given, valid, to_set, makes, unless_open, does_ask, does, unless_denied, judged}
 use Rattle.history.specs.CallsAgree.{standing_on}
 use Rattle.history.proofs.CallsAgreeProofs.{valid-same}
 

@@ -7,10 +7,9 @@ use Rattle.sp_cells.specs.declared.names.Sp.{Sp}
 use Rattle.sp_cells.specs.declared.names.Sp.TheVariants.{Admin, Locking}
 use Rattle.sp_cells.specs.Config.{Config}
 use Rattle.sp_cells.specs.Flat.{sp_eq}
-use Rattle.sp_tables.specs.Looks.{RowLook}
 use Rattle.ace_eval.specs.Truth.{has}
-use Rattle.transactions.specs.Stored.{Transaction, Part, Stored, part, is_open, bytes_seen}
-use Rattle.transactions.specs.Sights.{side_at, side_for, latest_side, look_up, committed_sight, sight_of, latest_look}
+use Rattle.transactions.specs.Stored.{Transaction, Part, Stored, part, is_open}
+use Rattle.transactions.specs.Sights.{side_at, side_for, latest_side, look_up, sight_of, latest_look}
 use Rattle.sessions.specs.Live.{Holder, Live, session_at, holder_on}
 use Rattle.methods.specs.Effects.{held_of, held_in, seen_by, is_inside}
 use Rattle.history.specs.Opening.{Origin}
@@ -23,7 +22,7 @@ use Rattle.history.specs.Readers.{session_on, authorities, open_on, rows_after, 
 use Rattle.history.specs.Facts.{facts, standing}
 use Rattle.history.specs.History.{Act, log}
 use Rattle.history.specs.KeptStore.{KeepsStore, ReadsStore}
-use Rattle.history.specs.KeptSessions.{KeepsSession, IsKeptAs, if_number, session_numbered, KeepsSessions, id_of}
+use Rattle.history.specs.KeptSessions.{IsKeptAs, if_number, session_numbered, KeepsSessions, id_of}
 use Rattle.history.proofs.Words.{sp-same}
 use Rattle.history.proofs.OwnerLaws.{owner_law}
 use Rattle.history.proofs.KeptStoreReads.{store_read_law}

@@ -46,8 +46,8 @@ standing_on store session held = record {
   is_open = is_inside store session;
 }
 
--- Where a change of the session's SP is judged by what the session sees there, each call is answered
--- alike.
+-- Where a change of the session's SP is judged by what the session sees there, each call is
+-- answered alike.
 abbrev pub AnswerLaw : Type 0
 AnswerLaw =
     (store : Stored) (c : Called)
