@@ -4,5 +4,7 @@
 
 mod item;
 mod response;
+mod trusted;
 
 pub use response::is_session_com_id;
+pub use trusted::{Sent, Tper};
