@@ -123,5 +123,5 @@ NamedLaw =
     (o : Origin) (live : Live) (past : List Event) (com_id : ℕ) (named : Session)
     → KeepsSessions live past
     → option_map (λ sp. record { tsn = named.tsn; sp = sp })
-      (found com_id named.hsn (session_at live named.tsn))
+    (found com_id named.hsn (session_at live named.tsn))
     ≡ option_map id_of (session_named (facts o past) com_id named)
