@@ -1,15 +1,18 @@
 -- When a store keeps what the past says, and what each deed makes of a store. Part by part, and by
 -- points.
-use Rattle.std.specs.Prelude.{◌≡◌, ◌≤◌, ℕ, ◌+◌, ◌*◌, Bool, true, false, List, [], ◌∷◌, ◌++◌, length, slice_index, Option, None, Some, is_some, option_map, if◌then◌else◌}
+use Rattle.std.specs.Prelude.{◌≡◌, ◌==◌, ◌||◌, ℕ, zero, suc, ◌+◌, ◌*◌, Bool, true, false, List, [], ◌∷◌, ◌++◌, length, slice_index, Option, None, Some, is_some, option_map, Ok, if◌then◌else◌}
 use Rattle.sp_cells.specs.declared.names.Uid.{Uid}
 use Rattle.sp_cells.specs.declared.names.Sp.{Sp}
 use Rattle.sp_cells.specs.declared.names.Sp.TheVariants.{Admin, Locking}
 use Rattle.sp_cells.specs.declared.names.Column.{Column}
 use Rattle.sp_cells.specs.declared.cells.Cell.TheVariants.{Number}
+use Rattle.sp_cells.specs.declared.names.TheConstants.{USERS, ADMINS}
+use Rattle.sp_cells.specs.Config.{Config}
 use Rattle.sp_cells.specs.ColumnNames.{tries_column}
+use Rattle.sp_cells.specs.Names.{c_pin_sid, c_pin_msid, admin_pin_uid, user_pin_uid}
 use Rattle.sp_cells.specs.Ranges.{number}
 use Rattle.sp_rows.specs.Items.{item_at}
-use Rattle.sp_tables.specs.Contents.{Contents}
+use Rattle.sp_tables.specs.Contents.{Contents, look_up as cells_of}
 use Rattle.sp_tables.specs.Looks.{RowLook}
 use Rattle.sp_tables.specs.Tries.{is_tries, names_tries}
 use Rattle.shadow_mbr.specs.Stored.{Stored as Bytes, sector_size, byte_at}
@@ -20,7 +23,8 @@ use Rattle.transactions.specs.Sights.{look_up, committed_sight, side_at, side_fo
 use Rattle.sessions.specs.Answers.{in_force as rows_in_force, up}
 use Rattle.methods.specs.Settings.{Setting, cells_set, bytes_set, is_within}
 use Rattle.methods.specs.Effects.{set_stored}
-use Rattle.history.specs.Opening.{Origin}
+use Rattle.locking.specs.declared.range.RangeRow.{RangeRow}
+use Rattle.history.specs.Opening.{Origin, factory_origin, origin_with}
 use Rattle.history.specs.Changes.{Change, Sets, Restores, Resets, byte_in}
 use Rattle.history.specs.Events.{Attempt, SessionDeed, Unchanged, Started, Tried, Changed, Began, Committed, Aborted, Ended, Activated, Reverted, Deed, Nothing, InSession, OfQueue, Wrote, Took, WasReset, Event}
 use Rattle.history.specs.Readers.{changes, open_changes, open_on, rows_after, rows_within, tries, in_force, view, byte_in_force, byte_in_view}
@@ -57,8 +61,25 @@ pub record KeepsBytes (p : Part) (o : Origin) (past : List Event) : Type 0 where
   pub within : (t : Transaction) → p.pending ≡ Some t → (place : ℕ)
       → slice_index t.bytes place ≡ byte_in (open_changes past Locking ++ changes past Locking) place
 
+-- The C_PIN rows whose Tries a power cycle clears.
+unfoldable pub in_family : (ℕ → Uid) → ℕ → Uid → Bool
+in_family name zero object = false
+in_family name (suc n) object = in_family name n object || ((name (suc n)).0 == object.0)
+
+abbrev pub is_cleared : Sp → Uid → Bool
+is_cleared Admin object = (c_pin_sid.0 == object.0) || (c_pin_msid.0 == object.0)
+is_cleared Locking object =
+    in_family admin_pin_uid ADMINS object || in_family user_pin_uid USERS object
+
+-- No other row of what a drive starts from counts attempts.
+abbrev pub HasKnownTries : Origin → Type 0
+HasKnownTries o =
+    (sp : Sp) (object : Uid) (column : Column) → is_tries object column ≡ true
+    → is_cleared sp object ≡ false → cells_of o.tables sp object column ≡ None
+
 pub record KeepsStore (s : Stored) (o : Origin) (past : List Event) : Type 0 where
   pub config : s.config ≡ o.tables.config
+  pub known : HasKnownTries o
   pub parts : (sp : Sp) → KeepsPart (part s sp) o past sp
   pub bytes : KeepsBytes s.locking o past
 
@@ -124,8 +145,15 @@ StoresBy (WasReset kind) s t = t ≡ after_reset kind s
 abbrev pub StoreOpeningLaw : Type 0
 StoreOpeningLaw =
     (tables : Contents) (mbr : Bytes) → HasNoTries (record { tables = tables })
+    → HasKnownTries (record { tables = tables })
     → mbr.sectors ≡ tables.config.mbr_sectors → ((place : ℕ) → byte_at mbr place ≡ 0)
     → KeepsStore (new_store tables mbr) (record { tables = tables }) []
+
+-- The tables of a new drive, and those of each opening, count in no other row.
+abbrev pub KnownTriesLaw : Type 0
+KnownTriesLaw =
+    (config : Config) → HasKnownTries (factory_origin config)
+    × ((rows : List RangeRow) (o : Origin) → origin_with config rows ≡ Ok o → HasKnownTries o)
 
 -- What a deed makes of a store keeps what one more event says.
 abbrev pub StoreLaw : Type 0
