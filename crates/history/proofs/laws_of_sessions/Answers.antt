@@ -1,6 +1,7 @@
 use Rattle.history.proofs.SessionsAgreeProofs.{begun_law, gain_law}
 use Rattle.history.proofs.KeptSessionsLaws.{sessions_opening_law, sessions_law}
 use Rattle.history.proofs.KeptSessionsNamed.{named_law}
+use Rattle.history.proofs.KeptSessionsStart.{start_law}
 use Rattle.history.proofs.laws_of_sessions.Goals as goal
 
 pub returns-clause-begun : goal.returns-clause-begun
@@ -17,3 +18,6 @@ returns-clause-kept c = sessions_law
 
 pub returns-clause-named : goal.returns-clause-named
 returns-clause-named c = named_law
+
+pub returns-clause-started : goal.returns-clause-started
+returns-clause-started c = start_law
