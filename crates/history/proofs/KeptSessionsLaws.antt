@@ -1,9 +1,9 @@
 -- What a deed makes of the sessions keeps what one more event says.
-use Rattle.std.proofs.Common.{◌≡◌, ℕ, Bool, true, false, List, [], ◌∷◌, Option, Some, None, refl, sym, ◌∙◌, ap, cond}
+use Rattle.std.proofs.Common.{◌≡◌, true, false, List, [], ◌∷◌, Some, None, refl, ◌∙◌, ap, cond}
 use Rattle.sp_cells.specs.declared.names.Sp.{Sp}
 use Rattle.sp_cells.specs.declared.names.Sp.TheVariants.{Admin, Locking}
 use Rattle.sp_cells.specs.Flat.{sp_eq}
-use Rattle.sessions.specs.Live.{Holder, Live, session_at, unless_on}
+use Rattle.sessions.specs.Live.{Live, session_at, unless_on}
 use Rattle.methods.specs.Effects.{ended_by}
 use Rattle.history.specs.Events.{Unchanged, Started, Tried, Changed, Began, Committed, Aborted, Ended, Activated, Reverted, Deed, Nothing, InSession, OfQueue, Wrote, Took, WasReset, Event}
 use Rattle.history.specs.Readers.{is_start, living, restores, starts, gains}

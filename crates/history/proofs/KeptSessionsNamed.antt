@@ -1,11 +1,10 @@
 -- The session that a packet names is found among those that are kept.
-use Rattle.std.proofs.Common.{◌≡◌, ℕ, ◌==◌, Bool, true, false, List, ◌&&◌, Option, Some, None, refl, sym, ◌∙◌, ap, cond, ◌⊎◌, inl, inr, eqb-true}
+use Rattle.std.proofs.Common.{◌≡◌, ℕ, ◌==◌, Bool, true, false, List, ◌&&◌, Option, Some, None, refl, sym, ◌∙◌, ap, cond, inl, inr, eqb-true}
 use Rattle.std.specs.Prelude.{option_map}
 use Rattle.sp_cells.specs.declared.names.Sp.{Sp}
 use Rattle.sp_cells.specs.declared.names.Sp.TheVariants.{Admin, Locking}
 use Rattle.sp_cells.specs.Flat.{sp_eq}
 use Rattle.compacket.specs.declared.session.Session.{Session}
-use Rattle.transactions.specs.declared.change.SessionId.{SessionId}
 use Rattle.sessions.specs.Live.{Holder, session_at, found}
 use Rattle.history.specs.Sessions.{Begun}
 use Rattle.history.specs.Events.{Event, or_else}

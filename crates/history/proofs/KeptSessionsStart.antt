@@ -1,5 +1,5 @@
 -- A StartSession comes to the same by what is kept and by the past.
-use Rattle.std.proofs.Common.{◌≡◌, ℕ, ◌==◌, ◌+◌, Bool, true, false, not, ◌&&◌, ◌||◌, map, nat_eq, List, [], ◌∷◌, ◌++◌, Option, Some, None, refl, sym, ◌∙◌, ap, cond, subst, ◌⊎◌, inl, inr, eq-eqb}
+use Rattle.std.proofs.Common.{◌≡◌, ℕ, ◌==◌, Bool, true, false, not, ◌&&◌, ◌||◌, map, nat_eq, List, [], ◌∷◌, ◌++◌, Option, Some, None, refl, sym, ◌∙◌, ap, cond, subst, inl, inr, eq-eqb}
 use Rattle.std.specs.Prelude.{is_some, nat_lt}
 use Rattle.std.specs.List.{list_any}
 use Rattle.std.specs.Map.{lookup}
@@ -10,7 +10,6 @@ use Rattle.sp_cells.specs.declared.names.Sp.TheVariants.{Admin, Locking}
 use Rattle.sp_cells.specs.Flat.{LookUp, sp_eq}
 use Rattle.sp_cells.specs.ColumnNames.{tries_column}
 use Rattle.sp_cells.specs.Ranges.{number}
-use Rattle.tcg_tokens.specs.Tree.{Tree}
 use Rattle.audit.specs.declared.reason.AttemptFailure.{AttemptFailure}
 use Rattle.audit.specs.declared.reason.AttemptFailure.TheVariants.{WrongPin, LockedOut, Disabled, Unknown}
 use Rattle.ace_eval.specs.Truth.{has}
@@ -25,17 +24,17 @@ use Rattle.sessions.specs.Gains.{first_held}
 use Rattle.sessions.specs.Live.{Holder, Live, session_at, lives_on, AreNumbered}
 use Rattle.sessions.specs.Starts.{opening_of, sp_named, is_in_use, is_full, verdict_on, verdict, host_of, reply_to, denied_with, stored_by, stored_with, begun_by, begun_with, next_by}
 use Rattle.history.specs.Opening.{Origin}
-use Rattle.history.specs.Sessions.{Begun, holder_of}
+use Rattle.history.specs.Sessions.{Begun}
 use Rattle.history.specs.Events.{Attempt, Event}
-use Rattle.history.specs.Readers.{session_on, next_number}
+use Rattle.history.specs.Readers.{session_on}
 use Rattle.history.specs.Facts.{Facts, facts, numbered, live}
-use Rattle.history.specs.Decisions.{begun, start_verdict, deed_of_start, start_deed}
+use Rattle.history.specs.Decisions.{start_verdict, deed_of_start, start_deed}
 use Rattle.history.specs.KeptStore.{with_count, StoresAs}
-use Rattle.history.specs.KeptSessions.{session_numbered, KeepsSessions, Gains, GainsAt, Starts, LivesAs}
+use Rattle.history.specs.KeptSessions.{session_numbered, KeepsSessions, GainsAt, LivesAs}
 use Rattle.history.specs.KeptCalls.{wipes_by, StartLaw}
 use Rattle.history.proofs.Words.{sp-same}
 use Rattle.history.proofs.KeptStoreReads.{store_read_law}
-use Rattle.history.proofs.KeptSessionsNumbers.{Hits, split, numbered-miss, numbered-hit, true-apart, none-apart, kept-none, Kept, kept-some}
+use Rattle.history.proofs.KeptSessionsNumbers.{Hits, split, numbered-miss, numbered-hit, none-apart, kept-none, Kept, kept-some}
 
 -- Whether a session of an SP lives.
 

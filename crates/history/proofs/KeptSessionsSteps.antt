@@ -1,5 +1,5 @@
 -- The sessions that are kept after one more event that begins none.
-use Rattle.std.proofs.Common.{◌≡◌, ◌<◌, ℕ, ◌+◌, ◌==◌, Bool, true, false, ◌&&◌, ◌||◌, List, [], ◌∷◌, ◌++◌, Option, Some, None, refl, sym, ◌∙◌, ap, cond, subst, append_assoc, arith, ◌⊎◌, inl, inr}
+use Rattle.std.proofs.Common.{◌≡◌, ◌<◌, ℕ, ◌+◌, ◌==◌, Bool, true, false, ◌&&◌, ◌||◌, List, ◌∷◌, ◌++◌, Option, Some, None, refl, sym, ◌∙◌, ap, cond, subst, append_assoc, ◌⊎◌, inl, inr}
 use Rattle.std.specs.Prelude.{option_to_list}
 use Rattle.std.specs.List.{flat_map}
 use Rattle.std.proofs.lemmas.List.Folds.{list_any-append}
@@ -12,7 +12,7 @@ use Rattle.sessions.specs.Live.{Holder, Live, session_at}
 use Rattle.history.specs.Sessions.{Begun}
 use Rattle.history.specs.Events.{Attempt, Tried, Response, InSession, Event, or_else, since, every, count}
 use Rattle.history.specs.Readers.{is_start, living, session_on, next_number, starts, gains, authorities}
-use Rattle.history.specs.KeptSessions.{KeepsSession, IsKeptAs, if_number, session_numbered, KeepsSessions, Gains, GainsAt, Leaves}
+use Rattle.history.specs.KeptSessions.{KeepsSession, IsKeptAs, if_number, session_numbered, KeepsSessions, GainsAt, Leaves}
 use Rattle.history.proofs.Words.{sp-is}
 use Rattle.history.proofs.Emptied.{every-since-more}
 use Rattle.history.proofs.Steps.{tried-gains, gone, lives-on}
