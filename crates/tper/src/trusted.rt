@@ -130,7 +130,7 @@ impl Tper {
     /// What is sent to the session manager.
     fn manage(&mut self, com_id: ComId, session: Session, tokens: &[u8]) -> Result<Sent, AllocError>
         requires { is_session_com_id com_id ≡ true }
-        ensures { IfOk result (λ s. Handles (λ said. OfManager (λ f. to_manager f com_id (message_in tokens.now)) said
+        ensures handled { IfOk result (λ s. Handles (λ said. OfManager (λ f. to_manager f com_id (message_in tokens.now)) said
             self.old.store self.new.store self.old.live self.new.live) com_id session s self.old self.new) }
         ensures err { OnErr result (self.new ≡ self.old) }
     {
@@ -155,7 +155,7 @@ impl Tper {
     ) -> Result<Sent, AllocError>
         requires com_id { is_session_com_id com_id ≡ true }
         requires lives { holder_of self.old.live id ≢ None }
-        ensures { IfOk result (λ s. Handles (λ said. OfSession (λ f its. in_session f its (message_in tokens.now)) id said
+        ensures handled { IfOk result (λ s. Handles (λ said. OfSession (λ f its. in_session f its (message_in tokens.now)) id said
             self.old.store self.new.store self.old.live self.new.live) com_id session s self.old self.new) }
         ensures err { OnErr result (self.new ≡ self.old) }
     {
