@@ -21,13 +21,14 @@ use Rattle.sp_tables.specs.Tries.{is_pin, is_tries}
 use Rattle.sp_tables.proofs.LookLemmas.{look_up-sp, item_at-puts}
 use Rattle.locking.specs.declared.range.RangeRow.{RangeRow}
 use Rattle.shadow_mbr.specs.Stored.{Stored as Mbr, sector_size, byte_at}
+use Rattle.transactions.specs.Resets.{is_range}
 use Rattle.transactions.specs.Bytes.{bytes_in}
 use Rattle.transactions.specs.Stored.{Part, part_of, part, new_store}
 use Rattle.history.specs.Opening.{Origin, factory_origin, life_cycle, pin, activated_origin, changes_of, row_fault, with_range, unless, origin_after, origin_with}
 use Rattle.history.specs.Readers.{open_on, tries, rows_after}
 use Rattle.history.specs.Events.{Event}
 use Rattle.history.specs.Agreement.{HasNoTries}
-use Rattle.history.specs.KeptStore.{in_family, is_cleared, HasKnownTries, KeepsPart, StoreOpeningLaw, KnownTriesLaw}
+use Rattle.history.specs.KeptStore.{in_family, is_cleared, has_locks, HasKnownRows, KeepsPart, StoreOpeningLaw, KnownRowsLaw}
 use Rattle.history.proofs.CellLaws.{puts-none}
 use Rattle.history.proofs.KeptStoreRows.{ShowRows, ShowTries, without-shows, among-shows}
 use Rattle.history.proofs.KeptStoreParts.{closed-part}
@@ -60,65 +61,99 @@ store_opening_law tables mbr clean known size zeros = record {
     parts Admin = restored-part tables.admin [] o [] Admin refl (look_up-sp tables Admin) (λ object. refl) (no-tries-in o clean Admin)
     parts Locking = restored-part tables.locking (bytes_in mbr) o [] Locking refl (look_up-sp tables Locking) (λ object. refl) (no-tries-in o clean Locking)
 
--- rows that count are known
-abbrev are_known : Sp → List Item → Bool
-are_known sp items = list_all (λ i. not (is_tries i.object i.column) || is_cleared sp i.object) items
-
-admin-known : (msid : List ℕ) → are_known Admin (admin_factory msid) ≡ true
-unfolding admin_sps admin_authorities admin_pins admin_aces in_family
-admin-known msid = refl
-
-locking-known : are_known Locking locking_factory ≡ true
-unfolding locking_authorities locking_pins locking_ranges locking_mbr_controls authority_aces pin_aces range_aces mbr_aces in_family
-locking-known = refl
+-- rows that a test finds nowhere
+abbrev lack : (Uid → Column → Bool) → List Item → Bool
+lack test items = list_all (λ i. not (test i.object i.column)) items
 
 both-true : (a b : Bool) → (a && b) ≡ true → (a ≡ true) × (b ≡ true)
 both-true true b h = (refl, h)
 both-true false b h = cc
 
-known-clash : (a b : Bool) → a ≡ true → b ≡ false → (not a || b) ≡ true → ⊥
-known-clash true true h g k = cc
-known-clash true false h g k = cc
-known-clash false b h g k = cc
+found-clash : (a : Bool) → a ≡ true → not a ≡ true → ⊥
+found-clash true h g = cc
+found-clash false h g = cc
 
-alike : (i : Item) (sp : Sp) (object : Uid) (column : Column) → (i.object.0 == object.0) ≡ true → (i.column.0 == column.0) ≡ true → (not (is_tries i.object i.column) || is_cleared sp i.object) ≡ (not (is_tries object column) || is_cleared sp object)
-alike i sp object column o c =
-    ap (λ (n : ℕ). not (is_tries (record { 0 = n }) i.column) || is_cleared sp (record { 0 = n })) (eqb-true i.object.0 object.0 o) ∙ ap (λ (n : ℕ). not (is_tries object (record { 0 = n })) || is_cleared sp object) (eqb-true i.column.0 column.0 c)
+alike : (test : Uid → Column → Bool) (i : Item) (object : Uid) (column : Column) → (i.object.0 == object.0) ≡ true → (i.column.0 == column.0) ≡ true → not (test i.object i.column) ≡ not (test object column)
+alike test i object column o c =
+    ap (λ (n : ℕ). not (test (record { 0 = n }) i.column)) (eqb-true i.object.0 object.0 o) ∙ ap (λ (n : ℕ). not (test object (record { 0 = n }))) (eqb-true i.column.0 column.0 c)
 
-known-none : (items : List Item) (sp : Sp) (object : Uid) (column : Column) → is_tries object column ≡ true → is_cleared sp object ≡ false → are_known sp items ≡ true → item_at items object column ≡ None
-known-none [] sp object column is apart h = refl
-known-none (i ∷ items) sp object column is apart h =
-    let parts = both-true (not (is_tries i.object i.column) || is_cleared sp i.object) (are_known sp items) h in
-    by_place (i.object.0 == object.0) (i.column.0 == column.0) refl refl parts.0 (known-none items sp object column is apart parts.1)
+lacks : (test : Uid → Column → Bool) (items : List Item) (object : Uid) (column : Column) → test object column ≡ true → lack test items ≡ true → item_at items object column ≡ None
+lacks test [] object column is h = refl
+lacks test (i ∷ items) object column is h =
+    let parts = both-true (not (test i.object i.column)) (lack test items) h in
+    by_place (i.object.0 == object.0) (i.column.0 == column.0) refl refl parts.0 (lacks test items object column is parts.1)
   where
-    by_place : (a b : Bool) → (i.object.0 == object.0) ≡ a → (i.column.0 == column.0) ≡ b → (not (is_tries i.object i.column) || is_cleared sp i.object) ≡ true → item_at items object column ≡ None
+    by_place : (a b : Bool) → (i.object.0 == object.0) ≡ a → (i.column.0 == column.0) ≡ b → not (test i.object i.column) ≡ true → item_at items object column ≡ None
         → cond (a && b) (Some i.value) (item_at items object column) ≡ None
-    by_place true true at_o at_c here rest = absurd (known-clash (is_tries object column) (is_cleared sp object) is apart (sym (alike i sp object column at_o at_c) ∙ here))
+    by_place true true at_o at_c here rest = absurd (found-clash (test object column) is (sym (alike test i object column at_o at_c) ∙ here))
     by_place true false at_o at_c here rest = rest
     by_place false b at_o at_c here rest = rest
+
+-- what a new drive has nowhere
+abbrev counts_else : Sp → Uid → Column → Bool
+counts_else sp object column = is_tries object column && not (is_cleared sp object)
+
+abbrev locks_here : Uid → Column → Bool
+locks_here object column = has_locks object
+
+admin-counts : (msid : List ℕ) → lack (counts_else Admin) (admin_factory msid) ≡ true
+unfolding admin_sps admin_authorities admin_pins admin_aces in_family
+admin-counts msid = refl
+
+locking-counts : lack (counts_else Locking) locking_factory ≡ true
+unfolding locking_authorities locking_pins locking_ranges locking_mbr_controls authority_aces pin_aces range_aces mbr_aces in_family
+locking-counts = refl
+
+admin-locks : (msid : List ℕ) → lack locks_here (admin_factory msid) ≡ true
+unfolding admin_sps admin_authorities admin_pins admin_aces is_range
+admin-locks msid = refl
+
+else-where : (a b : Bool) → a ≡ true → b ≡ false → (a && not b) ≡ true
+else-where true false h g = refl
+else-where true true h g = cc
+else-where false b h g = cc
 
 -- where tables have no cell, with cells set they have none
 items-none : (items : List Item) (object : Uid) (cells : List (Column × Cell)) (o : Uid) (c : Column) → item_at items o c ≡ None → item_at (with_items items object cells) o c ≡ None
 items-none items object cells o c h = ap (λ (r : RowLook). r o c) (item_at-puts items object cells) ∙ puts-none object cells (item_at items) o c h
 
--- no other row counts
-abbrev Known : Contents → Type 0
-Known tables = (sp : Sp) (object : Uid) (column : Column) → is_tries object column ≡ true → is_cleared sp object ≡ false → item_at (items_of tables sp) object column ≡ None
+record Known (tables : Contents) : Type 0 where
+  admin : (object : Uid) (column : Column) → is_tries object column ≡ true → is_cleared Admin object ≡ false → item_at tables.admin object column ≡ None
+  locking : (object : Uid) (column : Column) → is_tries object column ≡ true → is_cleared Locking object ≡ false → item_at tables.locking object column ≡ None
+  locks : (object : Uid) (column : Column) → has_locks object ≡ true → item_at tables.admin object column ≡ None
 
-known-tables : (o : Origin) → Known o.tables → HasKnownTries o
-known-tables o h sp object column is apart = ap (λ (r : RowLook). r object column) (look_up-sp o.tables sp) ∙ h sp object column is apart
+known-rows : (o : Origin) → Known o.tables → HasKnownRows o
+known-rows o h = record {
+  tries = by_sp;
+  locks = λ object column is. ap (λ (r : RowLook). r object column) (look_up-sp o.tables Admin) ∙ h.locks object column is;
+}
+  where
+    by_sp : (sp : Sp) (object : Uid) (column : Column) → is_tries object column ≡ true → is_cleared sp object ≡ false → look_up o.tables sp object column ≡ None
+    by_sp Admin object column is apart = ap (λ (r : RowLook). r object column) (look_up-sp o.tables Admin) ∙ h.admin object column is apart
+    by_sp Locking object column is apart = ap (λ (r : RowLook). r object column) (look_up-sp o.tables Locking) ∙ h.locking object column is apart
 
 factory-known : (config : Config) → Known (factory_origin config).tables
-factory-known config Admin object column is apart = known-none (admin_factory config.msid) Admin object column is apart (admin-known config.msid)
-factory-known config Locking object column is apart = known-none locking_factory Locking object column is apart locking-known
+factory-known config = record {
+  admin = λ object column is apart. lacks (counts_else Admin) (admin_factory config.msid) object column (else-where (is_tries object column) (is_cleared Admin object) is apart) (admin-counts config.msid);
+  locking = λ object column is apart. lacks (counts_else Locking) locking_factory object column (else-where (is_tries object column) (is_cleared Locking object) is apart) locking-counts;
+  locks = λ object column is. lacks locks_here (admin_factory config.msid) object column is (admin-locks config.msid);
+}
 
 activated-known : (config : Config) → Known (activated_origin config).tables
-activated-known config Admin object column is apart = items-none (admin_factory config.msid) locking_sp life_cycle object column (factory-known config Admin object column is apart)
-activated-known config Locking object column is apart = items-none locking_factory (admin_pin_uid 1) (pin config.msid) object column (factory-known config Locking object column is apart)
+activated-known config =
+    let h = factory-known config in
+    record {
+      admin = λ object column is apart. items-none (admin_factory config.msid) locking_sp life_cycle object column (h.admin object column is apart);
+      locking = λ object column is apart. items-none locking_factory (admin_pin_uid 1) (pin config.msid) object column (h.locking object column is apart);
+      locks = λ object column is. items-none (admin_factory config.msid) locking_sp life_cycle object column (h.locks object column is);
+    }
 
 range-known : (row : RangeRow) (o : Origin) → Known o.tables → Known (with_range row o).tables
-range-known row o h Admin object column is apart = h Admin object column is apart
-range-known row o h Locking object column is apart = items-none o.tables.locking (range_uid row.range) (changes_of row) object column (h Locking object column is apart)
+range-known row o h = record {
+  admin = h.admin;
+  locking = λ object column is apart. items-none o.tables.locking (range_uid row.range) (changes_of row) object column (h.locking object column is apart);
+  locks = h.locks;
+}
 
 abbrev opens : Origin → Result Origin SetError
 opens o = Ok o
@@ -137,8 +172,8 @@ rows-known (row ∷ rows) o made known h = by_fault (row_fault o row) h (rows-kn
         refused : {e : SetError} {x : Origin} → Err e ≡ Ok x → ⊥
         refused k = cc
 
-pub factory-has-known : (config : Config) → HasKnownTries (factory_origin config)
-factory-has-known config = known-tables (factory_origin config) (factory-known config)
+pub factory-has-known : (config : Config) → HasKnownRows (factory_origin config)
+factory-has-known config = known-rows (factory_origin config) (factory-known config)
 
-pub known_tries_law : KnownTriesLaw
-known_tries_law config = (factory-has-known config, λ rows o h. known-tables o (rows-known rows (activated_origin config) o (activated-known config) h))
+pub known_rows_law : KnownRowsLaw
+known_rows_law config = (factory-has-known config, λ rows o h. known-rows o (rows-known rows (activated_origin config) o (activated-known config) h))

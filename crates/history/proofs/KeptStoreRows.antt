@@ -136,7 +136,7 @@ reset-shows kind items rows h o c =
     ∙ at-place (ap (λ r. done_seen kind (locks_seen (RANGES + 1) kind r)) (as-look items rows h) ∙ ap (done_seen kind) (but-locks kind rows) ∙ but-done kind (locks_seen (RANGES + 1) kind rows)) o c
 
 -- Tries that are counted in one row
-column-is : (o : Uid) (c : Column) (b : Bool) → (tries_column.0 == c.0) ≡ b → is_tries o c ≡ true → b ≡ true
+pub column-is : (o : Uid) (c : Column) (b : Bool) → (tries_column.0 == c.0) ≡ b → is_tries o c ≡ true → b ≡ true
 column-is o c true same h = refl
 column-is o c false same h = by_pin (is_pin o) (c.0 == tries_column.0) refl h
   where
@@ -145,7 +145,7 @@ column-is o c false same h = by_pin (is_pin o) (c.0 == tries_column.0) refl h
     by_pin true false is g = cc
     by_pin false q is g = cc
 
-twice : (n k : ℕ) (x : Option Cell) → option_map (λ _. Number n) (option_map (λ _. Number k) x) ≡ option_map (λ _. Number n) x
+pub twice : (n k : ℕ) (x : Option Cell) → option_map (λ _. Number n) (option_map (λ _. Number k) x) ≡ option_map (λ _. Number n) x
 twice n k None = refl
 twice n k (Some v) = refl
 

@@ -1,4 +1,5 @@
-use Rattle.history.proofs.KeptStoreOpenings.{store_opening_law, known_tries_law}
+use Rattle.history.proofs.KeptStoreOpenings.{store_opening_law, known_rows_law}
+use Rattle.history.proofs.KeptStoreTries.{few-tries}
 use Rattle.history.proofs.KeptStoreReads.{store_read_law}
 use Rattle.history.proofs.laws_of_store.Goals as goal
 
@@ -6,7 +7,7 @@ pub returns-clause-opened : goal.returns-clause-opened
 returns-clause-opened c = store_opening_law
 
 pub returns-clause-known : goal.returns-clause-known
-returns-clause-known c = known_tries_law
+returns-clause-known c = known_rows_law
 
 pub returns-clause-read : goal.returns-clause-read
 returns-clause-read c = store_read_law
