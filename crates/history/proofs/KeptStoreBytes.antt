@@ -137,7 +137,7 @@ begun-bytes p o e past n r h is =
     }
 
 -- a Set that fits
-abbrev FitsIn : Setting → ℕ → Type 0
+abbrev pub FitsIn : Setting → ℕ → Type 0
 FitsIn (cells_set object cells) size = Unit {0}
 FitsIn (bytes_set start bytes) size = start + length bytes ≤ size
 

@@ -49,7 +49,7 @@ up-same n false few is = grind (arith, nat_tests)
 few-capped : (n : ℕ) → capped n ≤ most_tries
 few-capped n = omega arith
 
-pub few-tries : (past : List Event) (sp : Sp) (row : Uid) → tries past sp row ≤ most_tries
+few-tries : (past : List Event) (sp : Sp) (row : Uid) → tries past sp row ≤ most_tries
 few-tries past sp row = rw (tries_law past sp row) (few-capped (count (fails_pin sp row) (since (clears_tries sp row) past)))
 
 pub one_more-up : (past : List Event) (sp : Sp) (row : Uid) → one_more (tries past sp row) ≡ up (tries past sp row)
