@@ -1,1 +1,3 @@
 pub mod Discovery
+pub mod Identity
+pub mod ErrorLog

@@ -7,9 +7,8 @@ use Rattle.sp_cells.specs.declared.names.Sp.TheVariants.{Admin, Locking}
 use Rattle.sp_cells.specs.declared.error.SetError.TheVariants as faults
 use Rattle.sp_cells.specs.Config.{Config}
 use Rattle.sp_cells.specs.Flat.{LookUp}
-use Rattle.sp_tables.specs.Looks.{fault_seen}
 use Rattle.sp_tables.specs.Tries.{names_tries}
-use Rattle.tcg_tokens.specs.Length.{len_of}
+use Rattle.call_shapes.specs.Carried.{is_carried}
 use Rattle.tcg_tokens.specs.Tree.{Tree, bytes}
 use Rattle.transactions.specs.declared.change.SessionId.{SessionId}
 use Rattle.transactions.specs.Bytes.{bytes_from}
@@ -29,6 +28,7 @@ use Rattle.methods.specs.Effects.{ask_at, seen_by, is_inside, bytes_from as byte
 use Rattle.methods.specs.Calls.{said_unless, said_shaped}
 use Rattle.history.specs.Calls.{Standing, Judgement, Refuses, Gives, Makes, Attempts, Activates, Reverts, gives, listing, table_size, rows_given, fault_by, valid, to_set, makes, unless_open, does_ask, does, unless_denied, judged}
 use Rattle.history.specs.CallsAgree.{said_of, SaidLaw, standing_on, AnswerLaw}
+use Rattle.history.proofs.KeptCallsFaults.{fault-alike}
 
 pub said_law : SaidLaw
 said_law f sp (Refuses status why) wipes = record { said = refl; denied = refl }
@@ -41,9 +41,9 @@ said_law f sp (Reverts reverted) wipes = record { said = refl; denied = refl }
 -- results, by their length
 fits-gives : (rows : LookUp) (sp : Sp) (wipes : Bool) (results : List Tree) → fits results ≡ said_of rows sp wipes (gives results)
 unfolding fits
-fits-gives rows sp wipes results = by_length (nat_lt most_response (len_of (reply_of results success)))
+fits-gives rows sp wipes results = by_length (is_carried (reply_of results success))
   where
-    by_length : (b : Bool) → cond b (refuses 0x11 None) (says results None false) ≡ said_of rows sp wipes (cond b (Refuses 0x11 None) (Gives results))
+    by_length : (b : Bool) → cond b (says results None false) (refuses 0x11 None) ≡ said_of rows sp wipes (cond b (Gives results) (Refuses 0x11 None))
     by_length true = refl
     by_length false = refl
 
@@ -69,11 +69,11 @@ config-seen store tsn Admin = refl
 config-seen store tsn Locking = refl
 
 -- what is set
-fault-same : (store : Stored) (session : SessionId) → latest_look store ≡ seen_by store session → (set : Setting) → fault_of_setting store session.sp set ≡ fault_by store.config.sectors (seen_by store session) session.sp set
-fault-same store session h (cells_set object cells) = ap (λ look. cond (names_tries object cells) (Some faults.NoCell) (fault_seen store.config.sectors look session.sp object cells)) h
+fault-same : (store : Stored) (session : SessionId) → latest_look store session.sp ≡ seen_by store session session.sp → (set : Setting) → fault_of_setting store session.sp set ≡ fault_by store.config.sectors (seen_by store session) session.sp set
+fault-same store session h (cells_set object cells) = ap (cond (names_tries object cells) (Some faults.NoCell)) (fault-alike store.config.sectors (latest_look store) (seen_by store session) session.sp object cells h)
 fault-same store session h (bytes_set place content) = refl
 
-valid-same : (store : Stored) (session : SessionId) (held : List Uid) → latest_look store ≡ seen_by store session → (x : Option Setting) → valid_setting store session.sp x ≡ valid (standing_on store session held) x
+pub valid-same : (store : Stored) (session : SessionId) (held : List Uid) → latest_look store session.sp ≡ seen_by store session session.sp → (x : Option Setting) → valid_setting store session.sp x ≡ valid (standing_on store session held) x
 valid-same store session held h None = refl
 valid-same store session held h (Some set) = ap (λ fault. unless_fault fault set) (fault-same store session h set)
 
@@ -85,7 +85,7 @@ open-same : (rows : LookUp) (sp : Sp) (wipes b : Bool) (j : Judgement) → unles
 open-same rows sp wipes true j = refl
 open-same rows sp wipes false j = refl
 
-ask-same : (store : Stored) (session : SessionId) (object : Uid) (held : List Uid) → latest_look store ≡ seen_by store session → (ask : Ask) → said_ask store session object held ask ≡ said_of (in_force store) session.sp (is_manufactured store) (does_ask (standing_on store session held) object ask)
+ask-same : (store : Stored) (session : SessionId) (object : Uid) (held : List Uid) → latest_look store session.sp ≡ seen_by store session session.sp → (ask : Ask) → said_ask store session object held ask ≡ said_of (in_force store) session.sp (is_manufactured store) (does_ask (standing_on store session held) object ask)
 ask-same store session object held h (GetCells a b) = fits-gives (in_force store) session.sp (is_manufactured store) (listing (standing_on store session held) object a b)
 ask-same store session object held h (GetBytes a b) =
     ap (λ (config : Config). rows_said (sight_of store session).bytes (512 * config.mbr_sectors) a (last_row (512 * config.mbr_sectors) b)) (config-seen store session.tsn session.sp)

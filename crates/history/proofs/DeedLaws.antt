@@ -25,6 +25,7 @@ use Rattle.history.specs.Sessions.{Begun}
 use Rattle.call_shapes.specs.Statuses.{fail}
 use Rattle.sessions.specs.Properties.{properties_message}
 use Rattle.tcg_tokens.specs.Length.{len_of}
+use Rattle.call_shapes.specs.Carried.{is_carried}
 use Rattle.call_shapes.specs.Statuses.{success}
 use Rattle.methods.specs.declared.kinds.Kind.{Kind}
 use Rattle.methods.specs.declared.kinds.Kind.TheVariants as kinds
@@ -82,7 +83,11 @@ kind-if false x y k n z h g = h g
 kind-if true x y k n z h g = absurd (zero-one (sym z ∙ g))
 
 gives-kind : (results : List Tree) (k : ℕ) → kind (gives results) ≡ suc k → 1 ≡ suc k
-gives-kind results k h = kind-if (nat_lt most_response (len_of (reply_of results success))) (Refuses 0x11 None) (Gives results) k 1 refl (λ g. g) h
+gives-kind results k h = by_carried (is_carried (reply_of results success)) h
+  where
+    by_carried : (b : Bool) → kind (cond b (Gives results) (Refuses 0x11 None)) ≡ suc k → 1 ≡ suc k
+    by_carried true g = g
+    by_carried false g = absurd (zero-one g)
 
 rows-kind : (s : Standing) (first last : ℕ) (k : ℕ) → kind (rows_given s first last) ≡ suc k → 1 ≡ suc k
 rows-kind s first last k h =

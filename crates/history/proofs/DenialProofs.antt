@@ -35,6 +35,7 @@ use Rattle.sessions.specs.declared.opening.StartVerdict.TheVariants.{Refused, At
 use Rattle.sessions.specs.Starts.{opening_of, host_of, denied_with}
 use Rattle.call_shapes.specs.Named.{values_of}
 use Rattle.tcg_tokens.specs.Length.{len_of}
+use Rattle.call_shapes.specs.Carried.{is_carried}
 use Rattle.methods.specs.Settings.{Setting}
 use Rattle.methods.specs.Said.{reply_of, said_attempt}
 use Rattle.call_shapes.specs.Limits.{most_response}
@@ -135,7 +136,7 @@ clean-if true x y h g = h
 clean-if false x y h g = g
 
 gives-clean : (results : List Tree) → reason (gives results) ≡ None
-gives-clean results = clean-if (nat_lt most_response (len_of (reply_of results success))) (Refuses 0x11 None) (Gives results) refl refl
+gives-clean results = clean-if (is_carried (reply_of results success)) (Gives results) (Refuses 0x11 None) refl refl
 
 rows-clean : (s : Standing) (first last : ℕ) → reason (rows_given s first last) ≡ None
 rows-clean s first last =

@@ -25,6 +25,7 @@ use Rattle.history.specs.Sessions.{Begun}
 use Rattle.call_shapes.specs.Statuses.{fail, success}
 use Rattle.sessions.specs.Properties.{properties_message}
 use Rattle.tcg_tokens.specs.Length.{len_of}
+use Rattle.call_shapes.specs.Carried.{is_carried}
 use Rattle.methods.specs.declared.kinds.Kind.{Kind}
 use Rattle.methods.specs.declared.kinds.Kind.TheVariants as kinds
 use Rattle.methods.specs.Kinds.{kind_of}

@@ -23,7 +23,9 @@ use Rattle.sessions.specs.Properties.{properties_message}
 use Rattle.history.specs.Readers.{waiting}
 use Rattle.history.specs.Facts.{facts}
 use Rattle.history.specs.Decisions.{any_below}
-use Rattle.history.specs.Answers.{sized, accepted_data, identity, error_log}
+use Rattle.device_data.specs.Identity.{identity}
+use Rattle.device_data.specs.ErrorLog.{sized, error_log}
+use Rattle.history.specs.Answers.{accepted_data}
 use Rattle.device_data.specs.Discovery.{locking_flags, any_range_below}
 use Rattle.history.specs.History.{Act, Accept, event, log, Reset}
 use Rattle.history.proofs.Scripts.{msid, new_drive, range_row, activated, opened, fis, dread, read_queued, send, receive, tell, call_of, start_as, in_it, set_cells, fails_with, said, start_anybody}
@@ -37,18 +39,18 @@ discovery_bytes : accepted_data (facts new_drive []) (fis 0x5d 1 0x100 1) (event
 unfolding any_range_below admin_sps admin_authorities locking_authorities admin_pins locking_pins locking_ranges locking_mbr_controls admin_aces authority_aces pin_aces range_aces mbr_aces this_sp_grants admin_grants authority_grants fixed_ace_gets user_ace_grants read_locked_ace_grants write_locked_ace_grants done_ace_grants pin_grants range_grants mbr_grants first_lexeme expect number_at uid_at values_up_to list_with list_value_with named_with value_of list_at status_at call_at reply_at message_at message_in number_spelling bytes_spelling any_below ranges_in verdict_of is_range listed_among cells_for zeros sectors_from authorities_of_locking any_to
 discovery_bytes = refl
 
-identity_bytes : identity (facts new_drive []) ≡ replicate 96 0 ++ 0x01 ∷ 0x40 ∷ replicate 52 0 ++ 0x1f ∷ 0 ∷ 0 ∷ 0x01 ∷ replicate 12 0 ++ 0 ∷ 0x64 ∷ replicate 32 0 ++ 0xe8 ∷ 0x03 ∷ replicate 310 0
+identity_bytes : identity (facts new_drive []).sectors ≡ replicate 96 0 ++ 0x01 ∷ 0x40 ∷ replicate 52 0 ++ 0x1f ∷ 0 ∷ 0 ∷ 0x01 ∷ replicate 12 0 ++ 0 ∷ 0x64 ∷ replicate 32 0 ++ 0xe8 ∷ 0x03 ∷ replicate 310 0
 unfolding any_range_below admin_sps admin_authorities locking_authorities admin_pins locking_pins locking_ranges locking_mbr_controls admin_aces authority_aces pin_aces range_aces mbr_aces this_sp_grants admin_grants authority_grants fixed_ace_gets user_ace_grants read_locked_ace_grants write_locked_ace_grants done_ace_grants pin_grants range_grants mbr_grants first_lexeme expect number_at uid_at values_up_to list_with list_value_with named_with value_of list_at status_at call_at reply_at message_at message_in number_spelling bytes_spelling any_below ranges_in verdict_of is_range listed_among cells_for zeros sectors_from authorities_of_locking any_to
 identity_bytes = refl
 
 locked : Origin
 locked = opened (range_row 1 100 10 true false true false)
 
-log_page : error_log (facts locked (log locked (read_queued 3 100 1 ∷ []))) ≡ 3 ∷ 0 ∷ 0x51 ∷ 4 ∷ 0x64 ∷ 0 ∷ 0 ∷ 0x40 ∷ 0 ∷ 0 ∷ 0 ∷ 0 ∷ 0x18 ∷ 0 ∷ replicate 497 0 ++ 0xec ∷ []
+log_page : error_log (facts locked (log locked (read_queued 3 100 1 ∷ []))).failure ≡ 3 ∷ 0 ∷ 0x51 ∷ 4 ∷ 0x64 ∷ 0 ∷ 0 ∷ 0x40 ∷ 0 ∷ 0 ∷ 0 ∷ 0 ∷ 0x18 ∷ 0 ∷ replicate 497 0 ++ 0xec ∷ []
 unfolding any_range_below admin_sps admin_authorities locking_authorities admin_pins locking_pins locking_ranges locking_mbr_controls admin_aces authority_aces pin_aces range_aces mbr_aces this_sp_grants admin_grants authority_grants fixed_ace_gets user_ace_grants read_locked_ace_grants write_locked_ace_grants done_ace_grants pin_grants range_grants mbr_grants first_lexeme expect number_at uid_at values_up_to list_with list_value_with named_with value_of list_at status_at call_at reply_at message_at message_in number_spelling bytes_spelling any_below ranges_in verdict_of is_range listed_among cells_for zeros sectors_from authorities_of_locking any_to locked
 log_page = refl
 
-log_page_none : error_log (facts locked []) ≡ 0x80 ∷ replicate 510 0 ++ 0x80 ∷ []
+log_page_none : error_log (facts locked []).failure ≡ 0x80 ∷ replicate 510 0 ++ 0x80 ∷ []
 unfolding any_range_below admin_sps admin_authorities locking_authorities admin_pins locking_pins locking_ranges locking_mbr_controls admin_aces authority_aces pin_aces range_aces mbr_aces this_sp_grants admin_grants authority_grants fixed_ace_gets user_ace_grants read_locked_ace_grants write_locked_ace_grants done_ace_grants pin_grants range_grants mbr_grants first_lexeme expect number_at uid_at values_up_to list_with list_value_with named_with value_of list_at status_at call_at reply_at message_at message_in number_spelling bytes_spelling any_below ranges_in verdict_of is_range listed_among cells_for zeros sectors_from authorities_of_locking any_to locked
 log_page_none = refl
 

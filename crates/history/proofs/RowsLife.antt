@@ -26,7 +26,7 @@ use Rattle.sessions.specs.Properties.{properties_message}
 use Rattle.history.specs.Decisions.{refusal}
 use Rattle.history.specs.Readers.{in_force, sector}
 use Rattle.history.specs.Decisions.{any_below}
-use Rattle.history.specs.Answers.{sized}
+use Rattle.device_data.specs.ErrorLog.{sized}
 use Rattle.history.specs.History.{Act, Accept, log}
 use Rattle.history.proofs.Scripts.{msid, new_drive, fis, dwrite, send, receive, tell, call_of, start_as, start_anybody, in_it, replies, fails_with, said}
 

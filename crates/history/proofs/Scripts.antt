@@ -16,7 +16,7 @@ use Rattle.tcg_tokens.specs.Tree as tree
 use Rattle.history.specs.Opening.{Origin, factory_origin, activated_origin, with_range}
 use Rattle.sp_cells.specs.Names.{session_manager, start_session}
 use Rattle.history.specs.Events.{Event, Deed, InSession}
-use Rattle.history.specs.Answers.{sized}
+use Rattle.device_data.specs.ErrorLog.{sized}
 use Rattle.history.specs.History.{Act, Accept, log}
 
 abbrev pub msid : List ℕ

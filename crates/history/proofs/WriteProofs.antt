@@ -17,7 +17,8 @@ use Rattle.trusted_cmds.specs.Commands.{reading}
 use Rattle.locking.specs.declared.ranges.Verdict.{Verdict}
 use Rattle.locking.specs.declared.ranges.Verdict.TheVariants.{Serve, Shadow, Denied}
 use Rattle.history.specs.Sessions.{Begun}
-use Rattle.history.specs.Events.{HeldCommand, Failure, Deed, Nothing, Wrote, Took, Event, did}
+use Rattle.device_data.specs.declared.log_page.Failure.{Failure}
+use Rattle.history.specs.Events.{HeldCommand, Deed, Nothing, Wrote, Took, Event, did}
 use Rattle.history.specs.Facts.{Facts, session_named}
 use Rattle.history.specs.Decisions.{not_found, aborted, fails, refuses, fails_queue, on_drive, ranges_in_force, verdict_on, queued_by, admitted, unqueued_by, answers, to_manager, is_trusted, is_session_com_id, discovery_com_id, is_manager, to_session, framed, sent, received, unqueued, known, while_failed, is_busy, commanded, completed_by, completed}
 use Rattle.history.specs.History.{Act, Accept, Complete, Reset, event_by}

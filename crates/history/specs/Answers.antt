@@ -3,6 +3,8 @@
 use Rattle.std.specs.Prelude.{ℕ, zero, suc, ◌+◌, ◌-◌, ◌*◌, ◌/◌, ◌%◌, ◌^◌, ◌==◌, Bool, true, false, ◌&&◌, ◌||◌, nat_le, List, [], ◌∷◌, ◌++◌, length, take, replicate, Option, Some, None, is_some, unwrap_or, Result, Ok, Err, if◌then◌else◌}
 use Rattle.std.specs.List.{flat_map, list_any}
 use Rattle.device_data.specs.Discovery.{discovery}
+use Rattle.device_data.specs.Identity.{identity}
+use Rattle.device_data.specs.ErrorLog.{sized, error_log}
 use Rattle.fis.specs.H2d.{h2d_at}
 use Rattle.fis.specs.declared.any.Fis.{Fis}
 use Rattle.fis.specs.declared.any.Fis.TheVariants as fises
@@ -23,63 +25,16 @@ use Rattle.locking.specs.declared.ranges.Verdict.{Verdict}
 use Rattle.locking.specs.declared.ranges.Verdict.TheVariants.{Serve, Shadow, Denied}
 use Rattle.sessions.specs.Starts.{is_in_use}
 use Rattle.transactions.specs.Bytes.{bytes_from}
-use Rattle.history.specs.Events.{HeldCommand, Failure, Held, Deed, OfQueue, Event}
+use Rattle.device_data.specs.declared.log_page.Failure.{Failure}
+use Rattle.history.specs.Events.{HeldCommand, Held, Deed, OfQueue, Event}
 use Rattle.history.specs.Facts.{Facts}
 use Rattle.history.specs.Decisions.{verdict_on, discovery_com_id}
-
--- Bytes with zeros behind them up to a length, or cut at it.
-abbrev pub sized : ℕ → List ℕ → List ℕ
-sized n content = take n content ++ replicate (n - length content) 0
 
 -- What a read gives: the sectors, or the shadow's bytes, as they are then.
 abbrev pub read_by : Facts → ℕ → ℕ → Verdict → List ℕ
 read_by f lba count Serve = sectors_from f.sector lba count
 read_by f lba count Shadow = bytes_from f.byte (sector_size * lba) (sector_size * count)
 read_by f lba count (Denied why) = []
-
--- IDENTIFY DEVICE: 256 words, of which the low byte comes first.
-abbrev pub sectors_word : ℕ → ℕ → ℕ
-sectors_word sectors word = sectors / 2 ^ (16 * (word - 100)) % 65536
-
-abbrev pub identify_word : ℕ → ℕ → ℕ
-identify_word sectors word =
-    if word == 48 then 0x4001
-    else (if word == 75 then 0x001f
-    else (if word == 76 then 0x0100
-    else (if word == 83 then 0x6400
-    else (if nat_le 100 word && nat_le word 103 then sectors_word sectors word else 0))))
-
-abbrev pub low_first : ℕ → List ℕ
-low_first word = word % 256 ∷ word / 256 ∷ []
-
-abbrev pub run_from : ℕ → ℕ → List ℕ
-run_from first zero = []
-run_from first (suc n) = first ∷ run_from (suc first) n
-
-abbrev pub identity : Facts → List ℕ
-identity f = flat_map (λ word. low_first (identify_word f.sectors word)) (run_from 0 256)
-
--- Log page 10h: bit 7 of byte 0 says that no queued command failed; the last byte makes the sum of
--- all a multiple of 256.
-abbrev pub lba_bytes : ℕ → ℕ → List ℕ
-lba_bytes lba first =
-    lba / 2 ^ first % 256 ∷ lba / 2 ^ (first + 8) % 256 ∷ lba / 2 ^ (first + 16) % 256 ∷ []
-
-abbrev pub page_head : Option Failure → List ℕ
-page_head None = 0x80 ∷ []
-page_head (Some failure) =
-    unwrap_or failure.tag 0x80 ∷ 0 ∷ 0x51 ∷ failure.error ∷ lba_bytes failure.lba 0
-    ++ failure.device ∷ lba_bytes failure.lba 24 ++ 0 ∷ low_first failure.count
-
-abbrev pub total : List ℕ → ℕ
-total [] = 0
-total (b ∷ bs) = b + total bs
-
-abbrev pub with_sum : List ℕ → List ℕ
-with_sum content = content ++ (256 - total content % 256) % 256 ∷ []
-
-abbrev pub error_log : Facts → List ℕ
-error_log f = with_sum (sized 511 (page_head f.failure))
 
 -- A receive: the response where it fits, else a header that tells its size, or a header alone where
 -- none waits.
@@ -98,8 +53,8 @@ receive_data f com_id room =
 abbrev pub data_of : Facts → Command → List ℕ
 data_of f (ReadDma lba count) = read_by f lba count (verdict_on f Read lba count)
 data_of f (Receive protocol com_id blocks dma) = receive_data f com_id (sector_size * blocks)
-data_of f Identify = identity f
-data_of f (ReadLog10 dma) = error_log f
+data_of f Identify = identity f.sectors
+data_of f (ReadLog10 dma) = error_log f.failure
 data_of f _ = []
 
 abbrev pub data_read : Facts → Result (Command × Option ℕ) CommandError → List ℕ

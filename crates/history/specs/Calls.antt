@@ -11,7 +11,7 @@ use Rattle.sp_tables.specs.Tries.{names_tries}
 use Rattle.shadow_mbr.specs.Stored.{sector_size}
 use Rattle.transactions.specs.Bytes.{bytes_from}
 use Rattle.audit.specs.declared.reason.Why.{Why}
-use Rattle.tcg_tokens.specs.Length.{len_of}
+use Rattle.call_shapes.specs.Carried.{is_carried}
 use Rattle.tcg_tokens.specs.Tree.{Tree, Trees, bytes, list, trees_of}
 use Rattle.call_shapes.specs.declared.ask.Ask.{Ask}
 use Rattle.call_shapes.specs.declared.ask.Ask.TheVariants.{GetCells, GetBytes, SetCells, SetBytes, Authenticate, Activate, Revert, Other}
@@ -54,11 +54,11 @@ pub data Judgement : Type 0 where
 abbrev pub denial : Standing → Uid → Uid → Ask → Option Why
 denial s object method ask = denied s.rows s.sp object method s.held ask
 
--- Results, where the response is not too long.
+-- Results, where a response can carry them.
 abbrev pub gives : List Tree → Judgement
 gives results =
-    if nat_lt most_response (len_of (reply_of results success))
-    then Refuses response_overflow None else Gives results
+    if is_carried (reply_of results success)
+    then Gives results else Refuses response_overflow None
 
 -- What a Get of columns gives: those that are listed, with their values.
 abbrev pub listing : Standing → Uid → ℕ → ℕ → List Tree

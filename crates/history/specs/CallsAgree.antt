@@ -46,10 +46,12 @@ standing_on store session held = record {
   is_open = is_inside store session;
 }
 
--- Where a change is judged by what the session sees, each call is answered alike.
+-- Where a change of the session's SP is judged by what the session sees there, each call is
+-- answered alike.
 abbrev pub AnswerLaw : Type 0
 AnswerLaw =
-    (store : Stored) (c : Called) → latest_look store ≡ seen_by store c.session
+    (store : Stored) (c : Called)
+    → latest_look store c.session.sp ≡ seen_by store c.session c.session.sp
     → said_call store c
     ≡ said_of (in_force store) c.session.sp (is_manufactured store)
     (judged (standing_on store c.session c.held) c.object c.method c.ask)

@@ -29,6 +29,7 @@ use Rattle.trusted_cmds.specs.declared.command.Command.{Command}
 use Rattle.trusted_cmds.specs.declared.command.Command.TheVariants.{ReadQueued, WriteQueued, ReadDma, WriteDma, Send, Receive, Identify, ReadLog10, Flush}
 use Rattle.trusted_cmds.specs.declared.command.CommandError.{CommandError}
 use Rattle.trusted_cmds.specs.Commands.{reading}
+use Rattle.device_data.specs.ErrorLog.{failure_by}
 use Rattle.locking.specs.declared.ranges.Verdict.{Verdict}
 use Rattle.locking.specs.declared.ranges.Verdict.TheVariants.{Serve, Shadow, Denied}
 use Rattle.locking.specs.Range.{RangeRows}
@@ -48,7 +49,8 @@ use Rattle.sessions.specs.Properties.{properties_message}
 use Rattle.methods.specs.Said.{reply_of, said_attempt}
 use Rattle.history.specs.Changes.{Sets}
 use Rattle.history.specs.Calls.{Judgement, Refuses, Gives, Makes, Attempts, Activates, Reverts, asked, judged}
-use Rattle.history.specs.Events.{SessionDeed, Unchanged, Started, Tried, Changed, Began, Committed, Aborted, Ended, Activated, Reverted, HeldCommand, Failure, Held, Completed, CompletedWrite, QueueFailed, QueueMended, Deed, Nothing, InSession, OfQueue, Wrote, Took, Event, did}
+use Rattle.device_data.specs.declared.log_page.Failure.{Failure}
+use Rattle.history.specs.Events.{SessionDeed, Unchanged, Started, Tried, Changed, Began, Committed, Aborted, Ended, Activated, Reverted, HeldCommand, Held, Completed, CompletedWrite, QueueFailed, QueueMended, Deed, Nothing, InSession, OfQueue, Wrote, Took, Event, did}
 use Rattle.history.specs.Facts.{Facts, live, session_named, has_open, standing}
 
 -- The Error field of a command that is aborted or denied, and of one whose sectors are not all on
@@ -64,10 +66,6 @@ fails error denied = record { failed = Some error; deed = Nothing; denied = deni
 
 abbrev pub refuses : Event
 refuses = fails aborted None
-
-abbrev pub failure_by : Option ℕ → ℕ → RegH2d → Failure
-failure_by tag error h =
-    record { tag = tag; error = error; lba = h.lba; device = h.device; count = h.count }
 
 -- The queue fails with the command of a FIS: its error, and what denied it.
 abbrev pub fails_queue : Option ℕ → ℕ → RegH2d → Option Why → Event

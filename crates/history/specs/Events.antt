@@ -9,6 +9,7 @@ use Rattle.audit.specs.declared.reason.AttemptFailure.{AttemptFailure}
 use Rattle.audit.specs.declared.reason.Why.{Why}
 use Rattle.trusted_cmds.specs.declared.command.Command.{Command}
 use Rattle.locking.specs.declared.ranges.Verdict.{Verdict}
+use Rattle.device_data.specs.declared.log_page.Failure.{Failure}
 use Rattle.history.specs.Changes.{Change}
 use Rattle.history.specs.Sessions.{Begun}
 
@@ -43,15 +44,6 @@ pub record Response : Type 0 where
 pub record HeldCommand : Type 0 where
   pub command : Command
   pub verdict : Verdict
-
--- What log page 10h will tell of the command that failed the queue: its tag where it is queued, the
--- error, and fields of its FIS.
-pub record Failure : Type 0 where
-  pub tag : Option ℕ
-  pub error : ℕ
-  pub lba : ℕ
-  pub device : ℕ
-  pub count : ℕ
 
 -- What became of the queue.
 pub data QueueDeed : Type 0 where

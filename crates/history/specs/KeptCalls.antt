@@ -8,7 +8,7 @@ use Rattle.tcg_tokens.specs.Message.{Message}
 use Rattle.audit.specs.declared.reason.Why.{Why}
 use Rattle.call_shapes.specs.Named.{values_of}
 use Rattle.transactions.specs.Stored.{Stored}
-use Rattle.sessions.specs.Live.{Holder, Live, session_at, lives_on}
+use Rattle.sessions.specs.Live.{Live, session_at, AreNumbered}
 use Rattle.sessions.specs.Starts.{start_reply, start_denied, start_stored, start_at, start_next, opening_of, host_of}
 use Rattle.methods.specs.Said.{Said}
 use Rattle.methods.specs.Calls.{called_with, said_call, stored_call, holder_call}
@@ -28,10 +28,10 @@ wipes_by (Reverted sp wipes) = wipes
 wipes_by _ = false
 
 -- What is answered, and what is made of the store and of the sessions, is what an outcome says.
-pub record Meets (out : Outcome) (answer : Message) (denied : Option Why) (wipe : Bool) (s t : Stored) (l m : Live) : Type 0 where
-  pub answer : answer ≡ out.said
-  pub denied : denied ≡ out.denied
-  pub wipe : wipe ≡ wipes_by out.deed
+pub record Meets (out : Outcome) (said : Message) (why : Option Why) (wiped : Bool) (s t : Stored) (l m : Live) : Type 0 where
+  pub answer : said ≡ out.said
+  pub denied : why ≡ out.denied
+  pub wipe : wiped ≡ wipes_by out.deed
   pub store : StoresAs out.deed s t
   pub sessions : LivesAs out.deed l m
 
@@ -53,12 +53,6 @@ CallLaw =
       (said_call s (called_with l (id_of session) object method (values_of args))).wipe
       s (stored_call s (called_with l (id_of session) object method (values_of args)))
       l m
-
--- A session of an SP lives only where one of some number does.
-abbrev pub AreNumbered : Live → Type 0
-AreNumbered l =
-    (sp : Sp) → lives_on sp l ≡ true
-    → (n : ℕ) × (h : Holder) × (session_at l n ≡ Some h) × (h.sp ≡ sp)
 
 -- A StartSession.
 abbrev pub StartLaw : Type 0

@@ -1,15 +1,14 @@
 -- What a call is answered (Core 2.01, section 3.3.7.1).
-use Rattle.std.specs.Prelude.{nat_lt, ℕ, Bool, false, List, [], ◌∷◌, Option, None, Some, if◌then◌else◌}
+use Rattle.std.specs.Prelude.{ℕ, Bool, false, List, [], ◌∷◌, Option, None, Some, if◌then◌else◌}
 use Rattle.tcg_tokens.specs.Tree.{Tree, number, trees_of}
 use Rattle.tcg_tokens.specs.Message.{Message, message, reply}
-use Rattle.tcg_tokens.specs.Length.{len_of}
 use Rattle.sp_cells.specs.declared.names.Uid.{Uid}
 use Rattle.sp_cells.specs.declared.names.Sp.{Sp}
 use Rattle.audit.specs.declared.reason.AttemptFailure.{AttemptFailure}
 use Rattle.audit.specs.declared.reason.AttemptFailure.TheVariants.{WrongPin, LockedOut, Disabled, Unknown}
 use Rattle.audit.specs.declared.reason.Why.{Why}
 use Rattle.audit.specs.declared.reason.Why.TheVariants.{AttemptFailed}
-use Rattle.call_shapes.specs.Limits.{most_response}
+use Rattle.call_shapes.specs.Carried.{is_carried}
 use Rattle.call_shapes.specs.Statuses.{success, response_overflow, authority_locked_out}
 use Rattle.methods.specs.declared.outcome.Outcome.{Outcome}
 
@@ -31,9 +30,9 @@ says results why wipe = record { answer = reply_of results success; denied = why
 abbrev pub refuses : ℕ → Option Why → Said
 refuses status why = record { answer = reply_of [] status; denied = why; wipe = false }
 
--- these results, where they are not too long for a response
+-- these results, where a response can carry them
 unfoldable pub fits : List Tree → Said
-fits results = if nat_lt most_response (len_of (reply_of results success)) then refuses response_overflow None else says results None false
+fits results = if is_carried (reply_of results success) then says results None false else refuses response_overflow None
 
 -- the answer to an attempt that fails so, or is right
 abbrev pub said_attempt : Sp → Uid → Option AttemptFailure → Said

@@ -9,7 +9,7 @@ use audit::Why;
 use call_shapes::limits::MOST_RESPONSE;
 use call_shapes::status;
 use std::alloc::{AllocError, AllocFailed, Global};
-use tcg_tokens::{Item, Reply, Value, item_len};
+use tcg_tokens::{Item, Reply, Value, item_len, writable};
 
 /// What comes of a call: the reply, why it was denied, and whether all media become zeros.
 #[derive(Drop)]
@@ -83,20 +83,20 @@ pub(crate) fn refused(alloc: Global, status: u64, denied: Option<Why>) -> Outcom
     }
 }
 
-/// These results, where they are not too long for a response.
+/// These results, where a response can carry them.
 #[tactic(auto, unfolding(crate::specs::Said::fits))]
 pub(crate) fn fitting(alloc: Global, results: Vec<Value>) -> Outcome
     ensures { said_seen result ≡ fits (map tree results.items) }
 {
     let reply = reply(results, status::SUCCESS);
-    if item_len(&reply) as u64 > MOST_RESPONSE {
-        return refused(alloc, status::RESPONSE_OVERFLOW, None);
+    if writable(&reply) && item_len(&reply) as u64 <= MOST_RESPONSE {
+        return Outcome {
+            reply,
+            denied: None,
+            wipe: false,
+        };
     }
-    Outcome {
-        reply,
-        denied: None,
-        wipe: false,
-    }
+    refused(alloc, status::RESPONSE_OVERFLOW, None)
 }
 
 /// One number as the results.

@@ -1,8 +1,7 @@
 -- What an attempt to authenticate is answered, and what it leaves (Core 2.01, section 5.3.4.1).
-use Rattle.std.specs.Prelude.{◌==◌, ◌+◌, ◌-◌, ◌^◌, min, ℕ, List, Option, None, Some, option_map, if◌then◌else◌}
+use Rattle.std.specs.Prelude.{◌+◌, ◌-◌, ◌^◌, min, ℕ, List, Option, None, Some, option_map}
 use Rattle.sp_cells.specs.declared.names.Sp.{Sp}
 use Rattle.sp_cells.specs.declared.names.Uid.{Uid}
-use Rattle.sp_cells.specs.Names.{anybody}
 use Rattle.sp_cells.specs.ColumnNames.{tries_column}
 use Rattle.sp_cells.specs.Flat.{LookUp}
 use Rattle.sp_cells.specs.Ranges.{number}
@@ -39,9 +38,9 @@ answer_to sp authority (Some Unknown) = answers.Wrong (AttemptFailed sp authorit
 abbrev pub with_tries : Sp → Uid → ℕ → Stored → Stored
 with_tries sp authority n s = at_part sp (part_tries (credential (in_force s) sp authority) n) s
 
--- a wrong PIN counts one more, a right one starts anew; Anybody has none
+-- a wrong PIN counts one more, a right one starts anew; an authority with no C_PIN row counts nothing
 abbrev pub after_attempt : Sp → Uid → Option AttemptFailure → Stored → Stored
-after_attempt sp authority None s = if authority.0 == anybody.0 then s else with_tries sp authority 0 s
+after_attempt sp authority None s = with_tries sp authority 0 s
 after_attempt sp authority (Some WrongPin) s = with_tries sp authority (up (number (in_force s) sp (credential (in_force s) sp authority) tries_column)) s
 after_attempt sp authority (Some LockedOut) s = s
 after_attempt sp authority (Some Disabled) s = s

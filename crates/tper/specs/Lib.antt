@@ -1,0 +1,2 @@
+pub mod Tper
+pub mod Items

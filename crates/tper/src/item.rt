@@ -1,0 +1,199 @@
+//! What an item does, sent to the session manager or to a live session (TCG Core 2.01, sections 3.3.7 to 3.3.9).
+
+ghost use Rattle.std.specs.Prelude.{◌≡◌, ◌≢◌, None, true, false, IfOk, OnErr, OnOk};
+ghost use Rattle.call_shapes.specs.Asks.{uid_of as uid_in};
+ghost use Rattle.call_shapes.specs.Carried.{is_carried};
+ghost use Rattle.call_shapes.specs.Named.{values_of};
+ghost use Rattle.call_shapes.specs.Statuses.{fail};
+ghost use Rattle.tcg_tokens.specs.Message.{message, end_session};
+ghost use Rattle.tcg_tokens.specs.Reading.{reading as message_in};
+ghost use Rattle.tcg_tokens.specs.Tree.{trees};
+ghost use Rattle.methods.specs.Effects.{holder_of};
+ghost use Rattle.sessions.specs.Live.{Live};
+ghost use Rattle.history.specs.Events.{Ended};
+ghost use Rattle.history.specs.Decisions.{says, refusal, to_manager, called_manager, in_session, outcome_of, judgement_on, begins_on, ends_on};
+ghost use Rattle.history.specs.Facts.{has_open};
+ghost use Rattle.tper.specs.Items.{OfManager, OfSession};
+
+use call_shapes::{status, uid_of};
+use compacket::ComId;
+use methods::{MethodFault, Outcome, invoke};
+use sessions::Sessions;
+use sp_cells::Uid;
+use std::alloc::{AllocError, Global};
+use tcg_tokens::{Call, Item, Reply, TokenError, read_item};
+use transactions::{SessionId, Store};
+
+/// An answer that nothing denied.
+fn answer(reply: Item) -> Outcome
+    ensures reply { message result.reply ≡ message reply }
+    ensures denied { result.denied ≡ None }
+    ensures wipe { result.wipe ≡ false }
+{
+    Outcome {
+        reply,
+        denied: None,
+        wipe: false,
+    }
+}
+
+/// The refusal of an item that is none, or that cannot stand where it does.
+fn failed(alloc: Global) -> Outcome
+    ensures reply { message result.reply ≡ refusal fail }
+    ensures denied { result.denied ≡ None }
+    ensures wipe { result.wipe ≡ false }
+{
+    answer(Item::Reply(Reply {
+        results: Vec::new(alloc),
+        status: [status::FAIL, 0, 0],
+    }))
+}
+
+/// A method of the session manager.
+fn call_manager(
+    alloc: Global,
+    store: &mut Store,
+    sessions: &mut Sessions,
+    com_id: ComId,
+    call: &Call,
+) -> Result<Outcome, AllocError>
+    ensures met { IfOk result (λ said. OfManager
+        (λ f. called_manager f com_id (uid_in call.now.object) (uid_in call.now.method)
+        (values_of (trees call.now.args.items))) said store.old store.new sessions.old sessions.new) }
+    ensures carried { IfOk result (λ said. is_carried (message said.reply) ≡ true) }
+    ensures err_store { OnErr result (store.new ≡ store.old) }
+    ensures err_sessions { OnErr result (sessions.new ≡ sessions.old) }
+{
+    if uid_of(&call.object) == Uid::SESSION_MANAGER && uid_of(&call.method) == Uid::PROPERTIES {
+        return Ok(answer(Sessions::properties(alloc, call)?));
+    }
+    if uid_of(&call.object) == Uid::SESSION_MANAGER && uid_of(&call.method) == Uid::START_SESSION {
+        let started = sessions.start(alloc, store, com_id, call)?;
+        return Ok(Outcome {
+            reply: started.reply,
+            denied: started.denied,
+            wipe: false,
+        });
+    }
+    Ok(failed(alloc))
+}
+
+/// What is sent to the session manager.
+pub(crate) fn to_manager(
+    alloc: Global,
+    store: &mut Store,
+    sessions: &mut Sessions,
+    com_id: ComId,
+    tokens: &[u8],
+) -> Result<Outcome, AllocError>
+    ensures met { IfOk result (λ said. OfManager
+        (λ f. to_manager f com_id (message_in tokens.now)) said
+        store.old store.new sessions.old sessions.new) }
+    ensures carried { IfOk result (λ said. is_carried (message said.reply) ≡ true) }
+    ensures err_store { OnErr result (store.new ≡ store.old) }
+    ensures err_sessions { OnErr result (sessions.new ≡ sessions.old) }
+{
+    match read_item(alloc, tokens) {
+        Ok(Item::Call(call)) => call_manager(alloc, store, sessions, com_id, &call),
+        Ok(Item::Reply(_) | Item::EndSession | Item::Begin(_) | Item::End(_)) => Ok(failed(alloc)),
+        Err(TokenError::OutOfMemory) => Err(AllocError),
+        Err(_) => Ok(failed(alloc)),
+    }
+}
+
+/// A method that a live session calls.
+fn call_in_session(
+    alloc: Global,
+    store: &mut Store,
+    sessions: &mut Sessions,
+    session: SessionId,
+    call: &Call,
+) -> Result<Outcome, AllocError>
+    requires lives { holder_of sessions.old session ≢ None }
+    ensures met { IfOk result (λ said. OfSession
+        (λ f its. outcome_of f its.sp (judgement_on f its (uid_in call.now.object)
+        (uid_in call.now.method) (trees call.now.args.items))) session said
+        store.old store.new sessions.old sessions.new) }
+    ensures carried { IfOk result (λ said. is_carried (message said.reply) ≡ true) }
+    ensures err_store { OnErr result (store.new ≡ store.old) }
+    ensures err_sessions { OnErr result (sessions.new ≡ sessions.old) }
+{
+    match invoke(alloc, store, sessions, session, call) {
+        Ok(outcome) => Ok(outcome),
+        Err(MethodFault::OutOfMemory) => Err(AllocError),
+        Err(MethodFault::NoSession) => unreachable!(),
+    }
+}
+
+/// The status of a transaction that cannot be opened or closed: one is open on the SP, or none of the session's.
+const NOT_DONE: u64 = 0x10;
+
+/// A transaction opens, where none is open on the session's SP.
+fn begin(store: &mut Store, session: SessionId) -> Outcome
+    ensures met { (live : Live) → OfSession
+        (λ f its. begins_on its.sp its.number (f.open_on its.sp)) session result
+        store.old store.new live live }
+    ensures carried { is_carried (message result.reply) ≡ true }
+{
+    match store.begin(session) {
+        Ok(()) => answer(Item::Begin(0)),
+        Err(_) => answer(Item::Begin(NOT_DONE)),
+    }
+}
+
+/// The session's transaction ends: 0 commits it, any other number aborts it.
+fn end(store: &mut Store, session: SessionId, number: u64) -> Outcome
+    ensures met { (live : Live) → OfSession
+        (λ f its. ends_on its.sp number (has_open f its)) session result
+        store.old store.new live live }
+    ensures carried { is_carried (message result.reply) ≡ true }
+{
+    if number == 0 {
+        return match store.commit(session) {
+            Ok(()) => answer(Item::End(0)),
+            Err(_) => answer(Item::End(NOT_DONE)),
+        };
+    }
+    match store.abort(session) {
+        Ok(()) => answer(Item::End(1)),
+        Err(_) => answer(Item::End(NOT_DONE)),
+    }
+}
+
+/// The session ends, and its transaction is aborted.
+fn end_session(store: &mut Store, sessions: &mut Sessions, session: SessionId) -> Outcome
+    ensures met { OfSession (λ f its. says (Ended its.sp) end_session) session result
+        store.old store.new sessions.old sessions.new }
+    ensures carried { is_carried (message result.reply) ≡ true }
+{
+    store.close(session.sp);
+    sessions.end_on(session.sp);
+    answer(Item::EndSession)
+}
+
+/// What is sent to a live session.
+pub(crate) fn in_session(
+    alloc: Global,
+    store: &mut Store,
+    sessions: &mut Sessions,
+    session: SessionId,
+    tokens: &[u8],
+) -> Result<Outcome, AllocError>
+    requires lives { holder_of sessions.old session ≢ None }
+    ensures met { IfOk result (λ said. OfSession
+        (λ f its. in_session f its (message_in tokens.now)) session said
+        store.old store.new sessions.old sessions.new) }
+    ensures carried { IfOk result (λ said. is_carried (message said.reply) ≡ true) }
+    ensures err_store { OnErr result (store.new ≡ store.old) }
+    ensures err_sessions { OnErr result (sessions.new ≡ sessions.old) }
+{
+    match read_item(alloc, tokens) {
+        Ok(Item::Call(call)) => call_in_session(alloc, store, sessions, session, &call),
+        Ok(Item::Begin(_)) => Ok(begin(store, session)),
+        Ok(Item::End(number)) => Ok(end(store, session, number)),
+        Ok(Item::EndSession) => Ok(end_session(store, sessions, session)),
+        Ok(Item::Reply(_)) => Ok(failed(alloc)),
+        Err(TokenError::OutOfMemory) => Err(AllocError),
+        Err(_) => Ok(failed(alloc)),
+    }
+}

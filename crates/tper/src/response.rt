@@ -1,0 +1,189 @@
+//! The responses that wait, and the room of one (TCG Core 2.01, section 3.3.10.3).
+
+ghost use Rattle.std.specs.Prelude.{◌≡◌, ◌==◌, ◌<◌, ◌≤◌, ◌++◌, ◌-◌, ◌∷◌, [], ℕ, List, true, Option, option_copied, None, Some, length, IfOk, OnOk, OnErr, replicate, slice_index_or, if◌then◌else◌};
+ghost use Rattle.device_data.specs.ErrorLog.{sized};
+ghost use Rattle.history.specs.Decisions.{is_session_com_id};
+ghost use Rattle.history.specs.Answers.{received_bytes};
+ghost use Rattle.tper.specs.Tper.{response_at, fits_in};
+
+use compacket::{
+    ComId, MAX_COM_PACKET, MAX_PAYLOAD, Session, empty_header, frame_into, short_header,
+};
+use std::alloc::{AllocError, Global};
+use std::marker::Model;
+use tcg_tokens::{Item, write_item_into};
+
+/// How many ComIDs sessions have.
+const COM_IDS: usize = 4;
+
+/// The first of them.
+const FIRST_COM_ID: ComId = 0x1000;
+
+/// Whether it is one of the four ComIDs of sessions, 1000h to 1003h.
+pub fn is_session_com_id(com_id: ComId) -> bool
+    ensures { result ≡ is_session_com_id com_id }
+{
+    (FIRST_COM_ID..=FIRST_COM_ID + 3).contains(&com_id)
+}
+
+/// The bytes of a response, a ComPacket: 65,536 at most.
+#[derive(Drop)]
+pub struct Response {
+    bytes: Vec<u8>,
+}
+
+impl Model for Response {
+    ghost use Rattle.std.specs.Prelude.{ℕ, List, ◌≤◌, length};
+    ghost use Rattle.compacket.specs.declared.headers.TheConstants.{MAX_COM_PACKET};
+
+    ghost Value = { List ℕ };
+
+    ghost view = { λ r. r.bytes.items };
+
+    ghost invariant = { λ r. length r.bytes.items ≤ MAX_COM_PACKET };
+}
+
+impl Response {
+    ghost use Rattle.std.specs.Prelude.{◌≡◌, ◌≤◌, length};
+    ghost use Rattle.compacket.specs.declared.headers.TheConstants.{MAX_COM_PACKET};
+
+    pub fn new(bytes: Vec<u8>) -> Response
+        requires { length bytes.items ≤ MAX_COM_PACKET }
+        ensures { result ≡ bytes.items }
+    {
+        Response { bytes }
+    }
+
+    fn as_slice(&self) -> &[u8]
+        ensures value { result.now ≡ self.now }
+        ensures most { length result.now ≤ MAX_COM_PACKET }
+    {
+        self.bytes.as_slice()
+    }
+}
+
+/// The response that waits on each ComID.
+#[derive(Drop)]
+pub struct Responses {
+    pub waiting: [Option<Response>; COM_IDS],
+}
+
+/// Bytes with zeros behind them up to a length, or cut at it.
+fn sized(alloc: Global, bytes: &[u8], length: usize) -> Result<Vec<u8>, AllocError>
+    ensures { IfOk result (λ v. v.items ≡ sized length bytes.now) }
+{
+    let mut out = Vec::with_capacity(alloc, length)?;
+    let shown = bytes.len().min(length);
+    out.extend_from_slice(&bytes[..shown])?;
+    out.resize(length, 0)?;
+    Ok(out)
+}
+
+impl Responses {
+    /// None waits.
+    pub fn new() -> Responses
+        ensures { (com_id : ℕ) → response_at result.waiting com_id ≡ None }
+    {
+        Responses {
+            waiting: [None, None, None, None],
+        }
+    }
+
+    /// The response that waits on a ComID.
+    pub fn at(&self, com_id: ComId) -> Option<&Response>
+        ensures { option_copied result ≡ response_at self.now.waiting com_id }
+    {
+        if !is_session_com_id(com_id) {
+            return None;
+        }
+        self.waiting[usize::from(com_id - FIRST_COM_ID)].as_ref()
+    }
+
+    /// A response waits on a ComID, or none does.
+    pub fn put(&mut self, com_id: ComId, response: Option<Response>)
+        requires { is_session_com_id com_id ≡ true }
+        ensures { (other : ℕ) → response_at self.new.waiting other
+            ≡ (if com_id == other then response else response_at self.old.waiting other) }
+    {
+        self.waiting[usize::from(com_id - FIRST_COM_ID)] = response;
+    }
+
+    /// The data of a receive on a ComID: the response that waits, with zeros behind it; where it is
+    /// longer than the transfer, a header that tells its size, and an empty header where none waits.
+    pub fn data(&self, alloc: Global, com_id: ComId, room: usize) -> Result<Vec<u8>, AllocError>
+        ensures { IfOk result (λ v. v.items
+            ≡ sized room (received_bytes com_id room (response_at self.now.waiting com_id))) }
+    {
+        match self.at(com_id) {
+            None => sized(alloc, &empty_header(com_id), room),
+            Some(response) => {
+                let bytes = response.as_slice();
+                if bytes.len() <= room {
+                    sized(alloc, bytes, room)
+                } else {
+                    sized(alloc, &short_header(com_id, bytes.len() as u32), room)
+                }
+            }
+        }
+    }
+
+    /// Whether the response that waits on a ComID, if one does, has room in a transfer.
+    pub fn fits(&self, com_id: ComId, room: usize) -> bool
+        ensures { result ≡ fits_in room (response_at self.now.waiting com_id) }
+    {
+        match self.at(com_id) {
+            None => false,
+            Some(response) => response.as_slice().len() <= room,
+        }
+    }
+}
+
+/// Room for the tokens of an answer and for the longest frame.
+#[derive(Drop)]
+pub struct Room {
+    tokens: Vec<u8>,
+    frame: Vec<u8>,
+}
+
+impl Model for Room {
+    ghost use Rattle.std.specs.Prelude.{vec_capacity, ◌≤◌};
+    ghost use Rattle.compacket.specs.declared.headers.TheConstants.{MAX_COM_PACKET};
+    ghost use Rattle.compacket.specs.declared.writer.TheConstants.{MAX_PAYLOAD};
+
+    ghost Value = { Unit {0} };
+
+    ghost view = { λ r. tt };
+
+    ghost invariant = { λ r. (MAX_PAYLOAD ≤ vec_capacity r.tokens) × (MAX_COM_PACKET ≤ vec_capacity r.frame) };
+}
+
+impl Room {
+    ghost use Rattle.std.specs.Prelude.{◌≡◌, true};
+    ghost use Rattle.tcg_tokens.specs.Message.{message};
+    ghost use Rattle.tcg_tokens.specs.Spelling.{item_spelling_of};
+    ghost use Rattle.call_shapes.specs.Carried.{is_carried};
+    ghost use Rattle.compacket.specs.Spelling.{frame_bytes};
+
+    /// All memory that an answer can want.
+    pub fn new(alloc: Global) -> Result<Room, AllocError> {
+        let tokens = Vec::with_capacity(alloc, MAX_PAYLOAD)?;
+        let frame = Vec::with_capacity(alloc, MAX_COM_PACKET)?;
+        Ok(Room { tokens, frame })
+    }
+
+    /// The frame of an answer.
+    pub fn framed(self, com_id: ComId, session: Session, answer: &Item) -> Response
+        requires { is_carried (message answer.now) ≡ true }
+        ensures { result ≡ frame_bytes com_id session (item_spelling_of (message answer.now)) }
+    {
+        let Room {
+            mut tokens,
+            mut frame,
+        } = self;
+        tokens.clear();
+        frame.clear();
+        write_item_into(answer, &mut tokens);
+        frame_into(com_id, session, tokens.as_slice(), &mut frame);
+        Response::new(frame)
+    }
+}
