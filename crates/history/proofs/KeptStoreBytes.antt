@@ -1,6 +1,6 @@
 -- The bytes that are kept of the shadow, after one more event.
-use Rattle.std.proofs.Common.{◌≡◌, ◌≤◌, ◌<◌, ◌-◌, ℕ, zero, suc, ◌==◌, ◌*◌, ◌+◌, ◌&&◌, ◌⊎◌, inl, inr, Bool, true, false, List, [], ◌∷◌, ◌++◌, Option, Some, None, refl, sym, ◌∙◌, ap, cond, length, arith}
-use Rattle.std.specs.Prelude.{nat_le, nat_lt, option_to_list, slice_index}
+use Rattle.std.proofs.Common.{◌≡◌, ◌≤◌, ◌<◌, ℕ, zero, suc, ◌*◌, ◌+◌, inl, inr, true, false, List, [], ◌∷◌, ◌++◌, Option, Some, None, refl, sym, ◌∙◌, ap, cond, length, arith}
+use Rattle.std.specs.Prelude.{option_to_list, slice_index}
 use Rattle.std.proofs.lemmas.Bool.{cases_lt, eq-eqb}
 use Rattle.std.proofs.lemmas.Bool.Decides.{nat_tests}
 use Rattle.std.proofs.lemmas.List.{get_or_past}
@@ -9,13 +9,13 @@ use Rattle.sp_cells.specs.declared.names.Sp.TheVariants.{Locking}
 use Rattle.shadow_mbr.specs.Stored.{Stored as Mbr, sector_size, byte_at, byte_after}
 use Rattle.transactions.specs.Bytes.{bytes_from, bytes_in, laid, written, blank}
 use Rattle.transactions.specs.Stored.{Transaction, Part, bytes_seen, part_begin, part_commit}
-use Rattle.transactions.proofs.ByteLemmas.{index-from, length-from}
+use Rattle.transactions.proofs.ByteLemmas.{length-from}
 use Rattle.methods.specs.Settings.{Setting, cells_set, bytes_set}
 use Rattle.methods.specs.Effects.{part_with, bytes_with}
 use Rattle.history.specs.Opening.{Origin}
-use Rattle.history.specs.Changes.{Change, Sets, byte_in, byte_then}
+use Rattle.history.specs.Changes.{Change, Sets, byte_in}
 use Rattle.history.specs.Events.{Response, InSession, Changed, Began, Committed, Event}
-use Rattle.history.specs.Readers.{turns, begins, changes_on, brought, own_changes, if_open, open_on, open_changes, unless_open, changes, byte_in_force}
+use Rattle.history.specs.Readers.{turns, begins, changes_on, brought, own_changes, if_open, open_on, open_changes, unless_open, changes}
 use Rattle.history.specs.KeptStore.{KeepsBytes}
 use Rattle.history.proofs.Words.{sp-same}
 use Rattle.history.proofs.Emptied.{every-since-more}
@@ -42,8 +42,8 @@ pub written-at : (start : ℕ) (bs old : List ℕ) (i : ℕ) → start + length 
 written-at start bs old i fits = elim (cases_lt i (length old)) [
   | inl inside ↦ let e : 0 + i ≡ i = omega arith in laid-at start bs 0 old i inside ∙ ap (byte_after start bs (slice_index old i)) e
   | inr outside ↦
-    let long : length (written start bs old) ≡ length old = laid-length start bs 0 old in
-    past-end (written start bs old) i (omega (arith, long, outside)) ∙ sym (past-end old i (omega (arith, outside))) ∙ sym (behind start bs (slice_index old i) i (omega (arith, fits, outside)))
+      let long : length (written start bs old) ≡ length old = laid-length start bs 0 old in
+      past-end (written start bs old) i (omega (arith, long, outside)) ∙ sym (past-end old i (omega (arith, outside))) ∙ sym (behind start bs (slice_index old i) i (omega (arith, fits, outside)))
 ]
 
 pub written-length : (start : ℕ) (bs old : List ℕ) → length (written start bs old) ≡ length old
@@ -166,10 +166,10 @@ set-by p o e past st r h fits is (Some t) has y opens none some =
       bytes = λ place. h.bytes place ∙ ap (λ x. byte_in x place) (sym all);
       size_within = λ t' is'. ap (λ (x : Transaction). length x.bytes) (sym (some-same is')) ∙ with-length st t.bytes ∙ long;
       within = λ t' is' place.
-      ap (λ (x : Transaction). slice_index x.bytes place) (sym (some-same is'))
-      ∙ with-at st t.bytes (open_changes past Locking ++ changes past Locking) (rw long fits) (h.within t has) place
-      ∙ ap (λ x. byte_in (x ++ changes past Locking) place) (sym own)
-      ∙ ap (λ x. byte_in (open_changes (e ∷ past) Locking ++ x) place) (sym all);
+          ap (λ (x : Transaction). slice_index x.bytes place) (sym (some-same is'))
+          ∙ with-at st t.bytes (open_changes past Locking ++ changes past Locking) (rw long fits) (h.within t has) place
+          ∙ ap (λ x. byte_in (x ++ changes past Locking) place) (sym own)
+          ∙ ap (λ x. byte_in (open_changes (e ∷ past) Locking ++ x) place) (sym all);
     }
 
 pub set-bytes : (p : Part) (o : Origin) (e : Event) (past : List Event) (st : Setting) (r : Response) → KeepsBytes p o past → FitsIn st (sector_size * o.tables.config.mbr_sectors) → e.deed ≡ InSession (Changed Locking (Sets st)) r

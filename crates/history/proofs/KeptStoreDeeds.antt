@@ -1,6 +1,6 @@
 -- What each deed makes of a store keeps what one more event says.
-use Rattle.std.proofs.Common.{◌≡◌, ◌≤◌, ℕ, ◌==◌, ◌*◌, ◌+◌, Bool, true, false, ◌&&◌, List, [], ◌∷◌, ◌++◌, Option, Some, None, refl, sym, ◌∙◌, ap, cond, length, subst, arith}
-use Rattle.std.specs.Prelude.{is_some, option_map, slice_index, nat_le}
+use Rattle.std.proofs.Common.{◌≡◌, ◌≤◌, ℕ, ◌==◌, ◌*◌, ◌+◌, Bool, true, false, List, [], ◌∷◌, ◌++◌, Option, Some, None, refl, sym, ◌∙◌, ap, cond, length, subst, arith}
+use Rattle.std.specs.Prelude.{is_some, option_map, nat_le}
 use Rattle.std.proofs.lemmas.Bool.Decides.{nat_tests}
 use Rattle.sp_cells.specs.declared.names.Uid.{Uid}
 use Rattle.sp_cells.specs.declared.names.Sp.{Sp}
@@ -14,10 +14,10 @@ use Rattle.sp_cells.specs.Names.{admin_pin_uid, locking_sp}
 use Rattle.sp_cells.specs.ColumnNames.{life_cycle_state_column, pin_column, tries_column}
 use Rattle.sp_cells.specs.Limits.{manufactured, manufactured_inactive}
 use Rattle.sp_cells.specs.Ranges.{number}
-use Rattle.sp_rows.specs.Items.{Item, item_at, with_item}
+use Rattle.sp_rows.specs.Items.{item_at, with_item}
 use Rattle.sp_factory.specs.Factory.{admin_factory, locking_factory}
 use Rattle.sp_tables.specs.Contents.{items_of, factory_contents}
-use Rattle.sp_tables.specs.Looks.{RowLook, put_in}
+use Rattle.sp_tables.specs.Looks.{put_in}
 use Rattle.sp_tables.specs.AtReset.{locking_tries_after}
 use Rattle.sp_tables.specs.Tries.{is_tries}
 use Rattle.sp_tables.proofs.LookLemmas.{look_up-sp}
@@ -29,17 +29,17 @@ use Rattle.transactions.specs.Bytes.{blank}
 use Rattle.transactions.specs.Stored.{Transaction, Part, Stored, part, at_part, part_begin, part_commit, part_close, part_tries, part_put, part_of, reverted, after_reset}
 use Rattle.transactions.specs.Sights.{activated_with, with_pin}
 use Rattle.sessions.specs.Answers.{in_force as rows_in_force, up}
-use Rattle.methods.specs.Settings.{Setting, cells_set, bytes_set, is_within}
+use Rattle.methods.specs.Settings.{Setting, cells_set, bytes_set}
 use Rattle.methods.specs.Effects.{part_with}
 use Rattle.history.specs.Opening.{Origin, factory_origin}
-use Rattle.history.specs.Changes.{Change, Sets, Restores, Resets, byte_in, reset_rows}
+use Rattle.history.specs.Changes.{Sets, Restores, Resets, byte_in, reset_rows}
 use Rattle.history.specs.Sessions.{Begun}
-use Rattle.history.specs.Events.{Attempt, SessionDeed, Unchanged, Started, Tried, Changed, Began, Committed, Aborted, Ended, Activated, Reverted, Response, Deed, Nothing, InSession, OfQueue, Wrote, Took, WasReset, Event}
+use Rattle.history.specs.Events.{Attempt, Unchanged, Started, Tried, Changed, Began, Committed, Aborted, Ended, Activated, Reverted, Response, Deed, Nothing, InSession, OfQueue, Wrote, Took, WasReset, Event}
 use Rattle.history.specs.Readers.{turns, brought, changes, open_on, rows_after, tries, one_more, same_row}
-use Rattle.history.specs.KeptStore.{KeepsPart, KeepsBytes, KeepsStore, HasKnownRows, with_count, StoresSetting, StoresBy, StoreLaw}
+use Rattle.history.specs.KeptStore.{KeepsPart, KeepsBytes, KeepsStore, with_count, StoresSetting, StoresBy, StoreLaw}
 use Rattle.history.proofs.Steps.{rows-by, turned}
 use Rattle.history.proofs.Openings.{factory_law}
-use Rattle.history.proofs.KeptStoreRows.{ShowRows, ShowTries, shows-places, put-places, item-shows, reset-shows, reset-same, count-shows, counts-same}
+use Rattle.history.proofs.KeptStoreRows.{ShowTries, shows-places, put-places, item-shows, reset-shows, reset-same, count-shows, counts-same}
 use Rattle.history.proofs.KeptStoreParts.{Spares, closed-part, was-closed, was-open, counted-part, spared-part, begun-part, set-part, committed-part}
 use Rattle.history.proofs.KeptStoreBytes.{closed-bytes, spared-bytes, shut-bytes, begun-bytes, set-bytes, committed-bytes, blank-length, blank-at, FitsIn}
 use Rattle.history.proofs.KeptStoreOpenings.{restored-part, no-tries-in}
@@ -239,6 +239,7 @@ activated-kept s o past x w pin r h = record {
   where
     e : Event
     e = doing x w (InSession (Activated pin) r)
+
     parts : (sp : Sp) → KeepsPart (part (activated_with pin s) sp) o (e ∷ past) sp
     parts Admin = put-part s.admin locking_sp life_cycle_state_column (Number manufactured) o e past Admin (h.parts Admin) (turned Admin e past None refl) (rows-by o e past Admin _ refl) (λ u. refl)
     parts Locking = pin-part s o past x w pin r h
@@ -260,6 +261,7 @@ reverted-kept s o past x w Admin wipes r h = record { config = h.config; known =
   where
     e : Event
     e = doing x w (InSession (Reverted Admin wipes) r)
+
     parts : (sp : Sp) → KeepsPart (part (reverted Admin s) sp) o (e ∷ past) sp
     parts Admin =
         restored-part (admin_factory s.config.msid) [] o (e ∷ past) Admin (turned Admin e past None refl)
@@ -270,6 +272,7 @@ reverted-kept s o past x w Locking wipes r h = record { config = h.config; known
   where
     e : Event
     e = doing x w (InSession (Reverted Locking wipes) r)
+
     parts : (sp : Sp) → KeepsPart (part (reverted Locking s) sp) o (e ∷ past) sp
     parts Admin = put-part s.admin locking_sp life_cycle_state_column (Number manufactured_inactive) o e past Admin (h.parts Admin) (turned Admin e past None refl) (rows-by o e past Admin _ refl) (λ u. refl)
     parts Locking = locking-part s o e past h refl refl (λ u. refl)
@@ -285,8 +288,10 @@ reset-kept s o past x w kind h = record {
   where
     e : Event
     e = doing x w (WasReset kind)
+
     counts : (sp : Sp) → ShowTries (tries-after sp kind (part s sp).tries) (tries (e ∷ past) sp) (rows_after o past sp)
     counts sp = reset-tries sp kind (part s sp).tries (tries past sp) (tries (e ∷ past) sp) (rows_after o past sp) (λ object column. (h.parts sp).tries object column) (λ object column. unknown-none o past sp object column h.known) (λ u. refl)
+
     parts : (sp : Sp) → KeepsPart (part (after_reset kind s) sp) o (e ∷ past) sp
     parts Admin =
         closed-part (after_reset kind s).admin o (e ∷ past) Admin refl (turned Admin e past None refl) (rows_after o past Admin) (rows-by o e past Admin (Resets kind ∷ []) refl ∙ admin-reset o past kind h.known)

@@ -1,8 +1,7 @@
 -- What a store keeps over what a drive starts from; and which rows count attempts there.
-use Rattle.std.proofs.Common.{◌≡◌, ℕ, ◌==◌, ◌*◌, zero, suc, Bool, true, false, ◌&&◌, ◌||◌, not, List, [], ◌∷◌, Option, Some, None, refl, sym, ◌∙◌, ap, cond, eqb-true}
+use Rattle.std.proofs.Common.{◌≡◌, ℕ, ◌==◌, ◌*◌, Bool, true, false, ◌&&◌, not, List, [], ◌∷◌, Option, Some, None, refl, sym, ◌∙◌, ap, cond, eqb-true}
 use Rattle.std.specs.Prelude.{option_map, Result, Ok, Err}
 use Rattle.std.specs.List.{list_all}
-use Rattle.sp_cells.specs.declared.names.TheConstants.{USERS, ADMINS}
 use Rattle.sp_cells.specs.declared.names.Uid.{Uid}
 use Rattle.sp_cells.specs.declared.names.Sp.{Sp}
 use Rattle.sp_cells.specs.declared.names.Sp.TheVariants.{Admin, Locking}
@@ -11,26 +10,25 @@ use Rattle.sp_cells.specs.declared.cells.Cell.{Cell}
 use Rattle.sp_cells.specs.declared.cells.Cell.TheVariants.{Number}
 use Rattle.sp_cells.specs.declared.error.SetError.{SetError}
 use Rattle.sp_cells.specs.Config.{Config}
-use Rattle.sp_cells.specs.Names.{c_pin_sid, c_pin_msid, admin_pin_uid, user_pin_uid, locking_sp, range_uid}
-use Rattle.sp_cells.specs.ColumnNames.{tries_column}
-use Rattle.sp_rows.specs.Items.{Item, item_at, with_item, with_items, is_here}
+use Rattle.sp_cells.specs.Names.{admin_pin_uid, locking_sp, range_uid}
+use Rattle.sp_rows.specs.Items.{Item, item_at, with_items}
 use Rattle.sp_factory.specs.Factory.{admin_factory, locking_factory, admin_sps, admin_authorities, locking_authorities, admin_pins, locking_pins, locking_ranges, locking_mbr_controls, admin_aces, authority_aces, pin_aces, range_aces, mbr_aces}
 use Rattle.sp_tables.specs.Contents.{Contents, items_of, look_up}
-use Rattle.sp_tables.specs.Looks.{RowLook, puts_in}
-use Rattle.sp_tables.specs.Tries.{is_pin, is_tries}
+use Rattle.sp_tables.specs.Looks.{RowLook}
+use Rattle.sp_tables.specs.Tries.{is_tries}
 use Rattle.sp_tables.proofs.LookLemmas.{look_up-sp, item_at-puts}
 use Rattle.locking.specs.declared.range.RangeRow.{RangeRow}
-use Rattle.shadow_mbr.specs.Stored.{Stored as Mbr, sector_size, byte_at}
+use Rattle.shadow_mbr.specs.Stored.{sector_size}
 use Rattle.transactions.specs.Resets.{is_range}
 use Rattle.transactions.specs.Bytes.{bytes_in}
-use Rattle.transactions.specs.Stored.{Part, part_of, part, new_store}
-use Rattle.history.specs.Opening.{Origin, factory_origin, life_cycle, pin, activated_origin, changes_of, row_fault, with_range, unless, origin_after, origin_with}
+use Rattle.transactions.specs.Stored.{part_of, part, new_store}
+use Rattle.history.specs.Opening.{Origin, factory_origin, life_cycle, pin, activated_origin, changes_of, row_fault, with_range, unless, origin_after}
 use Rattle.history.specs.Readers.{open_on, tries, rows_after}
 use Rattle.history.specs.Events.{Event}
 use Rattle.history.specs.Agreement.{HasNoTries}
 use Rattle.history.specs.KeptStore.{in_family, is_cleared, has_locks, HasKnownRows, KeepsPart, StoreOpeningLaw, KnownRowsLaw}
 use Rattle.history.proofs.CellLaws.{puts-none}
-use Rattle.history.proofs.KeptStoreRows.{ShowRows, ShowTries, without-shows, among-shows}
+use Rattle.history.proofs.KeptStoreRows.{without-shows, among-shows}
 use Rattle.history.proofs.KeptStoreParts.{closed-part}
 use Rattle.history.proofs.KeptStoreBytes.{closed-bytes, in-length, in-zeros}
 

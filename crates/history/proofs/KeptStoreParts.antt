@@ -1,19 +1,18 @@
 -- What is kept of one SP, after one more event.
-use Rattle.std.proofs.Common.{◌≡◌, ℕ, ◌==◌, ◌*◌, ◌+◌, Bool, true, false, List, [], ◌∷◌, ◌++◌, Option, Some, None, refl, sym, ◌∙◌, ap, cond, length}
-use Rattle.std.specs.Prelude.{is_some, option_map, option_to_list, slice_index}
+use Rattle.std.proofs.Common.{◌≡◌, ℕ, false, List, [], ◌∷◌, Option, Some, None, refl, sym, ◌∙◌, ap, cond}
+use Rattle.std.specs.Prelude.{is_some, option_map}
 use Rattle.std.proofs.lemmas.Bool.{eq-eqb}
 use Rattle.sp_cells.specs.declared.names.Uid.{Uid}
 use Rattle.sp_cells.specs.declared.names.Sp.{Sp}
-use Rattle.sp_cells.specs.declared.names.Column.{Column}
 use Rattle.sp_rows.specs.Items.{Item, item_at}
 use Rattle.sp_tables.specs.Looks.{RowLook}
-use Rattle.transactions.specs.Stored.{Transaction, Part, rows_seen, part_begin, part_commit, part_close}
+use Rattle.transactions.specs.Stored.{Transaction, Part, rows_seen, part_begin, part_commit}
 use Rattle.methods.specs.Settings.{Setting}
-use Rattle.methods.specs.Effects.{part_with, rows_with}
+use Rattle.methods.specs.Effects.{part_with}
 use Rattle.history.specs.Opening.{Origin}
 use Rattle.history.specs.Changes.{Sets, apply, apply_all}
 use Rattle.history.specs.Events.{Deed, Response, InSession, Changed, Began, Committed, Event}
-use Rattle.history.specs.Readers.{turns, begins, changes_on, brought, own_changes, if_open, open_on, rows_after, rows_within, tries, tries_then, factory_rows}
+use Rattle.history.specs.Readers.{turns, begins, changes_on, brought, own_changes, if_open, open_on, rows_after, rows_within, tries, factory_rows}
 use Rattle.history.specs.KeptStore.{but_tries, tries_alone, KeepsPart}
 use Rattle.history.proofs.Steps.{spared, begun-within, set-outside, set-inside, committed}
 use Rattle.history.proofs.KeptStoreRows.{ShowRows, ShowTries, SamePlaces, shows-places, setting-shows, setting-places, counts-same}
@@ -102,14 +101,14 @@ set-by p o e past sp st r h is same stays (Some t) has =
       tries = λ object column. counts object column ∙ ap (λ x. tries_alone (tries (e ∷ past) sp) x object column) (sym step.0);
       transaction = sym (stays ∙ opens);
       within = λ t' is' object column.
-      ap (λ (x : Transaction). item_at x.rows object column) (sym (some-same is'))
-      ∙ setting-shows (factory_rows o sp) st t.rows seen (λ object column. h.within t has object column) object column
-      ∙ ap (λ x. but_tries x object column) (sym step.1);
+          ap (λ (x : Transaction). item_at x.rows object column) (sym (some-same is'))
+          ∙ setting-shows (factory_rows o sp) st t.rows seen (λ object column. h.within t has object column) object column
+          ∙ ap (λ x. but_tries x object column) (sym step.1);
       places = λ object column.
-      places-of (rows_within o (e ∷ past) sp) (apply (factory_rows o sp) (Sets st) seen) step.1 object column
-      ∙ sym (setting-places (factory_rows o sp) st seen object column)
-      ∙ h.places object column
-      ∙ places-of rows (rows_after o (e ∷ past) sp) (sym step.0) object column;
+          places-of (rows_within o (e ∷ past) sp) (apply (factory_rows o sp) (Sets st) seen) step.1 object column
+          ∙ sym (setting-places (factory_rows o sp) st seen object column)
+          ∙ h.places object column
+          ∙ places-of rows (rows_after o (e ∷ past) sp) (sym step.0) object column;
     }
 
 pub set-part : (p : Part) (o : Origin) (e : Event) (past : List Event) (sp : Sp) (st : Setting) (r : Response) → KeepsPart p o past sp → e.deed ≡ InSession (Changed sp (Sets st)) r → ((u : Uid) → tries (e ∷ past) sp u ≡ tries past sp u)

@@ -1,5 +1,5 @@
 -- The Tries that are kept, after an attempt and after a reset.
-use Rattle.std.proofs.Common.{◌≡◌, ◌≤◌, ℕ, zero, suc, ◌==◌, ◌+◌, ◌^◌, ◌-◌, Bool, true, false, ◌&&◌, ◌||◌, List, [], ◌∷◌, Option, Some, None, refl, sym, ◌∙◌, ap, cond, eqb-true, min, arith}
+use Rattle.std.proofs.Common.{◌≡◌, ◌≤◌, ℕ, zero, suc, ◌==◌, ◌+◌, Bool, true, false, ◌&&◌, ◌||◌, List, Option, Some, None, refl, sym, ◌∙◌, ap, cond, eqb-true, arith}
 use Rattle.std.specs.Prelude.{is_some, option_map}
 use Rattle.std.proofs.Math.Path.{fun_ext}
 use Rattle.std.proofs.lemmas.Bool.Decides.{nat_tests}
@@ -17,19 +17,17 @@ use Rattle.sp_cells.specs.Ranges.{number, number_in}
 use Rattle.sp_rows.specs.Items.{Item, item_at, with_item}
 use Rattle.sp_tables.specs.AtReset.{has_kind, admin_tries_after, locking_tries_after}
 use Rattle.sp_tables.specs.Looks.{RowLook}
-use Rattle.sp_tables.specs.Tries.{is_pin, is_tries, family_cleared, admin_cleared, locking_cleared}
+use Rattle.sp_tables.specs.Tries.{is_tries, family_cleared, admin_cleared, locking_cleared}
 use Rattle.sp_tables.proofs.ChangeLemmas.{item_at-with_item}
-use Rattle.audit.specs.declared.reason.AttemptFailure.{AttemptFailure}
 use Rattle.transactions.specs.Resets.{is_range, is_lock, locks_seen, done_seen}
-use Rattle.transactions.specs.Stored.{Part, Stored, part}
+use Rattle.transactions.specs.Stored.{Stored}
 use Rattle.sessions.specs.Answers.{up, in_force as rows_in_force}
-use Rattle.history.specs.Opening.{Origin, factory_origin}
+use Rattle.history.specs.Opening.{Origin}
 use Rattle.history.specs.Changes.{reset_rows}
 use Rattle.history.specs.Events.{Event, since, count}
-use Rattle.history.specs.Readers.{changes, factory_rows, rows_after, tries, most_tries, one_more, same_row, in_force}
+use Rattle.history.specs.Readers.{changes, factory_rows, rows_after, tries, most_tries, one_more, in_force}
 use Rattle.history.specs.TriesLaw.{fails_pin, clears_tries, capped}
-use Rattle.history.specs.KeptStore.{tries_alone, in_family, is_cleared, has_locks, HasKnownRows, KeepsPart, KeepsStore}
-use Rattle.history.proofs.Words.{sp-same}
+use Rattle.history.specs.KeptStore.{tries_alone, in_family, is_cleared, has_locks, HasKnownRows, KeepsStore}
 use Rattle.history.proofs.CellLaws.{changes-none}
 use Rattle.history.proofs.TriesLaws.{tries_law}
 use Rattle.history.proofs.KeptStoreRows.{ShowTries, column-is, twice, counts-same}
@@ -116,6 +114,7 @@ row-none is row o c h = item_at-with_item is row o tries_column c (Number 0) ∙
   where
     nowhere : Option Cell
     nowhere = None
+
     by_place : (b : Bool) → cond b (option_map (λ _. Number 0) nowhere) nowhere ≡ None
     by_place true = refl
     by_place false = refl
@@ -138,6 +137,7 @@ clear-shows sp is counted new rows h unknown zeros o c = by_tries (is_tries o c)
     by_row false here is_b =
         let none : rows o c ≡ None = unknown o c here is_b in
         ap (option_map (λ _. Number (counted o))) none ∙ ap (option_map (λ _. Number (new o))) (sym none)
+
     by_tries : (b : Bool) → is_tries o c ≡ b → item_at is o c ≡ cond b (option_map (λ _. Number (counted o)) (rows o c)) None → item_at (cleared-on sp is) o c ≡ cond b (option_map (λ _. Number (new o)) (rows o c)) None
     by_tries true here g =
         cleared-at sp is o c (column-is o c (tries_column.0 == c.0) refl here)
@@ -183,8 +183,10 @@ admin-reset o past kind known =
   where
     rows : RowLook
     rows = rows_after o past Admin
+
     locks : locks_seen (RANGES + 1) kind rows ≡ rows
     locks = fun_ext (λ u. fun_ext (λ c. unlocked kind (is_range (RANGES + 1) u) (is_lock c) (rows u lock_on_reset_column) (rows u c) (λ is. no-locks o past u lock_on_reset_column known (range-locks (is_range (RANGES + 1) u) (mbr_control.0 == u.0) is))))
+
     shadow-locks : (a : Bool) → (a || true) ≡ true
     shadow-locks true = refl
     shadow-locks false = refl

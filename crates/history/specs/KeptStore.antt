@@ -27,7 +27,7 @@ use Rattle.methods.specs.Effects.{set_stored}
 use Rattle.locking.specs.declared.range.RangeRow.{RangeRow}
 use Rattle.history.specs.Opening.{Origin, factory_origin, origin_with}
 use Rattle.history.specs.Changes.{Change, Sets, Restores, Resets, byte_in}
-use Rattle.history.specs.Events.{Attempt, SessionDeed, Unchanged, Started, Tried, Changed, Began, Committed, Aborted, Ended, Activated, Reverted, Deed, Nothing, InSession, OfQueue, Wrote, Took, WasReset, Event}
+use Rattle.history.specs.Events.{SessionDeed, Unchanged, Started, Tried, Changed, Began, Committed, Aborted, Ended, Activated, Reverted, Deed, Nothing, InSession, OfQueue, Wrote, Took, WasReset, Event}
 use Rattle.history.specs.Readers.{changes, open_changes, open_on, rows_after, rows_within, tries, in_force, view, byte_in_force, byte_in_view}
 use Rattle.history.specs.Agreement.{HasNoTries}
 
@@ -46,7 +46,8 @@ pub record KeepsPart (p : Part) (o : Origin) (past : List Event) (sp : Sp) : Typ
   pub rows : (object : Uid) (column : Column)
       → item_at p.rows object column ≡ but_tries (rows_after o past sp) object column
   pub tries : (object : Uid) (column : Column)
-      → item_at p.tries object column ≡ tries_alone (tries past sp) (rows_after o past sp) object column
+      → item_at p.tries object column
+      ≡ tries_alone (tries past sp) (rows_after o past sp) object column
   pub transaction : option_map (λ t. t.tsn) p.pending ≡ open_on past sp
   pub within : (t : Transaction) → p.pending ≡ Some t → (object : Uid) (column : Column)
       → item_at t.rows object column ≡ but_tries (rows_within o past sp) object column
@@ -60,7 +61,8 @@ pub record KeepsBytes (p : Part) (o : Origin) (past : List Event) : Type 0 where
   pub size_within : (t : Transaction) → p.pending ≡ Some t
       → length t.bytes ≡ sector_size * o.tables.config.mbr_sectors
   pub within : (t : Transaction) → p.pending ≡ Some t → (place : ℕ)
-      → slice_index t.bytes place ≡ byte_in (open_changes past Locking ++ changes past Locking) place
+      → slice_index t.bytes place
+      ≡ byte_in (open_changes past Locking ++ changes past Locking) place
 
 -- The C_PIN rows whose Tries a power cycle clears.
 unfoldable pub in_family : (ℕ → Uid) → ℕ → Uid → Bool
@@ -178,4 +180,5 @@ pub record ReadsStore (s : Stored) (o : Origin) (past : List Event) : Type 0 whe
       ≡ byte_in_view past number place
 
 abbrev pub StoreReadLaw : Type 0
-StoreReadLaw = (s : Stored) (o : Origin) (past : List Event) → KeepsStore s o past → ReadsStore s o past
+StoreReadLaw =
+    (s : Stored) (o : Origin) (past : List Event) → KeepsStore s o past → ReadsStore s o past
