@@ -41,7 +41,7 @@ mapped-none f x h = ap (option_map f) h
 put-none : (object : Uid) (column : Column) (v : Cell) (rows : RowLook) (o : Uid) (c : Column) → rows o c ≡ None → put_in object column v rows o c ≡ None
 put-none object column v rows o c h = none-if ((object.0 == o.0) && (column.0 == c.0)) _ (rows o c) (mapped-none (λ _. v) (rows o c) h) h
 
-puts-none : (object : Uid) (cells : List (Column × Cell)) (rows : RowLook) (o : Uid) (c : Column) → rows o c ≡ None → puts_in object cells rows o c ≡ None
+pub puts-none : (object : Uid) (cells : List (Column × Cell)) (rows : RowLook) (o : Uid) (c : Column) → rows o c ≡ None → puts_in object cells rows o c ≡ None
 puts-none object [] rows o c h = h
 puts-none object (p ∷ ps) rows o c h = puts-none object ps (put_in object p.0 p.1 rows) o c (put-none object p.0 p.1 rows o c h)
 
@@ -57,7 +57,7 @@ change-none factory rows (Sets (bytes_set place content)) o c f h = h
 change-none factory rows Restores o c f h = f
 change-none factory rows (Resets kind) o c f h = reset-none kind rows o c h
 
-changes-none : (factory rows : RowLook) (cs : List Change) (o : Uid) (c : Column) → factory o c ≡ None → rows o c ≡ None → apply_all factory cs rows o c ≡ None
+pub changes-none : (factory rows : RowLook) (cs : List Change) (o : Uid) (c : Column) → factory o c ≡ None → rows o c ≡ None → apply_all factory cs rows o c ≡ None
 changes-none factory rows [] o c f h = h
 changes-none factory rows (x ∷ xs) o c f h = change-none factory (apply_all factory xs rows) x o c f (changes-none factory rows xs o c f h)
 

@@ -1,5 +1,5 @@
 -- What is read of a store that keeps what the past says.
-use Rattle.std.proofs.Common.{◌≡◌, ℕ, ◌==◌, ◌*◌, Bool, true, false, List, [], ◌++◌, Option, Some, None, refl, sym, ◌∙◌, ap, cond}
+use Rattle.std.proofs.Common.{◌≡◌, ℕ, ◌==◌, Bool, true, false, List, ◌++◌, Option, Some, None, refl, sym, ◌∙◌, ap, cond}
 use Rattle.std.specs.Prelude.{is_some, option_map, slice_index}
 use Rattle.std.specs.Option.{option_or}
 use Rattle.std.proofs.Math.Path.{fun_ext}
@@ -9,7 +9,6 @@ use Rattle.sp_cells.specs.declared.names.Sp.TheVariants.{Admin, Locking}
 use Rattle.sp_cells.specs.declared.names.Column.{Column}
 use Rattle.sp_cells.specs.declared.cells.Cell.{Cell}
 use Rattle.sp_cells.specs.declared.cells.Cell.TheVariants.{Number}
-use Rattle.sp_cells.specs.Flat.{LookUp}
 use Rattle.sp_rows.specs.Items.{item_at}
 use Rattle.sp_tables.specs.Looks.{RowLook}
 use Rattle.sp_tables.specs.Tries.{is_tries}
@@ -20,18 +19,12 @@ use Rattle.history.specs.Changes.{with_tries, byte_in}
 use Rattle.history.specs.Events.{Event}
 use Rattle.history.specs.Readers.{changes, open_changes, open_on, rows_after, rows_within, tries, is_of, in_force, view, byte_in_force, byte_in_view}
 use Rattle.history.specs.KeptStore.{but_tries, tries_alone, KeepsPart, KeepsBytes, KeepsStore, StoreReadLaw}
+use Rattle.history.proofs.KeptStoreRows.{alone-if}
 
 -- rows and Tries apart are both together
 or-none : (x : Option Cell) → option_or x None ≡ x
 or-none None = refl
 or-none (Some v) = refl
-
--- a cell of Tries shows only whether it is there
-alone-if : (k : ℕ) (x y : Option Cell) → is_some x ≡ is_some y → option_map (λ _. Number k) x ≡ option_map (λ _. Number k) y
-alone-if k None None h = refl
-alone-if k None (Some v) h = cc
-alone-if k (Some u) None h = cc
-alone-if k (Some u) (Some v) h = refl
 
 joined : (b : Bool) (k : ℕ) (x y : Option Cell) → is_some x ≡ is_some y → option_or (cond b (option_map (λ _. Number k) y) None) (cond b None x) ≡ cond b (option_map (λ _. Number k) x) x
 joined true k x y h = or-none _ ∙ alone-if k y x (sym h)

@@ -28,7 +28,7 @@ apply_all-append factory rows (c ∷ cs) ds = ap (apply factory c) (apply_all-ap
 pub rows-brought : (o : Origin) (e : Event) (es : List Event) (s : Sp) → rows_after o (e ∷ es) s ≡ apply_all (factory_rows o s) (brought es s e.deed) (rows_after o es s)
 rows-brought o e es s = apply_all-append (factory_rows o s) _ (brought es s e.deed) (changes es s)
 
-rows-by : (o : Origin) (e : Event) (es : List Event) (s : Sp) (cs : List Change) → brought es s e.deed ≡ cs → rows_after o (e ∷ es) s ≡ apply_all (factory_rows o s) cs (rows_after o es s)
+pub rows-by : (o : Origin) (e : Event) (es : List Event) (s : Sp) (cs : List Change) → brought es s e.deed ≡ cs → rows_after o (e ∷ es) s ≡ apply_all (factory_rows o s) cs (rows_after o es s)
 rows-by o e es s cs h = rows-brought o e es s ∙ ap (λ xs. apply_all (factory_rows o s) xs (rows_after o es s)) h
 
 -- the transaction of an SP

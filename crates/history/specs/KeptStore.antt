@@ -6,10 +6,10 @@ use Rattle.sp_cells.specs.declared.names.Sp.{Sp}
 use Rattle.sp_cells.specs.declared.names.Sp.TheVariants.{Admin, Locking}
 use Rattle.sp_cells.specs.declared.names.Column.{Column}
 use Rattle.sp_cells.specs.declared.cells.Cell.TheVariants.{Number}
-use Rattle.sp_cells.specs.declared.names.TheConstants.{USERS, ADMINS}
+use Rattle.sp_cells.specs.declared.names.TheConstants.{USERS, ADMINS, RANGES}
 use Rattle.sp_cells.specs.Config.{Config}
 use Rattle.sp_cells.specs.ColumnNames.{tries_column}
-use Rattle.sp_cells.specs.Names.{c_pin_sid, c_pin_msid, admin_pin_uid, user_pin_uid}
+use Rattle.sp_cells.specs.Names.{c_pin_sid, c_pin_msid, admin_pin_uid, user_pin_uid, mbr_control}
 use Rattle.sp_cells.specs.Ranges.{number}
 use Rattle.sp_rows.specs.Items.{item_at}
 use Rattle.sp_tables.specs.Contents.{Contents, look_up as cells_of}
@@ -19,6 +19,7 @@ use Rattle.shadow_mbr.specs.Stored.{Stored as Bytes, sector_size, byte_at}
 use Rattle.audit.specs.declared.reason.AttemptFailure.{AttemptFailure}
 use Rattle.audit.specs.declared.reason.AttemptFailure.TheVariants.{WrongPin, LockedOut, Disabled, Unknown}
 use Rattle.transactions.specs.Stored.{Transaction, Part, Stored, part, at_part, part_begin, part_commit, part_close, part_tries, bytes_seen, new_store, reverted, after_reset}
+use Rattle.transactions.specs.Resets.{is_range}
 use Rattle.transactions.specs.Sights.{look_up, committed_sight, side_at, side_for, activated_with}
 use Rattle.sessions.specs.Answers.{in_force as rows_in_force, up}
 use Rattle.methods.specs.Settings.{Setting, cells_set, bytes_set, is_within}
@@ -26,7 +27,7 @@ use Rattle.methods.specs.Effects.{set_stored}
 use Rattle.locking.specs.declared.range.RangeRow.{RangeRow}
 use Rattle.history.specs.Opening.{Origin, factory_origin, origin_with}
 use Rattle.history.specs.Changes.{Change, Sets, Restores, Resets, byte_in}
-use Rattle.history.specs.Events.{Attempt, SessionDeed, Unchanged, Started, Tried, Changed, Began, Committed, Aborted, Ended, Activated, Reverted, Deed, Nothing, InSession, OfQueue, Wrote, Took, WasReset, Event}
+use Rattle.history.specs.Events.{SessionDeed, Unchanged, Started, Tried, Changed, Began, Committed, Aborted, Ended, Activated, Reverted, Deed, Nothing, InSession, OfQueue, Wrote, Took, WasReset, Event}
 use Rattle.history.specs.Readers.{changes, open_changes, open_on, rows_after, rows_within, tries, in_force, view, byte_in_force, byte_in_view}
 use Rattle.history.specs.Agreement.{HasNoTries}
 
@@ -45,7 +46,8 @@ pub record KeepsPart (p : Part) (o : Origin) (past : List Event) (sp : Sp) : Typ
   pub rows : (object : Uid) (column : Column)
       → item_at p.rows object column ≡ but_tries (rows_after o past sp) object column
   pub tries : (object : Uid) (column : Column)
-      → item_at p.tries object column ≡ tries_alone (tries past sp) (rows_after o past sp) object column
+      → item_at p.tries object column
+      ≡ tries_alone (tries past sp) (rows_after o past sp) object column
   pub transaction : option_map (λ t. t.tsn) p.pending ≡ open_on past sp
   pub within : (t : Transaction) → p.pending ≡ Some t → (object : Uid) (column : Column)
       → item_at t.rows object column ≡ but_tries (rows_within o past sp) object column
@@ -59,7 +61,8 @@ pub record KeepsBytes (p : Part) (o : Origin) (past : List Event) : Type 0 where
   pub size_within : (t : Transaction) → p.pending ≡ Some t
       → length t.bytes ≡ sector_size * o.tables.config.mbr_sectors
   pub within : (t : Transaction) → p.pending ≡ Some t → (place : ℕ)
-      → slice_index t.bytes place ≡ byte_in (open_changes past Locking ++ changes past Locking) place
+      → slice_index t.bytes place
+      ≡ byte_in (open_changes past Locking ++ changes past Locking) place
 
 -- The C_PIN rows whose Tries a power cycle clears.
 unfoldable pub in_family : (ℕ → Uid) → ℕ → Uid → Bool
@@ -71,15 +74,21 @@ is_cleared Admin object = (c_pin_sid.0 == object.0) || (c_pin_msid.0 == object.0
 is_cleared Locking object =
     in_family admin_pin_uid ADMINS object || in_family user_pin_uid USERS object
 
--- No other row of what a drive starts from counts attempts.
-abbrev pub HasKnownTries : Origin → Type 0
-HasKnownTries o =
-    (sp : Sp) (object : Uid) (column : Column) → is_tries object column ≡ true
-    → is_cleared sp object ≡ false → cells_of o.tables sp object column ≡ None
+-- The rows that a reset may lock or release.
+abbrev pub has_locks : Uid → Bool
+has_locks object = is_range (RANGES + 1) object || (mbr_control.0 == object.0)
+
+-- A reset finds all that it changes in what a drive starts from: no other row counts attempts, and
+-- the Admin SP has no ranges and no shadow.
+pub record HasKnownRows (o : Origin) : Type 0 where
+  pub tries : (sp : Sp) (object : Uid) (column : Column) → is_tries object column ≡ true
+      → is_cleared sp object ≡ false → cells_of o.tables sp object column ≡ None
+  pub locks : (object : Uid) (column : Column) → has_locks object ≡ true
+      → cells_of o.tables Admin object column ≡ None
 
 pub record KeepsStore (s : Stored) (o : Origin) (past : List Event) : Type 0 where
   pub config : s.config ≡ o.tables.config
-  pub known : HasKnownTries o
+  pub known : HasKnownRows o
   pub parts : (sp : Sp) → KeepsPart (part s sp) o past sp
   pub bytes : KeepsBytes s.locking o past
 
@@ -145,15 +154,15 @@ StoresBy (WasReset kind) s t = t ≡ after_reset kind s
 abbrev pub StoreOpeningLaw : Type 0
 StoreOpeningLaw =
     (tables : Contents) (mbr : Bytes) → HasNoTries (record { tables = tables })
-    → HasKnownTries (record { tables = tables })
+    → HasKnownRows (record { tables = tables })
     → mbr.sectors ≡ tables.config.mbr_sectors → ((place : ℕ) → byte_at mbr place ≡ 0)
     → KeepsStore (new_store tables mbr) (record { tables = tables }) []
 
--- The tables of a new drive, and those of each opening, count in no other row.
-abbrev pub KnownTriesLaw : Type 0
-KnownTriesLaw =
-    (config : Config) → HasKnownTries (factory_origin config)
-    × ((rows : List RangeRow) (o : Origin) → origin_with config rows ≡ Ok o → HasKnownTries o)
+-- The tables of a new drive are so, and those of each opening.
+abbrev pub KnownRowsLaw : Type 0
+KnownRowsLaw =
+    (config : Config) → HasKnownRows (factory_origin config)
+    × ((rows : List RangeRow) (o : Origin) → origin_with config rows ≡ Ok o → HasKnownRows o)
 
 -- What a deed makes of a store keeps what one more event says.
 abbrev pub StoreLaw : Type 0
@@ -171,4 +180,5 @@ pub record ReadsStore (s : Stored) (o : Origin) (past : List Event) : Type 0 whe
       ≡ byte_in_view past number place
 
 abbrev pub StoreReadLaw : Type 0
-StoreReadLaw = (s : Stored) (o : Origin) (past : List Event) → KeepsStore s o past → ReadsStore s o past
+StoreReadLaw =
+    (s : Stored) (o : Origin) (past : List Event) → KeepsStore s o past → ReadsStore s o past
