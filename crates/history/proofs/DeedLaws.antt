@@ -24,7 +24,6 @@ use Rattle.sp_cells.specs.Names.{properties, start_session}
 use Rattle.history.specs.Sessions.{Begun}
 use Rattle.call_shapes.specs.Statuses.{fail}
 use Rattle.sessions.specs.Properties.{properties_message}
-use Rattle.tcg_tokens.specs.Length.{len_of}
 use Rattle.call_shapes.specs.Carried.{is_carried}
 use Rattle.call_shapes.specs.Statuses.{success}
 use Rattle.methods.specs.declared.kinds.Kind.{Kind}

@@ -34,7 +34,6 @@ use Rattle.sessions.specs.declared.opening.StartVerdict.{StartVerdict}
 use Rattle.sessions.specs.declared.opening.StartVerdict.TheVariants.{Refused, Attempted}
 use Rattle.sessions.specs.Starts.{opening_of, host_of, denied_with}
 use Rattle.call_shapes.specs.Named.{values_of}
-use Rattle.tcg_tokens.specs.Length.{len_of}
 use Rattle.call_shapes.specs.Carried.{is_carried}
 use Rattle.methods.specs.Settings.{Setting}
 use Rattle.methods.specs.Said.{reply_of, said_attempt}

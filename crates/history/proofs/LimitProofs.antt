@@ -1,59 +1,32 @@
 -- A wrong PIN counts below the limit alone.
-use Rattle.std.proofs.Common.{◌≡◌, ℕ, ◌==◌, ◌+◌, Bool, true, false, not, ◌||◌, map, List, [], ◌∷◌, ◌++◌, Option, Some, None, refl, sym, ◌∙◌, ap, cond, inl, inr, eqb-true, eq-eqb}
-use Rattle.std.specs.Prelude.{◌-◌, nat_le, nat_lt, zero, suc, unwrap_or, Result, Ok, Err}
-use Rattle.std.specs.List.{list_any}
+use Rattle.std.proofs.Common.{◌≡◌, ℕ, ◌==◌, Bool, true, false, not, ◌||◌, List, Option, Some, None, refl, sym, ◌∙◌, ap, cond, inl, inr}
+use Rattle.std.specs.Prelude.{zero, suc, Result, Ok, Err}
 use Rattle.sp_cells.specs.declared.names.Uid.{Uid}
 use Rattle.sp_cells.specs.declared.names.Sp.{Sp}
 use Rattle.sp_cells.specs.declared.names.Sp.TheVariants.{Admin, Locking}
-use Rattle.sp_cells.specs.declared.names.Column.{Column}
-use Rattle.sp_cells.specs.declared.cells.Cell.{Cell}
-use Rattle.sp_cells.specs.declared.error.SetError.{SetError}
-use Rattle.sp_cells.specs.Names.{set, activate, revert, c_pin_sid, anybody}
-use Rattle.ace_eval.specs.Aces.{acl_at}
+use Rattle.sp_cells.specs.Names.{set, c_pin_sid, anybody}
 use Rattle.audit.specs.declared.reason.AttemptFailure.{AttemptFailure}
-use Rattle.audit.specs.declared.reason.Why.{Why}
 use Rattle.tcg_tokens.specs.declared.error.TokenError.{TokenError}
 use Rattle.tcg_tokens.specs.Message.{Message, call, reply, end_session, begin, end}
-use Rattle.tcg_tokens.specs.Tree.{Tree, Trees}
-use Rattle.history.specs.Opening.{Origin}
-use Rattle.history.specs.Changes.{Change, Sets}
 use Rattle.sp_cells.specs.ColumnNames.{pin_column, try_limit_column, tries_column, is_class_column, enabled_column}
 use Rattle.sessions.specs.Attempts.{failure as failure_of, credential, is_pin, is_used_up}
 use Rattle.call_shapes.specs.Asks.{uid_of}
 use Rattle.sp_cells.specs.Names.{properties, start_session}
 use Rattle.history.specs.Sessions.{Begun}
-use Rattle.call_shapes.specs.Statuses.{fail, success}
+use Rattle.call_shapes.specs.Statuses.{fail}
 use Rattle.sessions.specs.Properties.{properties_message}
-use Rattle.tcg_tokens.specs.Length.{len_of}
-use Rattle.call_shapes.specs.Carried.{is_carried}
-use Rattle.methods.specs.declared.kinds.Kind.{Kind}
-use Rattle.methods.specs.declared.kinds.Kind.TheVariants as kinds
-use Rattle.methods.specs.Kinds.{kind_of}
-use Rattle.methods.specs.Columns.{set_types_of}
-use Rattle.methods.specs.Settings.{cells_for, is_within, Setting, cells_set, bytes_set, setting_of_cells, cells_of_ask, bytes_of_ask, setting}
-use Rattle.methods.specs.Said.{reply_of}
-use Rattle.call_shapes.specs.Limits.{most_response}
-use Rattle.methods.specs.Effects.{has_ask, last_row, unless_fault, sp_of_row}
-use Rattle.sp_cells.specs.declared.values.ColumnType.{ColumnType}
-use Rattle.history.specs.Calls.{asked, Standing, Judgement, Refuses, Gives, Makes, Attempts, Activates, Reverts, denial, gives, listing, table_size, bytes_between, rows_given, fault_by, valid, to_set, makes, unless_open, does_ask, does, unless_denied, judged}
+use Rattle.history.specs.Calls.{Judgement, Refuses, Gives, Makes, Attempts, Activates, Reverts}
 use Rattle.sessions.specs.declared.opening.Opening.{Opening}
 use Rattle.sessions.specs.declared.opening.StartVerdict.{StartVerdict}
 use Rattle.sessions.specs.declared.opening.StartVerdict.TheVariants.{Refused, Attempted}
 use Rattle.sessions.specs.Live.{Live, lives_on}
 use Rattle.sessions.specs.Starts.{opening_of, is_in_use, sp_named, is_full, verdict_on}
 use Rattle.call_shapes.specs.Named.{values_of}
-use Rattle.sp_cells.specs.Flat.{LookUp, sp_eq}
-use Rattle.call_shapes.specs.declared.ask.Ask.{Ask}
-use Rattle.call_shapes.specs.declared.ask.Ask.TheVariants.{GetCells, GetBytes, SetCells, SetBytes, Authenticate, Activate, Revert, Other}
-use Rattle.history.specs.Events.{SessionDeed, Unchanged, Started, Tried, Changed, Began, Committed, Aborted, Ended, Activated, Reverted, Deed, Nothing, InSession, OfQueue, Wrote, Took, WasReset, Event}
-use Rattle.history.specs.Readers.{living, lives_by, restores, session_on, open_on, is_of, in_force}
-use Rattle.history.specs.Facts.{facts, numbered, live, has_open, standing, Facts}
-use Rattle.history.specs.Decisions.{refusal, Outcome, says, tried_in, start_verdict, deed_of_start, start_deed, started, is_method_of_manager, to_manager, outcome_of, judgement_on, begins_on, ended_by, ends_on, in_session}
-use Rattle.history.specs.Deeds.{IsIn, is_of_row, is_inside, CanDo, DeedLaw}
-use Rattle.history.proofs.Words.{latest-here, latest-skip, sp-is, sp-same}
+use Rattle.sp_cells.specs.Flat.{LookUp}
+use Rattle.history.specs.Events.{SessionDeed, Unchanged, Tried, Activated}
+use Rattle.history.specs.Facts.{live, has_open, Facts}
+use Rattle.history.specs.Decisions.{refusal, Outcome, says, start_verdict, deed_of_start, start_deed, started, is_method_of_manager, to_manager, outcome_of, judgement_on, begins_on, ends_on, in_session}
 use Rattle.history.proofs.Items.{item-from}
-use Rattle.history.proofs.MethodProofs.{denial-none, granted-row}
-use Rattle.history.proofs.Asked.{is_own, asked-own, activate-admin, revert-admin, set-c_pin_sid}
 use Rattle.sp_cells.specs.Ranges.{number}
 use Rattle.audit.specs.declared.reason.AttemptFailure.TheVariants.{WrongPin, LockedOut, Disabled, Unknown}
 use Rattle.sessions.specs.Known.{is_known}

@@ -1,19 +1,12 @@
 -- The bytes and FISes that an act gives, by the facts (Serial ATA; ACS-3, IDENTIFY DEVICE and log
 -- page 10h; Opal SSC 2.01, section 3.1.1, Level 0 discovery).
-use Rattle.std.specs.Prelude.{ℕ, zero, suc, ◌+◌, ◌-◌, ◌*◌, ◌/◌, ◌%◌, ◌^◌, ◌==◌, Bool, true, false, ◌&&◌, ◌||◌, nat_le, List, [], ◌∷◌, ◌++◌, length, take, replicate, Option, Some, None, is_some, unwrap_or, Result, Ok, Err, if◌then◌else◌}
-use Rattle.std.specs.List.{flat_map, list_any}
+use Rattle.std.specs.Prelude.{ℕ, ◌*◌, ◌^◌, ◌==◌, Bool, true, false, nat_le, List, [], ◌∷◌, length, Option, Some, None, is_some, unwrap_or, Result, Ok, Err, if◌then◌else◌}
 use Rattle.device_data.specs.Discovery.{discovery}
 use Rattle.device_data.specs.Identity.{identity}
 use Rattle.device_data.specs.ErrorLog.{sized, error_log}
 use Rattle.fis.specs.H2d.{h2d_at}
 use Rattle.fis.specs.declared.any.Fis.{Fis}
 use Rattle.fis.specs.declared.any.Fis.TheVariants as fises
-use Rattle.sp_cells.specs.declared.names.TheConstants.{ADMINS, USERS}
-use Rattle.sp_cells.specs.declared.names.Sp.TheVariants.{Locking}
-use Rattle.sp_cells.specs.Authorities.{all_ranges}
-use Rattle.sp_cells.specs.Names.{mbr_control}
-use Rattle.sp_cells.specs.Ranges.{number, read_lock_enabled, write_lock_enabled, read_locked, write_locked}
-use Rattle.sp_cells.specs.ColumnNames.{mbr_enable_column, mbr_done_column}
 use Rattle.compacket.specs.Spelling.{com_packet_header}
 use Rattle.locking.specs.declared.range.Op.TheVariants.{Read}
 use Rattle.shadow_mbr.specs.Stored.{sector_size, sectors_from}
@@ -23,9 +16,7 @@ use Rattle.trusted_cmds.specs.declared.command.CommandError.{CommandError}
 use Rattle.trusted_cmds.specs.Commands.{reading}
 use Rattle.locking.specs.declared.ranges.Verdict.{Verdict}
 use Rattle.locking.specs.declared.ranges.Verdict.TheVariants.{Serve, Shadow, Denied}
-use Rattle.sessions.specs.Starts.{is_in_use}
 use Rattle.transactions.specs.Bytes.{bytes_from}
-use Rattle.device_data.specs.declared.log_page.Failure.{Failure}
 use Rattle.history.specs.Events.{HeldCommand, Held, Deed, OfQueue, Event}
 use Rattle.history.specs.Facts.{Facts}
 use Rattle.history.specs.Decisions.{verdict_on, discovery_com_id}

@@ -49,7 +49,6 @@ use Rattle.sessions.specs.Properties.{properties_message}
 use Rattle.methods.specs.Said.{reply_of, said_attempt}
 use Rattle.history.specs.Changes.{Sets}
 use Rattle.history.specs.Calls.{Judgement, Refuses, Gives, Makes, Attempts, Activates, Reverts, asked, judged}
-use Rattle.device_data.specs.declared.log_page.Failure.{Failure}
 use Rattle.history.specs.Events.{SessionDeed, Unchanged, Started, Tried, Changed, Began, Committed, Aborted, Ended, Activated, Reverted, HeldCommand, Held, Completed, CompletedWrite, QueueFailed, QueueMended, Deed, Nothing, InSession, OfQueue, Wrote, Took, Event, did}
 use Rattle.history.specs.Facts.{Facts, live, session_named, has_open, standing}
 

@@ -1,22 +1,20 @@
 -- What comes of an item, by what is kept, is what comes of it by the past: its answer, and what it
 -- makes of the store and of the sessions.
-use Rattle.std.specs.Prelude.{◌≡◌, ℕ, Bool, true, false, List, [], ◌∷◌, map, Option, None, Some, is_some, option_map}
+use Rattle.std.specs.Prelude.{◌≡◌, ℕ, Bool, false, List, Option, Some}
 use Rattle.sp_cells.specs.declared.names.Uid.{Uid}
-use Rattle.sp_cells.specs.declared.names.Sp.{Sp}
-use Rattle.tcg_tokens.specs.Tree.{Tree, Trees, tree}
+use Rattle.tcg_tokens.specs.Tree.{Tree, Trees}
 use Rattle.tcg_tokens.specs.Message.{Message}
 use Rattle.audit.specs.declared.reason.Why.{Why}
 use Rattle.call_shapes.specs.Named.{values_of}
 use Rattle.transactions.specs.Stored.{Stored}
 use Rattle.sessions.specs.Live.{Live, session_at, AreNumbered}
-use Rattle.sessions.specs.Starts.{start_reply, start_denied, start_stored, start_at, start_next, opening_of, host_of}
-use Rattle.methods.specs.Said.{Said}
+use Rattle.sessions.specs.Starts.{start_reply, start_denied, start_stored, start_at, start_next}
 use Rattle.methods.specs.Calls.{called_with, said_call, stored_call, holder_call}
 use Rattle.history.specs.Opening.{Origin}
 use Rattle.history.specs.Sessions.{Begun}
 use Rattle.history.specs.Events.{SessionDeed, Reverted, Event}
 use Rattle.history.specs.Readers.{session_on}
-use Rattle.history.specs.Facts.{Facts, facts}
+use Rattle.history.specs.Facts.{facts}
 use Rattle.history.specs.Decisions.{Outcome, outcome_of, judgement_on, started}
 use Rattle.history.specs.History.{Act, log}
 use Rattle.history.specs.KeptStore.{KeepsStore, StoresAs}
