@@ -12,7 +12,7 @@ ghost use Rattle.history.specs.Decisions.{is_session_com_id, sent, received, to_
 ghost use Rattle.history.specs.Events.{Event, WasReset, did};
 ghost use Rattle.history.specs.Facts.{facts};
 ghost use Rattle.history.specs.History.{Act, log};
-ghost use Rattle.history.specs.KeptStore.{HasKnownTries};
+ghost use Rattle.history.specs.KeptStore.{HasKnownRows};
 ghost use Rattle.history.specs.Opening.{Origin};
 ghost use Rattle.call_shapes.specs.Carried.{is_carried};
 ghost use Rattle.tcg_tokens.specs.Message.{message};
@@ -74,7 +74,7 @@ fn nothing() -> Sent
 impl Tper {
     /// No session lives, and nothing was done with the tables.
     pub fn new(alloc: Global, tables: Tables) -> Tper
-        ensures { HasNoTries (record { tables = tables }) → HasKnownTries (record { tables = tables })
+        ensures { HasNoTries (record { tables = tables }) → HasKnownRows (record { tables = tables })
             → Keeps result (record { tables = tables }) [] }
     {
         let mbr = Mbr::new(alloc, tables.config().mbr_sectors());
