@@ -3,6 +3,8 @@
 #![tactic(auto)]
 
 mod item;
+mod laws;
 mod response;
 
+pub use laws::laws_of_answers;
 pub use response::is_session_com_id;
