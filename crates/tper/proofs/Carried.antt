@@ -40,7 +40,7 @@ use Rattle.methods.specs.Settings.{Setting}
 use Rattle.methods.specs.Effects.{ask_at, is_inside, rows_said, last_row, bytes_from, set_said, to_set, unless_inside, tried, said_ask}
 use Rattle.methods.specs.Calls.{Called, denied_call, said_unless, said_shaped, said_call}
 
--- the answer of what is said can be carried
+-- The answer can be carried.
 abbrev Carries : Said → Type 0
 Carries said = is_carried said.answer ≡ true
 
@@ -135,7 +135,7 @@ call_carried s c = shaped_carried s c c.ask
 
 -- ---- an answer of the session manager
 
--- the most bytes of the spelling of a number: one of a header, three of its length, and eight
+-- a header is one byte, two or four
 length_header : (is_bytes : Bool) (len : ℕ) → length (header is_bytes len) ≤ 4
 length_header is_bytes len =
     elim (bool_cases (ltb len 16)) [
@@ -147,6 +147,7 @@ length_header is_bytes len =
           ]
     ]
 
+-- a number is spelled by a header and at most eight bytes
 length_number : (n : ℕ) → length (number_spelling n) ≤ 12
 unfolding number_spelling
 length_number n =
@@ -157,6 +158,7 @@ length_number n =
           rw (w, length-append) (omega (arith, length_header false (length content), length_significant (to_be_bytes w64 n)))
     ]
 
+-- the two names of the call, and the lengths of its parts
 manager_bytes : length (bytes_spelling (to_be_bytes w64 session_manager.0)) ≡ 9
 unfolding bytes_spelling
 manager_bytes = refl
@@ -182,6 +184,7 @@ length_sync host tsn status =
     let states = length_status (number_spelling status) (number_spelling 0) (number_spelling 0) in
     omega (arith, parts, states, manager_bytes, sync_bytes, length_number host, length_number tsn, length_number status, length_number 0)
 
+-- a SyncSession with numbers of 32 bits can be carried
 sync_carried : (host tsn status : ℕ) → host < 2 ^ 32 → tsn < 2 ^ 32 → status < 2 ^ 32 → is_carried (sync_message host tsn status) ≡ true
 sync_carried host tsn status h t k =
     let fits_host : fits_number host ≡ true = lt-ltb _ _ (omega arith) in
