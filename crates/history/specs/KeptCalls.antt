@@ -44,15 +44,15 @@ CallLaw =
     → session_on (log o acts) session.sp ≡ Some session
     → m.next ≡ l.next
     → ((n : ℕ) → session_at m n
-      ≡ holder_call s (called_with l (id_of session) object method (values_of args)) n (session_at l n))
+    ≡ holder_call s (called_with l (id_of session) object method (values_of args)) n (session_at l n))
     → Meets
-      (outcome_of (facts o (log o acts)) session.sp
-      (judgement_on (facts o (log o acts)) session object method args))
-      (said_call s (called_with l (id_of session) object method (values_of args))).answer
-      (said_call s (called_with l (id_of session) object method (values_of args))).denied
-      (said_call s (called_with l (id_of session) object method (values_of args))).wipe
-      s (stored_call s (called_with l (id_of session) object method (values_of args)))
-      l m
+    (outcome_of (facts o (log o acts)) session.sp
+    (judgement_on (facts o (log o acts)) session object method args))
+    (said_call s (called_with l (id_of session) object method (values_of args))).answer
+    (said_call s (called_with l (id_of session) object method (values_of args))).denied
+    (said_call s (called_with l (id_of session) object method (values_of args))).wipe
+    s (stored_call s (called_with l (id_of session) object method (values_of args)))
+    l m
 
 -- A StartSession.
 abbrev pub StartLaw : Type 0
@@ -62,5 +62,5 @@ StartLaw =
     → m.next ≡ start_next s l args
     → ((n : ℕ) → session_at m n ≡ start_at s l com_id args n)
     → Meets (started (facts o past) com_id args)
-      (start_reply s l args) (start_denied s l args) false
-      s (start_stored s l args) l m
+    (start_reply s l args) (start_denied s l args) false
+    s (start_stored s l args) l m

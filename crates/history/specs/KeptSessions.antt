@@ -1,6 +1,6 @@
 -- When the sessions that are kept are those of the past, and what each deed makes of them. By
 -- points: by their numbers.
-use Rattle.std.specs.Prelude.{◌≡◌, ◌<◌, ◌≤◌, ◌==◌, ◌+◌, ◌&&◌, ◌||◌, ℕ, Bool, true, false, List, [], ◌∷◌, Option, None, Some, is_some, option_map, if◌then◌else◌}
+use Rattle.std.specs.Prelude.{◌≡◌, ◌<◌, ◌==◌, ◌+◌, ◌&&◌, ◌||◌, ℕ, false, List, [], ◌∷◌, Option, None, Some, option_map, if◌then◌else◌}
 use Rattle.sp_cells.specs.declared.names.Uid.{Uid}
 use Rattle.sp_cells.specs.declared.names.Sp.{Sp}
 use Rattle.sp_cells.specs.declared.names.Sp.TheVariants.{Admin, Locking}
@@ -8,7 +8,7 @@ use Rattle.sp_cells.specs.Flat.{sp_eq}
 use Rattle.ace_eval.specs.Truth.{has}
 use Rattle.compacket.specs.declared.session.Session.{Session}
 use Rattle.transactions.specs.declared.change.SessionId.{SessionId}
-use Rattle.sessions.specs.Live.{Holder, Live, session_at, lives_on, found, unless_on}
+use Rattle.sessions.specs.Live.{Holder, Live, session_at, found, unless_on}
 use Rattle.methods.specs.Effects.{ended_by}
 use Rattle.history.specs.Opening.{Origin}
 use Rattle.history.specs.Sessions.{Begun, holder_of}
@@ -123,5 +123,5 @@ NamedLaw =
     (o : Origin) (live : Live) (past : List Event) (com_id : ℕ) (named : Session)
     → KeepsSessions live past
     → option_map (λ sp. record { tsn = named.tsn; sp = sp })
-      (found com_id named.hsn (session_at live named.tsn))
+    (found com_id named.hsn (session_at live named.tsn))
     ≡ option_map id_of (session_named (facts o past) com_id named)

@@ -1,5 +1,5 @@
 -- What is kept behind the ComIDs, and when it keeps what the past says.
-use Rattle.std.specs.Prelude.{◌≡◌, ℕ, ◌-◌, Bool, false, nat_le, List, length, slice_index_or, Option, None, Some, if◌then◌else◌}
+use Rattle.std.specs.Prelude.{◌≡◌, ◌==◌, ◌&&◌, ℕ, ◌-◌, Bool, false, nat_le, List, length, slice_index_or, Option, None, Some, if◌then◌else◌}
 use Rattle.audit.specs.declared.reason.Why.{Why}
 use Rattle.transactions.specs.Stored.{Stored}
 use Rattle.sessions.specs.Live.{Live}
@@ -10,6 +10,12 @@ use Rattle.history.specs.Decisions.{is_session_com_id}
 use Rattle.history.specs.KeptStore.{KeepsStore}
 use Rattle.history.specs.KeptSessions.{KeepsSessions}
 use Rattle.history.specs.KeptCalls.{wipes_by}
+use Rattle.compacket.specs.declared.session.Session.{Session}
+use Rattle.compacket.specs.Spelling.{frame_bytes}
+use Rattle.tcg_tokens.specs.Message.{Message, message}
+use Rattle.tcg_tokens.specs.Spelling.{item_spelling_of}
+use Rattle.methods.specs.declared.outcome.Outcome.{Outcome}
+use Rattle.tper.specs.declared.trusted.Sent.{Sent}
 
 -- The rows and the shadow's bytes, the sessions that live, and the response that waits on each of
 -- the four ComIDs.
@@ -43,3 +49,31 @@ pub record Keeps (t : Tper) (o : Origin) (past : List Event) : Type 0 where
 abbrev pub wipes : Deed → Bool
 wipes (InSession deed response) = wipes_by deed
 wipes _ = false
+
+-- What became of what was sent is what its event says.
+pub record IsSent (event : Event) (s : Sent) : Type 0 where
+  pub failed : event.failed ≡ None
+  pub denied : s.denied ≡ event.denied
+  pub wipes : s.wipes ≡ wipes event.deed
+
+-- The framed answer waits on the ComID, and all else stays.
+abbrev pub Responds : ℕ → Session → Message → Tper → Tper → Type 0
+Responds com_id session said old new =
+    (other : ℕ) → response_at new.waiting other
+    ≡ (if com_id == other
+    then Some (frame_bytes com_id session (item_spelling_of said)) else response_at old.waiting other)
+
+-- A response that has room in a transfer is taken.
+abbrev pub Takes : ℕ → ℕ → Tper → Tper → Type 0
+Takes com_id room old new =
+    (other : ℕ) → response_at new.waiting other
+    ≡ (if com_id == other && fits_in room (response_at old.waiting com_id)
+    then None else response_at old.waiting other)
+
+-- An item was handled: what came of it, its answer, and what is told of it.
+pub record Handles (Met : Outcome → Type 0) (com_id : ℕ) (session : Session) (s : Sent) (old new : Tper) : Type 0 where
+  pub said : Outcome
+  pub met : Met said
+  pub denied : s.denied ≡ said.denied
+  pub wipes : s.wipes ≡ said.wipe
+  pub responds : Responds com_id session (message said.reply) old new

@@ -108,6 +108,13 @@ impl Responses {
         self.waiting[usize::from(com_id - FIRST_COM_ID)] = response;
     }
 
+    /// None waits any more.
+    pub fn clear(&mut self)
+        ensures { (com_id : ℕ) → response_at self.new.waiting com_id ≡ None }
+    {
+        self.waiting = [None, None, None, None];
+    }
+
     /// The data of a receive on a ComID: the response that waits, with zeros behind it; where it is
     /// longer than the transfer, a header that tells its size, and an empty header where none waits.
     pub fn data(&self, alloc: Global, com_id: ComId, room: usize) -> Result<Vec<u8>, AllocError>

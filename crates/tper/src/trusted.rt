@@ -1,0 +1,218 @@
+//! The TPer: what is kept behind the ComIDs, and what a send and a receive do with it.
+
+ghost use Rattle.std.specs.Prelude.{◌≡◌, ◌≢◌, ℕ, List, [], ◌∷◌, None, Some, true, false, IfOk, OnErr, OnOk, is_some, length, slice_index, ◌<◌, ◌≤◌, ◌+◌, ◌*◌};
+ghost use Rattle.compacket.specs.Frames.{reading as frame_in};
+ghost use Rattle.device_data.specs.ErrorLog.{sized};
+ghost use Rattle.sp_tables.specs.Contents.{Contents};
+ghost use Rattle.shadow_mbr.specs.Stored.{sector_size};
+ghost use Rattle.transactions.specs.Sights.{committed_sight};
+ghost use Rattle.history.specs.Agreement.{HasNoTries};
+ghost use Rattle.history.specs.Answers.{received_bytes};
+ghost use Rattle.history.specs.Decisions.{is_session_com_id, sent, received, to_manager, in_session};
+ghost use Rattle.history.specs.Events.{Event, WasReset, did};
+ghost use Rattle.history.specs.Facts.{facts};
+ghost use Rattle.history.specs.History.{Act, log};
+ghost use Rattle.history.specs.KeptStore.{HasKnownTries};
+ghost use Rattle.history.specs.Opening.{Origin};
+ghost use Rattle.call_shapes.specs.Carried.{is_carried};
+ghost use Rattle.tcg_tokens.specs.Message.{message};
+ghost use Rattle.tcg_tokens.specs.Reading.{reading as message_in};
+ghost use Rattle.methods.specs.Effects.{holder_of};
+ghost use Rattle.tper.specs.Items.{OfManager, OfSession};
+ghost use Rattle.tper.specs.Tper.{Keeps, IsSent, Handles, Responds, Takes, response_at};
+
+use crate::item::{in_session, to_manager};
+use crate::response::{Responses, Room};
+use audit::Why;
+use compacket::{ComId, Session, open};
+use methods::Outcome;
+use sessions::Sessions;
+use shadow_mbr::Mbr;
+use sp_tables::Tables;
+use std::alloc::{AllocError, Global};
+use std::marker::Model;
+use transactions::{SessionId, Store, View};
+
+/// What became of what was sent.
+#[derive(Drop)]
+pub struct Sent {
+    /// What denied the item.
+    pub denied: Option<Why>,
+    /// Whether all media become zeros.
+    pub wipes: bool,
+}
+
+/// The rows and the bytes of the shadow MBR, the sessions that live, and the response that waits on
+/// each ComID.
+#[derive(Drop)]
+pub struct Tper {
+    alloc: Global,
+    store: Store,
+    sessions: Sessions,
+    responses: Responses,
+}
+
+impl Model for Tper {
+    ghost use Rattle.tper.specs.Tper.{Tper};
+
+    ghost Value = { Tper };
+
+    ghost view = { λ t. record { store = t.store; live = t.sessions; waiting = t.responses.waiting } };
+}
+
+/// Nothing became of it.
+fn nothing() -> Sent
+    ensures denied { result.denied ≡ None }
+    ensures wipes { result.wipes ≡ false }
+{
+    Sent {
+        denied: None,
+        wipes: false,
+    }
+}
+
+impl Tper {
+    /// No session lives, and nothing was done with the tables.
+    pub fn new(alloc: Global, tables: Tables) -> Tper
+        ensures { HasNoTries (record { tables = tables }) → HasKnownTries (record { tables = tables })
+            → Keeps result (record { tables = tables }) [] }
+    {
+        let mbr = Mbr::new(alloc, tables.config().mbr_sectors());
+        Tper {
+            alloc,
+            store: Store::new(alloc, tables, mbr),
+            sessions: Sessions::new(alloc),
+            responses: Responses::new(),
+        }
+    }
+
+    /// The rows and the bytes of the shadow MBR in force.
+    pub fn in_force(&self) -> View<'_>
+        ensures { result ≡ committed_sight self.now.store }
+    {
+        self.store.committed()
+    }
+
+    /// Whether a response waits on a ComID.
+    pub fn is_waiting(&self, com_id: ComId) -> bool
+        ensures { result ≡ is_some (response_at self.now.waiting com_id) }
+    {
+        self.responses.at(com_id).is_some()
+    }
+
+    /// Takes what is sent to one of the ComIDs of sessions, and keeps the response. What is no frame of that
+    /// ComID, or is for no live session, is taken and has no response. After an error nothing has changed.
+    pub fn send(&mut self, com_id: ComId, payload: &[u8]) -> Result<Sent, AllocError>
+        requires { is_session_com_id com_id ≡ true }
+        ensures kept { OnOk result ((o : Origin) (acts : List Act) → Keeps self.old o (log o acts)
+            → Keeps self.new o (sent (facts o (log o acts)) com_id (frame_in payload.now) ∷ log o acts)) }
+        ensures answer { IfOk result (λ s. (o : Origin) (acts : List Act)
+            → Keeps self.old o (log o acts)
+            → IsSent (sent (facts o (log o acts)) com_id (frame_in payload.now)) s) }
+        ensures err { OnErr result (self.new ≡ self.old) }
+    {
+        let Ok(frame) = open(payload) else {
+            return Ok(nothing());
+        };
+        if frame.com_id != com_id {
+            return Ok(nothing());
+        }
+        let session = frame.session;
+        if session.tsn == 0 && session.hsn == 0 {
+            return self.manage(com_id, session, frame.payload);
+        }
+        match self.sessions.find(com_id, session.tsn, session.hsn) {
+            None => Ok(nothing()),
+            Some(id) => self.serve(com_id, session, id, frame.payload),
+        }
+    }
+
+    /// What is sent to the session manager.
+    fn manage(&mut self, com_id: ComId, session: Session, tokens: &[u8]) -> Result<Sent, AllocError>
+        requires { is_session_com_id com_id ≡ true }
+        ensures handled { IfOk result (λ s. Handles (λ said. OfManager (λ f. to_manager f com_id (message_in tokens.now)) said
+            self.old.store self.new.store self.old.live self.new.live) com_id session s self.old self.new) }
+        ensures err { OnErr result (self.new ≡ self.old) }
+    {
+        let room = Room::new(self.alloc)?;
+        let outcome = to_manager(
+            self.alloc,
+            &mut self.store,
+            &mut self.sessions,
+            com_id,
+            tokens,
+        )?;
+        Ok(self.respond(com_id, session, outcome, room))
+    }
+
+    /// What is sent to a live session.
+    fn serve(
+        &mut self,
+        com_id: ComId,
+        session: Session,
+        id: SessionId,
+        tokens: &[u8],
+    ) -> Result<Sent, AllocError>
+        requires com_id { is_session_com_id com_id ≡ true }
+        requires lives { holder_of self.old.live id ≢ None }
+        ensures handled { IfOk result (λ s. Handles (λ said. OfSession (λ f its. in_session f its (message_in tokens.now)) id said
+            self.old.store self.new.store self.old.live self.new.live) com_id session s self.old self.new) }
+        ensures err { OnErr result (self.new ≡ self.old) }
+    {
+        let room = Room::new(self.alloc)?;
+        let outcome = in_session(self.alloc, &mut self.store, &mut self.sessions, id, tokens)?;
+        Ok(self.respond(com_id, session, outcome, room))
+    }
+
+    /// Keeps the response that carries an answer.
+    fn respond(&mut self, com_id: ComId, session: Session, outcome: Outcome, room: Room) -> Sent
+        requires com_id { is_session_com_id com_id ≡ true }
+        requires carried { is_carried (message outcome.reply) ≡ true }
+        ensures store { self.new.store ≡ self.old.store }
+        ensures live { self.new.live ≡ self.old.live }
+        ensures waiting { Responds com_id session (message outcome.reply) self.old self.new }
+        ensures denied { result.denied ≡ outcome.denied }
+        ensures wipes { result.wipes ≡ outcome.wipe }
+    {
+        let Outcome {
+            reply,
+            denied,
+            wipe,
+        } = outcome;
+        let response = room.framed(com_id, session, &reply);
+        self.responses.put(com_id, Some(response));
+        Sent {
+            denied,
+            wipes: wipe,
+        }
+    }
+
+    /// The data of a receive on one of the ComIDs of sessions: as many bytes as the transfer has. A response that
+    /// has room in it is taken.
+    pub fn receive(&mut self, com_id: ComId, room: usize) -> Result<Vec<u8>, AllocError>
+        requires { is_session_com_id com_id ≡ true }
+        ensures data { IfOk result (λ v. v.items
+            ≡ sized room (received_bytes com_id room (response_at self.old.waiting com_id))) }
+        ensures store { self.new.store ≡ self.old.store }
+        ensures live { self.new.live ≡ self.old.live }
+        ensures waiting { OnOk result (Takes com_id room self.old self.new) }
+        ensures err { OnErr result (self.new ≡ self.old) }
+    {
+        let data = self.responses.data(self.alloc, com_id, room)?;
+        if self.responses.fits(com_id, room) {
+            self.responses.put(com_id, None);
+        }
+        Ok(data)
+    }
+
+    /// Ends all sessions and transactions, drops the responses that wait, and does what a reset of this kind does to
+    /// the rows. It takes no memory.
+    pub fn reset(&mut self, kind: u8)
+        ensures { (o : Origin) (past : List Event) → Keeps self.old o past
+            → Keeps self.new o (did (WasReset kind) ∷ past) }
+    {
+        self.store.reset_rows(kind);
+        self.sessions.end_all();
+        self.responses.clear();
+    }
+}
