@@ -3,8 +3,10 @@
 #![tactic(auto)]
 
 mod item;
+mod laws;
 mod response;
 mod trusted;
 
+pub use laws::laws_of_answers;
 pub use response::is_session_com_id;
 pub use trusted::{Sent, Tper};

@@ -1,0 +1,248 @@
+-- Each answer can be carried by a response: that to a call, that to a StartSession, and that to Properties.
+use Rattle.std.proofs.Common.{◌≡◌, ℕ, ◌+◌, ◌*◌, ◌^◌, ◌<◌, ◌≤◌, Bool, true, false, not, ltb, List, [], ◌∷◌, ◌++◌, length, Option, None, Some, refl, cond, arith, inl, inr}
+use Rattle.std.specs.Prelude.{◌==◌, ◌-◌, ◌||◌, suc, nat_le, nat_lt}
+use Rattle.std.specs.Int.{w64, to_be_bytes}
+use Rattle.std.proofs.Math.Nat.{min-le_left}
+use Rattle.std.proofs.lemmas.Bool.{ltb-true, le-leb, lt-ltb}
+use Rattle.std.proofs.lemmas.Bool.Decides.{nat_tests}
+use Rattle.std.proofs.lemmas.List.{length-append}
+use Rattle.tcg_tokens.specs.Tree.{Tree, number, bytes, list, trees_of}
+use Rattle.tcg_tokens.specs.Length.{len_of}
+use Rattle.tcg_tokens.specs.Spelling.{header, significant, number_spelling, bytes_spelling, status_spelling, item_spelling_of}
+use Rattle.tcg_tokens.specs.Writable.{fits_number}
+use Rattle.tcg_tokens.proofs.Writings.{length_significant}
+use Rattle.tcg_tokens.proofs.Tokens.{bool_cases}
+use Rattle.sp_cells.specs.declared.names.Uid.{Uid}
+use Rattle.sp_cells.specs.declared.names.Sp.{Sp}
+use Rattle.sp_cells.specs.Flat.{LookUp}
+use Rattle.sp_cells.specs.Names.{session_manager, sync_session}
+use Rattle.audit.specs.declared.reason.AttemptFailure.{AttemptFailure}
+use Rattle.audit.specs.declared.reason.AttemptFailure.TheVariants.{WrongPin, LockedOut, Disabled, Unknown}
+use Rattle.audit.specs.declared.reason.Why.{Why}
+use Rattle.transactions.specs.declared.change.SessionId.{SessionId}
+use Rattle.transactions.specs.Stored.{Stored}
+use Rattle.transactions.specs.Sights.{sight_of, is_manufactured}
+use Rattle.call_shapes.specs.Carried.{is_carried}
+use Rattle.call_shapes.specs.CellValues.{number_in}
+use Rattle.call_shapes.specs.Limits.{most_response}
+use Rattle.call_shapes.specs.Statuses.{success, not_authorized, sp_busy, no_sessions_available, invalid_parameter, response_overflow, authority_locked_out, fail}
+use Rattle.call_shapes.specs.declared.ask.Ask.{Ask}
+use Rattle.call_shapes.specs.declared.ask.Ask.TheVariants.{GetCells, GetBytes, SetCells, SetBytes, Authenticate, Activate, Revert, Other}
+use Rattle.sessions.specs.declared.opening.Opening.{Opening}
+use Rattle.sessions.specs.declared.opening.StartVerdict.TheVariants.{Refused, Attempted}
+use Rattle.sessions.specs.Answers.{in_force}
+use Rattle.sessions.specs.Attempts.{failure}
+use Rattle.sessions.specs.Live.{Live, lives_on}
+use Rattle.sessions.specs.Properties.{takes_properties, properties_list, properties_call, properties_message}
+use Rattle.sessions.specs.Starts.{sp_named, is_in_use, is_full, is_host, verdict_on, verdict, opening_of, host_among, host_of, sync_message, reply_to, start_reply}
+use Rattle.methods.specs.Said.{Said, reply_of, says, refuses, fits, said_attempt}
+use Rattle.methods.specs.Settings.{Setting}
+use Rattle.methods.specs.Effects.{ask_at, is_inside, rows_said, last_row, bytes_from, set_said, to_set, unless_inside, tried, said_ask}
+use Rattle.methods.specs.Calls.{Called, denied_call, said_unless, said_shaped, said_call}
+
+-- The answer can be carried.
+abbrev Carries : Said → Type 0
+Carries said = is_carried said.answer ≡ true
+
+-- ---- the answers without results, and those of one number
+
+bare_success : is_carried (reply_of [] success) ≡ true
+unfolding number_spelling
+bare_success = refl
+
+bare_not_authorized : is_carried (reply_of [] not_authorized) ≡ true
+unfolding number_spelling
+bare_not_authorized = refl
+
+bare_invalid : is_carried (reply_of [] invalid_parameter) ≡ true
+unfolding number_spelling
+bare_invalid = refl
+
+bare_overflow : is_carried (reply_of [] response_overflow) ≡ true
+unfolding number_spelling
+bare_overflow = refl
+
+bare_locked_out : is_carried (reply_of [] authority_locked_out) ≡ true
+unfolding number_spelling
+bare_locked_out = refl
+
+bare_fail : is_carried (reply_of [] fail) ≡ true
+unfolding number_spelling
+bare_fail = refl
+
+zero_success : is_carried (reply_of (number 0 ∷ []) success) ≡ true
+unfolding number_spelling
+zero_success = refl
+
+one_success : is_carried (reply_of (number 1 ∷ []) success) ≡ true
+unfolding number_spelling
+one_success = refl
+
+-- ---- a call
+
+fitting : (results : List Tree) (b : Bool) → is_carried (reply_of results success) ≡ b → Carries (cond b (says results None false) (refuses response_overflow None))
+fitting results true h = h
+fitting results false h = bare_overflow
+
+fits_carried : (results : List Tree) → Carries (fits results)
+unfolding fits
+fits_carried results = fitting results (is_carried (reply_of results success)) refl
+
+rows_carried : (past_end too_long : Bool) (results : List Tree) → Carries (cond past_end (refuses invalid_parameter None) (cond too_long (refuses response_overflow None) (fits results)))
+rows_carried true too_long results = bare_invalid
+rows_carried false true results = bare_overflow
+rows_carried false false results = fits_carried results
+
+bytes_carried : (bs : List ℕ) (size first last : ℕ) → Carries (rows_said bs size first last)
+bytes_carried bs size first last =
+    rows_carried ((size == 0) || (nat_le size last || nat_lt last first)) (nat_lt most_response (last + 1 - first)) (bytes (bytes_from bs first (last + 1 - first)) ∷ [])
+
+set_carried : (o : Option Setting) → Carries (set_said o)
+set_carried None = bare_invalid
+set_carried (Some st) = bare_success
+
+attempt_carried : (sp : Sp) (authority : Uid) (o : Option AttemptFailure) → Carries (said_attempt sp authority o)
+attempt_carried sp authority None = one_success
+attempt_carried sp authority (Some LockedOut) = bare_locked_out
+attempt_carried sp authority (Some WrongPin) = zero_success
+attempt_carried sp authority (Some Disabled) = zero_success
+attempt_carried sp authority (Some Unknown) = zero_success
+
+inside_carried : (b : Bool) (said : Said) → Carries said → Carries (unless_inside b said)
+inside_carried true said h = bare_fail
+inside_carried false said h = h
+
+ask_carried : (s : Stored) (session : SessionId) (object : Uid) (held : List Uid) (ask : Ask) → Carries (said_ask s session object held ask)
+ask_carried s session object held (GetCells first last) = fits_carried _
+ask_carried s session object held (GetBytes first last) = bytes_carried (sight_of s session).bytes (512 * (sight_of s session).config.mbr_sectors) first (last_row (512 * (sight_of s session).config.mbr_sectors) last)
+ask_carried s session object held (SetCells ps) = set_carried (to_set s session object (SetCells ps))
+ask_carried s session object held (SetBytes at octets) = set_carried (to_set s session object (SetBytes at octets))
+ask_carried s session object held (Authenticate authority proof) = attempt_carried session.sp authority (tried s session authority proof)
+ask_carried s session object held Activate = inside_carried (is_inside s session) (says [] None false) bare_success
+ask_carried s session object held Revert = inside_carried (is_inside s session) (says [] None (is_manufactured s)) bare_success
+ask_carried s session object held Other = bare_fail
+
+unless_carried : (denied : Option Why) (said : Said) → Carries said → Carries (said_unless denied said)
+unless_carried None said h = h
+unless_carried (Some why) said h = bare_not_authorized
+
+shaped_carried : (s : Stored) (c : Called) (ask : Option Ask) → Carries (said_shaped s c ask)
+shaped_carried s c None = bare_invalid
+shaped_carried s c (Some ask) = unless_carried (denied_call s c ask) (said_ask s c.session c.object c.held (ask_at c.session.sp c.object ask)) (ask_carried s c.session c.object c.held (ask_at c.session.sp c.object ask))
+
+pub call_carried : (s : Stored) (c : Called) → is_carried (said_call s c).answer ≡ true
+call_carried s c = shaped_carried s c c.ask
+
+-- ---- an answer of the session manager
+
+-- a header is one byte, two or four
+length_header : (is_bytes : Bool) (len : ℕ) → length (header is_bytes len) ≤ 4
+length_header is_bytes len =
+    elim (bool_cases (ltb len 16)) [
+      | inl w ↦ rw w (omega arith)
+      | inr w1 ↦
+          elim (bool_cases (ltb len 2048)) [
+            | inl w ↦ rw (w1, w) (omega arith)
+            | inr w ↦ rw (w1, w) (omega arith)
+          ]
+    ]
+
+-- a number is spelled by a header and at most eight bytes
+length_number : (n : ℕ) → length (number_spelling n) ≤ 12
+unfolding number_spelling
+length_number n =
+    elim (bool_cases (ltb n 64)) [
+      | inl w ↦ rw w (omega arith)
+      | inr w ↦
+          let content : List ℕ = significant (to_be_bytes w64 n) in
+          rw (w, length-append) (omega (arith, length_header false (length content), length_significant (to_be_bytes w64 n)))
+    ]
+
+-- the two names of the call, and the lengths of its parts
+manager_bytes : length (bytes_spelling (to_be_bytes w64 session_manager.0)) ≡ 9
+unfolding bytes_spelling
+manager_bytes = refl
+
+sync_bytes : length (bytes_spelling (to_be_bytes w64 sync_session.0)) ≡ 9
+unfolding bytes_spelling
+sync_bytes = refl
+
+length_parts : (object method host tsn status : List ℕ) → length (object ++ (method ++ (240 ∷ (((host ++ (tsn ++ [])) ++ 241 ∷ []) ++ (249 ∷ status))))) ≡ length object + length method + length host + length tsn + length status + 3
+length_parts object method host tsn status =
+    let a : length (object ++ (method ++ (240 ∷ (((host ++ (tsn ++ [])) ++ 241 ∷ []) ++ (249 ∷ status))))) ≡ length object + (length method + suc ((length host + (length tsn + 0)) + 1 + suc (length status))) =
+    simp length-append in
+    omega (arith, a)
+
+length_status : (a b c : List ℕ) → length (240 ∷ ((a ++ (b ++ (c ++ []))) ++ 241 ∷ [])) ≡ length a + length b + length c + 2
+length_status a b c =
+    let e : length (240 ∷ ((a ++ (b ++ (c ++ []))) ++ 241 ∷ [])) ≡ suc ((length a + (length b + (length c + 0))) + 1) = simp length-append in
+    omega (arith, e)
+
+length_sync : (host tsn status : ℕ) → length (item_spelling_of (sync_message host tsn status)) ≤ 100
+length_sync host tsn status =
+    let parts = length_parts (bytes_spelling (to_be_bytes w64 session_manager.0)) (bytes_spelling (to_be_bytes w64 sync_session.0)) (number_spelling host) (number_spelling tsn) (status_spelling (status ∷ 0 ∷ 0 ∷ [])) in
+    let states = length_status (number_spelling status) (number_spelling 0) (number_spelling 0) in
+    omega (arith, parts, states, manager_bytes, sync_bytes, length_number host, length_number tsn, length_number status, length_number 0)
+
+-- a SyncSession with numbers of 32 bits can be carried
+sync_carried : (host tsn status : ℕ) → host < 2 ^ 32 → tsn < 2 ^ 32 → status < 2 ^ 32 → is_carried (sync_message host tsn status) ≡ true
+sync_carried host tsn status h t k =
+    let fits_host : fits_number host ≡ true = lt-ltb _ _ (omega arith) in
+    let fits_tsn : fits_number tsn ≡ true = lt-ltb _ _ (omega arith) in
+    let fits_status : fits_number status ≡ true = lt-ltb _ _ (omega arith) in
+    let is_short : nat_le (len_of (sync_message host tsn status)) most_response ≡ true =
+    le-leb _ _ (omega (arith, length_sync host tsn status, min-le_left (length (item_spelling_of (sync_message host tsn status))) (2 ^ 64 - 1))) in
+    rw (fits_host, fits_tsn, fits_status) is_short
+
+-- ---- a StartSession
+
+host_bound : (o : Option ℕ) → host_among o < 2 ^ 32
+host_bound None = omega arith
+host_bound (Some n) =
+    elim (bool_cases (is_host n)) [
+      | inl w ↦ rw w (ltb-true _ _ w)
+      | inr w ↦ rw w (omega arith)
+    ]
+
+host_of_bound : (args : List Tree) → host_of args < 2 ^ 32
+host_of_bound [] = omega arith
+host_of_bound (t ∷ ts) = host_bound (number_in t)
+
+attempt_answered : (host next : ℕ) (sp : Sp) (o : Option AttemptFailure) → host < 2 ^ 32 → next < 2 ^ 32 → is_carried (reply_to host next (Attempted sp o)) ≡ true
+attempt_answered host next sp None h k = sync_carried host next success h k (omega arith)
+attempt_answered host next sp (Some LockedOut) h k = sync_carried host 0 authority_locked_out h (omega arith) (omega arith)
+attempt_answered host next sp (Some WrongPin) h k = sync_carried host 0 not_authorized h (omega arith) (omega arith)
+attempt_answered host next sp (Some Disabled) h k = sync_carried host 0 not_authorized h (omega arith) (omega arith)
+attempt_answered host next sp (Some Unknown) h k = sync_carried host 0 not_authorized h (omega arith) (omega arith)
+
+-- after the tests in their order: the SP is in use, no session lives on it, and a number is left
+tests_answered : (used busy full : Bool) (host next : ℕ) (sp : Sp) (o : Option AttemptFailure) → host < 2 ^ 32 → (full ≡ false → next < 2 ^ 32) → is_carried (reply_to host next (cond used (Refused invalid_parameter) (cond busy (Refused sp_busy) (cond full (Refused no_sessions_available) (Attempted sp o))))) ≡ true
+tests_answered true busy full host next sp o h k = sync_carried host 0 invalid_parameter h (omega arith) (omega arith)
+tests_answered false true full host next sp o h k = sync_carried host 0 sp_busy h (omega arith) (omega arith)
+tests_answered false false true host next sp o h k = sync_carried host 0 no_sessions_available h (omega arith) (omega arith)
+tests_answered false false false host next sp o h k = attempt_answered host next sp o h (k refl)
+
+number_left : (l : Live) → is_full l ≡ false → l.next < 2 ^ 32
+number_left l e = let f : nat_lt 0xffffffff l.next ≡ false = e in grind (arith, nat_tests)
+
+named_answered : (look : LookUp) (l : Live) (host : ℕ) (o : Opening) (sp : Option Sp) → host < 2 ^ 32 → is_carried (reply_to host l.next (verdict_on look l o sp)) ≡ true
+named_answered look l host o None h = sync_carried host 0 invalid_parameter h (omega arith) (omega arith)
+named_answered look l host o (Some sp) h =
+    tests_answered (not (is_in_use look sp)) (lives_on sp l) (is_full l) host l.next sp (failure look sp o.authority o.proof) h (number_left l)
+
+opening_answered : (look : LookUp) (l : Live) (host : ℕ) (o : Option Opening) → host < 2 ^ 32 → is_carried (reply_to host l.next (verdict look l o)) ≡ true
+opening_answered look l host None h = sync_carried host 0 invalid_parameter h (omega arith) (omega arith)
+opening_answered look l host (Some o) h = named_answered look l host o (sp_named o.spid) h
+
+pub start_carried : (s : Stored) (l : Live) (args : List Tree) → is_carried (start_reply s l args) ≡ true
+start_carried s l args = opening_answered (in_force s) l (host_of args) (opening_of args) (host_of_bound args)
+
+-- ---- Properties
+
+properties_either : (b : Bool) → is_carried (cond b (properties_call (list (trees_of properties_list) ∷ []) success) (properties_call [] invalid_parameter)) ≡ true
+unfolding number_spelling bytes_spelling
+properties_either true = refl
+properties_either false = refl
+
+pub properties_carried : (args : List Tree) → is_carried (properties_message args) ≡ true
+properties_carried args = properties_either (takes_properties args)

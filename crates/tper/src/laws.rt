@@ -1,0 +1,21 @@
+//! Laws of what is answered.
+
+ghost use Rattle.std.specs.Prelude.{◌≡◌, true, List};
+ghost use Rattle.tcg_tokens.specs.Tree.{Tree};
+ghost use Rattle.call_shapes.specs.Carried.{is_carried};
+ghost use Rattle.transactions.specs.Stored.{Stored};
+ghost use Rattle.sessions.specs.Live.{Live};
+ghost use Rattle.sessions.specs.Properties.{properties_message};
+ghost use Rattle.sessions.specs.Starts.{start_reply};
+ghost use Rattle.methods.specs.Calls.{Called, said_call};
+
+/// Each answer can be carried by a response: it has a writing, which is no longer than a ComPacket
+/// has room for.
+///
+/// `call`: that to a call of a live session. `start`: that to a StartSession. `properties`: that to
+/// Properties.
+pub fn laws_of_answers()
+    ensures call { (s : Stored) (c : Called) → is_carried (said_call s c).answer ≡ true }
+    ensures start { (s : Stored) (l : Live) (args : List Tree) → is_carried (start_reply s l args) ≡ true }
+    ensures properties { (args : List Tree) → is_carried (properties_message args) ≡ true }
+{}
