@@ -7,3 +7,4 @@ pub mod Walks
 pub mod Numbers
 pub mod Groups
 pub mod Blocks
+pub mod Runs

@@ -1,5 +1,5 @@
 -- Where the blocks of sectors stand, by groups of neighbouring sectors.
-use Rattle.std.specs.Prelude.{◌≡◌, ℕ, [], ◌∷◌, ◌++◌, ◌+◌, ◌*◌, ◌<◌, List, length, take, map, nat_eq, true, false, Option, None, Some, slice_index, slice_index_or}
+use Rattle.std.specs.Prelude.{◌≡◌, ℕ, [], ◌∷◌, ◌++◌, ◌+◌, ◌*◌, ◌<◌, List, length, take, drop, set, map, nat_eq, true, false, Option, None, Some, slice_index, slice_index_or}
 use Rattle.std.specs.List.{list_any}
 use Rattle.std.specs.BTreeMap.{is_at}
 use Rattle.std.specs.Map.{lookup, keys_of}
@@ -30,6 +30,12 @@ place_at places sector = lookup (is_at (nat_cmp sector)) places
 -- the block at a place
 abbrev pub block_at : List (List ℕ) → ℕ → List ℕ
 block_at blocks place = slice_index_or blocks place zeros
+
+-- The blocks after some bytes of one were written, from a byte of it on.
+abbrev pub blocks_after : List (List ℕ) → ℕ → ℕ → List ℕ → List (List ℕ)
+blocks_after blocks place from bytes =
+    let block = block_at blocks place in
+    set blocks place (take from block ++ bytes ++ drop (from + length bytes) block)
 
 -- The sectors that have a place, with the blocks that stand there.
 abbrev pub blocks_of : List (ℕ × ℕ) → List (List ℕ) → List (ℕ × List ℕ)

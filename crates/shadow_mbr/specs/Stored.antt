@@ -35,6 +35,11 @@ sector_at stored sector = unwrap_or (kept_at stored sector) zeros
 abbrev pub byte_at : Stored → ℕ → ℕ
 byte_at stored place = slice_index (sector_at stored (place / sector_size)) (place % sector_size)
 
+-- What a place holds where these sectors are kept.
+abbrev pub byte_in : List (ℕ × List ℕ) → ℕ → ℕ
+byte_in kept place =
+    slice_index (unwrap_or (block_in kept (place / sector_size)) zeros) (place % sector_size)
+
 -- The byte at a place after bytes were written from `at` on, where it was `before`.
 abbrev pub byte_after : ℕ → List ℕ → ℕ → ℕ → ℕ
 byte_after at bytes before place =
@@ -56,6 +61,12 @@ sectors_from holds lba (suc n) = holds lba ++ sectors_from holds (lba + 1) n
 abbrev pub AreKept : Stored → ℕ → ℕ → Type 0
 AreKept stored at len =
     (place : ℕ) → at ≤ place → place < at + len → is_some (kept_at stored (place / sector_size)) ≡ true
+
+-- The sector of each of so many bytes from `at` on is among these.
+abbrev pub HaveBlocks : List (ℕ × List ℕ) → ℕ → ℕ → Type 0
+HaveBlocks kept at len =
+    (place : ℕ) → at ≤ place → place < at + len
+    → is_some (block_in kept (place / sector_size)) ≡ true
 
 -- Whether a sector has one of so many bytes from `at` on.
 abbrev pub has_byte : ℕ → ℕ → ℕ → Bool

@@ -5,9 +5,10 @@ ghost use Rattle.std.specs.List.{list_any};
 ghost use Rattle.std.specs.List.Sorted.{IsStrictlySortedBy};
 ghost use Rattle.std.specs.Map.{keys_of};
 ghost use Rattle.std.specs.Ordering.{nat_cmp};
-ghost use Rattle.shadow_mbr.specs.Stored.{sector_size, zeros};
-ghost use Rattle.shadow_mbr.specs.Places.{place_at, block_at, AddsPlaces};
+ghost use Rattle.shadow_mbr.specs.Stored.{sector_size, zeros, HaveBlocks, byte_in, byte_after};
+ghost use Rattle.shadow_mbr.specs.Places.{place_at, block_at, blocks_of, blocks_after, AreOwn, AddsPlaces};
 
+use crate::piece::{SECTOR, piece_len};
 use crate::places::Places;
 use std::alloc::{AllocError, Global};
 use std::marker::Model;
@@ -61,10 +62,45 @@ fn block_or_zeros(blocks: &[Block], place: Option<usize>) -> &Block
 fn write_block(blocks: &mut Vec<Block>, place: usize, from: usize, bytes: &[u8])
     requires there { place < vec_len blocks.old }
     requires fits { from + length bytes.now ≤ sector_size }
-    ensures { blocks.new.items
-        ≡ set blocks.old.items place (take from (block_at blocks.old.items place) ++ bytes.now ++ drop (from + length bytes.now) (block_at blocks.old.items place)) }
+    ensures { blocks.new.items ≡ blocks_after blocks.old.items place from bytes.now }
 {
     blocks[place][from..from + bytes.len()].copy_from_slice(bytes);
+}
+
+/// Writes some bytes of the block at a place, if there is one.
+fn write_piece(blocks: &mut Vec<Block>, place: Option<usize>, from: usize, bytes: &[u8])
+    requires there { IfSome place (λ p. p < vec_len blocks.old) }
+    requires fits { from + length bytes.now ≤ sector_size }
+    ensures { IfSome place (λ p. blocks.new.items ≡ blocks_after blocks.old.items p from bytes.now) }
+{
+    if let Some(place) = place {
+        write_block(blocks, place, from, bytes);
+    }
+}
+
+/// Writes bytes from a place on into the blocks of their sectors, which each have one.
+fn write_blocks(places: &Places, blocks: &mut Vec<Block>, at: u64, bytes: &[u8])
+    requires inside { at + length bytes.now < 2 ^ 64 }
+    requires own { AreOwn places.now blocks.old.items }
+    requires kept { HaveBlocks (blocks_of places.now blocks.old.items) at (length bytes.now) }
+    ensures own { AreOwn places.now blocks.new.items }
+    ensures bytes { (p : ℕ) → byte_in (blocks_of places.now blocks.new.items) p
+        ≡ byte_after at bytes.now (byte_in (blocks_of places.now blocks.old.items) p) p }
+{
+    let mut finder = places.finder(at / SECTOR);
+    let mut done = 0;
+    while done < bytes.len() {
+        let place = at + done as u64;
+        let len = piece_len(place, bytes.len() - done);
+        let block = finder.at(place / SECTOR);
+        write_piece(
+            blocks,
+            block,
+            (place % SECTOR) as usize,
+            &bytes[done..done + len],
+        );
+        done += len;
+    }
 }
 
 /// Takes the places of sectors away.
@@ -105,7 +141,7 @@ impl Kept {
     ghost use Rattle.std.specs.List.Sorted.{IsStrictlySortedBy};
     ghost use Rattle.std.specs.Map.{keys_of};
     ghost use Rattle.std.specs.Ordering.{nat_cmp};
-    ghost use Rattle.shadow_mbr.specs.Stored.{sector_size, zeros, block_in, sectors_from};
+    ghost use Rattle.shadow_mbr.specs.Stored.{sector_size, zeros, block_in, HaveBlocks, byte_in, byte_after, sectors_from};
 
     pub(crate) fn new(alloc: Global) -> Kept
         ensures { result ≡ [] }
@@ -183,20 +219,18 @@ impl Kept {
         Ok(())
     }
 
-    /// Writes some bytes of a sector that is kept.
+    /// Writes bytes from a place on, into sectors that are kept.
     #[tactic(auto, using(crate::proofs::Blocks::sorted_blocks))]
-    pub(crate) fn put(&mut self, sector: u64, from: usize, bytes: &[u8])
-        requires kept { is_some (block_in self.old sector) ≡ true }
-        requires fits { from + length bytes.now ≤ sector_size }
+    pub(crate) fn overwrite(&mut self, at: u64, bytes: &[u8])
+        requires inside { at + length bytes.now < 2 ^ 64 }
+        requires kept { HaveBlocks self.old at (length bytes.now) }
         ensures kept { (s : ℕ) → is_some (block_in self.new s) ≡ is_some (block_in self.old s) }
-        ensures bytes { (s : ℕ) → unwrap_or (block_in self.new s) zeros
-            ≡ (if s == sector
-            then take from (unwrap_or (block_in self.old s) zeros) ++ bytes.now ++ drop (from + length bytes.now) (unwrap_or (block_in self.old s) zeros) else unwrap_or (block_in self.old s) zeros) }
+        ensures bytes { (p : ℕ) → byte_in self.new p
+            ≡ byte_after at bytes.now (byte_in self.old p) p }
+        ensures whole { (s : ℕ) → length (unwrap_or (block_in self.new s) zeros) ≡ sector_size }
         ensures sorted { IsStrictlySortedBy nat_cmp (keys_of self.new) }
     {
-        if let Some(place) = self.places.get(sector) {
-            write_block(&mut self.blocks, place, from, bytes);
-        }
+        write_blocks(&self.places, &mut self.blocks, at, bytes);
     }
 
     /// Keeps the listed sectors too, as zeros. Where memory is refused, nothing changes.

@@ -7,6 +7,7 @@
 mod kept;
 mod mbr;
 mod media;
+mod piece;
 mod places;
 mod sectors;
 

@@ -1,5 +1,6 @@
 use crate::kept::Block;
-use crate::sectors::{SECTOR, Sectors};
+use crate::piece::SECTOR;
+use crate::sectors::Sectors;
 use std::alloc::{AllocError, Global};
 use std::marker::Model;
 

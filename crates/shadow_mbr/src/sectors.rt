@@ -3,10 +3,9 @@ ghost use Rattle.std.specs.List.{list_any};
 ghost use Rattle.shadow_mbr.specs.Stored.{sector_size, zeros, has_byte};
 
 use crate::kept::{Block, Kept, SECTOR_SIZE};
+use crate::piece::{SECTOR, piece_len};
 use std::alloc::{AllocError, Global};
 use std::marker::Model;
-
-pub(crate) const SECTOR: u64 = SECTOR_SIZE as u64;
 
 /// So many sectors, of which those that were never written are not kept.
 #[derive(Drop)]
@@ -25,16 +24,6 @@ impl Model for Sectors {
     ghost view = { λ a. record { sectors = a.sectors; kept = a.kept } };
 
     ghost invariant = { λ a. IsSound (record { sectors = a.sectors; kept = a.kept }) };
-}
-
-/// How many of the bytes from a place on are in its sector.
-fn piece_len(place: u64, len: usize) -> usize
-    requires { 0 < len }
-    ensures fits { place % sector_size + result ≤ sector_size }
-    ensures within { result ≤ len }
-    ensures some { 0 < result }
-{
-    ((SECTOR - place % SECTOR) as usize).min(len)
 }
 
 /// The first sector that has one of so many bytes from a place on, and the one behind the last.
@@ -94,19 +83,6 @@ impl Sectors {
         ensures { result ≡ is_some (kept_at self.now sector) }
     {
         self.kept.has(sector)
-    }
-
-    fn put(&mut self, sector: u64, from: usize, bytes: &[u8])
-        requires kept { is_some (kept_at self.old sector) ≡ true }
-        requires fits { from + length bytes.now ≤ sector_size }
-        ensures size { self.new.sectors ≡ self.old.sectors }
-        ensures kept { (s : ℕ) → is_some (kept_at self.new s) ≡ is_some (kept_at self.old s) }
-        ensures bytes { (s : ℕ) → sector_at self.new s
-            ≡ (if s == sector
-            then take from (sector_at self.old s) ++ bytes.now ++ drop (from + length bytes.now) (sector_at self.old s) else sector_at self.old s) }
-        ensures sound { IsSound self.new }
-    {
-        self.kept.put(sector, from, bytes);
     }
 
     /// Some bytes of one sector, from a place on.
@@ -170,21 +146,6 @@ impl Sectors {
         Ok(bytes)
     }
 
-    /// Writes some bytes of one sector that is kept, from a place on.
-    fn write_part(&mut self, place: u64, bytes: &[u8])
-        requires fits { place % sector_size + length bytes.now ≤ sector_size }
-        requires kept { is_some (kept_at self.old (place / sector_size)) ≡ true }
-        ensures size { self.new.sectors ≡ self.old.sectors }
-        ensures kept { (s : ℕ) → is_some (kept_at self.new s) ≡ is_some (kept_at self.old s) }
-        ensures bytes { (p : ℕ) → byte_at self.new p
-            ≡ byte_after place bytes.now (byte_at self.old p) p }
-        ensures sound { IsSound self.new }
-    {
-        // The sectors are whole: the fields say so once they are used.
-        let _ = &self.kept;
-        self.put(place / SECTOR, (place % SECTOR) as usize, bytes);
-    }
-
     /// Writes bytes from a place on, into sectors that are kept.
     pub(crate) fn overwrite(&mut self, at: u64, bytes: &[u8])
         requires inside { at + length bytes.now ≤ sector_size * self.old.sectors }
@@ -197,13 +158,7 @@ impl Sectors {
     {
         // The sectors are whole: the fields say so once they are used.
         let _ = &self.kept;
-        let mut done = 0;
-        while done < bytes.len() {
-            let place = at + done as u64;
-            let len = piece_len(place, bytes.len() - done);
-            self.write_part(place, &bytes[done..done + len]);
-            done += len;
-        }
+        self.kept.overwrite(at, bytes);
     }
 
     /// Whether each sector that has one of so many bytes is kept.
