@@ -8,8 +8,8 @@ ghost use Rattle.std.specs.Ordering.{nat_cmp};
 ghost use Rattle.shadow_mbr.specs.Stored.{sector_size, zeros, HaveBlocks, byte_in, byte_after};
 ghost use Rattle.shadow_mbr.specs.Places.{place_at, block_at, blocks_of, blocks_after, AreOwn, AddsPlaces};
 
-use crate::piece::{SECTOR, piece_len};
-use crate::places::Places;
+use crate::piece::{SECTOR, piece_len, sectors_of};
+use crate::places::{Finder, Places};
 use std::alloc::{AllocError, Global};
 use std::marker::Model;
 
@@ -79,15 +79,14 @@ fn write_piece(blocks: &mut Vec<Block>, place: Option<usize>, from: usize, bytes
 }
 
 /// Writes bytes from a place on into the blocks of their sectors, which each have one.
-fn write_blocks(places: &Places, blocks: &mut Vec<Block>, at: u64, bytes: &[u8])
+fn write_blocks(finder: &mut Finder<'_>, blocks: &mut Vec<Block>, at: u64, bytes: &[u8])
     requires inside { at + length bytes.now < 2 ^ 64 }
-    requires own { AreOwn places.now blocks.old.items }
-    requires kept { HaveBlocks (blocks_of places.now blocks.old.items) at (length bytes.now) }
-    ensures own { AreOwn places.now blocks.new.items }
-    ensures bytes { (p : ℕ) → byte_in (blocks_of places.now blocks.new.items) p
-        ≡ byte_after at bytes.now (byte_in (blocks_of places.now blocks.old.items) p) p }
+    requires own { AreOwn finder.old blocks.old.items }
+    requires kept { HaveBlocks (blocks_of finder.old blocks.old.items) at (length bytes.now) }
+    ensures own { AreOwn finder.old blocks.new.items }
+    ensures bytes { (p : ℕ) → byte_in (blocks_of finder.old blocks.new.items) p
+        ≡ byte_after at bytes.now (byte_in (blocks_of finder.old blocks.old.items) p) p }
 {
-    let mut finder = places.finder(at / SECTOR);
     let mut done = 0;
     while done < bytes.len() {
         let place = at + done as u64;
@@ -136,7 +135,7 @@ fn place_all(places: &mut Places, sectors: &[u64], from: usize) -> Result<(), Al
 }
 
 impl Kept {
-    ghost use Rattle.std.specs.Prelude.{◌≡◌, ◌==◌, ◌-◌, ◌&&◌, nat_le, nat_lt, not, ◌+◌, ◌<◌, ◌≤◌, ◌++◌, ℕ, [], None, Some, OnOk, OnErr, true, length, nat_eq, take, drop, is_some, unwrap_or, if◌then◌else◌};
+    ghost use Rattle.std.specs.Prelude.{◌≡◌, ◌==◌, ◌-◌, ◌&&◌, nat_le, nat_lt, not, ◌+◌, ◌<◌, ◌≤◌, ◌++◌, ℕ, [], None, Some, OnOk, OnErr, IsTrue, ◌↔◌, ◌^◌, true, false, length, nat_eq, is_some, unwrap_or, if◌then◌else◌};
     ghost use Rattle.std.specs.List.{list_any};
     ghost use Rattle.std.specs.List.Sorted.{IsStrictlySortedBy};
     ghost use Rattle.std.specs.Map.{keys_of};
@@ -230,7 +229,29 @@ impl Kept {
         ensures whole { (s : ℕ) → length (unwrap_or (block_in self.new s) zeros) ≡ sector_size }
         ensures sorted { IsStrictlySortedBy nat_cmp (keys_of self.new) }
     {
-        write_blocks(&self.places, &mut self.blocks, at, bytes);
+        let mut finder = self.places.finder(at / SECTOR);
+        write_blocks(&mut finder, &mut self.blocks, at, bytes);
+    }
+
+    /// Writes bytes from a place on if each of their sectors is kept, and else changes nothing.
+    #[tactic(auto, using(crate::proofs::Blocks::sorted_blocks))]
+    pub(crate) fn overwrites(&mut self, at: u64, bytes: &[u8]) -> bool
+        requires { at + length bytes.now < 2 ^ 64 }
+        ensures covered { IsTrue result ↔ HaveBlocks self.old at (length bytes.now) }
+        ensures kept { (s : ℕ) → is_some (block_in self.new s) ≡ is_some (block_in self.old s) }
+        ensures bytes { result ≡ true → (p : ℕ)
+            → byte_in self.new p ≡ byte_after at bytes.now (byte_in self.old p) p }
+        ensures misses { result ≡ false → self.new ≡ self.old }
+        ensures whole { (s : ℕ) → length (unwrap_or (block_in self.new s) zeros) ≡ sector_size }
+        ensures sorted { IsStrictlySortedBy nat_cmp (keys_of self.new) }
+    {
+        let (first, end) = sectors_of(at, bytes.len());
+        let mut finder = self.places.finder(first);
+        let all = finder.has_all(first, end);
+        if all {
+            write_blocks(&mut finder, &mut self.blocks, at, bytes);
+        }
+        all
     }
 
     /// Keeps the listed sectors too, as zeros. Where memory is refused, nothing changes.

@@ -61,7 +61,7 @@ impl<'a> Model for Finder<'a> {
 }
 
 impl<'a> Finder<'a> {
-    ghost use Rattle.std.specs.Prelude.{◌≡◌};
+    ghost use Rattle.std.specs.Prelude.{◌≡◌, ◌≤◌, ◌<◌, ◌↔◌, ℕ, IsTrue, is_some, true};
     ghost use Rattle.shadow_mbr.specs.Places.{place_at};
 
     /// Where the sector stands.
@@ -78,6 +78,21 @@ impl<'a> Finder<'a> {
             Some(group) => group[(sector % GROUP) as usize],
             None => None,
         }
+    }
+
+    /// Whether each sector of a run stands somewhere.
+    pub(crate) fn has_all(&mut self, first: u64, end: u64) -> bool
+        requires { first ≤ end }
+        ensures value { IsTrue result
+            ↔ ((s : ℕ) → first ≤ s → s < end → is_some (place_at self.old s) ≡ true) }
+        ensures same { self.new ≡ self.old }
+    {
+        for sector in first..end {
+            if self.at(sector).is_none() {
+                return false;
+            }
+        }
+        true
     }
 }
 

@@ -3,7 +3,7 @@ ghost use Rattle.std.specs.List.{list_any};
 ghost use Rattle.shadow_mbr.specs.Stored.{sector_size, zeros, has_byte};
 
 use crate::kept::{Block, Kept, SECTOR_SIZE};
-use crate::piece::{SECTOR, piece_len};
+use crate::piece::{SECTOR, piece_len, sectors_of};
 use std::alloc::{AllocError, Global};
 use std::marker::Model;
 
@@ -26,23 +26,8 @@ impl Model for Sectors {
     ghost invariant = { λ a. IsSound (record { sectors = a.sectors; kept = a.kept }) };
 }
 
-/// The first sector that has one of so many bytes from a place on, and the one behind the last.
-#[tactic(auto, using(crate::proofs::Touched::has_byte_between))]
-fn sectors_of(at: u64, len: usize) -> (u64, u64)
-    requires { at + len < 2 ^ 64 }
-    ensures from { result.0 ≤ result.1 }
-    ensures within { (sectors : ℕ) → at + len ≤ sector_size * sectors → result.1 ≤ sectors }
-    ensures touched { (s : ℕ) → has_byte at len s ≡ (nat_le result.0 s && nat_lt s result.1) }
-{
-    if len == 0 {
-        (0, 0)
-    } else {
-        (at / SECTOR, (at + len as u64 - 1) / SECTOR + 1)
-    }
-}
-
 impl Sectors {
-    ghost use Rattle.std.specs.Prelude.{◌≡◌, ◌+◌, ◌*◌, ◌/◌, ◌%◌, ◌≤◌, ◌<◌, ◌^◌, ◌==◌, ◌++◌, ℕ, length, OnOk, OnErr, IfOk, IsTrue, ◌↔◌, [], true, is_some, slice_index, take, drop, if◌then◌else◌};
+    ghost use Rattle.std.specs.Prelude.{◌≡◌, ◌+◌, ◌*◌, ◌/◌, ◌%◌, ◌≤◌, ◌<◌, ◌^◌, ◌==◌, ◌++◌, ℕ, length, OnOk, OnErr, IfOk, IsTrue, ◌↔◌, [], true, false, is_some, slice_index, take, drop, if◌then◌else◌};
     ghost use Rattle.std.specs.Prelude.{nat_eq, ◌||◌, None, Some};
     ghost use Rattle.std.specs.List.{list_any};
     ghost use Rattle.shadow_mbr.specs.Stored.{IsSound, AreKept, ListsMissing, sector_size, sector_limit, zeros, kept_at, sector_at, byte_at, byte_after, has_byte, sectors_from};
@@ -161,6 +146,22 @@ impl Sectors {
         self.kept.overwrite(at, bytes);
     }
 
+    /// Writes bytes from a place on if each of their sectors is kept, and else changes nothing.
+    fn overwrites(&mut self, at: u64, bytes: &[u8]) -> bool
+        requires { at + length bytes.now ≤ sector_size * self.old.sectors }
+        ensures size { self.new.sectors ≡ self.old.sectors }
+        ensures covered { IsTrue result ↔ AreKept self.old at (length bytes.now) }
+        ensures kept { (s : ℕ) → is_some (kept_at self.new s) ≡ is_some (kept_at self.old s) }
+        ensures bytes { result ≡ true → (p : ℕ)
+            → byte_at self.new p ≡ byte_after at bytes.now (byte_at self.old p) p }
+        ensures misses { result ≡ false → self.new ≡ self.old }
+        ensures sound { IsSound self.new }
+    {
+        // The sectors are few and whole: the fields say so once they are used.
+        let _ = &self.kept;
+        self.kept.overwrites(at, bytes)
+    }
+
     /// Whether each sector that has one of so many bytes is kept.
     pub(crate) fn covers(&self, at: u64, len: usize) -> bool
         requires { at + len ≤ sector_size * self.now.sectors }
@@ -223,8 +224,10 @@ impl Sectors {
         ensures err { OnErr result (self.new ≡ self.old) }
         ensures sound { IsSound self.new }
     {
-        self.prepare(at, bytes.len())?;
-        self.overwrite(at, bytes);
+        if !self.overwrites(at, bytes) {
+            self.prepare(at, bytes.len())?;
+            self.overwrite(at, bytes);
+        }
         Ok(())
     }
 }

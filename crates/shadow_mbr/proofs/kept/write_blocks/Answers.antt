@@ -18,10 +18,10 @@ loop-done-preserved c =
     let sector = (at + done) / 512 in
     let piece = take (done + len - done) (drop done bytes) in
     let whole : length piece ≡ len = rw size (length-take-le len (drop done bytes) (omega (arith, length-drop done bytes))) in
-    let same : c.loop-done.finder ≡ c.args.places.now = c.loop-done.invariant.finder ∙ c.finder-finder.ensures in
-    let found : c.at-block.result ≡ place_at c.args.places.now sector = c.at-block.ensures.value ∙ ap (λ (ps : List (ℕ × ℕ)). place_at ps sector) same in
+    let same : c.loop-done.finder ≡ c.args.finder.now = c.loop-done.invariant.finder in
+    let found : c.at-block.result ≡ place_at c.args.finder.now sector = c.at-block.ensures.value ∙ ap (λ (ps : List (ℕ × ℕ)). place_at ps sector) same in
     let it =
-    piece_written c.args.places.now c.args.blocks.now.items c.loop-done.blocks.items c.write_piece.new.blocks.items c.at-block.result (at + done) piece
+    piece_written c.args.finder.now c.args.blocks.now.items c.loop-done.blocks.items c.write_piece.new.blocks.items c.at-block.result (at + done) piece
     c.loop-done.invariant.own found (c.requires.kept (at + done) (omega arith) (omega arith)) (omega (arith, whole, c.piece_len-len.ensures.fits)) c.write_piece.ensures in
     record {
       within = within;
@@ -30,5 +30,5 @@ loop-done-preserved c =
       bytes = λ p.
           it.1 p
           ∙ ap (λ before. byte_after (at + done) piece before p) (c.loop-done.invariant.bytes p)
-          ∙ write_more at done len bytes piece (byte_in (blocks_of c.args.places.now c.args.blocks.now.items) p) p within (rw size refl) whole;
+          ∙ write_more at done len bytes piece (byte_in (blocks_of c.args.finder.now c.args.blocks.now.items) p) p within (rw size refl) whole;
     }

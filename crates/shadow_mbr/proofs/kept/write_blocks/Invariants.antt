@@ -7,8 +7,8 @@ abbrev pub invariant-loop-done : goal.invariant-loop-done
 invariant-loop-done l = record {
   within : l.done ≤ length l.bytes;
   finder : l.finder ≡ l.initial.finder;
-  own : AreOwn l.places l.blocks.items;
-  bytes : (p : ℕ) → byte_in (blocks_of l.places l.blocks.items) p ≡ byte_after l.at (take l.done l.bytes) (byte_in (blocks_of l.places l.fn.blocks.items) p) p;
+  own : AreOwn l.initial.finder l.blocks.items;
+  bytes : (p : ℕ) → byte_in (blocks_of l.initial.finder l.blocks.items) p ≡ byte_after l.at (take l.done l.bytes) (byte_in (blocks_of l.initial.finder l.fn.blocks.items) p) p;
 }
 
 abbrev pub decreases-loop-done : goal.decreases-loop-done

@@ -10,4 +10,6 @@ returns-clause-kept c =
     (λ s. same_none places c.write_blocks.new.blocks.items s (place_at places s) refl ∙ sym (same_none places c.self.inside.blocks.items s (place_at places s) refl))
 
 pub returns-clause-whole : goal.returns-clause-whole
-returns-clause-whole c = λ s. whole_block c.self.inside.places c.write_blocks.new.blocks.items s c.write_blocks.ensures.own
+returns-clause-whole c =
+    let own = rw c.finder-finder.ensures at c.write_blocks.ensures.own in
+    λ s. whole_block c.self.inside.places c.write_blocks.new.blocks.items s own
