@@ -5,6 +5,7 @@ use Rattle.device_data.specs.Discovery.{discovery}
 use Rattle.device_data.specs.Identity.{identity}
 use Rattle.device_data.specs.ErrorLog.{sized, error_log}
 use Rattle.fis.specs.H2d.{h2d_at}
+use Rattle.fis.specs.declared.h2d.RegH2d.{RegH2d}
 use Rattle.fis.specs.declared.any.Fis.{Fis}
 use Rattle.fis.specs.declared.any.Fis.TheVariants as fises
 use Rattle.compacket.specs.Spelling.{com_packet_header}
@@ -52,9 +53,12 @@ abbrev pub data_read : Facts → Result (Command × Option ℕ) CommandError →
 data_read f (Ok (command, None)) = data_of f command
 data_read f _ = []
 
--- Of an accepted FIS with its event.
+-- Of the FIS of a command, with its event; and of the bytes of an accepted FIS.
+abbrev pub answer_data : Facts → RegH2d → Event → List ℕ
+answer_data f h event = if is_some event.failed then [] else data_read f (reading h)
+
 abbrev pub accepted_data : Facts → List ℕ → Event → List ℕ
-accepted_data f fis event = if is_some event.failed then [] else data_read f (reading (h2d_at fis))
+accepted_data f fis event = answer_data f (h2d_at fis) event
 
 -- Of a completion.
 abbrev pub held_data : Facts → HeldCommand → List ℕ
@@ -142,11 +146,13 @@ abbrev pub is_holding : Deed → Bool
 is_holding (OfQueue (Held tag held)) = true
 is_holding _ = false
 
-abbrev pub accepted_fises : List ℕ → Event → List Fis
-accepted_fises fis event =
+abbrev pub answer_fises : RegH2d → Event → List Fis
+answer_fises h event =
     if is_some event.failed then answer_fis true failed (unwrap_or event.failed 0) ∷ []
-    else (if is_holding event.deed
-    then answer_fis false ready 0 ∷ [] else fises_read (reading (h2d_at fis)))
+    else (if is_holding event.deed then answer_fis false ready 0 ∷ [] else fises_read (reading h))
+
+abbrev pub accepted_fises : List ℕ → Event → List Fis
+accepted_fises fis event = answer_fises (h2d_at fis) event
 
 -- A completion: a DMA Setup FIS with bit D for a read, the tag and the count of bytes, and a Set
 -- Device Bits FIS with bit I and the tag's bit of SActive.
