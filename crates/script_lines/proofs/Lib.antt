@@ -1,2 +1,3 @@
+mod Digits
 mod Numerals
 mod Sectors
