@@ -1,4 +1,3 @@
-use Rattle.std.proofs.Common.{◌≡◌, ◌∙◌, sym, true, false, arith}
 use Rattle.script_lines.proofs.Digits.{decodes, taken, too_many, no_bytes}
 use Rattle.script_lines.proofs.hex_word.Hex.new.Goals as goal
 
