@@ -1,7 +1,8 @@
 //! What the words of a line say, field by field.
 
-ghost use Rattle.std.specs.Prelude.{◌≡◌, ◌≤◌, IfOk, OnOk};
+ghost use Rattle.std.specs.Prelude.{◌≡◌, ◌<◌, ◌≤◌, length, IfOk, OnOk, MatchResult};
 ghost use Rattle.script_lines.specs.Words.{first_word, after_word, after_words};
+ghost use Rattle.script_lines.specs.declared.fault.LineFault.TheVariants.{Missing};
 ghost use Rattle.script_lines.specs.Fields.{most_of, number_in, flag_in, reset_in, byte_in, bytes_in, range_in, transfer_in, unqueued_in};
 
 use crate::fault::LineFault;
@@ -15,16 +16,28 @@ use fis::{Lba, Tag};
 use locking::RangeRow;
 
 impl<'a> Words<'a> {
+    /// The next word, where the line has one for a field.
+    fn present(&mut self, field: Field) -> Result<&'a [u8], LineFault>
+        ensures value { MatchResult result
+            (λ word. (word.now ≡ first_word self.old.rest.now) × (0 < length (first_word self.old.rest.now)))
+            (λ fault. (fault ≡ Missing field) × (length (first_word self.old.rest.now) ≡ 0)) }
+        ensures rest { self.new.rest.now ≡ after_word self.old.rest.now }
+    {
+        let word = self.next_word();
+        if word.is_empty() {
+            Err(LineFault::Missing(field))
+        } else {
+            Ok(word)
+        }
+    }
+
     /// The next word as the number of a field.
     pub fn number(&mut self, field: Field) -> Result<u64, LineFault>
         ensures value { result ≡ number_in field (first_word self.old.rest.now) }
         ensures most { IfOk result (λ n. n ≤ most_of field) }
         ensures rest { self.new.rest.now ≡ after_word self.old.rest.now }
     {
-        let word = self.next_word();
-        if word.is_empty() {
-            return Err(LineFault::Missing(field));
-        }
+        let word = self.present(field)?;
         number_up_to(field.most(), word).ok_or(LineFault::Wrong(field))
     }
 
@@ -53,10 +66,7 @@ impl<'a> Words<'a> {
         ensures value { result ≡ byte_in field (first_word self.old.rest.now) }
         ensures rest { self.new.rest.now ≡ after_word self.old.rest.now }
     {
-        let word = self.next_word();
-        if word.is_empty() {
-            return Err(LineFault::Missing(field));
-        }
+        let word = self.present(field)?;
         let mut byte = [0];
         match hex::decode_to_slice(word, &mut byte) {
             Ok(()) => Ok(byte[0]),
@@ -69,10 +79,7 @@ impl<'a> Words<'a> {
         ensures value { result ≡ bytes_in field (first_word self.old.rest.now) }
         ensures rest { self.new.rest.now ≡ after_word self.old.rest.now }
     {
-        let word = self.next_word();
-        if word.is_empty() {
-            return Err(LineFault::Missing(field));
-        }
+        let word = self.present(field)?;
         Hex::new(word, field.most()).ok_or(LineFault::Wrong(field))
     }
 
