@@ -16,9 +16,9 @@ use Rattle.script_lines.specs.declared.line.UnqueuedTransfer.{UnqueuedTransfer}
 use Rattle.script_lines.specs.declared.field.Field.{Field}
 use Rattle.script_lines.specs.declared.field.Field.TheVariants as fields
 
--- the largest number that a field holds: a flag has 1 bit, a tag 5 (AHCI 1.3.1, 3.1.1), an address 48 (ACS-3).
--- Of hex digits it is the most bytes: a ComPacket of 65,536 bytes has room for 65,480 bytes of tokens, and a
--- ComPacket fits the blocks that a TRUSTED SEND counts in 16 bits (ACS-3)
+-- the largest number that a field holds: a flag has 1 bit, a tag 5 (AHCI 1.3.1, 3.1.1), an address
+-- 48 (ACS-3). Of hex digits it is the most bytes that they write: a ComPacket of 65,536 bytes has room
+-- for 65,480 bytes of tokens, and TRUSTED SEND counts the blocks of a ComPacket in 16 bits (ACS-3)
 abbrev pub most_of : Field → ℕ
 most_of fields.ReadLockEnabled = largest 1
 most_of fields.WriteLockEnabled = largest 1
@@ -60,7 +60,8 @@ Err e >>= f = Err e
 
 -- a word as the number of a field
 abbrev pub number_in : Field → List ℕ → Result ℕ LineFault
-number_in field word = if_present field word (or_fault (Wrong field) (number_up_to (most_of field) word))
+number_in field word =
+    if_present field word (or_fault (Wrong field) (number_up_to (most_of field) word))
 
 abbrev pub flag_of : Result ℕ LineFault → Result Bool LineFault
 flag_of (Ok number) = Ok (number == 1)
@@ -88,7 +89,8 @@ byte_in field word = if_present field word (byte_or_fault field (decode_sized wo
 
 -- bytes written in hex digits, two a byte
 abbrev pub bytes_in : Field → List ℕ → Result (List ℕ) LineFault
-bytes_in field word = if_present field word (or_fault (Wrong field) (bytes_up_to (most_of field) word))
+bytes_in field word =
+    if_present field word (or_fault (Wrong field) (bytes_up_to (most_of field) word))
 
 -- what the words of a transfer say
 abbrev pub transfer_in : List ℕ → Result Transfer LineFault

@@ -1,15 +1,15 @@
 -- What a line says. Words stand between runs of blanks; the first one says which line it is:
---   range N START LENGTH RE WE RL WL     the cells of a range
---   read C T L N                         a queued read of client C under tag T, from sector L, N sectors
---   write C T L N HH                     a queued write, whose bytes are all HH
---   dread C L N                          an unqueued read of client C, from sector L, N sectors
---   dwrite C L N HH                      an unqueued write, whose bytes are all HH
---   call C ID TSN HSN HEX                tokens, sent in a ComPacket for ComID ID in the session TSN, HSN
---   send C ID HEX                        a ComPacket, sent as it is
---   recv C ID BLOCKS                     the response for ComID ID is fetched, so many blocks of it
---   log C                                the log page of queued errors is read
---   reset C K                            a reset: 0 is a power cycle, 1 a hardware reset
---   expect TEXT                          the last printed line is TEXT, byte for byte
+--   range N START LENGTH RE WE RL WL   the cells of a range
+--   read C T L N                       a queued read of client C under tag T: N sectors from L
+--   write C T L N HH                   a queued write, whose bytes are all HH
+--   dread C L N                        an unqueued read of client C: N sectors from L
+--   dwrite C L N HH                    an unqueued write, whose bytes are all HH
+--   call C ID TSN HSN HEX              tokens for ComID ID in the session TSN, HSN, framed and sent
+--   send C ID HEX                      a ComPacket for ComID ID, sent as it is
+--   recv C ID BLOCKS                   the response for ComID ID is fetched, so many blocks of it
+--   log C                              the log page of queued errors is read
+--   reset C K                          a reset: 0 is a power cycle, 1 a hardware reset
+--   expect TEXT                        the last printed line is TEXT, byte for byte
 use Rattle.std.specs.Prelude.{ℕ, ◌==◌, length, drop, codes, Bool, if◌then◌else◌, List, Result, Ok, Err}
 use Rattle.std.specs.Str.{bytes_eq}
 use Rattle.script_lines.specs.Words.{after_words, first_word, after_word, word}
@@ -85,7 +85,9 @@ recv_line rest = do
 
 -- what the words behind `log` say
 abbrev pub log_line : List ℕ → Result Line LineFault
-log_line rest = number_in fields.Client (word 0 rest) >>= λ client. ended (after_words 1 rest) (Log client)
+log_line rest = do
+  client ← number_in fields.Client (word 0 rest)
+  ended (after_words 1 rest) (Log client)
 
 -- what the words behind `reset` say
 abbrev pub reset_line : List ℕ → Result Line LineFault

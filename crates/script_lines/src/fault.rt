@@ -32,7 +32,8 @@ impl fmt::Display for LineFault {
     fn fmt<W: fmt::Write>(&self, f: &mut fmt::Formatter<W>) -> fmt::Result {
         match *self {
             LineFault::UnknownWord => f.write_str(
-                "the first word is none of range, read, write, dread, dwrite, call, send, recv, log, reset and expect",
+                "the first word is none of range, read, write, dread, dwrite, call, send, recv, \
+                 log, reset and expect",
             ),
             LineFault::Missing(field) => {
                 write!(f, "{field} is missing: ")?;

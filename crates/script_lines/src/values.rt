@@ -19,7 +19,7 @@ impl<'a> Words<'a> {
     /// The next word, where the line has one for a field.
     fn present(&mut self, field: Field) -> Result<&'a [u8], LineFault>
         ensures value { MatchResult result
-            (λ word. (word.now ≡ first_word self.old.rest.now) × (0 < length (first_word self.old.rest.now)))
+            (λ word. (word.now ≡ first_word self.old.rest.now) × (0 < length word.now))
             (λ fault. (fault ≡ Missing field) × (length (first_word self.old.rest.now) ≡ 0)) }
         ensures rest { self.new.rest.now ≡ after_word self.old.rest.now }
     {
