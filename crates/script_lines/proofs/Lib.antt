@@ -1,2 +1,4 @@
+pub mod Bounds
+mod Digits
 mod Numerals
 mod Sectors

@@ -1,0 +1,10 @@
+use Rattle.std.proofs.Common.{◌≡◌, drop}
+use Rattle.std.specs.Str.{all_ascii_digits}
+use Rattle.std.specs.Str.Parse.{digits_value, digits_value_after}
+use Rattle.script_lines.proofs.number.number_up_to.Given as goal
+
+abbrev pub invariant-loop-digit : goal.invariant-loop-digit
+invariant-loop-digit l = record {
+  digits : all_ascii_digits (drop l.digit-index l.text) ≡ all_ascii_digits l.text;
+  value : digits_value_after 10 l.number (drop l.digit-index l.text) ≡ digits_value 10 l.text;
+}
