@@ -1,3 +1,5 @@
 pub mod Carried
 pub mod Items
+pub mod KeptBeside
+mod Keeping
 mod Responses
