@@ -3,3 +3,4 @@ pub mod Items
 pub mod KeptBeside
 mod Keeping
 mod Responses
+mod Sends
