@@ -7,6 +7,7 @@ use Rattle.std.proofs.lemmas.Bool.{ltb-true, le-leb, lt-ltb}
 use Rattle.std.proofs.lemmas.Bool.Decides.{nat_tests}
 use Rattle.std.proofs.lemmas.List.{length-append}
 use Rattle.tcg_tokens.specs.Tree.{Tree, number, bytes, list, trees_of}
+use Rattle.tcg_tokens.specs.Message.{begin, end}
 use Rattle.tcg_tokens.specs.Length.{len_of}
 use Rattle.tcg_tokens.specs.Spelling.{header, significant, number_spelling, bytes_spelling, status_spelling, item_spelling_of}
 use Rattle.tcg_tokens.specs.Writable.{fits_number}
@@ -66,7 +67,7 @@ bare_locked_out : is_carried (reply_of [] authority_locked_out) ≡ true
 unfolding number_spelling
 bare_locked_out = refl
 
-bare_fail : is_carried (reply_of [] fail) ≡ true
+pub bare_fail : is_carried (reply_of [] fail) ≡ true
 unfolding number_spelling
 bare_fail = refl
 
@@ -246,3 +247,25 @@ properties_either false = refl
 
 pub properties_carried : (args : List Tree) → is_carried (properties_message args) ≡ true
 properties_carried args = properties_either (takes_properties args)
+
+-- ---- the other items
+
+pub begin_carried : is_carried (begin 0) ≡ true
+unfolding number_spelling
+begin_carried = refl
+
+pub begin_refused_carried : is_carried (begin 0x10) ≡ true
+unfolding number_spelling
+begin_refused_carried = refl
+
+pub end_carried : is_carried (end 0) ≡ true
+unfolding number_spelling
+end_carried = refl
+
+pub abort_carried : is_carried (end 1) ≡ true
+unfolding number_spelling
+abort_carried = refl
+
+pub end_refused_carried : is_carried (end 0x10) ≡ true
+unfolding number_spelling
+end_refused_carried = refl

@@ -1,1 +1,6 @@
 pub mod Carried
+pub mod Items
+pub mod KeptBeside
+mod Keeping
+mod Responses
+mod Sends

@@ -5,6 +5,7 @@ ghost use Rattle.call_shapes.specs.Asks.{uid_of as uid_in};
 ghost use Rattle.call_shapes.specs.Carried.{is_carried};
 ghost use Rattle.call_shapes.specs.Named.{values_of};
 ghost use Rattle.call_shapes.specs.Statuses.{fail};
+ghost use Rattle.tcg_tokens.specs.declared.error.TokenError.TheVariants.{OutOfMemory};
 ghost use Rattle.tcg_tokens.specs.Message.{message, end_session};
 ghost use Rattle.tcg_tokens.specs.Reading.{reading as message_in};
 ghost use Rattle.tcg_tokens.specs.Tree.{trees};
@@ -42,11 +43,26 @@ fn failed(alloc: Global) -> Outcome
     ensures reply { message result.reply ≡ refusal fail }
     ensures denied { result.denied ≡ None }
     ensures wipe { result.wipe ≡ false }
+    ensures carried { is_carried (message result.reply) ≡ true }
 {
     answer(Item::Reply(Reply {
         results: Vec::new(alloc),
         status: [status::FAIL, 0, 0],
     }))
+}
+
+/// The refusal of what is no item; want of memory stays an error.
+fn no_item(alloc: Global, fault: TokenError) -> Result<Outcome, AllocError>
+    ensures fault { OnOk result (fault ≢ OutOfMemory) }
+    ensures reply { IfOk result (λ said. message said.reply ≡ refusal fail) }
+    ensures denied { IfOk result (λ said. said.denied ≡ None) }
+    ensures wipe { IfOk result (λ said. said.wipe ≡ false) }
+    ensures carried { IfOk result (λ said. is_carried (message said.reply) ≡ true) }
+{
+    if fault == TokenError::OutOfMemory {
+        return Err(AllocError);
+    }
+    Ok(failed(alloc))
 }
 
 /// A method of the session manager.
@@ -95,9 +111,11 @@ pub(crate) fn to_manager(
 {
     match read_item(alloc, tokens) {
         Ok(Item::Call(call)) => call_manager(alloc, store, sessions, com_id, &call),
-        Ok(Item::Reply(_) | Item::EndSession | Item::Begin(_) | Item::End(_)) => Ok(failed(alloc)),
-        Err(TokenError::OutOfMemory) => Err(AllocError),
-        Err(_) => Ok(failed(alloc)),
+        Ok(Item::Reply(_)) => Ok(failed(alloc)),
+        Ok(Item::EndSession) => Ok(failed(alloc)),
+        Ok(Item::Begin(_)) => Ok(failed(alloc)),
+        Ok(Item::End(_)) => Ok(failed(alloc)),
+        Err(fault) => no_item(alloc, fault),
     }
 }
 
@@ -193,7 +211,6 @@ pub(crate) fn in_session(
         Ok(Item::End(number)) => Ok(end(store, session, number)),
         Ok(Item::EndSession) => Ok(end_session(store, sessions, session)),
         Ok(Item::Reply(_)) => Ok(failed(alloc)),
-        Err(TokenError::OutOfMemory) => Err(AllocError),
-        Err(_) => Ok(failed(alloc)),
+        Err(fault) => no_item(alloc, fault),
     }
 }

@@ -1,6 +1,7 @@
 //! The responses that wait, and the room of one (TCG Core 2.01, section 3.3.10.3).
 
 ghost use Rattle.std.specs.Prelude.{◌≡◌, ◌==◌, ◌<◌, ◌≤◌, ◌++◌, ◌-◌, ◌∷◌, [], ℕ, List, true, Option, option_copied, None, Some, length, IfOk, OnOk, OnErr, replicate, slice_index_or, if◌then◌else◌};
+ghost use Rattle.compacket.specs.declared.headers.TheConstants.{MAX_COM_PACKET};
 ghost use Rattle.device_data.specs.ErrorLog.{sized};
 ghost use Rattle.history.specs.Decisions.{is_session_com_id};
 ghost use Rattle.history.specs.Answers.{received_bytes};
@@ -79,6 +80,14 @@ fn sized(alloc: Global, bytes: &[u8], length: usize) -> Result<Vec<u8>, AllocErr
     Ok(out)
 }
 
+/// How many bytes a response has.
+fn size_of(response: &[u8]) -> u32
+    requires { length response.now ≤ MAX_COM_PACKET }
+    ensures { result ≡ length response.now }
+{
+    response.len() as u32
+}
+
 impl Responses {
     /// None waits.
     pub fn new() -> Responses
@@ -128,7 +137,7 @@ impl Responses {
                 if bytes.len() <= room {
                     sized(alloc, bytes, room)
                 } else {
-                    sized(alloc, &short_header(com_id, bytes.len() as u32), room)
+                    sized(alloc, &short_header(com_id, size_of(bytes)), room)
                 }
             }
         }

@@ -14,6 +14,7 @@ ghost use Rattle.history.specs.Facts.{facts};
 ghost use Rattle.history.specs.History.{Act, log};
 ghost use Rattle.history.specs.KeptStore.{HasKnownRows};
 ghost use Rattle.history.specs.Opening.{Origin};
+ghost use Rattle.history.specs.Readers.{waiting};
 ghost use Rattle.call_shapes.specs.Carried.{is_carried};
 ghost use Rattle.tcg_tokens.specs.Message.{message};
 ghost use Rattle.tcg_tokens.specs.Reading.{reading as message_in};
@@ -197,6 +198,10 @@ impl Tper {
         ensures live { self.new.live ≡ self.old.live }
         ensures waiting { OnOk result (Takes com_id room self.old self.new) }
         ensures err { OnErr result (self.new ≡ self.old) }
+        ensures config { self.new.store.config ≡ self.old.store.config }
+        ensures kept { OnOk result ((o : Origin) (past : List Event) (blocks : ℕ)
+            → room ≡ sector_size * blocks → Keeps self.old o past
+            → Keeps self.new o (received com_id blocks (waiting past com_id) ∷ past)) }
     {
         let data = self.responses.data(self.alloc, com_id, room)?;
         if self.responses.fits(com_id, room) {
@@ -208,7 +213,8 @@ impl Tper {
     /// Ends all sessions and transactions, drops the responses that wait, and does what a reset of this kind does to
     /// the rows. It takes no memory.
     pub fn reset(&mut self, kind: u8)
-        ensures { (o : Origin) (past : List Event) → Keeps self.old o past
+        ensures config { self.new.store.config ≡ self.old.store.config }
+        ensures kept { (o : Origin) (past : List Event) → Keeps self.old o past
             → Keeps self.new o (did (WasReset kind) ∷ past) }
     {
         self.store.reset_rows(kind);

@@ -1,0 +1,113 @@
+-- What an item comes to: answers that change nothing, calls of a session, StartSession; and that each can be carried.
+use Rattle.std.proofs.Common.{◌≡◌, ℕ, ◌==◌, Bool, true, false, ◌&&◌, List, [], Option, None, Some, refl, sym, subst, ◌∙◌, ap, cond}
+use Rattle.std.specs.Prelude.{Result, Ok, Err, map}
+use Rattle.sp_cells.specs.declared.names.Uid.{Uid}
+use Rattle.sp_cells.specs.Names.{session_manager, properties, start_session}
+use Rattle.tcg_tokens.specs.declared.error.TokenError.{TokenError}
+use Rattle.tcg_tokens.specs.declared.error.TokenError.TheVariants.{OutOfMemory}
+use Rattle.tcg_tokens.specs.declared.value.Call.{Call}
+use Rattle.tcg_tokens.specs.Tree.{Tree, tree, trees}
+use Rattle.tcg_tokens.specs.Message.{Message, message}
+use Rattle.tcg_tokens.specs.Gives.{Fails}
+use Rattle.audit.specs.declared.reason.Why.{Why}
+use Rattle.call_shapes.specs.Asks.{uid_of}
+use Rattle.call_shapes.specs.Carried.{is_carried}
+use Rattle.call_shapes.specs.Named.{values_of}
+use Rattle.call_shapes.proofs.NamedLemmas.{values_trees}
+use Rattle.transactions.specs.declared.change.SessionId.{SessionId}
+use Rattle.transactions.specs.Stored.{Stored}
+use Rattle.sessions.specs.Live.{Live, AreNumbered, session_at}
+use Rattle.sessions.specs.Properties.{properties_message}
+use Rattle.sessions.specs.Starts.{start_reply, start_denied, start_stored, start_at, start_next}
+use Rattle.methods.specs.declared.outcome.Outcome.{Outcome as Answered}
+use Rattle.methods.specs.Said.{Said, said_seen}
+use Rattle.methods.specs.Calls.{Called, called_with, call_in, said_call, stored_call, holder_call}
+use Rattle.history.specs.Opening.{Origin}
+use Rattle.history.specs.Events.{Event, Unchanged}
+use Rattle.history.specs.Facts.{Facts, facts}
+use Rattle.history.specs.Decisions.{Outcome, says, refusal, called_manager, to_manager, in_session, outcome_of, judgement_on, started}
+use Rattle.history.specs.History.{log}
+use Rattle.history.specs.KeptStore.{KeepsStore}
+use Rattle.history.specs.KeptSessions.{KeepsSessions, id_of}
+use Rattle.history.specs.KeptCalls.{Meets}
+use Rattle.history.proofs.KeptCallsProofs.{kept_call_law}
+use Rattle.history.proofs.KeptSessionsStart.{start_law}
+use Rattle.tper.specs.Items.{Answers, OfManager, OfSession}
+use Rattle.tper.proofs.Carried.{call_carried, start_carried, properties_carried}
+
+-- an answer that is this message can be carried, as the message can
+pub carried-as : (said : Message) (m : Message) → said ≡ m → is_carried m ≡ true → is_carried said ≡ true
+carried-as said m h k = subst (λ (x : Message). is_carried x ≡ true) (sym h) k
+
+-- ---- a call of a session
+
+said-meets : (out : Outcome) (said : Answered) (x : Said) (s t u : Stored) (l m : Live) → said_seen said ≡ x → t ≡ u → Meets out x.answer x.denied x.wipe s u l m → Answers out said s t l m
+said-meets out said x s t u l m h k g =
+    subst (λ (v : Stored). Answers out said s v l m) (sym k)
+    (subst (λ (y : Said). Meets out y.answer y.denied y.wipe s u l m) (sym h) g)
+
+-- the call by the values of its arguments is the call that the session sends
+same-call : (l : Live) (session : SessionId) (call : Call) → called_with l session (uid_of call.object) (uid_of call.method) (values_of (trees call.args.items)) ≡ call_in l session call
+same-call l session call =
+    ap (λ (args : List Tree). called_with l session (uid_of call.object) (uid_of call.method) args) (values_trees call.args.items)
+
+pub call-met : (s t : Stored) (l m : Live) (session : SessionId) (call : Call) (said : Answered)
+    → said_seen said ≡ said_call s (call_in l session call)
+    → t ≡ stored_call s (call_in l session call)
+    → ((n : ℕ) → session_at m n ≡ holder_call s (call_in l session call) n (session_at l n))
+    → m.next ≡ l.next
+    → OfSession (λ f its. outcome_of f its.sp (judgement_on f its (uid_of call.object) (uid_of call.method) (trees call.args.items))) session said s t l m
+call-met s t l m session call said answered stored points next = λ o acts its ks kl lives same.
+    let is : call_in l session call ≡ called_with l (id_of its) (uid_of call.object) (uid_of call.method) (values_of (trees call.args.items)) =
+    ap (λ (id : SessionId). call_in l id call) same ∙ sym (same-call l (id_of its) call) in
+    said-meets _ said (said_call s (called_with l (id_of its) (uid_of call.object) (uid_of call.method) (values_of (trees call.args.items))))
+    s t (stored_call s (called_with l (id_of its) (uid_of call.object) (uid_of call.method) (values_of (trees call.args.items)))) l m
+    (answered ∙ ap (λ (c : Called). said_call s c) is)
+    (stored ∙ ap (λ (c : Called). stored_call s c) is)
+    (kept_call_law o acts s l m its (uid_of call.object) (uid_of call.method) (trees call.args.items) ks kl lives next
+    (λ n. points n ∙ ap (λ (c : Called). holder_call s c n (session_at l n)) is))
+
+pub call-carried : (s : Stored) (l : Live) (session : SessionId) (call : Call) (said : Answered) → said_seen said ≡ said_call s (call_in l session call) → is_carried (message said.reply) ≡ true
+call-carried s l session call said h = carried-as (message said.reply) _ (ap (λ (x : Said). x.answer) h) (call_carried s (call_in l session call))
+
+-- ---- the session manager
+
+is-start : (f : Facts) (com_id : ℕ) (object method : Uid) (args : List Tree) → object ≡ session_manager → method ≡ start_session → started f com_id args ≡ called_manager f com_id object method args
+is-start f com_id object method args h k =
+    ap (λ (u : Uid). called_manager f com_id u start_session args) (sym h) ∙ ap (λ (u : Uid). called_manager f com_id object u args) (sym k)
+
+pub start-met : (s t : Stored) (l m : Live) (com_id : ℕ) (object method : Uid) (call : Call) (said : Message) (why : Option Why)
+    → object ≡ session_manager → method ≡ start_session
+    → said ≡ start_reply s l (map tree call.args.items)
+    → why ≡ start_denied s l (map tree call.args.items)
+    → t ≡ start_stored s l (map tree call.args.items)
+    → ((n : ℕ) → session_at m n ≡ start_at s l com_id (map tree call.args.items) n)
+    → m.next ≡ start_next s l (map tree call.args.items)
+    → AreNumbered l
+    → (o : Origin) (past : List Event) → KeepsStore s o past → KeepsSessions l past
+    → Meets (called_manager (facts o past) com_id object method (values_of (trees call.args.items))) said why false s t l m
+start-met s t l m com_id object method call said why is-object is-method answered reasons stored points next numbered o past ks kl =
+    let args = map tree call.args.items in
+    let law = start_law o past s l m com_id args ks kl numbered next points in
+    let by-answer = subst (λ (x : Message). Meets (started (facts o past) com_id args) x (start_denied s l args) false s (start_stored s l args) l m) (sym answered) law in
+    let by-reason = subst (λ (x : Option Why). Meets (started (facts o past) com_id args) said x false s (start_stored s l args) l m) (sym reasons) by-answer in
+    let by-store = subst (λ (x : Stored). Meets (started (facts o past) com_id args) said why false s x l m) (sym stored) by-reason in
+    let by-call = subst (λ (x : Outcome). Meets x said why false s t l m) (is-start (facts o past) com_id object method args is-object is-method) by-store in
+    subst (λ (x : List Tree). Meets (called_manager (facts o past) com_id object method x) said why false s t l m) (sym (values_trees call.args.items)) by-call
+
+-- ---- what was read
+
+-- a fault that is not want of memory is the reading's
+pub fault-is : (e : TokenError) (read : Result Message TokenError) → (e ≡ OutOfMemory → ⊥) → Fails e read → read ≡ Err e
+fault-is OutOfMemory read n h = absurd (n refl)
+fault-is _ read n h = h
+
+pub read-in : (read r : Result Message TokenError) (session : SessionId) (said : Answered) (s t : Stored) (l m : Live) → read ≡ r → OfSession (λ f its. in_session f its r) session said s t l m → OfSession (λ f its. in_session f its read) session said s t l m
+read-in read r session said s t l m h g = subst (λ (x : Result Message TokenError). OfSession (λ f its. in_session f its x) session said s t l m) (sym h) g
+
+pub read-by : (read r : Result Message TokenError) (com_id : ℕ) (said : Answered) (s t : Stored) (l m : Live) → read ≡ r → OfManager (λ f. to_manager f com_id r) said s t l m → OfManager (λ f. to_manager f com_id read) said s t l m
+read-by read r com_id said s t l m h g = subst (λ (x : Result Message TokenError). OfManager (λ f. to_manager f com_id x) said s t l m) (sym h) g
+
+-- an answer that changes nothing
+pub unchanged : (x : Message) (said : Answered) (s : Stored) (l : Live) → message said.reply ≡ x → said.denied ≡ None → said.wipe ≡ false → Answers (says Unchanged x) said s s l l
+unchanged x said s l h k w = record { answer = h; denied = k; wipe = w; store = refl; sessions = record { next = refl; at = λ n. refl } }

@@ -1,0 +1,93 @@
+-- An answered item, a receive, a reset and no acts keep what the past says.
+use Rattle.std.proofs.Common.{◌≡◌, ℕ, ◌*◌, ◌==◌, Bool, true, false, ◌&&◌, List, [], ◌∷◌, length, Option, Some, None, refl, sym, subst, ap, ◌∙◌, cond}
+use Rattle.std.specs.Prelude.{unwrap_or, nat_le}
+use Rattle.compacket.specs.declared.session.Session.{Session}
+use Rattle.compacket.specs.Spelling.{frame_bytes}
+use Rattle.tcg_tokens.specs.Message.{Message, message}
+use Rattle.tcg_tokens.specs.Spelling.{item_spelling_of}
+use Rattle.sp_tables.specs.Contents.{Contents}
+use Rattle.shadow_mbr.specs.Stored.{Stored as Bytes, sector_size, byte_at}
+use Rattle.transactions.specs.Stored.{Stored, new_store, after_reset}
+use Rattle.sessions.specs.Live.{Live, session_at}
+use Rattle.methods.specs.declared.outcome.Outcome.{Outcome as Answered}
+use Rattle.history.specs.Opening.{Origin}
+use Rattle.history.specs.Agreement.{HasNoTries}
+use Rattle.history.specs.Events.{Event, Nothing, Took, WasReset, did}
+use Rattle.history.specs.Readers.{waiting, waits}
+use Rattle.history.specs.Decisions.{Outcome, answers, received}
+use Rattle.history.specs.KeptStore.{HasKnownRows, KeepsStore}
+use Rattle.history.specs.KeptSessions.{LeavesAll}
+use Rattle.history.proofs.KeptStoreOpenings.{store_opening_law}
+use Rattle.history.proofs.KeptSessionsLaws.{sessions_opening_law}
+use Rattle.tper.specs.declared.trusted.Sent.{Sent}
+use Rattle.tper.specs.Items.{Answers}
+use Rattle.tper.specs.Tper.{Tper, Keeps, IsSent, Responds, Takes, Handles, response_at, fits_in}
+use Rattle.tper.proofs.KeptBeside.{kept_after, kept_beside}
+
+-- ---- an item
+
+waits-there : (b : Bool) (bytes : List ℕ) (w : Option (List ℕ)) → cond b (Some bytes) w ≡ unwrap_or (cond b (Some (Some bytes)) None) w
+waits-there true bytes w = refl
+waits-there false bytes w = refl
+
+pub answer-kept : (t u : Tper) (o : Origin) (past : List Event) (com_id : ℕ) (session : Session) (out : Outcome) (said : Answered)
+    → Answers out said t.store u.store t.live u.live → Responds com_id session (message said.reply) t u
+    → Keeps t o past → Keeps u o (answers com_id session out ∷ past)
+answer-kept t u o past com_id session out said met responds k =
+    kept_after t u o past (answers com_id session out) met.store met.sessions
+    (λ other. responds other
+    ∙ ap (λ (m : Message). cond (com_id == other) (Some (frame_bytes com_id session (item_spelling_of m))) (response_at t.waiting other)) met.answer
+    ∙ waits-there (com_id == other) (frame_bytes com_id session (item_spelling_of out.said)) (response_at t.waiting other)) k
+
+pub answer-sent : (t u : Tper) (com_id : ℕ) (session : Session) (out : Outcome) (said : Answered) (s : Sent)
+    → Answers out said t.store u.store t.live u.live → s.denied ≡ said.denied → s.wipes ≡ said.wipe
+    → IsSent (answers com_id session out) s
+answer-sent t u com_id session out said s met denied wiped = record { failed = refl; denied = denied ∙ met.denied; wipes = wiped ∙ met.wipe }
+
+-- ---- a receive
+
+there : (b : Bool) (w : Option (List ℕ)) → cond (b && true) None w ≡ unwrap_or (cond b (Some None) None) w
+there true w = refl
+there false w = refl
+
+not-there : (b : Bool) (w : Option (List ℕ)) → cond (b && false) None w ≡ w
+not-there true w = refl
+not-there false w = refl
+
+leaves : (l m : Live) → m ≡ l → LeavesAll l m
+leaves l m h = record { next = ap (λ (x : Live). x.next) h; at = λ n. ap (λ (x : Live). session_at x n) h }
+
+took-kept : (t u : Tper) (o : Origin) (past : List Event) (com_id room : ℕ) → u.store ≡ t.store → u.live ≡ t.live → Takes com_id room t u → Keeps t o past
+    → (f : Bool) → fits_in room (response_at t.waiting com_id) ≡ f → Keeps u o (cond f (did (Took com_id)) (did Nothing) ∷ past)
+took-kept t u o past com_id room hs hl takes k true h =
+    kept_after t u o past (did (Took com_id)) hs (leaves t.live u.live hl)
+    (λ other. takes other ∙ ap (λ (b : Bool). cond (com_id == other && b) None (response_at t.waiting other)) h ∙ there (com_id == other) (response_at t.waiting other)) k
+took-kept t u o past com_id room hs hl takes k false h =
+    kept_after t u o past (did Nothing) hs (leaves t.live u.live hl)
+    (λ other. takes other ∙ ap (λ (b : Bool). cond (com_id == other && b) None (response_at t.waiting other)) h ∙ not-there (com_id == other) (response_at t.waiting other)) k
+
+received-kept : (t u : Tper) (o : Origin) (past : List Event) (com_id room blocks : ℕ) → u.store ≡ t.store → u.live ≡ t.live → Takes com_id room t u → room ≡ sector_size * blocks → Keeps t o past
+    → (w : Option (List ℕ)) → response_at t.waiting com_id ≡ w → Keeps u o (received com_id blocks w ∷ past)
+received-kept t u o past com_id room blocks hs hl takes size k None is =
+    took-kept t u o past com_id room hs hl takes k false (ap (λ (w : Option (List ℕ)). fits_in room w) is)
+received-kept t u o past com_id room blocks hs hl takes size k (Some r) is =
+    took-kept t u o past com_id room hs hl takes k (nat_le (length r) (sector_size * blocks))
+    (ap (λ (w : Option (List ℕ)). fits_in room w) is ∙ ap (λ (n : ℕ). nat_le (length r) n) size)
+
+pub take-kept : (t u : Tper) (o : Origin) (past : List Event) (com_id room blocks : ℕ) → u.store ≡ t.store → u.live ≡ t.live → Takes com_id room t u → room ≡ sector_size * blocks → Keeps t o past → Keeps u o (received com_id blocks (waiting past com_id) ∷ past)
+take-kept t u o past com_id room blocks hs hl takes size k =
+    received-kept t u o past com_id room blocks hs hl takes size k (waiting past com_id) (k.waiting com_id)
+
+-- ---- a reset, and no acts
+
+pub reset-kept : (t u : Tper) (o : Origin) (past : List Event) (kind : ℕ) → u.store ≡ after_reset kind t.store → ((n : ℕ) → session_at u.live n ≡ None) → u.live.next ≡ t.live.next → ((com_id : ℕ) → response_at u.waiting com_id ≡ None) → Keeps t o past → Keeps u o (did (WasReset kind) ∷ past)
+reset-kept t u o past kind store none next waits k =
+    kept_after t u o past (did (WasReset kind)) store (record { next = next; at = none }) waits k
+
+pub opening-kept : (t : Tper) (tables : Contents) (mbr : Bytes) → t.store ≡ new_store tables mbr → mbr.sectors ≡ tables.config.mbr_sectors → ((place : ℕ) → byte_at mbr place ≡ 0) → ((n : ℕ) → session_at t.live n ≡ None) → t.live.next ≡ 0x1000 → ((com_id : ℕ) → response_at t.waiting com_id ≡ None)
+    → HasNoTries (record { tables = tables }) → HasKnownRows (record { tables = tables }) → Keeps t (record { tables = tables }) []
+opening-kept t tables mbr store size zeros none next waits tries known = record {
+  store = subst (λ (s : Stored). KeepsStore s (record { tables = tables }) []) (sym store) (store_opening_law tables mbr tries known size zeros);
+  sessions = sessions_opening_law t.live next none;
+  waiting = waits;
+}

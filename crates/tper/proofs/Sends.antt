@@ -1,0 +1,198 @@
+-- What is sent: which event it is, and that what became of it keeps what the past says.
+use Rattle.std.proofs.Common.{◌≡◌, ℕ, ◌==◌, Bool, true, false, ◌&&◌, List, [], ◌∷◌, Option, Some, None, refl, sym, subst, ap, ◌∙◌, cond, eqb-true, eq-eqb}
+use Rattle.std.specs.Prelude.{Result, Ok, Err, IfOk, OnOk, option_map}
+use Rattle.sp_cells.specs.declared.names.Sp.{Sp}
+use Rattle.sp_cells.specs.Flat.{sp_eq}
+use Rattle.compacket.specs.declared.session.Session.{Session}
+use Rattle.compacket.specs.declared.error.FrameError.{FrameError}
+use Rattle.compacket.specs.Frames.{Frame}
+use Rattle.tcg_tokens.specs.Reading.{reading as message_in}
+use Rattle.transactions.specs.declared.change.SessionId.{SessionId}
+use Rattle.sessions.specs.Live.{Holder, Live, session_at, is_of, found, holder_on}
+use Rattle.methods.specs.Effects.{holder_of}
+use Rattle.history.specs.Opening.{Origin}
+use Rattle.history.specs.Sessions.{Begun}
+use Rattle.history.specs.Events.{Event, Nothing, did}
+use Rattle.history.specs.Readers.{session_on}
+use Rattle.history.specs.Facts.{Facts, facts, session_named}
+use Rattle.history.specs.Decisions.{is_manager, answers, to_manager, in_session, to_session, framed, sent}
+use Rattle.history.specs.History.{Act, log}
+use Rattle.history.specs.KeptSessions.{KeepsSessions, id_of}
+use Rattle.history.proofs.Items.{named-lives}
+use Rattle.history.proofs.Words.{sp-same}
+use Rattle.history.proofs.KeptSessionsNamed.{named_law}
+use Rattle.tper.specs.declared.trusted.Sent.{Sent}
+use Rattle.tper.specs.Items.{OfManager, OfSession}
+use Rattle.tper.specs.Tper.{Tper, Keeps, IsSent, Handles}
+use Rattle.tper.proofs.KeptBeside.{spares, kept_beside}
+use Rattle.tper.proofs.Keeping.{answer-kept, answer-sent}
+
+pub on-ok : {A E : Type 0} (r : Result A E) (P : A → Type 0) (Q : Type 0) → IfOk r P → ((x : A) → P x → Q) → OnOk r Q
+on-ok (Ok x) P Q h f = f x h
+on-ok (Err e) P Q h f = tt
+
+pub if-ok : {A E : Type 0} (r : Result A E) (P Q : A → Type 0) → IfOk r P → ((x : A) → P x → Q x) → IfOk r Q
+if-ok (Ok x) P Q h f = f x h
+if-ok (Err e) P Q h f = tt
+
+-- ---- nothing
+
+pub nothing-kept : (t : Tper) (o : Origin) (past : List Event) (e : Event) → e ≡ did Nothing → Keeps t o past → Keeps t o (e ∷ past)
+nothing-kept t o past e h k = kept_beside t o past e (ap (λ (x : Event). spares x.deed) h) k
+
+pub nothing-sent : (e : Event) (s : Sent) → s.denied ≡ None → s.wipes ≡ false → e ≡ did Nothing → IsSent e s
+nothing-sent e s d w h = subst (λ (x : Event). IsSent x s) (sym h) (record { failed = refl; denied = d; wipes = w })
+
+-- ---- which event it is
+
+-- the bytes are a frame for the ComID
+pub record IsFor (read : Result Frame FrameError) (com_id : ℕ) (frame : Frame) : Type 0 where
+  pub reads : read ≡ Ok frame
+  pub own : frame.com_id ≡ com_id
+
+pub no-frame : (f : Facts) (com_id : ℕ) (read : Result Frame FrameError) (e : FrameError) → read ≡ Err e → sent f com_id read ≡ did Nothing
+no-frame f com_id read e h = ap (λ (r : Result Frame FrameError). sent f com_id r) h
+
+differs : (n k : ℕ) → (n ≡ k → ⊥) → (n == k) ≡ false
+differs n k h = by (n == k) refl
+  where
+    by : (b : Bool) → (n == k) ≡ b → (n == k) ≡ false
+    by true e = absurd (h (eqb-true n k e))
+    by false e = e
+
+pub other-frame : (f : Facts) (com_id : ℕ) (read : Result Frame FrameError) (frame : Frame) → read ≡ Ok frame → (frame.com_id ≡ com_id → ⊥) → sent f com_id read ≡ did Nothing
+other-frame f com_id read frame h g =
+    ap (λ (r : Result Frame FrameError). sent f com_id r) h ∙ ap (λ (b : Bool). cond b (framed f com_id frame) (did Nothing)) (differs frame.com_id com_id g)
+
+own-frame : (f : Facts) (com_id : ℕ) (read : Result Frame FrameError) (frame : Frame) → IsFor read com_id frame → sent f com_id read ≡ framed f com_id frame
+own-frame f com_id read frame h =
+    ap (λ (r : Result Frame FrameError). sent f com_id r) h.reads ∙ ap (λ (b : Bool). cond b (framed f com_id frame) (did Nothing)) (eq-eqb frame.com_id com_id h.own)
+
+by-manager : (f : Facts) (com_id : ℕ) (read : Result Frame FrameError) (frame : Frame) → IsFor read com_id frame → is_manager frame.session ≡ true
+    → sent f com_id read ≡ answers com_id frame.session (to_manager f com_id (message_in frame.payload))
+by-manager f com_id read frame h m =
+    own-frame f com_id read frame h
+    ∙ ap (λ (b : Bool). cond b (answers com_id frame.session (to_manager f com_id (message_in frame.payload))) (to_session f com_id frame.session frame.payload (session_named f com_id frame.session))) m
+
+by-session : (f : Facts) (com_id : ℕ) (read : Result Frame FrameError) (frame : Frame) (x : Option Begun) → IsFor read com_id frame → is_manager frame.session ≡ false → session_named f com_id frame.session ≡ x
+    → sent f com_id read ≡ to_session f com_id frame.session frame.payload x
+by-session f com_id read frame x h m named =
+    own-frame f com_id read frame h
+    ∙ ap (λ (b : Bool). cond b (answers com_id frame.session (to_manager f com_id (message_in frame.payload))) (to_session f com_id frame.session frame.payload (session_named f com_id frame.session))) m
+    ∙ ap (λ (s : Option Begun). to_session f com_id frame.session frame.payload s) named
+
+-- ---- which session it is
+
+is-none : (x : Option Begun) → None ≡ option_map id_of x → x ≡ None
+is-none None h = refl
+is-none (Some s) h = cc
+
+pub record Named (o : Origin) (past : List Event) (com_id : ℕ) (named : Session) (id : SessionId) : Type 0 where
+  pub its : Begun
+  pub by_past : session_named (facts o past) com_id named ≡ Some its
+  pub lives : session_on past its.sp ≡ Some its
+  pub is : id ≡ id_of its
+
+-- the session of a number, on this ComID and by its host
+abbrev pub id_on : ℕ → Option Sp → Option SessionId
+id_on tsn sp = option_map (λ x. record { tsn = tsn; sp = x }) sp
+
+abbrev pub found_at : Live → ℕ → Session → Option SessionId
+found_at live com_id named = id_on named.tsn (found com_id named.hsn (session_at live named.tsn))
+
+pub nobody : (o : Origin) (past : List Event) (live : Live) (com_id : ℕ) (named : Session) → KeepsSessions live past
+    → found_at live com_id named ≡ None
+    → session_named (facts o past) com_id named ≡ None
+nobody o past live com_id named k h = is-none (session_named (facts o past) com_id named) (sym h ∙ named_law o live past com_id named k)
+
+is-some : (x : Option Begun) (id : SessionId) → Some id ≡ option_map id_of x → (s : Begun) × (x ≡ Some s) × (id ≡ id_of s)
+is-some None id h = cc
+is-some (Some s) id h = (s, refl, some-same h)
+  where
+    some-same : Some id ≡ Some (id_of s) → id ≡ id_of s
+    some-same g = cc
+
+pub somebody : (o : Origin) (past : List Event) (live : Live) (com_id : ℕ) (named : Session) (id : SessionId) → KeepsSessions live past
+    → found_at live com_id named ≡ Some id
+    → Named o past com_id named id
+somebody o past live com_id named id k h =
+    let x = is-some (session_named (facts o past) com_id named) id (sym h ∙ named_law o live past com_id named k) in
+    let y = named-lives (facts o past) com_id named x.0 x.1 in
+    record {
+      its = x.0;
+      by_past = x.1;
+      lives = ap (λ (sp : Sp). session_on past sp) (k.on y.0 x.0 y.1) ∙ y.1;
+      is = x.2;
+    }
+
+-- what is found lives
+found-on : (live : Live) (tsn : ℕ) (s : Holder) (b : Bool) (id : SessionId) → session_at live tsn ≡ Some s → id_on tsn (cond b (Some s.sp) None) ≡ Some id → holder_of live id ≡ Some s
+found-on live tsn s false id h g = cc
+found-on live tsn s true id h g =
+    sym (ap (λ (x : SessionId). holder_of live x) (same g))
+    ∙ ap (λ (x : Option Holder). holder_on s.sp x) h
+    ∙ ap (λ (b : Bool). cond b (Some s) None) (sp-same s.sp)
+  where
+    same : id_on tsn (Some s.sp) ≡ Some id → record { tsn = tsn; sp = s.sp } ≡ id
+    same k = cc
+
+found-one : (live : Live) (com_id host tsn : ℕ) (x : Option Holder) (id : SessionId) → session_at live tsn ≡ x → id_on tsn (found com_id host x) ≡ Some id → holder_of live id ≡ None → ⊥
+found-one live com_id host tsn None id h g n = cc
+found-one live com_id host tsn (Some s) id h g n = let e = found-on live tsn s (is_of com_id host s) id h g in cc
+
+pub found-lives : (live : Live) (com_id : ℕ) (named : Session) (id : SessionId) → found_at live com_id named ≡ Some id → holder_of live id ≡ None → ⊥
+found-lives live com_id named id g = found-one live com_id named.hsn named.tsn (session_at live named.tsn) id refl g
+
+-- the session of the manager has no numbers
+pub manager-is : (session : Session) → session.tsn ≡ 0 → session.hsn ≡ 0 → is_manager session ≡ true
+manager-is session t h = rw (t, h) refl
+
+pub no-manager : (session : Session) → (session.tsn ≡ 0 → session.hsn ≡ 0 → ⊥) → is_manager session ≡ false
+no-manager session n = by (session.tsn == 0) (session.hsn == 0) refl refl
+  where
+    by : (a b : Bool) → (session.tsn == 0) ≡ a → (session.hsn == 0) ≡ b → (a && b) ≡ false
+    by false b h g = refl
+    by true false h g = refl
+    by true true h g = absurd (n (eqb-true _ _ h) (eqb-true _ _ g))
+
+-- ---- what became of it
+
+abbrev pub ByManager : Tper → Tper → ℕ → Frame → Sent → Type 0
+ByManager t u com_id frame s = Handles (λ said. OfManager (λ f. to_manager f com_id (message_in frame.payload)) said t.store u.store t.live u.live) com_id frame.session s t u
+
+abbrev pub BySession : Tper → Tper → ℕ → Frame → SessionId → Sent → Type 0
+BySession t u com_id frame id s = Handles (λ said. OfSession (λ f its. in_session f its (message_in frame.payload)) id said t.store u.store t.live u.live) com_id frame.session s t u
+
+pub manager-kept : (t u : Tper) (o : Origin) (acts : List Act) (com_id : ℕ) (read : Result Frame FrameError) (frame : Frame) (s : Sent) → IsFor read com_id frame → is_manager frame.session ≡ true
+    → ByManager t u com_id frame s → Keeps t o (log o acts) → Keeps u o (sent (facts o (log o acts)) com_id read ∷ log o acts)
+manager-kept t u o acts com_id read frame s h m its k =
+    subst (λ (e : Event). Keeps u o (e ∷ log o acts)) (sym (by-manager (facts o (log o acts)) com_id read frame h m))
+    (answer-kept t u o (log o acts) com_id frame.session _ its.said (its.met o (log o acts) k.store k.sessions) its.responds k)
+
+pub manager-sent : (t u : Tper) (o : Origin) (acts : List Act) (com_id : ℕ) (read : Result Frame FrameError) (frame : Frame) (s : Sent) → IsFor read com_id frame → is_manager frame.session ≡ true
+    → ByManager t u com_id frame s → Keeps t o (log o acts) → IsSent (sent (facts o (log o acts)) com_id read) s
+manager-sent t u o acts com_id read frame s h m its k =
+    subst (λ (e : Event). IsSent e s) (sym (by-manager (facts o (log o acts)) com_id read frame h m))
+    (answer-sent t u com_id frame.session _ its.said s (its.met o (log o acts) k.store k.sessions) its.denied its.wipes)
+
+pub session-kept : (t u : Tper) (o : Origin) (acts : List Act) (com_id : ℕ) (read : Result Frame FrameError) (frame : Frame) (id : SessionId) (s : Sent) → IsFor read com_id frame → is_manager frame.session ≡ false
+    → found_at t.live com_id frame.session ≡ Some id
+    → BySession t u com_id frame id s → Keeps t o (log o acts) → Keeps u o (sent (facts o (log o acts)) com_id read ∷ log o acts)
+session-kept t u o acts com_id read frame id s h m named its k =
+    let n = somebody o (log o acts) t.live com_id frame.session id k.sessions named in
+    subst (λ (e : Event). Keeps u o (e ∷ log o acts)) (sym (by-session (facts o (log o acts)) com_id read frame (Some n.its) h m n.by_past))
+    (answer-kept t u o (log o acts) com_id frame.session _ its.said (its.met o acts n.its k.store k.sessions n.lives n.is) its.responds k)
+
+pub session-sent : (t u : Tper) (o : Origin) (acts : List Act) (com_id : ℕ) (read : Result Frame FrameError) (frame : Frame) (id : SessionId) (s : Sent) → IsFor read com_id frame → is_manager frame.session ≡ false
+    → found_at t.live com_id frame.session ≡ Some id
+    → BySession t u com_id frame id s → Keeps t o (log o acts) → IsSent (sent (facts o (log o acts)) com_id read) s
+session-sent t u o acts com_id read frame id s h m named its k =
+    let n = somebody o (log o acts) t.live com_id frame.session id k.sessions named in
+    subst (λ (e : Event). IsSent e s) (sym (by-session (facts o (log o acts)) com_id read frame (Some n.its) h m n.by_past))
+    (answer-sent t u com_id frame.session _ its.said s (its.met o acts n.its k.store k.sessions n.lives n.is) its.denied its.wipes)
+
+pub nobody-named : (t : Tper) (o : Origin) (past : List Event) (com_id : ℕ) (read : Result Frame FrameError) (frame : Frame) → IsFor read com_id frame → is_manager frame.session ≡ false
+    → found_at t.live com_id frame.session ≡ None
+    → Keeps t o past → sent (facts o past) com_id read ≡ did Nothing
+nobody-named t o past com_id read frame h m none k =
+    by-session (facts o past) com_id read frame None h m (nobody o past t.live com_id frame.session k.sessions none)
