@@ -1,4 +1,2 @@
-pub mod Bounds
-mod Digits
 mod Numerals
 mod Sectors

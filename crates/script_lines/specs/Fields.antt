@@ -1,24 +1,17 @@
 -- Words of a line, by the fields that they stand for.
-use Rattle.std.specs.Prelude.{ℕ, ◌*◌, Bool, true, false, ◌==◌, length, if◌then◌else◌, List, Option, Some, None, Result, Ok, Err, slice_index}
+use Rattle.std.specs.Prelude.{ℕ, Bool, ◌==◌, length, if◌then◌else◌, List, Option, Some, None, Result, Ok, Err, slice_index}
 use Rattle.hex.specs.Hex.{decode_sized}
 use Rattle.hex.specs.declared.error.FromHexError.{FromHexError}
 use Rattle.locking.specs.declared.range.RangeRow.{RangeRow}
 use Rattle.script_lines.specs.Words.{word}
-use Rattle.trusted_cmds.specs.Commands.{sector_size}
 use Rattle.script_lines.specs.Numbers.{number_up_to, largest}
-use Rattle.script_lines.specs.HexTexts.{bytes_up_to}
-use Rattle.script_lines.specs.declared.reset.Reset.{Reset}
-use Rattle.script_lines.specs.declared.reset.Reset.TheVariants.{Power, Hardware}
 use Rattle.script_lines.specs.declared.fault.LineFault.{LineFault}
 use Rattle.script_lines.specs.declared.fault.LineFault.TheVariants.{Missing, Wrong}
 use Rattle.script_lines.specs.declared.line.Transfer.{Transfer}
-use Rattle.script_lines.specs.declared.line.UnqueuedTransfer.{UnqueuedTransfer}
 use Rattle.script_lines.specs.declared.field.Field.{Field}
 use Rattle.script_lines.specs.declared.field.Field.TheVariants as fields
 
--- the largest number that a field holds: a flag has 1 bit, a tag 5 (AHCI 1.3.1, 3.1.1), an address
--- 48 (ACS-3). Of hex digits it is the most bytes that they write: a ComPacket of 65,536 bytes has room
--- for 65,480 bytes of tokens, and TRUSTED SEND counts the blocks of a ComPacket in 16 bits (ACS-3)
+-- the largest number that a field holds: a flag has 1 bit, a tag 5 (AHCI 1.3.1, 3.1.1), an address 48 (ACS-3)
 abbrev pub most_of : Field → ℕ
 most_of fields.ReadLockEnabled = largest 1
 most_of fields.WriteLockEnabled = largest 1
@@ -32,16 +25,6 @@ most_of fields.Client = largest 32
 most_of fields.Address = largest 48
 most_of fields.Start = largest 64
 most_of fields.Length = largest 64
-most_of fields.UnqueuedAddress = largest 48
-most_of fields.UnqueuedCount = largest 16
-most_of fields.UnqueuedByte = largest 8
-most_of fields.ComId = largest 16
-most_of fields.TperSession = largest 32
-most_of fields.HostSession = largest 32
-most_of fields.Tokens = 65480
-most_of fields.ComPacket = largest 16 * sector_size
-most_of fields.Blocks = largest 16
-most_of fields.Reset = largest 1
 
 -- the value, or the fault where there is none
 abbrev pub or_fault : {A : Type 0} → LineFault → Option A → Result A LineFault
@@ -60,8 +43,7 @@ Err e >>= f = Err e
 
 -- a word as the number of a field
 abbrev pub number_in : Field → List ℕ → Result ℕ LineFault
-number_in field word =
-    if_present field word (or_fault (Wrong field) (number_up_to (most_of field) word))
+number_in field word = if_present field word (or_fault (Wrong field) (number_up_to (most_of field) word))
 
 abbrev pub flag_of : Result ℕ LineFault → Result Bool LineFault
 flag_of (Ok number) = Ok (number == 1)
@@ -70,27 +52,13 @@ flag_of (Err fault) = Err fault
 abbrev pub flag_in : Field → List ℕ → Result Bool LineFault
 flag_in field word = flag_of (number_in field word)
 
--- 0 is a power cycle, 1 a hardware reset
-abbrev pub reset_of : Result Bool LineFault → Result Reset LineFault
-reset_of (Ok false) = Ok Power
-reset_of (Ok true) = Ok Hardware
-reset_of (Err fault) = Err fault
-
-abbrev pub reset_in : List ℕ → Result Reset LineFault
-reset_in word = reset_of (flag_in fields.Reset word)
-
 -- a byte written as two hex digits
-abbrev pub byte_or_fault : Field → Result (List ℕ) FromHexError → Result ℕ LineFault
-byte_or_fault field (Ok bytes) = Ok (slice_index bytes 0)
-byte_or_fault field (Err error) = Err (Wrong field)
+abbrev pub byte_or_fault : Result (List ℕ) FromHexError → Result ℕ LineFault
+byte_or_fault (Ok bytes) = Ok (slice_index bytes 0)
+byte_or_fault (Err error) = Err (Wrong fields.Byte)
 
-abbrev pub byte_in : Field → List ℕ → Result ℕ LineFault
-byte_in field word = if_present field word (byte_or_fault field (decode_sized word 1))
-
--- bytes written in hex digits, two a byte
-abbrev pub bytes_in : Field → List ℕ → Result (List ℕ) LineFault
-bytes_in field word =
-    if_present field word (or_fault (Wrong field) (bytes_up_to (most_of field) word))
+abbrev pub byte_in : List ℕ → Result ℕ LineFault
+byte_in word = if_present fields.Byte word (byte_or_fault (decode_sized word 1))
 
 -- what the words of a transfer say
 abbrev pub transfer_in : List ℕ → Result Transfer LineFault
@@ -100,14 +68,6 @@ transfer_in text = do
   lba ← number_in fields.Address (word 2 text)
   count ← number_in fields.Count (word 3 text)
   Ok (record { client = client; tag = tag; lba = lba; count = count })
-
--- what the words of an unqueued transfer say
-abbrev pub unqueued_in : List ℕ → Result UnqueuedTransfer LineFault
-unqueued_in text = do
-  client ← number_in fields.Client (word 0 text)
-  lba ← number_in fields.UnqueuedAddress (word 1 text)
-  count ← number_in fields.UnqueuedCount (word 2 text)
-  Ok (record { client = client; lba = lba; count = count })
 
 -- what the words of a range row say
 abbrev pub range_in : List ℕ → Result RangeRow LineFault

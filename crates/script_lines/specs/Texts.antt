@@ -17,17 +17,8 @@ first_bytes (suc sectors) sector bytes =
 abbrev pub sectors_text : List ℕ → List ℕ
 sectors_text bytes = first_bytes (length bytes / sector_size) 0 bytes
 
--- what was asked for was done
-abbrev pub ok_text : List ℕ
-ok_text = codes "ok"
-
--- a transfer was served, with the data that it gave
 abbrev pub data_text : List ℕ → List ℕ
-data_text bytes = ok_text ++ sectors_text bytes
-
--- all bytes in hex
-abbrev pub hex_text : List ℕ → List ℕ
-hex_text bytes = codes "data " ++ encode_lower bytes
+data_text bytes = codes "ok" ++ sectors_text bytes
 
 abbrev pub failure_text : ℕ → ℕ → List ℕ
 failure_text status error = codes "fail " ++ encode_lower (status ∷ []) ++ codes " " ++ encode_lower (error ∷ [])

@@ -20,10 +20,7 @@ pub enum LineFault {
 /// Says what the word of a field is to be.
 fn write_wanted<W: fmt::Write>(f: &mut fmt::Formatter<W>, field: Field) -> fmt::Result {
     match field {
-        Field::Byte | Field::UnqueuedByte => f.write_str("two hex digits"),
-        Field::Tokens | Field::ComPacket => {
-            write!(f, "1 to {} bytes of two hex digits each", field.most())
-        }
+        Field::Byte => f.write_str("two hex digits"),
         _ => write!(f, "a number from 0 to {}", field.most()),
     }
 }
@@ -31,10 +28,9 @@ fn write_wanted<W: fmt::Write>(f: &mut fmt::Formatter<W>, field: Field) -> fmt::
 impl fmt::Display for LineFault {
     fn fmt<W: fmt::Write>(&self, f: &mut fmt::Formatter<W>) -> fmt::Result {
         match *self {
-            LineFault::UnknownWord => f.write_str(
-                "the first word is none of range, read, write, dread, dwrite, call, send, recv, \
-                 log, reset and expect",
-            ),
+            LineFault::UnknownWord => {
+                f.write_str("the first word is none of range, read, write and expect")
+            }
             LineFault::Missing(field) => {
                 write!(f, "{field} is missing: ")?;
                 write_wanted(f, field)

@@ -5,8 +5,7 @@ ghost use Rattle.script_lines.specs.Lines.{expected_text};
 
 use crate::fault::LineFault;
 use crate::field::Field;
-use crate::hex_word::Hex;
-use crate::reset::Reset;
+use crate::number::number_up_to;
 use crate::words::Words;
 use fis::{Lba, Tag};
 use locking::RangeRow;
@@ -20,223 +19,146 @@ pub struct Transfer {
     pub count: u16,
 }
 
-/// An unqueued transfer, with its count as the field writes it.
-#[derive(Clone, Copy, Debug, PartialEq, Eq)]
-pub struct UnqueuedTransfer {
-    pub client: u32,
-    pub lba: Lba,
-    pub count: u16,
-}
-
 /// A line of a script.
-#[derive(Debug, Drop)]
-pub enum Line<'a> {
+#[derive(Clone, Copy, Debug, PartialEq, Eq)]
+pub enum Line {
     /// The cells of a range.
     Range(RangeRow),
     /// A queued read.
     Read(Transfer),
     /// A queued write, whose bytes are all the same.
     Write(Transfer, u8),
-    /// An unqueued read.
-    ReadDma(UnqueuedTransfer),
-    /// An unqueued write, whose bytes are all the same.
-    WriteDma(UnqueuedTransfer, u8),
-    /// Tokens that are framed and sent, in the session of these two numbers.
-    Call {
-        client: u32,
-        com_id: u16,
-        tsn: u32,
-        hsn: u32,
-        tokens: Hex<'a>,
-    },
-    /// A ComPacket that is sent as it is.
-    Send {
-        client: u32,
-        com_id: u16,
-        packet: Hex<'a>,
-    },
-    /// A response that is fetched.
-    Receive {
-        client: u32,
-        com_id: u16,
-        blocks: u16,
-    },
-    /// The log page of queued errors that is read.
-    Log {
-        client: u32,
-    },
-    /// A reset.
-    Reset {
-        client: u32,
-        kind: Reset,
-    },
     /// What the last printed line is to be: `expected_text` gives it.
     Expect,
 }
 
 impl<'a> Words<'a> {
-    ghost use Rattle.std.specs.Prelude.{◌≡◌, ◌==◌, length};
-    ghost use Rattle.script_lines.specs.Words.{first_word};
-    ghost use Rattle.script_lines.specs.Lines.{ended, range_line, read_line, write_line, dread_line, dwrite_line, call_line, send_line, recv_line, log_line, reset_line, other_line};
+    ghost use Rattle.std.specs.Prelude.{◌≡◌, ◌==◌, ◌≤◌, length, IfOk, OnOk};
+    ghost use Rattle.script_lines.specs.Words.{first_word, after_word, after_words};
+    ghost use Rattle.script_lines.specs.Fields.{most_of, number_in, flag_in, byte_in, range_in, transfer_in};
 
-    /// The line, where no word is left.
-    fn ended(&mut self, line: Line<'a>) -> Result<Line<'a>, LineFault>
-        ensures { result ≡ ended self.old.rest.now line.entry }
+    /// The next word as the number of a field.
+    fn number(&mut self, field: Field) -> Result<u64, LineFault>
+        ensures value { result ≡ number_in field (first_word self.old.rest.now) }
+        ensures most { IfOk result (λ n. n ≤ most_of field) }
+        ensures rest { self.new.rest.now ≡ after_word self.old.rest.now }
     {
-        if self.next_word().is_empty() {
-            Ok(line)
-        } else {
-            Err(LineFault::Extra)
+        let word = self.next_word();
+        if word.is_empty() {
+            return Err(LineFault::Missing(field));
+        }
+        number_up_to(field.most(), word).ok_or(LineFault::Wrong(field))
+    }
+
+    /// The next word as a flag, 0 or 1.
+    fn flag(&mut self, field: Field) -> Result<bool, LineFault>
+        ensures value { result ≡ flag_in field (first_word self.old.rest.now) }
+        ensures rest { self.new.rest.now ≡ after_word self.old.rest.now }
+    {
+        Ok(self.number(field)? == 1)
+    }
+
+    /// Whether no word is left.
+    fn is_at_end(&mut self) -> bool
+        ensures { result ≡ (length (first_word self.old.rest.now) == 0) }
+    {
+        self.next_word().is_empty()
+    }
+
+    /// The next word as a byte of two hex digits.
+    fn byte(&mut self) -> Result<u8, LineFault>
+        ensures value { result ≡ byte_in (first_word self.old.rest.now) }
+        ensures rest { self.new.rest.now ≡ after_word self.old.rest.now }
+    {
+        let word = self.next_word();
+        if word.is_empty() {
+            return Err(LineFault::Missing(Field::Byte));
+        }
+        let mut byte = [0];
+        match hex::decode_to_slice(word, &mut byte) {
+            Ok(()) => Ok(byte[0]),
+            Err(_) => Err(LineFault::Wrong(Field::Byte)),
         }
     }
 
-    fn range_line(&mut self) -> Result<Line<'a>, LineFault>
-        ensures { result ≡ range_line self.old.rest.now }
+    fn range(&mut self) -> Result<RangeRow, LineFault>
+        ensures value { result ≡ range_in self.old.rest.now }
+        ensures rest { OnOk result (self.new.rest.now ≡ after_words 7 self.old.rest.now) }
     {
-        let row = self.range()?;
-        self.ended(Line::Range(row))
-    }
-
-    fn read_line(&mut self) -> Result<Line<'a>, LineFault>
-        ensures { result ≡ read_line self.old.rest.now }
-    {
-        let transfer = self.transfer()?;
-        self.ended(Line::Read(transfer))
-    }
-
-    fn write_line(&mut self) -> Result<Line<'a>, LineFault>
-        ensures { result ≡ write_line self.old.rest.now }
-    {
-        let transfer = self.transfer()?;
-        let byte = self.byte(Field::Byte)?;
-        self.ended(Line::Write(transfer, byte))
-    }
-
-    fn dread_line(&mut self) -> Result<Line<'a>, LineFault>
-        ensures { result ≡ dread_line self.old.rest.now }
-    {
-        let transfer = self.unqueued_transfer()?;
-        self.ended(Line::ReadDma(transfer))
-    }
-
-    fn dwrite_line(&mut self) -> Result<Line<'a>, LineFault>
-        ensures { result ≡ dwrite_line self.old.rest.now }
-    {
-        let transfer = self.unqueued_transfer()?;
-        let byte = self.byte(Field::UnqueuedByte)?;
-        self.ended(Line::WriteDma(transfer, byte))
-    }
-
-    fn call_line(&mut self) -> Result<Line<'a>, LineFault>
-        ensures { result ≡ call_line self.old.rest.now }
-    {
-        let client = self.number(Field::Client)? as u32;
-        let com_id = self.number(Field::ComId)? as u16;
-        let tsn = self.number(Field::TperSession)? as u32;
-        let hsn = self.number(Field::HostSession)? as u32;
-        let tokens = self.hex(Field::Tokens)?;
-        self.ended(Line::Call {
-            client,
-            com_id,
-            tsn,
-            hsn,
-            tokens,
+        let range = self.number(Field::Range)? as u8;
+        let start = self.number(Field::Start)?;
+        let length = self.number(Field::Length)?;
+        let read_enabled = self.flag(Field::ReadLockEnabled)?;
+        let write_enabled = self.flag(Field::WriteLockEnabled)?;
+        let read_locked = self.flag(Field::ReadLocked)?;
+        let write_locked = self.flag(Field::WriteLocked)?;
+        Ok(RangeRow {
+            range,
+            start,
+            length,
+            read_enabled,
+            write_enabled,
+            read_locked,
+            write_locked,
         })
     }
 
-    fn send_line(&mut self) -> Result<Line<'a>, LineFault>
-        ensures { result ≡ send_line self.old.rest.now }
+    fn transfer(&mut self) -> Result<Transfer, LineFault>
+        ensures value { result ≡ transfer_in self.old.rest.now }
+        ensures rest { OnOk result (self.new.rest.now ≡ after_words 4 self.old.rest.now) }
     {
         let client = self.number(Field::Client)? as u32;
-        let com_id = self.number(Field::ComId)? as u16;
-        let packet = self.hex(Field::ComPacket)?;
-        self.ended(Line::Send {
+        let tag = Tag::new(self.number(Field::Tag)? as u8).unwrap();
+        let lba = Lba::new(self.number(Field::Address)?).unwrap();
+        let count = self.number(Field::Count)? as u16;
+        Ok(Transfer {
             client,
-            com_id,
-            packet,
+            tag,
+            lba,
+            count,
         })
     }
+}
 
-    fn recv_line(&mut self) -> Result<Line<'a>, LineFault>
-        ensures { result ≡ recv_line self.old.rest.now }
-    {
-        let client = self.number(Field::Client)? as u32;
-        let com_id = self.number(Field::ComId)? as u16;
-        let blocks = self.number(Field::Blocks)? as u16;
-        self.ended(Line::Receive {
-            client,
-            com_id,
-            blocks,
-        })
-    }
+impl Line {
+    ghost use Rattle.std.specs.Prelude.{◌≡◌};
+    ghost use Rattle.script_lines.specs.Lines.{line_of};
 
-    fn log_line(&mut self) -> Result<Line<'a>, LineFault>
-        ensures { result ≡ log_line self.old.rest.now }
+    /// Reads a line, which has no line feed.
+    pub fn parse(text: &[u8]) -> Result<Line, LineFault>
+        ensures { result ≡ line_of text.now }
     {
-        let client = self.number(Field::Client)? as u32;
-        self.ended(Line::Log { client })
-    }
-
-    fn reset_line(&mut self) -> Result<Line<'a>, LineFault>
-        ensures { result ≡ reset_line self.old.rest.now }
-    {
-        let client = self.number(Field::Client)? as u32;
-        let kind = self.reset()?;
-        self.ended(Line::Reset { client, kind })
-    }
-
-    /// The line of this first word, if it is no transfer.
-    fn other_line(&mut self, verb: &[u8]) -> Result<Line<'a>, LineFault>
-        ensures { result ≡ other_line verb.now self.old.rest.now }
-    {
+        let mut words = Words::new(text);
+        let verb = words.next_word();
         if verb == b"range".as_slice() {
-            return self.range_line();
+            let row = words.range()?;
+            return if words.is_at_end() {
+                Ok(Line::Range(row))
+            } else {
+                Err(LineFault::Extra)
+            };
         }
-        if verb == b"call".as_slice() {
-            return self.call_line();
+        if verb == b"read".as_slice() {
+            let transfer = words.transfer()?;
+            return if words.is_at_end() {
+                Ok(Line::Read(transfer))
+            } else {
+                Err(LineFault::Extra)
+            };
         }
-        if verb == b"send".as_slice() {
-            return self.send_line();
-        }
-        if verb == b"recv".as_slice() {
-            return self.recv_line();
-        }
-        if verb == b"log".as_slice() {
-            return self.log_line();
-        }
-        if verb == b"reset".as_slice() {
-            return self.reset_line();
+        if verb == b"write".as_slice() {
+            let transfer = words.transfer()?;
+            let byte = words.byte()?;
+            return if words.is_at_end() {
+                Ok(Line::Write(transfer, byte))
+            } else {
+                Err(LineFault::Extra)
+            };
         }
         if verb == b"expect".as_slice() {
             return Ok(Line::Expect);
         }
         Err(LineFault::UnknownWord)
-    }
-}
-
-impl<'a> Line<'a> {
-    ghost use Rattle.std.specs.Prelude.{◌≡◌};
-    ghost use Rattle.script_lines.specs.Lines.{line_of};
-
-    /// Reads a line, which has no line feed.
-    pub fn parse(text: &'a [u8]) -> Result<Line<'a>, LineFault>
-        ensures { result ≡ line_of text.now }
-    {
-        let mut words = Words::new(text);
-        let verb = words.next_word();
-        if verb == b"read".as_slice() {
-            return words.read_line();
-        }
-        if verb == b"write".as_slice() {
-            return words.write_line();
-        }
-        if verb == b"dread".as_slice() {
-            return words.dread_line();
-        }
-        if verb == b"dwrite".as_slice() {
-            return words.dwrite_line();
-        }
-        words.other_line(verb)
     }
 }
 

@@ -22,7 +22,7 @@ pub struct Report {
 impl Report {
     ghost use Rattle.std.specs.Prelude.{◌≡◌, ◌++◌, ◌∷◌, [], ℕ, List, Option, OnOk, option_map};
     ghost use Rattle.std.specs.Io.KnownBytes.{Appends};
-    ghost use Rattle.script_lines.specs.Texts.{ok_text, data_text, hex_text, failure_text, audit_text, refusal_lines, Prints};
+    ghost use Rattle.script_lines.specs.Texts.{data_text, failure_text, audit_text, refusal_lines, Prints};
 
     /// Nothing is printed.
     pub fn new(alloc: Global) -> Report
@@ -53,28 +53,6 @@ impl Report {
         self.last.clear();
         self.last.extend_from_slice(b"ok")?;
         append_sectors(&mut self.last, sectors)?;
-        self.print_last()?;
-        Ok(())
-    }
-
-    /// Prints that what was asked for was done.
-    pub fn print_ok(&mut self) -> Result<(), AllocError>
-        ensures { OnOk result (Prints self.old self.new (ok_text ∷ [])) }
-    {
-        self.last.clear();
-        self.last.extend_from_slice(b"ok")?;
-        self.print_last()?;
-        Ok(())
-    }
-
-    /// Prints bytes in hex, as a response that was fetched.
-    pub fn print_hex(&mut self, bytes: &[u8]) -> Result<(), AllocError>
-        ensures { OnOk result (Prints self.old self.new (hex_text bytes.now ∷ [])) }
-    {
-        let text = hex::encode(self.alloc, bytes)?;
-        self.last.clear();
-        self.last.extend_from_slice(b"data ")?;
-        self.last.extend_from_slice(text.as_bytes())?;
         self.print_last()?;
         Ok(())
     }

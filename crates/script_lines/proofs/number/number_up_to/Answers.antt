@@ -1,17 +1,15 @@
-use Rattle.std.proofs.Common.{◌∙◌, arith, rules, get_or}
-use Rattle.script_lines.proofs.Numerals.{too_large, digit_is}
+use Rattle.std.proofs.Common.{rules}
+use Rattle.script_lines.proofs.Numerals.{no_text, is_number, no_number}
 use Rattle.script_lines.proofs.number.number_up_to.Goals as goal
 
-pub returns-in_err-checked_mul-clause-exact : goal.returns-in_err-checked_mul-clause-exact
-returns-in_err-checked_mul-clause-exact c =
-    let large = c.in_err-checked_mul.ensures in
-    c.from_residual.ensures
-    ∙ too_large c.args.most c.loop-digit.number c.loop-digit.digit-index c.args.text.now c.loop-digit-test.true c.loop-digit.invariant.value (omega (arith, large, c.ranges.most.fits))
+-- src/number.rt:11:16
+pub returns-in_err-text-clause-exact : goal.returns-in_err-text-clause-exact
+returns-in_err-text-clause-exact c = search (rules, no_text)
 
-pub returns-in_err-number-clause-exact : goal.returns-in_err-number-clause-exact
-returns-in_err-number-clause-exact c =
-    let large = c.in_err-number.ensures in
-    let product = c.in_ok-checked_mul.ensures in
-    let digit = digit_is (get_or c.args.text.now c.loop-digit.digit-index 0) (search rules) (search rules) in
-    c.from_residual-in_err-number.ensures
-    ∙ too_large c.args.most c.loop-digit.number c.loop-digit.digit-index c.args.text.now c.loop-digit-test.true c.loop-digit.invariant.value (omega (arith, large, product, digit, c.ranges.most.fits))
+-- src/number.rt:7:1
+pub returns-in-Ok-clause-exact : goal.returns-in-Ok-clause-exact
+returns-in-Ok-clause-exact c = is_number c.args.most c.in-Ok.number c.args.text.now c.parse.result (search rules) (search rules) c.in-Ok.is (search rules)
+
+-- src/number.rt:7:1
+pub returns-in_default-2-clause-exact : goal.returns-in_default-2-clause-exact
+returns-in_default-2-clause-exact c = no_number c.args.most c.in_default.field-0 c.args.text.now c.parse.result (search rules) (search rules) (search rules) c.in_default.is
