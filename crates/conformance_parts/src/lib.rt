@@ -9,6 +9,8 @@ mod aces;
 #[cfg(test)]
 mod audit_lines;
 #[cfg(test)]
+mod com_ids;
+#[cfg(test)]
 mod commands;
 #[cfg(test)]
 mod fises;
