@@ -7,7 +7,7 @@ use Rattle.sp_cells.specs.declared.names.Sp.TheVariants.{Admin, Locking}
 use Rattle.sp_factory.specs.Factory.{admin_sps, admin_authorities, locking_authorities, admin_pins, locking_pins, admin_aces}
 use Rattle.sp_tables.specs.Contents.{factory_contents}
 use Rattle.sp_tables.specs.Faults.{fault_of}
-use Rattle.drive.specs.Opening.{life_cycle, pin, manufactured_contents, ActivationLaw}
+use Rattle.history.specs.Opening.{life_cycle, pin, manufactured_contents, ActivationLaw}
 
 pub life_cycle_fits : (config : Config) → fault_of (factory_contents config) Admin locking_sp life_cycle ≡ None
 unfolding admin_sps

@@ -3,11 +3,10 @@ use Rattle.std.proofs.Common.{◌≡◌, ℕ, ◌<◌, true, false, List, length
 use Rattle.std.proofs.lemmas.Bool.{cases_lt}
 use Rattle.std.proofs.lemmas.Grind.{common_steps}
 use Rattle.std.proofs.lemmas.List.{get_or-replicate, get_or_past}
-use Rattle.drive.specs.declared.transfer.Transfer.{Transfer}
+use Rattle.drive.specs.declared.transfer.Held.{Held}
 use Rattle.drive.specs.declared.queue.Queue.{Queue}
-use Rattle.drive.specs.declared.decision.Decision.{Decision}
-use Rattle.drive.specs.declared.decision.Decision.TheVariants.{Refused, Fails, Holds}
-use Rattle.drive.specs.Queue.{slot_at, empty_slots, empty_queue, queue_after, FitsDrive, AllFit, NamesSlot}
+use Rattle.drive.specs.Transfer.{Fits}
+use Rattle.drive.specs.Queue.{slot_at, empty_slots, empty_queue, with_slot, SlotFits, AllFit}
 
 pub no_slot : (t : ℕ) → slot_at empty_slots t ≡ None
 unfolding empty_slots
@@ -22,16 +21,20 @@ unfolding empty_slots
 none_length = refl
 
 -- one slot is filled or emptied, and the others stay
-pub slot_set : (slots : List (Option Transfer)) (tag t : ℕ) (x : Option Transfer) → tag < length slots → slot_at (slice_set slots tag x) t ≡ (if tag == t then x else slot_at slots t)
+pub slot_set : (slots : List (Option Held)) (tag t : ℕ) (x : Option Held) → tag < length slots → slot_at (slice_set slots tag x) t ≡ (if tag == t then x else slot_at slots t)
 slot_set slots tag t x lt = grind (arith, common_steps)
 
-pub none_fit : (sectors : ℕ) → AllFit sectors empty_queue
-none_fit sectors t = subst (FitsDrive sectors) (sym (no_slot t)) tt
+pub none_fit : (sectors mbr : ℕ) → AllFit sectors mbr empty_queue
+none_fit sectors mbr t = subst (SlotFits sectors mbr) (sym (no_slot t)) tt
 
--- what is held fits after a decision
-pub fit_then : (made : Decision) (queue : Queue) (sectors : ℕ) → length queue.slots ≡ 32 → NamesSlot sectors made → AllFit sectors queue → AllFit sectors (queue_after made queue)
-fit_then Refused queue sectors len small fit = fit
-fit_then (Fails failure denied) queue sectors len small fit = none_fit sectors
-fit_then (Holds tag transfer) queue sectors len small fit = λ t.
-    subst (FitsDrive sectors) (sym (slot_set queue.slots tag t (Some transfer) (omega (arith, small.0, len))))
-    (elim (tag == t) as (λ b. FitsDrive sectors (if b then Some transfer else slot_at queue.slots t)) [ true ↦ small.1 | false ↦ fit t ])
+pub fit_set : (x : Option Held) (tag : ℕ) (queue : Queue) (sectors mbr : ℕ) → length queue.slots ≡ 32 → tag < 32 → SlotFits sectors mbr x → AllFit sectors mbr queue → AllFit sectors mbr (with_slot tag x queue)
+fit_set x tag queue sectors mbr len small its fit = λ t.
+    subst (SlotFits sectors mbr) (sym (slot_set queue.slots tag t x (omega (arith, small, len))))
+    (elim (tag == t) as (λ b. SlotFits sectors mbr (if b then x else slot_at queue.slots t)) [ true ↦ its | false ↦ fit t ])
+
+-- what is held fits with one more, or one less
+pub fit_with : (held : Held) (tag : ℕ) (queue : Queue) (sectors mbr : ℕ) → length queue.slots ≡ 32 → tag < 32 → Fits sectors mbr held → AllFit sectors mbr queue → AllFit sectors mbr (with_slot tag (Some held) queue)
+fit_with held tag queue sectors mbr len small its fit = fit_set (Some held) tag queue sectors mbr len small its fit
+
+pub fit_without : (tag : ℕ) (queue : Queue) (sectors mbr : ℕ) → length queue.slots ≡ 32 → tag < 32 → AllFit sectors mbr queue → AllFit sectors mbr (with_slot tag None queue)
+fit_without tag queue sectors mbr len small fit = fit_set None tag queue sectors mbr len small tt fit

@@ -1,77 +1,103 @@
--- What the drive does with a command, by its ranges and its queue (ACS-3, NCQ feature set). The order of the rules stands here once.
-use Rattle.std.specs.Prelude.{ℕ, zero, suc, Bool, false, not, ◌&&◌, ◌||◌, ◌==◌, List, slice_index, Option, Some, None, Result, Ok, Err, if◌then◌else◌}
-use Rattle.fis.specs.Types.{h2d_type}
+-- What the drive decides on a command, before it does it. The order of the rules is the history's.
+use Rattle.std.specs.Prelude.{◌≡◌, ◌<◌, ◌||◌, ◌==◌, ℕ, Bool, true, false, List, Option, Some, None, is_some, Result, Ok, Err, if◌then◌else◌}
 use Rattle.fis.specs.Tags.{slot_count}
-use Rattle.fis.specs.H2d.{h2d_at}
 use Rattle.fis.specs.declared.h2d.RegH2d.{RegH2d}
 use Rattle.audit.specs.declared.reason.Why.{Why}
+use Rattle.compacket.specs.Frames.{reading as frame_in}
 use Rattle.locking.specs.Range.{RangeRows}
-use Rattle.locking.specs.Verdict.{verdict_of, shadow_why}
+use Rattle.locking.specs.Ranges.{ranges_in}
+use Rattle.locking.specs.Verdict.{verdict_of}
 use Rattle.locking.specs.declared.ranges.Verdict.{Verdict}
 use Rattle.locking.specs.declared.ranges.Verdict.TheVariants.{Serve, Shadow, Denied}
+use Rattle.transactions.specs.Sights.{look_up, committed_sight}
 use Rattle.trusted_cmds.specs.declared.command.Command.{Command}
-use Rattle.trusted_cmds.specs.declared.command.CommandError.{CommandError}
-use Rattle.trusted_cmds.specs.Commands.{reading, tag_of, is_queued}
-use Rattle.drive.specs.Failure.{aborted, not_found, failure_of}
-use Rattle.drive.specs.Transfer.{transfer_of, fits}
-use Rattle.drive.specs.declared.transfer.Transfer.{Transfer}
+use Rattle.trusted_cmds.specs.declared.command.Command.TheVariants.{Send, Receive, Identify, ReadLog10, Flush}
+use Rattle.trusted_cmds.specs.Commands.{reading}
+use Rattle.history.specs.Events.{Deed, Nothing, OfQueue, QueueFailed, QueueMended, Wrote, Event, did}
+use Rattle.history.specs.Facts.{Facts}
+use Rattle.history.specs.Decisions.{aborted, not_found, fails, holds, sent, received, is_session_com_id, discovery_com_id}
+use Rattle.tper.specs.Tper.{Tper}
+use Rattle.drive.specs.Transfer.{by_op, queued_command, unqueued_command, verdict_held, fits, Fits}
+use Rattle.drive.specs.State.{State}
 use Rattle.drive.specs.declared.decision.Decision.{Decision}
-use Rattle.drive.specs.declared.decision.Decision.TheVariants.{Refused, Fails, Holds}
+use Rattle.drive.specs.declared.decision.Decision.TheVariants.{Aborts, FailsQueue, Holds, Moves, Executes}
+use Rattle.drive.specs.declared.decision.Refusal.{Refusal}
+use Rattle.drive.specs.declared.transfer.Transfer.{Transfer}
+use Rattle.drive.specs.declared.transfer.Held.{Held}
 
--- What the rules ask, of what a drive keeps or of its past.
-pub record Standing : Type 0 where
-  pub sectors : ℕ
-  pub ranges : RangeRows
-  -- the queue has failed
-  pub has_failed : Bool
-  -- a transfer is held under the tag
-  pub is_held : ℕ → Bool
+-- The ranges and the shadow that the rows in force describe.
+abbrev pub ranges_of : Tper → RangeRows
+ranges_of t = ranges_in t.store.config.mbr_sectors (look_up (committed_sight t.store))
 
--- Some number below n passes.
-unfoldable pub any_below : (ℕ → Bool) → ℕ → Bool
-any_below p zero = false
-any_below p (suc n) = p n || any_below p n
+-- Whether a transfer reads the shadow, or why it is refused: the addresses come before the policy.
+abbrev pub by_verdict : Verdict → Result Bool Refusal
+by_verdict Serve = Ok false
+by_verdict Shadow = Ok true
+by_verdict (Denied why) = Err (record { error = aborted; denied = Some why })
 
--- Some transfer is held.
-abbrev pub is_busy : Standing → Bool
-is_busy standing = any_below standing.is_held slot_count
+abbrev pub policy : ℕ → RangeRows → Transfer → Result Bool Refusal
+policy sectors ranges transfer =
+    if fits sectors transfer
+    then by_verdict (verdict_of ranges transfer.op transfer.lba transfer.count)
+    else Err (record { error = not_found; denied = None })
 
--- The queue fails with the command of a FIS: its error, and what denied it.
-abbrev pub queue_failure : Option ℕ → ℕ → RegH2d → Option Why → Decision
-queue_failure tag error h denied = Fails (failure_of tag error h) denied
+abbrev pub policy_on : State → Transfer → Result Bool Refusal
+policy_on d transfer = policy d.tper.store.config.sectors (ranges_of d.tper) transfer
 
--- A transfer that touches the shadow is denied by it: the drive has no bytes of a shadow yet.
-abbrev pub verdict_decision : RegH2d → ℕ → Transfer → Verdict → Decision
-verdict_decision h tag transfer Serve = Holds tag transfer
-verdict_decision h tag transfer Shadow =
-    queue_failure (Some tag) aborted h (Some (shadow_why transfer.op transfer.lba transfer.count))
-verdict_decision h tag transfer (Denied why) = queue_failure (Some tag) aborted h (Some why)
+-- A permitted transfer, as it is to be moved.
+abbrev pub FitsPolicy : State → Transfer → Bool → Type 0
+FitsPolicy d transfer is_shadowed =
+    Fits d.tper.store.config.sectors d.tper.store.config.mbr_sectors
+    (record { transfer = transfer; is_shadowed = is_shadowed })
 
--- A queued transfer: a tag that is held, sectors that are not on the drive, then what the ranges say.
-abbrev pub transfer_decision : Standing → RegH2d → ℕ → Transfer → Decision
-transfer_decision standing h tag transfer =
-    if standing.is_held tag then queue_failure (Some tag) aborted h None
-    else (if not (fits standing.sectors transfer) then queue_failure (Some tag) not_found h None
-    else verdict_decision h tag transfer (verdict_of standing.ranges transfer.op transfer.lba transfer.count))
+-- What an unqueued transfer does at once.
+abbrev pub moves : Transfer → List ℕ → Deed
+moves transfer payload = by_op transfer.op Nothing (Wrote transfer.lba payload)
 
--- A command that is not queued is not served yet.
-abbrev pub queued_decision : Standing → RegH2d → Option ℕ → Option Transfer → Decision
-queued_decision standing h (Some tag) (Some transfer) = transfer_decision standing h tag transfer
-queued_decision standing h _ _ = Refused
+-- What the other commands do.
+abbrev pub executed : Facts → List ℕ → Command → Event
+executed f payload (Send protocol com_id blocks dma) = sent f com_id (frame_in payload)
+executed f payload (Receive protocol com_id blocks dma) =
+    received com_id blocks (f.waiting com_id)
+executed f payload (ReadLog10 dma) =
+    did (if is_some f.failure then OfQueue QueueMended else Nothing)
+executed f payload _ = did Nothing
 
--- What was read of a FIS: a queued command that is none fails the queue.
-abbrev pub read_decision : Standing → RegH2d → Result (Command × Option ℕ) CommandError → Decision
-read_decision standing h (Err error) =
-    if is_queued h.command then queue_failure (Some (tag_of h)) aborted h None else Refused
-read_decision standing h (Ok (command, tag)) = queued_decision standing h tag (transfer_of command)
+-- The event of a decision.
+abbrev pub event_of : Facts → List ℕ → Decision → Event
+event_of f payload (Aborts error denied) = fails error denied
+event_of f payload (FailsQueue failure denied) =
+    record { failed = Some failure.error; deed = OfQueue (QueueFailed failure); denied = denied }
+event_of f payload (Holds tag held) = holds tag (queued_command held.transfer) (verdict_held held)
+event_of f payload (Moves held) = did (moves held.transfer payload)
+event_of f payload (Executes command) = executed f payload command
 
--- No command, and any command while the queue has failed, change nothing. One that is not queued, beside a held one, fails the queue.
-abbrev pub command_decision : Standing → RegH2d → Decision
-command_decision standing h =
-    if not h.is_command || standing.has_failed then Refused
-    else (if is_busy standing && not (is_queued h.command) then queue_failure None aborted h None
-    else read_decision standing h (reading h))
+-- What a decision rests on: the slot, the FIS, and that what is to be done can be done.
 
-abbrev pub decision : Standing → List ℕ → Decision
-decision standing fis =
-    if slice_index fis 0 == h2d_type then command_decision standing (h2d_at fis) else Refused
+pub record IsMoved (d : State) (h : RegH2d) (held : Held) : Type 0 where
+  pub reads : reading h ≡ Ok (unqueued_command held.transfer, None)
+  pub verdict : verdict_of (ranges_of d.tper) held.transfer.op held.transfer.lba held.transfer.count
+      ≡ verdict_held held
+  pub within : Fits d.tper.store.config.sectors d.tper.store.config.mbr_sectors held
+
+abbrev pub IsTrusted : Command → Type 0
+IsTrusted (Send protocol com_id blocks dma) = Unit {0}
+IsTrusted (Receive protocol com_id blocks dma) = Unit {0}
+IsTrusted _ = ⊥
+
+abbrev pub CanExecute : Command → Type 0
+CanExecute (Send protocol com_id blocks dma) = is_session_com_id com_id ≡ true
+CanExecute (Receive protocol com_id blocks dma) =
+    (is_session_com_id com_id || com_id == discovery_com_id) ≡ true
+CanExecute Identify = Unit {0}
+CanExecute (ReadLog10 dma) = Unit {0}
+CanExecute Flush = Unit {0}
+CanExecute _ = ⊥
+
+abbrev pub IsDue : State → RegH2d → Decision → Type 0
+IsDue d h (Aborts error denied) = Unit {0}
+IsDue d h (FailsQueue failure denied) = Unit {0}
+IsDue d h (Holds tag held) =
+    (tag < slot_count) × Fits d.tper.store.config.sectors d.tper.store.config.mbr_sectors held
+IsDue d h (Moves held) = IsMoved d h held
+IsDue d h (Executes command) = (reading h ≡ Ok (command, None)) × CanExecute command

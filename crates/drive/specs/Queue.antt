@@ -1,19 +1,18 @@
--- The slots of held transfers, and what a decision leaves in them (ACS-3, NCQ feature set).
-use Rattle.std.specs.Prelude.{◌≡◌, ℕ, ◌<◌, true, List, replicate, slice_index_or, slice_set, Option, Some, None}
+-- The slots of held transfers (ACS-3, NCQ feature set).
+use Rattle.std.specs.Prelude.{ℕ, List, replicate, slice_index_or, slice_set, Option, Some, None, option_map}
 use Rattle.fis.specs.Tags.{slot_count}
-use Rattle.drive.specs.Transfer.{fits}
-use Rattle.drive.specs.declared.failure.Failure.{Failure}
-use Rattle.drive.specs.declared.transfer.Transfer.{Transfer}
+use Rattle.device_data.specs.declared.log_page.Failure.{Failure}
+use Rattle.history.specs.Events.{HeldCommand}
+use Rattle.drive.specs.Transfer.{held_command, Fits}
+use Rattle.drive.specs.declared.transfer.Held.{Held}
 use Rattle.drive.specs.declared.queue.Queue.{Queue}
-use Rattle.drive.specs.declared.decision.Decision.{Decision}
-use Rattle.drive.specs.declared.decision.Decision.TheVariants.{Refused, Fails, Holds}
 
--- The transfer in a slot.
-abbrev pub slot_at : List (Option Transfer) → ℕ → Option Transfer
+-- What is in a slot.
+abbrev pub slot_at : List (Option Held) → ℕ → Option Held
 slot_at slots tag = slice_index_or slots tag None
 
 -- No slot holds a transfer.
-unfoldable pub empty_slots : List (Option Transfer)
+unfoldable pub empty_slots : List (Option Held)
 empty_slots = replicate slot_count None
 
 abbrev pub empty_queue : Queue
@@ -23,25 +22,21 @@ empty_queue = record { slots = empty_slots; failure = None }
 abbrev pub failed_queue : Failure → Queue
 failed_queue failure = record { slots = empty_slots; failure = Some failure }
 
-abbrev pub with_slot : ℕ → Option Transfer → Queue → Queue
-with_slot tag transfer queue = record queue { slots = slice_set queue.slots tag transfer }
+abbrev pub mended_queue : Queue → Queue
+mended_queue queue = record queue { failure = None }
 
--- The queue after a decision.
-abbrev pub queue_after : Decision → Queue → Queue
-queue_after Refused queue = queue
-queue_after (Fails failure denied) queue = failed_queue failure
-queue_after (Holds tag transfer) queue = with_slot tag (Some transfer) queue
+abbrev pub with_slot : ℕ → Option Held → Queue → Queue
+with_slot tag held queue = record queue { slots = slice_set queue.slots tag held }
 
--- The sectors of what is held are on the drive.
-abbrev pub FitsDrive : ℕ → Option Transfer → Type 0
-FitsDrive sectors None = Unit {0}
-FitsDrive sectors (Some transfer) = fits sectors transfer ≡ true
+-- The command that is held under a tag, with its verdict.
+abbrev pub held_at : Queue → ℕ → Option HeldCommand
+held_at queue tag = option_map held_command (slot_at queue.slots tag)
 
-abbrev pub AllFit : ℕ → Queue → Type 0
-AllFit sectors queue = (tag : ℕ) → FitsDrive sectors (slot_at queue.slots tag)
+-- The sectors of what is held are on the drive, and those of a shadowed read in the shadow.
+abbrev pub SlotFits : ℕ → ℕ → Option Held → Type 0
+SlotFits sectors mbr_sectors None = Unit {0}
+SlotFits sectors mbr_sectors (Some held) = Fits sectors mbr_sectors held
 
--- A decision to hold names one of the slots, and sectors on the drive.
-abbrev pub NamesSlot : ℕ → Decision → Type 0
-NamesSlot sectors Refused = Unit {0}
-NamesSlot sectors (Fails failure denied) = Unit {0}
-NamesSlot sectors (Holds tag transfer) = (tag < slot_count) × (fits sectors transfer ≡ true)
+abbrev pub AllFit : ℕ → ℕ → Queue → Type 0
+AllFit sectors mbr_sectors queue =
+    (tag : ℕ) → SlotFits sectors mbr_sectors (slot_at queue.slots tag)

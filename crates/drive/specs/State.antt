@@ -1,66 +1,49 @@
--- When a drive stands as a list of acts leaves it.
-use Rattle.std.specs.Prelude.{◌≡◌, ℕ, List, length, reverse, is_some, Option, Some, None}
+-- What a drive keeps, and when that is what a list of acts says.
+use Rattle.std.specs.Prelude.{◌≡◌, ℕ, List, ◌∷◌, length, reverse, slice_index}
 use Rattle.fis.specs.Tags.{slot_count}
-use Rattle.locking.specs.Range.{RangeRows}
+use Rattle.fis.specs.declared.h2d.RegH2d.{RegH2d}
 use Rattle.shadow_mbr.specs.Stored.{Stored, sector_at}
+use Rattle.transactions.specs.Sights.{look_up, committed_sight}
+use Rattle.history.specs.Opening.{Origin}
+use Rattle.history.specs.Events.{Event}
+use Rattle.history.specs.Readers.{sector, held, failure}
+use Rattle.history.specs.Facts.{Facts}
+use Rattle.history.specs.History.{Act, log}
+use Rattle.tper.specs.Tper.{Tper, Keeps as KeepsTper, response_at}
 use Rattle.drive.specs.declared.queue.Queue.{Queue}
-use Rattle.drive.specs.declared.decision.Decision.{Decision}
-use Rattle.drive.specs.declared.transfer.Transfer.{Transfer}
-use Rattle.drive.specs.Opening.{Origin, ranges_of}
-use Rattle.drive.specs.Transfer.{sector_then}
-use Rattle.drive.specs.Decision.{Standing, decision}
-use Rattle.drive.specs.Queue.{slot_at, with_slot, queue_after}
-use Rattle.drive.specs.Events.{Event}
-use Rattle.drive.specs.History.{Act, log, held_transfer, queue_failure_in, sector_in}
+use Rattle.drive.specs.Queue.{held_at}
 
--- What contracts see of a drive.
+-- What contracts see of a drive: the rows, sessions and responses, the queue, and the media.
 pub record State : Type 0 where
-  pub origin : Origin
+  pub tper : Tper
   pub queue : Queue
   pub media : Stored
 
--- The drive stands as these events leave it, part by part.
-pub record StandsAs (drive : State) (o : Origin) (past : List Event) : Type 0 where
-  pub origin : drive.origin ≡ o
-  pub slots : length drive.queue.slots ≡ slot_count
-  pub transfers : (tag : ℕ) → slot_at drive.queue.slots tag ≡ held_transfer past tag
-  pub failure : drive.queue.failure ≡ queue_failure_in past
-  pub sectors : (sector : ℕ) → sector_at drive.media sector ≡ sector_in past sector
+-- Facts of which the drive shows those that it keeps itself; the sessions are its TPer's.
+abbrev pub seen : State → Facts → Facts
+seen d f = record f {
+  sectors = d.tper.store.config.sectors;
+  mbr_sectors = d.tper.store.config.mbr_sectors;
+  rows = look_up (committed_sight d.tper.store);
+  byte = slice_index d.tper.store.locking.bytes;
+  held = held_at d.queue;
+  failure = d.queue.failure;
+  waiting = response_at d.tper.waiting;
+  sector = sector_at d.media;
+}
+
+-- It keeps what these events say, part by part.
+pub record Keeps (d : State) (o : Origin) (past : List Event) : Type 0 where
+  pub tper : KeepsTper d.tper o past
+  pub slots : length d.queue.slots ≡ slot_count
+  pub held : (tag : ℕ) → held_at d.queue tag ≡ held past tag
+  pub failure : d.queue.failure ≡ failure past
+  pub sectors : (place : ℕ) → sector_at d.media place ≡ sector past place
 
 -- The drive agrees with what it started from and the acts so far, the newest first.
 abbrev pub Agrees : State → Origin → List Act → Type 0
-Agrees drive o acts = StandsAs drive o (log o acts)
+Agrees d o acts = Keeps d o (log o acts)
 
 -- The same for a list whose oldest act comes first.
 abbrev pub AgreesInOrder : State → Origin → List Act → Type 0
-AgreesInOrder drive o acts = Agrees drive o (reverse acts)
-
--- What the rules ask, of what a drive keeps.
-abbrev pub standing_of : ℕ → RangeRows → Queue → Standing
-standing_of sectors ranges queue = record {
-  sectors = sectors;
-  ranges = ranges;
-  has_failed = is_some queue.failure;
-  is_held = λ tag. is_some (slot_at queue.slots tag);
-}
-
--- What the drive does with a FIS, by how it stands.
-abbrev pub decision_on : State → List ℕ → Decision
-decision_on drive fis =
-    decision (standing_of drive.origin.tables.config.sectors (ranges_of drive.origin.tables) drive.queue) fis
-
--- How the drive stands after a decision.
-abbrev pub state_after : Decision → State → State
-state_after made drive = record drive { queue = queue_after made drive.queue }
-
--- What a sector holds after the completion of what was held.
-abbrev pub sector_moved : Option Transfer → List ℕ → List ℕ → ℕ → List ℕ
-sector_moved None payload before sector = before
-sector_moved (Some transfer) payload before sector = sector_then transfer payload before sector
-
--- What a completion changes: its slot is free, and a write has moved its bytes.
-pub record IsMoved (old new : State) (tag : ℕ) (payload : List ℕ) : Type 0 where
-  pub origin : new.origin ≡ old.origin
-  pub queue : new.queue ≡ with_slot tag None old.queue
-  pub sectors : (sector : ℕ) → sector_at new.media sector
-      ≡ sector_moved (slot_at old.queue.slots tag) payload (sector_at old.media sector) sector
+AgreesInOrder d o acts = Agrees d o (reverse acts)

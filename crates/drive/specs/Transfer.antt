@@ -1,45 +1,69 @@
--- Transfers: what moves, and what the media hold then (ACS-3, READ FPDMA QUEUED and WRITE FPDMA QUEUED).
-use Rattle.std.specs.Prelude.{ℕ, ◌+◌, ◌*◌, Bool, nat_le, List, [], Option, Some, None}
+-- Transfers: what moves, and what the media hold then (ACS-3, READ FPDMA QUEUED and WRITE FPDMA
+-- QUEUED, READ DMA EXT and WRITE DMA EXT).
+use Rattle.std.specs.Prelude.{ℕ, ◌≡◌, ◌+◌, ◌*◌, Bool, true, false, nat_le, List, [], if◌then◌else◌}
 use Rattle.locking.specs.declared.range.Op.{Op}
 use Rattle.locking.specs.declared.range.Op.TheVariants.{Read, Write}
+use Rattle.locking.specs.declared.ranges.Verdict.{Verdict}
+use Rattle.locking.specs.declared.ranges.Verdict.TheVariants.{Serve, Shadow}
 use Rattle.trusted_cmds.specs.declared.command.Command.{Command}
 use Rattle.trusted_cmds.specs.declared.command.Command.TheVariants.{ReadQueued, WriteQueued, ReadDma, WriteDma}
-use Rattle.shadow_mbr.specs.Stored.{sector_size, sectors_from, sector_after}
+use Rattle.shadow_mbr.specs.Stored.{sector_size, sector_after}
+use Rattle.history.specs.Events.{HeldCommand}
+use Rattle.history.specs.Answers.{read_by}
+use Rattle.history.specs.Facts.{Facts}
 use Rattle.drive.specs.declared.transfer.Transfer.{Transfer}
+use Rattle.drive.specs.declared.transfer.Held.{Held}
 
--- The transfer that a command asks for; None where it moves no sectors.
 abbrev pub transfer_by : Op → ℕ → ℕ → Transfer
 transfer_by op lba count = record { op = op; lba = lba; count = count }
-
-abbrev pub transfer_of : Command → Option Transfer
-transfer_of (ReadQueued lba count) = Some (transfer_by Read lba count)
-transfer_of (WriteQueued lba count) = Some (transfer_by Write lba count)
-transfer_of (ReadDma lba count) = Some (transfer_by Read lba count)
-transfer_of (WriteDma lba count) = Some (transfer_by Write lba count)
-transfer_of _ = None
 
 -- The first for a read, the second for a write.
 abbrev pub by_op : {A : Type 0} → Op → A → A → A
 by_op Read x y = x
 by_op Write x y = y
 
+-- The commands that ask for a transfer.
+abbrev pub queued_command : Transfer → Command
+queued_command transfer =
+    by_op transfer.op (ReadQueued transfer.lba transfer.count)
+    (WriteQueued transfer.lba transfer.count)
+
+abbrev pub unqueued_command : Transfer → Command
+unqueued_command transfer =
+    by_op transfer.op (ReadDma transfer.lba transfer.count) (WriteDma transfer.lba transfer.count)
+
+-- The verdict of a transfer that is permitted: a shadowed read gives the shadow's bytes.
+abbrev pub verdict_held : Held → Verdict
+verdict_held held = if held.is_shadowed then Shadow else Serve
+
+-- What is held, as the history tells it.
+abbrev pub held_command : Held → HeldCommand
+held_command held =
+    record { command = queued_command held.transfer; verdict = verdict_held held }
+
 -- How many bytes move.
 abbrev pub size_of : Transfer → ℕ
 size_of transfer = sector_size * transfer.count
 
--- How many bytes a completion brings: those of a write.
+-- How many bytes come with it: those of a write.
 abbrev pub payload_size_of : Transfer → ℕ
 payload_size_of transfer = by_op transfer.op 0 (size_of transfer)
 
--- The bytes that a completion gives: the sectors of a read, as they are then.
-abbrev pub bytes_of : (ℕ → List ℕ) → Transfer → List ℕ
-bytes_of at transfer = by_op transfer.op (sectors_from at transfer.lba transfer.count) []
+-- The bytes that it gives, by the facts then: the sectors of a read, or the shadow's.
+abbrev pub bytes_of : Facts → Held → List ℕ
+bytes_of f held =
+    by_op held.transfer.op
+    (read_by f held.transfer.lba held.transfer.count (verdict_held held)) []
 
--- What a sector holds after a completion, where it held `before`.
+-- What a sector holds after it, where it held `before`.
 abbrev pub sector_then : Transfer → List ℕ → List ℕ → ℕ → List ℕ
 sector_then transfer payload before sector =
     by_op transfer.op before (sector_after transfer.lba payload before sector)
 
--- A drive of so many sectors has each of these.
+-- A drive of so many sectors, or a shadow, has each of these.
 abbrev pub fits : ℕ → Transfer → Bool
 fits sectors transfer = nat_le (transfer.lba + transfer.count) sectors
+
+pub record Fits (sectors mbr_sectors : ℕ) (held : Held) : Type 0 where
+  pub on_drive : fits sectors held.transfer ≡ true
+  pub in_shadow : held.is_shadowed ≡ true → fits mbr_sectors held.transfer ≡ true

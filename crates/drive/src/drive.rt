@@ -4,61 +4,82 @@ ghost use Rattle.std.specs.Prelude.{◌≡◌, length, OnOk, OnErr, IfOk};
 ghost use Rattle.fis.specs.Tags.{slot_count};
 
 use crate::answer::{Accepted, Completed, completion_fises};
-use crate::decision::{Decision, decide};
+use crate::decision::{ABORTED, Decision, Refusal, policy};
 use crate::error::DriveError;
-use crate::failure::Failure;
 use crate::opening::Opening;
 use crate::queue::Queue;
-use fis::{H2D_LENGTH, Tag};
-use locking::{RangeRow, Ranges};
+use crate::reset::ResetKind;
+use crate::transfer::{Held, Transfer};
+use audit::Why;
+use device_data::{DISCOVERY_LENGTH, Failure, discovery, error_log, identity};
+use fis::{H2D_LENGTH, H2D_TYPE, RegH2d, Tag};
+use locking::{Op, RangeRow, Ranges};
 use shadow_mbr::Media;
 use sp_cells::{DriveConfig, SetError};
 use sp_tables::Tables;
 use std::alloc::{AllocError, Global};
 use std::marker::Model;
 use std::mem::replace;
+use tper::Tper;
 
 /// A drive.
 #[derive(Drop)]
 pub struct Drive {
     alloc: Global,
-    tables: Tables,
+    sectors: u64,
     ranges: Ranges,
-    media: Media,
+    tper: Tper,
     queue: Queue,
+    media: Media,
     /// A vector for the bytes of the next read.
     spare: Vec<u8>,
 }
 
 impl Model for Drive {
     ghost use Rattle.std.specs.Prelude.{◌≡◌, ◌≤◌, ◌^◌};
-    ghost use Rattle.drive.specs.Opening.{ranges_of};
+    ghost use Rattle.drive.specs.Decision.{ranges_of};
     ghost use Rattle.drive.specs.Queue.{AllFit};
     ghost use Rattle.drive.specs.State.{State};
 
     ghost Value = { State };
 
-    ghost view = { λ a. record {
-      origin = record { tables = a.tables };
-      queue = a.queue;
-      media = a.media;
-    } };
+    ghost view = { λ a. record { tper = a.tper; queue = a.queue; media = a.media } };
 
-    ghost invariant = { λ a. (a.tables.config.sectors ≤ 2 ^ 48)
-        × (a.ranges ≡ ranges_of a.tables)
-        × (a.media.sectors ≡ a.tables.config.sectors)
-        × AllFit a.tables.config.sectors a.queue };
+    ghost invariant = { λ a. (a.sectors ≤ 2 ^ 48)
+        × (a.tper.store.config.sectors ≡ a.sectors)
+        × (a.ranges ≡ ranges_of a.tper)
+        × (a.media.sectors ≡ a.sectors)
+        × AllFit a.sectors a.tper.store.config.mbr_sectors a.queue };
 }
 
 impl Drive {
-    ghost use Rattle.std.specs.Prelude.{◌⊎◌, [], ◌∷◌, ◌++◌, List, ◌<◌, ◌↔◌, IfErr, IsErrOf, IsOk, IsOkUnless, None, Ok, Err};
-    ghost use Rattle.drive.specs.Opening.{Origin, factory_origin, origin_with};
-    ghost use Rattle.drive.specs.Queue.{slot_at, NamesSlot};
-    ghost use Rattle.shadow_mbr.specs.Stored.{sector_at};
-    ghost use Rattle.drive.specs.Events.{event_of};
-    ghost use Rattle.drive.specs.History.{Act, Accept, Complete, log, event_after, held_transfer, queue_failure_in, sector_in};
-    ghost use Rattle.drive.specs.State.{Agrees, AgreesInOrder, IsMoved, decision_on, state_after};
-    ghost use Rattle.drive.specs.Answers.{IsAnswer, IsCompletion, expected_size};
+    ghost use Rattle.std.specs.Prelude.{◌⊎◌, [], ◌∷◌, ◌++◌, ℕ, List, Option, ◌<◌, ◌↔◌, ◌*◌, IfErr, IsErrOf, IsOk, IsOkUnless, None, Some, Ok, Err, is_some, true, false};
+    ghost use Rattle.fis.specs.H2d.{h2d_at};
+    ghost use Rattle.fis.specs.declared.h2d.RegH2d.{RegH2d};
+    ghost use Rattle.compacket.specs.Frames.{reading as frame_in};
+    ghost use Rattle.trusted_cmds.specs.Commands.{payload_length};
+    ghost use Rattle.shadow_mbr.specs.Stored.{sector_at, sector_size};
+    ghost use Rattle.device_data.specs.Discovery.{discovery as discovery_of};
+    ghost use Rattle.device_data.specs.ErrorLog.{sized, error_log as log_page};
+    ghost use Rattle.device_data.specs.Identity.{identity as identity_of};
+    ghost use Rattle.transactions.specs.Sights.{look_up, committed_sight};
+    ghost use Rattle.history.specs.Opening.{Origin, factory_origin, origin_with};
+    ghost use Rattle.history.specs.Agreement.{HasNoTries};
+    ghost use Rattle.history.specs.KeptStore.{HasKnownRows};
+    ghost use Rattle.history.specs.Answers.{received_bytes, expected};
+    ghost use Rattle.history.specs.Decisions.{any_below, is_session_com_id, sent, received};
+    ghost use Rattle.history.specs.Events.{Event};
+    ghost use Rattle.history.specs.Facts.{Facts, facts};
+    ghost use Rattle.history.specs.History.{Act, Accept, Complete, Reset, log, event};
+    ghost use Rattle.history.specs.Readers.{failure as failure_in, held as held_in, waiting};
+    ghost use Rattle.tper.specs.Tper.{response_at};
+    ghost use Rattle.drive.specs.Queue.{slot_at, held_at, with_slot, failed_queue, mended_queue};
+    ghost use Rattle.drive.specs.Transfer.{payload_size_of, bytes_of, sector_then, Fits};
+    ghost use Rattle.drive.specs.Decision.{policy_on, FitsPolicy, IsDue, event_of};
+    ghost use Rattle.drive.specs.State.{seen, Keeps, Agrees, AgreesInOrder};
+    ghost use Rattle.drive.specs.Answers.{IsAnswer, IsCompletion, IsDone, IsFinished, kind_of};
+
+    // What is opened.
 
     /// A drive as it leaves the factory, on which nothing was done.
     pub fn new(alloc: Global, config: DriveConfig) -> Result<Drive, DriveError>
@@ -94,70 +115,65 @@ impl Drive {
 
     /// A drive over its tables.
     pub(crate) fn over(alloc: Global, tables: Tables) -> Result<Drive, AllocError>
-        ensures { IfOk result (λ drive. Agrees drive (record { tables = tables }) []) }
+        ensures { IfOk result (λ drive. HasNoTries (record { tables = tables })
+            → HasKnownRows (record { tables = tables })
+            → Agrees drive (record { tables = tables }) []) }
     {
         let sectors = tables.config().sectors();
         let ranges = Ranges::of(alloc, &tables)?;
         Ok(Drive {
             alloc,
-            tables,
+            sectors,
             ranges,
-            media: Media::new(alloc, sectors),
+            tper: Tper::new(alloc, tables),
             queue: Queue::new(),
+            media: Media::new(alloc, sectors),
             spare: Vec::new(alloc),
         })
     }
 
-    /// Takes a FIS of 20 bytes with its payload, and says what was done with it. It takes no memory,
-    /// so that today it never fails.
-    ///
-    /// In this order: bytes that carry no command, and any command while the queue has failed, are
-    /// aborted (51h 04h) and change nothing; a command that is not queued while one is held, a queued
-    /// command whose Device bit 6 is clear and a tag that is held fail the queue (51h 04h); an unknown
-    /// command is aborted; sectors beyond the drive fail the queue (51h 10h); so does a denial by a
-    /// range (51h 04h), with its reason. Else the command is held (50h). A failed queue holds nothing.
-    pub fn accept(&mut self, fis: &[u8; H2D_LENGTH], payload: &[u8]) -> Result<Accepted, DriveError>
-        ensures ok { IsOk result }
-        ensures agrees { OnOk result ((o : Origin) (acts : List Act) → Agrees self.old o acts
-            → Agrees self.new o (Accept fis.now payload.now ∷ acts)) }
-        ensures in_order { OnOk result ((o : Origin) (acts : List Act)
-            → AgreesInOrder self.old o acts
-            → AgreesInOrder self.new o (acts ++ Accept fis.now payload.now ∷ [])) }
-        ensures answer { IfOk result (λ accepted. (o : Origin) (acts : List Act)
-            → Agrees self.old o acts
-            → IsAnswer (event_after o (log o acts) (Accept fis.now payload.now)) accepted) }
+    // What is kept, as the rules ask it.
+
+    /// What is held under the tag.
+    pub(crate) fn held(&self, tag: Tag) -> Option<Held>
+        ensures value { result ≡ slot_at self.now.queue.slots tag }
+        ensures slot { tag < slot_count }
     {
-        Ok(self.take(fis))
+        self.queue.at(tag)
     }
 
-    /// What the drive does with a FIS.
-    fn decision(&self, fis: &[u8; H2D_LENGTH]) -> Decision
-        ensures slot { NamesSlot self.now.origin.tables.config.sectors result }
-        ensures value { result ≡ decision_on self.now fis.now }
+    /// Whether something is held.
+    pub(crate) fn is_busy(&self) -> bool
+        ensures { result ≡ any_below (λ tag. is_some (held_at self.now.queue tag)) slot_count }
     {
-        let sectors = self.tables.config().sectors();
-        decide(sectors, &self.ranges, &self.queue, fis)
+        self.queue.is_busy()
     }
 
-    fn take(&mut self, fis: &[u8; H2D_LENGTH]) -> Accepted
-        ensures slot { NamesSlot self.old.origin.tables.config.sectors
-            (decision_on self.old fis.now) }
-        ensures state { self.new ≡ state_after (decision_on self.old fis.now) self.old }
-        ensures answer { IsAnswer (event_of (decision_on self.old fis.now)) result }
+    /// Whether a transfer reads the shadow, or why it is refused.
+    pub(crate) fn policy(&self, transfer: &Transfer) -> Result<bool, Refusal>
+        ensures value { result ≡ policy_on self.now transfer.now }
+        ensures fits { IfOk result (FitsPolicy self.now transfer.now) }
     {
-        let decision = self.decision(fis);
-        self.queue.settle(&decision);
-        Accepted::of(self.alloc, decision)
+        policy(self.sectors, &self.ranges, transfer)
+    }
+
+    /// Whether a response waits on a ComID.
+    pub(crate) fn is_waiting(&self, com_id: u16) -> bool
+        ensures { result ≡ is_some (response_at self.now.tper.waiting com_id) }
+    {
+        self.tper.is_waiting(com_id)
     }
 
     /// How many bytes a completion of the tag has to bring: 512 for each sector of a held write,
     /// else 0.
     pub fn expects(&self, tag: Tag) -> usize
-        ensures { result ≡ expected_size (slot_at self.now.queue.slots tag) }
+        ensures stands { result ≡ expected (held_at self.now.queue tag) }
+        ensures told { (o : Origin) (acts : List Act) → Agrees self.now o acts
+            → result ≡ expected (held_in (log o acts) tag) }
     {
-        match self.queue.at(tag) {
+        match self.held(tag) {
             None => 0,
-            Some(transfer) => transfer.payload_size(),
+            Some(held) => held.transfer.payload_size(),
         }
     }
 
@@ -165,16 +181,181 @@ impl Drive {
     pub fn failure(&self) -> Option<Failure>
         ensures stands { result ≡ self.now.queue.failure }
         ensures told { (o : Origin) (acts : List Act) → Agrees self.now o acts
-            → result ≡ queue_failure_in (log o acts) }
+            → result ≡ failure_in (log o acts) }
     {
         self.queue.failure
     }
 
+    // What is done.
+
+    /// Holds a transfer under the tag.
+    pub(crate) fn hold(&mut self, tag: Tag, held: Held)
+        requires { Fits self.old.tper.store.config.sectors self.old.tper.store.config.mbr_sectors held }
+        ensures { self.new ≡ record self.old { queue = with_slot tag (Some held) self.old.queue } }
+    {
+        self.queue.hold(tag, held);
+    }
+
+    /// Fails the queue: it drops all that is held.
+    pub(crate) fn fail_queue(&mut self, failure: Failure)
+        ensures { self.new ≡ record self.old { queue = failed_queue failure } }
+    {
+        self.queue.fail(failure);
+    }
+
+    /// Moves the data of a transfer, and gives the bytes that were read.
+    pub(crate) fn carry_out(&mut self, held: &Held, payload: &[u8]) -> Result<Vec<u8>, AllocError>
+        requires length { length payload.now ≡ payload_size_of held.now.transfer }
+        requires fits { Fits self.old.tper.store.config.sectors self.old.tper.store.config.mbr_sectors held.now }
+        ensures data { IfOk result (λ v. (f : Facts) → v.items ≡ bytes_of (seen self.old f) held.now) }
+        ensures tper { self.new.tper ≡ self.old.tper }
+        ensures queue { self.new.queue ≡ self.old.queue }
+        ensures media { OnOk result ((s : ℕ) → sector_at self.new.media s
+            ≡ sector_then held.now.transfer payload.now (sector_at self.old.media s) s) }
+        ensures err { OnErr result (self.new ≡ self.old) }
+    {
+        let (lba, count) = (held.transfer.lba, held.transfer.count.number());
+        match held.transfer.op {
+            Op::Read => {
+                if held.is_shadowed {
+                    return self.tper.read_shadow(lba, count);
+                }
+                let buffer = replace(&mut self.spare, Vec::new(self.alloc));
+                self.media.read_sectors_into(buffer, lba, count)
+            }
+            Op::Write => {
+                self.media.write(lba, payload)?;
+                Ok(Vec::new(self.alloc))
+            }
+        }
+    }
+
+    /// Sends to the TPer, and does to media and ranges what came of it; gives what denied the item.
+    pub(crate) fn send(&mut self, com_id: u16, payload: &[u8]) -> Result<Option<Why>, AllocError>
+        requires { is_session_com_id com_id ≡ true }
+        ensures kept { OnOk result ((o : Origin) (acts : List Act) → Agrees self.old o acts
+            → Keeps self.new o (sent (facts o (log o acts)) com_id (frame_in payload.now) ∷ log o acts)) }
+        ensures denied { IfOk result (λ why. (o : Origin) (acts : List Act) → Agrees self.old o acts
+            → why ≡ (sent (facts o (log o acts)) com_id (frame_in payload.now)).denied) }
+        ensures err { OnErr result (self.new ≡ self.old) }
+    {
+        let sent = self.tper.send(com_id, payload)?;
+        if sent.wipes {
+            self.media.wipe();
+        }
+        self.ranges.refresh(&self.tper.in_force());
+        Ok(sent.denied)
+    }
+
+    /// Receives from the TPer on one of the ComIDs of sessions.
+    pub(crate) fn receive(&mut self, com_id: u16, room: usize) -> Result<Vec<u8>, AllocError>
+        requires { is_session_com_id com_id ≡ true }
+        ensures data { IfOk result (λ v. v.items
+            ≡ sized room (received_bytes com_id room (response_at self.old.tper.waiting com_id))) }
+        ensures kept { OnOk result ((o : Origin) (past : List Event) (blocks : ℕ)
+            → room ≡ sector_size * blocks → Keeps self.old o past
+            → Keeps self.new o (received com_id blocks (waiting past com_id) ∷ past)) }
+        ensures err { OnErr result (self.new ≡ self.old) }
+    {
+        self.tper.receive(com_id, room)
+    }
+
+    /// The data of Level 0 discovery: as many bytes as the transfer has.
+    pub(crate) fn discover(&self, room: usize) -> Result<Vec<u8>, AllocError>
+        ensures { IfOk result (λ v. v.items
+            ≡ sized room (discovery_of (look_up (committed_sight self.now.tper.store)))) }
+    {
+        let bytes = discovery(&self.tper.in_force());
+        let mut data = Vec::with_capacity(self.alloc, room)?;
+        data.extend_from_slice(&bytes[..room.min(DISCOVERY_LENGTH)])?;
+        data.resize(room, 0)?;
+        Ok(data)
+    }
+
+    /// The data of IDENTIFY DEVICE.
+    pub(crate) fn identify(&self) -> Result<Vec<u8>, AllocError>
+        ensures { IfOk result (λ v. v.items ≡ identity_of self.now.tper.store.config.sectors) }
+    {
+        identity(self.alloc, self.sectors)
+    }
+
+    /// The data of log page 10h, which ends a failure.
+    pub(crate) fn read_log(&mut self) -> Result<Vec<u8>, AllocError>
+        ensures data { IfOk result (λ v. v.items ≡ log_page self.old.queue.failure) }
+        ensures mended { OnOk result (self.new ≡ record self.old { queue = mended_queue self.old.queue }) }
+        ensures err { OnErr result (self.new ≡ self.old) }
+    {
+        let page = error_log(self.alloc, &self.queue.failure)?;
+        self.queue.mend();
+        Ok(page)
+    }
+
+    /// A vector with nothing in it.
+    pub(crate) fn allocator(&self) -> Global {
+        self.alloc
+    }
+
+    // Acts.
+
+    /// Takes a FIS of 20 bytes with its payload, and says what was done with it.
+    ///
+    /// In this order: bytes that carry no command are aborted (51h 04h) and change nothing. While the
+    /// queue has failed, log page 10h is read, which ends the failure; anything else is aborted. A
+    /// command that is not queued while one is held, a queued command whose Device bit 6 is clear and
+    /// a tag that is held fail the queue (51h 04h); an unknown command is aborted. Then, for a
+    /// transfer, the addresses (51h 10h) and the ranges (51h 04h, with the reason); a queued transfer
+    /// that fails makes the queue fail. A queued transfer is held (50h); every other command is
+    /// executed whole. A failed queue holds nothing.
+    ///
+    /// # Errors
+    ///
+    /// Want of memory, and then the drive is as before.
+    pub fn accept(&mut self, fis: &[u8; H2D_LENGTH], payload: &[u8]) -> Result<Accepted, DriveError>
+        requires { length payload.now ≡ payload_length (h2d_at fis.now) }
+        ensures agrees { OnOk result ((o : Origin) (acts : List Act) → Agrees self.old o acts
+            → Agrees self.new o (Accept fis.now payload.now ∷ acts)) }
+        ensures in_order { OnOk result ((o : Origin) (acts : List Act)
+            → AgreesInOrder self.old o acts
+            → AgreesInOrder self.new o (acts ++ Accept fis.now payload.now ∷ [])) }
+        ensures answer { IfOk result (λ accepted. (o : Origin) (acts : List Act)
+            → Agrees self.old o acts
+            → IsAnswer (facts o (log o acts)) (h2d_at fis.now)
+                (event o (log o acts) (Accept fis.now payload.now)) accepted) }
+        ensures memory { IsOkUnless result DriveError.OutOfMemory }
+        ensures err { OnErr result (self.new ≡ self.old) }
+    {
+        let accepted = self.take(fis, payload)?;
+        Ok(accepted)
+    }
+
+    /// Decides on a FIS, and does it.
+    fn take(&mut self, fis: &[u8; H2D_LENGTH], payload: &[u8]) -> Result<Accepted, AllocError>
+        requires { length payload.now ≡ payload_length (h2d_at fis.now) }
+        ensures done { IfOk result (λ a. (o : Origin) (acts : List Act) → Agrees self.old o acts
+            → IsDone (facts o (log o acts)) (h2d_at fis.now)
+                (event o (log o acts) (Accept fis.now payload.now)) self.new o (log o acts) a) }
+        ensures err { OnErr result (self.new ≡ self.old) }
+    {
+        let h = RegH2d::read(fis);
+        let decision = if fis[0] == H2D_TYPE {
+            self.decide(&h)
+        } else {
+            Decision::Aborts {
+                error: ABORTED,
+                denied: None,
+            }
+        };
+        self.act(&h, decision, payload)
+    }
+
     /// Moves the data of a held command, and lets it go. `NotHeld` where nothing is held under the
-    /// tag. After an error the drive is as before.
-    #[tactic(auto, using(crate::proofs::Completing::complete_answers, crate::proofs::Completing::complete_held))]
+    /// tag.
+    ///
+    /// # Errors
+    ///
+    /// `NotHeld`, and want of memory: then the drive is as before.
     pub fn complete(&mut self, tag: Tag, payload: &[u8]) -> Result<Completed, DriveError>
-        requires { length payload.now ≡ expected_size (slot_at self.old.queue.slots tag) }
+        requires { length payload.now ≡ expected (held_at self.old.queue tag) }
         ensures agrees { OnOk result ((o : Origin) (acts : List Act) → Agrees self.old o acts
             → Agrees self.new o (Complete tag payload.now ∷ acts)) }
         ensures in_order { OnOk result ((o : Origin) (acts : List Act)
@@ -182,12 +363,40 @@ impl Drive {
             → AgreesInOrder self.new o (acts ++ Complete tag payload.now ∷ [])) }
         ensures answer { IfOk result (λ done. (o : Origin) (acts : List Act)
             → Agrees self.old o acts
-            → IsCompletion (sector_in (log o acts)) tag (held_transfer (log o acts) tag) done) }
+            → IsCompletion (facts o (log o acts)) tag (held_in (log o acts) tag) done) }
         ensures not_held { (o : Origin) (acts : List Act) → Agrees self.old o acts
-            → (IsErrOf result DriveError.NotHeld ↔ (held_transfer (log o acts) tag ≡ None)) }
+            → (IsErrOf result DriveError.NotHeld ↔ (held_in (log o acts) tag ≡ None)) }
         ensures err { OnErr result (self.new ≡ self.old) }
     {
         self.finish(tag, payload)
+    }
+
+    fn finish(&mut self, tag: Tag, payload: &[u8]) -> Result<Completed, DriveError>
+        requires { length payload.now ≡ expected (held_at self.old.queue tag) }
+        ensures slot { tag < slot_count }
+        ensures done { IfOk result (λ done. IsFinished tag payload.now (slot_at self.old.queue.slots tag) self.old self.new done) }
+        ensures not_held { IsErrOf result DriveError.NotHeld
+            ↔ (slot_at self.old.queue.slots tag ≡ None) }
+        ensures err { OnErr result (self.new ≡ self.old) }
+    {
+        match self.held(tag) {
+            None => Err(DriveError::NotHeld),
+            Some(held) => {
+                let bytes = self.carry_out(&held, payload)?;
+                self.release(tag);
+                Ok(Completed {
+                    fises: completion_fises(tag, &held.transfer),
+                    bytes,
+                })
+            }
+        }
+    }
+
+    /// Lets what is held under the tag go.
+    fn release(&mut self, tag: Tag)
+        ensures { self.new ≡ record self.old { queue = with_slot tag None self.old.queue } }
+    {
+        self.queue.release(tag);
     }
 
     /// Takes back the vector of a completion: the next read puts its bytes there, and takes no memory
@@ -200,27 +409,24 @@ impl Drive {
         }
     }
 
-    fn finish(&mut self, tag: Tag, payload: &[u8]) -> Result<Completed, DriveError>
-        requires { length payload.now ≡ expected_size (slot_at self.old.queue.slots tag) }
-        ensures slot { tag < slot_count }
-        ensures state { OnOk result (IsMoved self.old self.new tag payload.now) }
-        ensures answer { IfOk result (λ done.
-            IsCompletion (sector_at self.old.media) tag (slot_at self.old.queue.slots tag) done) }
-        ensures not_held { IsErrOf result DriveError.NotHeld
-            ↔ (slot_at self.old.queue.slots tag ≡ None) }
-        ensures err { OnErr result (self.new ≡ self.old) }
+    /// Ends sessions and transactions, drops the responses that wait, what is held and the failure of
+    /// the queue, locks what LockOnReset names, and makes Done 0 where DoneOnReset has the kind; a
+    /// power cycle makes all Tries 0 too. It takes no memory.
+    pub fn reset(&mut self, kind: ResetKind)
+        ensures agrees { (o : Origin) (acts : List Act) → Agrees self.old o acts
+            → Agrees self.new o (Reset (kind_of kind) ∷ acts) }
+        ensures in_order { (o : Origin) (acts : List Act) → AgreesInOrder self.old o acts
+            → AgreesInOrder self.new o (acts ++ Reset (kind_of kind) ∷ []) }
     {
-        match self.queue.at(tag) {
-            None => Err(DriveError::NotHeld),
-            Some(transfer) => {
-                let buffer = replace(&mut self.spare, Vec::new(self.alloc));
-                let bytes = transfer.carry_out(&mut self.media, buffer, payload)?;
-                self.queue.release(tag);
-                Ok(Completed {
-                    fises: completion_fises(tag, &transfer),
-                    bytes,
-                })
-            }
-        }
+        self.restart(kind);
+    }
+
+    fn restart(&mut self, kind: ResetKind)
+        ensures { (o : Origin) (acts : List Act) → Agrees self.old o acts
+            → Agrees self.new o (Reset (kind_of kind) ∷ acts) }
+    {
+        self.tper.reset(kind.number());
+        self.queue = Queue::new();
+        self.ranges.refresh(&self.tper.in_force());
     }
 }

@@ -1,23 +1,26 @@
-//! A self-locking drive: a queue of commands over locking ranges (ACS-3, NCQ feature set; TCG Opal
+//! A self-locking drive: transfers over locking ranges, a queue, and the TPer behind its ComIDs (ACS-3; TCG Opal
 //! SSC 2.01).
 #![tactic(auto)]
 
 mod answer;
+mod deciding;
 mod decision;
 mod drive;
 mod error;
-mod failure;
+mod executing;
 mod laws;
 mod opening;
 mod queue;
+mod reset;
 mod transfer;
 
 pub use answer::{Accepted, Completed};
 pub use audit::Why;
+pub use device_data::Failure;
 pub use drive::Drive;
 pub use error::DriveError;
-pub use failure::Failure;
-pub use laws::{laws_of_openings, laws_of_transfers};
+pub use laws::laws_of_openings;
 pub use locking::RangeRow;
 pub use opening::Opening;
+pub use reset::ResetKind;
 pub use sp_cells::{DriveConfig, SetError};

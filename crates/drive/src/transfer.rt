@@ -1,13 +1,11 @@
 //! Transfers: sectors that move to the host or from it (ACS-3, NCQ feature set).
 
-ghost use Rattle.std.specs.Prelude.{◌≡◌, ◌<◌, ◌≤◌, ◌*◌, ◌↔◌, IsSome, IfSome};
+ghost use Rattle.std.specs.Prelude.{◌≡◌, ◌<◌, ◌≤◌};
 ghost use Rattle.trusted_cmds.specs.Commands.{most_sectors};
 
 use locking::Op;
-use shadow_mbr::{Media, SECTOR_SIZE};
-use std::alloc::AllocError;
+use shadow_mbr::SECTOR_SIZE;
 use std::marker::Model;
-use trusted_cmds::Command;
 
 /// Sectors that a command moves, and in which direction.
 #[derive(Clone, Copy, Debug, PartialEq, Eq)]
@@ -15,6 +13,13 @@ pub struct Transfer {
     pub op: Op,
     pub lba: u64,
     pub count: SectorCount,
+}
+
+/// A transfer that was permitted: a shadowed one reads the shadow MBR's bytes.
+#[derive(Clone, Copy, Debug, PartialEq, Eq)]
+pub struct Held {
+    pub transfer: Transfer,
+    pub is_shadowed: bool,
 }
 
 /// How many sectors a command moves: 1 to 65,536.
@@ -56,26 +61,10 @@ impl SectorCount {
 }
 
 impl Transfer {
-    ghost use Rattle.std.specs.Prelude.{◌+◌, ◌^◌, ℕ, length, OnOk, OnErr, IfOk};
-    ghost use Rattle.trusted_cmds.specs.Commands.{IsCounted};
-    ghost use Rattle.shadow_mbr.specs.Stored.{sector_at};
-    ghost use Rattle.drive.specs.Transfer.{transfer_of, transfer_by, size_of, payload_size_of, bytes_of, sector_then, fits};
+    ghost use Rattle.drive.specs.Transfer.{transfer_by, size_of, payload_size_of, fits};
 
-    /// The transfer that a command asks for; None where it moves no sectors.
-    pub(crate) fn of(command: Command) -> Option<Transfer>
-        requires { IsCounted command }
-        ensures { result ≡ transfer_of command }
-    {
-        match command {
-            Command::ReadQueued { lba, count } => Some(Transfer::by(Op::Read, lba, count)),
-            Command::WriteQueued { lba, count } => Some(Transfer::by(Op::Write, lba, count)),
-            Command::ReadDma { lba, count } => Some(Transfer::by(Op::Read, lba, count)),
-            Command::WriteDma { lba, count } => Some(Transfer::by(Op::Write, lba, count)),
-            _ => None,
-        }
-    }
-
-    fn by(op: Op, lba: u64, count: u32) -> Transfer
+    /// So many sectors from `lba` on.
+    pub(crate) fn by(op: Op, lba: u64, count: u32) -> Transfer
         requires some { 0 < count }
         requires most { count ≤ most_sectors }
         ensures { result ≡ transfer_by op lba count }
@@ -94,7 +83,7 @@ impl Transfer {
         SECTOR_SIZE as u32 * self.count.number()
     }
 
-    /// How many bytes its completion brings: those of a write.
+    /// How many bytes come with it: those of a write.
     pub(crate) fn payload_size(&self) -> usize
         ensures { result ≡ payload_size_of self.now }
     {
@@ -109,31 +98,5 @@ impl Transfer {
         ensures { result ≡ fits sectors self.now }
     {
         self.lba <= sectors && u64::from(self.count.number()) <= sectors - self.lba
-    }
-
-    /// Moves the data, and gives the bytes that were read, in the memory of a vector that is given.
-    pub(crate) fn carry_out(
-        &self,
-        media: &mut Media,
-        buffer: Vec<u8>,
-        payload: &[u8],
-    ) -> Result<Vec<u8>, AllocError>
-        requires length { length payload.now ≡ payload_size_of self.now }
-        requires fits { self.now.lba + self.now.count ≤ media.old.sectors }
-        ensures data { IfOk result (λ v. v.items ≡ bytes_of (sector_at media.old) self.now) }
-        ensures size { media.new.sectors ≡ media.old.sectors }
-        ensures media { OnOk result ((s : ℕ)
-            → sector_at media.new s ≡ sector_then self.now payload.now (sector_at media.old s) s) }
-        ensures err { OnErr result (media.new ≡ media.old) }
-    {
-        match self.op {
-            Op::Read => media.read_sectors_into(buffer, self.lba, self.count.number()),
-            Op::Write => {
-                media.write(self.lba, payload)?;
-                let mut none = buffer;
-                none.clear();
-                Ok(none)
-            }
-        }
     }
 }

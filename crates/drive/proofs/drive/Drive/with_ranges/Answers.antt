@@ -1,6 +1,6 @@
 use Rattle.std.proofs.Common.{◌∙◌, ap, sym, drop, suc}
 use Rattle.std.proofs.Math.Seq.{drop-cons}
-use Rattle.drive.specs.Opening.{origin_after}
+use Rattle.history.specs.Opening.{origin_after}
 use Rattle.drive.proofs.Openings.{refused_row}
 use Rattle.drive.proofs.drive.Drive.with_ranges.Goals as goal
 

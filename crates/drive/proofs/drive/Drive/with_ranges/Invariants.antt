@@ -1,5 +1,5 @@
 use Rattle.std.proofs.Common.{◌≡◌, drop}
-use Rattle.drive.specs.Opening.{origin_after, origin_with}
+use Rattle.history.specs.Opening.{origin_after, origin_with}
 use Rattle.drive.proofs.drive.Drive.with_ranges.Given as goal
 
 abbrev pub invariant-loop-row : goal.invariant-loop-row

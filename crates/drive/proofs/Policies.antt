@@ -1,0 +1,94 @@
+-- What the policy says of a transfer, and what the history does with it then.
+use Rattle.std.proofs.Common.{◌≡◌, ℕ, Bool, true, false, List, Option, Some, None, Result, Ok, Err, refl, sym, subst, ap, ◌∙◌, if◌then◌else◌}
+use Rattle.fis.specs.declared.h2d.RegH2d.{RegH2d}
+use Rattle.locking.specs.declared.ranges.Verdict.{Verdict}
+use Rattle.locking.specs.declared.ranges.Verdict.TheVariants.{Serve, Shadow, Denied}
+use Rattle.locking.specs.Verdict.{verdict_of}
+use Rattle.trusted_cmds.specs.declared.command.Command.{Command}
+use Rattle.device_data.specs.ErrorLog.{failure_by}
+use Rattle.history.specs.Events.{Deed, OfQueue, QueueFailed, Event, did}
+use Rattle.history.specs.Facts.{Facts}
+use Rattle.history.specs.Decisions.{aborted, not_found, fails, fails_queue, holds, on_drive, verdict_on, queued_by, unqueued_by, queued_transfer, unqueued_transfer}
+use Rattle.drive.specs.declared.decision.Refusal.{Refusal}
+use Rattle.drive.specs.declared.transfer.Transfer.{Transfer}
+use Rattle.drive.specs.Decision.{ranges_of, by_verdict, policy_on}
+use Rattle.drive.specs.Transfer.{fits}
+use Rattle.drive.specs.State.{State, seen}
+
+-- a verdict that permits
+abbrev permitting : Bool → Verdict
+permitting b = if b then Shadow else Serve
+
+queued-by-ok : (h : RegH2d) (tag : ℕ) (c : Command) (v : Verdict) (b : Bool) → by_verdict v ≡ Ok b → queued_by h tag c v ≡ holds tag c (permitting b)
+queued-by-ok h tag c Serve b e = let same : false ≡ b = cc in ap (λ x. holds tag c (permitting x)) same
+queued-by-ok h tag c Shadow b e = let same : true ≡ b = cc in ap (λ x. holds tag c (permitting x)) same
+queued-by-ok h tag c (Denied why) b e = absurd cc
+
+queued-by-err : (h : RegH2d) (tag : ℕ) (c : Command) (v : Verdict) (r : Refusal) → by_verdict v ≡ Err r → queued_by h tag c v ≡ fails_queue (Some tag) r.error h r.denied
+queued-by-err h tag c Serve r e = absurd cc
+queued-by-err h tag c Shadow r e = absurd cc
+queued-by-err h tag c (Denied why) r e = let same : (record { error = aborted; denied = Some why }) ≡ r = cc in ap (λ (x : Refusal). fails_queue (Some tag) x.error h x.denied) same
+
+queued-ok : (b : Bool) (h : RegH2d) (tag : ℕ) (c : Command) (v : Verdict) (s : Bool)
+    → (if b then by_verdict v else Err (record { error = not_found; denied = None })) ≡ Ok s
+    → (if b then queued_by h tag c v else fails_queue (Some tag) not_found h None) ≡ holds tag c (permitting s)
+queued-ok true h tag c v s e = queued-by-ok h tag c v s e
+queued-ok false h tag c v s e = absurd cc
+
+queued-err : (b : Bool) (h : RegH2d) (tag : ℕ) (c : Command) (v : Verdict) (r : Refusal)
+    → (if b then by_verdict v else Err (record { error = not_found; denied = None })) ≡ Err r
+    → (if b then queued_by h tag c v else fails_queue (Some tag) not_found h None) ≡ fails_queue (Some tag) r.error h r.denied
+queued-err true h tag c v r e = queued-by-err h tag c v r e
+queued-err false h tag c v r e = let same : (record { error = not_found; denied = None }) ≡ r = cc in ap (λ (x : Refusal). fails_queue (Some tag) x.error h x.denied) same
+
+pub queued_held : (d : State) (f : Facts) (h : RegH2d) (tag : ℕ) (c : Command) (t : Transfer) (s : Bool) → policy_on d t ≡ Ok s
+    → queued_transfer (seen d f) h tag c t.op t.lba t.count ≡ holds tag c (permitting s)
+queued_held d f h tag c t s e = queued-ok (on_drive (seen d f) t.lba t.count) h tag c (verdict_on (seen d f) t.op t.lba t.count) s e
+
+pub queued_refused : (d : State) (f : Facts) (h : RegH2d) (tag : ℕ) (c : Command) (t : Transfer) (r : Refusal) → policy_on d t ≡ Err r
+    → queued_transfer (seen d f) h tag c t.op t.lba t.count ≡ fails_queue (Some tag) r.error h r.denied
+queued_refused d f h tag c t r e = queued-err (on_drive (seen d f) t.lba t.count) h tag c (verdict_on (seen d f) t.op t.lba t.count) r e
+
+unqueued-by-ok : (deed : Deed) (v : Verdict) (b : Bool) → by_verdict v ≡ Ok b → unqueued_by deed v ≡ did deed
+unqueued-by-ok deed Serve b e = refl
+unqueued-by-ok deed Shadow b e = refl
+unqueued-by-ok deed (Denied why) b e = absurd cc
+
+unqueued-by-err : (deed : Deed) (v : Verdict) (r : Refusal) → by_verdict v ≡ Err r → unqueued_by deed v ≡ fails r.error r.denied
+unqueued-by-err deed Serve r e = absurd cc
+unqueued-by-err deed Shadow r e = absurd cc
+unqueued-by-err deed (Denied why) r e = let same : (record { error = aborted; denied = Some why }) ≡ r = cc in ap (λ (x : Refusal). fails x.error x.denied) same
+
+unqueued-ok : (b : Bool) (deed : Deed) (v : Verdict) (s : Bool)
+    → (if b then by_verdict v else Err (record { error = not_found; denied = None })) ≡ Ok s
+    → (if b then unqueued_by deed v else fails not_found None) ≡ did deed
+unqueued-ok true deed v s e = unqueued-by-ok deed v s e
+unqueued-ok false deed v s e = absurd cc
+
+unqueued-err : (b : Bool) (deed : Deed) (v : Verdict) (r : Refusal)
+    → (if b then by_verdict v else Err (record { error = not_found; denied = None })) ≡ Err r
+    → (if b then unqueued_by deed v else fails not_found None) ≡ fails r.error r.denied
+unqueued-err true deed v r e = unqueued-by-err deed v r e
+unqueued-err false deed v r e = let same : (record { error = not_found; denied = None }) ≡ r = cc in ap (λ (x : Refusal). fails x.error x.denied) same
+
+pub unqueued_moved : (d : State) (f : Facts) (deed : Deed) (t : Transfer) (s : Bool) → policy_on d t ≡ Ok s
+    → unqueued_transfer (seen d f) deed t.op t.lba t.count ≡ did deed
+unqueued_moved d f deed t s e = unqueued-ok (on_drive (seen d f) t.lba t.count) deed (verdict_on (seen d f) t.op t.lba t.count) s e
+
+pub unqueued_refused : (d : State) (f : Facts) (deed : Deed) (t : Transfer) (r : Refusal) → policy_on d t ≡ Err r
+    → unqueued_transfer (seen d f) deed t.op t.lba t.count ≡ fails r.error r.denied
+unqueued_refused d f deed t r e = unqueued-err (on_drive (seen d f) t.lba t.count) deed (verdict_on (seen d f) t.op t.lba t.count) r e
+
+permitted-by : (v : Verdict) (s : Bool) → by_verdict v ≡ Ok s → v ≡ permitting s
+permitted-by Serve s e = let same : false ≡ s = cc in ap permitting same
+permitted-by Shadow s e = let same : true ≡ s = cc in ap permitting same
+permitted-by (Denied why) s e = absurd cc
+
+permitted-if : (b : Bool) (v : Verdict) (s : Bool)
+    → (if b then by_verdict v else Err (record { error = not_found; denied = None })) ≡ Ok s → v ≡ permitting s
+permitted-if true v s e = permitted-by v s e
+permitted-if false v s e = absurd cc
+
+-- what is permitted has the verdict of its shadow flag
+pub permitted : (d : State) (t : Transfer) (s : Bool) → policy_on d t ≡ Ok s → verdict_of (ranges_of d.tper) t.op t.lba t.count ≡ permitting s
+permitted d t s e = permitted-if (fits d.tper.store.config.sectors t) (verdict_of (ranges_of d.tper) t.op t.lba t.count) s e

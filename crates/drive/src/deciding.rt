@@ -1,0 +1,231 @@
+//! What the drive decides on a command (ACS-3, NCQ and trusted computing feature sets).
+
+ghost use Rattle.std.specs.Prelude.{◌≡◌, ◌<◌, ◌≤◌, ℕ, List, Some, None, Ok, is_some};
+ghost use Rattle.history.specs.Facts.{Facts};
+ghost use Rattle.history.specs.Decisions.{aborted, commanded, known, while_failed, admitted, unqueued, send, receive, is_trusted, queued_transfer, unqueued_transfer};
+ghost use Rattle.trusted_cmds.specs.Commands.{reading, IsCounted, most_sectors};
+ghost use Rattle.device_data.specs.ErrorLog.{failure_by};
+ghost use Rattle.drive.specs.declared.decision.Decision.{Decision};
+
+use crate::decision::{ABORTED, Decision};
+use crate::drive::Drive;
+use crate::transfer::{Held, Transfer};
+use device_data::Failure;
+use fis::{RegH2d, Tag};
+use locking::Op;
+use tper::is_session_com_id;
+use trusted_cmds::{Command, is_queued, of_fis, tag_of};
+
+/// The ComID of Level 0 discovery.
+pub(crate) const DISCOVERY_COM_ID: u16 = 1;
+
+/// The security protocol of the TCG.
+const TCG_PROTOCOL: u8 = 1;
+
+/// Security protocol 01h, with one block at least.
+fn is_trusted(protocol: u8, blocks: u16) -> bool
+    ensures { result ≡ is_trusted protocol blocks }
+{
+    protocol == TCG_PROTOCOL && blocks > 0
+}
+
+/// Aborted, and nothing changes.
+fn aborts() -> Decision
+    ensures { result ≡ Decision.Aborts aborted None }
+{
+    Decision::Aborts {
+        error: ABORTED,
+        denied: None,
+    }
+}
+
+/// The command of a FIS fails, and the queue with it.
+fn fails_queue(tag: Option<Tag>, h: &RegH2d) -> Decision
+    ensures { result ≡ Decision.FailsQueue (failure_by tag aborted h.now) None }
+{
+    Decision::FailsQueue {
+        failure: Failure::of(tag, ABORTED, h),
+        denied: None,
+    }
+}
+
+impl Drive {
+    ghost use Rattle.std.specs.Prelude.{◌≡◌, ℕ, List, Some, None, Ok, is_some, true, false};
+    ghost use Rattle.drive.specs.Decision.{event_of, moves, IsDue, IsTrusted};
+    ghost use Rattle.drive.specs.State.{seen};
+    ghost use Rattle.drive.specs.Queue.{held_at};
+    ghost use Rattle.drive.specs.Transfer.{queued_command, unqueued_command};
+
+    /// What the drive does with the command of a FIS.
+    pub(crate) fn decide(&self, h: &RegH2d) -> Decision
+        ensures event { (f : Facts) (payload : List ℕ) → event_of (seen self.now f) payload result
+            ≡ commanded (seen self.now f) h.now payload }
+        ensures due { IsDue self.now h.now result }
+    {
+        if !h.is_command {
+            return aborts();
+        }
+        if self.failure().is_some() {
+            return self.while_failed(h);
+        }
+        if self.is_busy() && !is_queued(h.command) {
+            return fails_queue(None, h);
+        }
+        self.known(h)
+    }
+
+    /// While the queue has failed, log page 10h alone is read.
+    fn while_failed(&self, h: &RegH2d) -> Decision
+        requires { is_some self.now.queue.failure ≡ true }
+        ensures event { (f : Facts) (payload : List ℕ) → event_of (seen self.now f) payload result
+            ≡ while_failed (reading h.now) }
+        ensures due { IsDue self.now h.now result }
+    {
+        match of_fis(h) {
+            Ok((Command::ReadLog10 { dma }, _)) => Decision::Executes(Command::ReadLog10 { dma }),
+            _ => aborts(),
+        }
+    }
+
+    /// A command that the mixing of queues does not refuse. A queued one whose FIS has a fault fails the queue.
+    fn known(&self, h: &RegH2d) -> Decision
+        requires { self.now.queue.failure ≡ None }
+        ensures event { (f : Facts) (payload : List ℕ) → event_of (seen self.now f) payload result
+            ≡ known (seen self.now f) h.now payload (reading h.now) }
+        ensures due { IsDue self.now h.now result }
+    {
+        match of_fis(h) {
+            Err(_) if is_queued(h.command) => fails_queue(Some(tag_of(h)), h),
+            Err(_) => aborts(),
+            Ok((command, Some(tag))) => self.queued(h, tag, command),
+            Ok((command, None)) => self.unqueued(h, command),
+        }
+    }
+
+    /// A queued command: a tag that is held fails the queue.
+    fn queued(&self, h: &RegH2d, tag: Tag, command: Command) -> Decision
+        requires { IsCounted command }
+        ensures event { (f : Facts) (payload : List ℕ) → event_of (seen self.now f) payload result
+            ≡ admitted (seen self.now f) h.now tag command (is_some (held_at self.now.queue tag)) }
+        ensures due { IsDue self.now h.now result }
+    {
+        if self.held(tag).is_some() {
+            return fails_queue(Some(tag), h);
+        }
+        match command {
+            Command::ReadQueued { lba, count } => {
+                self.queued_transfer(h, tag, Transfer::by(Op::Read, lba, count))
+            }
+            Command::WriteQueued { lba, count } => {
+                self.queued_transfer(h, tag, Transfer::by(Op::Write, lba, count))
+            }
+            _ => aborts(),
+        }
+    }
+
+    /// A queued transfer under a tag that is free: it is held where it is permitted, and else fails the queue.
+    #[tactic(auto, using(crate::proofs::Policies::queued_held, crate::proofs::Policies::queued_refused))]
+    fn queued_transfer(&self, h: &RegH2d, tag: Tag, transfer: Transfer) -> Decision
+        ensures event { (f : Facts) (payload : List ℕ) → event_of (seen self.now f) payload result
+            ≡ queued_transfer (seen self.now f) h.now tag (queued_command transfer)
+                transfer.op transfer.lba transfer.count }
+        ensures due { IsDue self.now h.now result }
+    {
+        match self.policy(&transfer) {
+            Ok(is_shadowed) => Decision::Holds {
+                tag,
+                held: Held {
+                    transfer,
+                    is_shadowed,
+                },
+            },
+            Err(refusal) => Decision::FailsQueue {
+                failure: Failure::of(Some(tag), refusal.error, h),
+                denied: refusal.denied,
+            },
+        }
+    }
+
+    /// A command that is not queued.
+    fn unqueued(&self, h: &RegH2d, command: Command) -> Decision
+        requires mended { self.now.queue.failure ≡ None }
+        requires reads { reading h.now ≡ Ok (command, None) }
+        requires counted { IsCounted command }
+        ensures event { (f : Facts) (payload : List ℕ) → event_of (seen self.now f) payload result
+            ≡ unqueued (seen self.now f) payload command }
+        ensures due { IsDue self.now h.now result }
+    {
+        match command {
+            Command::ReadDma { lba, count } => {
+                self.unqueued_transfer(h, Transfer::by(Op::Read, lba, count))
+            }
+            Command::WriteDma { lba, count } => {
+                self.unqueued_transfer(h, Transfer::by(Op::Write, lba, count))
+            }
+            Command::Send { .. } | Command::Receive { .. } => self.trusted(h, command),
+            Command::Identify | Command::ReadLog10 { .. } | Command::Flush => {
+                Decision::Executes(command)
+            }
+            Command::ReadQueued { .. } | Command::WriteQueued { .. } => aborts(),
+        }
+    }
+
+    /// A transfer that is not queued: it moves its data where it is permitted, and else fails.
+    #[tactic(auto, using(crate::proofs::Policies::unqueued_moved, crate::proofs::Policies::unqueued_refused, crate::proofs::Policies::permitted))]
+    fn unqueued_transfer(&self, h: &RegH2d, transfer: Transfer) -> Decision
+        requires { reading h.now ≡ Ok (unqueued_command transfer, None) }
+        ensures event { (f : Facts) (payload : List ℕ) → event_of (seen self.now f) payload result
+            ≡ unqueued_transfer (seen self.now f) (moves transfer payload)
+                transfer.op transfer.lba transfer.count }
+        ensures due { IsDue self.now h.now result }
+    {
+        match self.policy(&transfer) {
+            Ok(is_shadowed) => Decision::Moves(Held {
+                transfer,
+                is_shadowed,
+            }),
+            Err(refusal) => Decision::Aborts {
+                error: refusal.error,
+                denied: refusal.denied,
+            },
+        }
+    }
+
+    /// A trusted command: of security protocol 01h, with one block at least, on a ComID that takes it. A send while a
+    /// response waits there is aborted.
+    fn trusted(&self, h: &RegH2d, command: Command) -> Decision
+        requires reads { reading h.now ≡ Ok (command, None) }
+        requires trusted { IsTrusted command }
+        ensures event { (f : Facts) (payload : List ℕ) → event_of (seen self.now f) payload result
+            ≡ unqueued (seen self.now f) payload command }
+        ensures due { IsDue self.now h.now result }
+    {
+        let is_taken = match command {
+            Command::Send {
+                protocol,
+                sp_specific,
+                blocks,
+                ..
+            } => {
+                is_trusted(protocol, blocks)
+                    && is_session_com_id(sp_specific)
+                    && !self.is_waiting(sp_specific)
+            }
+            Command::Receive {
+                protocol,
+                sp_specific,
+                blocks,
+                ..
+            } => {
+                is_trusted(protocol, blocks)
+                    && (is_session_com_id(sp_specific) || sp_specific == DISCOVERY_COM_ID)
+            }
+            _ => false,
+        };
+        if is_taken {
+            Decision::Executes(command)
+        } else {
+            aborts()
+        }
+    }
+}

@@ -1,0 +1,116 @@
+//! What the drive does with a command, once it has decided.
+
+ghost use Rattle.std.specs.Prelude.{◌≡◌, ◌∷◌, List, length, IfOk, OnOk, OnErr};
+
+use crate::answer::{Accepted, moved_fises, served_fises};
+use crate::deciding::DISCOVERY_COM_ID;
+use crate::decision::Decision;
+use crate::drive::Drive;
+use audit::Why;
+use fis::RegH2d;
+use shadow_mbr::SECTOR_SIZE;
+use std::alloc::AllocError;
+use trusted_cmds::Command;
+
+impl Drive {
+    ghost use Rattle.trusted_cmds.specs.Commands.{payload_length};
+    ghost use Rattle.history.specs.Opening.{Origin};
+    ghost use Rattle.std.specs.Prelude.{◌==◌, ◌||◌, ◌*◌, ℕ, true};
+    ghost use Rattle.shadow_mbr.specs.Stored.{sector_size};
+    ghost use Rattle.history.specs.Answers.{data_of, receive_data};
+    ghost use Rattle.history.specs.Decisions.{is_session_com_id, discovery_com_id, received};
+    ghost use Rattle.history.specs.Events.{Event};
+    ghost use Rattle.history.specs.Readers.{waiting};
+    ghost use Rattle.history.specs.Facts.{facts};
+    ghost use Rattle.history.specs.History.{Act, log};
+    ghost use Rattle.drive.specs.Decision.{event_of, executed, CanExecute, IsDue};
+    ghost use Rattle.drive.specs.State.{Keeps, Agrees};
+    ghost use Rattle.drive.specs.Answers.{IsDone};
+
+    /// Does what was decided on the command of a FIS.
+    pub(crate) fn act(
+        &mut self,
+        h: &RegH2d,
+        decision: Decision,
+        payload: &[u8],
+    ) -> Result<Accepted, AllocError>
+        requires due { IsDue self.old h.now decision }
+        requires payload { length payload.now ≡ payload_length h.now }
+        ensures done { IfOk result (λ a. (o : Origin) (acts : List Act) → Agrees self.old o acts
+            → IsDone (facts o (log o acts)) h.now
+                (event_of (facts o (log o acts)) payload.now decision) self.new o (log o acts) a) }
+        ensures err { OnErr result (self.new ≡ self.old) }
+    {
+        let alloc = self.allocator();
+        match decision {
+            Decision::Aborts { error, denied } => Ok(Accepted::failed(alloc, error, denied)),
+            Decision::FailsQueue { failure, denied } => {
+                self.fail_queue(failure);
+                Ok(Accepted::failed(alloc, failure.error, denied))
+            }
+            Decision::Holds { tag, held } => {
+                self.hold(tag, held);
+                Ok(Accepted::held(alloc))
+            }
+            Decision::Moves(held) => {
+                let bytes = self.carry_out(&held, payload)?;
+                Ok(Accepted::served(moved_fises(), bytes, None))
+            }
+            Decision::Executes(command) => {
+                let (bytes, denied) = self.execute(&command, payload)?;
+                Ok(Accepted::served(served_fises(&command), bytes, denied))
+            }
+        }
+    }
+
+    /// Executes a command that moves no sectors: gives its data, and what denied the item that it sent.
+    fn execute(
+        &mut self,
+        command: &Command,
+        payload: &[u8],
+    ) -> Result<(Vec<u8>, Option<Why>), AllocError>
+        requires { CanExecute command.now }
+        ensures kept { OnOk result ((o : Origin) (acts : List Act) → Agrees self.old o acts
+            → Keeps self.new o (executed (facts o (log o acts)) payload.now command.now ∷ log o acts)) }
+        ensures data { IfOk result (λ r. (o : Origin) (acts : List Act) → Agrees self.old o acts
+            → r.0.items ≡ data_of (facts o (log o acts)) command.now) }
+        ensures denied { IfOk result (λ r. (o : Origin) (acts : List Act) → Agrees self.old o acts
+            → r.1 ≡ (executed (facts o (log o acts)) payload.now command.now).denied) }
+        ensures err { OnErr result (self.new ≡ self.old) }
+    {
+        match *command {
+            Command::Send { sp_specific, .. } => {
+                let denied = self.send(sp_specific, payload)?;
+                Ok((Vec::new(self.allocator()), denied))
+            }
+            Command::Receive {
+                sp_specific,
+                blocks,
+                ..
+            } => {
+                let bytes = self.received(sp_specific, SECTOR_SIZE * usize::from(blocks))?;
+                Ok((bytes, None))
+            }
+            Command::Identify => Ok((self.identify()?, None)),
+            Command::ReadLog10 { .. } => Ok((self.read_log()?, None)),
+            _ => Ok((Vec::new(self.allocator()), None)),
+        }
+    }
+
+    /// The data of a receive: Level 0 discovery on its ComID, else what waits on one of those of sessions.
+    fn received(&mut self, com_id: u16, room: usize) -> Result<Vec<u8>, AllocError>
+        requires { (is_session_com_id com_id || com_id == discovery_com_id) ≡ true }
+        ensures kept { OnOk result ((o : Origin) (past : List Event) (blocks : ℕ)
+            → room ≡ sector_size * blocks → Keeps self.old o past
+            → Keeps self.new o (received com_id blocks (waiting past com_id) ∷ past)) }
+        ensures data { IfOk result (λ v. (o : Origin) (acts : List Act) → Agrees self.old o acts
+            → v.items ≡ receive_data (facts o (log o acts)) com_id room) }
+        ensures err { OnErr result (self.new ≡ self.old) }
+    {
+        if com_id == DISCOVERY_COM_ID {
+            self.discover(room)
+        } else {
+            self.receive(com_id, room)
+        }
+    }
+}
