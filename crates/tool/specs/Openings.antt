@@ -1,6 +1,6 @@
 -- What the range lines of a script open.
 use Rattle.std.specs.Prelude.{◌≡◌, List, [], ℕ, None, Some, ⊤}
-use Rattle.drive.specs.Opening.{Origin, factory_origin, activated_origin, row_fault, with_range}
+use Rattle.history.specs.Opening.{Origin, factory_origin, activated_origin, row_fault, with_range}
 use Rattle.script_lines.specs.declared.line.Line.{Line}
 use Rattle.script_lines.specs.declared.line.Line.TheVariants.{Range, Read, Write, Expect}
 use Rattle.locking.specs.declared.range.RangeRow.{RangeRow}

@@ -31,7 +31,7 @@ impl OpeningPhase {
     ghost use Rattle.script_lines.specs.declared.line.Line.{Line};
     ghost use Rattle.script_lines.specs.declared.fault.LineFault.{LineFault};
     ghost use Rattle.sp_cells.specs.declared.error.SetError.{SetError};
-    ghost use Rattle.drive.specs.Opening.{row_fault, with_range};
+    ghost use Rattle.history.specs.Opening.{row_fault, with_range};
     ghost use Rattle.drive.specs.State.{Agrees};
     ghost use Rattle.tool.specs.Openings.{origin_of, base_of, OpeningSays, OpeningGoesOn, OpeningDoes, RunsFrom, TurnStands};
     ghost use Rattle.tool.specs.declared.opening.OpeningPhase.TheVariants.{Activated};

@@ -1,13 +1,14 @@
 //! The running phase of a script: a drive, and what the lines do with it.
 
-ghost use Rattle.std.specs.Prelude.{◌≡◌, All, OnOk, length};
-ghost use Rattle.tool.specs.Effects.{read_of, write_of};
+ghost use Rattle.std.specs.Prelude.{◌≡◌, OnOk, length, replicate, true};
+ghost use Rattle.tool.specs.Acts.{read_of, write_of};
 
 use crate::ending::Fault;
 use drive::{Accepted, Drive};
 use fis::Tag;
 use script_lines::{Line, Report, Transfer, expected_text};
 use std::alloc::{AllocError, Global};
+use std::mem::replace;
 use trusted_cmds::{Command, sectors, to_fis};
 
 /// How a script goes on behind a line.
@@ -25,8 +26,9 @@ pub struct RunningPhase {
     drive: Drive,
     /// How many acts the drive has done.
     acts: u64,
-    /// How many commands have failed, as far as this number counts.
-    failures: u8,
+    /// The queue had failed before the last command.
+    had_failed: bool,
+    /// The bytes that go with the next act.
     payload: Vec<u8>,
 }
 
@@ -52,8 +54,7 @@ fn write_of(transfer: &Transfer) -> Command
 
 /// Fills a buffer with so many bytes, all the same.
 fn fill(buffer: &mut Vec<u8>, size: usize, byte: u8) -> Result<(), AllocError>
-    ensures size { OnOk result (length buffer.new.items ≡ size) }
-    ensures bytes { OnOk result (All (λ each. each ≡ byte) buffer.new.items) }
+    ensures { OnOk result (buffer.new.items ≡ replicate size byte) }
 {
     buffer.clear();
     buffer.resize(size, byte)?;
@@ -62,15 +63,15 @@ fn fill(buffer: &mut Vec<u8>, size: usize, byte: u8) -> Result<(), AllocError>
 
 impl RunningPhase {
     ghost use Rattle.std.specs.Prelude.{◌≡◌, ◌<◌, ◌^◌, List, [], IfSome, IfOk, OnOk, Ok, Err};
-    ghost use Rattle.trusted_cmds.specs.Commands.{lba_of, IsCounted};
+    ghost use Rattle.trusted_cmds.specs.Commands.{lba_of, IsCounted, payload_length, fis_of};
     ghost use Rattle.script_lines.specs.Lines.{line_of};
     ghost use Rattle.script_lines.specs.declared.line.Line.{Line};
     ghost use Rattle.script_lines.specs.declared.fault.LineFault.{LineFault};
-    ghost use Rattle.drive.specs.Opening.{Origin};
-    ghost use Rattle.drive.specs.History.{Act};
+    ghost use Rattle.history.specs.Opening.{Origin};
+    ghost use Rattle.history.specs.History.{Act};
     ghost use Rattle.drive.specs.State.{Agrees};
     ghost use Rattle.tool.specs.Scripts.{GoesOn, Says};
-    ghost use Rattle.tool.specs.Effects.{RunsOn, Stands, Accepts, Serves, Transfers, Does};
+    ghost use Rattle.tool.specs.Effects.{RunsOn, Stands, Accepts, Has, Commands, completed, transferred, Does};
     ghost use Rattle.tool.specs.declared.ending.Fault.{Fault};
 
     /// A drive on which nothing was done.
@@ -80,7 +81,7 @@ impl RunningPhase {
         RunningPhase {
             drive,
             acts: 0,
-            failures: 0,
+            had_failed: false,
             payload: Vec::new(alloc),
         }
     }
@@ -125,11 +126,38 @@ impl RunningPhase {
         }
     }
 
+    /// Gives the drive the FIS of a command, with the payload at hand.
+    fn accept(&mut self, command: &Command, tag: Tag) -> Result<Accepted, AllocError>
+        requires address { IfSome (lba_of command.now) (λ lba. lba < 2 ^ 48) }
+        requires counted { IsCounted command.now }
+        requires payload { length self.old.payload.items ≡ payload_length (fis_of command.now tag) }
+        ensures { IfOk result (λ accepted. (o : Origin) (acts : List Act) → RunsOn self.old o acts
+            → Accepts self.new o acts command.now tag self.old.payload.items accepted) }
+    {
+        let fis = to_fis(command, tag).to_bytes();
+        // nothing but memory is refused here
+        let Ok(accepted) = self.drive.accept(&fis, &self.payload) else {
+            return Err(AllocError);
+        };
+        self.acts = self.acts.wrapping_add(1);
+        Ok(accepted)
+    }
+
+    /// Whether a command that failed is the first one that a failed queue aborts, by what `failure` says
+    /// before it is given to the drive.
+    fn is_first_abort(&mut self, has_failed: bool) -> bool
+        ensures told { result ≡ true → has_failed ≡ true }
+        ensures runs { (o : Origin) (acts : List Act) → RunsOn self.old o acts → RunsOn self.new o acts }
+        ensures payload { self.new.payload ≡ self.old.payload }
+    {
+        has_failed && !replace(&mut self.had_failed, has_failed)
+    }
+
     /// Completes a held transfer, whose payload has this byte in each place, and prints its data.
     fn serve(&mut self, tag: Tag, byte: u8, report: &mut Report) -> Result<(), AllocError>
         ensures { OnOk result
             ((o : Origin) (acts : List Act) → RunsOn self.old o acts
-            → Serves self.new o acts tag byte report.old report.new) }
+            → Has self.new o report.old report.new (completed o acts tag byte)) }
     {
         fill(&mut self.payload, self.drive.expects(tag), byte)?;
         // what is held completes, unless memory is refused
@@ -142,21 +170,6 @@ impl RunningPhase {
         Ok(())
     }
 
-    /// Gives the drive the FIS of a queued command.
-    fn accept(&mut self, command: &Command, tag: Tag) -> Accepted
-        requires address { IfSome (lba_of command.now) (λ lba. lba < 2 ^ 48) }
-        requires counted { IsCounted command.now }
-        ensures { (o : Origin) (acts : List Act) → RunsOn self.old o acts
-            → Accepts self.new o acts command.now tag result }
-    {
-        let accepted = self
-            .drive
-            .accept(&to_fis(command, tag).to_bytes(), &[])
-            .unwrap();
-        self.acts = self.acts.wrapping_add(1);
-        accepted
-    }
-
     /// Accepts a queued transfer, and completes it where it is held.
     fn transfer(
         &mut self,
@@ -167,12 +180,16 @@ impl RunningPhase {
     ) -> Result<Turn, AllocError>
         requires address { IfSome (lba_of command.now) (λ lba. lba < 2 ^ 48) }
         requires counted { IsCounted command.now }
+        requires payload { payload_length (fis_of command.now transfer.now.tag) ≡ 0 }
         ensures goes { IfOk result (λ turn. GoesOn (Line.Read transfer.now) turn) }
-        ensures does { OnOk result
-            ((o : Origin) (acts : List Act) → RunsOn self.old o acts
-            → Transfers self.new o acts command.now transfer.now byte report.old report.new) }
+        ensures does { IfOk result (λ turn. (o : Origin) (acts : List Act) → RunsOn self.old o acts
+            → Commands turn self.new o acts report.old report.new
+            (transferred o acts command.now transfer.now byte)) }
     {
-        let accepted = self.accept(command, transfer.tag);
+        let has_failed = self.drive.failure().is_some();
+        let aborted = self.is_first_abort(has_failed);
+        self.payload.clear();
+        let accepted = self.accept(command, transfer.tag)?;
         if accepted.held {
             self.serve(transfer.tag, byte, report)?;
             return Ok(Turn::Goes { aborted: false });
@@ -184,8 +201,6 @@ impl RunningPhase {
             ..
         } = accepted;
         report.print_refusal(self.acts, transfer.client, status, error, denied)?;
-        self.failures = self.failures.saturating_add(1);
-        let aborted = self.failures == 2;
         Ok(Turn::Goes { aborted })
     }
 }
