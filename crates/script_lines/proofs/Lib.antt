@@ -1,2 +1,3 @@
+mod HexTexts
 mod Numerals
 mod Sectors
