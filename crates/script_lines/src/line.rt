@@ -6,9 +6,9 @@ ghost use Rattle.script_lines.specs.Lines.{expected_text};
 use crate::fault::LineFault;
 use crate::field::Field;
 use crate::hex_text::Hex;
-use crate::number::number_up_to;
+use crate::number::number_in_front;
 use crate::verb::{Verb, verb_of};
-use crate::words::Words;
+use crate::words::{Words, skip_blanks};
 use compacket::{ComId, Session};
 use fis::{Lba, Tag};
 use locking::RangeRow;
@@ -92,19 +92,23 @@ impl<'a> Words<'a> {
     fn number(&mut self, field: Field) -> Result<u64, LineFault>
         ensures value { result ≡ number_in field (first_word self.old.rest.now) }
         ensures most { IfOk result (λ n. n ≤ most_of field) }
-        ensures rest { self.new.rest.now ≡ after_word self.old.rest.now }
+        ensures rest { OnOk result (self.new.rest.now ≡ after_word self.old.rest.now) }
     {
-        let word = self.next_word();
-        if word.is_empty() {
-            return Err(LineFault::Missing(field));
+        let text = skip_blanks(self.rest);
+        match number_in_front(field.most(), text) {
+            Some((number, len)) => {
+                self.rest = &text[len..];
+                Ok(number)
+            }
+            None if text.is_empty() => Err(LineFault::Missing(field)),
+            None => Err(LineFault::Wrong(field)),
         }
-        number_up_to(field.most(), word).ok_or(LineFault::Wrong(field))
     }
 
     /// The next word as a flag, 0 or 1.
     fn flag(&mut self, field: Field) -> Result<bool, LineFault>
         ensures value { result ≡ flag_in field (first_word self.old.rest.now) }
-        ensures rest { self.new.rest.now ≡ after_word self.old.rest.now }
+        ensures rest { OnOk result (self.new.rest.now ≡ after_word self.old.rest.now) }
     {
         Ok(self.number(field)? == 1)
     }
