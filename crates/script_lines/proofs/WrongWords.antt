@@ -1,13 +1,12 @@
 -- A word that is there, and is no number.
-use Rattle.std.proofs.Common.{◌≡◌, ℕ, ◌==◌, Bool, true, false, List, [], ◌∷◌, length, refl, sym, ap, ◌∙◌, arith, Option, None, Result, Ok, Err, inl, inr}
+use Rattle.std.proofs.Common.{◌≡◌, ℕ, ◌==◌, false, List, [], ◌∷◌, length, refl, sym, ap, ◌∙◌, arith, None, Err, inl, inr}
 use Rattle.std.specs.Prelude.{option_map}
 use Rattle.std.proofs.lemmas.Bool.{cases_Bool}
 use Rattle.std.proofs.lemmas.Bool.Decides.{nat_tests}
 use Rattle.script_lines.specs.Words.{is_blank, skip_blanks, word_length, front, first_word}
 use Rattle.script_lines.specs.Numbers.{number_up_to}
-use Rattle.script_lines.specs.Fields.{most_of, number_in, or_fault, if_present}
+use Rattle.script_lines.specs.Fields.{most_of, number_in}
 use Rattle.script_lines.specs.declared.field.Field.{Field}
-use Rattle.script_lines.specs.declared.fault.LineFault.{LineFault}
 use Rattle.script_lines.specs.declared.fault.LineFault.TheVariants.{Wrong}
 use Rattle.script_lines.proofs.Numerals.{of_length, unmapped}
 

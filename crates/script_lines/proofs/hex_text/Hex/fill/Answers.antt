@@ -1,4 +1,4 @@
-use Rattle.std.proofs.Common.{rules, ◌∙◌, sym, ap, length}
+use Rattle.std.proofs.Common.{◌∙◌, sym, ap, length}
 use Rattle.script_lines.proofs.HexTexts.{is_written}
 use Rattle.script_lines.proofs.hex_text.Hex.fill.Goals as goal
 
