@@ -92,7 +92,7 @@ impl Report {
     }
 
     /// Prints the audit line of a denial.
-    fn print_audit(&mut self, line: &AuditLine) -> Result<(), AllocError>
+    pub fn print_audit(&mut self, line: &AuditLine) -> Result<(), AllocError>
         ensures { OnOk result (Prints self.old self.new (audit_text line.now ∷ [])) }
     {
         let text = line_bytes(self.alloc, line)?;

@@ -1,16 +1,23 @@
 -- The acts of a drive's history that the lines of a script ask for.
-use Rattle.std.specs.Prelude.{ℕ, zero, suc, ◌+◌, ◌*◌, ◌/◌, ◌%◌, ◌^◌, List, [], ◌∷◌, length, replicate}
+use Rattle.std.specs.Prelude.{ℕ, zero, suc, ◌+◌, ◌*◌, ◌/◌, ◌%◌, ◌-◌, ◌^◌, true, List, [], ◌∷◌, length, replicate}
 use Rattle.fis.specs.Types.{h2d_type}
 use Rattle.fis.specs.Bytes.{bit}
 use Rattle.fis.specs.declared.h2d.RegH2d.{RegH2d}
-use Rattle.trusted_cmds.specs.Commands.{sectors, fis_of}
+use Rattle.trusted_cmds.specs.Commands.{sectors, sector_size, fis_of}
 use Rattle.trusted_cmds.specs.declared.command.Command.{Command}
-use Rattle.trusted_cmds.specs.declared.command.Command.TheVariants.{ReadQueued, WriteQueued}
+use Rattle.trusted_cmds.specs.declared.command.Command.TheVariants.{ReadQueued, WriteQueued, ReadDma, WriteDma, Send, Receive}
+use Rattle.device_data.specs.ErrorLog.{sized}
 use Rattle.history.specs.Answers.{expected}
 use Rattle.history.specs.Events.{Event}
-use Rattle.history.specs.History.{Act, Accept, Complete}
+use Rattle.history.specs.History.{Act, Accept, Complete, Reset as reset_act}
 use Rattle.history.specs.Readers.{held}
+use Rattle.drive.specs.Answers.{kind_of}
+use Rattle.drive.specs.declared.reset.ResetKind.{ResetKind}
+use Rattle.drive.specs.declared.reset.ResetKind.TheVariants.{Power, Hardware}
 use Rattle.script_lines.specs.declared.line.Transfer.{Transfer}
+use Rattle.script_lines.specs.declared.line.DmaTransfer.{DmaTransfer}
+use Rattle.script_lines.specs.declared.line.Reset.{Reset}
+use Rattle.script_lines.specs.declared.line.Reset.TheVariants as resets
 
 -- what is left of a number behind so many of its lowest bytes
 abbrev pub behind : ℕ → ℕ → ℕ
@@ -38,9 +45,45 @@ completion past tag byte = Complete tag (replicate (expected (held past tag)) by
 abbrev pub step_of : List Act → ℕ
 step_of acts = length acts % 2 ^ 64
 
--- the queued commands that a line asks for; a count field of 0 stands for 65,536
+-- the transfers that a line asks for; a count field of 0 stands for 65,536
 abbrev pub read_of : Transfer → Command
 read_of transfer = ReadQueued transfer.lba (sectors transfer.count)
 
 abbrev pub write_of : Transfer → Command
 write_of transfer = WriteQueued transfer.lba (sectors transfer.count)
+
+abbrev pub read_dma_of : DmaTransfer → Command
+read_dma_of transfer = ReadDma transfer.lba (sectors transfer.count)
+
+abbrev pub write_dma_of : DmaTransfer → Command
+write_dma_of transfer = WriteDma transfer.lba (sectors transfer.count)
+
+-- the bytes of a write, all the same
+abbrev pub write_bytes : DmaTransfer → ℕ → List ℕ
+write_bytes transfer byte = replicate (sector_size * sectors transfer.count) byte
+
+-- the security protocol whose SP Specific field is a ComID
+abbrev pub com_id_protocol : ℕ
+com_id_protocol = 1
+
+-- how many blocks so many bytes take, and bytes with zeros behind them to the end of a block
+abbrev pub blocks_of : ℕ → ℕ
+blocks_of size = (size + (sector_size - 1)) / sector_size
+
+abbrev pub in_blocks : List ℕ → List ℕ
+in_blocks bytes = sized (sector_size * blocks_of (length bytes)) bytes
+
+-- the trusted commands, whose data go by DMA
+abbrev pub send_of : ℕ → ℕ → Command
+send_of com_id blocks = Send com_id_protocol com_id blocks true
+
+abbrev pub receive_of : ℕ → ℕ → Command
+receive_of com_id blocks = Receive com_id_protocol com_id blocks true
+
+-- the kind of a reset
+abbrev pub kind_named : Reset → ResetKind
+kind_named resets.Power = Power
+kind_named resets.Hardware = Hardware
+
+abbrev pub reset_of : Reset → Act
+reset_of kind = reset_act (kind_of (kind_named kind))

@@ -1,24 +1,30 @@
 -- What the lines of a script do to their drive, and what they print.
-use Rattle.std.specs.Prelude.{◌≡◌, ℕ, ◌%◌, ◌^◌, Bool, true, false, ⊤, if◌then◌else◌, List, [], ◌∷◌, length, unwrap_or, is_some}
+use Rattle.std.specs.Prelude.{◌≡◌, ℕ, ◌==◌, true, false, if◌then◌else◌, List, [], ◌∷◌, length, take, Option, None, Some, unwrap_or, is_some}
 use Rattle.std.specs.Str.{bytes_eq}
 use Rattle.trusted_cmds.specs.Commands.{fis_of}
 use Rattle.trusted_cmds.specs.declared.command.Command.{Command}
+use Rattle.trusted_cmds.specs.declared.command.Command.TheVariants.{ReadDma, Receive, ReadLog10}
+use Rattle.compacket.specs.Frames.{com_packet_size}
+use Rattle.compacket.specs.Spelling.{frame_bytes}
+use Rattle.device_data.specs.declared.level0.TheConstants.{DISCOVERY_LENGTH}
 use Rattle.history.specs.Opening.{Origin}
 use Rattle.history.specs.Events.{Event}
 use Rattle.history.specs.Facts.{facts}
 use Rattle.history.specs.History.{Act, log, event}
 use Rattle.history.specs.Readers.{held, failure}
-use Rattle.history.specs.Answers.{status_of, is_holding, completed_data}
+use Rattle.history.specs.Answers.{status_of, is_holding, answer_data, completed_data}
+use Rattle.history.specs.Decisions.{discovery_com_id}
 use Rattle.drive.specs.State.{Agrees}
 use Rattle.drive.specs.Answers.{IsAnswer}
 use Rattle.drive.specs.declared.answer.Accepted.{Accepted}
-use Rattle.script_lines.specs.Texts.{Prints, data_text, refusal_lines}
+use Rattle.script_lines.specs.Texts.{Prints, done_text, data_text, hex_text, failure_text, denial_lines, refusal_lines}
 use Rattle.script_lines.specs.Lines.{expected_text}
 use Rattle.script_lines.specs.declared.line.Transfer.{Transfer}
+use Rattle.script_lines.specs.declared.line.Reset.{Reset}
 use Rattle.script_lines.specs.declared.report.Report.{Report}
 use Rattle.script_lines.specs.declared.line.Line as told
 use Rattle.script_lines.specs.declared.line.Line.TheVariants as lines
-use Rattle.tool.specs.Acts.{accept_of, completion, step_of, read_of, write_of}
+use Rattle.tool.specs.Acts.{accept_of, completion, step_of, read_of, write_of, read_dma_of, write_dma_of, write_bytes, blocks_of, in_blocks, send_of, receive_of, reset_of}
 use Rattle.tool.specs.declared.ending.Fault.TheVariants.{LateRange}
 use Rattle.tool.specs.declared.running.Turn.{Turn}
 use Rattle.tool.specs.declared.running.Turn.TheVariants.{Goes, ExpectationFailed, Bad}
@@ -72,23 +78,83 @@ transferred o acts command transfer byte =
     once_accepted o (accept_of command transfer.tag [] ∷ acts) transfer byte
     (event o (log o acts) (accept_of command transfer.tag []))
 
--- that the failed queue aborts a command is told only where the queue has failed
-abbrev pub TellsTruly : Turn → List Event → Type 0
-TellsTruly (Goes aborted) past = aborted ≡ true → is_some (failure past) ≡ true
-TellsTruly ExpectationFailed past = ⊤
-TellsTruly (Bad fault) past = ⊤
+-- what a receive shows: on the ComID of Level 0 discovery its bytes, else the header of the ComPacket and the bytes that it counts
+abbrev pub shown : ℕ → List ℕ → List ℕ
+shown com_id bytes =
+    if com_id == discovery_com_id then take DISCOVERY_LENGTH bytes else take (com_packet_size bytes) bytes
 
--- what a line of a command does
-abbrev pub Commands : Turn → RunningPhase → Origin → List Act → Report → Report → Effect → Type 0
-Commands turn new o acts before after effect = Has new o before after effect × TellsTruly turn (log o acts)
+-- what a command that was served prints of its data
+abbrev pub served_text : Command → List ℕ → List ℕ
+served_text (ReadDma lba count) bytes = data_text bytes
+served_text (Receive protocol com_id blocks dma) bytes = hex_text (shown com_id bytes)
+served_text (ReadLog10 dma) bytes = hex_text bytes
+served_text _ bytes = done_text
 
--- what a line does: a read or a write is a queued transfer, an expectation is held against the last printed line, and a range line comes
--- too late; neither of the last two acts or prints
+-- or that it failed
+abbrev pub answer_text : Command → Option ℕ → List ℕ → List ℕ
+answer_text command None bytes = served_text command bytes
+answer_text command (Some error) bytes = failure_text (status_of (Some error)) error
+
+-- the same by the fields of an answer
+abbrev pub failed_status : ℕ
+failed_status = 0x51
+
+abbrev pub told_lines : ℕ → ℕ → Command → Accepted → List (List ℕ)
+told_lines step client command accepted =
+    (if accepted.status == failed_status then failure_text accepted.status accepted.error else served_text command accepted.bytes.items)
+    ∷ denial_lines step client accepted.denied
+
+-- an unqueued command is accepted, and what came of it is printed, with what denied it under the number of the act
+abbrev pub answered : Origin → List Act → ℕ → Command → Act → Event → Effect
+answered o acts client command act made = record {
+  acts = act ∷ acts;
+  lines = answer_text command made.failed (answer_data (facts o (log o acts)) (fis_of command 0) made)
+      ∷ denial_lines (step_of (act ∷ acts)) client made.denied;
+}
+
+abbrev pub commanded : Origin → List Act → ℕ → Command → List ℕ → Effect
+commanded o acts client command payload =
+    answered o acts client command (accept_of command 0 payload) (event o (log o acts) (accept_of command 0 payload))
+
+-- bytes are sent to a ComID
+abbrev pub sends : Origin → List Act → ℕ → ℕ → List ℕ → Effect
+sends o acts client com_id bytes =
+    commanded o acts client (send_of com_id (blocks_of (length bytes))) (in_blocks bytes)
+
+-- the drive is reset
+abbrev pub restarted : List Act → Reset → Effect
+restarted acts kind = record { acts = reset_of kind ∷ acts; lines = done_text ∷ [] }
+
+-- what a line does
+abbrev pub effect_of : Origin → List Act → told.Line → Effect
+effect_of o acts (lines.Read transfer) = transferred o acts (read_of transfer) transfer 0
+effect_of o acts (lines.Write transfer byte) = transferred o acts (write_of transfer) transfer byte
+effect_of o acts (lines.ReadDma transfer) = commanded o acts transfer.client (read_dma_of transfer) []
+effect_of o acts (lines.WriteDma transfer byte) =
+    commanded o acts transfer.client (write_dma_of transfer) (write_bytes transfer byte)
+effect_of o acts (lines.Call client com_id session tokens) =
+    sends o acts client com_id (frame_bytes com_id session tokens)
+effect_of o acts (lines.Send client com_id packet) = sends o acts client com_id packet
+effect_of o acts (lines.Receive client com_id blocks) = commanded o acts client (receive_of com_id blocks) []
+effect_of o acts (lines.Log client) = commanded o acts client (ReadLog10 true) []
+effect_of o acts (lines.Reset client kind) = restarted acts kind
+effect_of o acts lines.Expect = record { acts = acts; lines = [] }
+effect_of o acts (lines.Range row) = record { acts = acts; lines = [] }
+
+-- behind a command a script goes on; that the failed queue aborts it is told only where the queue has failed
+abbrev pub GoesTruly : Turn → List Event → Type 0
+GoesTruly (Goes aborted) past = aborted ≡ true → is_some (failure past) ≡ true
+GoesTruly ExpectationFailed past = ⊥
+GoesTruly (Bad fault) past = ⊥
+
+-- a command does this on whatever origin and acts the drive stands
+abbrev pub Makes : (Origin → List Act → Effect) → RunningPhase → RunningPhase → Report → Report → Turn → Type 0
+Makes effect old new before after turn =
+    (o : Origin) (acts : List Act) → RunsOn old o acts → Has new o before after (effect o acts) × GoesTruly turn (log o acts)
+
+-- an expectation is held against the last printed line, and a range line comes too late; neither acts or prints
 abbrev pub Does : told.Line → List ℕ → Turn → RunningPhase → RunningPhase → Origin → List Act → Report → Report → Type 0
-Does (lines.Read transfer) text turn old new o acts before after =
-    Commands turn new o acts before after (transferred o acts (read_of transfer) transfer 0)
-Does (lines.Write transfer byte) text turn old new o acts before after =
-    Commands turn new o acts before after (transferred o acts (write_of transfer) transfer byte)
 Does lines.Expect text turn old new o acts before after =
     (new ≡ old) × (after ≡ before) × (turn ≡ (if bytes_eq before.last.items (expected_text text) then Goes false else ExpectationFailed))
 Does (lines.Range row) text turn old new o acts before after = (new ≡ old) × (after ≡ before) × (turn ≡ Bad LateRange)
+Does line text turn old new o acts before after = Has new o before after (effect_of o acts line) × GoesTruly turn (log o acts)
