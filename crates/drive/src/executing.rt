@@ -45,8 +45,9 @@ impl Drive {
         match decision {
             Decision::Aborts { error, denied } => Ok(Accepted::failed(alloc, error, denied)),
             Decision::FailsQueue { failure, denied } => {
+                let error = failure.error;
                 self.fail_queue(failure);
-                Ok(Accepted::failed(alloc, failure.error, denied))
+                Ok(Accepted::failed(alloc, error, denied))
             }
             Decision::Holds { tag, held } => {
                 self.hold(tag, held);

@@ -1,6 +1,6 @@
 use Rattle.std.proofs.Common.{◌∙◌, ap, arith, sym, is_some, None}
 use Rattle.std.proofs.lemmas.List.{get_or_default}
-use Rattle.drive.specs.Queue.{slot_at}
+use Rattle.drive.specs.Queue.{slot_at, held_at}
 use Rattle.drive.proofs.Below.{any_below_at}
 use Rattle.drive.proofs.queue.Queue.is_busy.Goals as goal
 
