@@ -66,7 +66,6 @@ fn no_item(alloc: Global, fault: TokenError) -> Result<Outcome, AllocError>
 }
 
 /// A method of the session manager.
-#[tactic(auto, using(crate::proofs::Configs::start_config))]
 fn call_manager(
     alloc: Global,
     store: &mut Store,

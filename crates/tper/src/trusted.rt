@@ -7,6 +7,8 @@ ghost use Rattle.sp_tables.specs.Contents.{Contents};
 ghost use Rattle.shadow_mbr.specs.Stored.{sector_size};
 ghost use Rattle.transactions.specs.Bytes.{bytes_from};
 ghost use Rattle.transactions.specs.Sights.{committed_sight};
+ghost use Rattle.transactions.specs.Stored.{after_reset};
+ghost use Rattle.sessions.specs.Live.{session_at};
 ghost use Rattle.history.specs.Agreement.{HasNoTries};
 ghost use Rattle.history.specs.Answers.{received_bytes};
 ghost use Rattle.history.specs.Decisions.{is_session_com_id, sent, received, to_manager, in_session};
@@ -253,6 +255,16 @@ impl Tper {
         ensures config { self.new.store.config ≡ self.old.store.config }
         ensures kept { (o : Origin) (past : List Event) → Keeps self.old o past
             → Keeps self.new o (did (WasReset kind) ∷ past) }
+    {
+        self.start_anew(kind);
+    }
+
+    /// What a reset of this kind makes of each part.
+    fn start_anew(&mut self, kind: u8)
+        ensures store { self.new.store ≡ after_reset kind self.old.store }
+        ensures none { (n : ℕ) → session_at self.new.live n ≡ None }
+        ensures next { self.new.live.next ≡ self.old.live.next }
+        ensures waiting { (com_id : ℕ) → response_at self.new.waiting com_id ≡ None }
     {
         self.store.reset_rows(kind);
         self.sessions.end_all();
