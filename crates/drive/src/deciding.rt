@@ -50,7 +50,10 @@ fn fails_queue(tag: Option<Tag>, h: &RegH2d) -> Decision
 }
 
 impl Drive {
-    ghost use Rattle.std.specs.Prelude.{◌≡◌, ℕ, List, Some, None, Ok, is_some, true, false};
+    ghost use Rattle.std.specs.Prelude.{◌≡◌, ◌&&◌, not, ℕ, List, Some, None, Ok, is_some, true};
+    ghost use Rattle.fis.specs.Tags.{slot_count};
+    ghost use Rattle.trusted_cmds.specs.Commands.{is_queued};
+    ghost use Rattle.history.specs.Decisions.{any_below};
     ghost use Rattle.drive.specs.Decision.{event_of, moves, IsDue, IsTrusted};
     ghost use Rattle.drive.specs.State.{seen};
     ghost use Rattle.drive.specs.Queue.{held_at};
@@ -68,10 +71,18 @@ impl Drive {
         if self.failure().is_some() {
             return self.while_failed(h);
         }
-        if self.is_busy() && !is_queued(h.command) {
+        if self.is_mixing(h) {
             return fails_queue(None, h);
         }
         self.known(h)
+    }
+
+    /// Whether a command that is not queued comes while one is held.
+    fn is_mixing(&self, h: &RegH2d) -> bool
+        ensures { result ≡ (any_below (λ tag. is_some (held_at self.now.queue tag)) slot_count
+            && not (is_queued h.now.command)) }
+    {
+        self.is_busy() && !is_queued(h.command)
     }
 
     /// While the queue has failed, log page 10h alone is read.

@@ -1,7 +1,8 @@
 //! A drive.
 
-ghost use Rattle.std.specs.Prelude.{◌≡◌, length, OnOk, OnErr, IfOk};
+ghost use Rattle.std.specs.Prelude.{◌≡◌, ℕ, length, OnOk, OnErr, IfOk, if◌then◌else◌};
 ghost use Rattle.fis.specs.Tags.{slot_count};
+ghost use Rattle.shadow_mbr.specs.Stored.{sector_at, zeros};
 
 use crate::answer::{Accepted, Completed, completion_fises};
 use crate::decision::{ABORTED, Decision, Refusal, policy};
@@ -21,6 +22,17 @@ use std::alloc::{AllocError, Global};
 use std::marker::Model;
 use std::mem::replace;
 use tper::Tper;
+
+/// Makes all media zeros, where they are to be.
+fn wipe_where(wipes: bool, media: &mut Media)
+    ensures size { media.new.sectors ≡ media.old.sectors }
+    ensures sectors { (s : ℕ) → sector_at media.new s
+        ≡ (if wipes then zeros else sector_at media.old s) }
+{
+    if wipes {
+        media.wipe();
+    }
+}
 
 /// A drive.
 #[derive(Drop)]
@@ -240,9 +252,7 @@ impl Drive {
         ensures err { OnErr result (self.new ≡ self.old) }
     {
         let sent = self.tper.send(com_id, payload)?;
-        if sent.wipes {
-            self.media.wipe();
-        }
+        wipe_where(sent.wipes, &mut self.media);
         self.ranges.refresh(&self.tper.in_force());
         Ok(sent.denied)
     }
