@@ -226,3 +226,18 @@ frame-deed f com_id frame false = tt
 pub sent-deed : (f : Facts) (com_id : ℕ) (r : Result Frame FrameError) → IsSendDeed (sent f com_id r).deed
 sent-deed f com_id (Err e) = tt
 sent-deed f com_id (Ok frame) = frame-deed f com_id frame (frame.com_id == com_id)
+
+-- log page 10h is read, which ends a failure
+mended-by : (d : State) (o : Origin) (past : List Event) (x : Option Failure) → failure past ≡ x
+    → Keeps d o past → Keeps (record d { queue = mended_queue d.queue }) o (did (if is_some x then OfQueue QueueMended else Nothing) ∷ past)
+mended-by d o past None none k =
+    keeps-more d (record d { queue = mended_queue d.queue }) o past (did Nothing) (spared d d o past (did Nothing) refl refl k) k.slots
+    (λ tag. refl) (sym (k.failure ∙ none)) (λ s. refl) k
+mended-by d o past (Some fault) some k =
+    keeps-more d (record d { queue = mended_queue d.queue }) o past (did (OfQueue QueueMended)) (spared d d o past (did (OfQueue QueueMended)) refl refl k) k.slots
+    (λ tag. refl) refl (λ s. refl) k
+
+pub mended-keeps : (d e : State) (o : Origin) (past : List Event) → e ≡ record d { queue = mended_queue d.queue }
+    → Keeps d o past → Keeps e o (did (if is_some (failure past) then OfQueue QueueMended else Nothing) ∷ past)
+mended-keeps d e o past is k =
+    subst (λ (x : State). Keeps x o (did (if is_some (failure past) then OfQueue QueueMended else Nothing) ∷ past)) (sym is) (mended-by d o past (failure past) refl k)

@@ -267,7 +267,8 @@ impl Drive {
             → Keeps self.new o (received com_id blocks (waiting past com_id) ∷ past)) }
         ensures err { OnErr result (self.new ≡ self.old) }
     {
-        self.tper.receive(com_id, room)
+        let bytes = self.tper.receive(com_id, room)?;
+        Ok(bytes)
     }
 
     /// The data of Level 0 discovery: as many bytes as the transfer has.
