@@ -5,14 +5,14 @@ ghost use Rattle.fis.specs.Tags.{slot_count};
 ghost use Rattle.shadow_mbr.specs.Stored.{sector_at, zeros};
 
 use crate::answer::{Accepted, Completed, completion_fises};
-use crate::decision::{ABORTED, Decision, Refusal, policy};
+use crate::decision::{ABORTED, Refusal, policy};
 use crate::error::DriveError;
 use crate::opening::Opening;
 use crate::queue::Queue;
 use crate::reset::ResetKind;
 use crate::transfer::{Held, Transfer};
 use audit::Why;
-use device_data::{DISCOVERY_LENGTH, Failure, discovery, error_log, identity};
+use device_data::{Failure, discovery, error_log, identity};
 use fis::{H2D_LENGTH, H2D_TYPE, RegH2d, Tag};
 use locking::{Op, RangeRow, Ranges};
 use shadow_mbr::Media;
@@ -21,7 +21,7 @@ use sp_tables::Tables;
 use std::alloc::{AllocError, Global};
 use std::marker::Model;
 use std::mem::replace;
-use tper::Tper;
+use tper::{Tper, sized};
 
 /// Makes all media zeros, where they are to be.
 fn wipe_where(wipes: bool, media: &mut Media)
@@ -276,11 +276,7 @@ impl Drive {
         ensures { IfOk result (λ v. v.items
             ≡ sized room (discovery_of (look_up (committed_sight self.now.tper.store)))) }
     {
-        let bytes = discovery(&self.tper.in_force());
-        let mut data = Vec::with_capacity(self.alloc, room)?;
-        data.extend_from_slice(&bytes[..room.min(DISCOVERY_LENGTH)])?;
-        data.resize(room, 0)?;
-        Ok(data)
+        sized(self.alloc, &discovery(&self.tper.in_force()), room)
     }
 
     /// The data of IDENTIFY DEVICE.
@@ -347,16 +343,13 @@ impl Drive {
                 (event o (log o acts) (Accept fis.now payload.now)) self.new o (log o acts) a) }
         ensures err { OnErr result (self.new ≡ self.old) }
     {
+        if fis[0] != H2D_TYPE {
+            return Ok(Accepted::failed(self.allocator(), ABORTED, None));
+        }
         let h = RegH2d::read(fis);
-        let decision = if fis[0] == H2D_TYPE {
-            self.decide(&h)
-        } else {
-            Decision::Aborts {
-                error: ABORTED,
-                denied: None,
-            }
-        };
-        self.act(&h, decision, payload)
+        let decision = self.decide(&h);
+        let accepted = self.act(&h, decision, payload)?;
+        Ok(accepted)
     }
 
     /// Moves the data of a held command, and lets it go. `NotHeld` where nothing is held under the
