@@ -85,7 +85,7 @@ impl Drive {
     ghost use Rattle.history.specs.History.{Act, Accept, Complete, Reset, log, event};
     ghost use Rattle.history.specs.Readers.{failure as failure_in, held as held_in, waiting};
     ghost use Rattle.tper.specs.Tper.{response_at};
-    ghost use Rattle.drive.specs.Queue.{slot_at, held_at, with_slot, failed_queue, mended_queue};
+    ghost use Rattle.drive.specs.Queue.{slot_at, held_at, with_slot, failed_queue, mended_queue, SlotFits};
     ghost use Rattle.drive.specs.Transfer.{payload_size_of, bytes_of, sector_then, Fits};
     ghost use Rattle.drive.specs.Decision.{policy_on, FitsPolicy, IsDue, event_of};
     ghost use Rattle.drive.specs.State.{seen, Keeps, Agrees, AgreesInOrder};
@@ -132,12 +132,13 @@ impl Drive {
             → Agrees drive (record { tables = tables }) []) }
     {
         let sectors = tables.config().sectors();
-        let ranges = Ranges::of(alloc, &tables)?;
+        let tper = Tper::new(alloc, tables);
+        let ranges = Ranges::of(alloc, &tper.in_force())?;
         Ok(Drive {
             alloc,
             sectors,
             ranges,
-            tper: Tper::new(alloc, tables),
+            tper,
             queue: Queue::new(),
             media: Media::new(alloc, sectors),
             spare: Vec::new(alloc),
@@ -150,6 +151,8 @@ impl Drive {
     pub(crate) fn held(&self, tag: Tag) -> Option<Held>
         ensures value { result ≡ slot_at self.now.queue.slots tag }
         ensures slot { tag < slot_count }
+        ensures fits { SlotFits self.now.tper.store.config.sectors
+            self.now.tper.store.config.mbr_sectors result }
     {
         self.queue.at(tag)
     }
