@@ -1,9 +1,15 @@
 -- What the policy says of a transfer, and what the history does with it then.
-use Rattle.std.proofs.Common.{◌≡◌, ℕ, Bool, true, false, List, Option, Some, None, Result, Ok, Err, refl, sym, subst, ap, ◌∙◌, if◌then◌else◌}
+use Rattle.std.proofs.Common.{◌≡◌, ℕ, ◌+◌, ◌-◌, ◌<◌, ◌≤◌, Bool, true, false, List, Option, Some, None, Result, Ok, Err, IfOk, refl, sym, subst, ap, ◌∙◌, if◌then◌else◌, arith}
+use Rattle.std.proofs.lemmas.Bool.{le-leb, ltb-true}
 use Rattle.fis.specs.declared.h2d.RegH2d.{RegH2d}
 use Rattle.locking.specs.declared.ranges.Verdict.{Verdict}
 use Rattle.locking.specs.declared.ranges.Verdict.TheVariants.{Serve, Shadow, Denied}
-use Rattle.locking.specs.Verdict.{verdict_of}
+use Rattle.locking.specs.declared.range.Op.{Op}
+use Rattle.locking.specs.Range.{RangeRows}
+use Rattle.locking.specs.Ranges.{ranges_in, is_shadow_up}
+use Rattle.locking.specs.Verdict.{verdict_of, IsVerdict}
+use Rattle.locking.proofs.Verdicts.{verdict_is, shadow_has_sector}
+use Rattle.sp_cells.specs.Flat.{LookUp}
 use Rattle.trusted_cmds.specs.declared.command.Command.{Command}
 use Rattle.device_data.specs.ErrorLog.{failure_by}
 use Rattle.history.specs.Events.{Deed, OfQueue, QueueFailed, Event, did}
@@ -11,8 +17,8 @@ use Rattle.history.specs.Facts.{Facts}
 use Rattle.history.specs.Decisions.{aborted, not_found, fails, fails_queue, holds, on_drive, verdict_on, queued_by, unqueued_by, queued_transfer, unqueued_transfer}
 use Rattle.drive.specs.declared.decision.Refusal.{Refusal}
 use Rattle.drive.specs.declared.transfer.Transfer.{Transfer}
-use Rattle.drive.specs.Decision.{ranges_of, by_verdict, policy_on}
-use Rattle.drive.specs.Transfer.{fits}
+use Rattle.drive.specs.Decision.{ranges_of, by_verdict, policy, policy_on}
+use Rattle.drive.specs.Transfer.{fits, Fits}
 use Rattle.drive.specs.State.{State, seen}
 
 -- a verdict that permits
@@ -92,3 +98,39 @@ permitted-if false v s e = absurd cc
 -- what is permitted has the verdict of its shadow flag
 pub permitted : (d : State) (t : Transfer) (s : Bool) → policy_on d t ≡ Ok s → verdict_of (ranges_of d.tper) t.op t.lba t.count ≡ permitting s
 permitted d t s e = permitted-if (fits d.tper.store.config.sectors t) (verdict_of (ranges_of d.tper) t.op t.lba t.count) s e
+
+-- what reads the shadow lies within it
+
+shadow-within : (rows : RangeRows) (op : Op) (lba count most : ℕ) → rows.shadowed ≤ most → verdict_of rows op lba count ≡ Shadow → lba + count ≤ most
+shadow-within rows op lba count most few e =
+    let w = shadow_has_sector rows op lba count e in
+    let inside : IsVerdict rows op lba count Shadow = subst (λ v. IsVerdict rows op lba count v) e (verdict_is rows op lba count) in
+    let from : lba ≤ w.0 = w.1 in
+    let below : w.0 < lba + count = w.2 in
+    let last : lba + count - 1 < rows.shadowed = ltb-true (lba + count - 1) rows.shadowed (inside.1 (lba + count - 1) (omega (arith, from, below)) (omega (arith, from, below))) in
+    omega (arith, from, below, last, few)
+
+shadowed-few : (b : Bool) (size : ℕ) → (if b then size else 0) ≤ size
+shadowed-few true size = omega arith
+shadowed-few false size = omega arith
+
+fits-shadow : (sectors mbr : ℕ) (look : LookUp) (t : Transfer) (v : Verdict) (s : Bool) → verdict_of (ranges_in mbr look) t.op t.lba t.count ≡ v
+    → by_verdict v ≡ Ok s → s ≡ true → fits mbr t ≡ true
+unfolding ranges_in
+fits-shadow sectors mbr look t Serve s e r is = let no : false ≡ true = cc in absurd cc
+fits-shadow sectors mbr look t Shadow s e r is =
+    le-leb (t.lba + t.count) mbr (shadow-within (ranges_in mbr look) t.op t.lba t.count mbr (shadowed-few (is_shadow_up look) mbr) e)
+fits-shadow sectors mbr look t (Denied why) s e r is = absurd cc
+
+policy-by : (b : Bool) (sectors mbr : ℕ) (look : LookUp) (t : Transfer) (r : Result Bool Refusal) → fits sectors t ≡ b
+    → r ≡ (if b then by_verdict (verdict_of (ranges_in mbr look) t.op t.lba t.count) else Err (record { error = not_found; denied = None }))
+    → IfOk r (λ s. Fits sectors mbr (record { transfer = t; is_shadowed = s }))
+policy-by true sectors mbr look t (Ok s) e h =
+    record { on_drive = e; in_shadow = λ is. fits-shadow sectors mbr look t (verdict_of (ranges_in mbr look) t.op t.lba t.count) s refl (sym h) is }
+policy-by true sectors mbr look t (Err x) e h = tt
+policy-by false sectors mbr look t (Ok s) e h = absurd cc
+policy-by false sectors mbr look t (Err x) e h = tt
+
+pub policy-fits : (sectors mbr : ℕ) (look : LookUp) (t : Transfer) (r : Result Bool Refusal) → r ≡ policy sectors (ranges_in mbr look) t
+    → IfOk r (λ s. Fits sectors mbr (record { transfer = t; is_shadowed = s }))
+policy-fits sectors mbr look t r h = policy-by (fits sectors t) sectors mbr look t r refl h

@@ -50,7 +50,10 @@ fn fails_queue(tag: Option<Tag>, h: &RegH2d) -> Decision
 }
 
 impl Drive {
-    ghost use Rattle.std.specs.Prelude.{◌≡◌, ℕ, List, Some, None, Ok, is_some, true, false};
+    ghost use Rattle.std.specs.Prelude.{◌≡◌, ◌<◌, ◌&&◌, not, ℕ, List, Some, None, Ok, is_some, true};
+    ghost use Rattle.fis.specs.Tags.{slot_count};
+    ghost use Rattle.trusted_cmds.specs.Commands.{is_queued};
+    ghost use Rattle.history.specs.Decisions.{any_below};
     ghost use Rattle.drive.specs.Decision.{event_of, moves, IsDue, IsTrusted};
     ghost use Rattle.drive.specs.State.{seen};
     ghost use Rattle.drive.specs.Queue.{held_at};
@@ -68,10 +71,18 @@ impl Drive {
         if self.failure().is_some() {
             return self.while_failed(h);
         }
-        if self.is_busy() && !is_queued(h.command) {
+        if self.is_mixing(h) {
             return fails_queue(None, h);
         }
         self.known(h)
+    }
+
+    /// Whether a command that is not queued comes while one is held.
+    fn is_mixing(&self, h: &RegH2d) -> bool
+        ensures { result ≡ (any_below (λ tag. is_some (held_at self.now.queue tag)) slot_count
+            && not (is_queued h.now.command)) }
+    {
+        self.is_busy() && !is_queued(h.command)
     }
 
     /// While the queue has failed, log page 10h alone is read.
@@ -104,7 +115,8 @@ impl Drive {
 
     /// A queued command: a tag that is held fails the queue.
     fn queued(&self, h: &RegH2d, tag: Tag, command: Command) -> Decision
-        requires { IsCounted command }
+        requires reads { reading h.now ≡ Ok (command, Some tag) }
+        requires counted { IsCounted command }
         ensures event { (f : Facts) (payload : List ℕ) → event_of (seen self.now f) payload result
             ≡ admitted (seen self.now f) h.now tag command (is_some (held_at self.now.queue tag)) }
         ensures due { IsDue self.now h.now result }
@@ -126,6 +138,8 @@ impl Drive {
     /// A queued transfer under a tag that is free: it is held where it is permitted, and else fails the queue.
     #[tactic(auto, using(crate::proofs::Policies::queued_held, crate::proofs::Policies::queued_refused))]
     fn queued_transfer(&self, h: &RegH2d, tag: Tag, transfer: Transfer) -> Decision
+        requires reads { reading h.now ≡ Ok (queued_command transfer, Some tag) }
+        requires slot { tag < slot_count }
         ensures event { (f : Facts) (payload : List ℕ) → event_of (seen self.now f) payload result
             ≡ queued_transfer (seen self.now f) h.now tag (queued_command transfer)
                 transfer.op transfer.lba transfer.count }

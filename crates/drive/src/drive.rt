@@ -1,17 +1,18 @@
 //! A drive.
 
-ghost use Rattle.std.specs.Prelude.{◌≡◌, length, OnOk, OnErr, IfOk};
+ghost use Rattle.std.specs.Prelude.{◌≡◌, ℕ, length, OnOk, OnErr, IfOk, if◌then◌else◌};
 ghost use Rattle.fis.specs.Tags.{slot_count};
+ghost use Rattle.shadow_mbr.specs.Stored.{sector_at, zeros};
 
 use crate::answer::{Accepted, Completed, completion_fises};
-use crate::decision::{ABORTED, Decision, Refusal, policy};
+use crate::decision::{ABORTED, Refusal, policy};
 use crate::error::DriveError;
 use crate::opening::Opening;
 use crate::queue::Queue;
 use crate::reset::ResetKind;
 use crate::transfer::{Held, Transfer};
 use audit::Why;
-use device_data::{DISCOVERY_LENGTH, Failure, discovery, error_log, identity};
+use device_data::{Failure, discovery, error_log, identity};
 use fis::{H2D_LENGTH, H2D_TYPE, RegH2d, Tag};
 use locking::{Op, RangeRow, Ranges};
 use shadow_mbr::Media;
@@ -20,7 +21,18 @@ use sp_tables::Tables;
 use std::alloc::{AllocError, Global};
 use std::marker::Model;
 use std::mem::replace;
-use tper::Tper;
+use tper::{Tper, sized};
+
+/// Makes all media zeros, where they are to be.
+fn wipe_where(wipes: bool, media: &mut Media)
+    ensures size { media.new.sectors ≡ media.old.sectors }
+    ensures sectors { (s : ℕ) → sector_at media.new s
+        ≡ (if wipes then zeros else sector_at media.old s) }
+{
+    if wipes {
+        media.wipe();
+    }
+}
 
 /// A drive.
 #[derive(Drop)]
@@ -73,7 +85,7 @@ impl Drive {
     ghost use Rattle.history.specs.History.{Act, Accept, Complete, Reset, log, event};
     ghost use Rattle.history.specs.Readers.{failure as failure_in, held as held_in, waiting};
     ghost use Rattle.tper.specs.Tper.{response_at};
-    ghost use Rattle.drive.specs.Queue.{slot_at, held_at, with_slot, failed_queue, mended_queue};
+    ghost use Rattle.drive.specs.Queue.{slot_at, held_at, with_slot, failed_queue, mended_queue, SlotFits};
     ghost use Rattle.drive.specs.Transfer.{payload_size_of, bytes_of, sector_then, Fits};
     ghost use Rattle.drive.specs.Decision.{policy_on, FitsPolicy, IsDue, event_of};
     ghost use Rattle.drive.specs.State.{seen, Keeps, Agrees, AgreesInOrder};
@@ -120,12 +132,13 @@ impl Drive {
             → Agrees drive (record { tables = tables }) []) }
     {
         let sectors = tables.config().sectors();
-        let ranges = Ranges::of(alloc, &tables)?;
+        let tper = Tper::new(alloc, tables);
+        let ranges = Ranges::of(alloc, &tper.in_force())?;
         Ok(Drive {
             alloc,
             sectors,
             ranges,
-            tper: Tper::new(alloc, tables),
+            tper,
             queue: Queue::new(),
             media: Media::new(alloc, sectors),
             spare: Vec::new(alloc),
@@ -138,6 +151,8 @@ impl Drive {
     pub(crate) fn held(&self, tag: Tag) -> Option<Held>
         ensures value { result ≡ slot_at self.now.queue.slots tag }
         ensures slot { tag < slot_count }
+        ensures fits { SlotFits self.now.tper.store.config.sectors
+            self.now.tper.store.config.mbr_sectors result }
     {
         self.queue.at(tag)
     }
@@ -240,9 +255,7 @@ impl Drive {
         ensures err { OnErr result (self.new ≡ self.old) }
     {
         let sent = self.tper.send(com_id, payload)?;
-        if sent.wipes {
-            self.media.wipe();
-        }
+        wipe_where(sent.wipes, &mut self.media);
         self.ranges.refresh(&self.tper.in_force());
         Ok(sent.denied)
     }
@@ -257,7 +270,8 @@ impl Drive {
             → Keeps self.new o (received com_id blocks (waiting past com_id) ∷ past)) }
         ensures err { OnErr result (self.new ≡ self.old) }
     {
-        self.tper.receive(com_id, room)
+        let bytes = self.tper.receive(com_id, room)?;
+        Ok(bytes)
     }
 
     /// The data of Level 0 discovery: as many bytes as the transfer has.
@@ -265,11 +279,7 @@ impl Drive {
         ensures { IfOk result (λ v. v.items
             ≡ sized room (discovery_of (look_up (committed_sight self.now.tper.store)))) }
     {
-        let bytes = discovery(&self.tper.in_force());
-        let mut data = Vec::with_capacity(self.alloc, room)?;
-        data.extend_from_slice(&bytes[..room.min(DISCOVERY_LENGTH)])?;
-        data.resize(room, 0)?;
-        Ok(data)
+        sized(self.alloc, &discovery(&self.tper.in_force()), room)
     }
 
     /// The data of IDENTIFY DEVICE.
@@ -336,16 +346,13 @@ impl Drive {
                 (event o (log o acts) (Accept fis.now payload.now)) self.new o (log o acts) a) }
         ensures err { OnErr result (self.new ≡ self.old) }
     {
+        if fis[0] != H2D_TYPE {
+            return Ok(Accepted::failed(self.allocator(), ABORTED, None));
+        }
         let h = RegH2d::read(fis);
-        let decision = if fis[0] == H2D_TYPE {
-            self.decide(&h)
-        } else {
-            Decision::Aborts {
-                error: ABORTED,
-                denied: None,
-            }
-        };
-        self.act(&h, decision, payload)
+        let decision = self.decide(&h);
+        let accepted = self.act(&h, decision, payload)?;
+        Ok(accepted)
     }
 
     /// Moves the data of a held command, and lets it go. `NotHeld` where nothing is held under the

@@ -45,8 +45,9 @@ impl Drive {
         match decision {
             Decision::Aborts { error, denied } => Ok(Accepted::failed(alloc, error, denied)),
             Decision::FailsQueue { failure, denied } => {
+                let error = failure.error;
                 self.fail_queue(failure);
-                Ok(Accepted::failed(alloc, failure.error, denied))
+                Ok(Accepted::failed(alloc, error, denied))
             }
             Decision::Holds { tag, held } => {
                 self.hold(tag, held);
@@ -93,7 +94,11 @@ impl Drive {
             }
             Command::Identify => Ok((self.identify()?, None)),
             Command::ReadLog10 { .. } => Ok((self.read_log()?, None)),
-            _ => Ok((Vec::new(self.allocator()), None)),
+            Command::Flush => Ok((Vec::new(self.allocator()), None)),
+            Command::ReadQueued { .. }
+            | Command::WriteQueued { .. }
+            | Command::ReadDma { .. }
+            | Command::WriteDma { .. } => unreachable!(),
         }
     }
 
@@ -108,9 +113,10 @@ impl Drive {
         ensures err { OnErr result (self.new ≡ self.old) }
     {
         if com_id == DISCOVERY_COM_ID {
-            self.discover(room)
-        } else {
-            self.receive(com_id, room)
+            let bytes = self.discover(room)?;
+            return Ok(bytes);
         }
+        let bytes = self.receive(com_id, room)?;
+        Ok(bytes)
     }
 }

@@ -1,8 +1,8 @@
 -- What an item comes to: answers that change nothing, calls of a session, StartSession; and that each can be carried.
-use Rattle.std.proofs.Common.{◌≡◌, ℕ, ◌==◌, Bool, true, false, ◌&&◌, List, [], Option, None, Some, refl, sym, subst, ◌∙◌, ap, cond}
-use Rattle.std.specs.Prelude.{Result, Ok, Err, map}
+use Rattle.std.proofs.Common.{◌≡◌, ℕ, true, false, List, Option, None, refl, sym, subst, ◌∙◌, ap}
+use Rattle.std.specs.Prelude.{Result, Err, map}
 use Rattle.sp_cells.specs.declared.names.Uid.{Uid}
-use Rattle.sp_cells.specs.Names.{session_manager, properties, start_session}
+use Rattle.sp_cells.specs.Names.{session_manager, start_session}
 use Rattle.tcg_tokens.specs.declared.error.TokenError.{TokenError}
 use Rattle.tcg_tokens.specs.declared.error.TokenError.TheVariants.{OutOfMemory}
 use Rattle.tcg_tokens.specs.declared.value.Call.{Call}
@@ -17,7 +17,6 @@ use Rattle.call_shapes.proofs.NamedLemmas.{values_trees}
 use Rattle.transactions.specs.declared.change.SessionId.{SessionId}
 use Rattle.transactions.specs.Stored.{Stored}
 use Rattle.sessions.specs.Live.{Live, AreNumbered, session_at}
-use Rattle.sessions.specs.Properties.{properties_message}
 use Rattle.sessions.specs.Starts.{start_reply, start_denied, start_stored, start_at, start_next}
 use Rattle.methods.specs.declared.outcome.Outcome.{Outcome as Answered}
 use Rattle.methods.specs.Said.{Said, said_seen}
@@ -25,15 +24,14 @@ use Rattle.methods.specs.Calls.{Called, called_with, call_in, said_call, stored_
 use Rattle.history.specs.Opening.{Origin}
 use Rattle.history.specs.Events.{Event, Unchanged}
 use Rattle.history.specs.Facts.{Facts, facts}
-use Rattle.history.specs.Decisions.{Outcome, says, refusal, called_manager, to_manager, in_session, outcome_of, judgement_on, started}
-use Rattle.history.specs.History.{log}
+use Rattle.history.specs.Decisions.{Outcome, says, called_manager, to_manager, in_session, outcome_of, judgement_on, started}
 use Rattle.history.specs.KeptStore.{KeepsStore}
 use Rattle.history.specs.KeptSessions.{KeepsSessions, id_of}
 use Rattle.history.specs.KeptCalls.{Meets}
 use Rattle.history.proofs.KeptCallsProofs.{kept_call_law}
 use Rattle.history.proofs.KeptSessionsStart.{start_law}
 use Rattle.tper.specs.Items.{Answers, OfManager, OfSession}
-use Rattle.tper.proofs.Carried.{call_carried, start_carried, properties_carried}
+use Rattle.tper.proofs.Carried.{call_carried}
 
 -- an answer that is this message can be carried, as the message can
 pub carried-as : (said : Message) (m : Message) → said ≡ m → is_carried m ≡ true → is_carried said ≡ true

@@ -21,8 +21,8 @@ use Rattle.history.proofs.KeptStoreOpenings.{store_opening_law}
 use Rattle.history.proofs.KeptSessionsLaws.{sessions_opening_law}
 use Rattle.tper.specs.declared.trusted.Sent.{Sent}
 use Rattle.tper.specs.Items.{Answers}
-use Rattle.tper.specs.Tper.{Tper, Keeps, IsSent, Responds, Takes, Handles, response_at, fits_in}
-use Rattle.tper.proofs.KeptBeside.{kept_after, kept_beside}
+use Rattle.tper.specs.Tper.{Tper, Keeps, IsSent, Responds, Takes, response_at, fits_in}
+use Rattle.tper.proofs.KeptBeside.{kept_after}
 
 -- ---- an item
 

@@ -1,4 +1,5 @@
 pub mod Carried
+pub mod Configs
 pub mod Items
 pub mod KeptBeside
 mod Keeping

@@ -1,10 +1,9 @@
 -- What is kept behind the ComIDs, and when it keeps what the past says.
 use Rattle.std.specs.Prelude.{◌≡◌, ◌==◌, ◌&&◌, ℕ, ◌-◌, Bool, false, nat_le, List, length, slice_index_or, Option, None, Some, if◌then◌else◌}
-use Rattle.audit.specs.declared.reason.Why.{Why}
 use Rattle.transactions.specs.Stored.{Stored}
 use Rattle.sessions.specs.Live.{Live}
 use Rattle.history.specs.Opening.{Origin}
-use Rattle.history.specs.Events.{Deed, Nothing, InSession, OfQueue, Wrote, Took, WasReset, Event}
+use Rattle.history.specs.Events.{Deed, InSession, Event}
 use Rattle.history.specs.Readers.{waiting}
 use Rattle.history.specs.Decisions.{is_session_com_id}
 use Rattle.history.specs.KeptStore.{KeepsStore}

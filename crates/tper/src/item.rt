@@ -79,6 +79,7 @@ fn call_manager(
     ensures carried { IfOk result (λ said. is_carried (message said.reply) ≡ true) }
     ensures err_store { OnErr result (store.new ≡ store.old) }
     ensures err_sessions { OnErr result (sessions.new ≡ sessions.old) }
+    ensures config { store.new.config ≡ store.old.config }
 {
     if uid_of(&call.object) == Uid::SESSION_MANAGER && uid_of(&call.method) == Uid::PROPERTIES {
         return Ok(answer(Sessions::properties(alloc, call)?));
@@ -108,6 +109,7 @@ pub(crate) fn to_manager(
     ensures carried { IfOk result (λ said. is_carried (message said.reply) ≡ true) }
     ensures err_store { OnErr result (store.new ≡ store.old) }
     ensures err_sessions { OnErr result (sessions.new ≡ sessions.old) }
+    ensures config { store.new.config ≡ store.old.config }
 {
     match read_item(alloc, tokens) {
         Ok(Item::Call(call)) => call_manager(alloc, store, sessions, com_id, &call),
@@ -120,6 +122,7 @@ pub(crate) fn to_manager(
 }
 
 /// A method that a live session calls.
+#[tactic(auto, using(crate::proofs::Configs::call_config))]
 fn call_in_session(
     alloc: Global,
     store: &mut Store,
@@ -135,6 +138,7 @@ fn call_in_session(
     ensures carried { IfOk result (λ said. is_carried (message said.reply) ≡ true) }
     ensures err_store { OnErr result (store.new ≡ store.old) }
     ensures err_sessions { OnErr result (sessions.new ≡ sessions.old) }
+    ensures config { store.new.config ≡ store.old.config }
 {
     match invoke(alloc, store, sessions, session, call) {
         Ok(outcome) => Ok(outcome),
@@ -147,11 +151,13 @@ fn call_in_session(
 const NOT_DONE: u64 = 0x10;
 
 /// A transaction opens, where none is open on the session's SP.
+#[tactic(auto, using(crate::proofs::Configs::part_config))]
 fn begin(store: &mut Store, session: SessionId) -> Outcome
     ensures met { (live : Live) → OfSession
         (λ f its. begins_on its.sp its.number (f.open_on its.sp)) session result
         store.old store.new live live }
     ensures carried { is_carried (message result.reply) ≡ true }
+    ensures config { store.new.config ≡ store.old.config }
 {
     match store.begin(session) {
         Ok(()) => answer(Item::Begin(0)),
@@ -160,11 +166,13 @@ fn begin(store: &mut Store, session: SessionId) -> Outcome
 }
 
 /// The session's transaction ends: 0 commits it, any other number aborts it.
+#[tactic(auto, using(crate::proofs::Configs::part_config))]
 fn end(store: &mut Store, session: SessionId, number: u64) -> Outcome
     ensures met { (live : Live) → OfSession
         (λ f its. ends_on its.sp number (has_open f its)) session result
         store.old store.new live live }
     ensures carried { is_carried (message result.reply) ≡ true }
+    ensures config { store.new.config ≡ store.old.config }
 {
     if number == 0 {
         return match store.commit(session) {
@@ -179,10 +187,12 @@ fn end(store: &mut Store, session: SessionId, number: u64) -> Outcome
 }
 
 /// The session ends, and its transaction is aborted.
+#[tactic(auto, using(crate::proofs::Configs::part_config))]
 fn end_session(store: &mut Store, sessions: &mut Sessions, session: SessionId) -> Outcome
     ensures met { OfSession (λ f its. says (Ended its.sp) end_session) session result
         store.old store.new sessions.old sessions.new }
     ensures carried { is_carried (message result.reply) ≡ true }
+    ensures config { store.new.config ≡ store.old.config }
 {
     store.close(session.sp);
     sessions.end_on(session.sp);
@@ -204,6 +214,7 @@ pub(crate) fn in_session(
     ensures carried { IfOk result (λ said. is_carried (message said.reply) ≡ true) }
     ensures err_store { OnErr result (store.new ≡ store.old) }
     ensures err_sessions { OnErr result (sessions.new ≡ sessions.old) }
+    ensures config { store.new.config ≡ store.old.config }
 {
     match read_item(alloc, tokens) {
         Ok(Item::Call(call)) => call_in_session(alloc, store, sessions, session, &call),

@@ -5,7 +5,10 @@ ghost use Rattle.compacket.specs.Frames.{reading as frame_in};
 ghost use Rattle.device_data.specs.ErrorLog.{sized};
 ghost use Rattle.sp_tables.specs.Contents.{Contents};
 ghost use Rattle.shadow_mbr.specs.Stored.{sector_size};
+ghost use Rattle.transactions.specs.Bytes.{bytes_from};
 ghost use Rattle.transactions.specs.Sights.{committed_sight};
+ghost use Rattle.transactions.specs.Stored.{after_reset};
+ghost use Rattle.sessions.specs.Live.{session_at};
 ghost use Rattle.history.specs.Agreement.{HasNoTries};
 ghost use Rattle.history.specs.Answers.{received_bytes};
 ghost use Rattle.history.specs.Decisions.{is_session_com_id, sent, received, to_manager, in_session};
@@ -28,8 +31,8 @@ use audit::Why;
 use compacket::{ComId, Session, open};
 use methods::Outcome;
 use sessions::Sessions;
-use shadow_mbr::Mbr;
-use sp_tables::Tables;
+use shadow_mbr::{Mbr, SECTOR_SIZE};
+use sp_tables::{Rows, Tables};
 use std::alloc::{AllocError, Global};
 use std::marker::Model;
 use transactions::{SessionId, Store, View};
@@ -59,6 +62,11 @@ impl Model for Tper {
     ghost Value = { Tper };
 
     ghost view = { λ t. record { store = t.store; live = t.sessions; waiting = t.responses.waiting } };
+
+    ghost use Rattle.std.specs.Prelude.{◌≤◌};
+    ghost use Rattle.sp_cells.specs.Limits.{most_mbr_sectors};
+
+    ghost invariant = { λ t. t.store.config.mbr_sectors ≤ most_mbr_sectors };
 }
 
 /// Nothing became of it.
@@ -75,8 +83,9 @@ fn nothing() -> Sent
 impl Tper {
     /// No session lives, and nothing was done with the tables.
     pub fn new(alloc: Global, tables: Tables) -> Tper
-        ensures { HasNoTries (record { tables = tables }) → HasKnownRows (record { tables = tables })
+        ensures kept { HasNoTries (record { tables = tables }) → HasKnownRows (record { tables = tables })
             → Keeps result (record { tables = tables }) [] }
+        ensures config { result.store.config ≡ tables.config }
     {
         let mbr = Mbr::new(alloc, tables.config().mbr_sectors());
         Tper {
@@ -92,6 +101,33 @@ impl Tper {
         ensures { result ≡ committed_sight self.now.store }
     {
         self.store.committed()
+    }
+
+    /// The sectors of the drive that can be shadowed.
+    pub fn mbr_sectors(&self) -> u64
+        ensures { result ≡ self.now.store.config.mbr_sectors }
+    {
+        self.in_force().mbr_sectors()
+    }
+
+    /// So many sectors of the shadow MBR, as they are in force, from one of its sectors on.
+    pub fn read_shadow(&self, lba: u64, count: u32) -> Result<Vec<u8>, AllocError>
+        requires { lba + count ≤ self.now.store.config.mbr_sectors }
+        ensures { IfOk result (λ v. v.items ≡ bytes_from (slice_index self.now.store.locking.bytes)
+            (sector_size * lba) (sector_size * count)) }
+    {
+        let mut bytes = vec![in self.alloc; 0; count as usize * SECTOR_SIZE]?;
+        self.fill(lba * SECTOR_SIZE as u64, &mut bytes);
+        Ok(bytes)
+    }
+
+    /// Fills the buffer with the shadow MBR's bytes in force, from a place on.
+    #[tactic(auto, using(transactions::proofs::ByteLemmas::reading))]
+    fn fill(&self, place: u64, buffer: &mut [u8])
+        requires { place + length buffer.old ≤ sector_size * self.now.store.config.mbr_sectors }
+        ensures { buffer.new ≡ bytes_from (slice_index self.now.store.locking.bytes) place (length buffer.old) }
+    {
+        self.in_force().read_mbr(place, buffer);
     }
 
     /// Whether a response waits on a ComID.
@@ -111,6 +147,7 @@ impl Tper {
             → Keeps self.old o (log o acts)
             → IsSent (sent (facts o (log o acts)) com_id (frame_in payload.now)) s) }
         ensures err { OnErr result (self.new ≡ self.old) }
+        ensures config { self.new.store.config ≡ self.old.store.config }
     {
         let Ok(frame) = open(payload) else {
             return Ok(nothing());
@@ -134,6 +171,7 @@ impl Tper {
         ensures handled { IfOk result (λ s. Handles (λ said. OfManager (λ f. to_manager f com_id (message_in tokens.now)) said
             self.old.store self.new.store self.old.live self.new.live) com_id session s self.old self.new) }
         ensures err { OnErr result (self.new ≡ self.old) }
+        ensures config { self.new.store.config ≡ self.old.store.config }
     {
         let room = Room::new(self.alloc)?;
         let outcome = to_manager(
@@ -159,6 +197,7 @@ impl Tper {
         ensures handled { IfOk result (λ s. Handles (λ said. OfSession (λ f its. in_session f its (message_in tokens.now)) id said
             self.old.store self.new.store self.old.live self.new.live) com_id session s self.old self.new) }
         ensures err { OnErr result (self.new ≡ self.old) }
+        ensures config { self.new.store.config ≡ self.old.store.config }
     {
         let room = Room::new(self.alloc)?;
         let outcome = in_session(self.alloc, &mut self.store, &mut self.sessions, id, tokens)?;
@@ -216,6 +255,16 @@ impl Tper {
         ensures config { self.new.store.config ≡ self.old.store.config }
         ensures kept { (o : Origin) (past : List Event) → Keeps self.old o past
             → Keeps self.new o (did (WasReset kind) ∷ past) }
+    {
+        self.start_anew(kind);
+    }
+
+    /// What a reset of this kind makes of each part.
+    fn start_anew(&mut self, kind: u8)
+        ensures store { self.new.store ≡ after_reset kind self.old.store }
+        ensures none { (n : ℕ) → session_at self.new.live n ≡ None }
+        ensures next { self.new.live.next ≡ self.old.live.next }
+        ensures waiting { (com_id : ℕ) → response_at self.new.waiting com_id ≡ None }
     {
         self.store.reset_rows(kind);
         self.sessions.end_all();

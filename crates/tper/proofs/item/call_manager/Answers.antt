@@ -1,8 +1,10 @@
-use Rattle.std.proofs.Common.{◌≡◌, ◌∙◌, map, rules}
+use Rattle.std.proofs.Common.{◌≡◌, ◌∙◌, ap, map, rules}
 use Rattle.sp_cells.specs.Names.{session_manager, start_session}
 use Rattle.tcg_tokens.specs.Tree.{tree}
 use Rattle.call_shapes.specs.Asks.{uid_of}
 use Rattle.tper.proofs.Carried.{start_carried, properties_carried}
+use Rattle.transactions.specs.Stored.{Stored}
+use Rattle.tper.proofs.Configs.{start_config}
 use Rattle.tper.proofs.Items.{carried-as, start-met}
 use Rattle.tper.proofs.item.call_manager.Goals as goal
 
@@ -18,3 +20,8 @@ returns-then-eq-4-clause-met c =
 
 pub returns-then-eq-4-clause-carried : goal.returns-then-eq-4-clause-carried
 returns-then-eq-4-clause-carried c = carried-as _ _ c.in_ok-started.ensures.reply (start_carried c.args.store.now c.args.sessions.now (map tree c.args.call.now.args.items))
+
+pub returns-then-eq-4-clause-config : goal.returns-then-eq-4-clause-config
+returns-then-eq-4-clause-config c =
+    ap (λ (s : Stored). s.config) c.in_ok-started.ensures.store
+    ∙ start_config c.args.store.now c.args.sessions.now (map tree c.args.call.now.args.items)

@@ -1,7 +1,6 @@
 use Rattle.std.proofs.Common.{◌≡◌, rules}
-use Rattle.std.specs.Prelude.{Result, Ok, Err}
-use Rattle.tcg_tokens.specs.declared.error.TokenError.{TokenError}
-use Rattle.tcg_tokens.specs.Message.{Message, begin, end, end_session}
+use Rattle.std.specs.Prelude.{Ok}
+use Rattle.tcg_tokens.specs.Message.{begin, end, end_session}
 use Rattle.tcg_tokens.specs.Reading.{reading}
 use Rattle.tper.proofs.Items.{read-in}
 use Rattle.tper.proofs.item.in_session.Goals as goal

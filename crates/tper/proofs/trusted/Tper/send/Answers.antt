@@ -1,5 +1,4 @@
 use Rattle.std.proofs.Common.{◌≡◌, ◌∙◌, sym, ap, false, Some, None, rules}
-use Rattle.std.specs.Prelude.{Ok, Err}
 use Rattle.compacket.specs.Frames.{Frame, reading}
 use Rattle.compacket.specs.declared.session.Opened.{Opened}
 use Rattle.history.specs.Facts.{facts}

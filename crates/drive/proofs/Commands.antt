@@ -1,0 +1,73 @@
+-- What the history makes of a command, step by step, by what the drive found of it.
+use Rattle.std.proofs.Common.{◌≡◌, ◌==◌, slice_index, ℕ, Bool, true, false, not, ◌&&◌, List, Option, Some, None, is_some, option_map, Result, Ok, Err, refl, sym, subst, ap, ◌∙◌, cond}
+use Rattle.fis.specs.H2d.{h2d_at}
+use Rattle.fis.specs.Types.{h2d_type}
+use Rattle.fis.specs.declared.h2d.RegH2d.{RegH2d}
+use Rattle.locking.specs.declared.range.Op.TheVariants.{Read, Write}
+use Rattle.trusted_cmds.specs.declared.command.Command.{Command}
+use Rattle.trusted_cmds.specs.declared.command.Command.TheVariants.{ReadQueued, WriteQueued, ReadDma, WriteDma, ReadLog10}
+use Rattle.trusted_cmds.specs.declared.command.CommandError.{CommandError}
+use Rattle.trusted_cmds.specs.Commands.{reading, is_queued, Carries}
+use Rattle.history.specs.Events.{Wrote, Nothing}
+use Rattle.history.specs.Facts.{Facts}
+use Rattle.history.specs.Decisions.{accepted, refuses, commanded, known, while_failed, admitted, unqueued, queued_transfer, unqueued_transfer, is_busy}
+use Rattle.drive.specs.declared.transfer.Held.{Held}
+use Rattle.drive.specs.declared.transfer.Transfer.{Transfer}
+use Rattle.drive.specs.Transfer.{transfer_by, queued_command, held_command}
+use Rattle.drive.specs.Queue.{slot_at, held_at}
+use Rattle.drive.specs.Decision.{moves}
+use Rattle.drive.specs.State.{State, seen}
+
+-- what is in a slot is held
+pub held-some : (x : Option Held) → is_some (option_map held_command x) ≡ is_some x
+held-some None = refl
+held-some (Some held) = refl
+
+-- a queued transfer under a free tag
+pub admits-read : (f : Facts) (h : RegH2d) (tag lba count : ℕ) (c : Command) (t : Transfer) (x : Option Held) → c ≡ ReadQueued lba count → t ≡ transfer_by Read lba count → is_some x ≡ false
+    → queued_transfer f h tag (queued_command t) t.op t.lba t.count ≡ admitted f h tag c (is_some (option_map held_command x))
+admits-read f h tag lba count c t x is made free = rw (is, made, held-some x, free) refl
+
+pub admits-write : (f : Facts) (h : RegH2d) (tag lba count : ℕ) (c : Command) (t : Transfer) (x : Option Held) → c ≡ WriteQueued lba count → t ≡ transfer_by Write lba count → is_some x ≡ false
+    → queued_transfer f h tag (queued_command t) t.op t.lba t.count ≡ admitted f h tag c (is_some (option_map held_command x))
+admits-write f h tag lba count c t x is made free = rw (is, made, held-some x, free) refl
+
+-- a transfer that is not queued
+pub unqueued-read : (f : Facts) (payload : List ℕ) (lba count : ℕ) (c : Command) (t : Transfer) → c ≡ ReadDma lba count → t ≡ transfer_by Read lba count
+    → unqueued_transfer f (moves t payload) t.op t.lba t.count ≡ unqueued f payload c
+unqueued-read f payload lba count c t is made = rw (is, made) refl
+
+pub unqueued-write : (f : Facts) (payload : List ℕ) (lba count : ℕ) (c : Command) (t : Transfer) → c ≡ WriteDma lba count → t ≡ transfer_by Write lba count
+    → unqueued_transfer f (moves t payload) t.op t.lba t.count ≡ unqueued f payload c
+unqueued-write f payload lba count c t is made = rw (is, made) refl
+
+-- the order of the rules
+pub commanded-failed : (f : Facts) (h : RegH2d) (payload : List ℕ) → h.is_command ≡ true → is_some f.failure ≡ true → while_failed (reading h) ≡ commanded f h payload
+commanded-failed f h payload is failed = rw (is, failed) refl
+
+pub commanded-known : (f : Facts) (h : RegH2d) (payload : List ℕ) → h.is_command ≡ true → is_some f.failure ≡ false → (is_busy f && not (is_queued h.command)) ≡ false
+    → known f h payload (reading h) ≡ commanded f h payload
+commanded-known f h payload is mended alone = rw (is, mended, alone) refl
+
+-- only the log has no tag
+pub log-untagged : (h : RegH2d) (dma : Bool) (tag : Option ℕ) → Carries h (ReadLog10 dma) tag → tag ≡ None
+log-untagged h dma None w = refl
+log-untagged h dma (Some tag) w = absurd w
+
+-- what was read of the FIS
+pub known-some : (f : Facts) (h : RegH2d) (payload : List ℕ) (r : Result (Command × Option ℕ) CommandError) (c : Command) (x : Option ℕ) (tag : ℕ)
+    → r ≡ reading h → r ≡ Ok (c, x) → x ≡ Some tag → admitted f h tag c (is_some (f.held tag)) ≡ known f h payload (reading h)
+known-some f h payload r c x tag e is some =
+    sym (ap (known f h payload) (sym e ∙ is ∙ ap (λ (t : Option ℕ). Ok (c, t)) some))
+
+pub known-none : (f : Facts) (h : RegH2d) (payload : List ℕ) (r : Result (Command × Option ℕ) CommandError) (c : Command) (x : Option ℕ)
+    → r ≡ reading h → r ≡ Ok (c, x) → x ≡ None → unqueued f payload c ≡ known f h payload (reading h)
+known-none f h payload r c x e is none =
+    sym (ap (known f h payload) (sym e ∙ is ∙ ap (λ (t : Option ℕ). Ok (c, t)) none))
+
+-- a FIS that carries a command, and another
+pub accepted-command : (f : Facts) (fis payload : List ℕ) (h : RegH2d) → slice_index fis 0 ≡ h2d_type → h ≡ h2d_at fis → commanded f h payload ≡ accepted f fis payload
+accepted-command f fis payload h is made = ap (λ (r : RegH2d). commanded f r payload) made ∙ rw is refl
+
+pub accepted-other : (f : Facts) (fis payload : List ℕ) → (slice_index fis 0 == h2d_type) ≡ false → refuses ≡ accepted f fis payload
+accepted-other f fis payload is = rw is refl

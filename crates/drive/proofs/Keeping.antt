@@ -1,0 +1,243 @@
+-- What is kept stays what the past says, with one event more.
+use Rattle.std.proofs.Common.{◌≡◌, ℕ, ◌<◌, ◌==◌, ◌&&◌, ◌/◌, ◌*◌, ◌+◌, ◌-◌, Bool, true, false, List, [], ◌∷◌, length, take, drop, nat_le, nat_lt, Option, Some, None, Result, Ok, Err, is_some, option_map, refl, sym, subst, ap, ◌∙◌, cond, if◌then◌else◌, arith, slice_index}
+use Rattle.std.proofs.Math.Path.{fun_ext}
+use Rattle.std.specs.Prelude.{unwrap_or}
+use Rattle.std.proofs.Math.ListN.{length-set}
+use Rattle.locking.specs.declared.range.Op.{Op}
+use Rattle.locking.specs.declared.range.Op.TheVariants.{Read, Write}
+use Rattle.device_data.specs.declared.log_page.Failure.{Failure}
+use Rattle.shadow_mbr.specs.Stored.{sector_size, sector_at, zeros}
+use Rattle.transactions.specs.Sights.{look_up, committed_sight}
+use Rattle.compacket.specs.Frames.{Frame}
+use Rattle.compacket.specs.declared.error.FrameError.{FrameError}
+use Rattle.compacket.specs.declared.session.Session.{Session}
+use Rattle.locking.specs.declared.ranges.Verdict.{Verdict}
+use Rattle.tcg_tokens.specs.Reading.{reading as message_in}
+use Rattle.history.specs.Sessions.{Begun}
+use Rattle.history.specs.KeptCalls.{wipes_by}
+use Rattle.history.specs.Decisions.{completed, sent, framed, to_session, to_manager, answers, is_manager}
+use Rattle.history.specs.Opening.{Origin}
+use Rattle.history.specs.Events.{SessionDeed, Unchanged, Started, Tried, Changed, Began, Committed, Aborted, Ended, Activated, Reverted, HeldCommand, QueueDeed, Held as HeldDeed, Completed, CompletedWrite, QueueFailed, QueueMended, Deed, Nothing, OfQueue, Wrote, Took, WasReset, InSession, Event, did, or_else, latest}
+use Rattle.history.specs.Readers.{holding, held, failing, failure, writing, sector, wipes as wiped_to}
+use Rattle.history.specs.Facts.{Facts, facts, session_named}
+use Rattle.history.specs.KeptStore.{ReadsStore}
+use Rattle.history.proofs.KeptStoreReads.{store_read_law}
+use Rattle.tper.specs.Tper.{Tper, Keeps as KeepsTper, response_at, wipes}
+use Rattle.tper.proofs.KeptBeside.{spares, kept_beside}
+use Rattle.drive.specs.declared.queue.Queue.{Queue}
+use Rattle.drive.specs.declared.transfer.Held.{Held}
+use Rattle.drive.specs.declared.transfer.Transfer.{Transfer}
+use Rattle.drive.specs.Transfer.{transfer_by, queued_command, held_command, sector_then}
+use Rattle.drive.specs.Decision.{moves}
+use Rattle.drive.specs.Queue.{slot_at, held_at, with_slot, failed_queue, mended_queue, empty_queue}
+use Rattle.drive.specs.State.{State, seen, Keeps}
+use Rattle.drive.proofs.Slots.{no_slot, none_length, slot_set}
+
+-- what is kept shows the facts of the past
+pub seen-is : (d : State) (o : Origin) (past : List Event) → Keeps d o past → seen d (facts o past) ≡ facts o past
+seen-is d o past k =
+    ap (λ x. record (seen d g) { sectors = x.sectors; mbr_sectors = x.mbr_sectors }) k.tper.store.config
+    ∙ ap (λ x. record g { rows = x; byte = slice_index d.tper.store.locking.bytes; held = held_at d.queue; failure = d.queue.failure; waiting = response_at d.tper.waiting; sector = sector_at d.media }) reads.rows
+    ∙ ap (λ x. record g { byte = x; held = held_at d.queue; failure = d.queue.failure; waiting = response_at d.tper.waiting; sector = sector_at d.media }) reads.bytes
+    ∙ ap (λ x. record g { held = x; failure = d.queue.failure; waiting = response_at d.tper.waiting; sector = sector_at d.media }) (fun_ext k.held)
+    ∙ ap (λ x. record g { failure = x; waiting = response_at d.tper.waiting; sector = sector_at d.media }) k.failure
+    ∙ ap (λ x. record g { waiting = x; sector = sector_at d.media }) (fun_ext k.tper.waiting)
+    ∙ ap (λ x. record g { sector = x }) (fun_ext k.sectors)
+  where
+    g : Facts
+    g = facts o past
+    reads : ReadsStore d.tper.store o past
+    reads = store_read_law d.tper.store o past k.tper.store
+
+-- the latest of one event more
+later : {A : Type 0} (x y : Option A) (z : A) → unwrap_or x (unwrap_or y z) ≡ unwrap_or (or_else x y) z
+later None y z = refl
+later (Some w) y z = refl
+
+-- what an event makes of queue and media, beside the TPer's part
+pub keeps-more : (d e : State) (o : Origin) (past : List Event) (ev : Event) → KeepsTper e.tper o (ev ∷ past) → length e.queue.slots ≡ 32
+    → ((tag : ℕ) → held_at e.queue tag ≡ unwrap_or (holding tag ev.deed) (held_at d.queue tag))
+    → e.queue.failure ≡ unwrap_or (failing ev.deed) d.queue.failure
+    → ((s : ℕ) → sector_at e.media s ≡ unwrap_or (writing s ev.deed) (sector_at d.media s))
+    → Keeps d o past → Keeps e o (ev ∷ past)
+keeps-more d e o past ev tper len hold fail move k = record {
+  tper = tper;
+  slots = len;
+  held = λ tag. hold tag ∙ ap (unwrap_or (holding tag ev.deed)) (k.held tag) ∙ later (holding tag ev.deed) (latest (holding tag) past) None;
+  failure = fail ∙ ap (unwrap_or (failing ev.deed)) k.failure ∙ later (failing ev.deed) (latest failing past) None;
+  sectors = λ s. move s ∙ ap (unwrap_or (writing s ev.deed)) (k.sectors s) ∙ later (writing s ev.deed) (latest (writing s) past) zeros;
+}
+
+-- a state with the same TPer, beside a deed that spares it
+spared : (d e : State) (o : Origin) (past : List Event) (ev : Event) → e.tper ≡ d.tper → spares ev.deed ≡ true → Keeps d o past → KeepsTper e.tper o (ev ∷ past)
+spared d e o past ev same h k = subst (λ (t : Tper). KeepsTper t o (ev ∷ past)) (sym same) (kept_beside d.tper o past ev h k.tper)
+
+-- nothing is done
+pub nothing-keeps : (d : State) (o : Origin) (past : List Event) (ev : Event) → ev.deed ≡ Nothing → Keeps d o past → Keeps d o (ev ∷ past)
+nothing-keeps d o past ev h k =
+    keeps-more d d o past ev (spared d d o past ev refl (ap spares h) k) k.slots
+    (λ tag. sym (ap (λ (x : Deed). unwrap_or (holding tag x) (held_at d.queue tag)) h))
+    (sym (ap (λ (x : Deed). unwrap_or (failing x) d.queue.failure) h))
+    (λ s. sym (ap (λ (x : Deed). unwrap_or (writing s x) (sector_at d.media s)) h)) k
+
+-- the queue fails
+pub failed-keeps : (d e : State) (o : Origin) (past : List Event) (fault : Failure) (ev : Event) → ev.deed ≡ OfQueue (QueueFailed fault)
+    → e ≡ record d { queue = failed_queue fault } → Keeps d o past → Keeps e o (ev ∷ past)
+failed-keeps d e o past fault ev h is k = subst (λ (x : State). Keeps x o (ev ∷ past)) (sym is) (
+    keeps-more d (record d { queue = failed_queue fault }) o past ev (spared d d o past ev refl (ap spares h) k) none_length
+    (λ tag. ap (option_map held_command) (no_slot tag) ∙ sym (ap (λ (x : Deed). unwrap_or (holding tag x) (held_at d.queue tag)) h))
+    (sym (ap (λ (x : Deed). unwrap_or (failing x) d.queue.failure) h))
+    (λ s. sym (ap (λ (x : Deed). unwrap_or (writing s x) (sector_at d.media s)) h)) k)
+
+-- a slot is set
+set-here : (b : Bool) (x y : Option Held) → option_map held_command (cond b x y) ≡ unwrap_or (cond b (Some (option_map held_command x)) None) (option_map held_command y)
+set-here true x y = refl
+set-here false x y = refl
+
+-- a transfer is held
+pub holds-keeps : (d e : State) (o : Origin) (past : List Event) (tag : ℕ) (its : Held) (ev : Event) → tag < 32 → ev.deed ≡ OfQueue (HeldDeed tag (held_command its))
+    → e ≡ record d { queue = with_slot tag (Some its) d.queue } → Keeps d o past → Keeps e o (ev ∷ past)
+holds-keeps d e o past tag its ev small h is k = subst (λ (x : State). Keeps x o (ev ∷ past)) (sym is) (
+    keeps-more d (record d { queue = with_slot tag (Some its) d.queue }) o past ev (spared d d o past ev refl (ap spares h) k)
+    (length-set d.queue.slots tag (Some its) ∙ k.slots)
+    (λ t. ap (option_map held_command) (slot_set d.queue.slots tag t (Some its) (omega (arith, small, k.slots)))
+    ∙ set-here (tag == t) (Some its) (slot_at d.queue.slots t)
+    ∙ sym (ap (λ (x : Deed). unwrap_or (holding t x) (held_at d.queue t)) h))
+    (sym (ap (λ (x : Deed). unwrap_or (failing x) d.queue.failure) h))
+    (λ s. sym (ap (λ (x : Deed). unwrap_or (writing s x) (sector_at d.media s)) h)) k)
+
+-- data move
+written-here : (b : Bool) (x y : List ℕ) → cond b x y ≡ unwrap_or (cond b (Some x) None) y
+written-here true x y = refl
+written-here false x y = refl
+
+-- an unqueued transfer
+pub moved-keeps : (d e : State) (o : Origin) (past : List Event) (op : Op) (lba count : ℕ) (payload : List ℕ) (ev : Event)
+    → ev.deed ≡ moves (transfer_by op lba count) payload → e.tper ≡ d.tper → e.queue ≡ d.queue
+    → ((s : ℕ) → sector_at e.media s ≡ sector_then (transfer_by op lba count) payload (sector_at d.media s) s)
+    → Keeps d o past → Keeps e o (ev ∷ past)
+moved-keeps d e o past Read lba count payload ev h tper queue media k =
+    keeps-more d e o past ev (spared d e o past ev tper (ap spares h) k)
+    (ap (λ (q : Queue). length q.slots) queue ∙ k.slots)
+    (λ t. ap (λ (q : Queue). held_at q t) queue ∙ sym (ap (λ (x : Deed). unwrap_or (holding t x) (held_at d.queue t)) h))
+    (ap (λ (q : Queue). q.failure) queue ∙ sym (ap (λ (x : Deed). unwrap_or (failing x) d.queue.failure) h))
+    (λ s. media s ∙ sym (ap (λ (x : Deed). unwrap_or (writing s x) (sector_at d.media s)) h)) k
+moved-keeps d e o past Write lba count payload ev h tper queue media k =
+    keeps-more d e o past ev (spared d e o past ev tper (ap spares h) k)
+    (ap (λ (q : Queue). length q.slots) queue ∙ k.slots)
+    (λ t. ap (λ (q : Queue). held_at q t) queue ∙ sym (ap (λ (x : Deed). unwrap_or (holding t x) (held_at d.queue t)) h))
+    (ap (λ (q : Queue). q.failure) queue ∙ sym (ap (λ (x : Deed). unwrap_or (failing x) d.queue.failure) h))
+    (λ s. media s
+    ∙ written-here (nat_le lba s && nat_lt s (lba + length payload / 512)) (take 512 (drop (512 * (s - lba)) payload)) (sector_at d.media s)
+    ∙ sym (ap (λ (x : Deed). unwrap_or (writing s x) (sector_at d.media s)) h)) k
+
+-- a completion
+pub completed-keeps : (d e : State) (o : Origin) (past : List Event) (tag : ℕ) (op : Op) (lba count : ℕ) (payload : List ℕ) (v : Verdict) (ev : Event)
+    → tag < 32 → ev ≡ completed tag payload (Some (record { command = queued_command (transfer_by op lba count); verdict = v }))
+    → e.tper ≡ d.tper → e.queue ≡ with_slot tag None d.queue
+    → ((s : ℕ) → sector_at e.media s ≡ sector_then (transfer_by op lba count) payload (sector_at d.media s) s)
+    → Keeps d o past → Keeps e o (ev ∷ past)
+completed-keeps d e o past tag Read lba count payload v ev small h tper queue media k =
+    keeps-more d e o past ev (spared d e o past ev tper (ap (λ (x : Event). spares x.deed) h) k)
+    (ap (λ (q : Queue). length q.slots) queue ∙ length-set d.queue.slots tag None ∙ k.slots)
+    (λ t. ap (λ (q : Queue). held_at q t) queue
+    ∙ ap (option_map held_command) (slot_set d.queue.slots tag t None (omega (arith, small, k.slots)))
+    ∙ set-here (tag == t) None (slot_at d.queue.slots t)
+    ∙ sym (ap (λ (x : Event). unwrap_or (holding t x.deed) (held_at d.queue t)) h))
+    (ap (λ (q : Queue). q.failure) queue ∙ sym (ap (λ (x : Event). unwrap_or (failing x.deed) d.queue.failure) h))
+    (λ s. media s ∙ sym (ap (λ (x : Event). unwrap_or (writing s x.deed) (sector_at d.media s)) h)) k
+completed-keeps d e o past tag Write lba count payload v ev small h tper queue media k =
+    keeps-more d e o past ev (spared d e o past ev tper (ap (λ (x : Event). spares x.deed) h) k)
+    (ap (λ (q : Queue). length q.slots) queue ∙ length-set d.queue.slots tag None ∙ k.slots)
+    (λ t. ap (λ (q : Queue). held_at q t) queue
+    ∙ ap (option_map held_command) (slot_set d.queue.slots tag t None (omega (arith, small, k.slots)))
+    ∙ set-here (tag == t) None (slot_at d.queue.slots t)
+    ∙ sym (ap (λ (x : Event). unwrap_or (holding t x.deed) (held_at d.queue t)) h))
+    (ap (λ (q : Queue). q.failure) queue ∙ sym (ap (λ (x : Event). unwrap_or (failing x.deed) d.queue.failure) h))
+    (λ s. media s
+    ∙ written-here (nat_le lba s && nat_lt s (lba + length payload / 512)) (take 512 (drop (512 * (s - lba)) payload)) (sector_at d.media s)
+    ∙ sym (ap (λ (x : Event). unwrap_or (writing s x.deed) (sector_at d.media s)) h)) k
+
+-- what the TPer does: deeds that no queue has part in
+
+-- the deed says nothing of the queue
+abbrev pub IsOfTper : Deed → Type 0
+IsOfTper d = ((tag : ℕ) → holding tag d ≡ None) × (failing d ≡ None)
+
+pub tper-keeps : (d e : State) (o : Origin) (past : List Event) (ev : Event) → IsOfTper ev.deed → KeepsTper e.tper o (ev ∷ past) → e.queue ≡ d.queue
+    → ((s : ℕ) → sector_at e.media s ≡ unwrap_or (writing s ev.deed) (sector_at d.media s))
+    → Keeps d o past → Keeps e o (ev ∷ past)
+tper-keeps d e o past ev its tper queue media k =
+    keeps-more d e o past ev tper
+    (ap (λ (q : Queue). length q.slots) queue ∙ k.slots)
+    (λ t. ap (λ (q : Queue). held_at q t) queue ∙ sym (ap (λ (x : Option (Option HeldCommand)). unwrap_or x (held_at d.queue t)) (its.0 t)))
+    (ap (λ (q : Queue). q.failure) queue ∙ sym (ap (λ (x : Option (Option Failure)). unwrap_or x d.queue.failure) its.1))
+    media k
+
+-- media after what was sent
+wipe-here : (w : Bool) (s : ℕ) (deed : SessionDeed) (before : List ℕ) → wipes_by deed ≡ w → (if w then zeros else before) ≡ unwrap_or (wiped_to deed) before
+wipe-here w s Unchanged before h = rw (← h) refl
+wipe-here w s (Started session row) before h = rw (← h) refl
+wipe-here w s (Tried attempt) before h = rw (← h) refl
+wipe-here w s (Changed sp change) before h = rw (← h) refl
+wipe-here w s (Began sp number) before h = rw (← h) refl
+wipe-here w s (Committed sp) before h = rw (← h) refl
+wipe-here w s (Aborted sp) before h = rw (← h) refl
+wipe-here w s (Ended sp) before h = rw (← h) refl
+wipe-here w s (Activated pin) before h = rw (← h) refl
+wipe-here w s (Reverted sp true) before h = rw (← h) refl
+wipe-here w s (Reverted sp false) before h = rw (← h) refl
+
+-- what is sent does nothing, or something in a session
+abbrev pub IsSendDeed : Deed → Type 0
+IsSendDeed Nothing = Unit {0}
+IsSendDeed (InSession deed response) = Unit {0}
+IsSendDeed _ = ⊥
+
+pub sends-of-tper : (d : Deed) → IsSendDeed d → IsOfTper d
+sends-of-tper Nothing h = (λ tag. refl, refl)
+sends-of-tper (InSession deed response) h = (λ tag. refl, refl)
+sends-of-tper (OfQueue deed) h = absurd h
+sends-of-tper (Wrote lba bytes) h = absurd h
+sends-of-tper (Took com_id) h = absurd h
+sends-of-tper (WasReset kind) h = absurd h
+
+pub sends-wipe : (d : Deed) (s : ℕ) (before : List ℕ) → IsSendDeed d → (if wipes d then zeros else before) ≡ unwrap_or (writing s d) before
+sends-wipe Nothing s before h = refl
+sends-wipe (InSession deed response) s before h = wipe-here (wipes_by deed) s deed before refl
+sends-wipe (OfQueue deed) s before h = absurd h
+sends-wipe (Wrote lba bytes) s before h = absurd h
+sends-wipe (Took com_id) s before h = absurd h
+sends-wipe (WasReset kind) s before h = absurd h
+
+to-session-deed : (f : Facts) (com_id : ℕ) (named : Session) (payload : List ℕ) (b : Option Begun) → IsSendDeed (to_session f com_id named payload b).deed
+to-session-deed f com_id named payload None = tt
+to-session-deed f com_id named payload (Some session) = tt
+
+framed-deed : (f : Facts) (com_id : ℕ) (frame : Frame) (b : Bool)
+    → IsSendDeed (if b then answers com_id frame.session (to_manager f com_id (message_in frame.payload)) else to_session f com_id frame.session frame.payload (session_named f com_id frame.session)).deed
+framed-deed f com_id frame true = tt
+framed-deed f com_id frame false = to-session-deed f com_id frame.session frame.payload (session_named f com_id frame.session)
+
+frame-deed : (f : Facts) (com_id : ℕ) (frame : Frame) (b : Bool) → IsSendDeed (if b then framed f com_id frame else did Nothing).deed
+frame-deed f com_id frame true = framed-deed f com_id frame (is_manager frame.session)
+frame-deed f com_id frame false = tt
+
+pub sent-deed : (f : Facts) (com_id : ℕ) (r : Result Frame FrameError) → IsSendDeed (sent f com_id r).deed
+sent-deed f com_id (Err e) = tt
+sent-deed f com_id (Ok frame) = frame-deed f com_id frame (frame.com_id == com_id)
+
+-- log page 10h is read, which ends a failure
+mended-by : (d : State) (o : Origin) (past : List Event) (x : Option Failure) → failure past ≡ x
+    → Keeps d o past → Keeps (record d { queue = mended_queue d.queue }) o (did (if is_some x then OfQueue QueueMended else Nothing) ∷ past)
+mended-by d o past None none k =
+    keeps-more d (record d { queue = mended_queue d.queue }) o past (did Nothing) (spared d d o past (did Nothing) refl refl k) k.slots
+    (λ tag. refl) (sym (k.failure ∙ none)) (λ s. refl) k
+mended-by d o past (Some fault) some k =
+    keeps-more d (record d { queue = mended_queue d.queue }) o past (did (OfQueue QueueMended)) (spared d d o past (did (OfQueue QueueMended)) refl refl k) k.slots
+    (λ tag. refl) refl (λ s. refl) k
+
+pub mended-keeps : (d e : State) (o : Origin) (past : List Event) → e ≡ record d { queue = mended_queue d.queue }
+    → Keeps d o past → Keeps e o (did (if is_some (failure past) then OfQueue QueueMended else Nothing) ∷ past)
+mended-keeps d e o past is k =
+    subst (λ (x : State). Keeps x o (did (if is_some (failure past) then OfQueue QueueMended else Nothing) ∷ past)) (sym is) (mended-by d o past (failure past) refl k)

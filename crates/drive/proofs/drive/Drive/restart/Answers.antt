@@ -1,0 +1,21 @@
+use Rattle.std.proofs.Common.{◌≡◌, ℕ, ◌∷◌, ◌∙◌, ap, sym, subst, refl, rules}
+use Rattle.sp_cells.specs.Config.{Config}
+use Rattle.history.specs.Events.{WasReset, did}
+use Rattle.history.specs.History.{log}
+use Rattle.drive.specs.State.{State, Keeps}
+use Rattle.drive.proofs.Restarts.{restart-keeps}
+use Rattle.drive.proofs.drive.Drive.restart.Goals as goal
+
+pub invariant_of-self : goal.invariant_of-self
+invariant_of-self c =
+    let i = c.self.invariant in
+    (i.0, ap (λ (config : Config). config.sectors) c.reset.ensures.config ∙ i.1, search rules, i.3, c.new-self-inside.ensures.fits c.self.inside.sectors c.reset.new.self.store.config.mbr_sectors)
+
+pub returns : goal.returns
+returns c = λ o acts k.
+    let inside = c.self.inside in
+    let old : State = record { tper = inside.tper; queue = inside.queue; media = inside.media } in
+    let new : State = record { tper = c.reset.new.self; queue = c.new-self-inside.result; media = inside.media } in
+    let kept : Keeps old o (log o acts) = subst (λ (x : State). Keeps x o (log o acts)) (sym c.self.view_is) k in
+    subst (λ (n : ℕ). Keeps new o (did (WasReset n) ∷ log o acts)) c.number.ensures
+    (restart-keeps old new o (log o acts) c.number.result (c.reset.ensures.kept o (log o acts) kept.tper) c.new-self-inside.ensures.empty refl kept)
