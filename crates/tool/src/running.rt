@@ -30,7 +30,7 @@ pub struct RunningPhase {
     drive: Drive,
     /// How many acts the drive has done.
     acts: u64,
-    /// The queue had failed before the last command.
+    /// Whether the queue had failed before the last command.
     had_failed: bool,
     /// The bytes that go with the next act.
     payload: Vec<u8>,
@@ -138,14 +138,15 @@ impl RunningPhase {
         Ok(accepted)
     }
 
-    /// Whether a command that failed is the first one that a failed queue aborts, by what `failure` says
-    /// before it is given to the drive.
+    /// Whether the command that comes, where it fails, is the first one that a failed queue aborts: the
+    /// queue has failed, and had not before the command before it.
     fn is_first_abort(&mut self, has_failed: bool) -> bool
         ensures told { result ≡ true → has_failed ≡ true }
         ensures runs { (o : Origin) (acts : List Act) → RunsOn self.old o acts → RunsOn self.new o acts }
         ensures payload { self.new.payload ≡ self.old.payload }
     {
-        has_failed && !replace(&mut self.had_failed, has_failed)
+        let had_failed = replace(&mut self.had_failed, has_failed);
+        has_failed && !had_failed
     }
 
     /// Completes a held transfer, whose payload has this byte in each place, and prints its data.
