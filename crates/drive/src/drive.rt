@@ -1,6 +1,7 @@
 //! A drive.
 
 ghost use Rattle.std.specs.Prelude.{◌≡◌, ℕ, length, OnOk, OnErr, IfOk, if◌then◌else◌};
+ghost use Rattle.device_data.specs.ErrorLog.{sized};
 ghost use Rattle.fis.specs.Tags.{slot_count};
 ghost use Rattle.shadow_mbr.specs.Stored.{sector_at, zeros};
 
@@ -12,7 +13,7 @@ use crate::queue::Queue;
 use crate::reset::ResetKind;
 use crate::transfer::{Held, Transfer};
 use audit::Why;
-use device_data::{DISCOVERY_LENGTH, Failure, discovery, error_log, identity};
+use device_data::{Failure, discovery, error_log, identity};
 use fis::{H2D_LENGTH, H2D_TYPE, RegH2d, Tag};
 use locking::{Op, RangeRow, Ranges};
 use shadow_mbr::Media;
@@ -32,6 +33,17 @@ fn wipe_where(wipes: bool, media: &mut Media)
     if wipes {
         media.wipe();
     }
+}
+
+/// Bytes with zeros behind them up to a length, or cut at it.
+fn sized(alloc: Global, bytes: &[u8], length: usize) -> Result<Vec<u8>, AllocError>
+    ensures { IfOk result (λ v. v.items ≡ sized length bytes.now) }
+{
+    let mut out = Vec::with_capacity(alloc, length)?;
+    let shown = bytes.len().min(length);
+    out.extend_from_slice(&bytes[..shown])?;
+    out.resize(length, 0)?;
+    Ok(out)
 }
 
 /// A drive.
@@ -280,10 +292,7 @@ impl Drive {
             ≡ sized room (discovery_of (look_up (committed_sight self.now.tper.store)))) }
     {
         let bytes = discovery(&self.tper.in_force());
-        let mut data = Vec::with_capacity(self.alloc, room)?;
-        data.extend_from_slice(&bytes[..room.min(DISCOVERY_LENGTH)])?;
-        data.resize(room, 0)?;
-        Ok(data)
+        sized(self.alloc, &bytes, room)
     }
 
     /// The data of IDENTIFY DEVICE.
