@@ -1,6 +1,7 @@
 //! A drive.
 
 ghost use Rattle.std.specs.Prelude.{◌≡◌, ℕ, length, OnOk, OnErr, IfOk, if◌then◌else◌};
+ghost use Rattle.device_data.specs.ErrorLog.{sized};
 ghost use Rattle.fis.specs.Tags.{slot_count};
 ghost use Rattle.shadow_mbr.specs.Stored.{sector_at, zeros};
 
@@ -32,6 +33,17 @@ fn wipe_where(wipes: bool, media: &mut Media)
     if wipes {
         media.wipe();
     }
+}
+
+/// Bytes with zeros behind them up to a length, or cut at it.
+fn sized(alloc: Global, bytes: &[u8], length: usize) -> Result<Vec<u8>, AllocError>
+    ensures { IfOk result (λ v. v.items ≡ sized length bytes.now) }
+{
+    let mut out = Vec::with_capacity(alloc, length)?;
+    let shown = bytes.len().min(length);
+    out.extend_from_slice(&bytes[..shown])?;
+    out.resize(length, 0)?;
+    Ok(out)
 }
 
 /// A drive.
@@ -279,7 +291,8 @@ impl Drive {
         ensures { IfOk result (λ v. v.items
             ≡ sized room (discovery_of (look_up (committed_sight self.now.tper.store)))) }
     {
-        sized(self.alloc, &discovery(&self.tper.in_force()), room)
+        let bytes = discovery(&self.tper.in_force());
+        sized(self.alloc, &bytes, room)
     }
 
     /// The data of IDENTIFY DEVICE.
