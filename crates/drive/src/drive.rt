@@ -35,17 +35,6 @@ fn wipe_where(wipes: bool, media: &mut Media)
     }
 }
 
-/// Bytes with zeros behind them up to a length, or cut at it.
-fn sized(alloc: Global, bytes: &[u8], length: usize) -> Result<Vec<u8>, AllocError>
-    ensures { IfOk result (λ v. v.items ≡ sized length bytes.now) }
-{
-    let mut out = Vec::with_capacity(alloc, length)?;
-    let shown = bytes.len().min(length);
-    out.extend_from_slice(&bytes[..shown])?;
-    out.resize(length, 0)?;
-    Ok(out)
-}
-
 /// A drive.
 #[derive(Drop)]
 pub struct Drive {
@@ -343,7 +332,7 @@ impl Drive {
         ensures answer { IfOk result (λ accepted. (o : Origin) (acts : List Act)
             → Agrees self.old o acts
             → IsAnswer (facts o (log o acts)) (h2d_at fis.now)
-                (event o (log o acts) (Accept fis.now payload.now)) accepted) }
+            (event o (log o acts) (Accept fis.now payload.now)) accepted) }
         ensures memory { IsOkUnless result DriveError.OutOfMemory }
         ensures err { OnErr result (self.new ≡ self.old) }
     {
@@ -356,7 +345,7 @@ impl Drive {
         requires { length payload.now ≡ payload_length (h2d_at fis.now) }
         ensures done { IfOk result (λ a. (o : Origin) (acts : List Act) → Agrees self.old o acts
             → IsDone (facts o (log o acts)) (h2d_at fis.now)
-                (event o (log o acts) (Accept fis.now payload.now)) self.new o (log o acts) a) }
+            (event o (log o acts) (Accept fis.now payload.now)) self.new o (log o acts) a) }
         ensures err { OnErr result (self.new ≡ self.old) }
     {
         if fis[0] != H2D_TYPE {
