@@ -195,9 +195,10 @@ pub holds-done : (f : Facts) (h : RegH2d) (d e : State) (o : Origin) (past : Lis
     → IsTold a ready 0 true (answer_fis false ready 0 ∷ []) [] None
     → Keeps d o past → IsDone f h (event_of f payload made) e o past a
 holds-done f h d e o past payload tag its made a small is to reads t k =
-    subst (λ (x : Decision). IsDone f h (event_of f payload x) e o past a) (sym is)
-    (holds-keeps d e o past tag its (event_of f payload (Holds tag its)) small refl to k,
-    record { status = t.status_is; error = t.error_is; held = t.held_is; fises = t.fises_are; bytes = t.bytes_are ∙ sym (ap (data_read f) reads); denied = t.denied_is })
+    subst (λ (x : Decision). IsDone f h (event_of f payload x) e o past a) (sym is) (
+      holds-keeps d e o past tag its (event_of f payload (Holds tag its)) small refl to k,
+      record { status = t.status_is; error = t.error_is; held = t.held_is; fises = t.fises_are; bytes = t.bytes_are ∙ sym (ap (data_read f) reads); denied = t.denied_is },
+    )
 
 pub executes-done : (f : Facts) (h : RegH2d) (e : State) (o : Origin) (past : List Event) (payload : List ℕ) (command : Command) (made : Decision) (a : Accepted)
     → made ≡ Executes command → (reading h ≡ Ok (command, None)) × CanExecute command
@@ -232,12 +233,13 @@ moves-done h d e o past payload its made a is due tper queue media t k =
     let lba : ℕ = its.transfer.lba in
     let count : ℕ = its.transfer.count in
     let same : bytes_of (seen d (facts o past)) its ≡ data_of (facts o past) (unqueued_command its.transfer) =
-        moved-data d (facts o past) op lba count its.is_shadowed due.verdict ∙ ap (λ (f : Facts). data_of f (unqueued_command its.transfer)) (seen-is d o past k) in
+    moved-data d (facts o past) op lba count its.is_shadowed due.verdict ∙ ap (λ (f : Facts). data_of f (unqueued_command its.transfer)) (seen-is d o past k) in
     let told : IsTold a ready 0 false (served_fises (unqueued_command its.transfer)) (data_of (facts o past) (unqueued_command its.transfer)) None =
-        record { status_is = t.status_is; error_is = t.error_is; held_is = t.held_is; fises_are = t.fises_are ∙ sym (moved-fises op lba count); bytes_are = t.bytes_are ∙ same; denied_is = t.denied_is } in
-    subst (λ (x : Decision). IsDone (facts o past) h (event_of (facts o past) payload x) e o past a) (sym is)
-    (moved-keeps d e o past op lba count payload (did (moves its.transfer payload)) refl tper queue media k,
-    served-answer (facts o past) h (did (moves its.transfer payload)) a (unqueued_command its.transfer) (moves-succeeds op lba count payload) due.reads told)
+    record { status_is = t.status_is; error_is = t.error_is; held_is = t.held_is; fises_are = t.fises_are ∙ sym (moved-fises op lba count); bytes_are = t.bytes_are ∙ same; denied_is = t.denied_is } in
+    subst (λ (x : Decision). IsDone (facts o past) h (event_of (facts o past) payload x) e o past a) (sym is) (
+      moved-keeps d e o past op lba count payload (did (moves its.transfer payload)) refl tper queue media k,
+      served-answer (facts o past) h (did (moves its.transfer payload)) a (unqueued_command its.transfer) (moves-succeeds op lba count payload) due.reads told,
+    )
 
 -- what was decided by what is kept is what the past says
 pub event-is : (d : State) (o : Origin) (past : List Event) (fis payload : List ℕ) (h : RegH2d) (made : Decision)

@@ -142,7 +142,7 @@ impl Drive {
         requires slot { tag < slot_count }
         ensures event { (f : Facts) (payload : List ℕ) → event_of (seen self.now f) payload result
             ≡ queued_transfer (seen self.now f) h.now tag (queued_command transfer)
-                transfer.op transfer.lba transfer.count }
+            transfer.op transfer.lba transfer.count }
         ensures due { IsDue self.now h.now result }
     {
         match self.policy(&transfer) {
@@ -190,7 +190,7 @@ impl Drive {
         requires { reading h.now ≡ Ok (unqueued_command transfer, None) }
         ensures event { (f : Facts) (payload : List ℕ) → event_of (seen self.now f) payload result
             ≡ unqueued_transfer (seen self.now f) (moves transfer payload)
-                transfer.op transfer.lba transfer.count }
+            transfer.op transfer.lba transfer.count }
         ensures due { IsDue self.now h.now result }
     {
         match self.policy(&transfer) {

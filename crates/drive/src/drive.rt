@@ -1,6 +1,7 @@
 //! A drive.
 
 ghost use Rattle.std.specs.Prelude.{◌≡◌, ℕ, length, OnOk, OnErr, IfOk, if◌then◌else◌};
+ghost use Rattle.device_data.specs.ErrorLog.{sized};
 ghost use Rattle.fis.specs.Tags.{slot_count};
 ghost use Rattle.shadow_mbr.specs.Stored.{sector_at, zeros};
 
@@ -279,7 +280,8 @@ impl Drive {
         ensures { IfOk result (λ v. v.items
             ≡ sized room (discovery_of (look_up (committed_sight self.now.tper.store)))) }
     {
-        sized(self.alloc, &discovery(&self.tper.in_force()), room)
+        let bytes = discovery(&self.tper.in_force());
+        sized(self.alloc, &bytes, room)
     }
 
     /// The data of IDENTIFY DEVICE.
@@ -330,7 +332,7 @@ impl Drive {
         ensures answer { IfOk result (λ accepted. (o : Origin) (acts : List Act)
             → Agrees self.old o acts
             → IsAnswer (facts o (log o acts)) (h2d_at fis.now)
-                (event o (log o acts) (Accept fis.now payload.now)) accepted) }
+            (event o (log o acts) (Accept fis.now payload.now)) accepted) }
         ensures memory { IsOkUnless result DriveError.OutOfMemory }
         ensures err { OnErr result (self.new ≡ self.old) }
     {
@@ -343,7 +345,7 @@ impl Drive {
         requires { length payload.now ≡ payload_length (h2d_at fis.now) }
         ensures done { IfOk result (λ a. (o : Origin) (acts : List Act) → Agrees self.old o acts
             → IsDone (facts o (log o acts)) (h2d_at fis.now)
-                (event o (log o acts) (Accept fis.now payload.now)) self.new o (log o acts) a) }
+            (event o (log o acts) (Accept fis.now payload.now)) self.new o (log o acts) a) }
         ensures err { OnErr result (self.new ≡ self.old) }
     {
         if fis[0] != H2D_TYPE {

@@ -1,5 +1,5 @@
-use Rattle.std.proofs.Common.{◌≡◌, ◌∙◌, ap, subst, ℕ, List, IfOk}
-use Rattle.device_data.specs.Discovery.{discovery as discovery_of}
+use Rattle.std.proofs.Common.{ℕ, List, ◌≡◌, ◌∙◌, ap, subst, IfOk}
+use Rattle.device_data.specs.Discovery.{discovery}
 use Rattle.device_data.specs.ErrorLog.{sized}
 use Rattle.transactions.specs.Sights.{Sight, look_up, committed_sight}
 use Rattle.drive.specs.State.{State}
@@ -8,5 +8,5 @@ use Rattle.drive.proofs.drive.Drive.discover.Goals as goal
 pub returns : goal.returns
 returns c =
     subst (λ (bytes : List ℕ). IfOk c.sized.result (λ v. v.items ≡ sized c.args.room bytes))
-    (c.discovery.ensures ∙ ap (λ (s : Sight). discovery_of (look_up s)) (c.in_force.ensures ∙ ap (λ (d : State). committed_sight d.tper.store) c.self.view_is))
-    c.sized.ensures
+    (c.discovery-bytes.ensures ∙ ap (λ (s : Sight). discovery (look_up s)) c.in_force.ensures
+    ∙ ap (λ (d : State). discovery (look_up (committed_sight d.tper.store))) c.self.view_is) c.sized.ensures
