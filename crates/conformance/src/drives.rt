@@ -1,5 +1,6 @@
 //! Drives of the sizes that users have.
 
+use crate::acceptance::accept;
 use drive::{Drive, DriveConfig, DriveError, Opening, RangeRow, SetError};
 use fis::Tag;
 use std::alloc::Global;
@@ -33,12 +34,12 @@ fn write_and_read(alloc: Global, drive: &mut Drive, byte: u8) -> Result<Vec<u8>,
     let count = 65_536;
     let write = to_fis(&Command::WriteQueued { lba, count }, tag).to_bytes();
     let read = to_fis(&Command::ReadQueued { lba, count }, tag).to_bytes();
-    if !drive.accept(&write, &[]).unwrap().held {
+    if !accept(drive, &write)?.held {
         return Err("a write that is held".into());
     }
     let data = vec![in alloc; byte; drive.expects(tag)]?;
     drive.complete(tag, &data)?;
-    if !drive.accept(&read, &[]).unwrap().held || drive.expects(tag) != 0 {
+    if !accept(drive, &read)?.held || drive.expects(tag) != 0 {
         return Err("a read that is held".into());
     }
     Ok(drive.complete(tag, &[])?.bytes)

@@ -5,26 +5,19 @@ use std::alloc::Global;
 use std::test::Fail;
 use tool::{Options, RunError, run_tokens_with_faults};
 
+/// What is told of a line whose first word is none.
+const FIRST_WORD: &[u8] =
+    b"line 1: the first word is none of range, read, write, dread, dwrite, call, send, recv, log, \
+    reset and expect\n";
+
 /// The lines that are none, and the rows that no drive takes.
 #[test]
 fn tells_why_a_script_ends(rt: HostRuntime) -> Result<(), Fail> {
     let ends: [(&[u8], &[u8]); 24] = [
-        (
-            b"\n",
-            b"line 1: the first word is none of range, read, write and expect\n",
-        ),
-        (
-            b"# a comment",
-            b"line 1: the first word is none of range, read, write and expect\n",
-        ),
-        (
-            b"port",
-            b"line 1: the first word is none of range, read, write and expect\n",
-        ),
-        (
-            b"dread 1 5 1",
-            b"line 1: the first word is none of range, read, write and expect\n",
-        ),
+        (b"\n", FIRST_WORD),
+        (b"# a comment", FIRST_WORD),
+        (b"port", FIRST_WORD),
+        (b"level0", FIRST_WORD),
         (
             b"read 1 5 1",
             b"line 1: word 5, the count N, is missing: a number from 0 to 65535\n",
@@ -145,6 +138,22 @@ fn tells_the_first_abort(rt: HostRuntime) -> Result<(), Fail> {
     let text =
         b"line 3: aborted: an earlier command failed, and a failed queue serves nothing\n".as_slice();
     assert_eq!(rt; faults.as_slice(), text);
+    Ok(())
+}
+
+/// The log page ends the failure of the queue, and the first command behind the next one is told again.
+#[test]
+fn tells_an_abort_of_each_failure(rt: HostRuntime) -> Result<(), Fail> {
+    let script =
+        b"read 1 5 1000 1\nread 1 5 1 1\nlog 1\nread 1 5 1 1\nread 1 5 1000 1\ndread 1 1 1\nreset 1 0\n\
+        dread 1 1000 1\ndread 1 1000 1\n";
+    let (status, output, faults) = run(&rt, script)?;
+    assert_eq!(rt; status, 0);
+    let page = b"data 05005110e80300400000000028000000".as_slice();
+    assert!(rt; output.windows(page.len()).any(|part| part == page));
+    let text = b"line 2: aborted: an earlier command failed, and a failed queue serves nothing\n\
+        line 6: aborted: an earlier command failed, and a failed queue serves nothing\n";
+    assert_eq!(rt; faults.as_slice(), text.as_slice());
     Ok(())
 }
 

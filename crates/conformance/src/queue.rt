@@ -1,6 +1,7 @@
 //! The rules of a drive's queue (ACS-3, NCQ feature set; Opal SSC, Locking table), and the FISes of
 //! its answers (Serial ATA, FISes to the host). What is expected was worked out by hand.
 
+use crate::acceptance::accept;
 use arrayvec::ArrayVec;
 use drive::{Completed, Drive, DriveConfig, RangeRow, Why};
 use fis::{Fis, Tag};
@@ -15,6 +16,11 @@ const WRITE: u8 = 0x61;
 /// IDENTIFY DEVICE, which is not queued.
 const IDENTIFY: [u8; 20] = [
     0x27, 0x80, 0xec, 0, 0, 0, 0, 0, 0, 0, 0, 0, 0, 0, 0, 0, 0, 0, 0, 0,
+];
+
+/// A command that the drive does not know.
+const UNKNOWN: [u8; 20] = [
+    0x27, 0x80, 0x10, 0, 0, 0, 0, 0, 0, 0, 0, 0, 0, 0, 0, 0, 0, 0, 0, 0,
 ];
 
 /// Ten sectors of a range with its two enables and its two locks.
@@ -63,13 +69,15 @@ fn queued(code: u8, tag: u8, lba: u16, count: u16) -> [u8; 20] {
 }
 
 /// Status, error and reason of the answer to a FIS.
-fn answer(drive: &mut Drive, fis: &[u8; 20]) -> (u8, u8, Option<Why>) {
-    let accepted = drive.accept(fis, &[]).unwrap();
-    (accepted.status, accepted.error, accepted.denied)
+fn answer(drive: &mut Drive, fis: &[u8; 20]) -> Result<(u8, u8, Option<Why>), Fail> {
+    let accepted = accept(drive, fis)?;
+    Ok((accepted.status, accepted.error, accepted.denied))
 }
 
-/// The answers of a held command, of one that is aborted, and of one that is not on the drive.
+/// The answers of a command that is held or served, of one that is aborted, and of one that is not on the drive.
 const HELD: (u8, u8, Option<Why>) = (0x50, 0x00, None);
+
+const SERVED: (u8, u8, Option<Why>) = (0x50, 0x00, None);
 
 const ABORTED: (u8, u8, Option<Why>) = (0x51, 0x04, None);
 
@@ -86,7 +94,7 @@ fn write_denied(lba: u64, count: u32, range: u8) -> (u8, u8, Option<Why>) {
 /// What the command is answered on a drive on which nothing was done.
 fn first(alloc: Global, fis: &[u8; 20]) -> Result<(u8, u8, Option<Why>), Fail> {
     let mut drive = drive(alloc)?;
-    Ok(answer(&mut drive, fis))
+    answer(&mut drive, fis)
 }
 
 /// Completes a held command with so many bytes, all the same.
@@ -185,15 +193,15 @@ fn the_addresses_come_before_the_policy(rt: HostRuntime) -> Result<(), Fail> {
 fn a_failed_queue_drops_what_it_held(rt: HostRuntime) -> Result<(), Fail> {
     let alloc = rt.alloc();
     let mut drive = drive(alloc)?;
-    assert_eq!(rt; answer(&mut drive, &queued(WRITE, 0, 5, 1)), HELD);
+    assert_eq!(rt; answer(&mut drive, &queued(WRITE, 0, 5, 1))?, HELD);
     assert_eq!(rt; drive.expects(Tag::low_bits(0)), 512);
     assert_eq!(rt; failure(&drive), None);
-    let denied = answer(&mut drive, &queued(READ, 3, 100, 1));
+    let denied = answer(&mut drive, &queued(READ, 3, 100, 1))?;
     assert_eq!(rt; denied, read_denied(100, 1, 1));
     assert_eq!(rt; drive.expects(Tag::low_bits(0)), 0);
     assert!(rt; !is_held(alloc, &mut drive, 0)? && !is_held(alloc, &mut drive, 3)?);
-    assert_eq!(rt; answer(&mut drive, &queued(READ, 2, 5, 1)), ABORTED);
-    assert_eq!(rt; answer(&mut drive, &queued(READ, 2, 100, 1)), ABORTED);
+    assert_eq!(rt; answer(&mut drive, &queued(READ, 2, 5, 1))?, ABORTED);
+    assert_eq!(rt; answer(&mut drive, &queued(READ, 2, 100, 1))?, ABORTED);
     // log page 10h tells of this read: 03 .. 04 64 00 00 40 .. 18 00
     assert_eq!(rt; failure(&drive), Some((Some(3), 0x04, 0x64, 0x40, 0x18)));
     Ok(())
@@ -203,11 +211,11 @@ fn a_failed_queue_drops_what_it_held(rt: HostRuntime) -> Result<(), Fail> {
 fn mixing_fails_the_queue(rt: HostRuntime) -> Result<(), Fail> {
     let alloc = rt.alloc();
     let mut alone = drive(alloc)?;
-    assert_eq!(rt; answer(&mut alone, &IDENTIFY), ABORTED);
-    assert_eq!(rt; answer(&mut alone, &queued(READ, 2, 5, 1)), HELD);
+    assert_eq!(rt; answer(&mut alone, &IDENTIFY)?, SERVED);
+    assert_eq!(rt; answer(&mut alone, &queued(READ, 2, 5, 1))?, HELD);
     let mut drive = drive(alloc)?;
-    assert_eq!(rt; answer(&mut drive, &queued(WRITE, 0, 5, 1)), HELD);
-    assert_eq!(rt; answer(&mut drive, &IDENTIFY), ABORTED);
+    assert_eq!(rt; answer(&mut drive, &queued(WRITE, 0, 5, 1))?, HELD);
+    assert_eq!(rt; answer(&mut drive, &IDENTIFY)?, ABORTED);
     assert!(rt; !is_held(alloc, &mut drive, 0)?);
     assert_eq!(rt; failure(&drive), Some((None, 0x04, 0, 0, 0)));
     Ok(())
@@ -217,11 +225,11 @@ fn mixing_fails_the_queue(rt: HostRuntime) -> Result<(), Fail> {
 fn a_tag_that_is_held_fails_the_queue(rt: HostRuntime) -> Result<(), Fail> {
     let alloc = rt.alloc();
     let mut drive = drive(alloc)?;
-    assert_eq!(rt; answer(&mut drive, &queued(WRITE, 3, 5, 1)), HELD);
+    assert_eq!(rt; answer(&mut drive, &queued(WRITE, 3, 5, 1))?, HELD);
     complete(alloc, &mut drive, 3, 0xaa)?;
-    assert_eq!(rt; answer(&mut drive, &queued(READ, 3, 8, 1)), HELD);
-    assert_eq!(rt; answer(&mut drive, &queued(READ, 31, 8, 1)), HELD);
-    assert_eq!(rt; answer(&mut drive, &queued(READ, 3, 9, 2)), ABORTED);
+    assert_eq!(rt; answer(&mut drive, &queued(READ, 3, 8, 1))?, HELD);
+    assert_eq!(rt; answer(&mut drive, &queued(READ, 31, 8, 1))?, HELD);
+    assert_eq!(rt; answer(&mut drive, &queued(READ, 3, 9, 2))?, ABORTED);
     assert_eq!(rt; failure(&drive), Some((Some(3), 0x04, 9, 0x40, 0x18)));
     assert!(rt; !is_held(alloc, &mut drive, 31)?);
     Ok(())
@@ -230,9 +238,12 @@ fn a_tag_that_is_held_fails_the_queue(rt: HostRuntime) -> Result<(), Fail> {
 #[test]
 fn a_clear_device_bit_fails_the_queue(rt: HostRuntime) -> Result<(), Fail> {
     let mut drive = drive(rt.alloc())?;
-    assert_eq!(rt; answer(&mut drive, &queued_with(0, READ, 7, 5, 1)), ABORTED);
+    assert_eq!(rt;
+        answer(&mut drive, &queued_with(0, READ, 7, 5, 1))?,
+        ABORTED
+    );
     assert_eq!(rt; failure(&drive), Some((Some(7), 0x04, 5, 0, 0x38)));
-    assert_eq!(rt; answer(&mut drive, &queued(READ, 2, 5, 1)), ABORTED);
+    assert_eq!(rt; answer(&mut drive, &queued(READ, 2, 5, 1))?, ABORTED);
     Ok(())
 }
 
@@ -240,13 +251,13 @@ fn a_clear_device_bit_fails_the_queue(rt: HostRuntime) -> Result<(), Fail> {
 fn what_carries_no_command_changes_nothing(rt: HostRuntime) -> Result<(), Fail> {
     let alloc = rt.alloc();
     let mut drive = drive(alloc)?;
-    assert_eq!(rt; answer(&mut drive, &queued(WRITE, 0, 5, 1)), HELD);
+    assert_eq!(rt; answer(&mut drive, &queued(WRITE, 0, 5, 1))?, HELD);
     let mut control = queued(READ, 0, 5, 1);
     control[1] = 0;
-    assert_eq!(rt; answer(&mut drive, &control), ABORTED);
+    assert_eq!(rt; answer(&mut drive, &control)?, ABORTED);
     let mut other = queued(READ, 0, 5, 1);
     other[0] = 0x34;
-    assert_eq!(rt; answer(&mut drive, &other), ABORTED);
+    assert_eq!(rt; answer(&mut drive, &other)?, ABORTED);
     assert_eq!(rt; failure(&drive), None);
     assert!(rt; is_held(alloc, &mut drive, 0)?);
     Ok(())
@@ -259,11 +270,11 @@ fn the_fis_of_an_answer(rt: HostRuntime) -> Result<(), Fail> {
         (queued(READ, 5, 95, 5), [0x00, 0x50, 0x00]),
         (queued(READ, 3, 100, 1), [0x40, 0x51, 0x04]),
         (queued(READ, 5, 1000, 1), [0x40, 0x51, 0x10]),
-        (IDENTIFY, [0x40, 0x51, 0x04]),
+        (UNKNOWN, [0x40, 0x51, 0x04]),
     ];
     for (fis, fields) in &cases {
         let mut drive = drive(alloc)?;
-        let accepted = drive.accept(fis, &[]).unwrap();
+        let accepted = accept(&mut drive, fis)?;
         let mut expected = [0; 20];
         expected[0] = 0x34;
         expected[1..4].copy_from_slice(fields);
@@ -279,7 +290,7 @@ fn the_fis_of_an_answer(rt: HostRuntime) -> Result<(), Fail> {
 fn the_fises_of_a_completion(rt: HostRuntime) -> Result<(), Fail> {
     let alloc = rt.alloc();
     let mut drive = drive(alloc)?;
-    assert_eq!(rt; answer(&mut drive, &queued(READ, 5, 95, 5)), HELD);
+    assert_eq!(rt; answer(&mut drive, &queued(READ, 5, 95, 5))?, HELD);
     let done = complete(alloc, &mut drive, 5, 0)?;
     let setup = bytes_at(&done.fises, 0).ok_or("a FIS")?;
     let end = bytes_at(&done.fises, 1).ok_or("a FIS")?;
@@ -293,7 +304,7 @@ fn the_fises_of_a_completion(rt: HostRuntime) -> Result<(), Fail> {
         [0xa1, 0x40, 0x50, 0, 0x20, 0, 0, 0].as_slice()
     );
     assert!(rt; done.fises.len() == 2 && done.bytes.len() == 2560);
-    assert_eq!(rt; answer(&mut drive, &queued(WRITE, 31, 5, 1)), HELD);
+    assert_eq!(rt; answer(&mut drive, &queued(WRITE, 31, 5, 1))?, HELD);
     let done = complete(alloc, &mut drive, 31, 0xaa)?;
     let setup = bytes_at(&done.fises, 0).ok_or("a FIS")?;
     let end = bytes_at(&done.fises, 1).ok_or("a FIS")?;
@@ -315,11 +326,11 @@ fn the_fises_of_a_completion(rt: HostRuntime) -> Result<(), Fail> {
 fn data_moves_at_the_completion(rt: HostRuntime) -> Result<(), Fail> {
     let alloc = rt.alloc();
     let mut drive = drive(alloc)?;
-    assert_eq!(rt; answer(&mut drive, &queued(WRITE, 0, 5, 1)), HELD);
-    assert_eq!(rt; answer(&mut drive, &queued(READ, 1, 5, 1)), HELD);
+    assert_eq!(rt; answer(&mut drive, &queued(WRITE, 0, 5, 1))?, HELD);
+    assert_eq!(rt; answer(&mut drive, &queued(READ, 1, 5, 1))?, HELD);
     let before = complete(alloc, &mut drive, 1, 0)?;
     assert_eq!(rt; before.bytes.as_slice(), [0; 512].as_slice());
-    assert_eq!(rt; answer(&mut drive, &queued(READ, 1, 4, 3)), HELD);
+    assert_eq!(rt; answer(&mut drive, &queued(READ, 1, 4, 3))?, HELD);
     complete(alloc, &mut drive, 0, 0xaa)?;
     let after = complete(alloc, &mut drive, 1, 0)?;
     let mut expected = [0; 1536];

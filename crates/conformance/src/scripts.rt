@@ -42,6 +42,24 @@ fn serves_what_was_written(rt: HostRuntime) -> Result<(), Fail> {
     Ok(())
 }
 
+/// The lines of commands that are not queued: transfers, the log page of no failure (80h, and the sum), a reset, the
+/// ComPacket of a ComID on which nothing waits, and a send that is no frame.
+#[test]
+fn serves_unqueued_commands(rt: HostRuntime) -> Result<(), Fail> {
+    let script =
+        b"dwrite 1 5 1 aa\ndread 1 4 3\ndread 1 1000 1\nreset 1 1\nrecv 1 4096 1\nsend 1 4096 00\n\
+        recv 1 4096 0\nsend 1 1 00\nrecv 1 2 1\n";
+    let (status, output, faults) = run(&rt, script)?;
+    assert_eq!(rt; (status, faults.is_empty()), (0, true));
+    let printed = b"ok\nok 00000000 aaaaaaaa 00000000\nfail 51 10\nok\n\
+        data 0000000010000000000000000000000000000000\nok\nfail 51 04\nfail 51 04\nfail 51 04\n";
+    assert_eq!(rt; output.as_slice(), printed.as_slice());
+    let (_, output, _) = run(&rt, b"log 1\n")?;
+    assert_eq!(rt; output.len(), 5 + 1_024 + 1);
+    assert!(rt; output.starts_with(b"data 8000000000") && output.ends_with(b"000080\n"));
+    Ok(())
+}
+
 /// Nothing behind the line that ends a script acts, and what was printed before is there.
 #[test]
 fn ends_where_it_says(rt: HostRuntime) -> Result<(), Fail> {
