@@ -1,7 +1,10 @@
 -- What is done with a command, and its answer, is what its event says.
-use Rattle.std.proofs.Common.{◌≡◌, ℕ, ◌<◌, ◌==◌, ◌*◌, Bool, true, false, List, [], ◌∷◌, length, Option, Some, None, Result, Ok, Err, is_some, refl, sym, subst, ap, ◌∙◌, cond, if◌then◌else◌}
+use Rattle.std.proofs.Common.{◌≡◌, ℕ, ◌<◌, ◌==◌, ◌*◌, Bool, true, false, List, [], ◌∷◌, ◌++◌, reverse, length, slice_index, Option, Some, None, Result, Ok, Err, is_some, refl, sym, subst, ap, ◌∙◌, cond, if◌then◌else◌}
 use Rattle.std.specs.Prelude.{nat_le, unwrap_or}
 use Rattle.audit.specs.declared.reason.Why.{Why}
+use Rattle.fis.specs.H2d.{h2d_at}
+use Rattle.fis.specs.Types.{h2d_type}
+use Rattle.drive.proofs.Commands.{accepted-command, accepted-other}
 use Rattle.fis.specs.declared.h2d.RegH2d.{RegH2d}
 use Rattle.fis.specs.declared.any.Fis.{Fis}
 use Rattle.locking.specs.declared.ranges.Verdict.TheVariants.{Serve, Shadow}
@@ -25,8 +28,8 @@ use Rattle.history.specs.Sessions.{Begun}
 use Rattle.history.specs.Events.{Deed, Nothing, InSession, OfQueue, QueueMended, Took, Event, did}
 use Rattle.history.specs.Readers.{waiting, writing}
 use Rattle.history.specs.Facts.{Facts, facts, session_named}
-use Rattle.history.specs.Decisions.{sent, framed, to_session, to_manager, answers, is_manager, received}
-use Rattle.history.specs.Answers.{failed, ready, answer_fis, read_by, is_holding, data_of, served_fises, receive_data, received_bytes}
+use Rattle.history.specs.Decisions.{sent, framed, to_session, to_manager, answers, is_manager, received, accepted, commanded, aborted}
+use Rattle.history.specs.Answers.{failed, ready, answer_fis, read_by, data_read, is_holding, data_of, served_fises, receive_data, received_bytes}
 use Rattle.history.specs.History.{Act, log}
 use Rattle.tper.specs.Tper.{Keeps as KeepsTper, IsSent, response_at}
 use Rattle.tper.specs.declared.trusted.Sent.{Sent}
@@ -36,10 +39,11 @@ use Rattle.drive.specs.declared.decision.Decision.TheVariants.{Aborts, FailsQueu
 use Rattle.drive.specs.declared.queue.Queue.{Queue}
 use Rattle.drive.specs.declared.transfer.Held.{Held}
 use Rattle.drive.specs.declared.transfer.Transfer.{Transfer}
-use Rattle.drive.specs.Transfer.{transfer_by, unqueued_command, verdict_held, bytes_of, sector_then}
+use Rattle.drive.specs.Transfer.{transfer_by, queued_command, unqueued_command, verdict_held, bytes_of, sector_then}
 use Rattle.drive.specs.Queue.{with_slot, failed_queue, mended_queue}
 use Rattle.drive.specs.Decision.{ranges_of, moves, executed, event_of, CanExecute, IsMoved}
-use Rattle.drive.specs.State.{State, seen, Keeps, Agrees}
+use Rattle.std.proofs.lemmas.List.{reverse-append}
+use Rattle.drive.specs.State.{State, seen, Keeps, Agrees, AgreesInOrder}
 use Rattle.drive.specs.Answers.{IsAnswer, IsDone}
 use Rattle.drive.proofs.Keeping.{seen-is, nothing-keeps, failed-keeps, holds-keeps, moved-keeps, mended-keeps, tper-keeps, sends-of-tper, sends-wipe, sent-deed, IsOfTper}
 
@@ -187,12 +191,14 @@ fails-done f h d e o past payload fault denied made a is to t k =
 
 pub holds-done : (f : Facts) (h : RegH2d) (d e : State) (o : Origin) (past : List Event) (payload : List ℕ) (tag : ℕ) (its : Held) (made : Decision) (a : Accepted)
     → tag < 32 → made ≡ Holds tag its → e ≡ record d { queue = with_slot tag (Some its) d.queue }
+    → reading h ≡ Ok (queued_command its.transfer, Some tag)
     → IsTold a ready 0 true (answer_fis false ready 0 ∷ []) [] None
-    → IsAnswer f h (event_of f payload (Holds tag its)) a
     → Keeps d o past → IsDone f h (event_of f payload made) e o past a
-holds-done f h d e o past payload tag its made a small is to t answer k =
-    subst (λ (x : Decision). IsDone f h (event_of f payload x) e o past a) (sym is)
-    (holds-keeps d e o past tag its (event_of f payload (Holds tag its)) small refl to k, answer)
+holds-done f h d e o past payload tag its made a small is to reads t k =
+    subst (λ (x : Decision). IsDone f h (event_of f payload x) e o past a) (sym is) (
+      holds-keeps d e o past tag its (event_of f payload (Holds tag its)) small refl to k,
+      record { status = t.status_is; error = t.error_is; held = t.held_is; fises = t.fises_are; bytes = t.bytes_are ∙ sym (ap (data_read f) reads); denied = t.denied_is },
+    )
 
 pub executes-done : (f : Facts) (h : RegH2d) (e : State) (o : Origin) (past : List Event) (payload : List ℕ) (command : Command) (made : Decision) (a : Accepted)
     → made ≡ Executes command → (reading h ≡ Ok (command, None)) × CanExecute command
@@ -227,9 +233,32 @@ moves-done h d e o past payload its made a is due tper queue media t k =
     let lba : ℕ = its.transfer.lba in
     let count : ℕ = its.transfer.count in
     let same : bytes_of (seen d (facts o past)) its ≡ data_of (facts o past) (unqueued_command its.transfer) =
-        moved-data d (facts o past) op lba count its.is_shadowed due.verdict ∙ ap (λ (f : Facts). data_of f (unqueued_command its.transfer)) (seen-is d o past k) in
+    moved-data d (facts o past) op lba count its.is_shadowed due.verdict ∙ ap (λ (f : Facts). data_of f (unqueued_command its.transfer)) (seen-is d o past k) in
     let told : IsTold a ready 0 false (served_fises (unqueued_command its.transfer)) (data_of (facts o past) (unqueued_command its.transfer)) None =
-        record { status_is = t.status_is; error_is = t.error_is; held_is = t.held_is; fises_are = t.fises_are ∙ sym (moved-fises op lba count); bytes_are = t.bytes_are ∙ same; denied_is = t.denied_is } in
-    subst (λ (x : Decision). IsDone (facts o past) h (event_of (facts o past) payload x) e o past a) (sym is)
-    (moved-keeps d e o past op lba count payload (did (moves its.transfer payload)) refl tper queue media k,
-    served-answer (facts o past) h (did (moves its.transfer payload)) a (unqueued_command its.transfer) (moves-succeeds op lba count payload) due.reads told)
+    record { status_is = t.status_is; error_is = t.error_is; held_is = t.held_is; fises_are = t.fises_are ∙ sym (moved-fises op lba count); bytes_are = t.bytes_are ∙ same; denied_is = t.denied_is } in
+    subst (λ (x : Decision). IsDone (facts o past) h (event_of (facts o past) payload x) e o past a) (sym is) (
+      moved-keeps d e o past op lba count payload (did (moves its.transfer payload)) refl tper queue media k,
+      served-answer (facts o past) h (did (moves its.transfer payload)) a (unqueued_command its.transfer) (moves-succeeds op lba count payload) due.reads told,
+    )
+
+-- what was decided by what is kept is what the past says
+pub event-is : (d : State) (o : Origin) (past : List Event) (fis payload : List ℕ) (h : RegH2d) (made : Decision)
+    → slice_index fis 0 ≡ h2d_type → h ≡ h2d_at fis
+    → ((f : Facts) (p : List ℕ) → event_of (seen d f) p made ≡ commanded (seen d f) h p) → Keeps d o past
+    → event_of (facts o past) payload made ≡ accepted (facts o past) fis payload
+event-is d o past fis payload h made kind is decided k =
+    subst (λ (f : Facts). event_of f payload made ≡ commanded f h payload) (seen-is d o past k) (decided (facts o past) payload)
+    ∙ accepted-command (facts o past) fis payload h kind is
+
+-- another FIS than a command's
+pub other-done : (d : State) (o : Origin) (past : List Event) (fis payload : List ℕ) (a : Accepted) → (slice_index fis 0 == h2d_type) ≡ false
+    → IsTold a failed aborted false (answer_fis true failed aborted ∷ []) [] None
+    → Keeps d o past → IsDone (facts o past) (h2d_at fis) (accepted (facts o past) fis payload) d o past a
+other-done d o past fis payload a other t k =
+    subst (λ (ev : Event). IsDone (facts o past) (h2d_at fis) ev d o past a) (accepted-other (facts o past) fis payload other)
+    (aborts-done (facts o past) (h2d_at fis) d o past payload aborted None (Aborts aborted None) a refl t k)
+
+-- the newest act comes first, or last
+pub in-order : (d e : State) (o : Origin) (acts : List Act) (act : Act) → (Agrees d o (reverse acts) → Agrees e o (act ∷ reverse acts))
+    → AgreesInOrder d o acts → AgreesInOrder e o (acts ++ act ∷ [])
+in-order d e o acts act h k = subst (λ (x : List Act). Agrees e o x) (sym (reverse-append acts (act ∷ []))) (h k)

@@ -1,5 +1,7 @@
 -- What the history makes of a command, step by step, by what the drive found of it.
-use Rattle.std.proofs.Common.{◌≡◌, ℕ, Bool, true, false, not, ◌&&◌, List, Option, Some, None, is_some, option_map, Result, Ok, Err, refl, sym, subst, ap, ◌∙◌, cond}
+use Rattle.std.proofs.Common.{◌≡◌, ◌==◌, slice_index, ℕ, Bool, true, false, not, ◌&&◌, List, Option, Some, None, is_some, option_map, Result, Ok, Err, refl, sym, subst, ap, ◌∙◌, cond}
+use Rattle.fis.specs.H2d.{h2d_at}
+use Rattle.fis.specs.Types.{h2d_type}
 use Rattle.fis.specs.declared.h2d.RegH2d.{RegH2d}
 use Rattle.locking.specs.declared.range.Op.TheVariants.{Read, Write}
 use Rattle.trusted_cmds.specs.declared.command.Command.{Command}
@@ -8,7 +10,7 @@ use Rattle.trusted_cmds.specs.declared.command.CommandError.{CommandError}
 use Rattle.trusted_cmds.specs.Commands.{reading, is_queued, Carries}
 use Rattle.history.specs.Events.{Wrote, Nothing}
 use Rattle.history.specs.Facts.{Facts}
-use Rattle.history.specs.Decisions.{commanded, known, while_failed, admitted, unqueued, queued_transfer, unqueued_transfer, is_busy}
+use Rattle.history.specs.Decisions.{accepted, refuses, commanded, known, while_failed, admitted, unqueued, queued_transfer, unqueued_transfer, is_busy}
 use Rattle.drive.specs.declared.transfer.Held.{Held}
 use Rattle.drive.specs.declared.transfer.Transfer.{Transfer}
 use Rattle.drive.specs.Transfer.{transfer_by, queued_command, held_command}
@@ -62,3 +64,10 @@ pub known-none : (f : Facts) (h : RegH2d) (payload : List ℕ) (r : Result (Comm
     → r ≡ reading h → r ≡ Ok (c, x) → x ≡ None → unqueued f payload c ≡ known f h payload (reading h)
 known-none f h payload r c x e is none =
     sym (ap (known f h payload) (sym e ∙ is ∙ ap (λ (t : Option ℕ). Ok (c, t)) none))
+
+-- a FIS that carries a command, and another
+pub accepted-command : (f : Facts) (fis payload : List ℕ) (h : RegH2d) → slice_index fis 0 ≡ h2d_type → h ≡ h2d_at fis → commanded f h payload ≡ accepted f fis payload
+accepted-command f fis payload h is made = ap (λ (r : RegH2d). commanded f r payload) made ∙ rw is refl
+
+pub accepted-other : (f : Facts) (fis payload : List ℕ) → (slice_index fis 0 == h2d_type) ≡ false → refuses ≡ accepted f fis payload
+accepted-other f fis payload is = rw is refl

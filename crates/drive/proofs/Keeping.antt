@@ -46,6 +46,7 @@ seen-is d o past k =
   where
     g : Facts
     g = facts o past
+
     reads : ReadsStore d.tper.store o past
     reads = store_read_law d.tper.store o past k.tper.store
 

@@ -74,6 +74,11 @@ event_of f payload (Executes command) = executed f payload command
 
 -- What a decision rests on: the slot, the FIS, and that what is to be done can be done.
 
+pub record IsHeld (d : State) (h : RegH2d) (tag : ℕ) (held : Held) : Type 0 where
+  pub slot : tag < slot_count
+  pub reads : reading h ≡ Ok (queued_command held.transfer, Some tag)
+  pub within : Fits d.tper.store.config.sectors d.tper.store.config.mbr_sectors held
+
 pub record IsMoved (d : State) (h : RegH2d) (held : Held) : Type 0 where
   pub reads : reading h ≡ Ok (unqueued_command held.transfer, None)
   pub verdict : verdict_of (ranges_of d.tper) held.transfer.op held.transfer.lba held.transfer.count
@@ -97,7 +102,6 @@ CanExecute _ = ⊥
 abbrev pub IsDue : State → RegH2d → Decision → Type 0
 IsDue d h (Aborts error denied) = Unit {0}
 IsDue d h (FailsQueue failure denied) = Unit {0}
-IsDue d h (Holds tag held) =
-    (tag < slot_count) × Fits d.tper.store.config.sectors d.tper.store.config.mbr_sectors held
+IsDue d h (Holds tag held) = IsHeld d h tag held
 IsDue d h (Moves held) = IsMoved d h held
 IsDue d h (Executes command) = (reading h ≡ Ok (command, None)) × CanExecute command

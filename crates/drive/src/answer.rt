@@ -95,11 +95,7 @@ impl Accepted {
     }
 
     /// The command was executed, with these FISes: its data, and what denied the item that it sent.
-    pub(crate) fn served(
-        fises: ArrayVec<Fis, 2>,
-        bytes: Vec<u8>,
-        denied: Option<Why>,
-    ) -> Accepted
+    pub(crate) fn served(fises: ArrayVec<Fis, 2>, bytes: Vec<u8>, denied: Option<Why>) -> Accepted
         ensures status { result.status ≡ ready }
         ensures error { result.error ≡ 0 }
         ensures held { result.held ≡ false }

@@ -50,7 +50,7 @@ fn fails_queue(tag: Option<Tag>, h: &RegH2d) -> Decision
 }
 
 impl Drive {
-    ghost use Rattle.std.specs.Prelude.{◌≡◌, ◌&&◌, not, ℕ, List, Some, None, Ok, is_some, true};
+    ghost use Rattle.std.specs.Prelude.{◌≡◌, ◌<◌, ◌&&◌, not, ℕ, List, Some, None, Ok, is_some, true};
     ghost use Rattle.fis.specs.Tags.{slot_count};
     ghost use Rattle.trusted_cmds.specs.Commands.{is_queued};
     ghost use Rattle.history.specs.Decisions.{any_below};
@@ -115,7 +115,8 @@ impl Drive {
 
     /// A queued command: a tag that is held fails the queue.
     fn queued(&self, h: &RegH2d, tag: Tag, command: Command) -> Decision
-        requires { IsCounted command }
+        requires reads { reading h.now ≡ Ok (command, Some tag) }
+        requires counted { IsCounted command }
         ensures event { (f : Facts) (payload : List ℕ) → event_of (seen self.now f) payload result
             ≡ admitted (seen self.now f) h.now tag command (is_some (held_at self.now.queue tag)) }
         ensures due { IsDue self.now h.now result }
@@ -137,9 +138,11 @@ impl Drive {
     /// A queued transfer under a tag that is free: it is held where it is permitted, and else fails the queue.
     #[tactic(auto, using(crate::proofs::Policies::queued_held, crate::proofs::Policies::queued_refused))]
     fn queued_transfer(&self, h: &RegH2d, tag: Tag, transfer: Transfer) -> Decision
+        requires reads { reading h.now ≡ Ok (queued_command transfer, Some tag) }
+        requires slot { tag < slot_count }
         ensures event { (f : Facts) (payload : List ℕ) → event_of (seen self.now f) payload result
             ≡ queued_transfer (seen self.now f) h.now tag (queued_command transfer)
-                transfer.op transfer.lba transfer.count }
+            transfer.op transfer.lba transfer.count }
         ensures due { IsDue self.now h.now result }
     {
         match self.policy(&transfer) {
@@ -187,7 +190,7 @@ impl Drive {
         requires { reading h.now ≡ Ok (unqueued_command transfer, None) }
         ensures event { (f : Facts) (payload : List ℕ) → event_of (seen self.now f) payload result
             ≡ unqueued_transfer (seen self.now f) (moves transfer payload)
-                transfer.op transfer.lba transfer.count }
+            transfer.op transfer.lba transfer.count }
         ensures due { IsDue self.now h.now result }
     {
         match self.policy(&transfer) {

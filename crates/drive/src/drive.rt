@@ -6,7 +6,7 @@ ghost use Rattle.fis.specs.Tags.{slot_count};
 ghost use Rattle.shadow_mbr.specs.Stored.{sector_at, zeros};
 
 use crate::answer::{Accepted, Completed, completion_fises};
-use crate::decision::{ABORTED, Decision, Refusal, policy};
+use crate::decision::{ABORTED, Refusal, policy};
 use crate::error::DriveError;
 use crate::opening::Opening;
 use crate::queue::Queue;
@@ -22,7 +22,7 @@ use sp_tables::Tables;
 use std::alloc::{AllocError, Global};
 use std::marker::Model;
 use std::mem::replace;
-use tper::Tper;
+use tper::{Tper, sized};
 
 /// Makes all media zeros, where they are to be.
 fn wipe_where(wipes: bool, media: &mut Media)
@@ -33,17 +33,6 @@ fn wipe_where(wipes: bool, media: &mut Media)
     if wipes {
         media.wipe();
     }
-}
-
-/// Bytes with zeros behind them up to a length, or cut at it.
-fn sized(alloc: Global, bytes: &[u8], length: usize) -> Result<Vec<u8>, AllocError>
-    ensures { IfOk result (λ v. v.items ≡ sized length bytes.now) }
-{
-    let mut out = Vec::with_capacity(alloc, length)?;
-    let shown = bytes.len().min(length);
-    out.extend_from_slice(&bytes[..shown])?;
-    out.resize(length, 0)?;
-    Ok(out)
 }
 
 /// A drive.
@@ -343,7 +332,7 @@ impl Drive {
         ensures answer { IfOk result (λ accepted. (o : Origin) (acts : List Act)
             → Agrees self.old o acts
             → IsAnswer (facts o (log o acts)) (h2d_at fis.now)
-                (event o (log o acts) (Accept fis.now payload.now)) accepted) }
+            (event o (log o acts) (Accept fis.now payload.now)) accepted) }
         ensures memory { IsOkUnless result DriveError.OutOfMemory }
         ensures err { OnErr result (self.new ≡ self.old) }
     {
@@ -356,19 +345,16 @@ impl Drive {
         requires { length payload.now ≡ payload_length (h2d_at fis.now) }
         ensures done { IfOk result (λ a. (o : Origin) (acts : List Act) → Agrees self.old o acts
             → IsDone (facts o (log o acts)) (h2d_at fis.now)
-                (event o (log o acts) (Accept fis.now payload.now)) self.new o (log o acts) a) }
+            (event o (log o acts) (Accept fis.now payload.now)) self.new o (log o acts) a) }
         ensures err { OnErr result (self.new ≡ self.old) }
     {
+        if fis[0] != H2D_TYPE {
+            return Ok(Accepted::failed(self.allocator(), ABORTED, None));
+        }
         let h = RegH2d::read(fis);
-        let decision = if fis[0] == H2D_TYPE {
-            self.decide(&h)
-        } else {
-            Decision::Aborts {
-                error: ABORTED,
-                denied: None,
-            }
-        };
-        self.act(&h, decision, payload)
+        let decision = self.decide(&h);
+        let accepted = self.act(&h, decision, payload)?;
+        Ok(accepted)
     }
 
     /// Moves the data of a held command, and lets it go. `NotHeld` where nothing is held under the

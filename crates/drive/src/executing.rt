@@ -38,7 +38,7 @@ impl Drive {
         requires payload { length payload.now ≡ payload_length h.now }
         ensures done { IfOk result (λ a. (o : Origin) (acts : List Act) → Agrees self.old o acts
             → IsDone (facts o (log o acts)) h.now
-                (event_of (facts o (log o acts)) payload.now decision) self.new o (log o acts) a) }
+            (event_of (facts o (log o acts)) payload.now decision) self.new o (log o acts) a) }
         ensures err { OnErr result (self.new ≡ self.old) }
     {
         let alloc = self.allocator();

@@ -46,11 +46,20 @@ fn option<'a>(
 
 /// What `run --help` says of lines and statuses.
 const LINES: &str = "\
-Lines, whose words stand between blanks; numbers are decimal, HH is two hex digits:
+Lines, whose words stand between blanks; numbers are decimal, HH is two hex digits, HEX is hex text:
   range N START LENGTH RE WE RL WL  the cells of range N (0 to 8), before other lines
   read C T L N                      a queued read of client C under tag T (0 to 31),
                                     from sector L, N sectors (0 is 65536)
   write C T L N HH                  a queued write, whose bytes are all HH
+  dread C L N                       an unqueued read
+  dwrite C L N HH                   an unqueued write, whose bytes are all HH
+  call C ID TSN HSN HEX             the tokens HEX to the ComID ID, in the session TSN, HSN
+                                    (0 and 0: the session manager)
+  send C ID HEX                     the ComPacket HEX to the ComID ID
+  recv C ID BLOCKS                  so many blocks of 512 bytes from the ComID ID
+                                    (1: Level 0 discovery)
+  log C                             the log page of the last queued error
+  reset C K                         a power cycle (K is 0) or a hardware reset (1)
   expect TEXT                       the last printed line is TEXT
 
 Status: 0 done, 1 an expectation failed, 2 a bad line, bad usage or an error";

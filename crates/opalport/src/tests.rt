@@ -174,6 +174,13 @@ fn helps_with_lines(rt: HostRuntime) -> Result<(), Fail> {
         "range N START",
         "read C T L N ",
         "write C T L N HH",
+        "dread C L N ",
+        "dwrite C L N HH",
+        "call C ID TSN HSN HEX",
+        "send C ID HEX",
+        "recv C ID BLOCKS",
+        "log C ",
+        "reset C K ",
         "expect TEXT",
         "Status: 0 done",
     ] {

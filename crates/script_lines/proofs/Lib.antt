@@ -1,2 +1,4 @@
+mod HexTexts
 mod Numerals
 mod Sectors
+mod WrongWords

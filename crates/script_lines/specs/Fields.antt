@@ -1,30 +1,47 @@
 -- Words of a line, by the fields that they stand for.
-use Rattle.std.specs.Prelude.{ℕ, Bool, ◌==◌, length, if◌then◌else◌, List, Option, Some, None, Result, Ok, Err, slice_index}
+use Rattle.std.specs.Prelude.{ℕ, ◌*◌, Bool, ◌==◌, length, if◌then◌else◌, List, Option, Some, None, Result, Ok, Err, slice_index}
 use Rattle.hex.specs.Hex.{decode_sized}
 use Rattle.hex.specs.declared.error.FromHexError.{FromHexError}
-use Rattle.locking.specs.declared.range.RangeRow.{RangeRow}
-use Rattle.script_lines.specs.Words.{word}
 use Rattle.script_lines.specs.Numbers.{number_up_to, largest}
+use Rattle.script_lines.specs.Hexes.{bytes_up_to}
 use Rattle.script_lines.specs.declared.fault.LineFault.{LineFault}
 use Rattle.script_lines.specs.declared.fault.LineFault.TheVariants.{Missing, Wrong}
-use Rattle.script_lines.specs.declared.line.Transfer.{Transfer}
 use Rattle.script_lines.specs.declared.field.Field.{Field}
 use Rattle.script_lines.specs.declared.field.Field.TheVariants as fields
 
--- the largest number that a field holds: a flag has 1 bit, a tag 5 (AHCI 1.3.1, 3.1.1), an address 48 (ACS-3)
+-- the most bytes of a call's tokens: those of the largest ComPacket less its three headers
+abbrev pub most_call_bytes : ℕ
+most_call_bytes = 65480
+
+-- the most bytes of a ComPacket that is sent: the most blocks of a transfer, of 512 bytes each
+abbrev pub most_send_bytes : ℕ
+most_send_bytes = largest 16 * 512
+
+-- the largest number that a field holds: a flag has 1 bit, a tag 5 (AHCI 1.3.1, 3.1.1), an address 48 (ACS-3), a ComID 16 and the
+-- number of a session 32 (TCG Core 2.01, 3.2.3); of hex text the most bytes
 abbrev pub most_of : Field → ℕ
 most_of fields.ReadLockEnabled = largest 1
 most_of fields.WriteLockEnabled = largest 1
 most_of fields.ReadLocked = largest 1
 most_of fields.WriteLocked = largest 1
+most_of fields.ResetKind = largest 1
 most_of fields.Tag = largest 5
 most_of fields.Range = largest 8
 most_of fields.Byte = largest 8
+most_of fields.DmaByte = largest 8
 most_of fields.Count = largest 16
+most_of fields.DmaCount = largest 16
+most_of fields.ComId = largest 16
+most_of fields.Blocks = largest 16
 most_of fields.Client = largest 32
+most_of fields.TperSession = largest 32
+most_of fields.HostSession = largest 32
 most_of fields.Address = largest 48
+most_of fields.DmaAddress = largest 48
 most_of fields.Start = largest 64
 most_of fields.Length = largest 64
+most_of fields.Tokens = most_call_bytes
+most_of fields.ComPacket = most_send_bytes
 
 -- the value, or the fault where there is none
 abbrev pub or_fault : {A : Type 0} → LineFault → Option A → Result A LineFault
@@ -53,38 +70,13 @@ abbrev pub flag_in : Field → List ℕ → Result Bool LineFault
 flag_in field word = flag_of (number_in field word)
 
 -- a byte written as two hex digits
-abbrev pub byte_or_fault : Result (List ℕ) FromHexError → Result ℕ LineFault
-byte_or_fault (Ok bytes) = Ok (slice_index bytes 0)
-byte_or_fault (Err error) = Err (Wrong fields.Byte)
+abbrev pub byte_or_fault : Field → Result (List ℕ) FromHexError → Result ℕ LineFault
+byte_or_fault field (Ok bytes) = Ok (slice_index bytes 0)
+byte_or_fault field (Err error) = Err (Wrong field)
 
-abbrev pub byte_in : List ℕ → Result ℕ LineFault
-byte_in word = if_present fields.Byte word (byte_or_fault (decode_sized word 1))
+abbrev pub byte_in : Field → List ℕ → Result ℕ LineFault
+byte_in field word = if_present field word (byte_or_fault field (decode_sized word 1))
 
--- what the words of a transfer say
-abbrev pub transfer_in : List ℕ → Result Transfer LineFault
-transfer_in text = do
-  client ← number_in fields.Client (word 0 text)
-  tag ← number_in fields.Tag (word 1 text)
-  lba ← number_in fields.Address (word 2 text)
-  count ← number_in fields.Count (word 3 text)
-  Ok (record { client = client; tag = tag; lba = lba; count = count })
-
--- what the words of a range row say
-abbrev pub range_in : List ℕ → Result RangeRow LineFault
-range_in text = do
-  range ← number_in fields.Range (word 0 text)
-  start ← number_in fields.Start (word 1 text)
-  length ← number_in fields.Length (word 2 text)
-  read_enabled ← flag_in fields.ReadLockEnabled (word 3 text)
-  write_enabled ← flag_in fields.WriteLockEnabled (word 4 text)
-  read_locked ← flag_in fields.ReadLocked (word 5 text)
-  write_locked ← flag_in fields.WriteLocked (word 6 text)
-  Ok (record {
-    range = range;
-    start = start;
-    length = length;
-    read_enabled = read_enabled;
-    write_enabled = write_enabled;
-    read_locked = read_locked;
-    write_locked = write_locked;
-  })
+-- bytes written in hex text, at most as many as the field holds
+abbrev pub hex_in : Field → List ℕ → Result (List ℕ) LineFault
+hex_in field word = if_present field word (or_fault (Wrong field) (bytes_up_to (most_of field) word))

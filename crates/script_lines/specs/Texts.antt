@@ -20,6 +20,14 @@ sectors_text bytes = first_bytes (length bytes / sector_size) 0 bytes
 abbrev pub data_text : List ℕ → List ℕ
 data_text bytes = codes "ok" ++ sectors_text bytes
 
+-- what was done, and gave no data
+abbrev pub done_text : List ℕ
+done_text = codes "ok"
+
+-- bytes that were received
+abbrev pub hex_text : List ℕ → List ℕ
+hex_text bytes = codes "data " ++ encode_lower bytes
+
 abbrev pub failure_text : ℕ → ℕ → List ℕ
 failure_text status error = codes "fail " ++ encode_lower (status ∷ []) ++ codes " " ++ encode_lower (error ∷ [])
 

@@ -20,7 +20,15 @@ pub enum LineFault {
 /// Says what the word of a field is to be.
 fn write_wanted<W: fmt::Write>(f: &mut fmt::Formatter<W>, field: Field) -> fmt::Result {
     match field {
-        Field::Byte => f.write_str("two hex digits"),
+        Field::Byte | Field::DmaByte => f.write_str("two hex digits"),
+        Field::Tokens | Field::ComPacket => {
+            write!(
+                f,
+                "hex text, two digits for each of 1 to {} bytes",
+                field.most()
+            )
+        }
+        Field::ResetKind => f.write_str("0 (power) or 1 (hardware)"),
         _ => write!(f, "a number from 0 to {}", field.most()),
     }
 }
@@ -29,7 +37,10 @@ impl fmt::Display for LineFault {
     fn fmt<W: fmt::Write>(&self, f: &mut fmt::Formatter<W>) -> fmt::Result {
         match *self {
             LineFault::UnknownWord => {
-                f.write_str("the first word is none of range, read, write and expect")
+                f.write_str("the first word is none of ")?;
+                f.write_str(
+                    "range, read, write, dread, dwrite, call, send, recv, log, reset and expect",
+                )
             }
             LineFault::Missing(field) => {
                 write!(f, "{field} is missing: ")?;

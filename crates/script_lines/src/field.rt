@@ -3,7 +3,21 @@
 ghost use Rattle.std.specs.Prelude.{◌≡◌};
 ghost use Rattle.script_lines.specs.Fields.{most_of};
 
+use compacket::MAX_PAYLOAD;
 use std::fmt;
+use trusted_cmds::SECTOR_SIZE;
+
+/// The most bytes of a call's tokens: those that a ComPacket can carry.
+pub const MOST_CALL_BYTES: usize = MAX_PAYLOAD;
+
+/// The most bytes of a ComPacket that is sent: the most blocks that a transfer has.
+pub const MOST_SEND_BYTES: usize = 65_535 * SECTOR_SIZE;
+
+/// The limits are these numbers.
+pub fn laws_of_limits()
+    ensures call { MOST_CALL_BYTES ≡ 65480 }
+    ensures send { MOST_SEND_BYTES ≡ 33553920 }
+{}
 
 /// What a word of a line stands for.
 #[derive(Clone, Copy, Debug, PartialEq, Eq)]
@@ -20,10 +34,20 @@ pub enum Field {
     Address,
     Count,
     Byte,
+    DmaAddress,
+    DmaCount,
+    DmaByte,
+    ComId,
+    TperSession,
+    HostSession,
+    Tokens,
+    ComPacket,
+    Blocks,
+    ResetKind,
 }
 
 impl Field {
-    /// The largest number that the field holds.
+    /// The largest number that the field holds; of hex text the most bytes.
     pub fn most(self) -> u64
         ensures { result ≡ most_of self }
     {
@@ -31,13 +55,16 @@ impl Field {
             Field::ReadLockEnabled
             | Field::WriteLockEnabled
             | Field::ReadLocked
-            | Field::WriteLocked => 1,
+            | Field::WriteLocked
+            | Field::ResetKind => 1,
             Field::Tag => 31,
-            Field::Range | Field::Byte => u64::from(u8::MAX),
-            Field::Count => u64::from(u16::MAX),
-            Field::Client => u64::from(u32::MAX),
-            Field::Address => u64::MAX >> 16,
+            Field::Range | Field::Byte | Field::DmaByte => u64::from(u8::MAX),
+            Field::Count | Field::DmaCount | Field::ComId | Field::Blocks => u64::from(u16::MAX),
+            Field::Client | Field::TperSession | Field::HostSession => u64::from(u32::MAX),
+            Field::Address | Field::DmaAddress => u64::MAX >> 16,
             Field::Start | Field::Length => u64::MAX,
+            Field::Tokens => MOST_CALL_BYTES as u64,
+            Field::ComPacket => MOST_SEND_BYTES as u64,
         }
     }
 
@@ -56,6 +83,16 @@ impl Field {
             Field::Address => "word 4, the first sector L,",
             Field::Count => "word 5, the count N,",
             Field::Byte => "word 6, the byte HH,",
+            Field::DmaAddress => "word 3, the first sector L,",
+            Field::DmaCount => "word 4, the count N,",
+            Field::DmaByte => "word 5, the byte HH,",
+            Field::ComId => "word 3, the ComID,",
+            Field::TperSession => "word 4, the TPer session number TSN,",
+            Field::HostSession => "word 5, the host session number HSN,",
+            Field::Tokens => "word 6, the tokens HEX,",
+            Field::ComPacket => "word 4, the ComPacket HEX,",
+            Field::Blocks => "word 4, the count of blocks,",
+            Field::ResetKind => "word 3, the kind of reset K,",
         }
     }
 }

@@ -3,13 +3,16 @@
 
 mod fault;
 mod field;
+mod hex_text;
 mod line;
 mod number;
 mod report;
+mod verb;
 mod words;
 
 pub use fault::LineFault;
-pub use field::Field;
-pub use line::{Line, Transfer, expected_text};
+pub use field::{Field, MOST_CALL_BYTES, MOST_SEND_BYTES, laws_of_limits};
+pub use hex_text::Hex;
+pub use line::{DmaTransfer, Line, Reset, Transfer, expected_text};
 pub use number::number_up_to;
 pub use report::Report;

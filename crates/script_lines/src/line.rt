@@ -5,8 +5,11 @@ ghost use Rattle.script_lines.specs.Lines.{expected_text};
 
 use crate::fault::LineFault;
 use crate::field::Field;
-use crate::number::number_up_to;
-use crate::words::Words;
+use crate::hex_text::Hex;
+use crate::number::number_in_front;
+use crate::verb::{Verb, verb_of};
+use crate::words::{Words, skip_blanks};
+use compacket::{ComId, Session};
 use fis::{Lba, Tag};
 use locking::RangeRow;
 
@@ -19,66 +22,125 @@ pub struct Transfer {
     pub count: u16,
 }
 
-/// A line of a script.
+/// A transfer that is not queued, with its count as the field writes it.
 #[derive(Clone, Copy, Debug, PartialEq, Eq)]
-pub enum Line {
+pub struct DmaTransfer {
+    pub client: u32,
+    pub lba: Lba,
+    pub count: u16,
+}
+
+/// What is turned off and on.
+#[derive(Clone, Copy, Debug, PartialEq, Eq)]
+pub enum Reset {
+    Power,
+    Hardware,
+}
+
+/// A line of a script. The bytes that it writes in hex stay where it stands.
+#[derive(Drop)]
+pub enum Line<'a> {
     /// The cells of a range.
     Range(RangeRow),
     /// A queued read.
     Read(Transfer),
     /// A queued write, whose bytes are all the same.
     Write(Transfer, u8),
+    /// A read that is not queued.
+    ReadDma(DmaTransfer),
+    /// A write that is not queued, whose bytes are all the same.
+    WriteDma(DmaTransfer, u8),
+    /// Tokens that are sent to a ComID, in the session of these numbers.
+    Call {
+        client: u32,
+        com_id: ComId,
+        session: Session,
+        tokens: Hex<'a>,
+    },
+    /// A ComPacket that is sent to a ComID, as it stands.
+    Send {
+        client: u32,
+        com_id: ComId,
+        packet: Hex<'a>,
+    },
+    /// So many blocks that are received from a ComID.
+    Receive {
+        client: u32,
+        com_id: ComId,
+        blocks: u16,
+    },
+    /// The log page of the last queued error.
+    Log {
+        client: u32,
+    },
+    Reset {
+        client: u32,
+        kind: Reset,
+    },
     /// What the last printed line is to be: `expected_text` gives it.
     Expect,
 }
 
 impl<'a> Words<'a> {
-    ghost use Rattle.std.specs.Prelude.{◌≡◌, ◌==◌, ◌≤◌, length, IfOk, OnOk};
+    ghost use Rattle.std.specs.Prelude.{◌≡◌, ◌<◌, ◌≤◌, length, IfOk, OnOk};
     ghost use Rattle.script_lines.specs.Words.{first_word, after_word, after_words};
-    ghost use Rattle.script_lines.specs.Fields.{most_of, number_in, flag_in, byte_in, range_in, transfer_in};
+    ghost use Rattle.script_lines.specs.Fields.{most_of, number_in, flag_in, byte_in, hex_in};
+    ghost use Rattle.script_lines.specs.Groups.{range_in, transfer_in, dma_transfer_in, session_in, reset_in};
+    ghost use Rattle.script_lines.specs.Lines.{Fits, ended, verb_line, range_line, read_line, write_line, read_dma_line, write_dma_line, call_line, send_line, receive_line, log_line, reset_line};
 
     /// The next word as the number of a field.
     fn number(&mut self, field: Field) -> Result<u64, LineFault>
         ensures value { result ≡ number_in field (first_word self.old.rest.now) }
         ensures most { IfOk result (λ n. n ≤ most_of field) }
+        ensures rest { OnOk result (self.new.rest.now ≡ after_word self.old.rest.now) }
+    {
+        let text = skip_blanks(self.rest);
+        match number_in_front(field.most(), text) {
+            Some((number, len)) => {
+                self.rest = &text[len..];
+                Ok(number)
+            }
+            None if text.is_empty() => Err(LineFault::Missing(field)),
+            None => Err(LineFault::Wrong(field)),
+        }
+    }
+
+    /// The next word as a flag, 0 or 1.
+    fn flag(&mut self, field: Field) -> Result<bool, LineFault>
+        ensures value { result ≡ flag_in field (first_word self.old.rest.now) }
+        ensures rest { OnOk result (self.new.rest.now ≡ after_word self.old.rest.now) }
+    {
+        Ok(self.number(field)? == 1)
+    }
+
+    /// The next word as a byte of two hex digits.
+    fn byte(&mut self, field: Field) -> Result<u8, LineFault>
+        ensures value { result ≡ byte_in field (first_word self.old.rest.now) }
         ensures rest { self.new.rest.now ≡ after_word self.old.rest.now }
     {
         let word = self.next_word();
         if word.is_empty() {
             return Err(LineFault::Missing(field));
         }
-        number_up_to(field.most(), word).ok_or(LineFault::Wrong(field))
+        let mut byte = [0];
+        match hex::decode_to_slice(word, &mut byte) {
+            Ok(()) => Ok(byte[0]),
+            Err(_) => Err(LineFault::Wrong(field)),
+        }
     }
 
-    /// The next word as a flag, 0 or 1.
-    fn flag(&mut self, field: Field) -> Result<bool, LineFault>
-        ensures value { result ≡ flag_in field (first_word self.old.rest.now) }
-        ensures rest { self.new.rest.now ≡ after_word self.old.rest.now }
-    {
-        Ok(self.number(field)? == 1)
-    }
-
-    /// Whether no word is left.
-    fn is_at_end(&mut self) -> bool
-        ensures { result ≡ (length (first_word self.old.rest.now) == 0) }
-    {
-        self.next_word().is_empty()
-    }
-
-    /// The next word as a byte of two hex digits.
-    fn byte(&mut self) -> Result<u8, LineFault>
-        ensures value { result ≡ byte_in (first_word self.old.rest.now) }
+    /// The next word as the bytes that it writes in hex.
+    fn hex(&mut self, field: Field) -> Result<Hex<'a>, LineFault>
+        ensures value { result ≡ hex_in field (first_word self.old.rest.now) }
+        ensures some { IfOk result (λ bytes. 0 < length bytes) }
+        ensures most { IfOk result (λ bytes. length bytes ≤ most_of field) }
         ensures rest { self.new.rest.now ≡ after_word self.old.rest.now }
     {
         let word = self.next_word();
         if word.is_empty() {
-            return Err(LineFault::Missing(Field::Byte));
+            return Err(LineFault::Missing(field));
         }
-        let mut byte = [0];
-        match hex::decode_to_slice(word, &mut byte) {
-            Ok(()) => Ok(byte[0]),
-            Err(_) => Err(LineFault::Wrong(Field::Byte)),
-        }
+        Hex::up_to(field.most() as usize, word).ok_or(LineFault::Wrong(field))
     }
 
     fn range(&mut self) -> Result<RangeRow, LineFault>
@@ -118,47 +180,186 @@ impl<'a> Words<'a> {
             count,
         })
     }
+
+    fn dma_transfer(&mut self) -> Result<DmaTransfer, LineFault>
+        ensures value { result ≡ dma_transfer_in self.old.rest.now }
+        ensures rest { OnOk result (self.new.rest.now ≡ after_words 3 self.old.rest.now) }
+    {
+        let client = self.number(Field::Client)? as u32;
+        let lba = Lba::new(self.number(Field::DmaAddress)?).unwrap();
+        let count = self.number(Field::DmaCount)? as u16;
+        Ok(DmaTransfer { client, lba, count })
+    }
+
+    fn session(&mut self) -> Result<Session, LineFault>
+        ensures value { result ≡ session_in self.old.rest.now }
+        ensures rest { OnOk result (self.new.rest.now ≡ after_words 2 self.old.rest.now) }
+    {
+        let tsn = self.number(Field::TperSession)? as u32;
+        let hsn = self.number(Field::HostSession)? as u32;
+        Ok(Session { tsn, hsn })
+    }
+
+    fn reset(&mut self) -> Result<Reset, LineFault>
+        ensures value { result ≡ reset_in (first_word self.old.rest.now) }
+        ensures rest { OnOk result (self.new.rest.now ≡ after_word self.old.rest.now) }
+    {
+        if self.flag(Field::ResetKind)? {
+            Ok(Reset::Hardware)
+        } else {
+            Ok(Reset::Power)
+        }
+    }
+
+    /// The line, where no word is left.
+    fn ended(&mut self, line: Line<'a>) -> Result<Line<'a>, LineFault>
+        requires { Fits line }
+        ensures exact { result ≡ ended self.old.rest.now line.entry }
+        ensures fits { IfOk result Fits }
+    {
+        if self.next_word().is_empty() {
+            Ok(line)
+        } else {
+            Err(LineFault::Extra)
+        }
+    }
+
+    fn range_line(&mut self) -> Result<Line<'a>, LineFault>
+        ensures exact { result ≡ range_line self.old.rest.now }
+        ensures fits { IfOk result Fits }
+    {
+        let row = self.range()?;
+        self.ended(Line::Range(row))
+    }
+
+    fn read_line(&mut self) -> Result<Line<'a>, LineFault>
+        ensures exact { result ≡ read_line self.old.rest.now }
+        ensures fits { IfOk result Fits }
+    {
+        let transfer = self.transfer()?;
+        self.ended(Line::Read(transfer))
+    }
+
+    fn write_line(&mut self) -> Result<Line<'a>, LineFault>
+        ensures exact { result ≡ write_line self.old.rest.now }
+        ensures fits { IfOk result Fits }
+    {
+        let transfer = self.transfer()?;
+        let byte = self.byte(Field::Byte)?;
+        self.ended(Line::Write(transfer, byte))
+    }
+
+    fn read_dma_line(&mut self) -> Result<Line<'a>, LineFault>
+        ensures exact { result ≡ read_dma_line self.old.rest.now }
+        ensures fits { IfOk result Fits }
+    {
+        let transfer = self.dma_transfer()?;
+        self.ended(Line::ReadDma(transfer))
+    }
+
+    fn write_dma_line(&mut self) -> Result<Line<'a>, LineFault>
+        ensures exact { result ≡ write_dma_line self.old.rest.now }
+        ensures fits { IfOk result Fits }
+    {
+        let transfer = self.dma_transfer()?;
+        let byte = self.byte(Field::DmaByte)?;
+        self.ended(Line::WriteDma(transfer, byte))
+    }
+
+    fn call_line(&mut self) -> Result<Line<'a>, LineFault>
+        ensures exact { result ≡ call_line self.old.rest.now }
+        ensures fits { IfOk result Fits }
+    {
+        let client = self.number(Field::Client)? as u32;
+        let com_id = self.number(Field::ComId)? as u16;
+        let session = self.session()?;
+        let tokens = self.hex(Field::Tokens)?;
+        self.ended(Line::Call {
+            client,
+            com_id,
+            session,
+            tokens,
+        })
+    }
+
+    fn send_line(&mut self) -> Result<Line<'a>, LineFault>
+        ensures exact { result ≡ send_line self.old.rest.now }
+        ensures fits { IfOk result Fits }
+    {
+        let client = self.number(Field::Client)? as u32;
+        let com_id = self.number(Field::ComId)? as u16;
+        let packet = self.hex(Field::ComPacket)?;
+        self.ended(Line::Send {
+            client,
+            com_id,
+            packet,
+        })
+    }
+
+    fn receive_line(&mut self) -> Result<Line<'a>, LineFault>
+        ensures exact { result ≡ receive_line self.old.rest.now }
+        ensures fits { IfOk result Fits }
+    {
+        let client = self.number(Field::Client)? as u32;
+        let com_id = self.number(Field::ComId)? as u16;
+        let blocks = self.number(Field::Blocks)? as u16;
+        self.ended(Line::Receive {
+            client,
+            com_id,
+            blocks,
+        })
+    }
+
+    fn log_line(&mut self) -> Result<Line<'a>, LineFault>
+        ensures exact { result ≡ log_line self.old.rest.now }
+        ensures fits { IfOk result Fits }
+    {
+        let client = self.number(Field::Client)? as u32;
+        self.ended(Line::Log { client })
+    }
+
+    fn reset_line(&mut self) -> Result<Line<'a>, LineFault>
+        ensures exact { result ≡ reset_line self.old.rest.now }
+        ensures fits { IfOk result Fits }
+    {
+        let client = self.number(Field::Client)? as u32;
+        let kind = self.reset()?;
+        self.ended(Line::Reset { client, kind })
+    }
+
+    /// What stands behind the verb.
+    fn line(&mut self, verb: Verb) -> Result<Line<'a>, LineFault>
+        ensures exact { result ≡ verb_line verb self.old.rest.now }
+        ensures fits { IfOk result Fits }
+    {
+        match verb {
+            Verb::Range => self.range_line(),
+            Verb::Read => self.read_line(),
+            Verb::Write => self.write_line(),
+            Verb::ReadDma => self.read_dma_line(),
+            Verb::WriteDma => self.write_dma_line(),
+            Verb::Call => self.call_line(),
+            Verb::Send => self.send_line(),
+            Verb::Receive => self.receive_line(),
+            Verb::Log => self.log_line(),
+            Verb::Reset => self.reset_line(),
+            Verb::Expect => Ok(Line::Expect),
+        }
+    }
 }
 
-impl Line {
-    ghost use Rattle.std.specs.Prelude.{◌≡◌};
-    ghost use Rattle.script_lines.specs.Lines.{line_of};
+impl<'a> Line<'a> {
+    ghost use Rattle.std.specs.Prelude.{◌≡◌, IfOk};
+    ghost use Rattle.script_lines.specs.Lines.{line_of, Fits};
 
     /// Reads a line, which has no line feed.
-    pub fn parse(text: &[u8]) -> Result<Line, LineFault>
-        ensures { result ≡ line_of text.now }
+    pub fn parse(text: &'a [u8]) -> Result<Line<'a>, LineFault>
+        ensures exact { result ≡ line_of text.now }
+        ensures fits { IfOk result Fits }
     {
         let mut words = Words::new(text);
-        let verb = words.next_word();
-        if verb == b"range".as_slice() {
-            let row = words.range()?;
-            return if words.is_at_end() {
-                Ok(Line::Range(row))
-            } else {
-                Err(LineFault::Extra)
-            };
-        }
-        if verb == b"read".as_slice() {
-            let transfer = words.transfer()?;
-            return if words.is_at_end() {
-                Ok(Line::Read(transfer))
-            } else {
-                Err(LineFault::Extra)
-            };
-        }
-        if verb == b"write".as_slice() {
-            let transfer = words.transfer()?;
-            let byte = words.byte()?;
-            return if words.is_at_end() {
-                Ok(Line::Write(transfer, byte))
-            } else {
-                Err(LineFault::Extra)
-            };
-        }
-        if verb == b"expect".as_slice() {
-            return Ok(Line::Expect);
-        }
-        Err(LineFault::UnknownWord)
+        let verb = verb_of(words.next_word()).ok_or(LineFault::UnknownWord)?;
+        words.line(verb)
     }
 }
 

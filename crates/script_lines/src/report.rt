@@ -22,7 +22,7 @@ pub struct Report {
 impl Report {
     ghost use Rattle.std.specs.Prelude.{◌≡◌, ◌++◌, ◌∷◌, [], ℕ, List, Option, OnOk, option_map};
     ghost use Rattle.std.specs.Io.KnownBytes.{Appends};
-    ghost use Rattle.script_lines.specs.Texts.{data_text, failure_text, audit_text, refusal_lines, Prints};
+    ghost use Rattle.script_lines.specs.Texts.{done_text, data_text, hex_text, failure_text, audit_text, refusal_lines, Prints};
 
     /// Nothing is printed.
     pub fn new(alloc: Global) -> Report
@@ -43,6 +43,27 @@ impl Report {
     {
         self.pending.extend_from_slice(&self.last)?;
         self.pending.push(b'\n')?;
+        Ok(())
+    }
+
+    /// Prints that something was done.
+    pub fn print_ok(&mut self) -> Result<(), AllocError>
+        ensures { OnOk result (Prints self.old self.new (done_text ∷ [])) }
+    {
+        self.last.clear();
+        self.last.extend_from_slice(b"ok")?;
+        self.print_last()?;
+        Ok(())
+    }
+
+    /// Prints bytes that were received.
+    pub fn print_hex(&mut self, bytes: &[u8]) -> Result<(), AllocError>
+        ensures { OnOk result (Prints self.old self.new (hex_text bytes.now ∷ [])) }
+    {
+        self.last.clear();
+        self.last.extend_from_slice(b"data ")?;
+        append_hex(&mut self.last, bytes)?;
+        self.print_last()?;
         Ok(())
     }
 
@@ -71,7 +92,7 @@ impl Report {
     }
 
     /// Prints the audit line of a denial.
-    fn print_audit(&mut self, line: &AuditLine) -> Result<(), AllocError>
+    pub fn print_audit(&mut self, line: &AuditLine) -> Result<(), AllocError>
         ensures { OnOk result (Prints self.old self.new (audit_text line.now ∷ [])) }
     {
         let text = line_bytes(self.alloc, line)?;
@@ -155,5 +176,17 @@ fn append_four(line: &mut Vec<u8>, bytes: &[u8]) -> Result<(), AllocError>
     let mut digits = [0; 8];
     let _ = hex::encode_to_slice(bytes, &mut digits);
     line.extend_from_slice(&digits)?;
+    Ok(())
+}
+
+/// Appends the hex text of bytes.
+fn append_hex(line: &mut Vec<u8>, bytes: &[u8]) -> Result<(), AllocError>
+    ensures { OnOk result (line.new.items ≡ line.old.items ++ encode_lower bytes.now) }
+{
+    let start = line.len();
+    let digits = bytes.len().checked_mul(2).ok_or(AllocError)?;
+    let end = start.checked_add(digits).ok_or(AllocError)?;
+    line.resize(end, 0)?;
+    let _ = hex::encode_to_slice(bytes, &mut line[start..]);
     Ok(())
 }

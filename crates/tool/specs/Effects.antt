@@ -1,78 +1,160 @@
--- What the lines of a script do to its drive, and what they print.
-use Rattle.std.specs.Prelude.{◌≡◌, ℕ, ◌%◌, ◌^◌, Bool, true, false, if◌then◌else◌, List, [], ◌∷◌, All, length, unwrap_or}
+-- What the lines of a script do to their drive, and what they print.
+use Rattle.std.specs.Prelude.{◌≡◌, ℕ, ◌==◌, true, false, if◌then◌else◌, List, [], ◌∷◌, length, take, Option, None, Some, unwrap_or, is_some}
 use Rattle.std.specs.Str.{bytes_eq}
-use Rattle.fis.specs.H2d.{IsH2dSpelling}
-use Rattle.trusted_cmds.specs.Commands.{sectors, fis_of}
+use Rattle.trusted_cmds.specs.Commands.{fis_of}
 use Rattle.trusted_cmds.specs.declared.command.Command.{Command}
-use Rattle.trusted_cmds.specs.declared.command.Command.TheVariants.{ReadQueued, WriteQueued}
-use Rattle.drive.specs.Opening.{Origin}
-use Rattle.drive.specs.Events.{Event}
-use Rattle.drive.specs.History.{Act, Accept, Complete, log, event_after, held_transfer, sector_in}
+use Rattle.trusted_cmds.specs.declared.command.Command.TheVariants.{ReadDma, Receive, ReadLog10}
+use Rattle.compacket.specs.Frames.{com_packet_size}
+use Rattle.compacket.specs.Spelling.{frame_bytes}
+use Rattle.device_data.specs.declared.level0.TheConstants.{DISCOVERY_LENGTH}
+use Rattle.history.specs.Opening.{Origin}
+use Rattle.history.specs.Events.{Event}
+use Rattle.history.specs.Facts.{facts}
+use Rattle.history.specs.History.{Act, log, event}
+use Rattle.history.specs.Readers.{held, failure}
+use Rattle.history.specs.Answers.{status_of, is_holding, answer_data, completed_data}
+use Rattle.history.specs.Decisions.{discovery_com_id}
 use Rattle.drive.specs.State.{Agrees}
-use Rattle.drive.specs.Answers.{IsAnswer, expected_size, completion_bytes, is_hold, status_of}
+use Rattle.drive.specs.Answers.{IsAnswer}
 use Rattle.drive.specs.declared.answer.Accepted.{Accepted}
-use Rattle.script_lines.specs.Texts.{Prints, data_text, refusal_lines}
+use Rattle.script_lines.specs.Texts.{Prints, done_text, data_text, hex_text, failure_text, denial_lines, refusal_lines}
 use Rattle.script_lines.specs.Lines.{expected_text}
 use Rattle.script_lines.specs.declared.line.Transfer.{Transfer}
+use Rattle.script_lines.specs.declared.line.Reset.{Reset}
 use Rattle.script_lines.specs.declared.report.Report.{Report}
 use Rattle.script_lines.specs.declared.line.Line as told
 use Rattle.script_lines.specs.declared.line.Line.TheVariants as lines
+use Rattle.tool.specs.Acts.{accept_of, completion, step_of, read_of, write_of, read_dma_of, write_dma_of, write_bytes, blocks_of, in_blocks, send_of, receive_of, reset_of}
 use Rattle.tool.specs.declared.ending.Fault.TheVariants.{LateRange}
 use Rattle.tool.specs.declared.running.Turn.{Turn}
 use Rattle.tool.specs.declared.running.Turn.TheVariants.{Goes, ExpectationFailed, Bad}
 use Rattle.tool.specs.declared.running.RunningPhase.{RunningPhase}
 
--- the queued commands that a line asks for; a count field of 0 stands for 65,536
-abbrev pub read_of : Transfer → Command
-read_of transfer = ReadQueued transfer.lba (sectors transfer.count)
-
-abbrev pub write_of : Transfer → Command
-write_of transfer = WriteQueued transfer.lba (sectors transfer.count)
+-- the acts so far, the newest first, and the lines that are printed
+pub record Effect : Type 0 where
+  pub acts : List Act
+  pub lines : List (List ℕ)
 
 -- the drive is as its origin and the acts leave it, and the acts are counted
 abbrev pub RunsOn : RunningPhase → Origin → List Act → Type 0
-RunsOn run o acts = Agrees run.drive o acts × (run.acts ≡ length acts % 2 ^ 64)
+RunsOn run o acts = Agrees run.drive o acts × (run.acts ≡ step_of acts)
 
 -- there are an origin and acts that leave the drive so
 abbrev pub Stands : RunningPhase → Type 0
 Stands run = (o : Origin) × (acts : List Act) × RunsOn run o acts
 
+-- the drive has done the acts, and the lines are printed
+pub record Has (new : RunningPhase) (o : Origin) (before after : Report) (effect : Effect) : Type 0 where
+  pub runs : RunsOn new o effect.acts
+  pub prints : Prints before after effect.lines
+
 -- an acceptance: one act more, and what the definitions answer to it
-abbrev pub Accepts : RunningPhase → Origin → List Act → Command → ℕ → Accepted → Type 0
-Accepts new o acts command tag accepted =
-    (fis : List ℕ) × IsH2dSpelling fis (fis_of command tag) × RunsOn new o (Accept fis [] ∷ acts)
-    × IsAnswer (event_after o (log o acts) (Accept fis [])) accepted
+pub record Accepts (new : RunningPhase) (o : Origin) (acts : List Act) (command : Command) (tag : ℕ) (payload : List ℕ) (accepted : Accepted) : Type 0 where
+  pub runs : RunsOn new o (accept_of command tag payload ∷ acts)
+  pub answer : IsAnswer (facts o (log o acts)) (fis_of command tag)
+      (event o (log o acts) (accept_of command tag payload)) accepted
 
--- a completion of what is held under a tag: one act more, and the data printed that the definitions give
-abbrev pub Serves : RunningPhase → Origin → List Act → ℕ → ℕ → Report → Report → Type 0
-Serves new o acts tag byte before after =
-    (payload : List ℕ) × All (λ each. each ≡ byte) payload × (length payload ≡ expected_size (held_transfer (log o acts) tag))
-    × RunsOn new o (Complete tag payload ∷ acts)
-    × Prints before after (data_text (completion_bytes (sector_in (log o acts)) (held_transfer (log o acts) tag)) ∷ [])
+-- what is held under a tag is completed, and its data are printed
+abbrev pub completed : Origin → List Act → ℕ → ℕ → Effect
+completed o acts tag byte = record {
+  acts = completion (log o acts) tag byte ∷ acts;
+  lines = data_text (completed_data (facts o (log o acts)) (held (log o acts) tag)) ∷ [];
+}
 
--- a command that failed: nothing more is done, and its failure is printed with what denied it, under the number of the act
-abbrev pub Fails : RunningPhase → Origin → List Act → ℕ → Event → Report → Report → Type 0
-Fails new o acts client made before after =
-    RunsOn new o acts
-    × Prints before after (refusal_lines (length acts % 2 ^ 64) client (status_of made.error) (unwrap_or made.error 0) made.denied)
+-- a command failed: its failure is printed with what denied it, under the number of the act
+abbrev pub failed : List Act → ℕ → Event → Effect
+failed acts client made = record {
+  acts = acts;
+  lines = refusal_lines (step_of acts) client (status_of made.failed) (unwrap_or made.failed 0) made.denied;
+}
 
--- what follows the acceptance
-abbrev pub Follows : Bool → RunningPhase → Origin → List Act → Transfer → ℕ → Event → Report → Report → Type 0
-Follows true new o acts transfer byte made before after = Serves new o acts transfer.tag byte before after
-Follows false new o acts transfer byte made before after = Fails new o acts transfer.client made before after
+-- a queued transfer is accepted, and completed where it is held
+abbrev pub once_accepted : Origin → List Act → Transfer → ℕ → Event → Effect
+once_accepted o acts transfer byte made =
+    if is_holding made.deed then completed o acts transfer.tag byte else failed acts transfer.client made
 
--- a queued transfer is accepted, and completed where it is held; what is printed is what the definitions answer for the acts so far
-abbrev pub Transfers : RunningPhase → Origin → List Act → Command → Transfer → ℕ → Report → Report → Type 0
-Transfers new o acts command transfer byte before after =
-    (fis : List ℕ) × IsH2dSpelling fis (fis_of command transfer.tag)
-    × Follows (is_hold (event_after o (log o acts) (Accept fis [])).deed) new o (Accept fis [] ∷ acts) transfer byte
-    (event_after o (log o acts) (Accept fis [])) before after
+abbrev pub transferred : Origin → List Act → Command → Transfer → ℕ → Effect
+transferred o acts command transfer byte =
+    once_accepted o (accept_of command transfer.tag [] ∷ acts) transfer byte
+    (event o (log o acts) (accept_of command transfer.tag []))
 
--- what a line does: a read or a write is a queued transfer, an expectation is held against the last printed line, and a range line comes
--- too late; neither of the last two acts or prints
+-- what a receive shows: on the ComID of Level 0 discovery its bytes, else the header of the ComPacket and the bytes that it counts
+abbrev pub shown : ℕ → List ℕ → List ℕ
+shown com_id bytes =
+    if com_id == discovery_com_id then take DISCOVERY_LENGTH bytes else take (com_packet_size bytes) bytes
+
+-- what a command that was served prints of its data
+abbrev pub served_text : Command → List ℕ → List ℕ
+served_text (ReadDma lba count) bytes = data_text bytes
+served_text (Receive protocol com_id blocks dma) bytes = hex_text (shown com_id bytes)
+served_text (ReadLog10 dma) bytes = hex_text bytes
+served_text _ bytes = done_text
+
+-- or that it failed
+abbrev pub answer_text : Command → Option ℕ → List ℕ → List ℕ
+answer_text command None bytes = served_text command bytes
+answer_text command (Some error) bytes = failure_text (status_of (Some error)) error
+
+-- the same by the fields of an answer
+abbrev pub failed_status : ℕ
+failed_status = 0x51
+
+abbrev pub told_lines : ℕ → ℕ → Command → Accepted → List (List ℕ)
+told_lines step client command accepted =
+    (if accepted.status == failed_status then failure_text accepted.status accepted.error else served_text command accepted.bytes.items)
+    ∷ denial_lines step client accepted.denied
+
+-- an unqueued command is accepted, and what came of it is printed, with what denied it under the number of the act
+abbrev pub answered : Origin → List Act → ℕ → Command → Act → Event → Effect
+answered o acts client command act made = record {
+  acts = act ∷ acts;
+  lines = answer_text command made.failed (answer_data (facts o (log o acts)) (fis_of command 0) made)
+      ∷ denial_lines (step_of (act ∷ acts)) client made.denied;
+}
+
+abbrev pub commanded : Origin → List Act → ℕ → Command → List ℕ → Effect
+commanded o acts client command payload =
+    answered o acts client command (accept_of command 0 payload) (event o (log o acts) (accept_of command 0 payload))
+
+-- bytes are sent to a ComID
+abbrev pub sends : Origin → List Act → ℕ → ℕ → List ℕ → Effect
+sends o acts client com_id bytes =
+    commanded o acts client (send_of com_id (blocks_of (length bytes))) (in_blocks bytes)
+
+-- the drive is reset
+abbrev pub restarted : List Act → Reset → Effect
+restarted acts kind = record { acts = reset_of kind ∷ acts; lines = done_text ∷ [] }
+
+-- what a line does
+abbrev pub effect_of : Origin → List Act → told.Line → Effect
+effect_of o acts (lines.Read transfer) = transferred o acts (read_of transfer) transfer 0
+effect_of o acts (lines.Write transfer byte) = transferred o acts (write_of transfer) transfer byte
+effect_of o acts (lines.ReadDma transfer) = commanded o acts transfer.client (read_dma_of transfer) []
+effect_of o acts (lines.WriteDma transfer byte) =
+    commanded o acts transfer.client (write_dma_of transfer) (write_bytes transfer byte)
+effect_of o acts (lines.Call client com_id session tokens) =
+    sends o acts client com_id (frame_bytes com_id session tokens)
+effect_of o acts (lines.Send client com_id packet) = sends o acts client com_id packet
+effect_of o acts (lines.Receive client com_id blocks) = commanded o acts client (receive_of com_id blocks) []
+effect_of o acts (lines.Log client) = commanded o acts client (ReadLog10 true) []
+effect_of o acts (lines.Reset client kind) = restarted acts kind
+effect_of o acts lines.Expect = record { acts = acts; lines = [] }
+effect_of o acts (lines.Range row) = record { acts = acts; lines = [] }
+
+-- behind a command a script goes on; that the failed queue aborts it is told only where the queue has failed
+abbrev pub GoesTruly : Turn → List Event → Type 0
+GoesTruly (Goes aborted) past = aborted ≡ true → is_some (failure past) ≡ true
+GoesTruly ExpectationFailed past = ⊥
+GoesTruly (Bad fault) past = ⊥
+
+-- a command does this on whatever origin and acts the drive stands
+abbrev pub Makes : (Origin → List Act → Effect) → RunningPhase → RunningPhase → Report → Report → Turn → Type 0
+Makes effect old new before after turn =
+    (o : Origin) (acts : List Act) → RunsOn old o acts → Has new o before after (effect o acts) × GoesTruly turn (log o acts)
+
+-- an expectation is held against the last printed line, and a range line comes too late; neither acts or prints
 abbrev pub Does : told.Line → List ℕ → Turn → RunningPhase → RunningPhase → Origin → List Act → Report → Report → Type 0
-Does (lines.Read transfer) text turn old new o acts before after = Transfers new o acts (read_of transfer) transfer 0 before after
-Does (lines.Write transfer byte) text turn old new o acts before after = Transfers new o acts (write_of transfer) transfer byte before after
 Does lines.Expect text turn old new o acts before after =
     (new ≡ old) × (after ≡ before) × (turn ≡ (if bytes_eq before.last.items (expected_text text) then Goes false else ExpectationFailed))
 Does (lines.Range row) text turn old new o acts before after = (new ≡ old) × (after ≡ before) × (turn ≡ Bad LateRange)
+Does line text turn old new o acts before after = Has new o before after (effect_of o acts line) × GoesTruly turn (log o acts)

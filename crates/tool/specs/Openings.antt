@@ -1,8 +1,8 @@
 -- What the range lines of a script open.
-use Rattle.std.specs.Prelude.{◌≡◌, List, [], ℕ, None, Some, ⊤}
-use Rattle.drive.specs.Opening.{Origin, factory_origin, activated_origin, row_fault, with_range}
+use Rattle.std.specs.Prelude.{◌≡◌, List, [], ℕ, Option, None, Some, ⊤}
+use Rattle.history.specs.Opening.{Origin, factory_origin, activated_origin, row_fault, with_range}
 use Rattle.script_lines.specs.declared.line.Line.{Line}
-use Rattle.script_lines.specs.declared.line.Line.TheVariants.{Range, Read, Write, Expect}
+use Rattle.script_lines.specs.declared.line.Line.TheVariants.{Range}
 use Rattle.locking.specs.declared.range.RangeRow.{RangeRow}
 use Rattle.sp_cells.specs.declared.error.SetError.{SetError}
 use Rattle.tool.specs.Scripts.{IsRange, IsLine, IsBadOrRange}
@@ -47,12 +47,18 @@ RunsFrom o (Goes phase) = ⊥
 RunsFrom o (Runs run) = RunsOn run o []
 RunsFrom o (Bad fault) = ⊥
 
+-- the row of a range line
+abbrev pub row_in : Line → Option RangeRow
+row_in (Range row) = Some row
+row_in _ = None
+
 -- what a line does: a range line sets its row, and any other opens the drive
+abbrev pub OpensBy : OpeningPhase → Option RangeRow → OpeningTurn → Type 0
+OpensBy phase (Some row) turn = SetsRow (base_of phase) row turn
+OpensBy phase None turn = RunsFrom (origin_of phase) turn
+
 abbrev pub OpeningDoes : OpeningPhase → Line → OpeningTurn → Type 0
-OpeningDoes phase (Range row) turn = SetsRow (base_of phase) row turn
-OpeningDoes phase (Read transfer) turn = RunsFrom (origin_of phase) turn
-OpeningDoes phase (Write transfer byte) turn = RunsFrom (origin_of phase) turn
-OpeningDoes phase Expect turn = RunsFrom (origin_of phase) turn
+OpeningDoes phase line turn = OpensBy phase (row_in line) turn
 
 -- the drive, where there is one, is as an origin and acts leave it
 abbrev pub TurnStands : OpeningTurn → Type 0

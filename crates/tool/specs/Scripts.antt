@@ -4,7 +4,7 @@ use Rattle.std.specs.List.{list_any}
 use Rattle.std.specs.Io.BufRead.{strip_last, take_through, drop_through}
 use Rattle.script_lines.specs.Lines.{line_of}
 use Rattle.script_lines.specs.declared.line.Line.{Line}
-use Rattle.script_lines.specs.declared.line.Line.TheVariants.{Range, Read, Write, Expect}
+use Rattle.script_lines.specs.declared.line.Line.TheVariants.{Range, Expect}
 use Rattle.tool.specs.declared.running.Turn.{Turn}
 use Rattle.tool.specs.declared.running.Turn.TheVariants.{Goes, ExpectationFailed, Bad}
 
@@ -46,9 +46,7 @@ IsAnswered at_hand pending = (has_line at_hand ≡ false → pending ≡ []) × 
 -- the line gives the cells of a range
 abbrev pub IsRange : Line → Type 0
 IsRange (Range row) = ⊤
-IsRange (Read transfer) = ⊥
-IsRange (Write transfer byte) = ⊥
-IsRange Expect = ⊥
+IsRange _ = ⊥
 
 -- how a script goes on behind a line that says this
 abbrev pub GoesOn : Line → Turn → Type 0

@@ -1,10 +1,13 @@
 //! The program's library: scripts of lines, run on a drive, and token streams, told as text.
 #![tactic(auto)]
 
+mod commands;
 mod ending;
 mod level0;
 mod opening;
 mod options;
+mod payload;
+mod printing;
 mod reading;
 mod running;
 mod script;

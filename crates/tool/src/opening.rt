@@ -1,5 +1,9 @@
 //! The opening phase of a script: its range lines.
 
+ghost use Rattle.std.specs.Prelude.{◌≡◌, IfSome};
+ghost use Rattle.tool.specs.Openings.{row_in};
+ghost use Rattle.tool.specs.Scripts.{IsRange};
+
 use crate::ending::Fault;
 use crate::running::RunningPhase;
 use drive::{Drive, DriveConfig, Opening, RangeRow, SetError};
@@ -25,13 +29,24 @@ pub enum OpeningTurn {
     Bad(Fault),
 }
 
+/// The row of a range line.
+fn row_in(line: &Line<'_>) -> Option<RangeRow>
+    ensures row { result ≡ row_in line.now }
+    ensures range { IfSome result (λ _. IsRange line.now) }
+{
+    match line {
+        Line::Range(row) => Some(*row),
+        _ => None,
+    }
+}
+
 impl OpeningPhase {
     ghost use Rattle.std.specs.Prelude.{◌≡◌, ◌⊎◌, [], None, Some, Ok, Err, IfOk, IfErr};
     ghost use Rattle.script_lines.specs.Lines.{line_of};
     ghost use Rattle.script_lines.specs.declared.line.Line.{Line};
     ghost use Rattle.script_lines.specs.declared.fault.LineFault.{LineFault};
     ghost use Rattle.sp_cells.specs.declared.error.SetError.{SetError};
-    ghost use Rattle.drive.specs.Opening.{row_fault, with_range};
+    ghost use Rattle.history.specs.Opening.{row_fault, with_range};
     ghost use Rattle.drive.specs.State.{Agrees};
     ghost use Rattle.tool.specs.Openings.{origin_of, base_of, OpeningSays, OpeningGoesOn, OpeningDoes, RunsFrom, TurnStands};
     ghost use Rattle.tool.specs.declared.opening.OpeningPhase.TheVariants.{Activated};
@@ -86,27 +101,25 @@ impl OpeningPhase {
             → result ≡ Ok (OpeningTurn.Bad (Fault.Line fault)) }
     {
         match Line::parse(text) {
-            Ok(line) => self.act(alloc, line),
+            Ok(line) => self.act(alloc, &line),
             Err(fault) => Ok(OpeningTurn::Bad(Fault::Line(fault))),
         }
     }
 
-    fn act(self, alloc: Global, line: Line) -> Result<OpeningTurn, AllocError>
-        ensures goes { IfOk result (OpeningGoesOn line) }
-        ensures does { IfOk result (OpeningDoes self line) }
+    fn act(self, alloc: Global, line: &Line<'_>) -> Result<OpeningTurn, AllocError>
+        ensures goes { IfOk result (OpeningGoesOn line.now) }
+        ensures does { IfOk result (OpeningDoes self line.now) }
     {
-        match line {
-            Line::Range(row) => match self.set(alloc, &row) {
-                Ok(phase) => Ok(OpeningTurn::Goes(phase)),
-                Err(SetError::OutOfMemory) => Err(AllocError),
-                Err(error) => {
-                    let range = row.range;
-                    Ok(OpeningTurn::Bad(Fault::RefusedRow { range, error }))
-                }
-            },
-            Line::Read(_) => self.run(alloc),
-            Line::Write(..) => self.run(alloc),
-            Line::Expect => self.run(alloc),
+        let Some(row) = row_in(line) else {
+            return self.run(alloc);
+        };
+        match self.set(alloc, &row) {
+            Ok(phase) => Ok(OpeningTurn::Goes(phase)),
+            Err(SetError::OutOfMemory) => Err(AllocError),
+            Err(error) => {
+                let range = row.range;
+                Ok(OpeningTurn::Bad(Fault::RefusedRow { range, error }))
+            }
         }
     }
 

@@ -1,14 +1,19 @@
 //! The running phase of a script: a drive, and what the lines do with it.
 
-ghost use Rattle.std.specs.Prelude.{◌≡◌, All, OnOk, length};
-ghost use Rattle.tool.specs.Effects.{read_of, write_of};
-
+use crate::commands::{
+    kind_named, read_dma_of, read_of, receive_of, send_of, write_dma_of, write_of,
+};
 use crate::ending::Fault;
+use crate::payload::{fill, pad};
+use crate::printing;
+use crate::printing::print_answer;
+use compacket::{ComId, Session, frame};
 use drive::{Accepted, Drive};
 use fis::Tag;
-use script_lines::{Line, Report, Transfer, expected_text};
+use script_lines::{DmaTransfer, Hex, Line, Report, Reset, Transfer, expected_text};
 use std::alloc::{AllocError, Global};
-use trusted_cmds::{Command, sectors, to_fis};
+use std::mem::replace;
+use trusted_cmds::{Command, SECTOR_SIZE, sectors, to_fis};
 
 /// How a script goes on behind a line.
 #[derive(Clone, Copy, Debug, PartialEq, Eq)]
@@ -25,52 +30,25 @@ pub struct RunningPhase {
     drive: Drive,
     /// How many acts the drive has done.
     acts: u64,
-    /// How many commands have failed, as far as this number counts.
-    failures: u8,
+    /// Whether the queue had failed before the last command.
+    had_failed: bool,
+    /// The bytes that go with the next act.
     payload: Vec<u8>,
-}
-
-/// The queued read that a line asks for.
-fn read_of(transfer: &Transfer) -> Command
-    ensures { result ≡ read_of transfer.now }
-{
-    Command::ReadQueued {
-        lba: transfer.lba.number(),
-        count: sectors(transfer.count),
-    }
-}
-
-/// The queued write that a line asks for.
-fn write_of(transfer: &Transfer) -> Command
-    ensures { result ≡ write_of transfer.now }
-{
-    Command::WriteQueued {
-        lba: transfer.lba.number(),
-        count: sectors(transfer.count),
-    }
-}
-
-/// Fills a buffer with so many bytes, all the same.
-fn fill(buffer: &mut Vec<u8>, size: usize, byte: u8) -> Result<(), AllocError>
-    ensures size { OnOk result (length buffer.new.items ≡ size) }
-    ensures bytes { OnOk result (All (λ each. each ≡ byte) buffer.new.items) }
-{
-    buffer.clear();
-    buffer.resize(size, byte)?;
-    Ok(())
+    alloc: Global,
 }
 
 impl RunningPhase {
-    ghost use Rattle.std.specs.Prelude.{◌≡◌, ◌<◌, ◌^◌, List, [], IfSome, IfOk, OnOk, Ok, Err};
-    ghost use Rattle.trusted_cmds.specs.Commands.{lba_of, IsCounted};
-    ghost use Rattle.script_lines.specs.Lines.{line_of};
+    ghost use Rattle.std.specs.Prelude.{◌≡◌, ◌<◌, ◌≤◌, ◌^◌, ℕ, List, [], length, true, IfSome, IfOk, OnOk, Ok, Err};
+    ghost use Rattle.script_lines.specs.Fields.{most_call_bytes, most_send_bytes};
+    ghost use Rattle.trusted_cmds.specs.Commands.{lba_of, IsCounted, payload_length, fis_of};
+    ghost use Rattle.script_lines.specs.Lines.{line_of, Fits};
     ghost use Rattle.script_lines.specs.declared.line.Line.{Line};
     ghost use Rattle.script_lines.specs.declared.fault.LineFault.{LineFault};
-    ghost use Rattle.drive.specs.Opening.{Origin};
-    ghost use Rattle.drive.specs.History.{Act};
+    ghost use Rattle.history.specs.Opening.{Origin};
+    ghost use Rattle.history.specs.History.{Act};
     ghost use Rattle.drive.specs.State.{Agrees};
-    ghost use Rattle.tool.specs.Scripts.{GoesOn, Says};
-    ghost use Rattle.tool.specs.Effects.{RunsOn, Stands, Accepts, Serves, Transfers, Does};
+    ghost use Rattle.tool.specs.Scripts.{Says};
+    ghost use Rattle.tool.specs.Effects.{RunsOn, Stands, Accepts, Has, Makes, completed, transferred, commanded, sends, effect_of, Does};
     ghost use Rattle.tool.specs.declared.ending.Fault.{Fault};
 
     /// A drive on which nothing was done.
@@ -80,8 +58,9 @@ impl RunningPhase {
         RunningPhase {
             drive,
             acts: 0,
-            failures: 0,
+            had_failed: false,
             payload: Vec::new(alloc),
+            alloc,
         }
     }
 
@@ -98,23 +77,40 @@ impl RunningPhase {
             → Does line text.now turn self.old self.new o acts report.old report.new) }
     {
         match Line::parse(text) {
-            Ok(line) => self.act(line, text, report),
+            Ok(line) => self.act(&line, text, report),
             Err(fault) => Ok(Turn::Bad(Fault::Line(fault))),
         }
     }
 
-    fn act(&mut self, line: Line, text: &[u8], report: &mut Report) -> Result<Turn, AllocError>
-        ensures goes { IfOk result (GoesOn line) }
-        ensures does { IfOk result
-            (λ turn. (o : Origin) (acts : List Act) → RunsOn self.old o acts
-            → Does line text.now turn self.old self.new o acts report.old report.new) }
+    fn act(&mut self, line: &Line<'_>, text: &[u8], report: &mut Report) -> Result<Turn, AllocError>
+        requires { Fits line.now }
+        ensures { IfOk result (λ turn. (o : Origin) (acts : List Act) → RunsOn self.old o acts
+            → Does line.now text.now turn self.old self.new o acts report.old report.new) }
     {
         match line {
             Line::Range(_) => Ok(Turn::Bad(Fault::LateRange)),
-            Line::Read(transfer) => self.transfer(&read_of(&transfer), &transfer, 0, report),
-            Line::Write(transfer, byte) => {
-                self.transfer(&write_of(&transfer), &transfer, byte, report)
-            }
+            Line::Read(transfer) => self.read(transfer, report),
+            Line::Write(transfer, byte) => self.write(transfer, *byte, report),
+            Line::ReadDma(transfer) => self.read_dma(transfer, report),
+            Line::WriteDma(transfer, byte) => self.write_dma(transfer, *byte, report),
+            Line::Call {
+                client,
+                com_id,
+                session,
+                tokens,
+            } => self.call(*client, *com_id, *session, tokens, report),
+            Line::Send {
+                client,
+                com_id,
+                packet,
+            } => self.send(*client, *com_id, packet, report),
+            Line::Receive {
+                client,
+                com_id,
+                blocks,
+            } => self.receive(*client, *com_id, *blocks, report),
+            Line::Log { client } => self.read_log(*client, report),
+            Line::Reset { kind, .. } => self.reset(*kind, report),
             Line::Expect => {
                 if report.last.as_slice() == expected_text(text) {
                     Ok(Turn::Goes { aborted: false })
@@ -125,11 +121,39 @@ impl RunningPhase {
         }
     }
 
+    /// Gives the drive the FIS of a command, with the payload at hand.
+    fn accept(&mut self, command: &Command, tag: Tag) -> Result<Accepted, AllocError>
+        requires address { IfSome (lba_of command.now) (λ lba. lba < 2 ^ 48) }
+        requires counted { IsCounted command.now }
+        requires payload { length self.old.payload.items ≡ payload_length (fis_of command.now tag) }
+        ensures { IfOk result (λ accepted. (o : Origin) (acts : List Act) → RunsOn self.old o acts
+            → Accepts self.new o acts command.now tag self.old.payload.items accepted) }
+    {
+        let fis = to_fis(command, tag).to_bytes();
+        // nothing but memory is refused here
+        let Ok(accepted) = self.drive.accept(&fis, &self.payload) else {
+            return Err(AllocError);
+        };
+        self.acts = self.acts.wrapping_add(1);
+        Ok(accepted)
+    }
+
+    /// Whether the command that comes, where it fails, is the first one that a failed queue aborts: the
+    /// queue has failed, and had not before the command before it.
+    fn is_first_abort(&mut self, has_failed: bool) -> bool
+        ensures told { result ≡ true → has_failed ≡ true }
+        ensures runs { (o : Origin) (acts : List Act) → RunsOn self.old o acts → RunsOn self.new o acts }
+        ensures payload { self.new.payload ≡ self.old.payload }
+    {
+        let had_failed = replace(&mut self.had_failed, has_failed);
+        has_failed && !had_failed
+    }
+
     /// Completes a held transfer, whose payload has this byte in each place, and prints its data.
     fn serve(&mut self, tag: Tag, byte: u8, report: &mut Report) -> Result<(), AllocError>
         ensures { OnOk result
             ((o : Origin) (acts : List Act) → RunsOn self.old o acts
-            → Serves self.new o acts tag byte report.old report.new) }
+            → Has self.new o report.old report.new (completed o acts tag byte)) }
     {
         fill(&mut self.payload, self.drive.expects(tag), byte)?;
         // what is held completes, unless memory is refused
@@ -142,21 +166,6 @@ impl RunningPhase {
         Ok(())
     }
 
-    /// Gives the drive the FIS of a queued command.
-    fn accept(&mut self, command: &Command, tag: Tag) -> Accepted
-        requires address { IfSome (lba_of command.now) (λ lba. lba < 2 ^ 48) }
-        requires counted { IsCounted command.now }
-        ensures { (o : Origin) (acts : List Act) → RunsOn self.old o acts
-            → Accepts self.new o acts command.now tag result }
-    {
-        let accepted = self
-            .drive
-            .accept(&to_fis(command, tag).to_bytes(), &[])
-            .unwrap();
-        self.acts = self.acts.wrapping_add(1);
-        accepted
-    }
-
     /// Accepts a queued transfer, and completes it where it is held.
     fn transfer(
         &mut self,
@@ -167,12 +176,14 @@ impl RunningPhase {
     ) -> Result<Turn, AllocError>
         requires address { IfSome (lba_of command.now) (λ lba. lba < 2 ^ 48) }
         requires counted { IsCounted command.now }
-        ensures goes { IfOk result (λ turn. GoesOn (Line.Read transfer.now) turn) }
-        ensures does { OnOk result
-            ((o : Origin) (acts : List Act) → RunsOn self.old o acts
-            → Transfers self.new o acts command.now transfer.now byte report.old report.new) }
+        requires payload { payload_length (fis_of command.now transfer.now.tag) ≡ 0 }
+        ensures { IfOk result (Makes (λ o acts. transferred o acts command.now transfer.now byte)
+            self.old self.new report.old report.new) }
     {
-        let accepted = self.accept(command, transfer.tag);
+        let has_failed = self.drive.failure().is_some();
+        let aborted = self.is_first_abort(has_failed);
+        self.payload.clear();
+        let accepted = self.accept(command, transfer.tag)?;
         if accepted.held {
             self.serve(transfer.tag, byte, report)?;
             return Ok(Turn::Goes { aborted: false });
@@ -184,8 +195,154 @@ impl RunningPhase {
             ..
         } = accepted;
         report.print_refusal(self.acts, transfer.client, status, error, denied)?;
-        self.failures = self.failures.saturating_add(1);
-        let aborted = self.failures == 2;
         Ok(Turn::Goes { aborted })
+    }
+
+    /// Gives the drive an unqueued command with the payload at hand, and prints what came of it.
+    fn command(
+        &mut self,
+        client: u32,
+        command: &Command,
+        report: &mut Report,
+    ) -> Result<Turn, AllocError>
+        requires address { IfSome (lba_of command.now) (λ lba. lba < 2 ^ 48) }
+        requires counted { IsCounted command.now }
+        requires payload { length self.old.payload.items ≡ payload_length (fis_of command.now 0) }
+        ensures { IfOk result
+            (Makes (λ o acts. commanded o acts client command.now self.old.payload.items)
+            self.old self.new report.old report.new) }
+    {
+        let has_failed = self.drive.failure().is_some();
+        let is_first = self.is_first_abort(has_failed);
+        let accepted = self.accept(command, Tag::low_bits(0))?;
+        let aborted = printing::has_failed(&accepted) && is_first;
+        print_answer(report, self.acts, client, command, accepted)?;
+        Ok(Turn::Goes { aborted })
+    }
+
+    fn read(&mut self, transfer: &Transfer, report: &mut Report) -> Result<Turn, AllocError>
+        ensures { IfOk result (Makes (λ o acts. effect_of o acts (Line.Read transfer.now))
+            self.old self.new report.old report.new) }
+    {
+        self.transfer(&read_of(transfer), transfer, 0, report)
+    }
+
+    fn write(
+        &mut self,
+        transfer: &Transfer,
+        byte: u8,
+        report: &mut Report,
+    ) -> Result<Turn, AllocError>
+        ensures { IfOk result (Makes (λ o acts. effect_of o acts (Line.Write transfer.now byte))
+            self.old self.new report.old report.new) }
+    {
+        self.transfer(&write_of(transfer), transfer, byte, report)
+    }
+
+    fn read_dma(&mut self, transfer: &DmaTransfer, report: &mut Report) -> Result<Turn, AllocError>
+        ensures { IfOk result (Makes (λ o acts. effect_of o acts (Line.ReadDma transfer.now))
+            self.old self.new report.old report.new) }
+    {
+        self.payload.clear();
+        self.command(transfer.client, &read_dma_of(transfer), report)
+    }
+
+    fn write_dma(
+        &mut self,
+        transfer: &DmaTransfer,
+        byte: u8,
+        report: &mut Report,
+    ) -> Result<Turn, AllocError>
+        ensures { IfOk result (Makes (λ o acts. effect_of o acts (Line.WriteDma transfer.now byte))
+            self.old self.new report.old report.new) }
+    {
+        let size = SECTOR_SIZE * sectors(transfer.count) as usize;
+        fill(&mut self.payload, size, byte)?;
+        self.command(transfer.client, &write_dma_of(transfer), report)
+    }
+
+    /// Sends the bytes at hand to a ComID.
+    fn send_bytes(
+        &mut self,
+        client: u32,
+        com_id: ComId,
+        report: &mut Report,
+    ) -> Result<Turn, AllocError>
+        requires { length self.old.payload.items ≤ most_send_bytes }
+        ensures { IfOk result (Makes (λ o acts. sends o acts client com_id self.old.payload.items)
+            self.old self.new report.old report.new) }
+    {
+        let blocks = pad(&mut self.payload)?;
+        self.command(client, &send_of(com_id, blocks), report)
+    }
+
+    fn call(
+        &mut self,
+        client: u32,
+        com_id: ComId,
+        session: Session,
+        tokens: &Hex<'_>,
+        report: &mut Report,
+    ) -> Result<Turn, AllocError>
+        requires some { 0 < length tokens.now }
+        requires most { length tokens.now ≤ most_call_bytes }
+        ensures { IfOk result
+            (Makes (λ o acts. effect_of o acts (Line.Call client com_id session tokens.now))
+            self.old self.new report.old report.new) }
+    {
+        self.payload.clear();
+        tokens.decode_into(&mut self.payload)?;
+        self.payload = frame(self.alloc, com_id, session, &self.payload)?;
+        self.send_bytes(client, com_id, report)
+    }
+
+    fn send(
+        &mut self,
+        client: u32,
+        com_id: ComId,
+        packet: &Hex<'_>,
+        report: &mut Report,
+    ) -> Result<Turn, AllocError>
+        requires { length packet.now ≤ most_send_bytes }
+        ensures { IfOk result (Makes (λ o acts. effect_of o acts (Line.Send client com_id packet.now))
+            self.old self.new report.old report.new) }
+    {
+        self.payload.clear();
+        packet.decode_into(&mut self.payload)?;
+        self.send_bytes(client, com_id, report)
+    }
+
+    fn receive(
+        &mut self,
+        client: u32,
+        com_id: ComId,
+        blocks: u16,
+        report: &mut Report,
+    ) -> Result<Turn, AllocError>
+        ensures { IfOk result
+            (Makes (λ o acts. effect_of o acts (Line.Receive client com_id blocks))
+            self.old self.new report.old report.new) }
+    {
+        self.payload.clear();
+        self.command(client, &receive_of(com_id, blocks), report)
+    }
+
+    fn read_log(&mut self, client: u32, report: &mut Report) -> Result<Turn, AllocError>
+        ensures { IfOk result (Makes (λ o acts. effect_of o acts (Line.Log client))
+            self.old self.new report.old report.new) }
+    {
+        self.payload.clear();
+        self.command(client, &Command::ReadLog10 { dma: true }, report)
+    }
+
+    fn reset(&mut self, kind: Reset, report: &mut Report) -> Result<Turn, AllocError>
+        ensures { IfOk result (λ turn. (client : ℕ)
+            → Makes (λ o acts. effect_of o acts (Line.Reset client kind))
+            self.old self.new report.old report.new turn) }
+    {
+        self.drive.reset(kind_named(kind));
+        self.acts = self.acts.wrapping_add(1);
+        report.print_ok()?;
+        Ok(Turn::Goes { aborted: false })
     }
 }

@@ -8,5 +8,5 @@ mod response;
 mod trusted;
 
 pub use laws::laws_of_answers;
-pub use response::is_session_com_id;
+pub use response::{is_session_com_id, sized};
 pub use trusted::{Sent, Tper};

@@ -70,7 +70,7 @@ pub struct Responses {
 }
 
 /// Bytes with zeros behind them up to a length, or cut at it.
-fn sized(alloc: Global, bytes: &[u8], length: usize) -> Result<Vec<u8>, AllocError>
+pub fn sized(alloc: Global, bytes: &[u8], length: usize) -> Result<Vec<u8>, AllocError>
     ensures { IfOk result (λ v. v.items ≡ sized length bytes.now) }
 {
     let mut out = Vec::with_capacity(alloc, length)?;

@@ -10,7 +10,7 @@ pub returns-clause-fits : goal.returns-clause-fits
 returns-clause-fits c =
     let inside = c.self.inside in
     let made : c.policy.result ≡ policy inside.tper.store.config.sectors _ c.args.transfer.now =
-        c.policy.ensures ∙ ap (λ (n : ℕ). policy n inside.ranges c.args.transfer.now) (sym c.self.invariant.1)
-        ∙ ap (λ (rows : RangeRows). policy inside.tper.store.config.sectors rows c.args.transfer.now) c.self.invariant.2 in
+    c.policy.ensures ∙ ap (λ (n : ℕ). policy n inside.ranges c.args.transfer.now) (sym c.self.invariant.1)
+    ∙ ap (λ (rows : RangeRows). policy inside.tper.store.config.sectors rows c.args.transfer.now) c.self.invariant.2 in
     subst (λ (d : State). IfOk c.policy.result (FitsPolicy d c.args.transfer.now)) c.self.view_is
     (policy-fits inside.tper.store.config.sectors inside.tper.store.config.mbr_sectors (look_up (committed_sight inside.tper.store)) c.args.transfer.now c.policy.result made)

@@ -1,21 +1,14 @@
-use Rattle.std.proofs.Common.{List}
-use Rattle.tool.specs.Effects.{read_of, write_of, RunsOn, Transfers}
-use Rattle.trusted_cmds.specs.declared.command.Command.{Command}
-use Rattle.drive.specs.Opening.{Origin}
-use Rattle.drive.specs.History.{Act}
-use Rattle.tool.proofs.Runs.{of_command}
+use Rattle.std.proofs.lemmas.Result.{IfOk-weaker}
 use Rattle.tool.proofs.running.RunningPhase.act.Goals as goal
 
--- src/running.rt:106:5
-pub returns-in-Read-clause-does : goal.returns-in-Read-clause-does
-returns-in-Read-clause-does c = rw c.in-Read.is (of_command c.transfer.result
-    (λ (command : Command). (o : Origin) (acts : List Act) → RunsOn c.args.self.now o acts
-    → Transfers c.transfer.new.self o acts command c.in-Read.transfer 0 c.args.report.now c.transfer.new.report)
-    c.read_of.result (read_of c.in-Read.transfer) c.read_of.ensures c.transfer.ensures.does)
+pub returns-in-Send : goal.returns-in-Send
+returns-in-Send c = rw c.in-Send.is c.send.ensures
 
--- src/running.rt:106:5
-pub returns-in-Write-clause-does : goal.returns-in-Write-clause-does
-returns-in-Write-clause-does c = rw c.in-Write.is (of_command c.transfer-in-Write.result
-    (λ (command : Command). (o : Origin) (acts : List Act) → RunsOn c.args.self.now o acts
-    → Transfers c.transfer-in-Write.new.self o acts command c.in-Write.transfer c.in-Write.byte c.args.report.now c.transfer-in-Write.new.report)
-    c.write_of.result (write_of c.in-Write.transfer) c.write_of.ensures c.transfer-in-Write.ensures.does)
+pub returns-in-Receive : goal.returns-in-Receive
+returns-in-Receive c = rw c.in-Receive.is c.receive.ensures
+
+pub returns-in-Reset : goal.returns-in-Reset
+returns-in-Reset c = rw c.in-Reset.is (IfOk-weaker c.reset.result _ _ (λ turn makes. makes c.in-Reset.client) c.reset.ensures)
+
+pub returns-in-Call : goal.returns-in-Call
+returns-in-Call c = rw c.in-Call.is c.call.ensures

@@ -1,0 +1,42 @@
+use Rattle.std.proofs.Common.{◌≡◌, ◌<◌, ◌∙◌, ap, sym, subst, refl, ℕ}
+use Rattle.history.specs.Facts.{facts}
+use Rattle.history.specs.History.{log}
+use Rattle.drive.specs.declared.decision.Decision.{Decision}
+use Rattle.drive.specs.Decision.{IsDue}
+use Rattle.drive.proofs.Acting.{aborts-done, fails-done, holds-done, moves-done, executes-done}
+use Rattle.drive.proofs.drive.Drive.act.Goals as goal
+
+pub returns-in-Aborts-clause-done : goal.returns-in-Aborts-clause-done
+returns-in-Aborts-clause-done c = λ o acts k.
+    let e = c.failed.ensures in
+    aborts-done (facts o (log o acts)) c.args.h.now c.args.self.now o (log o acts) c.args.payload.now c.in-Aborts.error c.in-Aborts.denied c.args.decision c.failed.result c.in-Aborts.is
+    (record { status_is = e.status; error_is = e.error; held_is = e.held; fises_are = e.fises; bytes_are = e.bytes; denied_is = e.denied }) k
+
+pub returns-in-FailsQueue-clause-done : goal.returns-in-FailsQueue-clause-done
+returns-in-FailsQueue-clause-done c = λ o acts k.
+    let e = c.failed-in-FailsQueue.ensures in
+    fails-done (facts o (log o acts)) c.args.h.now c.args.self.now c.fail_queue.new.self o (log o acts) c.args.payload.now c.in-FailsQueue.failure c.in-FailsQueue.denied c.args.decision c.failed-in-FailsQueue.result c.in-FailsQueue.is c.fail_queue.ensures
+    (record { status_is = e.status; error_is = e.error; held_is = e.held; fises_are = e.fises; bytes_are = e.bytes; denied_is = e.denied }) k
+
+pub returns-in-Holds-clause-done : goal.returns-in-Holds-clause-done
+returns-in-Holds-clause-done c = λ o acts k.
+    let e = c.held.ensures in
+    let due = subst (λ (x : Decision). IsDue c.args.self.now c.args.h.now x) c.in-Holds.is c.requires.due in
+    holds-done (facts o (log o acts)) c.args.h.now c.args.self.now c.hold.new.self o (log o acts) c.args.payload.now c.in-Holds.tag c.in-Holds.held c.args.decision c.held.result due.slot c.in-Holds.is c.hold.ensures due.reads
+    (record { status_is = e.status; error_is = e.error; held_is = e.held; fises_are = e.fises; bytes_are = e.bytes; denied_is = e.denied }) k
+
+pub returns-in_ok-bytes-in-Moves-clause-done : goal.returns-in_ok-bytes-in-Moves-clause-done
+returns-in_ok-bytes-in-Moves-clause-done c = λ o acts k.
+    let e = c.served.ensures in
+    let m = c.in_ok-bytes-in-Moves.ensures in
+    let due = subst (λ (x : Decision). IsDue c.args.self.now c.args.h.now x) c.in-Moves.is c.requires.due in
+    moves-done c.args.h.now c.args.self.now c.carry_out.new.self o (log o acts) c.args.payload.now c.in-Moves.held c.args.decision c.served.result c.in-Moves.is due m.tper m.queue m.media
+    (record { status_is = e.status; error_is = e.error; held_is = e.held; fises_are = e.fises ∙ c.moved_fises.ensures; bytes_are = e.bytes ∙ m.data (facts o (log o acts)); denied_is = e.denied }) k
+
+pub returns-in_ok-bytes-in-Executes-clause-done : goal.returns-in_ok-bytes-in-Executes-clause-done
+returns-in_ok-bytes-in-Executes-clause-done c = λ o acts k.
+    let e = c.served-in-Executes.ensures in
+    let x = c.in_ok-bytes-in-Executes.ensures in
+    let due = subst (λ (x : Decision). IsDue c.args.self.now c.args.h.now x) c.in-Executes.is c.requires.due in
+    executes-done (facts o (log o acts)) c.args.h.now c.execute.new.self o (log o acts) c.args.payload.now c.in-Executes.command c.args.decision c.served-in-Executes.result c.in-Executes.is due
+    (record { status_is = e.status; error_is = e.error; held_is = e.held; fises_are = e.fises ∙ c.served_fises.ensures; bytes_are = e.bytes ∙ x.data o acts k; denied_is = e.denied ∙ x.denied o acts k }) (x.kept o acts k)

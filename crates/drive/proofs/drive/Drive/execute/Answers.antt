@@ -1,0 +1,41 @@
+use Rattle.std.proofs.Common.{◌≡◌, ◌*◌, ◌∙◌, ap, sym, subst, refl, ℕ, List, ◌∷◌}
+use Rattle.shadow_mbr.specs.Stored.{sector_size}
+use Rattle.trusted_cmds.specs.declared.command.Command.{Command}
+use Rattle.trusted_cmds.specs.declared.command.Command.TheVariants.{Identify}
+use Rattle.history.specs.Answers.{data_of, receive_data}
+use Rattle.history.specs.Facts.{Facts, facts}
+use Rattle.history.specs.History.{log}
+use Rattle.drive.specs.Decision.{executed}
+use Rattle.drive.specs.State.{Keeps}
+use Rattle.drive.proofs.Keeping.{seen-is, nothing-keeps, mended-keeps}
+use Rattle.drive.proofs.drive.Drive.execute.Goals as goal
+
+pub returns-in_ok-bytes-in-Receive-clause-kept : goal.returns-in_ok-bytes-in-Receive-clause-kept
+returns-in_ok-bytes-in-Receive-clause-kept c = λ o acts k.
+    subst (λ (x : Command). Keeps c.received.new.self o (executed (facts o (log o acts)) c.args.payload.now x ∷ log o acts)) (sym c.in-Receive.is)
+    (c.in_ok-bytes-in-Receive.ensures.kept o (log o acts) c.in-Receive.blocks (ap (λ (n : ℕ). sector_size * n) c.from.ensures) k)
+
+pub returns-in_ok-bytes-in-Receive-clause-data : goal.returns-in_ok-bytes-in-Receive-clause-data
+returns-in_ok-bytes-in-Receive-clause-data c = λ o acts k.
+    subst (λ (x : Command). c.in_ok-bytes-in-Receive.bytes.items ≡ data_of (facts o (log o acts)) x) (sym c.in-Receive.is)
+    (c.in_ok-bytes-in-Receive.ensures.data o acts k ∙ ap (λ (n : ℕ). receive_data (facts o (log o acts)) c.in-Receive.sp_specific (sector_size * n)) c.from.ensures)
+
+pub returns-in_ok-identify-in-Identify-clause-kept : goal.returns-in_ok-identify-in-Identify-clause-kept
+returns-in_ok-identify-in-Identify-clause-kept c = λ o acts k.
+    subst (λ (x : Command). Keeps c.args.self.now o (executed (facts o (log o acts)) c.args.payload.now x ∷ log o acts)) (sym c.in-Identify.is)
+    (nothing-keeps c.args.self.now o (log o acts) _ refl k)
+
+pub returns-in_ok-identify-in-Identify-clause-data : goal.returns-in_ok-identify-in-Identify-clause-data
+returns-in_ok-identify-in-Identify-clause-data c = λ o acts k.
+    subst (λ (x : Command). c.in_ok-identify-in-Identify.field-0.items ≡ data_of (facts o (log o acts)) x) (sym c.in-Identify.is)
+    (c.in_ok-identify-in-Identify.ensures ∙ ap (λ (f : Facts). data_of f Identify) (seen-is c.args.self.now o (log o acts) k))
+
+pub returns-in_ok-read_log-in-ReadLog10-clause-kept : goal.returns-in_ok-read_log-in-ReadLog10-clause-kept
+returns-in_ok-read_log-in-ReadLog10-clause-kept c = λ o acts k.
+    subst (λ (x : Command). Keeps c.read_log.new.self o (executed (facts o (log o acts)) c.args.payload.now x ∷ log o acts)) (sym c.in-ReadLog10.is)
+    (mended-keeps c.args.self.now c.read_log.new.self o (log o acts) c.in_ok-read_log-in-ReadLog10.ensures.mended k)
+
+pub returns-in-Flush-clause-kept : goal.returns-in-Flush-clause-kept
+returns-in-Flush-clause-kept c = λ o acts k.
+    subst (λ (x : Command). Keeps c.args.self.now o (executed (facts o (log o acts)) c.args.payload.now x ∷ log o acts)) (sym c.in-Flush.is)
+    (nothing-keeps c.args.self.now o (log o acts) _ refl k)

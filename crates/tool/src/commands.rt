@@ -1,0 +1,95 @@
+//! The commands and resets that lines ask for.
+
+ghost use Rattle.std.specs.Prelude.{◌≡◌, ◌<◌, ◌^◌, IfSome};
+ghost use Rattle.trusted_cmds.specs.Commands.{lba_of, IsCounted};
+ghost use Rattle.tool.specs.Acts.{read_of, write_of, read_dma_of, write_dma_of, send_of, receive_of, kind_named};
+
+use compacket::ComId;
+use drive::ResetKind;
+use script_lines::{DmaTransfer, Reset, Transfer};
+use trusted_cmds::{Command, sectors};
+
+/// The security protocol whose SP Specific field is a ComID.
+const COM_ID_PROTOCOL: u8 = 1;
+
+/// A queued read.
+pub fn read_of(transfer: &Transfer) -> Command
+    ensures value { result ≡ read_of transfer.now }
+    ensures address { IfSome (lba_of result) (λ lba. lba < 2 ^ 48) }
+    ensures counted { IsCounted result }
+{
+    Command::ReadQueued {
+        lba: transfer.lba.number(),
+        count: sectors(transfer.count),
+    }
+}
+
+/// A queued write.
+pub fn write_of(transfer: &Transfer) -> Command
+    ensures value { result ≡ write_of transfer.now }
+    ensures address { IfSome (lba_of result) (λ lba. lba < 2 ^ 48) }
+    ensures counted { IsCounted result }
+{
+    Command::WriteQueued {
+        lba: transfer.lba.number(),
+        count: sectors(transfer.count),
+    }
+}
+
+/// A read that is not queued.
+pub fn read_dma_of(transfer: &DmaTransfer) -> Command
+    ensures value { result ≡ read_dma_of transfer.now }
+    ensures address { IfSome (lba_of result) (λ lba. lba < 2 ^ 48) }
+    ensures counted { IsCounted result }
+{
+    Command::ReadDma {
+        lba: transfer.lba.number(),
+        count: sectors(transfer.count),
+    }
+}
+
+/// A write that is not queued.
+pub fn write_dma_of(transfer: &DmaTransfer) -> Command
+    ensures value { result ≡ write_dma_of transfer.now }
+    ensures address { IfSome (lba_of result) (λ lba. lba < 2 ^ 48) }
+    ensures counted { IsCounted result }
+{
+    Command::WriteDma {
+        lba: transfer.lba.number(),
+        count: sectors(transfer.count),
+    }
+}
+
+/// A send of so many blocks to a ComID.
+pub fn send_of(com_id: ComId, blocks: u16) -> Command
+    ensures { result ≡ send_of com_id blocks }
+{
+    Command::Send {
+        protocol: COM_ID_PROTOCOL,
+        sp_specific: com_id,
+        blocks,
+        dma: true,
+    }
+}
+
+/// A receive of so many blocks from a ComID.
+pub fn receive_of(com_id: ComId, blocks: u16) -> Command
+    ensures { result ≡ receive_of com_id blocks }
+{
+    Command::Receive {
+        protocol: COM_ID_PROTOCOL,
+        sp_specific: com_id,
+        blocks,
+        dma: true,
+    }
+}
+
+/// The kind of a reset.
+pub fn kind_named(kind: Reset) -> ResetKind
+    ensures { result ≡ kind_named kind }
+{
+    match kind {
+        Reset::Power => ResetKind::Power,
+        Reset::Hardware => ResetKind::Hardware,
+    }
+}

@@ -1,0 +1,91 @@
+//! What a command prints.
+
+ghost use Rattle.std.specs.Prelude.{◌≡◌, ◌∷◌, ◌==◌, [], OnOk, take};
+ghost use Rattle.compacket.specs.Frames.{com_packet_size};
+ghost use Rattle.script_lines.specs.Texts.{Prints};
+ghost use Rattle.tool.specs.Effects.{failed_status, shown, served_text, told_lines};
+
+use audit::AuditLine;
+use byteorder::{BigEndian, ByteOrder};
+use compacket::{COM_PACKET_HEADER, ComId};
+use device_data::DISCOVERY_LENGTH;
+use drive::Accepted;
+use script_lines::Report;
+use std::alloc::AllocError;
+use trusted_cmds::Command;
+
+/// The ComID of Level 0 discovery.
+const DISCOVERY_COM_ID: ComId = 1;
+
+/// The status of a command that failed.
+const FAILED: u8 = 0x51;
+
+/// Whether a command failed.
+pub fn has_failed(accepted: &Accepted) -> bool
+    ensures { result ≡ (accepted.now.status == failed_status) }
+{
+    accepted.status == FAILED
+}
+
+/// The header of a ComPacket and the bytes that it counts, as far as they are there.
+fn com_packet(bytes: &[u8]) -> &[u8]
+    ensures { result.now ≡ take (com_packet_size bytes.now) bytes.now }
+{
+    if bytes.len() < COM_PACKET_HEADER {
+        return bytes;
+    }
+    let size = COM_PACKET_HEADER + BigEndian::read_u32(&bytes[16..]) as usize;
+    &bytes[..size.min(bytes.len())]
+}
+
+/// What a receive shows.
+fn shown(com_id: ComId, bytes: &[u8]) -> &[u8]
+    ensures { result.now ≡ shown com_id bytes.now }
+{
+    if com_id == DISCOVERY_COM_ID {
+        &bytes[..DISCOVERY_LENGTH.min(bytes.len())]
+    } else {
+        com_packet(bytes)
+    }
+}
+
+/// Prints that a command was served, with its data.
+fn print_served(report: &mut Report, command: &Command, bytes: &[u8]) -> Result<(), AllocError>
+    ensures { OnOk result (Prints report.old report.new (served_text command.now bytes.now ∷ [])) }
+{
+    match *command {
+        Command::ReadDma { .. } => report.print_data(bytes)?,
+        Command::Receive { sp_specific, .. } => report.print_hex(shown(sp_specific, bytes))?,
+        Command::ReadLog10 { .. } => report.print_hex(bytes)?,
+        _ => report.print_ok()?,
+    }
+    Ok(())
+}
+
+/// Prints what came of a command, and under the number of its act what denied it to a client.
+pub fn print_answer(
+    report: &mut Report,
+    step: u64,
+    client: u32,
+    command: &Command,
+    accepted: Accepted,
+) -> Result<(), AllocError>
+    ensures { OnOk result (Prints report.old report.new (told_lines step client command.now accepted)) }
+{
+    let failed = has_failed(&accepted);
+    let Accepted {
+        status,
+        error,
+        bytes,
+        denied,
+        ..
+    } = accepted;
+    if failed {
+        return report.print_refusal(step, client, status, error, denied);
+    }
+    print_served(report, command, &bytes)?;
+    if let Some(why) = denied {
+        report.print_audit(&AuditLine { step, client, why })?;
+    }
+    Ok(())
+}
