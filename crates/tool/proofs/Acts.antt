@@ -27,18 +27,34 @@ flag-of n false e = lt-leb 128 n (omega (arith, e))
 -- what is read of the bytes that spell a FIS
 pub read-back : (bytes : List ℕ) (h : RegH2d) → IsH2d bytes h → h2d_at bytes ≡ h
 read-back bytes h is =
-    rw (flag-of (slice_index bytes 1) h.is_command is.is_command, is.port, is.command, is.feature, is.lba, is.device, is.count, is.icc, is.control) refl
+    rw (
+      flag-of
+          (slice_index bytes 1) h.is_command is.is_command,
+      is.port,
+      is.command,
+      is.feature,
+      is.lba,
+      is.device,
+      is.count,
+      is.icc,
+      is.control,
+    ) refl
 
 split-6 : (n : ℕ)
-    → n % 256 + 256 * (n / 256 % 256) + 256 ^ 2 * (n / 256 / 256 % 256) + 256 ^ 3 * (n / 256 / 256 / 256 % 256)
+    → n % 256 + 256 * (n / 256 % 256) + 256 ^ 2 * (n / 256 / 256 % 256) + 256 ^ 3 *
+    (n / 256 / 256 / 256 % 256)
     + 256 ^ 4 * (n / 256 / 256 / 256 / 256 % 256) + 256 ^ 5 * (n / 256 / 256 / 256 / 256 / 256) ≡ n
 split-6 n = omega arith
 
 -- a FIS of a command is read back from its bytes
-with-back : (code feature lba device count : ℕ) → h2d_at (fis_bytes (fis_with code feature lba device count)) ≡ fis_with code feature lba device count
-with-back code feature lba device count = rw (mod-add-div feature 256, split-6 lba, mod-add-div count 256) refl
+with-back : (code feature lba device count : ℕ)
+    → h2d_at
+    (fis_bytes (fis_with code feature lba device count)) ≡ fis_with code feature lba device count
+with-back code feature lba device count =
+    rw (mod-add-div feature 256, split-6 lba, mod-add-div count 256) refl
 
-pub fis-back : (command : Command) (tag : ℕ) → h2d_at (fis_bytes (fis_of command tag)) ≡ fis_of command tag
+pub fis-back : (command : Command) (tag : ℕ)
+    → h2d_at (fis_bytes (fis_of command tag)) ≡ fis_of command tag
 fis-back (commands.ReadQueued lba count) tag = with-back _ _ _ _ _
 fis-back (commands.WriteQueued lba count) tag = with-back _ _ _ _ _
 fis-back (commands.ReadDma lba count) tag = with-back _ _ _ _ _
@@ -49,31 +65,43 @@ fis-back commands.Identify tag = with-back _ _ _ _ _
 fis-back (commands.ReadLog10 dma) tag = with-back _ _ _ _ _
 fis-back commands.Flush tag = with-back _ _ _ _ _
 
-by-command : (f : Facts) (command : Command) (tag : ℕ) (bytes payload : List ℕ) → IsH2d bytes (fis_of command tag)
+by-command : (f : Facts) (command : Command) (tag : ℕ) (bytes payload : List ℕ)
+    → IsH2d bytes (fis_of command tag)
     → accepted f bytes payload ≡ commanded f (fis_of command tag) payload
 by-command f command tag bytes payload is =
     ap (λ kind. if kind == h2d_type then commanded f (h2d_at bytes) payload else refuses) is.kind
     ∙ ap (λ h. commanded f h payload) (read-back bytes (fis_of command tag) is)
 
 -- the event of a spelling is that of the bytes
-pub same-event : (o : Origin) (past : List Event) (command : Command) (tag : ℕ) (bytes payload : List ℕ) → IsH2dSpelling bytes (fis_of command tag)
+pub same-event : (o : Origin) (past : List Event) (command : Command) (tag : ℕ)
+    (bytes payload : List ℕ) → IsH2dSpelling bytes (fis_of command tag)
     → event o past (Accept bytes payload) ≡ event o past (accept_of command tag payload)
 same-event o past command tag bytes payload is =
     by-command (facts o past) command tag bytes payload is.writing
     ∙ sym (ap (λ h. commanded (facts o past) h payload) (fis-back command tag))
 
 -- a drive agrees with the act of the command, and its answer is that of the command's event
-pub agrees-so : (d : State) (o : Origin) (acts : List Act) (command : Command) (tag : ℕ) (bytes payload : List ℕ) → IsH2dSpelling bytes (fis_of command tag)
+pub agrees-so : (d : State) (o : Origin) (acts : List Act) (command : Command) (tag : ℕ)
+    (bytes payload : List ℕ) → IsH2dSpelling bytes (fis_of command tag)
     → Agrees d o (Accept bytes payload ∷ acts) → Agrees d o (accept_of command tag payload ∷ acts)
 agrees-so d o acts command tag bytes payload is agrees =
-    subst (λ made. Keeps d o (made ∷ log o acts)) (same-event o (log o acts) command tag bytes payload is) agrees
+    subst (λ made. Keeps d o (made ∷ log o acts))
+    (same-event o (log o acts) command tag bytes payload is) agrees
 
-pub answers-so : (accepted : Accepted) (o : Origin) (acts : List Act) (command : Command) (tag : ℕ) (bytes payload : List ℕ) → IsH2dSpelling bytes (fis_of command tag)
-    → IsAnswer (facts o (log o acts)) (h2d_at bytes) (event o (log o acts) (Accept bytes payload)) accepted
-    → IsAnswer (facts o (log o acts)) (fis_of command tag) (event o (log o acts) (accept_of command tag payload)) accepted
+pub answers-so : (accepted : Accepted) (o : Origin) (acts : List Act) (command : Command) (tag : ℕ)
+    (bytes payload : List ℕ) → IsH2dSpelling bytes (fis_of command tag)
+    → IsAnswer (facts o (log o acts)) (h2d_at bytes)
+    (event o (log o acts) (Accept bytes payload)) accepted
+    → IsAnswer (facts o (log o acts)) (fis_of command tag)
+    (event o (log o acts) (accept_of command tag payload)) accepted
 answers-so accepted o acts command tag bytes payload is answer =
-    subst (λ h. IsAnswer (facts o (log o acts)) h (event o (log o acts) (accept_of command tag payload)) accepted) (read-back bytes (fis_of command tag) is.writing)
-    (subst (λ made. IsAnswer (facts o (log o acts)) (h2d_at bytes) made accepted) (same-event o (log o acts) command tag bytes payload is) answer)
+    subst
+    (λ h. IsAnswer (facts o (log o acts)) h
+    (event o (log o acts) (accept_of command tag payload)) accepted)
+    (read-back bytes (fis_of command tag) is.writing)
+    (subst (λ made. IsAnswer (facts o (log o acts)) (h2d_at bytes) made accepted)
+    (same-event o (log o acts) command tag bytes payload is) answer)
 
-pub counted-so : (n : ℕ) (acts : List Act) (act : Act) → n ≡ step_of acts → (n + 1) % 2 ^ 64 ≡ step_of (act ∷ acts)
+pub counted-so : (n : ℕ) (acts : List Act) (act : Act) → n ≡ step_of acts
+    → (n + 1) % 2 ^ 64 ≡ step_of (act ∷ acts)
 counted-so n acts act e = omega (arith, e)

@@ -32,63 +32,100 @@ use Rattle.tool.specs.declared.running.Turn.TheVariants as turns
 use Rattle.tool.specs.declared.running.RunningPhase.{RunningPhase}
 use Rattle.trusted_cmds.specs.declared.command.Command.{Command}
 
-has-run : (new : RunningPhase) (o : Origin) (before after : Report) (effect : Effect) → Has new o before after effect → Stands new
+has-run : (new : RunningPhase) (o : Origin) (before after : Report) (effect : Effect)
+    → Has new o before after effect → Stands new
 has-run new o before after effect has = (o, effect.acts, has.runs)
 
-doing : (line : told.Line) (text : List ℕ) (turn : Turn) (old new : RunningPhase) (o : Origin) (acts : List Act) (before after : Report)
+doing : (line : told.Line) (text : List ℕ) (turn : Turn) (old new : RunningPhase) (o : Origin)
+    (acts : List Act) (before after : Report)
     → RunsOn old o acts → Does line text turn old new o acts before after → Stands new
-doing (lines.Read transfer) text turn old new o acts before after runs does = has-run new o before after _ does.0
-doing (lines.Write transfer byte) text turn old new o acts before after runs does = has-run new o before after _ does.0
-doing (lines.ReadDma transfer) text turn old new o acts before after runs does = has-run new o before after _ does.0
-doing (lines.WriteDma transfer byte) text turn old new o acts before after runs does = has-run new o before after _ does.0
-doing (lines.Call client com_id session tokens) text turn old new o acts before after runs does = has-run new o before after _ does.0
-doing (lines.Send client com_id packet) text turn old new o acts before after runs does = has-run new o before after _ does.0
-doing (lines.Receive client com_id blocks) text turn old new o acts before after runs does = has-run new o before after _ does.0
-doing (lines.Log client) text turn old new o acts before after runs does = has-run new o before after _ does.0
-doing (lines.Reset client kind) text turn old new o acts before after runs does = has-run new o before after _ does.0
-doing lines.Expect text turn old new o acts before after runs does = (o, acts, subst (λ run. RunsOn run o acts) (sym does.0) runs)
-doing (lines.Range row) text turn old new o acts before after runs does = (o, acts, subst (λ run. RunsOn run o acts) (sym does.0) runs)
+doing (lines.Read transfer) text turn old new o acts before after runs does =
+    has-run new o before after _ does.0
+doing (lines.Write transfer byte) text turn old new o acts before after runs does =
+    has-run new o before after _ does.0
+doing (lines.ReadDma transfer) text turn old new o acts before after runs does =
+    has-run new o before after _ does.0
+doing (lines.WriteDma transfer byte) text turn old new o acts before after runs does =
+    has-run new o before after _ does.0
+doing (lines.Call client com_id session tokens) text turn old new o acts before after runs does =
+    has-run new o before after _ does.0
+doing (lines.Send client com_id packet) text turn old new o acts before after runs does =
+    has-run new o before after _ does.0
+doing (lines.Receive client com_id blocks) text turn old new o acts before after runs does =
+    has-run new o before after _ does.0
+doing (lines.Log client) text turn old new o acts before after runs does =
+    has-run new o before after _ does.0
+doing (lines.Reset client kind) text turn old new o acts before after runs does =
+    has-run new o before after _ does.0
+doing lines.Expect text turn old new o acts before after runs does =
+    (o, acts, subst (λ run. RunsOn run o acts) (sym does.0) runs)
+doing (lines.Range row) text turn old new o acts before after runs does =
+    (o, acts, subst (λ run. RunsOn run o acts) (sym does.0) runs)
 
 -- a line that says something behind which a script goes on so
-truly-says : (line : told.Line) (text : List ℕ) (turn : Turn) (past : List Event) → line_of text ≡ Ok line → GoesTruly turn past → Says turn text
+truly-says : (line : told.Line) (text : List ℕ) (turn : Turn) (past : List Event)
+    → line_of text ≡ Ok line → GoesTruly turn past → Says turn text
 truly-says line text (turns.Goes aborted) past reads goes = subst IsOk (sym reads) refl
 truly-says line text turns.ExpectationFailed past reads goes = absurd goes
 truly-says line text (turns.Bad fault) past reads goes = absurd goes
 
 expects-so : (held : Bool) (text : List ℕ) (turn : Turn) → line_of text ≡ Ok lines.Expect
     → turn ≡ (if held then turns.Goes false else turns.ExpectationFailed) → Says turn text
-expects-so true text turn reads goes = subst (λ turn. Says turn text) (sym goes) (subst IsOk (sym reads) refl)
+expects-so true text turn reads goes =
+    subst (λ turn. Says turn text) (sym goes) (subst IsOk (sym reads) refl)
 expects-so false text turn reads goes = subst (λ turn. Says turn text) (sym goes) reads
 
-saying : (line : told.Line) (text : List ℕ) (turn : Turn) (old new : RunningPhase) (o : Origin) (acts : List Act) (before after : Report)
+saying : (line : told.Line) (text : List ℕ) (turn : Turn) (old new : RunningPhase) (o : Origin)
+    (acts : List Act) (before after : Report)
     → line_of text ≡ Ok line → Does line text turn old new o acts before after → Says turn text
-saying (lines.Read transfer) text turn old new o acts before after reads does = truly-says _ text turn _ reads does.1
-saying (lines.Write transfer byte) text turn old new o acts before after reads does = truly-says _ text turn _ reads does.1
-saying (lines.ReadDma transfer) text turn old new o acts before after reads does = truly-says _ text turn _ reads does.1
-saying (lines.WriteDma transfer byte) text turn old new o acts before after reads does = truly-says _ text turn _ reads does.1
-saying (lines.Call client com_id session tokens) text turn old new o acts before after reads does = truly-says _ text turn _ reads does.1
-saying (lines.Send client com_id packet) text turn old new o acts before after reads does = truly-says _ text turn _ reads does.1
-saying (lines.Receive client com_id blocks) text turn old new o acts before after reads does = truly-says _ text turn _ reads does.1
-saying (lines.Log client) text turn old new o acts before after reads does = truly-says _ text turn _ reads does.1
-saying (lines.Reset client kind) text turn old new o acts before after reads does = truly-says _ text turn _ reads does.1
-saying lines.Expect text turn old new o acts before after reads does = expects-so _ text turn reads does.2
+saying (lines.Read transfer) text turn old new o acts before after reads does =
+    truly-says _ text turn _ reads does.1
+saying (lines.Write transfer byte) text turn old new o acts before after reads does =
+    truly-says _ text turn _ reads does.1
+saying (lines.ReadDma transfer) text turn old new o acts before after reads does =
+    truly-says _ text turn _ reads does.1
+saying (lines.WriteDma transfer byte) text turn old new o acts before after reads does =
+    truly-says _ text turn _ reads does.1
+saying (lines.Call client com_id session tokens) text turn old new o acts before after reads does =
+    truly-says _ text turn _ reads does.1
+saying (lines.Send client com_id packet) text turn old new o acts before after reads does =
+    truly-says _ text turn _ reads does.1
+saying (lines.Receive client com_id blocks) text turn old new o acts before after reads does =
+    truly-says _ text turn _ reads does.1
+saying (lines.Log client) text turn old new o acts before after reads does =
+    truly-says _ text turn _ reads does.1
+saying (lines.Reset client kind) text turn old new o acts before after reads does =
+    truly-says _ text turn _ reads does.1
+saying lines.Expect text turn old new o acts before after reads does =
+    expects-so _ text turn reads does.2
 saying (lines.Range row) text turn old new o acts before after reads does =
     subst (λ turn. Says turn text) (sym does.2) (subst (λ read. IfOk read IsRange) (sym reads) tt)
 
 -- what a turn says is what its line says
-pub says-after : {E : Type 0} (r : Result Turn E) (line : told.Line) (text : List ℕ) (old new : RunningPhase) (before after : Report) → line_of text ≡ Ok line
-    → Stands old → IfOk r (λ turn. (o : Origin) (acts : List Act) → RunsOn old o acts → Does line text turn old new o acts before after) → IfOk r (λ turn. Says turn text)
-says-after (Ok turn) line text old new before after reads (o, acts, runs) does = saying line text turn old new o acts before after reads (does o acts runs)
+pub says-after : {E : Type 0} (r : Result Turn E) (line : told.Line) (text : List ℕ)
+    (old new : RunningPhase) (before after : Report) → line_of text ≡ Ok line
+    → Stands old
+    → IfOk r
+    (λ turn. (o : Origin) (acts : List Act) → RunsOn old o acts
+    → Does line text turn old new o acts before after) → IfOk r (λ turn. Says turn text)
+says-after (Ok turn) line text old new before after reads (o, acts, runs) does =
+    saying line text turn old new o acts before after reads (does o acts runs)
 says-after (Err e) line text old new before after reads stands does = does
 
 -- behind a line the drive is again as an origin and acts leave it
-pub stands-after : {E : Type 0} (r : Result Turn E) (line : told.Line) (text : List ℕ) (old new : RunningPhase) (before after : Report)
-    → Stands old → IfOk r (λ turn. (o : Origin) (acts : List Act) → RunsOn old o acts → Does line text turn old new o acts before after) → OnOk r (Stands new)
-stands-after (Ok turn) line text old new before after (o, acts, runs) does = doing line text turn old new o acts before after runs (does o acts runs)
+pub stands-after : {E : Type 0} (r : Result Turn E) (line : told.Line) (text : List ℕ)
+    (old new : RunningPhase) (before after : Report)
+    → Stands old
+    → IfOk r
+    (λ turn. (o : Origin) (acts : List Act) → RunsOn old o acts
+    → Does line text turn old new o acts before after) → OnOk r (Stands new)
+stands-after (Ok turn) line text old new before after (o, acts, runs) does =
+    doing line text turn old new o acts before after runs (does o acts runs)
 stands-after (Err e) line text old new before after stands does = does
 
 -- a drive that a line opens is as its origin and no act leave it
-opened-by : (phase : OpeningPhase) (row : Option RangeRow) (turn : OpeningTurn) → OpensBy phase row turn → TurnStands turn
+opened-by : (phase : OpeningPhase) (row : Option RangeRow) (turn : OpeningTurn)
+    → OpensBy phase row turn → TurnStands turn
 opened-by phase (Some row) (openings.Goes next) does = tt
 opened-by phase (Some row) (openings.Runs run) does = absurd does
 opened-by phase (Some row) (openings.Bad fault) does = tt
@@ -96,38 +133,54 @@ opened-by phase None (openings.Goes next) does = tt
 opened-by phase None (openings.Runs run) does = (origin_of phase, [], does)
 opened-by phase None (openings.Bad fault) does = tt
 
-pub opened-stands : (phase : OpeningPhase) (line : told.Line) (turn : OpeningTurn) → OpeningDoes phase line turn → TurnStands turn
+pub opened-stands : (phase : OpeningPhase) (line : told.Line) (turn : OpeningTurn)
+    → OpeningDoes phase line turn → TurnStands turn
 opened-stands phase line turn does = opened-by phase (row_in line) turn does
 
 -- what holds of what was made holds of what was asked for
-pub of-same : {E A : Type 0} (r : Result Turn E) (P : A → Turn → Type 0) (made asked : A) → made ≡ asked → IfOk r (P made) → IfOk r (P asked)
+pub of-same : {E A : Type 0} (r : Result Turn E) (P : A → Turn → Type 0) (made asked : A)
+    → made ≡ asked → IfOk r (P made) → IfOk r (P asked)
 of-same (Ok turn) P made asked same h = subst (λ x. P x turn) same h
 of-same (Err e) P made asked same h = h
 
-pub of-command : {E : Type 0} (r : Result Turn E) (P : Command → List ℕ → Turn → Type 0) (made asked : Command) (given payload : List ℕ)
+pub of-command : {E : Type 0} (r : Result Turn E) (P : Command → List ℕ → Turn → Type 0)
+    (made asked : Command) (given payload : List ℕ)
     → made ≡ asked → given ≡ payload → IfOk r (P made given) → IfOk r (P asked payload)
 of-command r P made asked given payload same bytes h =
-    of-same r (λ command turn. P command payload turn) made asked same (of-same r (λ payload turn. P made payload turn) given payload bytes h)
+    of-same r (λ command turn. P command payload turn) made asked same
+    (of-same r (λ payload turn. P made payload turn) given payload bytes h)
 
 -- a transfer that is held is completed
-pub held-then : (new mid : RunningPhase) (o : Origin) (acts : List Act) (command : Command) (transfer : Transfer) (byte : ℕ) (before after : Report)
-    (accepted : Accepted) (payload : List ℕ) → payload ≡ [] → accepted.held ≡ true → Accepts mid o acts command transfer.tag payload accepted
-    → ((o : Origin) (acts : List Act) → RunsOn mid o acts → Has new o before after (completed o acts transfer.tag byte))
+pub held-then : (new mid : RunningPhase) (o : Origin) (acts : List Act) (command : Command)
+    (transfer : Transfer) (byte : ℕ) (before after : Report)
+    (accepted : Accepted) (payload : List ℕ) → payload ≡ [] → accepted.held ≡ true
+    → Accepts mid o acts command transfer.tag payload accepted
+    → ((o : Origin) (acts : List Act) → RunsOn mid o acts
+    → Has new o before after (completed o acts transfer.tag byte))
     → Has new o before after (transferred o acts command transfer byte)
-held-then new mid o acts command transfer byte before after accepted payload none held accepts serves =
-    let at = subst (λ payload. Accepts mid o acts command transfer.tag payload accepted) none accepts in
+held-then new mid o acts command transfer byte before after accepted payload none held accepts
+    serves =
+    let at =
+    subst (λ payload. Accepts mid o acts command transfer.tag payload accepted) none accepts in
     let made = event o (log o acts) (accept_of command transfer.tag []) in
     let is_held : is_holding made.deed ≡ true = sym at.answer.held ∙ held in
     let later = accept_of command transfer.tag [] ∷ acts in
-    subst (λ h. Has new o before after (if h then completed o later transfer.tag byte else failed later transfer.client made)) (sym is_held) (serves o later at.runs)
+    subst
+    (λ h. Has new o before after
+    (if h then completed o later transfer.tag byte else failed later transfer.client made))
+    (sym is_held) (serves o later at.runs)
 
 -- a drive that was given the bytes of a command's FIS has accepted the command
-pub accepts-so : (new : RunningPhase) (n : ℕ) (o : Origin) (acts : List Act) (command : Command) (tag : ℕ) (bytes given payload : List ℕ) (answered : Accepted)
-    → given ≡ payload → IsH2dSpelling bytes (fis_of command tag) → n ≡ step_of acts → new.acts ≡ (n + 1) % 2 ^ 64
+pub accepts-so : (new : RunningPhase) (n : ℕ) (o : Origin) (acts : List Act) (command : Command)
+    (tag : ℕ) (bytes given payload : List ℕ) (answered : Accepted)
+    → given ≡ payload → IsH2dSpelling bytes (fis_of command tag) → n ≡ step_of acts
+    → new.acts ≡ (n + 1) % 2 ^ 64
     → Agrees new.drive o (Accept bytes given ∷ acts)
-    → IsAnswer (facts o (log o acts)) (h2d_at bytes) (event o (log o acts) (Accept bytes given)) answered
+    → IsAnswer (facts o (log o acts)) (h2d_at bytes)
+    (event o (log o acts) (Accept bytes given)) answered
     → Accepts new o acts command tag payload answered
-accepts-so new n o acts command tag bytes given payload answered same spelt counted more agrees answer =
+accepts-so new n o acts command tag bytes given payload answered same spelt counted more agrees
+    answer =
     subst (λ (payload : List ℕ). Accepts new o acts command tag payload answered) same (record {
       runs = (
         agrees-so new.drive o acts command tag bytes given spelt agrees,
@@ -137,20 +190,30 @@ accepts-so new n o acts command tag bytes given payload answered same spelt coun
     })
 
 -- the first line of an answer, by its fields and by its event
-first-so : (command : Command) (fails : Option ℕ) (status code : ℕ) (bytes held : List ℕ) → status ≡ status_of fails → code ≡ unwrap_or fails 0 → bytes ≡ held
-    → (if status == failed_status then failure_text status code else served_text command bytes) ≡ answer_text command fails held
+first-so : (command : Command) (fails : Option ℕ) (status code : ℕ) (bytes held : List ℕ)
+    → status ≡ status_of fails → code ≡ unwrap_or fails 0 → bytes ≡ held
+    → (if status == failed_status then failure_text status code else served_text command bytes) ≡
+    answer_text command fails held
 first-so command None status code bytes held s c b = rw (s, b) refl
 first-so command (Some n) status code bytes held s c b = rw (s, c) refl
 
-told-so : (f : Facts) (h : RegH2d) (made : Event) (answer : Accepted) (command : Command) (step client : ℕ) → IsAnswer f h made answer
-    → told_lines step client command answer ≡ answer_text command made.failed (answer_data f h made) ∷ denial_lines step client made.denied
+told-so : (f : Facts) (h : RegH2d) (made : Event) (answer : Accepted) (command : Command)
+    (step client : ℕ) → IsAnswer f h made answer
+    → told_lines step client command answer ≡ answer_text command made.failed (answer_data f h made)
+    ∷ denial_lines step client made.denied
 told-so f h made answer command step client is =
-    ap (λ text. text ∷ denial_lines step client answer.denied) (first-so command made.failed answer.status answer.error answer.bytes.items _ is.status is.error is.bytes)
-    ∙ ap (λ why. answer_text command made.failed (answer_data f h made) ∷ denial_lines step client why) is.denied
+    ap (λ text. text ∷ denial_lines step client answer.denied)
+    (first-so command made.failed answer.status answer.error answer.bytes.items _ is.status
+    is.error is.bytes)
+    ∙ ap
+    (λ why. answer_text command made.failed (answer_data f h made)
+    ∷ denial_lines step client why) is.denied
 
 -- a command that was accepted, and whose answer is printed
-answered-then : (new : RunningPhase) (o : Origin) (acts : List Act) (client : ℕ) (command : Command) (payload : List ℕ) (before after : Report)
-    (answer : Accepted) → Accepts new o acts command 0 payload answer → Prints before after (told_lines new.acts client command answer)
+answered-then : (new : RunningPhase) (o : Origin) (acts : List Act) (client : ℕ) (command : Command)
+    (payload : List ℕ) (before after : Report)
+    (answer : Accepted) → Accepts new o acts command 0 payload answer
+    → Prints before after (told_lines new.acts client command answer)
     → Has new o before after (commanded o acts client command payload)
 answered-then new o acts client command payload before after answer accepts prints =
     let made = event o (log o acts) (accept_of command 0 payload) in
@@ -158,14 +221,23 @@ answered-then new o acts client command payload before after answer accepts prin
       runs = accepts.runs;
       prints = subst (λ lines. Prints before after lines)
           (told-so _ _ made answer command new.acts client accepts.answer
-          ∙ ap (λ step. answer_text command made.failed (answer_data (facts o (log o acts)) (fis_of command 0) made) ∷ denial_lines step client made.denied)
+          ∙ ap
+          (λ step. answer_text command made.failed
+          (answer_data (facts o (log o acts)) (fis_of command 0) made)
+          ∷ denial_lines step client made.denied)
           accepts.runs.1)
           prints;
     }
 
-pub command-then : (new : RunningPhase) (o : Origin) (acts : List Act) (client : ℕ) (command : Command) (tag : ℕ) (given payload : List ℕ)
-    (before after : Report) (answer : Accepted) → tag ≡ 0 → given ≡ payload → Accepts new o acts command tag given answer
-    → Prints before after (told_lines new.acts client command answer) → Has new o before after (commanded o acts client command payload)
-command-then new o acts client command tag given payload before after answer none same accepts prints =
+pub command-then : (new : RunningPhase) (o : Origin) (acts : List Act) (client : ℕ)
+    (command : Command) (tag : ℕ) (given payload : List ℕ)
+    (before after : Report) (answer : Accepted) → tag ≡ 0 → given ≡ payload
+    → Accepts new o acts command tag given answer
+    → Prints before after (told_lines new.acts client command answer)
+    → Has new o before after (commanded o acts client command payload)
+command-then new o acts client command tag given payload before after answer none same accepts
+    prints =
     answered-then new o acts client command payload before after answer
-    (subst (λ tag. Accepts new o acts command tag payload answer) none (subst (λ (bytes : List ℕ). Accepts new o acts command tag bytes answer) same accepts)) prints
+    (subst (λ tag. Accepts new o acts command tag payload answer) none
+    (subst (λ (bytes : List ℕ). Accepts new o acts command tag bytes answer) same accepts))
+    prints

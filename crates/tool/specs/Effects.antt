@@ -44,12 +44,14 @@ abbrev pub Stands : RunningPhase → Type 0
 Stands run = (o : Origin) × (acts : List Act) × RunsOn run o acts
 
 -- the drive has done the acts, and the lines are printed
-pub record Has (new : RunningPhase) (o : Origin) (before after : Report) (effect : Effect) : Type 0 where
+pub record Has (new : RunningPhase) (o : Origin) (before after : Report)
+    (effect : Effect) : Type 0 where
   pub runs : RunsOn new o effect.acts
   pub prints : Prints before after effect.lines
 
 -- an acceptance: one act more, and what the definitions answer to it
-pub record Accepts (new : RunningPhase) (o : Origin) (acts : List Act) (command : Command) (tag : ℕ) (payload : List ℕ) (accepted : Accepted) : Type 0 where
+pub record Accepts (new : RunningPhase) (o : Origin) (acts : List Act) (command : Command) (tag : ℕ)
+    (payload : List ℕ) (accepted : Accepted) : Type 0 where
   pub runs : RunsOn new o (accept_of command tag payload ∷ acts)
   pub answer : IsAnswer (facts o (log o acts)) (fis_of command tag)
       (event o (log o acts) (accept_of command tag payload)) accepted
@@ -65,23 +67,28 @@ completed o acts tag byte = record {
 abbrev pub failed : List Act → ℕ → Event → Effect
 failed acts client made = record {
   acts = acts;
-  lines = refusal_lines (step_of acts) client (status_of made.failed) (unwrap_or made.failed 0) made.denied;
+  lines =
+      refusal_lines (step_of acts) client (status_of made.failed)
+      (unwrap_or made.failed 0) made.denied;
 }
 
 -- a queued transfer is accepted, and completed where it is held
 abbrev pub once_accepted : Origin → List Act → Transfer → ℕ → Event → Effect
 once_accepted o acts transfer byte made =
-    if is_holding made.deed then completed o acts transfer.tag byte else failed acts transfer.client made
+    if is_holding made.deed then completed o acts transfer.tag byte
+    else failed acts transfer.client made
 
 abbrev pub transferred : Origin → List Act → Command → Transfer → ℕ → Effect
 transferred o acts command transfer byte =
     once_accepted o (accept_of command transfer.tag [] ∷ acts) transfer byte
     (event o (log o acts) (accept_of command transfer.tag []))
 
--- what a receive shows: on the ComID of Level 0 discovery its bytes, else the header of the ComPacket and the bytes that it counts
+-- what a receive shows: on the ComID of Level 0 discovery its bytes, else the header of the
+-- ComPacket and the bytes that it counts
 abbrev pub shown : ℕ → List ℕ → List ℕ
 shown com_id bytes =
-    if com_id == discovery_com_id then take DISCOVERY_LENGTH bytes else take (com_packet_size bytes) bytes
+    if com_id == discovery_com_id then take DISCOVERY_LENGTH bytes
+    else take (com_packet_size bytes) bytes
 
 -- what a command that was served prints of its data
 abbrev pub served_text : Command → List ℕ → List ℕ
@@ -101,20 +108,24 @@ failed_status = 0x51
 
 abbrev pub told_lines : ℕ → ℕ → Command → Accepted → List (List ℕ)
 told_lines step client command accepted =
-    (if accepted.status == failed_status then failure_text accepted.status accepted.error else served_text command accepted.bytes.items)
+    (if accepted.status == failed_status then failure_text accepted.status accepted.error
+    else served_text command accepted.bytes.items)
     ∷ denial_lines step client accepted.denied
 
--- an unqueued command is accepted, and what came of it is printed, with what denied it under the number of the act
+-- an unqueued command is accepted, and what came of it is printed, with what denied it under the
+-- number of the act
 abbrev pub answered : Origin → List Act → ℕ → Command → Act → Event → Effect
 answered o acts client command act made = record {
   acts = act ∷ acts;
-  lines = answer_text command made.failed (answer_data (facts o (log o acts)) (fis_of command 0) made)
+  lines =
+      answer_text command made.failed (answer_data (facts o (log o acts)) (fis_of command 0) made)
       ∷ denial_lines (step_of (act ∷ acts)) client made.denied;
 }
 
 abbrev pub commanded : Origin → List Act → ℕ → Command → List ℕ → Effect
 commanded o acts client command payload =
-    answered o acts client command (accept_of command 0 payload) (event o (log o acts) (accept_of command 0 payload))
+    answered o acts client command (accept_of command 0 payload)
+    (event o (log o acts) (accept_of command 0 payload))
 
 -- bytes are sent to a ComID
 abbrev pub sends : Origin → List Act → ℕ → ℕ → List ℕ → Effect
@@ -129,32 +140,43 @@ restarted acts kind = record { acts = reset_of kind ∷ acts; lines = done_text 
 abbrev pub effect_of : Origin → List Act → told.Line → Effect
 effect_of o acts (lines.Read transfer) = transferred o acts (read_of transfer) transfer 0
 effect_of o acts (lines.Write transfer byte) = transferred o acts (write_of transfer) transfer byte
-effect_of o acts (lines.ReadDma transfer) = commanded o acts transfer.client (read_dma_of transfer) []
+effect_of o acts (lines.ReadDma transfer) =
+    commanded o acts transfer.client (read_dma_of transfer) []
 effect_of o acts (lines.WriteDma transfer byte) =
     commanded o acts transfer.client (write_dma_of transfer) (write_bytes transfer byte)
 effect_of o acts (lines.Call client com_id session tokens) =
     sends o acts client com_id (frame_bytes com_id session tokens)
 effect_of o acts (lines.Send client com_id packet) = sends o acts client com_id packet
-effect_of o acts (lines.Receive client com_id blocks) = commanded o acts client (receive_of com_id blocks) []
+effect_of o acts (lines.Receive client com_id blocks) =
+    commanded o acts client (receive_of com_id blocks) []
 effect_of o acts (lines.Log client) = commanded o acts client (ReadLog10 true) []
 effect_of o acts (lines.Reset client kind) = restarted acts kind
 effect_of o acts lines.Expect = record { acts = acts; lines = [] }
 effect_of o acts (lines.Range row) = record { acts = acts; lines = [] }
 
--- behind a command a script goes on; that the failed queue aborts it is told only where the queue has failed
+-- behind a command a script goes on; that the failed queue aborts it is told only where the queue
+-- has failed
 abbrev pub GoesTruly : Turn → List Event → Type 0
 GoesTruly (Goes aborted) past = aborted ≡ true → is_some (failure past) ≡ true
 GoesTruly ExpectationFailed past = ⊥
 GoesTruly (Bad fault) past = ⊥
 
 -- a command does this on whatever origin and acts the drive stands
-abbrev pub Makes : (Origin → List Act → Effect) → RunningPhase → RunningPhase → Report → Report → Turn → Type 0
+abbrev pub Makes : (Origin → List Act → Effect) → RunningPhase → RunningPhase → Report → Report
+    → Turn → Type 0
 Makes effect old new before after turn =
-    (o : Origin) (acts : List Act) → RunsOn old o acts → Has new o before after (effect o acts) × GoesTruly turn (log o acts)
+    (o : Origin) (acts : List Act) → RunsOn old o acts → Has new o before after (effect o acts)
+    × GoesTruly turn (log o acts)
 
--- an expectation is held against the last printed line, and a range line comes too late; neither acts or prints
-abbrev pub Does : told.Line → List ℕ → Turn → RunningPhase → RunningPhase → Origin → List Act → Report → Report → Type 0
+-- an expectation is held against the last printed line, and a range line comes too late; neither
+-- acts or prints
+abbrev pub Does : told.Line → List ℕ → Turn → RunningPhase → RunningPhase → Origin → List Act
+    → Report → Report → Type 0
 Does lines.Expect text turn old new o acts before after =
-    (new ≡ old) × (after ≡ before) × (turn ≡ (if bytes_eq before.last.items (expected_text text) then Goes false else ExpectationFailed))
-Does (lines.Range row) text turn old new o acts before after = (new ≡ old) × (after ≡ before) × (turn ≡ Bad LateRange)
-Does line text turn old new o acts before after = Has new o before after (effect_of o acts line) × GoesTruly turn (log o acts)
+    (new ≡ old) × (after ≡ before)
+    × (turn ≡
+    (if bytes_eq before.last.items (expected_text text) then Goes false else ExpectationFailed))
+Does (lines.Range row) text turn old new o acts before after = (new ≡ old) × (after ≡ before)
+    × (turn ≡ Bad LateRange)
+Does line text turn old new o acts before after = Has new o before after (effect_of o acts line)
+    × GoesTruly turn (log o acts)

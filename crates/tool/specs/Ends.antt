@@ -20,7 +20,8 @@ EndsSo (Bad line fault) lines = ComesTo IsBadOrRange lines
 -- of these lines this one was read last, a text is left, and each line before it says something
 abbrev pub AtLine : List ℕ → List (List ℕ) → Option (List ℕ) → Type 0
 AtLine line lines left =
-    (text : List ℕ) × (earlier : List (List ℕ)) × (left ≡ Some text) × (lines ≡ earlier ++ bare line ∷ script_lines text) × All IsLine earlier
+    (text : List ℕ) × (earlier : List (List ℕ)) × (left ≡ Some text)
+    × (lines ≡ earlier ++ bare line ∷ script_lines text) × All IsLine earlier
 
 -- what the range lines in front come to
 abbrev pub OpensSo : Opened → List ℕ → List (List ℕ) → Option (List ℕ) → Type 0

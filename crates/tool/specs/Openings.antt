@@ -39,7 +39,8 @@ OpeningSays line (Bad fault) = IsBadOrRange line
 abbrev pub SetsRow : Origin → RangeRow → OpeningTurn → Type 0
 SetsRow o row (Goes phase) = (row_fault o row ≡ None) × (phase ≡ Activated (with_range row o))
 SetsRow o row (Runs run) = ⊥
-SetsRow o row (Bad fault) = (error : SetError) × (fault ≡ RefusedRow row.range error) × (row_fault o row ≡ Some error)
+SetsRow o row (Bad fault) = (error : SetError) × (fault ≡ RefusedRow row.range error)
+    × (row_fault o row ≡ Some error)
 
 -- the drive is opened, and nothing was done on it
 abbrev pub RunsFrom : Origin → OpeningTurn → Type 0

@@ -16,12 +16,16 @@ pub record WritesConfig (sectors shadow msid : List ℕ) (config : Config) : Typ
 abbrev pub IsNoNumber : List ℕ → Type 0
 IsNoNumber text = number_up_to (largest 64) text ≡ None
 
--- The fault is the first one of the texts: each text is looked at in turn, and then what they write.
+-- The fault is the first one of the texts: each text is looked at in turn, and then what they
+-- write.
 abbrev pub IsFirstFault : List ℕ → List ℕ → List ℕ → OptionsFault → Type 0
 IsFirstFault sectors shadow msid Sectors = IsNoNumber sectors
 IsFirstFault sectors shadow msid Shadow = (IsNoNumber sectors → ⊥) × IsNoNumber shadow
-IsFirstFault sectors shadow msid (Msid fault) = (IsNoNumber sectors → ⊥) × (IsNoNumber shadow → ⊥) × (decode_of msid ≡ Err fault)
+IsFirstFault sectors shadow msid (Msid fault) = (IsNoNumber sectors → ⊥) × (IsNoNumber shadow → ⊥)
+    × (decode_of msid ≡ Err fault)
 IsFirstFault sectors shadow msid (NoDrive drive_sectors shadow_sectors size) =
-    (config : Config) × WritesConfig sectors shadow msid config × (IsWithinLimits config.sectors config.mbr_sectors config.msid → ⊥)
-    × (drive_sectors ≡ config.sectors) × (shadow_sectors ≡ config.mbr_sectors) × (size ≡ length config.msid)
+    (config : Config) × WritesConfig sectors shadow msid config
+    × (IsWithinLimits config.sectors config.mbr_sectors config.msid → ⊥)
+    × (drive_sectors ≡ config.sectors) × (shadow_sectors ≡ config.mbr_sectors)
+    × (size ≡ length config.msid)
 IsFirstFault sectors shadow msid OutOfMemory = (IsNoNumber sectors → ⊥) × (IsNoNumber shadow → ⊥)

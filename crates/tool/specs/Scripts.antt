@@ -16,7 +16,8 @@ in_front byte (line ∷ lines) = (byte ∷ line) ∷ lines
 -- the lines of a text, each without its line feed; a last line without one counts
 unfoldable pub lines_of_text : List ℕ → List (List ℕ)
 lines_of_text [] = []
-lines_of_text (byte ∷ text) = if byte == 10 then [] ∷ lines_of_text text else in_front byte (lines_of_text text)
+lines_of_text (byte ∷ text) = if byte == 10 then [] ∷ lines_of_text text else
+    in_front byte (lines_of_text text)
 
 -- the lines of a script: one carriage return at the end of a line is no part of it
 abbrev pub script_lines : List ℕ → List (List ℕ)
@@ -29,7 +30,8 @@ bare line = strip_last 13 (strip_last 10 line)
 -- what reading a line takes from a text, if there is one, and leaves of it
 abbrev pub TakesLine : Bool → List ℕ → List ℕ → Option (List ℕ) → Type 0
 TakesLine false line text left = text ≡ []
-TakesLine true line text left = (0 < length line) × (line ≡ take_through 10 text) × (left ≡ Some (drop_through 10 text))
+TakesLine true line text left = (0 < length line) × (line ≡ take_through 10 text)
+    × (left ≡ Some (drop_through 10 text))
 
 -- a whole line stands in what a reader has at hand
 abbrev pub has_line : List ℕ → Bool
@@ -41,7 +43,8 @@ most_pending = 65536
 
 -- no client waits for an answer: where the next read could wait, none is pending, and never many
 abbrev pub IsAnswered : List ℕ → List ℕ → Type 0
-IsAnswered at_hand pending = (has_line at_hand ≡ false → pending ≡ []) × (length pending ≤ most_pending)
+IsAnswered at_hand pending = (has_line at_hand ≡ false → pending ≡ [])
+    × (length pending ≤ most_pending)
 
 -- the line gives the cells of a range
 abbrev pub IsRange : Line → Type 0
@@ -75,10 +78,13 @@ Says (Bad fault) line = IsBadOrRange line
 -- a run comes to a line of this kind, and all lines before it say something
 abbrev pub ComesTo : (List ℕ → Type 0) → List (List ℕ) → Type 0
 ComesTo P lines =
-    (earlier : List (List ℕ)) × (line : List ℕ) × (later : List (List ℕ)) × (lines ≡ earlier ++ line ∷ later) × All IsLine earlier × P line
+    (earlier : List (List ℕ)) × (line : List ℕ) × (later : List (List ℕ))
+    × (lines ≡ earlier ++ line ∷ later) × All IsLine earlier × P line
 
--- a run ends with status 0 behind the last line, with status 1 at an `expect` line, and with status 2 at a line that says nothing
+-- a run ends with status 0 behind the last line, with status 1 at an `expect` line, and with status
+-- 2 at a line that says nothing
 -- or at a `range` line; all lines before it say something
 abbrev pub EndsWith : ℕ → List (List ℕ) → Type 0
 EndsWith status lines =
-    ((status ≡ 0) × All IsLine lines) ⊎ (((status ≡ 1) × ComesTo IsExpect lines) ⊎ ((status ≡ 2) × ComesTo IsBadOrRange lines))
+    ((status ≡ 0) × All IsLine lines)
+    ⊎ (((status ≡ 1) × ComesTo IsExpect lines) ⊎ ((status ≡ 2) × ComesTo IsBadOrRange lines))

@@ -96,6 +96,23 @@ fn running_lines<R: Read + Drop, W: Write, E: Write>(
     Err(RunError::ReadLimit)
 }
 
+/// Does the line at hand, and those behind it, and then lets the drive go.
+fn remaining_lines<R: Read + Drop, W: Write, E: Write>(
+    mut run: RunningPhase,
+    lines: u64,
+    reader: &mut BufReader<R>,
+    report: &mut Report,
+    line: &mut Vec<u8>,
+    output: &mut W,
+    faults: &mut E,
+) -> Result<End, RunError>
+    requires { Stands run }
+    ensures { (lines : List (List ℕ)) → AtLine line.old.items lines (reader_remaining R.remaining reader.old)
+        → IfOk result (λ end. EndsSo end lines) }
+{
+    running_lines(&mut run, lines, reader, report, line, output, faults)
+}
+
 /// Does the lines of a script, and hands on most of the answers.
 fn all_lines<R: Read + Drop, W: Write, E: Write>(
     alloc: Global,
@@ -112,9 +129,8 @@ fn all_lines<R: Read + Drop, W: Write, E: Write>(
     let opened = opening_lines(alloc, options, reader, report, line)?;
     match opened {
         Opened::Ended(end) => Ok(end),
-        Opened::Runs { mut run, lines } => {
-            let end = running_lines(&mut run, lines, reader, report, line, output, faults)?;
-            Ok(end)
+        Opened::Runs { run, lines } => {
+            remaining_lines(run, lines, reader, report, line, output, faults)
         }
     }
 }

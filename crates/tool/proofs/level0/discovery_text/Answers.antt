@@ -8,5 +8,6 @@ use Rattle.tool.proofs.level0.discovery_text.Goals as goal
 pub returns : goal.returns
 returns c =
     IfOk-weaker c.encode.result _ _
-    (λ text is. is ∙ ap encode_lower c.discovery.ensures ∙ ap (λ t. encode_lower (discovery (look_up t))) c.in_ok-tables.ensures)
+    (λ text is. is ∙ ap encode_lower c.discovery.ensures
+    ∙ ap (λ t. encode_lower (discovery (look_up t))) c.in_ok-tables.ensures)
     c.encode.ensures

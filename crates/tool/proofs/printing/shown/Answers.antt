@@ -2,4 +2,5 @@ use Rattle.std.proofs.lemmas.List.{take_min}
 use Rattle.tool.proofs.printing.shown.Goals as goal
 
 pub returns-then-com_id-eq-DISCOVERY_COM_ID : goal.returns-then-com_id-eq-DISCOVERY_COM_ID
-returns-then-com_id-eq-DISCOVERY_COM_ID c = rw (c.min.ensures, c.if-com_id-eq-DISCOVERY_COM_ID.true) (take_min 132 c.args.bytes.now)
+returns-then-com_id-eq-DISCOVERY_COM_ID c =
+    rw (c.min.ensures, c.if-com_id-eq-DISCOVERY_COM_ID.true) (take_min 132 c.args.bytes.now)

@@ -8,7 +8,9 @@ pub returns-in-Receive : goal.returns-in-Receive
 returns-in-Receive c = rw c.in-Receive.is c.receive.ensures
 
 pub returns-in-Reset : goal.returns-in-Reset
-returns-in-Reset c = rw c.in-Reset.is (IfOk-weaker c.reset.result _ _ (λ turn makes. makes c.in-Reset.client) c.reset.ensures)
+returns-in-Reset c =
+    rw c.in-Reset.is
+    (IfOk-weaker c.reset.result _ _ (λ turn makes. makes c.in-Reset.client) c.reset.ensures)
 
 pub returns-in-Call : goal.returns-in-Call
 returns-in-Call c = rw c.in-Call.is c.call.ensures

@@ -8,6 +8,9 @@ pub returns : goal.returns
 returns c =
     let bytes = c.args.self.now.payload.items in
     of-command c.command.result
-    (λ command payload. Makes (λ o acts. commanded o acts c.args.client command payload) c.args.self.now c.command.new.self c.args.report.now c.command.new.report)
+    (λ command payload. Makes
+    (λ o acts. commanded o acts c.args.client command payload) c.args.self.now
+    c.command.new.self c.args.report.now c.command.new.report)
     c.send_of.result (send_of c.args.com_id (blocks_of (length bytes))) _ (in_blocks bytes)
-    (c.send_of.ensures ∙ ap (send_of c.args.com_id) c.in_ok-blocks.ensures.blocks) c.in_ok-blocks.ensures.bytes c.command.ensures
+    (c.send_of.ensures ∙ ap (send_of c.args.com_id) c.in_ok-blocks.ensures.blocks)
+    c.in_ok-blocks.ensures.bytes c.command.ensures
