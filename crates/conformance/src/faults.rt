@@ -111,6 +111,80 @@ fn tells_why_a_script_ends(rt: HostRuntime) -> Result<(), Fail> {
     Ok(())
 }
 
+/// The words of the lines of commands that are not queued, and of resets.
+#[test]
+fn tells_which_word_is_wrong(rt: HostRuntime) -> Result<(), Fail> {
+    let ends: [(&[u8], &[u8]); 16] = [
+        (
+            b"dread 1 281474976710656 1",
+            b"line 1: word 3, the first sector L, is not a number from 0 to 281474976710655\n",
+        ),
+        (
+            b"dread 1 5 65536",
+            b"line 1: word 4, the count N, is not a number from 0 to 65535\n",
+        ),
+        (
+            b"dwrite 1 5 1",
+            b"line 1: word 5, the byte HH, is missing: two hex digits\n",
+        ),
+        (
+            b"dwrite 1 5 1 a",
+            b"line 1: word 5, the byte HH, is not two hex digits\n",
+        ),
+        (
+            b"call 1 65536 0 0 fa",
+            b"line 1: word 3, the ComID, is not a number from 0 to 65535\n",
+        ),
+        (
+            b"call 1 4096 4294967296 0 fa",
+            b"line 1: word 4, the TPer session number TSN, is not a number from 0 to 4294967295\n",
+        ),
+        (
+            b"call 1 4096 0 4294967296 fa",
+            b"line 1: word 5, the host session number HSN, is not a number from 0 to 4294967295\n",
+        ),
+        (
+            b"call 1 4096 0 0",
+            b"line 1: word 6, the tokens HEX, is missing: hex text, two digits for each of 1 to 65480 bytes\n",
+        ),
+        (
+            b"call 1 4096 0 0 f",
+            b"line 1: word 6, the tokens HEX, is not hex text, two digits for each of 1 to 65480 bytes\n",
+        ),
+        (
+            b"send 1 4096",
+            b"line 1: word 4, the ComPacket HEX, is missing: hex text, two digits for each of 1 to 33553920 bytes\n",
+        ),
+        (
+            b"send 1 4096 0g",
+            b"line 1: word 4, the ComPacket HEX, is not hex text, two digits for each of 1 to 33553920 bytes\n",
+        ),
+        (
+            b"recv 1 4096 65536",
+            b"line 1: word 4, the count of blocks, is not a number from 0 to 65535\n",
+        ),
+        (
+            b"log",
+            b"line 1: word 2, the client C, is missing: a number from 0 to 4294967295\n",
+        ),
+        (b"log 1 1", b"line 1: there are words behind the last one\n"),
+        (
+            b"reset 1",
+            b"line 1: word 3, the kind of reset K, is missing: 0 (power) or 1 (hardware)\n",
+        ),
+        (
+            b"reset 1 2",
+            b"line 1: word 3, the kind of reset K, is not 0 (power) or 1 (hardware)\n",
+        ),
+    ];
+    for (script, text) in ends {
+        let (status, _, faults) = run(&rt, script)?;
+        assert_eq!(rt; status, 2);
+        assert_eq!(rt; faults.as_slice(), text);
+    }
+    Ok(())
+}
+
 /// An expectation that fails: what was expected and what came, as far as it is shown.
 #[test]
 fn tells_what_came(rt: HostRuntime) -> Result<(), Fail> {

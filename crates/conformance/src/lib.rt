@@ -14,3 +14,5 @@ mod queue;
 mod scripts;
 #[cfg(test)]
 mod streams;
+#[cfg(test)]
+mod trusted;

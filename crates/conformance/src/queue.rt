@@ -338,3 +338,22 @@ fn data_moves_at_the_completion(rt: HostRuntime) -> Result<(), Fail> {
     assert_eq!(rt; after.bytes.as_slice(), expected.as_slice());
     Ok(())
 }
+
+/// IDENTIFY DEVICE of a drive of 1,000 sectors: the words 48 (trusted computing), 75 and 76 (native command queuing, 32
+/// deep), 83, and 100 for the sectors; all others are 0.
+#[test]
+fn identifies_itself(rt: HostRuntime) -> Result<(), Fail> {
+    let mut drive = drive(rt.alloc())?;
+    let accepted = accept(&mut drive, &IDENTIFY)?;
+    let mut expected = [0; 512];
+    expected[96] = 0x01;
+    expected[97] = 0x40;
+    expected[150] = 0x1f;
+    expected[153] = 0x01;
+    expected[167] = 0x64;
+    expected[200] = 0xe8;
+    expected[201] = 0x03;
+    assert_eq!(rt; (accepted.status, accepted.error), (0x50, 0x00));
+    assert_eq!(rt; accepted.bytes.as_slice(), expected.as_slice());
+    Ok(())
+}

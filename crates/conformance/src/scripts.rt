@@ -60,6 +60,24 @@ fn serves_unqueued_commands(rt: HostRuntime) -> Result<(), Fail> {
     Ok(())
 }
 
+/// The log page of a queued read that was denied: tag 3, status and error, LBA, Device, Count, and the sum of all bytes;
+/// and a queue that serves again.
+#[test]
+fn logs_how_the_queue_failed(rt: HostRuntime) -> Result<(), Fail> {
+    let script = b"range 1 100 10 1 0 1 0\nread 7 3 100 1\nlog 7\nread 7 3 0 1\n";
+    let (status, output, faults) = run(&rt, script)?;
+    assert_eq!(rt; (status, faults.is_empty()), (0, true));
+    let head = b"fail 51 04\naudit 1 7 deny read 100+1 range 1 ReadLocked\n\
+        data 0300510464000040000000001800"
+        .as_slice();
+    let tail = b"ec\nok 00000000\n".as_slice();
+    assert!(rt; output.starts_with(head) && output.ends_with(tail));
+    assert_eq!(rt; output.len(), head.len() + 2 * 497 + tail.len());
+    let bytes = output.iter().skip(head.len()).take(2 * 497);
+    assert_eq!(rt; bytes.filter(|digit| **digit == b'0').count(), 2 * 497);
+    Ok(())
+}
+
 /// Nothing behind the line that ends a script acts, and what was printed before is there.
 #[test]
 fn ends_where_it_says(rt: HostRuntime) -> Result<(), Fail> {
