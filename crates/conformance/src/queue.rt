@@ -74,6 +74,16 @@ fn answer(drive: &mut Drive, fis: &[u8; 20]) -> Result<(u8, u8, Option<Why>), Fa
     Ok((accepted.status, accepted.error, accepted.denied))
 }
 
+/// Whether the drive answers the FIS so.
+fn answers(
+    drive: &mut Drive,
+    fis: &[u8; 20],
+    expected: &(u8, u8, Option<Why>),
+) -> Result<bool, Fail> {
+    let told = answer(drive, fis)?;
+    Ok(told == *expected)
+}
+
 /// The answers of a command that is held or served, of one that is aborted, and of one that is not on the drive.
 const HELD: (u8, u8, Option<Why>) = (0x50, 0x00, None);
 
@@ -189,49 +199,63 @@ fn the_addresses_come_before_the_policy(rt: HostRuntime) -> Result<(), Fail> {
     Ok(())
 }
 
+/// A failure: what was held is gone, and all that follows is aborted.
+fn drops_what_it_held(alloc: Global, drive: &mut Drive) -> Result<bool, Fail> {
+    let is_held_first = answers(drive, &queued(WRITE, 0, 5, 1), &HELD)?;
+    let wants_data = drive.expects(Tag::low_bits(0)) == 512;
+    let is_denied = answers(drive, &queued(READ, 3, 100, 1), &read_denied(100, 1, 1))?;
+    let wants_none = drive.expects(Tag::low_bits(0)) == 0;
+    let is_kept = is_held(alloc, drive, 0)?;
+    let is_aborted = answers(drive, &queued(READ, 2, 5, 1), &ABORTED)?;
+    Ok(is_held_first && wants_data && is_denied && wants_none && !is_kept && is_aborted)
+}
+
 #[test]
 fn a_failed_queue_drops_what_it_held(rt: HostRuntime) -> Result<(), Fail> {
-    let alloc = rt.alloc();
-    let mut drive = drive(alloc)?;
-    assert_eq!(rt; answer(&mut drive, &queued(WRITE, 0, 5, 1))?, HELD);
-    assert_eq!(rt; drive.expects(Tag::low_bits(0)), 512);
-    assert_eq!(rt; failure(&drive), None);
-    let denied = answer(&mut drive, &queued(READ, 3, 100, 1))?;
-    assert_eq!(rt; denied, read_denied(100, 1, 1));
-    assert_eq!(rt; drive.expects(Tag::low_bits(0)), 0);
-    assert!(rt; !is_held(alloc, &mut drive, 0)? && !is_held(alloc, &mut drive, 3)?);
-    assert_eq!(rt; answer(&mut drive, &queued(READ, 2, 5, 1))?, ABORTED);
-    assert_eq!(rt; answer(&mut drive, &queued(READ, 2, 100, 1))?, ABORTED);
+    let mut drive = drive(rt.alloc())?;
+    let drops = drops_what_it_held(rt.alloc(), &mut drive)?;
+    assert!(rt; drops);
     // log page 10h tells of this read: 03 .. 04 64 00 00 40 .. 18 00
     assert_eq!(rt; failure(&drive), Some((Some(3), 0x04, 0x64, 0x40, 0x18)));
     Ok(())
 }
 
+/// A command that is not queued, beside a held one.
+fn fails_by_mixing(alloc: Global, drive: &mut Drive) -> Result<bool, Fail> {
+    let is_held_first = answers(drive, &queued(WRITE, 0, 5, 1), &HELD)?;
+    let is_aborted = answers(drive, &IDENTIFY, &ABORTED)?;
+    let is_kept = is_held(alloc, drive, 0)?;
+    Ok(is_held_first && is_aborted && !is_kept)
+}
+
 #[test]
 fn mixing_fails_the_queue(rt: HostRuntime) -> Result<(), Fail> {
-    let alloc = rt.alloc();
-    let mut alone = drive(alloc)?;
-    assert_eq!(rt; answer(&mut alone, &IDENTIFY)?, SERVED);
-    assert_eq!(rt; answer(&mut alone, &queued(READ, 2, 5, 1))?, HELD);
-    let mut drive = drive(alloc)?;
-    assert_eq!(rt; answer(&mut drive, &queued(WRITE, 0, 5, 1))?, HELD);
-    assert_eq!(rt; answer(&mut drive, &IDENTIFY)?, ABORTED);
-    assert!(rt; !is_held(alloc, &mut drive, 0)?);
+    let mut drive = drive(rt.alloc())?;
+    let is_served = answers(&mut drive, &IDENTIFY, &SERVED)?;
+    assert!(rt; is_served);
+    let fails = fails_by_mixing(rt.alloc(), &mut drive)?;
+    assert!(rt; fails);
     assert_eq!(rt; failure(&drive), Some((None, 0x04, 0, 0, 0)));
     Ok(())
 }
 
+/// A tag is free once its command is completed, and fails the queue while it is held.
+fn fails_by_a_held_tag(alloc: Global, drive: &mut Drive) -> Result<bool, Fail> {
+    let is_written = answers(drive, &queued(WRITE, 3, 5, 1), &HELD)?;
+    let is_completed = is_held(alloc, drive, 3)?;
+    let is_read = answers(drive, &queued(READ, 3, 8, 1), &HELD)?;
+    let is_other = answers(drive, &queued(READ, 31, 8, 1), &HELD)?;
+    let is_aborted = answers(drive, &queued(READ, 3, 9, 2), &ABORTED)?;
+    let is_kept = is_held(alloc, drive, 31)?;
+    Ok(is_written && is_completed && is_read && is_other && is_aborted && !is_kept)
+}
+
 #[test]
 fn a_tag_that_is_held_fails_the_queue(rt: HostRuntime) -> Result<(), Fail> {
-    let alloc = rt.alloc();
-    let mut drive = drive(alloc)?;
-    assert_eq!(rt; answer(&mut drive, &queued(WRITE, 3, 5, 1))?, HELD);
-    complete(alloc, &mut drive, 3, 0xaa)?;
-    assert_eq!(rt; answer(&mut drive, &queued(READ, 3, 8, 1))?, HELD);
-    assert_eq!(rt; answer(&mut drive, &queued(READ, 31, 8, 1))?, HELD);
-    assert_eq!(rt; answer(&mut drive, &queued(READ, 3, 9, 2))?, ABORTED);
+    let mut drive = drive(rt.alloc())?;
+    let fails = fails_by_a_held_tag(rt.alloc(), &mut drive)?;
+    assert!(rt; fails);
     assert_eq!(rt; failure(&drive), Some((Some(3), 0x04, 9, 0x40, 0x18)));
-    assert!(rt; !is_held(alloc, &mut drive, 31)?);
     Ok(())
 }
 
@@ -247,19 +271,25 @@ fn a_clear_device_bit_fails_the_queue(rt: HostRuntime) -> Result<(), Fail> {
     Ok(())
 }
 
-#[test]
-fn what_carries_no_command_changes_nothing(rt: HostRuntime) -> Result<(), Fail> {
-    let alloc = rt.alloc();
-    let mut drive = drive(alloc)?;
-    assert_eq!(rt; answer(&mut drive, &queued(WRITE, 0, 5, 1))?, HELD);
+/// A FIS with bit C clear and one of another type, beside a held command.
+fn is_left_alone(alloc: Global, drive: &mut Drive) -> Result<bool, Fail> {
+    let is_held_first = answers(drive, &queued(WRITE, 0, 5, 1), &HELD)?;
     let mut control = queued(READ, 0, 5, 1);
     control[1] = 0;
-    assert_eq!(rt; answer(&mut drive, &control)?, ABORTED);
+    let is_control_aborted = answers(drive, &control, &ABORTED)?;
     let mut other = queued(READ, 0, 5, 1);
     other[0] = 0x34;
-    assert_eq!(rt; answer(&mut drive, &other)?, ABORTED);
+    let is_other_aborted = answers(drive, &other, &ABORTED)?;
+    let is_kept = is_held(alloc, drive, 0)?;
+    Ok(is_held_first && is_control_aborted && is_other_aborted && is_kept)
+}
+
+#[test]
+fn what_carries_no_command_changes_nothing(rt: HostRuntime) -> Result<(), Fail> {
+    let mut drive = drive(rt.alloc())?;
+    let is_left = is_left_alone(rt.alloc(), &mut drive)?;
+    assert!(rt; is_left);
     assert_eq!(rt; failure(&drive), None);
-    assert!(rt; is_held(alloc, &mut drive, 0)?);
     Ok(())
 }
 
@@ -285,57 +315,86 @@ fn the_fis_of_an_answer(rt: HostRuntime) -> Result<(), Fail> {
     Ok(())
 }
 
+/// Whether the FIS at a place has these bytes.
+fn is_fis(fises: &ArrayVec<Fis, 2>, index: usize, expected: &[u8]) -> bool {
+    match bytes_at(fises, index) {
+        Some(bytes) => bytes.as_slice() == expected,
+        None => false,
+    }
+}
+
+/// Whether a completion gives two FISes with these bytes, and so much data.
+fn completes_with(
+    alloc: Global,
+    drive: &mut Drive,
+    tag: u8,
+    setup: &[u8],
+    end: &[u8],
+    size: usize,
+) -> Result<bool, Fail> {
+    let done = complete(alloc, drive, tag, 0)?;
+    let are_told = is_fis(&done.fises, 0, setup) && is_fis(&done.fises, 1, end);
+    Ok(are_told && done.fises.len() == 2 && done.bytes.len() == size)
+}
+
 /// DMA Setup: bit D, the tag and the count of bytes. Set Device Bits: bit I, Status, and SActive.
 #[test]
-fn the_fises_of_a_completion(rt: HostRuntime) -> Result<(), Fail> {
-    let alloc = rt.alloc();
-    let mut drive = drive(alloc)?;
-    assert_eq!(rt; answer(&mut drive, &queued(READ, 5, 95, 5))?, HELD);
-    let done = complete(alloc, &mut drive, 5, 0)?;
-    let setup = bytes_at(&done.fises, 0).ok_or("a FIS")?;
-    let end = bytes_at(&done.fises, 1).ok_or("a FIS")?;
-    let expected = [
+fn the_fises_of_a_read(rt: HostRuntime) -> Result<(), Fail> {
+    let mut drive = drive(rt.alloc())?;
+    let setup = [
         0x41, 0x20, 0, 0, 5, 0, 0, 0, 0, 0, 0, 0, 0, 0, 0, 0, 0, 0, 0, 0, 0x00, 0x0a, 0, 0, 0, 0,
         0, 0,
     ];
-    assert_eq!(rt; setup.as_slice(), expected.as_slice());
-    assert_eq!(rt;
-        end.as_slice(),
-        [0xa1, 0x40, 0x50, 0, 0x20, 0, 0, 0].as_slice()
-    );
-    assert!(rt; done.fises.len() == 2 && done.bytes.len() == 2560);
-    assert_eq!(rt; answer(&mut drive, &queued(WRITE, 31, 5, 1))?, HELD);
-    let done = complete(alloc, &mut drive, 31, 0xaa)?;
-    let setup = bytes_at(&done.fises, 0).ok_or("a FIS")?;
-    let end = bytes_at(&done.fises, 1).ok_or("a FIS")?;
-    let expected = [
+    let end = [0xa1, 0x40, 0x50, 0, 0x20, 0, 0, 0];
+    let is_held = answers(&mut drive, &queued(READ, 5, 95, 5), &HELD)?;
+    let is_told = completes_with(rt.alloc(), &mut drive, 5, &setup, &end, 2560)?;
+    assert!(rt; is_held && is_told);
+    Ok(())
+}
+
+#[test]
+fn the_fises_of_a_write(rt: HostRuntime) -> Result<(), Fail> {
+    let mut drive = drive(rt.alloc())?;
+    let setup = [
         0x41, 0x00, 0, 0, 31, 0, 0, 0, 0, 0, 0, 0, 0, 0, 0, 0, 0, 0, 0, 0, 0x00, 0x02, 0, 0, 0, 0,
         0, 0,
     ];
-    assert_eq!(rt; setup.as_slice(), expected.as_slice());
-    assert_eq!(rt;
-        end.as_slice(),
-        [0xa1, 0x40, 0x50, 0, 0, 0, 0, 0x80].as_slice()
-    );
-    assert!(rt; done.fises.len() == 2 && done.bytes.is_empty());
+    let end = [0xa1, 0x40, 0x50, 0, 0, 0, 0, 0x80];
+    let is_held = answers(&mut drive, &queued(WRITE, 31, 5, 1), &HELD)?;
+    let is_told = completes_with(rt.alloc(), &mut drive, 31, &setup, &end, 0)?;
+    assert!(rt; is_held && is_told);
     Ok(())
+}
+
+/// Whether a completion gives these bytes.
+fn gives(
+    alloc: Global,
+    drive: &mut Drive,
+    tag: u8,
+    byte: u8,
+    expected: &[u8],
+) -> Result<bool, Fail> {
+    let done = complete(alloc, drive, tag, byte)?;
+    Ok(done.bytes.as_slice() == expected)
+}
+
+/// A write and two reads over it, of which one is completed before it and one behind it.
+fn moves_late(alloc: Global, drive: &mut Drive) -> Result<bool, Fail> {
+    let is_written = answers(drive, &queued(WRITE, 0, 5, 1), &HELD)?;
+    let is_read = answers(drive, &queued(READ, 1, 5, 1), &HELD)?;
+    let is_before = gives(alloc, drive, 1, 0, &[0; 512])?;
+    let is_read_again = answers(drive, &queued(READ, 1, 5, 1), &HELD)?;
+    let is_done = gives(alloc, drive, 0, 0xaa, &[])?;
+    let is_behind = gives(alloc, drive, 1, 0, &[0xaa; 512])?;
+    Ok(is_written && is_read && is_before && is_read_again && is_done && is_behind)
 }
 
 /// A queued write moves its data as it is completed, and a read gives the bytes of its completion.
 #[test]
 fn data_moves_at_the_completion(rt: HostRuntime) -> Result<(), Fail> {
-    let alloc = rt.alloc();
-    let mut drive = drive(alloc)?;
-    assert_eq!(rt; answer(&mut drive, &queued(WRITE, 0, 5, 1))?, HELD);
-    assert_eq!(rt; answer(&mut drive, &queued(READ, 1, 5, 1))?, HELD);
-    let before = complete(alloc, &mut drive, 1, 0)?;
-    assert_eq!(rt; before.bytes.as_slice(), [0; 512].as_slice());
-    assert_eq!(rt; answer(&mut drive, &queued(READ, 1, 4, 3))?, HELD);
-    complete(alloc, &mut drive, 0, 0xaa)?;
-    let after = complete(alloc, &mut drive, 1, 0)?;
-    let mut expected = [0; 1536];
-    expected[512..1024].copy_from_slice(&[0xaa; 512]);
-    assert_eq!(rt; after.bytes.as_slice(), expected.as_slice());
+    let mut drive = drive(rt.alloc())?;
+    let moves = moves_late(rt.alloc(), &mut drive)?;
+    assert!(rt; moves);
     Ok(())
 }
 
