@@ -16,7 +16,7 @@ fn tells_why_a_script_ends(rt: HostRuntime) -> Result<(), Fail> {
     let ends: [(&[u8], &[u8]); 24] = [
         (b"\n", FIRST_WORD),
         (b"# a comment", FIRST_WORD),
-        (b"port", FIRST_WORD),
+        (b"ports", FIRST_WORD),
         (b"level0", FIRST_WORD),
         (
             b"read 1 5 1",

@@ -6,10 +6,10 @@ use std::test::Fail;
 use tool::{Options, run_script};
 
 /// A line, and what it prints.
-type Row = (&'static str, &'static str);
+pub(crate) type Row = (&'static str, &'static str);
 
 /// What the lines print on a drive of 1,000 sectors, and what is to be printed: what stands beside each.
-fn answers(rt: &HostRuntime, rows: &[Row]) -> Result<(Vec<u8>, Vec<u8>), Fail> {
+pub(crate) fn answers(rt: &HostRuntime, rows: &[Row]) -> Result<(Vec<u8>, Vec<u8>), Fail> {
     let mut script = Vec::new(rt.alloc());
     let mut printed = Vec::new(rt.alloc());
     for (line, answer) in rows {

@@ -165,6 +165,7 @@ fn answer_of(alloc: Global, outcome: Outcome) -> Result<Answer, Fail> {
         reply,
         denied,
         wipe,
+        ..
     } = outcome;
     if !writable(&reply) {
         return Err("no reply".into());

@@ -82,7 +82,7 @@ impl Drive {
         ensures { result ≡ (any_below (λ tag. is_some (held_at self.now.queue tag)) slot_count
             && not (is_queued h.now.command)) }
     {
-        self.is_busy() && !is_queued(h.command)
+        !is_queued(h.command) && self.is_busy()
     }
 
     /// While the queue has failed, log page 10h alone is read.

@@ -1,9 +1,11 @@
 //! A drive.
 
-ghost use Rattle.std.specs.Prelude.{◌≡◌, ℕ, length, OnOk, OnErr, IfOk, if◌then◌else◌};
+ghost use Rattle.std.specs.Prelude.{◌≡◌, ℕ, false, length, OnOk, OnErr, IfOk, if◌then◌else◌};
 ghost use Rattle.device_data.specs.ErrorLog.{sized};
 ghost use Rattle.fis.specs.Tags.{slot_count};
 ghost use Rattle.shadow_mbr.specs.Stored.{sector_at, zeros};
+ghost use Rattle.locking.specs.Ranges.{ranges_in};
+ghost use Rattle.transactions.specs.Sights.{look_up};
 
 use crate::answer::{Accepted, Completed, completion_fises};
 use crate::decision::{ABORTED, Refusal, policy};
@@ -23,6 +25,7 @@ use std::alloc::{AllocError, Global};
 use std::marker::Model;
 use std::mem::replace;
 use tper::{Tper, sized};
+use transactions::View;
 
 /// Makes all media zeros, where they are to be.
 fn wipe_where(wipes: bool, media: &mut Media)
@@ -32,6 +35,16 @@ fn wipe_where(wipes: bool, media: &mut Media)
 {
     if wipes {
         media.wipe();
+    }
+}
+
+/// Makes these the ranges that the rows describe, where they may be others.
+fn refresh_where(changes: bool, ranges: &mut Ranges, rows: &View<'_>)
+    requires { changes ≡ false → ranges.old ≡ ranges_in rows.now.config.mbr_sectors (look_up rows.now) }
+    ensures { ranges.new ≡ ranges_in rows.now.config.mbr_sectors (look_up rows.now) }
+{
+    if changes {
+        ranges.refresh(rows);
     }
 }
 
@@ -257,7 +270,7 @@ impl Drive {
     {
         let sent = self.tper.send(com_id, payload)?;
         wipe_where(sent.wipes, &mut self.media);
-        self.ranges.refresh(&self.tper.in_force());
+        refresh_where(sent.changes, &mut self.ranges, &self.tper.in_force());
         Ok(sent.denied)
     }
 

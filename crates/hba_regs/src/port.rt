@@ -197,6 +197,13 @@ impl PortRegs {
         self.active &= !mask;
     }
 
+    /// The Status field of PxTFD.
+    pub fn status(&self) -> u8
+        ensures { result ≡ self.now.status }
+    {
+        self.status
+    }
+
     /// Sets status and error of the device (PxTFD).
     pub fn set_task(&mut self, status: u8, error: u8)
         ensures { self.new ≡ record self.old { status = status; error = error } }

@@ -93,6 +93,11 @@ pub stored_told : (o : Option SetError) (sp : Sp) (change : Change) (s : Stored)
 stored_told None sp change s e = cc
 stored_told (Some x) sp change s e = refl
 
+-- a change that is refused leaves the store
+pub stored_refused : (o : Option SetError) (sp : Sp) (change : Change) (s : Stored) → false ≡ not (is_some o) → stored_after o sp change s ≡ s
+stored_refused None sp change s e = cc
+stored_refused (Some x) sp change s e = refl
+
 -- what a change leaves is what its setting leaves
 set_by : (o : Option SetError) (sp : Sp) (change : Change) (s : Stored) → stored_after o sp change s ≡ set_stored s sp (unless_fault o (setting_seen change))
 set_by None sp change s = set_made change sp s

@@ -1,6 +1,6 @@
 //! Methods called in a session.
 
-ghost use Rattle.std.specs.Prelude.{◌≡◌, ◌↔◌, ℕ, Err, Some, None, IfOk, OnOk, OnErr, option_map, map};
+ghost use Rattle.std.specs.Prelude.{◌≡◌, ◌↔◌, ℕ, false, Err, Some, None, IfOk, OnOk, OnErr, option_map, map};
 ghost use Rattle.tcg_tokens.specs.Tree.{tree};
 ghost use Rattle.sessions.specs.Live.{session_at};
 ghost use Rattle.methods.specs.Grants.{denied as denied_by};
@@ -89,6 +89,7 @@ fn perform(
         (ask_at session.sp object ask.now)) }
     ensures store { OnOk result (store.new
         ≡ stored_ask store.old session object (ask_at session.sp object ask.now)) }
+    ensures unchanged { IfOk result (λ out. out.changes ≡ false → store.new ≡ store.old) }
     ensures points { OnOk result ((n : ℕ) → session_at sessions.new n
         ≡ holder_ask store.old session object (ask_at session.sp object ask.now)
         n (session_at sessions.old n)) }
@@ -142,6 +143,7 @@ fn call_asked(
         ≡ said_call store.old (called_by sessions.old session object method (Some ask.now))) }
     ensures store { OnOk result (store.new
         ≡ stored_call store.old (called_by sessions.old session object method (Some ask.now))) }
+    ensures unchanged { IfOk result (λ out. out.changes ≡ false → store.new ≡ store.old) }
     ensures points { OnOk result ((n : ℕ) → session_at sessions.new n
         ≡ holder_call store.old (called_by sessions.old session object method (Some ask.now))
         n (session_at sessions.old n)) }
@@ -172,6 +174,7 @@ fn called(
     ensures store { OnOk result (store.new
         ≡ stored_call store.old
         (called_with sessions.old session object method (map tree args.now))) }
+    ensures unchanged { IfOk result (λ out. out.changes ≡ false → store.new ≡ store.old) }
     ensures points { OnOk result ((n : ℕ) → session_at sessions.new n
         ≡ holder_call store.old (called_with sessions.old session object method (map tree args.now))
         n (session_at sessions.old n)) }
@@ -202,6 +205,7 @@ pub fn invoke(
         ≡ said_call store.old (call_in sessions.old session call.now)) }
     ensures store { OnOk result (store.new
         ≡ stored_call store.old (call_in sessions.old session call.now)) }
+    ensures unchanged { IfOk result (λ out. out.changes ≡ false → store.new ≡ store.old) }
     ensures points { OnOk result ((n : ℕ) → session_at sessions.new n
         ≡ holder_call store.old (call_in sessions.old session call.now)
         n (session_at sessions.old n)) }

@@ -161,6 +161,7 @@ pub(crate) fn write(
         ≡ set_said (to_set store.old session object ask.now)) }
     ensures store { OnOk result (store.new
         ≡ set_stored store.old session.sp (to_set store.old session object ask.now)) }
+    ensures unchanged { IfOk result (λ out. out.changes ≡ false → store.new ≡ store.old) }
     ensures err { OnErr result (store.new ≡ store.old) }
     ensures memory { IfErr result (λ e. e ≡ faults.OutOfMemory) }
 {
@@ -187,6 +188,7 @@ pub(crate) fn authenticate(
         ≡ said_attempt session.sp authority (tried store.old session authority proof.now)) }
     ensures store { OnOk result (store.new
         ≡ after_attempt session.sp authority (tried store.old session authority proof.now) store.old) }
+    ensures unchanged { IfOk result (λ out. out.changes ≡ false → store.new ≡ store.old) }
     ensures points { OnOk result ((n : ℕ) → session_at sessions.new n
         ≡ gaining store.old session authority proof.now n (session_at sessions.old n)) }
     ensures next { OnOk result (sessions.new.next ≡ sessions.old.next) }
@@ -221,6 +223,7 @@ pub(crate) fn activate(
         ≡ unless_inside (is_inside store.old session) (says [] None false)) }
     ensures store { OnOk result (store.new
         ≡ stored_unless (is_inside store.old session) store.old (activated store.old)) }
+    ensures unchanged { IfOk result (λ out. out.changes ≡ false → store.new ≡ store.old) }
     ensures err { OnErr result (store.new ≡ store.old) }
     ensures memory { IfErr result (λ e. e ≡ faults.OutOfMemory) }
 {
@@ -267,6 +270,7 @@ pub(crate) fn revert(
     ensures store { OnOk result (store.new
         ≡ stored_unless (is_inside store.old session) store.old
         (reverted (sp_of object) store.old)) }
+    ensures unchanged { IfOk result (λ out. out.changes ≡ false → store.new ≡ store.old) }
     ensures points { OnOk result ((n : ℕ) → session_at sessions.new n
         ≡ ended_unless (is_inside store.old session) (sp_of object) (session_at sessions.old n)) }
     ensures next { OnOk result (sessions.new.next ≡ sessions.old.next) }

@@ -1,6 +1,6 @@
 //! What a call is answered.
 
-ghost use Rattle.std.specs.Prelude.{◌≡◌, [], ◌∷◌, map, None, nat_lt, IfOk};
+ghost use Rattle.std.specs.Prelude.{◌≡◌, true, false, [], ◌∷◌, map, None, nat_lt, IfOk};
 ghost use Rattle.tcg_tokens.specs.Tree.{tree, number};
 ghost use Rattle.tcg_tokens.specs.Message.{message};
 ghost use Rattle.methods.specs.Said.{Said, said_seen, reply_of, says, refuses, fits};
@@ -11,12 +11,14 @@ use call_shapes::status;
 use std::alloc::{AllocError, AllocFailed, Global};
 use tcg_tokens::{Item, Reply, Value, item_len, writable};
 
-/// What comes of a call: the reply, why it was denied, and whether all media become zeros.
+/// What comes of a call: the reply, why it was denied, whether all media become zeros, and whether
+/// rows or bytes may have changed.
 #[derive(Drop)]
 pub struct Outcome {
     pub reply: Item,
     pub denied: Option<Why>,
     pub wipe: bool,
+    pub changes: bool,
 }
 
 /// Why a call was not made.
@@ -61,32 +63,37 @@ fn reply(results: Vec<Value>, status: u64) -> Item
     })
 }
 
-/// These results, and what was denied beside them.
+/// These results of a call that may change something, and what was denied beside them.
 pub(crate) fn said(results: Vec<Value>, denied: Option<Why>, wipe: bool) -> Outcome
-    ensures { said_seen result ≡ says (map tree results.items) denied wipe }
+    ensures outcome { said_seen result ≡ says (map tree results.items) denied wipe }
+    ensures changes { result.changes ≡ true }
 {
     Outcome {
         reply: reply(results, status::SUCCESS),
         denied,
         wipe,
+        changes: true,
     }
 }
 
-/// A refusal.
+/// A refusal, which changes nothing.
 pub(crate) fn refused(alloc: Global, status: u64, denied: Option<Why>) -> Outcome
-    ensures { said_seen result ≡ refuses status denied }
+    ensures outcome { said_seen result ≡ refuses status denied }
+    ensures changes { result.changes ≡ false }
 {
     Outcome {
         reply: reply(Vec::new(alloc), status),
         denied,
         wipe: false,
+        changes: false,
     }
 }
 
-/// These results, where a response can carry them.
+/// These results of a call that changes nothing, where a response can carry them.
 #[tactic(auto, unfolding(crate::specs::Said::fits))]
 pub(crate) fn fitting(alloc: Global, results: Vec<Value>) -> Outcome
-    ensures { said_seen result ≡ fits (map tree results.items) }
+    ensures outcome { said_seen result ≡ fits (map tree results.items) }
+    ensures changes { result.changes ≡ false }
 {
     let reply = reply(results, status::SUCCESS);
     if writable(&reply) && item_len(&reply) as u64 <= MOST_RESPONSE {
@@ -94,6 +101,7 @@ pub(crate) fn fitting(alloc: Global, results: Vec<Value>) -> Outcome
             reply,
             denied: None,
             wipe: false,
+            changes: false,
         };
     }
     refused(alloc, status::RESPONSE_OVERFLOW, None)

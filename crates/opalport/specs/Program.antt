@@ -1,11 +1,11 @@
 -- How the program ends, by the words of its command line.
-use Rattle.std.specs.Prelude.{◌≡◌, ◌≢◌, ◌⊎◌, ℕ, List, [], ◌∷◌, ◌++◌, Option, None, Some, Ok, Err, IfSome}
+use Rattle.std.specs.Prelude.{◌≡◌, ◌≢◌, ◌⊎◌, ℕ, List, [], ◌∷◌, ◌++◌, Option, None, Some, Ok, Err}
 use Rattle.std.specs.Io.KnownBytes.{Appends}
 use Rattle.hex.specs.Hex.{decode_of}
 use Rattle.hex.specs.declared.error.FromHexError.{FromHexError}
 use Rattle.sp_cells.specs.Config.{Config, IsWithinLimits}
 use Rattle.tool.specs.OptionTexts.{WritesConfig}
-use Rattle.tool.specs.Scripts.{script_lines, EndsWith}
+use Rattle.tool.specs.Outcomes.{ScriptYields}
 use Rattle.tool.specs.Level0.{level0_text}
 use Rattle.tool.specs.TokenLines.{token_text}
 use Rattle.clap.specs.Words.{IsAmong, Kinds, Text, fault_of}
@@ -18,10 +18,12 @@ abbrev pub Opens : Text → Text → Text → Type 0
 Opens sectors shadow msid =
     (config : Config) × WritesConfig sectors shadow msid config × IsWithinLimits config.sectors config.mbr_sectors config.msid
 
--- the script ends as its lines say; where the options open no drive, the status is 2, and nothing is printed
+-- the script prints what it comes to on the drive of the options; where the options open no
+-- drive, the status is 2, and nothing is printed
 abbrev pub RunEnds : Text → Text → Text → Option (List ℕ) → ℕ → Option (List ℕ) → Option (List ℕ) → Type 0
 RunEnds sectors shadow msid input status old new =
-    (Opens sectors shadow msid × IfSome input (λ text. EndsWith status (script_lines text)))
+    ((config : Config) × WritesConfig sectors shadow msid config × IsWithinLimits config.sectors config.mbr_sectors config.msid
+    × ScriptYields config input status old new)
     ⊎ ((Opens sectors shadow msid → ⊥) × (status ≡ 2) × (new ≡ old))
 
 -- the discovery of a new drive is printed with status 0; where the options open no drive, the status is 2, and nothing

@@ -62,6 +62,15 @@ Lines, whose words stand between blanks; numbers are decimal, HH is two hex digi
   reset C K                         a power cycle (K is 0) or a hardware reset (1)
   expect TEXT                       the last printed line is TEXT
 
+Behind a first line `port` the lines are steps of an AHCI port, with range and expect as above:
+  put C T REQUEST                   client C puts a request in slot T: read L N, write L N HH,
+                                    dread L N, dwrite L N HH, call ID TSN HSN HEX, send ID HEX
+                                    or recv ID BLOCKS
+  issue T, accept T, complete T     the port issues it, the drive takes it, the drive ends it
+  recover                           the port recovers from a failed command
+  reset C K                         client C resets the port and the drive
+  take C T                          client C takes its answer; the slot is free
+
 Status: 0 done, 1 an expectation failed, 2 a bad line, bad usage or an error";
 
 /// A command that opens a drive, with the options that say which.

@@ -42,6 +42,16 @@ most_of fields.Start = largest 64
 most_of fields.Length = largest 64
 most_of fields.Tokens = most_call_bytes
 most_of fields.ComPacket = most_send_bytes
+most_of fields.Slot = largest 5
+most_of fields.PutByte = largest 8
+most_of fields.PutCount = largest 16
+most_of fields.PutComId = largest 16
+most_of fields.PutBlocks = largest 16
+most_of fields.PutTperSession = largest 32
+most_of fields.PutHostSession = largest 32
+most_of fields.PutAddress = largest 48
+most_of fields.PutTokens = most_call_bytes
+most_of fields.PutComPacket = most_send_bytes
 
 -- the value, or the fault where there is none
 abbrev pub or_fault : {A : Type 0} → LineFault → Option A → Result A LineFault

@@ -6,3 +6,4 @@ pub mod Fields
 pub mod Groups
 pub mod Lines
 pub mod Texts
+pub mod PortLines

@@ -1,5 +1,5 @@
 -- The lines that a script prints.
-use Rattle.std.specs.Prelude.{◌≡◌, ℕ, Option, Some, None, ◌+◌, ◌*◌, ◌/◌, suc, zero, List, [], ◌∷◌, ◌++◌, slice_range, length, codes}
+use Rattle.std.specs.Prelude.{◌≡◌, ℕ, Option, Some, None, ◌+◌, ◌*◌, ◌/◌, suc, zero, List, [], ◌∷◌, ◌++◌, slice_range, length, codes, decimal}
 use Rattle.hex.specs.Hex.{encode_lower}
 use Rattle.trusted_cmds.specs.Commands.{sector_size}
 use Rattle.audit.specs.AuditText.{line_text}
@@ -33,6 +33,14 @@ failure_text status error = codes "fail " ++ encode_lower (status ∷ []) ++ cod
 
 abbrev pub audit_text : AuditLine → List ℕ
 audit_text line = codes "audit " ++ line_text line
+
+-- a step that was refused, by the number of the reason
+abbrev pub refused_text : ℕ → List ℕ
+refused_text number = codes "refused " ++ decimal number
+
+-- a command that a reset stopped
+abbrev pub reset_text : List ℕ
+reset_text = codes "reset"
 
 -- lines as they are printed, each with its line feed
 abbrev pub printed : List (List ℕ) → List ℕ

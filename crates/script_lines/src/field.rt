@@ -44,6 +44,18 @@ pub enum Field {
     ComPacket,
     Blocks,
     ResetKind,
+    /// The tag of a slot, behind a verb of a port script.
+    Slot,
+    /// The words of a `put` line behind the name of its request.
+    PutAddress,
+    PutCount,
+    PutByte,
+    PutComId,
+    PutTperSession,
+    PutHostSession,
+    PutTokens,
+    PutComPacket,
+    PutBlocks,
 }
 
 impl Field {
@@ -57,14 +69,24 @@ impl Field {
             | Field::ReadLocked
             | Field::WriteLocked
             | Field::ResetKind => 1,
-            Field::Tag => 31,
-            Field::Range | Field::Byte | Field::DmaByte => u64::from(u8::MAX),
-            Field::Count | Field::DmaCount | Field::ComId | Field::Blocks => u64::from(u16::MAX),
-            Field::Client | Field::TperSession | Field::HostSession => u64::from(u32::MAX),
-            Field::Address | Field::DmaAddress => u64::MAX >> 16,
+            Field::Tag | Field::Slot => 31,
+            Field::Range | Field::Byte | Field::DmaByte | Field::PutByte => u64::from(u8::MAX),
+            Field::Count
+            | Field::DmaCount
+            | Field::ComId
+            | Field::Blocks
+            | Field::PutCount
+            | Field::PutComId
+            | Field::PutBlocks => u64::from(u16::MAX),
+            Field::Client
+            | Field::TperSession
+            | Field::HostSession
+            | Field::PutTperSession
+            | Field::PutHostSession => u64::from(u32::MAX),
+            Field::Address | Field::DmaAddress | Field::PutAddress => u64::MAX >> 16,
             Field::Start | Field::Length => u64::MAX,
-            Field::Tokens => MOST_CALL_BYTES as u64,
-            Field::ComPacket => MOST_SEND_BYTES as u64,
+            Field::Tokens | Field::PutTokens => MOST_CALL_BYTES as u64,
+            Field::ComPacket | Field::PutComPacket => MOST_SEND_BYTES as u64,
         }
     }
 
@@ -93,6 +115,16 @@ impl Field {
             Field::ComPacket => "word 4, the ComPacket HEX,",
             Field::Blocks => "word 4, the count of blocks,",
             Field::ResetKind => "word 3, the kind of reset K,",
+            Field::Slot => "word 2, the tag T,",
+            Field::PutAddress => "word 5, the first sector L,",
+            Field::PutCount => "word 6, the count N,",
+            Field::PutByte => "word 7, the byte HH,",
+            Field::PutComId => "word 5, the ComID,",
+            Field::PutTperSession => "word 6, the TPer session number TSN,",
+            Field::PutHostSession => "word 7, the host session number HSN,",
+            Field::PutTokens => "word 8, the tokens HEX,",
+            Field::PutComPacket => "word 6, the ComPacket HEX,",
+            Field::PutBlocks => "word 6, the count of blocks,",
         }
     }
 }

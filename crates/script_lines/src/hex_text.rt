@@ -80,9 +80,13 @@ fn is_hex_up_to(most: usize, text: &[u8]) -> bool
     text.len() % 2 == 0 && text.len() / 2 <= most && are_digits(text)
 }
 
-/// Whether all of a text are hex digits.
+/// Whether all of a text are hex digits. It looks at all of them, so that it can look at many at once.
 fn are_digits(text: &[u8]) -> bool
     ensures { result ≡ list_all is_hex_digit text.now }
 {
-    text.iter().all(|digit| digit.is_ascii_hexdigit())
+    let mut are = true;
+    for digit in text {
+        are &= digit.is_ascii_hexdigit();
+    }
+    are
 }

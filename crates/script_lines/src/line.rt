@@ -89,7 +89,7 @@ impl<'a> Words<'a> {
     ghost use Rattle.script_lines.specs.Lines.{Fits, ended, verb_line, range_line, read_line, write_line, read_dma_line, write_dma_line, call_line, send_line, receive_line, log_line, reset_line};
 
     /// The next word as the number of a field.
-    fn number(&mut self, field: Field) -> Result<u64, LineFault>
+    pub(crate) fn number(&mut self, field: Field) -> Result<u64, LineFault>
         ensures value { result ≡ number_in field (first_word self.old.rest.now) }
         ensures most { IfOk result (λ n. n ≤ most_of field) }
         ensures rest { OnOk result (self.new.rest.now ≡ after_word self.old.rest.now) }
@@ -114,7 +114,7 @@ impl<'a> Words<'a> {
     }
 
     /// The next word as a byte of two hex digits.
-    fn byte(&mut self, field: Field) -> Result<u8, LineFault>
+    pub(crate) fn byte(&mut self, field: Field) -> Result<u8, LineFault>
         ensures value { result ≡ byte_in field (first_word self.old.rest.now) }
         ensures rest { self.new.rest.now ≡ after_word self.old.rest.now }
     {
@@ -130,7 +130,7 @@ impl<'a> Words<'a> {
     }
 
     /// The next word as the bytes that it writes in hex.
-    fn hex(&mut self, field: Field) -> Result<Hex<'a>, LineFault>
+    pub(crate) fn hex(&mut self, field: Field) -> Result<Hex<'a>, LineFault>
         ensures value { result ≡ hex_in field (first_word self.old.rest.now) }
         ensures some { IfOk result (λ bytes. 0 < length bytes) }
         ensures most { IfOk result (λ bytes. length bytes ≤ most_of field) }
@@ -143,7 +143,7 @@ impl<'a> Words<'a> {
         Hex::up_to(field.most() as usize, word).ok_or(LineFault::Wrong(field))
     }
 
-    fn range(&mut self) -> Result<RangeRow, LineFault>
+    pub(crate) fn range(&mut self) -> Result<RangeRow, LineFault>
         ensures value { result ≡ range_in self.old.rest.now }
         ensures rest { OnOk result (self.new.rest.now ≡ after_words 7 self.old.rest.now) }
     {
@@ -200,7 +200,7 @@ impl<'a> Words<'a> {
         Ok(Session { tsn, hsn })
     }
 
-    fn reset(&mut self) -> Result<Reset, LineFault>
+    pub(crate) fn reset(&mut self) -> Result<Reset, LineFault>
         ensures value { result ≡ reset_in (first_word self.old.rest.now) }
         ensures rest { OnOk result (self.new.rest.now ≡ after_word self.old.rest.now) }
     {

@@ -22,7 +22,7 @@ pub struct Report {
 impl Report {
     ghost use Rattle.std.specs.Prelude.{◌≡◌, ◌++◌, ◌∷◌, [], ℕ, List, Option, OnOk, option_map};
     ghost use Rattle.std.specs.Io.KnownBytes.{Appends};
-    ghost use Rattle.script_lines.specs.Texts.{done_text, data_text, hex_text, failure_text, audit_text, refusal_lines, Prints};
+    ghost use Rattle.script_lines.specs.Texts.{done_text, data_text, hex_text, failure_text, audit_text, refusal_lines, refused_text, reset_text, Prints};
 
     /// Nothing is printed.
     pub fn new(alloc: Global) -> Report
@@ -79,7 +79,7 @@ impl Report {
     }
 
     /// Prints the status and the error of a command that failed.
-    fn print_failure(&mut self, status: u8, error: u8) -> Result<(), AllocError>
+    pub fn print_failure(&mut self, status: u8, error: u8) -> Result<(), AllocError>
         ensures { OnOk result (Prints self.old self.new (failure_text status error ∷ [])) }
     {
         self.last.clear();
@@ -121,6 +121,27 @@ impl Report {
         Ok(())
     }
 
+    /// Prints that a step was refused, with the number of the reason.
+    pub fn print_refused(&mut self, number: u8) -> Result<(), AllocError>
+        ensures { OnOk result (Prints self.old self.new (refused_text number ∷ [])) }
+    {
+        let text = format!(in self.alloc; "refused {number}")?;
+        self.last.clear();
+        self.last.extend_from_slice(text.as_bytes())?;
+        self.print_last()?;
+        Ok(())
+    }
+
+    /// Prints that a reset stopped a command.
+    pub fn print_reset(&mut self) -> Result<(), AllocError>
+        ensures { OnOk result (Prints self.old self.new (reset_text ∷ [])) }
+    {
+        self.last.clear();
+        self.last.extend_from_slice(b"reset")?;
+        self.print_last()?;
+        Ok(())
+    }
+
     /// Writes what is pending. Nothing is pending then, also where the writer failed: what it took of it
     /// is not written once more.
     pub fn hand_on<W: Write>(&mut self, output: &mut W) -> io::Result<()>
@@ -151,7 +172,6 @@ fn append_sectors(line: &mut Vec<u8>, sectors: &[u8]) -> Result<(), AllocError>
     ensures { OnOk result (line.new.items ≡ line.old.items ++ sectors_text sectors.now) }
 {
     for sector in 0..sectors.len() / SECTOR_SIZE {
-        line.push(b' ')?;
         append_four(
             line,
             &sectors[SECTOR_SIZE * sector..SECTOR_SIZE * sector + 4],
@@ -169,13 +189,14 @@ fn append_byte(line: &mut Vec<u8>, byte: u8) -> Result<(), AllocError>
     Ok(())
 }
 
+/// Appends a blank and four bytes in hex.
 fn append_four(line: &mut Vec<u8>, bytes: &[u8]) -> Result<(), AllocError>
     requires { length bytes.now ≡ 4 }
-    ensures { OnOk result (line.new.items ≡ line.old.items ++ encode_lower bytes.now) }
+    ensures { OnOk result (line.new.items ≡ line.old.items ++ 32 ∷ encode_lower bytes.now) }
 {
-    let mut digits = [0; 8];
-    let _ = hex::encode_to_slice(bytes, &mut digits);
-    line.extend_from_slice(&digits)?;
+    let mut text = [b' '; 9];
+    let _ = hex::encode_to_slice(bytes, &mut text[1..]);
+    line.extend_from_slice(&text)?;
     Ok(())
 }
 

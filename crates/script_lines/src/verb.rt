@@ -2,6 +2,7 @@
 
 ghost use Rattle.std.specs.Prelude.{◌≡◌};
 ghost use Rattle.script_lines.specs.Verbs.{verb_of};
+ghost use Rattle.script_lines.specs.PortLines.{port_verb_of};
 
 /// What a line does, by its first word.
 #[derive(Clone, Copy, Debug, PartialEq, Eq)]
@@ -45,6 +46,47 @@ pub(crate) fn verb_of(word: &[u8]) -> Option<Verb>
         Some(Verb::Log)
     } else if word == b"reset".as_slice() {
         Some(Verb::Reset)
+    } else {
+        None
+    }
+}
+
+/// What a line of a port script does, by its first word.
+#[derive(Clone, Copy, Debug, PartialEq, Eq)]
+pub enum PortVerb {
+    Range,
+    Put,
+    Issue,
+    Accept,
+    Complete,
+    Recover,
+    Reset,
+    Take,
+    Expect,
+}
+
+/// The verb of a port script that a word is.
+pub(crate) fn port_verb_of(word: &[u8]) -> Option<PortVerb>
+    ensures { result ≡ port_verb_of word.now }
+{
+    if word == b"put".as_slice() {
+        Some(PortVerb::Put)
+    } else if word == b"issue".as_slice() {
+        Some(PortVerb::Issue)
+    } else if word == b"accept".as_slice() {
+        Some(PortVerb::Accept)
+    } else if word == b"complete".as_slice() {
+        Some(PortVerb::Complete)
+    } else if word == b"take".as_slice() {
+        Some(PortVerb::Take)
+    } else if word == b"recover".as_slice() {
+        Some(PortVerb::Recover)
+    } else if word == b"reset".as_slice() {
+        Some(PortVerb::Reset)
+    } else if word == b"expect".as_slice() {
+        Some(PortVerb::Expect)
+    } else if word == b"range".as_slice() {
+        Some(PortVerb::Range)
     } else {
         None
     }

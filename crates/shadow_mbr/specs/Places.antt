@@ -9,7 +9,7 @@ use Rattle.shadow_mbr.specs.Stored.{zeros, sector_size}
 
 -- how many neighbouring sectors are one group
 abbrev pub group_size : ℕ
-group_size = 16
+group_size = 64
 
 -- the sectors from one on that have a place, with their places
 unfoldable pub placed_from : ℕ → List (Option ℕ) → List (ℕ × ℕ)

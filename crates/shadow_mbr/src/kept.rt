@@ -58,6 +58,24 @@ fn block_or_zeros(blocks: &[Block], place: Option<usize>) -> &Block
     }
 }
 
+/// Appends the block at a place, zeros for none.
+#[tactic(auto, unfolding(crate::specs::Stored::zeros))]
+fn append_block(
+    bytes: &mut Vec<u8>,
+    blocks: &[Block],
+    place: Option<usize>,
+) -> Result<(), AllocError>
+    requires { IfSome place (λ p. p < length blocks.now) }
+    ensures { OnOk result (bytes.new.items
+        ≡ bytes.old.items ++ unwrap_or (option_map (block_at blocks.now) place) zeros) }
+{
+    match place {
+        Some(place) => bytes.extend_from_slice(&blocks[place])?,
+        None => bytes.resize(bytes.len() + SECTOR_SIZE, 0)?,
+    }
+    Ok(())
+}
+
 /// Writes some bytes of one block.
 fn write_block(blocks: &mut Vec<Block>, place: usize, from: usize, bytes: &[u8])
     requires there { place < vec_len blocks.old }
@@ -190,7 +208,7 @@ impl Kept {
         let _ = &self.blocks;
         let mut finder = self.places.finder(first);
         for sector in first..end {
-            bytes.extend_from_slice(block_or_zeros(&self.blocks, finder.at(sector)))?;
+            append_block(bytes, &self.blocks, finder.at(sector))?;
         }
         Ok(())
     }

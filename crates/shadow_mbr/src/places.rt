@@ -8,7 +8,7 @@ use std::collections::BTreeMap;
 use std::marker::Model;
 
 /// How many neighbouring sectors are one group.
-const GROUP_SIZE: usize = 16;
+const GROUP_SIZE: usize = 64;
 
 const GROUP: u64 = GROUP_SIZE as u64;
 

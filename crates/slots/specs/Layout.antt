@@ -2,6 +2,7 @@
 -- choice; sizes, and the offsets among received FISes, are those of the standard.
 use Rattle.std.specs.Prelude.{ℕ, ◌+◌, ◌*◌, List, ◌++◌, length, take, drop, replicate, slice_range}
 use Rattle.fis.specs.Tags.{slot_count}
+use Rattle.fis.specs.Types.{h2d_length, d2h_length, set_device_bits_length, dma_setup_length, pio_setup_length}
 use Rattle.fis.specs.declared.any.Fis.{Fis}
 use Rattle.fis.specs.declared.any.Fis.TheVariants as fises
 
@@ -68,3 +69,11 @@ laid memory at bytes = take at memory ++ bytes ++ drop (at + length bytes) memor
 
 unfoldable pub zeros : ℕ → List ℕ
 zeros n = replicate n 0
+
+-- How many bytes a FIS has.
+abbrev pub fis_length : Fis → ℕ
+fis_length (fises.DmaSetup f) = dma_setup_length
+fis_length (fises.PioSetup f) = pio_setup_length
+fis_length (fises.D2h f) = d2h_length
+fis_length (fises.SetDeviceBits f) = set_device_bits_length
+fis_length (fises.H2d f) = h2d_length

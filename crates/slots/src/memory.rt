@@ -39,7 +39,7 @@ fn zeros(alloc: Global, len: usize) -> Result<Vec<u8>, AllocError>
 impl PortMemory {
     ghost use Rattle.std.specs.Prelude.{◌≡◌, ◌+◌, ◌*◌, ◌≤◌, ◌<◌, ◌%◌, ◌^◌, ◌↔◌, ℕ, List, Bool, true, IfOk, IfSome, IsSome, Ok, Some, None, length, slice_index, if◌then◌else◌};
     ghost use Rattle.fis.specs.Tags.{slot_count};
-    ghost use Rattle.slots.specs.Layout.{memory_size, header_size, received_at, received_size, table_size, buffer_size, descriptors_at, descriptor_size, laid, part, header_place, table_place, buffer_place, received_place};
+    ghost use Rattle.slots.specs.Layout.{memory_size, header_size, received_at, received_size, table_size, buffer_size, descriptors_at, descriptor_size, laid, part, header_place, table_place, buffer_place, received_place, fis_length};
     ghost use Rattle.slots.specs.Fetch.{fetched, placed, transfer, command_fis, Holds, AreApart};
     ghost use Rattle.slots.specs.Table.{is_command, descriptors};
     ghost use Rattle.fis.specs.Types.{h2d_length};
@@ -200,6 +200,10 @@ impl PortMemory {
 
         // No byte outside the received FISes changes.
         ensures elsewhere { (place n : ℕ) → AreApart place n received_at received_size → part self.new place n ≡ part self.old place n }
+
+        // The FIS stands at its place, and the others stay.
+        ensures stands { IsSpelling (part self.new (received_place fis.now) (fis_length fis.now)) fis.now }
+        ensures beside { (place n : ℕ) → AreApart place n (received_place fis.now) (fis_length fis.now) → part self.new place n ≡ part self.old place n }
     {
         self.store(fis);
     }

@@ -6,9 +6,8 @@ use Rattle.history.specs.History.{Act, Accept, log, event}
 use Rattle.script_lines.specs.declared.line.Line as told
 use Rattle.script_lines.specs.declared.line.Line.TheVariants as lines
 use Rattle.script_lines.specs.declared.report.Report.{Report}
-use Rattle.tool.specs.Openings.{origin_of, row_in, OpensBy, OpeningDoes, TurnStands}
-use Rattle.tool.specs.Scripts.{IsRange, Says}
-use Rattle.script_lines.specs.Lines.{line_of}
+use Rattle.tool.specs.Courses.{start}
+use Rattle.tool.specs.Openings.{origin_of, OpensBy, TurnStands}
 use Rattle.locking.specs.declared.range.RangeRow.{RangeRow}
 use Rattle.history.specs.Events.{Event}
 use Rattle.tool.specs.declared.opening.OpeningPhase.{OpeningPhase}
@@ -62,56 +61,6 @@ doing lines.Expect text turn old new o acts before after runs does =
 doing (lines.Range row) text turn old new o acts before after runs does =
     (o, acts, subst (λ run. RunsOn run o acts) (sym does.0) runs)
 
--- a line that says something behind which a script goes on so
-truly-says : (line : told.Line) (text : List ℕ) (turn : Turn) (past : List Event)
-    → line_of text ≡ Ok line → GoesTruly turn past → Says turn text
-truly-says line text (turns.Goes aborted) past reads goes = subst IsOk (sym reads) refl
-truly-says line text turns.ExpectationFailed past reads goes = absurd goes
-truly-says line text (turns.Bad fault) past reads goes = absurd goes
-
-expects-so : (held : Bool) (text : List ℕ) (turn : Turn) → line_of text ≡ Ok lines.Expect
-    → turn ≡ (if held then turns.Goes false else turns.ExpectationFailed) → Says turn text
-expects-so true text turn reads goes =
-    subst (λ turn. Says turn text) (sym goes) (subst IsOk (sym reads) refl)
-expects-so false text turn reads goes = subst (λ turn. Says turn text) (sym goes) reads
-
-saying : (line : told.Line) (text : List ℕ) (turn : Turn) (old new : RunningPhase) (o : Origin)
-    (acts : List Act) (before after : Report)
-    → line_of text ≡ Ok line → Does line text turn old new o acts before after → Says turn text
-saying (lines.Read transfer) text turn old new o acts before after reads does =
-    truly-says _ text turn _ reads does.1
-saying (lines.Write transfer byte) text turn old new o acts before after reads does =
-    truly-says _ text turn _ reads does.1
-saying (lines.ReadDma transfer) text turn old new o acts before after reads does =
-    truly-says _ text turn _ reads does.1
-saying (lines.WriteDma transfer byte) text turn old new o acts before after reads does =
-    truly-says _ text turn _ reads does.1
-saying (lines.Call client com_id session tokens) text turn old new o acts before after reads does =
-    truly-says _ text turn _ reads does.1
-saying (lines.Send client com_id packet) text turn old new o acts before after reads does =
-    truly-says _ text turn _ reads does.1
-saying (lines.Receive client com_id blocks) text turn old new o acts before after reads does =
-    truly-says _ text turn _ reads does.1
-saying (lines.Log client) text turn old new o acts before after reads does =
-    truly-says _ text turn _ reads does.1
-saying (lines.Reset client kind) text turn old new o acts before after reads does =
-    truly-says _ text turn _ reads does.1
-saying lines.Expect text turn old new o acts before after reads does =
-    expects-so _ text turn reads does.2
-saying (lines.Range row) text turn old new o acts before after reads does =
-    subst (λ turn. Says turn text) (sym does.2) (subst (λ read. IfOk read IsRange) (sym reads) tt)
-
--- what a turn says is what its line says
-pub says-after : {E : Type 0} (r : Result Turn E) (line : told.Line) (text : List ℕ)
-    (old new : RunningPhase) (before after : Report) → line_of text ≡ Ok line
-    → Stands old
-    → IfOk r
-    (λ turn. (o : Origin) (acts : List Act) → RunsOn old o acts
-    → Does line text turn old new o acts before after) → IfOk r (λ turn. Says turn text)
-says-after (Ok turn) line text old new before after reads (o, acts, runs) does =
-    saying line text turn old new o acts before after reads (does o acts runs)
-says-after (Err e) line text old new before after reads stands does = does
-
 -- behind a line the drive is again as an origin and acts leave it
 pub stands-after : {E : Type 0} (r : Result Turn E) (line : told.Line) (text : List ℕ)
     (old new : RunningPhase) (before after : Report)
@@ -123,19 +72,15 @@ stands-after (Ok turn) line text old new before after (o, acts, runs) does =
     doing line text turn old new o acts before after runs (does o acts runs)
 stands-after (Err e) line text old new before after stands does = does
 
--- a drive that a line opens is as its origin and no act leave it
-opened-by : (phase : OpeningPhase) (row : Option RangeRow) (turn : OpeningTurn)
-    → OpensBy phase row turn → TurnStands turn
-opened-by phase (Some row) (openings.Goes next) does = tt
-opened-by phase (Some row) (openings.Runs run) does = absurd does
-opened-by phase (Some row) (openings.Bad fault) does = tt
-opened-by phase None (openings.Goes next) does = tt
-opened-by phase None (openings.Runs run) does = (origin_of phase, [], does)
-opened-by phase None (openings.Bad fault) does = tt
-
-pub opened-stands : (phase : OpeningPhase) (line : told.Line) (turn : OpeningTurn)
-    → OpeningDoes phase line turn → TurnStands turn
-opened-stands phase line turn does = opened-by phase (row_in line) turn does
+-- what a line opens is as its origin leaves it, with nothing done
+pub opened-stands : (on_port : Bool) (phase : OpeningPhase) (row : Option RangeRow)
+    (turn : OpeningTurn) → OpensBy on_port phase row turn → TurnStands turn
+opened-stands on_port phase (Some row) (openings.Goes next) does = tt
+opened-stands on_port phase (Some row) (openings.Runs run) does = absurd does
+opened-stands on_port phase (Some row) (openings.Bad fault) does = tt
+opened-stands on_port phase None (openings.Goes next) does = tt
+opened-stands on_port phase None (openings.Runs run) does = (origin_of phase, start on_port, does)
+opened-stands on_port phase None (openings.Bad fault) does = tt
 
 -- what holds of what was made holds of what was asked for
 pub of-same : {E A : Type 0} (r : Result Turn E) (P : A → Turn → Type 0) (made asked : A)

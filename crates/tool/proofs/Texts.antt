@@ -1,11 +1,7 @@
 -- The first line of a text, and what a run has read so far.
 use Rattle.std.proofs.Common.{◌≡◌, ℕ, suc, ◌-◌, ◌<◌, Bool, true, false, ◌==◌, ◌&&◌, List, [], ◌∷◌, ◌++◌, map, cond, length, take, slice_index, refl, sym, ap, subst, ◌∙◌, arith, lt-ltb, Option, Some, None, IfSome, All, Ok, Err, IfOk, Result, append_assoc, append-nil, inl, inr}
 use Rattle.std.specs.Io.BufRead.{take_through, drop_through, strip_last}
-use Rattle.std.proofs.lemmas.List.Elements.{All-append, All-cons, All-nil}
-use Rattle.tool.specs.Scripts.{in_front, lines_of_text, script_lines, bare, TakesLine, IsLine, ComesTo, EndsWith}
-use Rattle.tool.specs.Ends.{AtLine, EndsSo, status_of}
-use Rattle.tool.specs.declared.ending.End.{End}
-use Rattle.tool.specs.declared.ending.End.TheVariants.{Done, ExpectationFailed, Bad}
+use Rattle.tool.specs.Scripts.{in_front, lines_of_text, script_lines, bare, TakesLine}
 
 strip_of : (b : ℕ) (xs : List ℕ) (n : ℕ) → length xs ≡ suc n → strip_last b xs ≡ cond (slice_index xs n == b) (take n xs) xs
 strip_of b xs n e =
@@ -52,58 +48,19 @@ first-of-script : (text : List ℕ) → 0 < length (take_through 10 text) → sc
 first-of-script [] some = absurd (omega (arith, some))
 first-of-script (x ∷ xs) some = ap (map (strip_last 13)) (first-line x xs)
 
--- of these lines some were read, each of which says something, and a text is left
-abbrev pub HasRead : List (List ℕ) → Option (List ℕ) → Type 0
-HasRead lines left =
-    (text : List ℕ) × (earlier : List (List ℕ)) × (left ≡ Some text) × (lines ≡ earlier ++ script_lines text) × All IsLine earlier
-
-pub none-read : (text : List ℕ) (left : Option (List ℕ)) → left ≡ Some text → HasRead (script_lines text) left
-none-read text left e = (text, [], e, refl, All-nil IsLine)
-
--- the line that is read stands behind those that were
-here : (lines : List (List ℕ)) (old new : Option (List ℕ)) (line : List ℕ) → (read : HasRead lines old) → IfSome old (λ text. TakesLine true line text new)
-    → (lines ≡ read.1 ++ bare line ∷ script_lines (drop_through 10 read.0)) × (new ≡ Some (drop_through 10 read.0))
-here lines old new line (text, earlier, is, all, said) takes =
-    let taken = subst (λ o. IfSome o (λ text. TakesLine true line text new)) is takes in
-    let some : 0 < length (take_through 10 text) = subst (λ l. 0 < length l) taken.1 taken.0 in
-    let first : script_lines text ≡ bare line ∷ script_lines (drop_through 10 text) =
-    first-of-script text some ∙ ap (λ l. bare l ∷ script_lines (drop_through 10 text)) (sym taken.1) in
-    (all ∙ ap (λ l. earlier ++ l) first, taken.2)
-
--- a line is at hand
-pub next : (lines : List (List ℕ)) (old new : Option (List ℕ)) (line : List ℕ) → HasRead lines old → IfSome old (λ text. TakesLine true line text new)
-    → AtLine line lines new
-next lines old new line read takes =
-    let found = here lines old new line read takes in
-    (drop_through 10 read.0, read.1, found.1, found.0, read.4)
-
--- it is done
-pub done : (lines : List (List ℕ)) (left : Option (List ℕ)) (line : List ℕ) → AtLine line lines left → IsLine (bare line) → HasRead lines left
-done lines left line (text, earlier, is, all, said) says = (
-  text,
-  earlier ++ bare line ∷ [],
-  is,
-  all ∙ sym (append_assoc earlier (bare line ∷ []) (script_lines text)),
-  All-append IsLine earlier (bare line ∷ []) said (All-cons IsLine (bare line) [] says (All-nil IsLine)),
-)
-
-pub comes-to : (P : List ℕ → Type 0) (lines : List (List ℕ)) (left : Option (List ℕ)) (line : List ℕ) → AtLine line lines left → P (bare line) → ComesTo P lines
-comes-to P lines left line (text, earlier, is, all, said) says = (earlier, bare line, script_lines text, all, said, says)
-
-pub all-read : (lines : List (List ℕ)) (old new : Option (List ℕ)) (line : List ℕ) → HasRead lines old → IfSome old (λ text. TakesLine false line text new)
-    → All IsLine lines
-unfolding lines_of_text
-all-read lines old new line (text, earlier, is, all, said) takes =
-    let none : text ≡ [] = subst (λ o. IfSome o (λ text. TakesLine false line text new)) is takes in
-    subst (All IsLine) (sym (all ∙ ap (λ t. earlier ++ script_lines t) none ∙ append-nil earlier)) said
+-- a line is taken, and the lines of what is left stand behind it
+pub taken : (old new : Option (List ℕ)) (line text : List ℕ) → old ≡ Some text
+    → IfSome old (λ text. TakesLine true line text new)
+    → (new ≡ Some (drop_through 10 text))
+    × (script_lines text ≡ bare line ∷ script_lines (drop_through 10 text))
+taken old new line text is takes =
+    let found = subst (λ o. IfSome o (λ text. TakesLine true line text new)) is takes in
+    let some : 0 < length (take_through 10 text) = subst (λ l. 0 < length l) found.1 found.0 in (
+      found.2,
+      first-of-script text some
+          ∙ ap (λ l. bare l ∷ script_lines (drop_through 10 text)) (sym found.1),
+    )
 
 pub weaker : {A : Type 0} (o : Option A) (P Q : A → Type 0) → ((x : A) → P x → Q x) → IfSome o P → IfSome o Q
 weaker None P Q f h = h
 weaker (Some x) P Q f h = f x h
-
-pub told : {E : Type 0} (told : Result ℕ E) (end : End) (lines : List (List ℕ)) → IfOk told (λ status. status ≡ status_of end) → EndsSo end lines
-    → IfOk told (λ status. EndsWith status lines)
-told (Err e) end lines is ends = is
-told (Ok status) Done lines is ends = inl (is, ends)
-told (Ok status) (ExpectationFailed line) lines is ends = inr (inl (is, ends))
-told (Ok status) (Bad line fault) lines is ends = inr (inr (is, ends))

@@ -1,12 +1,17 @@
 -- What the range lines of a script open.
-use Rattle.std.specs.Prelude.{◌≡◌, List, [], ℕ, Option, None, Some, ⊤}
+use Rattle.std.specs.Prelude.{◌≡◌, Bool, true, false, List, ℕ, Option, None, Some, Result, Ok, Err, ⊤}
+use Rattle.sp_cells.specs.Config.{Config}
 use Rattle.history.specs.Opening.{Origin, factory_origin, activated_origin, row_fault, with_range}
 use Rattle.script_lines.specs.declared.line.Line.{Line}
 use Rattle.script_lines.specs.declared.line.Line.TheVariants.{Range}
+use Rattle.script_lines.specs.declared.port_line.PortLine.{PortLine}
+use Rattle.script_lines.specs.declared.port_line.PortLine.TheVariants as port_lines
+use Rattle.script_lines.specs.declared.fault.LineFault.{LineFault}
+use Rattle.script_lines.specs.Lines.{line_of}
+use Rattle.script_lines.specs.PortLines.{port_line_of}
 use Rattle.locking.specs.declared.range.RangeRow.{RangeRow}
 use Rattle.sp_cells.specs.declared.error.SetError.{SetError}
-use Rattle.tool.specs.Scripts.{IsRange, IsLine, IsBadOrRange}
-use Rattle.tool.specs.Effects.{RunsOn, Stands}
+use Rattle.tool.specs.Courses.{PhaseRunsOn, PhaseStands, start}
 use Rattle.tool.specs.declared.ending.Fault.TheVariants.{RefusedRow}
 use Rattle.tool.specs.declared.opening.OpeningTurn.{OpeningTurn}
 use Rattle.tool.specs.declared.opening.OpeningTurn.TheVariants.{Goes, Runs, Bad}
@@ -23,18 +28,6 @@ abbrev pub base_of : OpeningPhase → Origin
 base_of (Factory config) = activated_origin config
 base_of (Activated o) = o
 
--- how the phase goes on behind a line that says this
-abbrev pub OpeningGoesOn : Line → OpeningTurn → Type 0
-OpeningGoesOn line (Goes phase) = ⊤
-OpeningGoesOn line (Runs run) = ⊤
-OpeningGoesOn line (Bad fault) = IsRange line
-
--- what a line says behind which the phase goes on so
-abbrev pub OpeningSays : List ℕ → OpeningTurn → Type 0
-OpeningSays line (Goes phase) = IsLine line
-OpeningSays line (Runs run) = IsLine line
-OpeningSays line (Bad fault) = IsBadOrRange line
-
 -- the row is set, or it is told why not
 abbrev pub SetsRow : Origin → RangeRow → OpeningTurn → Type 0
 SetsRow o row (Goes phase) = (row_fault o row ≡ None) × (phase ≡ Activated (with_range row o))
@@ -42,27 +35,45 @@ SetsRow o row (Runs run) = ⊥
 SetsRow o row (Bad fault) = (error : SetError) × (fault ≡ RefusedRow row.range error)
     × (row_fault o row ≡ Some error)
 
--- the drive is opened, and nothing was done on it
-abbrev pub RunsFrom : Origin → OpeningTurn → Type 0
-RunsFrom o (Goes phase) = ⊥
-RunsFrom o (Runs run) = RunsOn run o []
-RunsFrom o (Bad fault) = ⊥
+-- the drive is opened, and nothing was done on it, or on the port in front of it
+abbrev pub RunsFrom : Bool → Origin → OpeningTurn → Type 0
+RunsFrom on_port o (Goes phase) = ⊥
+RunsFrom on_port o (Runs run) = PhaseRunsOn run o (start on_port)
+RunsFrom on_port o (Bad fault) = ⊥
 
 -- the row of a range line
 abbrev pub row_in : Line → Option RangeRow
 row_in (Range row) = Some row
 row_in _ = None
 
+abbrev pub row_in_port : PortLine → Option RangeRow
+row_in_port (port_lines.Range row) = Some row
+row_in_port _ = None
+
+abbrev pub said_of : Result Line LineFault → Result (Option RangeRow) LineFault
+said_of (Ok line) = Ok (row_in line)
+said_of (Err fault) = Err fault
+
+abbrev pub said_of_port : Result PortLine LineFault → Result (Option RangeRow) LineFault
+said_of_port (Ok line) = Ok (row_in_port line)
+said_of_port (Err fault) = Err fault
+
+-- the row that a line of a script, or of a port script, gives
+abbrev pub row_said : Bool → List ℕ → Result (Option RangeRow) LineFault
+row_said false text = said_of (line_of text)
+row_said true text = said_of_port (port_line_of text)
+
 -- what a line does: a range line sets its row, and any other opens the drive
-abbrev pub OpensBy : OpeningPhase → Option RangeRow → OpeningTurn → Type 0
-OpensBy phase (Some row) turn = SetsRow (base_of phase) row turn
-OpensBy phase None turn = RunsFrom (origin_of phase) turn
+abbrev pub OpensBy : Bool → OpeningPhase → Option RangeRow → OpeningTurn → Type 0
+OpensBy on_port phase (Some row) turn = SetsRow (base_of phase) row turn
+OpensBy on_port phase None turn = RunsFrom on_port (origin_of phase) turn
 
-abbrev pub OpeningDoes : OpeningPhase → Line → OpeningTurn → Type 0
-OpeningDoes phase line turn = OpensBy phase (row_in line) turn
-
--- the drive, where there is one, is as an origin and acts leave it
+-- what runs is as an origin and a course leave it
 abbrev pub TurnStands : OpeningTurn → Type 0
 TurnStands (Goes phase) = ⊤
-TurnStands (Runs run) = Stands run
+TurnStands (Runs run) = PhaseStands run
 TurnStands (Bad fault) = ⊤
+
+-- what a script begins with
+abbrev pub opens_with : Config → OpeningPhase
+opens_with config = Factory config

@@ -1,12 +1,7 @@
--- Scripts: their lines, and how a run of one ends.
-use Rattle.std.specs.Prelude.{◌≤◌, ◌≡◌, ◌<◌, ◌⊎◌, ⊤, ℕ, ◌==◌, Bool, true, false, List, [], ◌∷◌, ◌++◌, All, map, length, Option, Some, Ok, IsOk, IfOk, if◌then◌else◌}
+-- Scripts: their lines, and how they are read.
+use Rattle.std.specs.Prelude.{◌≤◌, ◌≡◌, ◌<◌, ℕ, ◌==◌, Bool, true, false, List, [], ◌∷◌, map, length, Option, Some, if◌then◌else◌}
 use Rattle.std.specs.List.{list_any}
 use Rattle.std.specs.Io.BufRead.{strip_last, take_through, drop_through}
-use Rattle.script_lines.specs.Lines.{line_of}
-use Rattle.script_lines.specs.declared.line.Line.{Line}
-use Rattle.script_lines.specs.declared.line.Line.TheVariants.{Range, Expect}
-use Rattle.tool.specs.declared.running.Turn.{Turn}
-use Rattle.tool.specs.declared.running.Turn.TheVariants.{Goes, ExpectationFailed, Bad}
 
 -- a byte in front of the first line
 abbrev pub in_front : ℕ → List (List ℕ) → List (List ℕ)
@@ -45,46 +40,3 @@ most_pending = 65536
 abbrev pub IsAnswered : List ℕ → List ℕ → Type 0
 IsAnswered at_hand pending = (has_line at_hand ≡ false → pending ≡ [])
     × (length pending ≤ most_pending)
-
--- the line gives the cells of a range
-abbrev pub IsRange : Line → Type 0
-IsRange (Range row) = ⊤
-IsRange _ = ⊥
-
--- how a script goes on behind a line that says this
-abbrev pub GoesOn : Line → Turn → Type 0
-GoesOn line (Goes aborted) = ⊤
-GoesOn line ExpectationFailed = line ≡ Expect
-GoesOn line (Bad fault) = IsRange line
-
--- the line says something
-abbrev pub IsLine : List ℕ → Type 0
-IsLine line = IsOk (line_of line)
-
--- the line is an `expect` line
-abbrev pub IsExpect : List ℕ → Type 0
-IsExpect line = line_of line ≡ Ok Expect
-
--- the line says nothing, or is a `range` line
-abbrev pub IsBadOrRange : List ℕ → Type 0
-IsBadOrRange line = IfOk (line_of line) IsRange
-
--- what a line says behind which a script goes on so
-abbrev pub Says : Turn → List ℕ → Type 0
-Says (Goes aborted) line = IsLine line
-Says ExpectationFailed line = IsExpect line
-Says (Bad fault) line = IsBadOrRange line
-
--- a run comes to a line of this kind, and all lines before it say something
-abbrev pub ComesTo : (List ℕ → Type 0) → List (List ℕ) → Type 0
-ComesTo P lines =
-    (earlier : List (List ℕ)) × (line : List ℕ) × (later : List (List ℕ))
-    × (lines ≡ earlier ++ line ∷ later) × All IsLine earlier × P line
-
--- a run ends with status 0 behind the last line, with status 1 at an `expect` line, and with status
--- 2 at a line that says nothing
--- or at a `range` line; all lines before it say something
-abbrev pub EndsWith : ℕ → List (List ℕ) → Type 0
-EndsWith status lines =
-    ((status ≡ 0) × All IsLine lines)
-    ⊎ (((status ≡ 1) × ComesTo IsExpect lines) ⊎ ((status ≡ 2) × ComesTo IsBadOrRange lines))

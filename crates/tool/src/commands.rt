@@ -10,7 +10,7 @@ use script_lines::{DmaTransfer, Reset, Transfer};
 use trusted_cmds::{Command, sectors};
 
 /// The security protocol whose SP Specific field is a ComID.
-const COM_ID_PROTOCOL: u8 = 1;
+pub const COM_ID_PROTOCOL: u8 = 1;
 
 /// A queued read.
 pub fn read_of(transfer: &Transfer) -> Command

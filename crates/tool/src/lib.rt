@@ -1,4 +1,4 @@
-//! The program's library: scripts of lines, run on a drive, and token streams, told as text.
+//! The program's library: scripts of lines, run on a drive or on a port, and token streams, told as text.
 #![tactic(auto)]
 
 mod commands;
@@ -7,6 +7,8 @@ mod level0;
 mod opening;
 mod options;
 mod payload;
+mod phase;
+mod port_phase;
 mod printing;
 mod reading;
 mod running;

@@ -1,13 +1,15 @@
 //! The opening phase of a script: its range lines.
 
-ghost use Rattle.std.specs.Prelude.{◌≡◌, IfSome};
-ghost use Rattle.tool.specs.Openings.{row_in};
-ghost use Rattle.tool.specs.Scripts.{IsRange};
+ghost use Rattle.std.specs.Prelude.{◌≡◌};
+ghost use Rattle.tool.specs.Openings.{row_in, row_in_port, row_said};
 
 use crate::ending::Fault;
+use crate::phase::Phase;
+use crate::port_phase::PortPhase;
 use crate::running::RunningPhase;
 use drive::{Drive, DriveConfig, Opening, RangeRow, SetError};
-use script_lines::Line;
+use port::Port;
+use script_lines::{Line, LineFault, PortLine};
 use std::alloc::{AllocError, Global};
 
 /// What the range lines so far make.
@@ -25,14 +27,13 @@ pub enum OpeningTurn {
     /// The line gave the cells of a range.
     Goes(OpeningPhase),
     /// The line is none of a range, and is still to be done.
-    Runs(RunningPhase),
+    Runs(Phase),
     Bad(Fault),
 }
 
 /// The row of a range line.
 fn row_in(line: &Line<'_>) -> Option<RangeRow>
-    ensures row { result ≡ row_in line.now }
-    ensures range { IfSome result (λ _. IsRange line.now) }
+    ensures { result ≡ row_in line.now }
 {
     match line {
         Line::Range(row) => Some(*row),
@@ -40,15 +41,37 @@ fn row_in(line: &Line<'_>) -> Option<RangeRow>
     }
 }
 
+/// The row of a range line of a port script.
+fn row_in_port(line: &PortLine<'_>) -> Option<RangeRow>
+    ensures { result ≡ row_in_port line.now }
+{
+    match line {
+        PortLine::Range(row) => Some(*row),
+        _ => None,
+    }
+}
+
+/// The row that a line gives, if it is a range line.
+fn row_said(on_port: bool, text: &[u8]) -> Result<Option<RangeRow>, LineFault>
+    ensures { result ≡ row_said on_port text.now }
+{
+    if on_port {
+        let line = PortLine::parse(text)?;
+        return Ok(row_in_port(&line));
+    }
+    let line = Line::parse(text)?;
+    Ok(row_in(&line))
+}
+
 impl OpeningPhase {
-    ghost use Rattle.std.specs.Prelude.{◌≡◌, ◌⊎◌, [], None, Some, Ok, Err, IfOk, IfErr};
-    ghost use Rattle.script_lines.specs.Lines.{line_of};
-    ghost use Rattle.script_lines.specs.declared.line.Line.{Line};
+    ghost use Rattle.std.specs.Prelude.{◌≡◌, ◌⊎◌, [], Option, None, Some, Ok, Err, IfOk, IfErr};
+    ghost use Rattle.locking.specs.declared.range.RangeRow.{RangeRow};
     ghost use Rattle.script_lines.specs.declared.fault.LineFault.{LineFault};
     ghost use Rattle.sp_cells.specs.declared.error.SetError.{SetError};
     ghost use Rattle.history.specs.Opening.{row_fault, with_range};
     ghost use Rattle.drive.specs.State.{Agrees};
-    ghost use Rattle.tool.specs.Openings.{origin_of, base_of, OpeningSays, OpeningGoesOn, OpeningDoes, RunsFrom, TurnStands};
+    ghost use Rattle.tool.specs.PortEffects.{PortRunsOn};
+    ghost use Rattle.tool.specs.Openings.{origin_of, base_of, OpensBy, RunsFrom, TurnStands, row_said};
     ghost use Rattle.tool.specs.declared.opening.OpeningPhase.TheVariants.{Activated};
 
     /// The opening that the next row is set over.
@@ -92,26 +115,46 @@ impl OpeningPhase {
         }
     }
 
+    /// The port in front of the drive that the range lines open.
+    pub fn into_port(self, alloc: Global) -> Result<PortPhase, AllocError>
+        ensures { IfOk result (λ phase. PortRunsOn phase (origin_of self) []) }
+    {
+        let drive = self.into_drive(alloc)?;
+        // nothing but memory is refused here
+        let Ok(port) = Port::new(alloc, drive) else {
+            return Err(AllocError);
+        };
+        Ok(PortPhase::new(alloc, port))
+    }
+
     /// Does what one line says, where it gives the cells of a range; any other line ends the phase.
-    pub fn turn(self, alloc: Global, text: &[u8]) -> Result<OpeningTurn, AllocError>
-        ensures says { IfOk result (OpeningSays text.now) }
+    pub fn turn(
+        self,
+        alloc: Global,
+        on_port: bool,
+        text: &[u8],
+    ) -> Result<OpeningTurn, AllocError>
         ensures stands { IfOk result TurnStands }
-        ensures does { (line : Line) → line_of text.now ≡ Ok line → IfOk result (OpeningDoes self line) }
-        ensures bad_line { (fault : LineFault) → line_of text.now ≡ Err fault
+        ensures does { (row : Option RangeRow) → row_said on_port text.now ≡ Ok row → IfOk result (OpensBy on_port self row) }
+        ensures bad_line { (fault : LineFault) → row_said on_port text.now ≡ Err fault
             → result ≡ Ok (OpeningTurn.Bad (Fault.Line fault)) }
     {
-        match Line::parse(text) {
-            Ok(line) => self.act(alloc, &line),
+        match row_said(on_port, text) {
+            Ok(row) => self.act(alloc, on_port, row),
             Err(fault) => Ok(OpeningTurn::Bad(Fault::Line(fault))),
         }
     }
 
-    fn act(self, alloc: Global, line: &Line<'_>) -> Result<OpeningTurn, AllocError>
-        ensures goes { IfOk result (OpeningGoesOn line.now) }
-        ensures does { IfOk result (OpeningDoes self line.now) }
+    fn act(
+        self,
+        alloc: Global,
+        on_port: bool,
+        row: Option<RangeRow>,
+    ) -> Result<OpeningTurn, AllocError>
+        ensures { IfOk result (OpensBy on_port self row) }
     {
-        let Some(row) = row_in(line) else {
-            return self.run(alloc);
+        let Some(row) = row else {
+            return self.run(alloc, on_port);
         };
         match self.set(alloc, &row) {
             Ok(phase) => Ok(OpeningTurn::Goes(phase)),
@@ -123,11 +166,17 @@ impl OpeningPhase {
         }
     }
 
-    /// Opens the drive.
-    fn run(self, alloc: Global) -> Result<OpeningTurn, AllocError>
-        ensures { IfOk result (RunsFrom (origin_of self)) }
+    /// Opens the drive, and the port in front of it.
+    fn run(self, alloc: Global, on_port: bool) -> Result<OpeningTurn, AllocError>
+        ensures { IfOk result (RunsFrom on_port (origin_of self)) }
     {
+        if on_port {
+            let phase = self.into_port(alloc)?;
+            return Ok(OpeningTurn::Runs(Phase::Port(phase)));
+        }
         let drive = self.into_drive(alloc)?;
-        Ok(OpeningTurn::Runs(RunningPhase::new(alloc, drive)))
+        Ok(OpeningTurn::Runs(Phase::Drive(RunningPhase::new(
+            alloc, drive,
+        ))))
     }
 }

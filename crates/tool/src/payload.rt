@@ -1,9 +1,11 @@
 //! The bytes that go with a command.
 
-ghost use Rattle.std.specs.Prelude.{◌≡◌, ◌≤◌, IfOk, OnOk, length, replicate};
-ghost use Rattle.script_lines.specs.Fields.{most_send_bytes};
+ghost use Rattle.std.specs.Prelude.{◌≡◌, ◌≤◌, ◌<◌, IfOk, OnOk, length, replicate};
+ghost use Rattle.compacket.specs.Spelling.{frame_bytes};
+ghost use Rattle.script_lines.specs.Fields.{most_call_bytes, most_send_bytes};
 ghost use Rattle.tool.specs.Acts.{blocks_of, in_blocks};
 
+use compacket::{ComId, Session, frame_into, frame_len};
 use std::alloc::AllocError;
 use trusted_cmds::SECTOR_SIZE;
 
@@ -13,6 +15,23 @@ pub fn fill(buffer: &mut Vec<u8>, size: usize, byte: u8) -> Result<(), AllocErro
 {
     buffer.clear();
     buffer.resize(size, byte)?;
+    Ok(())
+}
+
+/// Puts the frame of tokens into a buffer.
+pub fn put_frame(
+    com_id: ComId,
+    session: Session,
+    tokens: &[u8],
+    buffer: &mut Vec<u8>,
+) -> Result<(), AllocError>
+    requires some { 0 < length tokens.now }
+    requires most { length tokens.now ≤ most_call_bytes }
+    ensures { OnOk result (buffer.new.items ≡ frame_bytes com_id session tokens.now) }
+{
+    buffer.clear();
+    buffer.reserve(frame_len(tokens.len()))?;
+    frame_into(com_id, session, tokens, buffer);
     Ok(())
 }
 

@@ -39,7 +39,7 @@ fn com_packet(bytes: &[u8]) -> &[u8]
 }
 
 /// What a receive shows.
-fn shown(com_id: ComId, bytes: &[u8]) -> &[u8]
+pub fn shown(com_id: ComId, bytes: &[u8]) -> &[u8]
     ensures { result.now ≡ shown com_id bytes.now }
 {
     if com_id == DISCOVERY_COM_ID {

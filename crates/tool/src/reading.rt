@@ -4,6 +4,7 @@ ghost use Rattle.std.specs.Prelude.{◌≡◌, ◌++◌, Bool, true, false, Some
 ghost use Rattle.std.specs.Io.Buffered.{reader_buffer, reader_remaining};
 ghost use Rattle.std.specs.Io.KnownBytes.{Appends};
 ghost use Rattle.tool.specs.Scripts.{bare, has_line, IsAnswered, TakesLine};
+ghost use Rattle.tool.specs.Progress.{HandsOn};
 
 use crate::ending::RunError;
 use script_lines::Report;
@@ -42,6 +43,8 @@ pub fn answer<R: Read + Drop, W: Write>(
     output: &mut W,
 ) -> Result<(), RunError>
     ensures answered { OnOk result (IsAnswered (reader_buffer reader.now) report.new.pending.items) }
+    ensures written { OnOk result
+        (HandsOn (W.contents output.old) (W.contents output.new) report.old.pending.items report.new.pending.items) }
     ensures last { report.new.last ≡ report.old.last }
 {
     if !has_line(reader) || report.pending.len() > MOST_PENDING {

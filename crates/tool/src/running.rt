@@ -4,10 +4,10 @@ use crate::commands::{
     kind_named, read_dma_of, read_of, receive_of, send_of, write_dma_of, write_of,
 };
 use crate::ending::Fault;
-use crate::payload::{fill, pad};
+use crate::payload::{fill, pad, put_frame};
 use crate::printing;
 use crate::printing::print_answer;
-use compacket::{ComId, Session, frame};
+use compacket::{ComId, Session};
 use drive::{Accepted, Drive};
 use fis::Tag;
 use script_lines::{DmaTransfer, Hex, Line, Report, Reset, Transfer, expected_text};
@@ -34,7 +34,8 @@ pub struct RunningPhase {
     had_failed: bool,
     /// The bytes that go with the next act.
     payload: Vec<u8>,
-    alloc: Global,
+    /// The tokens that the payload frames.
+    tokens: Vec<u8>,
 }
 
 impl RunningPhase {
@@ -47,8 +48,8 @@ impl RunningPhase {
     ghost use Rattle.history.specs.Opening.{Origin};
     ghost use Rattle.history.specs.History.{Act};
     ghost use Rattle.drive.specs.State.{Agrees};
-    ghost use Rattle.tool.specs.Scripts.{Says};
     ghost use Rattle.tool.specs.Effects.{RunsOn, Stands, Accepts, Has, Makes, completed, transferred, commanded, sends, effect_of, Does};
+    ghost use Rattle.tool.specs.Courses.{step, DriveSteps};
     ghost use Rattle.tool.specs.declared.ending.Fault.{Fault};
 
     /// A drive on which nothing was done.
@@ -60,7 +61,7 @@ impl RunningPhase {
             acts: 0,
             had_failed: false,
             payload: Vec::new(alloc),
-            alloc,
+            tokens: Vec::new(alloc),
         }
     }
 
@@ -71,10 +72,12 @@ impl RunningPhase {
         ensures stands { OnOk result (Stands self.new) }
         ensures bad_line { (fault : LineFault) → line_of text.now ≡ Err fault → result ≡ Ok (Turn.Bad (Fault.Line fault)) }
         ensures nothing_acts { (fault : LineFault) → line_of text.now ≡ Err fault → self.new ≡ self.old }
-        ensures says { IfOk result (λ turn. Says turn text.now) }
+        ensures nothing_prints { (fault : LineFault) → line_of text.now ≡ Err fault → report.new ≡ report.old }
         ensures does { (line : Line) → line_of text.now ≡ Ok line → IfOk result
             (λ turn. (o : Origin) (acts : List Act) → RunsOn self.old o acts
             → Does line text.now turn self.old self.new o acts report.old report.new) }
+        ensures steps { IfOk result (λ turn. (o : Origin) (acts : List Act) → RunsOn self.old o acts
+            → DriveSteps turn (step o acts report.old.last.items text.now (line_of text.now)) self.new o report.old report.new) }
     {
         match Line::parse(text) {
             Ok(line) => self.act(&line, text, report),
@@ -290,9 +293,9 @@ impl RunningPhase {
             (Makes (λ o acts. effect_of o acts (Line.Call client com_id session tokens.now))
             self.old self.new report.old report.new) }
     {
-        self.payload.clear();
-        tokens.decode_into(&mut self.payload)?;
-        self.payload = frame(self.alloc, com_id, session, &self.payload)?;
+        self.tokens.clear();
+        tokens.decode_into(&mut self.tokens)?;
+        put_frame(com_id, session, &self.tokens, &mut self.payload)?;
         self.send_bytes(client, com_id, report)
     }
 

@@ -1,17 +1,20 @@
 //! A whole script, from a reader to a writer.
 
-ghost use Rattle.std.specs.Prelude.{◌≡◌, ◌≤◌, ◌<◌, [], ℕ, List, OnOk, IfOk, IfSome};
-ghost use Rattle.std.specs.Io.Buffered.{reader_remaining, reader_buffer};
-ghost use Rattle.tool.specs.Scripts.{script_lines, IsAnswered, EndsWith};
-ghost use Rattle.tool.specs.Ends.{AtLine, EndsSo, OpensSo, OpenedStands};
-ghost use Rattle.tool.specs.Effects.{Stands};
+ghost use Rattle.std.specs.Prelude.{◌≡◌, ◌≤◌, [], ℕ, IfOk, IfSome};
+ghost use Rattle.std.specs.Io.Buffered.{reader_remaining};
+ghost use Rattle.tool.specs.Ends.{OpenedStands};
+ghost use Rattle.tool.specs.Courses.{PhaseStands};
+ghost use Rattle.tool.specs.Openings.{opens_with};
+ghost use Rattle.tool.specs.Outcomes.{ScriptYields};
+ghost use Rattle.tool.specs.Progress.{FirstLine, LinesOpenTo, RunLeads, ScriptLeads};
 
 use crate::ending::{End, RunError, tell, tell_abort};
 use crate::opening::{OpeningPhase, OpeningTurn};
 use crate::options::Options;
+use crate::phase::Phase;
 use crate::reading::{answer, lines_of, read_line, without_end};
-use crate::running::{RunningPhase, Turn};
-use script_lines::Report;
+use crate::running::Turn;
+use script_lines::{Report, is_port_line};
 use std::alloc::Global;
 use std::io;
 use std::io::{BufReader, Read, Write};
@@ -30,28 +33,50 @@ pub enum Opened {
     /// The script ended.
     Ended(End),
     /// So many lines were range lines, and the one behind them is none.
-    Runs { run: RunningPhase, lines: u64 },
+    Runs { run: Phase, lines: u64 },
 }
 
-/// Reads the range lines in front, and the line behind them.
+/// Reads the first line, and, where it says that a port script follows, the one behind it. It tells
+/// whether one does; `None` where no line is at hand.
+fn first_line<R: Read + Drop>(
+    reader: &mut BufReader<R>,
+    report: &Report,
+    line: &mut Vec<u8>,
+) -> Result<Option<bool>, RunError>
+    requires { report.now.pending.items ≡ [] }
+    ensures { IfOk result (λ first. IfSome (reader_remaining R.remaining reader.old)
+        (λ text. FirstLine first text line.new.items (reader_remaining R.remaining reader.new))) }
+{
+    if !read_line(reader, line, report)? {
+        return Ok(None);
+    }
+    if !is_port_line(without_end(line)) {
+        return Ok(Some(false));
+    }
+    if !read_line(reader, line, report)? {
+        return Ok(None);
+    }
+    Ok(Some(true))
+}
+
+/// Does the range lines from the line at hand on, and reads the line behind them.
 fn opening_lines<R: Read + Drop>(
     alloc: Global,
     options: &Options,
+    on_port: bool,
     reader: &mut BufReader<R>,
     report: &Report,
     line: &mut Vec<u8>,
 ) -> Result<Opened, RunError>
     requires { report.now.pending.items ≡ [] }
     ensures stands { IfOk result OpenedStands }
-    ensures opens { IfSome (reader_remaining R.remaining reader.old)
-        (λ text. IfOk result (λ opened. OpensSo opened line.new.items (script_lines text) (reader_remaining R.remaining reader.new))) }
+    ensures leads { IfOk result (λ opened.
+        LinesOpenTo on_port opened (opens_with options.now) line.old.items (reader_remaining R.remaining reader.old)
+        line.new.items (reader_remaining R.remaining reader.new)) }
 {
     let mut phase = OpeningPhase::Factory(options.config());
-    for number in 0..READ_LIMIT {
-        if !read_line(reader, line, report)? {
-            return Ok(Opened::Ended(End::Done));
-        }
-        match phase.turn(alloc, without_end(line))? {
+    for number in u64::from(on_port)..READ_LIMIT {
+        match phase.turn(alloc, on_port, without_end(line))? {
             OpeningTurn::Goes(next) => phase = next,
             OpeningTurn::Runs(run) => return Ok(Opened::Runs { run, lines: number }),
             OpeningTurn::Bad(fault) => {
@@ -59,13 +84,16 @@ fn opening_lines<R: Read + Drop>(
                 return Ok(Opened::Ended(End::Bad { line, fault }));
             }
         }
+        if !read_line(reader, line, report)? {
+            return Ok(Opened::Ended(End::Done));
+        }
     }
     Err(RunError::ReadLimit)
 }
 
 /// Does the line at hand, and those behind it.
 fn running_lines<R: Read + Drop, W: Write, E: Write>(
-    run: &mut RunningPhase,
+    run: &mut Phase,
     lines: u64,
     reader: &mut BufReader<R>,
     report: &mut Report,
@@ -73,9 +101,10 @@ fn running_lines<R: Read + Drop, W: Write, E: Write>(
     output: &mut W,
     faults: &mut E,
 ) -> Result<End, RunError>
-    requires { Stands run.old }
-    ensures { (lines : List (List ℕ)) → AtLine line.old.items lines (reader_remaining R.remaining reader.old)
-        → IfOk result (λ end. EndsSo end lines) }
+    requires { PhaseStands run.old }
+    ensures { IfOk result (λ end.
+        RunLeads run.old line.old.items (reader_remaining R.remaining reader.old) end
+        report.old report.new (W.contents output.old) (W.contents output.new)) }
 {
     for number in lines..READ_LIMIT {
         match run.turn(without_end(line), report)? {
@@ -96,9 +125,9 @@ fn running_lines<R: Read + Drop, W: Write, E: Write>(
     Err(RunError::ReadLimit)
 }
 
-/// Does the line at hand, and those behind it, and then lets the drive go.
+/// Does the line at hand, and those behind it, and then lets the drive, or the port, go.
 fn remaining_lines<R: Read + Drop, W: Write, E: Write>(
-    mut run: RunningPhase,
+    mut run: Phase,
     lines: u64,
     reader: &mut BufReader<R>,
     report: &mut Report,
@@ -106,9 +135,10 @@ fn remaining_lines<R: Read + Drop, W: Write, E: Write>(
     output: &mut W,
     faults: &mut E,
 ) -> Result<End, RunError>
-    requires { Stands run }
-    ensures { (lines : List (List ℕ)) → AtLine line.old.items lines (reader_remaining R.remaining reader.old)
-        → IfOk result (λ end. EndsSo end lines) }
+    requires { PhaseStands run }
+    ensures { IfOk result (λ end.
+        RunLeads run line.old.items (reader_remaining R.remaining reader.old) end
+        report.old report.new (W.contents output.old) (W.contents output.new)) }
 {
     running_lines(&mut run, lines, reader, report, line, output, faults)
 }
@@ -123,10 +153,16 @@ fn all_lines<R: Read + Drop, W: Write, E: Write>(
     output: &mut W,
     faults: &mut E,
 ) -> Result<End, RunError>
-    requires { report.old.pending.items ≡ [] }
-    ensures { IfSome (reader_remaining R.remaining reader.old) (λ text. IfOk result (λ end. EndsSo end (script_lines text))) }
+    requires pending { report.old.pending.items ≡ [] }
+    requires last { report.old.last.items ≡ [] }
+    ensures { IfOk result (λ end.
+        ScriptLeads options.now (reader_remaining R.remaining reader.old) end
+        report.old report.new (W.contents output.old) (W.contents output.new)) }
 {
-    let opened = opening_lines(alloc, options, reader, report, line)?;
+    let Some(on_port) = first_line(reader, report, line)? else {
+        return Ok(End::Done);
+    };
+    let opened = opening_lines(alloc, options, on_port, reader, report, line)?;
     match opened {
         Opened::Ended(end) => Ok(end),
         Opened::Runs { run, lines } => {
@@ -137,8 +173,9 @@ fn all_lines<R: Read + Drop, W: Write, E: Write>(
 
 /// Runs the script that a reader gives, writes what it prints to `output` and the fault that ended
 /// it to `faults`, and gives its status: 0 done, 1 an expectation failed, 2 a bad line or a refused
-/// range row. Without a `range` line the drive is as it leaves the factory. Answers are written before
-/// each read that could wait, and whenever more than 65,536 bytes of them wait.
+/// range row. A script whose first line is `port` runs on a port, any other on a drive. Without a
+/// `range` line the drive is as it leaves the factory. Answers are written before each read that could
+/// wait, and whenever more than 65,536 bytes of them wait.
 ///
 /// # Errors
 ///
@@ -152,7 +189,8 @@ pub fn run_script_with_faults<R: Read + Drop, W: Write, E: Write>(
     options: &Options,
 ) -> Result<u8, RunError>
     ensures most { IfOk result (λ status. status ≤ 2) }
-    ensures end { IfSome (R.remaining input) (λ text. IfOk result (λ status. EndsWith status (script_lines text))) }
+    ensures whole { IfOk result (λ status. ScriptYields options.now (R.remaining input)
+        status (W.contents output.old) (W.contents output.new)) }
 {
     let mut reader = lines_of(alloc, input)?;
     let mut report = Report::new(alloc);
@@ -179,7 +217,8 @@ pub fn run_script<R: Read + Drop, W: Write>(
     options: &Options,
 ) -> Result<u8, RunError>
     ensures most { IfOk result (λ status. status ≤ 2) }
-    ensures end { IfSome (R.remaining input) (λ text. IfOk result (λ status. EndsWith status (script_lines text))) }
+    ensures whole { IfOk result (λ status. ScriptYields options.now (R.remaining input)
+        status (W.contents output.old) (W.contents output.new)) }
 {
     run_script_with_faults(alloc, input, output, &mut io::sink(), options)
 }

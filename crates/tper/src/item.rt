@@ -25,16 +25,18 @@ use std::alloc::{AllocError, Global};
 use tcg_tokens::{Call, Item, Reply, TokenError, read_item};
 use transactions::{SessionId, Store};
 
-/// An answer that nothing denied.
-fn answer(reply: Item) -> Outcome
+/// An answer that nothing denied, and whether rows or bytes may have changed.
+fn answer(reply: Item, changes: bool) -> Outcome
     ensures reply { message result.reply ≡ message reply }
     ensures denied { result.denied ≡ None }
     ensures wipe { result.wipe ≡ false }
+    ensures changes { result.changes ≡ changes }
 {
     Outcome {
         reply,
         denied: None,
         wipe: false,
+        changes,
     }
 }
 
@@ -45,10 +47,11 @@ fn failed(alloc: Global) -> Outcome
     ensures wipe { result.wipe ≡ false }
     ensures carried { is_carried (message result.reply) ≡ true }
 {
-    answer(Item::Reply(Reply {
+    let reply = Item::Reply(Reply {
         results: Vec::new(alloc),
         status: [status::FAIL, 0, 0],
-    }))
+    });
+    answer(reply, false)
 }
 
 /// The refusal of what is no item; want of memory stays an error.
@@ -77,12 +80,13 @@ fn call_manager(
         (λ f. called_manager f com_id (uid_in call.now.object) (uid_in call.now.method)
         (values_of (trees call.now.args.items))) said store.old store.new sessions.old sessions.new) }
     ensures carried { IfOk result (λ said. is_carried (message said.reply) ≡ true) }
+    ensures unchanged { IfOk result (λ said. said.changes ≡ false → store.new ≡ store.old) }
     ensures err_store { OnErr result (store.new ≡ store.old) }
     ensures err_sessions { OnErr result (sessions.new ≡ sessions.old) }
     ensures config { store.new.config ≡ store.old.config }
 {
     if uid_of(&call.object) == Uid::SESSION_MANAGER && uid_of(&call.method) == Uid::PROPERTIES {
-        return Ok(answer(Sessions::properties(alloc, call)?));
+        return Ok(answer(Sessions::properties(alloc, call)?, false));
     }
     if uid_of(&call.object) == Uid::SESSION_MANAGER && uid_of(&call.method) == Uid::START_SESSION {
         let started = sessions.start(alloc, store, com_id, call)?;
@@ -90,6 +94,7 @@ fn call_manager(
             reply: started.reply,
             denied: started.denied,
             wipe: false,
+            changes: true,
         });
     }
     Ok(failed(alloc))
@@ -107,6 +112,7 @@ pub(crate) fn to_manager(
         (λ f. to_manager f com_id (message_in tokens.now)) said
         store.old store.new sessions.old sessions.new) }
     ensures carried { IfOk result (λ said. is_carried (message said.reply) ≡ true) }
+    ensures unchanged { IfOk result (λ said. said.changes ≡ false → store.new ≡ store.old) }
     ensures err_store { OnErr result (store.new ≡ store.old) }
     ensures err_sessions { OnErr result (sessions.new ≡ sessions.old) }
     ensures config { store.new.config ≡ store.old.config }
@@ -136,6 +142,7 @@ fn call_in_session(
         (uid_in call.now.method) (trees call.now.args.items))) session said
         store.old store.new sessions.old sessions.new) }
     ensures carried { IfOk result (λ said. is_carried (message said.reply) ≡ true) }
+    ensures unchanged { IfOk result (λ said. said.changes ≡ false → store.new ≡ store.old) }
     ensures err_store { OnErr result (store.new ≡ store.old) }
     ensures err_sessions { OnErr result (sessions.new ≡ sessions.old) }
     ensures config { store.new.config ≡ store.old.config }
@@ -157,11 +164,12 @@ fn begin(store: &mut Store, session: SessionId) -> Outcome
         (λ f its. begins_on its.sp its.number (f.open_on its.sp)) session result
         store.old store.new live live }
     ensures carried { is_carried (message result.reply) ≡ true }
+    ensures changes { result.changes ≡ true }
     ensures config { store.new.config ≡ store.old.config }
 {
     match store.begin(session) {
-        Ok(()) => answer(Item::Begin(0)),
-        Err(_) => answer(Item::Begin(NOT_DONE)),
+        Ok(()) => answer(Item::Begin(0), true),
+        Err(_) => answer(Item::Begin(NOT_DONE), true),
     }
 }
 
@@ -172,17 +180,18 @@ fn end(store: &mut Store, session: SessionId, number: u64) -> Outcome
         (λ f its. ends_on its.sp number (has_open f its)) session result
         store.old store.new live live }
     ensures carried { is_carried (message result.reply) ≡ true }
+    ensures changes { result.changes ≡ true }
     ensures config { store.new.config ≡ store.old.config }
 {
     if number == 0 {
         return match store.commit(session) {
-            Ok(()) => answer(Item::End(0)),
-            Err(_) => answer(Item::End(NOT_DONE)),
+            Ok(()) => answer(Item::End(0), true),
+            Err(_) => answer(Item::End(NOT_DONE), true),
         };
     }
     match store.abort(session) {
-        Ok(()) => answer(Item::End(1)),
-        Err(_) => answer(Item::End(NOT_DONE)),
+        Ok(()) => answer(Item::End(1), true),
+        Err(_) => answer(Item::End(NOT_DONE), true),
     }
 }
 
@@ -192,11 +201,12 @@ fn end_session(store: &mut Store, sessions: &mut Sessions, session: SessionId) -
     ensures met { OfSession (λ f its. says (Ended its.sp) end_session) session result
         store.old store.new sessions.old sessions.new }
     ensures carried { is_carried (message result.reply) ≡ true }
+    ensures changes { result.changes ≡ true }
     ensures config { store.new.config ≡ store.old.config }
 {
     store.close(session.sp);
     sessions.end_on(session.sp);
-    answer(Item::EndSession)
+    answer(Item::EndSession, true)
 }
 
 /// What is sent to a live session.
@@ -212,6 +222,7 @@ pub(crate) fn in_session(
         (λ f its. in_session f its (message_in tokens.now)) session said
         store.old store.new sessions.old sessions.new) }
     ensures carried { IfOk result (λ said. is_carried (message said.reply) ≡ true) }
+    ensures unchanged { IfOk result (λ said. said.changes ≡ false → store.new ≡ store.old) }
     ensures err_store { OnErr result (store.new ≡ store.old) }
     ensures err_sessions { OnErr result (sessions.new ≡ sessions.old) }
     ensures config { store.new.config ≡ store.old.config }

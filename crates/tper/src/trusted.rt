@@ -44,6 +44,8 @@ pub struct Sent {
     pub denied: Option<Why>,
     /// Whether all media become zeros.
     pub wipes: bool,
+    /// Whether rows or bytes may have changed.
+    pub changes: bool,
 }
 
 /// The rows and the bytes of the shadow MBR, the sessions that live, and the response that waits on
@@ -77,6 +79,7 @@ fn nothing() -> Sent
     Sent {
         denied: None,
         wipes: false,
+        changes: false,
     }
 }
 
@@ -146,6 +149,7 @@ impl Tper {
         ensures answer { IfOk result (λ s. (o : Origin) (acts : List Act)
             → Keeps self.old o (log o acts)
             → IsSent (sent (facts o (log o acts)) com_id (frame_in payload.now)) s) }
+        ensures unchanged { IfOk result (λ s. s.changes ≡ false → self.new.store ≡ self.old.store) }
         ensures err { OnErr result (self.new ≡ self.old) }
         ensures config { self.new.store.config ≡ self.old.store.config }
     {
@@ -170,6 +174,7 @@ impl Tper {
         requires { is_session_com_id com_id ≡ true }
         ensures handled { IfOk result (λ s. Handles (λ said. OfManager (λ f. to_manager f com_id (message_in tokens.now)) said
             self.old.store self.new.store self.old.live self.new.live) com_id session s self.old self.new) }
+        ensures unchanged { IfOk result (λ s. s.changes ≡ false → self.new.store ≡ self.old.store) }
         ensures err { OnErr result (self.new ≡ self.old) }
         ensures config { self.new.store.config ≡ self.old.store.config }
     {
@@ -196,6 +201,7 @@ impl Tper {
         requires lives { holder_of self.old.live id ≢ None }
         ensures handled { IfOk result (λ s. Handles (λ said. OfSession (λ f its. in_session f its (message_in tokens.now)) id said
             self.old.store self.new.store self.old.live self.new.live) com_id session s self.old self.new) }
+        ensures unchanged { IfOk result (λ s. s.changes ≡ false → self.new.store ≡ self.old.store) }
         ensures err { OnErr result (self.new ≡ self.old) }
         ensures config { self.new.store.config ≡ self.old.store.config }
     {
@@ -213,17 +219,20 @@ impl Tper {
         ensures waiting { Responds com_id session (message outcome.reply) self.old self.new }
         ensures denied { result.denied ≡ outcome.denied }
         ensures wipes { result.wipes ≡ outcome.wipe }
+        ensures changes { result.changes ≡ outcome.changes }
     {
         let Outcome {
             reply,
             denied,
             wipe,
+            changes,
         } = outcome;
         let response = room.framed(com_id, session, &reply);
         self.responses.put(com_id, Some(response));
         Sent {
             denied,
             wipes: wipe,
+            changes,
         }
     }
 

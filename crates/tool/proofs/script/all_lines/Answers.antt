@@ -1,8 +1,11 @@
-use Rattle.std.proofs.Common.{subst}
+use Rattle.std.proofs.Common.{subst, IfSome, Option, Some, None, Bool}
+use Rattle.std.proofs.lemmas.Result.{IfOk-weaker}
 use Rattle.std.specs.Io.Buffered.{reader_remaining}
-use Rattle.tool.specs.Ends.{OpensSo, OpenedStands}
-use Rattle.tool.specs.Scripts.{script_lines}
+use Rattle.tool.specs.Ends.{OpenedStands}
+use Rattle.tool.specs.Outcomes.{outcome_of}
+use Rattle.tool.specs.Progress.{FirstLine, OpensTo}
 use Rattle.tool.proofs.Texts.{weaker}
+use Rattle.tool.proofs.Outcomes.{first-opens, opened-ends, opened-runs}
 use Rattle.tool.proofs.script.all_lines.Goals as goal
 
 pub remaining_lines-requires : goal.remaining_lines-requires
@@ -10,7 +13,24 @@ remaining_lines-requires g c = subst OpenedStands c.in-Runs.is c.in_ok-opened.en
 
 pub returns-in-Runs : goal.returns-in-Runs
 returns-in-Runs g c =
-    weaker _ _ _
-    (λ text h. c.remaining_lines.ensures (script_lines text)
-    (subst (λ o. OpensSo o c.opening_lines.new.line.items (script_lines text) (reader_remaining g.R.Read.remaining c.opening_lines.new.reader)) c.in-Runs.is h))
-    c.in_ok-opened.ensures.opens
+    let start = reader_remaining g.R.Read.remaining c.args.reader.now in
+    let first = reader_remaining g.R.Read.remaining c.first_line.new.reader in
+    let left = reader_remaining g.R.Read.remaining c.opening_lines.new.reader in
+    let on_port = c.in-Some.on_port in
+    let config = c.args.options.now in
+    IfOk-weaker c.remaining_lines.result _ _
+    (λ end leads. weaker start _ _
+    (λ text said.
+    let opens =
+    first-opens on_port config c.in_ok-opened.opened text c.first_line.new.line.items
+    c.opening_lines.new.line.items first left
+    (subst (λ told. FirstLine told text c.first_line.new.line.items first) c.in-Some.is said)
+    c.in_ok-opened.ensures.leads in
+    opened-runs on_port (outcome_of config text) _ c.in-Runs.run' c.args.report.now.last.items
+    c.opening_lines.new.line.items left _ _ _ _
+    (subst
+    (λ opened. OpensTo on_port opened (outcome_of config text) c.opening_lines.new.line.items left)
+    c.in-Runs.is opens)
+    c.requires.last leads)
+    c.in_ok-on_port.ensures)
+    c.remaining_lines.ensures

@@ -1,44 +1,95 @@
-use Rattle.std.proofs.Common.{◌≡◌, IfSome, subst, ap, ◌∙◌}
+use Rattle.std.proofs.Common.{◌≡◌, ◌∷◌, IfSome, subst, ap, ◌∙◌}
 use Rattle.std.specs.Io.Buffered.{reader_remaining}
-use Rattle.tool.specs.Scripts.{bare, TakesLine, IsLine, IsExpect, IsBadOrRange, Says}
-use Rattle.tool.proofs.Texts.{next, done, comes-to, all-read}
+use Rattle.tool.specs.Scripts.{bare, script_lines, TakesLine}
+use Rattle.tool.specs.Outcomes.{outcome_on}
+use Rattle.tool.proofs.Texts.{weaker}
+use Rattle.tool.proofs.Outcomes.{TurnLeads, at-first, stands-so, turned, handed-on, next-at-hand, none-at-hand}
 use Rattle.tool.proofs.script.running_lines.Goals as goal
 
 pub returns-in-ExpectationFailed : goal.returns-in-ExpectationFailed
-returns-in-ExpectationFailed g c = λ lines at.
+returns-in-ExpectationFailed g c = λ o course runs.
     let left = reader_remaining g.R.Read.remaining c.loop-number.reader in
-    let line = c.loop-number.line.items in
-    let shown : c.without_end.result.now ≡ bare line = c.without_end.ensures ∙ ap bare c.deref.ensures.value in
-    let says = subst IsExpect shown (subst (λ t. Says t c.without_end.result.now) c.in-ExpectationFailed.is c.in_ok-aborted.ensures.says) in
-    comes-to IsExpect lines left line (c.loop-number.invariant.1 lines at) says
+    let shown : c.without_end.result.now ≡ bare c.loop-number.line.items = c.without_end.ensures ∙ ap bare c.deref.ensures.value in
+    weaker (reader_remaining g.R.Read.remaining c.args.reader.now) _ _
+    (λ text at.
+    subst
+    (λ turn. TurnLeads turn
+    (outcome_on o course c.args.report.now.last.items (bare c.args.line.now.items ∷ script_lines text)) o
+    c.turn.new.self c.turn.new.report left (g.W.Write.contents c.args.output.now)
+    (g.W.Write.contents c.loop-number.output) c.args.report.now.pending.items)
+    c.in-ExpectationFailed.is
+    (turned _ _ o c.loop-number.run c.turn.new.self c.loop-number.report
+    c.turn.new.report c.loop-number.line.items c.without_end.result.now left _ _ _ shown
+    c.in_ok-aborted.ensures.steps at))
+    (c.loop-number.invariant.1 o course runs)
 
 pub returns-in-Bad : goal.returns-in-Bad
-returns-in-Bad g c = λ lines at.
+returns-in-Bad g c = λ o course runs.
     let left = reader_remaining g.R.Read.remaining c.loop-number.reader in
-    let line = c.loop-number.line.items in
-    let shown : c.without_end.result.now ≡ bare line = c.without_end.ensures ∙ ap bare c.deref.ensures.value in
-    let says = subst IsBadOrRange shown (subst (λ t. Says t c.without_end.result.now) c.in-Bad.is c.in_ok-aborted.ensures.says) in
-    comes-to IsBadOrRange lines left line (c.loop-number.invariant.1 lines at) says
+    let shown : c.without_end.result.now ≡ bare c.loop-number.line.items = c.without_end.ensures ∙ ap bare c.deref.ensures.value in
+    weaker (reader_remaining g.R.Read.remaining c.args.reader.now) _ _
+    (λ text at.
+    subst
+    (λ turn. TurnLeads turn
+    (outcome_on o course c.args.report.now.last.items (bare c.args.line.now.items ∷ script_lines text)) o
+    c.turn.new.self c.turn.new.report left (g.W.Write.contents c.args.output.now)
+    (g.W.Write.contents c.loop-number.output) c.args.report.now.pending.items)
+    c.in-Bad.is
+    (turned _ _ o c.loop-number.run c.turn.new.self c.loop-number.report
+    c.turn.new.report c.loop-number.line.items c.without_end.result.now left _ _ _ shown
+    c.in_ok-aborted.ensures.steps at))
+    (c.loop-number.invariant.1 o course runs)
 
 pub returns-then-not-branch : goal.returns-then-not-branch
-returns-then-not-branch g c = λ lines at.
+returns-then-not-branch g c = λ o course runs.
     let now = reader_remaining g.R.Read.remaining c.loop-number.reader in
-    let line = c.loop-number.line.items in
     let after = reader_remaining g.R.Read.remaining c.read_line.new.reader in
     let takes = subst (λ b. IfSome now (λ text. TakesLine b c.read_line.new.line.items text after)) c.if-not-branch.true c.in_ok-read_line.ensures in
-    let shown : c.without_end.result.now ≡ bare line = c.without_end.ensures ∙ ap bare c.deref.ensures.value in
-    let says = subst IsLine shown (subst (λ t. Says t c.without_end.result.now) c.in-Goes.is c.in_ok-aborted.ensures.says) in
-    all-read lines now after c.read_line.new.line.items (done lines now line (c.loop-number.invariant.1 lines at) says) takes
+    let shown : c.without_end.result.now ≡ bare c.loop-number.line.items = c.without_end.ensures ∙ ap bare c.deref.ensures.value in
+    weaker (reader_remaining g.R.Read.remaining c.args.reader.now) _ _
+    (λ text at.
+    let whole = outcome_on o course c.args.report.now.last.items (bare c.args.line.now.items ∷ script_lines text) in
+    let goes =
+    subst
+    (λ turn. TurnLeads turn whole o
+    c.turn.new.self c.turn.new.report now (g.W.Write.contents c.args.output.now)
+    (g.W.Write.contents c.loop-number.output) c.args.report.now.pending.items)
+    c.in-Goes.is
+    (turned _ whole o c.loop-number.run c.turn.new.self c.loop-number.report
+    c.turn.new.report c.loop-number.line.items c.without_end.result.now now _ _ _ shown
+    c.in_ok-aborted.ensures.steps at) in
+    none-at-hand whole o c.turn.new.self c.answer.new.report.last.items c.read_line.new.line.items now after (g.W.Write.contents c.args.output.now) (g.W.Write.contents c.answer.new.output) _ _
+    (handed-on whole o c.turn.new.self _ _ now _ _ _ _ _ _ goes (ap (λ last. last.items) c.answer.ensures.last) c.in_ok-answer.ensures.written) takes)
+    (c.loop-number.invariant.1 o course runs)
 
 pub loop-number-preserved : goal.loop-number-preserved
 loop-number-preserved g c = (
-  c.in_ok-aborted.ensures.stands,
-  λ lines at.
+  stands-so _ _ c.loop-number.run c.turn.new.self _ _ c.loop-number.report c.turn.new.report c.in-Goes.is
+      c.loop-number.invariant.0 c.in_ok-aborted.ensures.steps,
+  λ o course runs.
       let now = reader_remaining g.R.Read.remaining c.loop-number.reader in
-      let line = c.loop-number.line.items in
       let after = reader_remaining g.R.Read.remaining c.read_line.new.reader in
       let takes = subst (λ b. IfSome now (λ text. TakesLine b c.read_line.new.line.items text after)) c.if-not-branch.false c.in_ok-read_line.ensures in
-      let shown : c.without_end.result.now ≡ bare line = c.without_end.ensures ∙ ap bare c.deref.ensures.value in
-      let says = subst IsLine shown (subst (λ t. Says t c.without_end.result.now) c.in-Goes.is c.in_ok-aborted.ensures.says) in
-      next lines now after c.read_line.new.line.items (done lines now line (c.loop-number.invariant.1 lines at) says) takes,
+      let shown : c.without_end.result.now ≡ bare c.loop-number.line.items = c.without_end.ensures ∙ ap bare c.deref.ensures.value in
+      weaker (reader_remaining g.R.Read.remaining c.args.reader.now) _ _
+      (λ text at.
+      let whole = outcome_on o course c.args.report.now.last.items (bare c.args.line.now.items ∷ script_lines text) in
+      let goes =
+      subst
+      (λ turn. TurnLeads turn whole o
+      c.turn.new.self c.turn.new.report now (g.W.Write.contents c.args.output.now)
+      (g.W.Write.contents c.loop-number.output) c.args.report.now.pending.items)
+      c.in-Goes.is
+      (turned _ whole o c.loop-number.run c.turn.new.self c.loop-number.report
+      c.turn.new.report c.loop-number.line.items c.without_end.result.now now _ _ _ shown
+      c.in_ok-aborted.ensures.steps at) in
+      next-at-hand whole o c.turn.new.self c.answer.new.report.last.items c.read_line.new.line.items now after (g.W.Write.contents c.args.output.now) (g.W.Write.contents c.answer.new.output) _ _
+      (handed-on whole o c.turn.new.self _ _ now _ _ _ _ _ _ goes (ap (λ last. last.items) c.answer.ensures.last) c.in_ok-answer.ensures.written) takes)
+      (c.loop-number.invariant.1 o course runs),
+)
+
+pub loop-number-init : goal.loop-number-init
+loop-number-init g c = (
+  c.requires,
+  λ o course runs. at-first (reader_remaining g.R.Read.remaining c.args.reader.now) o course c.args.run.now c.args.report.now.last.items c.args.line.now.items (g.W.Write.contents c.args.output.now) c.args.report.now.pending.items runs,
 )

@@ -1,11 +1,19 @@
-use Rattle.std.proofs.Common.{ℕ, List}
+use Rattle.std.proofs.Common.{ℕ, List, ◌∷◌, IfSome}
 use Rattle.std.specs.Io.Buffered.{reader_remaining}
-use Rattle.tool.specs.Ends.{AtLine}
-use Rattle.tool.specs.Effects.{Stands}
+use Rattle.history.specs.Opening.{Origin}
+use Rattle.tool.specs.Scripts.{bare, script_lines}
+use Rattle.tool.specs.Courses.{Course, PhaseRunsOn, PhaseStands}
+use Rattle.tool.specs.Outcomes.{outcome_on}
+use Rattle.tool.proofs.Outcomes.{AtHand}
 use Rattle.tool.proofs.script.running_lines.Given as goal
 
 abbrev pub invariant-loop-number : goal.invariant-loop-number
 invariant-loop-number g l =
-    Stands l.run
-    × ((lines : List (List ℕ)) → AtLine l.initial.line.items lines (reader_remaining g.R.Read.remaining l.initial.reader)
-    → AtLine l.line.items lines (reader_remaining g.R.Read.remaining l.reader))
+    PhaseStands l.run
+    × ((o : Origin) (course : Course) → PhaseRunsOn l.initial.run o course
+    → IfSome (reader_remaining g.R.Read.remaining l.initial.reader)
+    (λ text. AtHand
+    (outcome_on o course l.initial.report.last.items (bare l.initial.line.items ∷ script_lines text)) o
+    l.run l.report.last.items l.line.items (reader_remaining g.R.Read.remaining l.reader)
+    (g.W.Write.contents l.initial.output) (g.W.Write.contents l.output)
+    l.initial.report.pending.items l.report.pending.items))

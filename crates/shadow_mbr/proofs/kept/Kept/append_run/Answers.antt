@@ -20,8 +20,8 @@ loop-sector-preserved c =
     let holds : ℕ → List ℕ = λ s. unwrap_or (block_in c.args.self.now s) zeros in
     let n = c.loop-sector.sector in
     let place : c.at.result ≡ place_at c.self.inside.places n = c.at.ensures.value ∙ ap (λ (ps : List (ℕ × ℕ)). place_at ps n) (c.loop-sector.invariant.finder ∙ c.finder-finder.ensures) in
-    let block : c.block_or_zeros.result.now ≡ holds n = rw (sym c.self.view_is) (c.block_or_zeros.ensures ∙ ap (λ (bs : List (List ℕ)). unwrap_or (option_map (block_at bs) c.at.result) zeros) c.deref.ensures.value ∙ its_block c.self.inside.places c.self.inside.blocks.items n c.at.result place) in
-    let added = rw c.in_ok-extend_from_slice.was at c.extend_from_slice.ensures.items in
+    let block : unwrap_or (option_map (block_at c.deref.result.now) c.at.result) zeros ≡ holds n = rw (sym c.self.view_is) (ap (λ (bs : List (List ℕ)). unwrap_or (option_map (block_at bs) c.at.result) zeros) c.deref.ensures.value ∙ its_block c.self.inside.places c.self.inside.blocks.items n c.at.result place) in
+    let added = c.in_ok-append_block.ensures in
     record {
       finder = c.at.ensures.same ∙ c.loop-sector.invariant.finder;
       bytes = rw (added, c.loop-sector.invariant.bytes, block)

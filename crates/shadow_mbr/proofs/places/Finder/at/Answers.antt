@@ -7,7 +7,7 @@ use Rattle.shadow_mbr.proofs.places.Finder.at.Goals.{then-number-self, else-numb
 
 pub returns-clause-value : goal.returns-clause-value
 returns-clause-value c =
-    let found : option_copied c.if-number-self.self-inside.found ≡ get_by (nat_cmp (c.args.sector / 16)) c.self.inside.groups.now =
+    let found : option_copied c.if-number-self.self-inside.found ≡ get_by (nat_cmp (c.args.sector / 64)) c.self.inside.groups.now =
     elim c.if-number-self.branch [
       | then-number-self w ↦ rw w.self-inside-is w.get-self-inside.ensures.value
       | else-number-self w ↦ let h = w.if-number-self.false in rw (w.self-inside-is, h) c.self.invariant.1

@@ -1,4 +1,4 @@
-use Rattle.std.proofs.Common.{rules, [], ◌∷◌, ℕ, List, Option, Some, None, ap, sym, refl, ◌∙◌, arith}
+use Rattle.std.proofs.Common.{rules, [], ◌∷◌, ℕ, List, Option, Some, None, ap, sym, refl, ◌∙◌, arith, replicate}
 use Rattle.shadow_mbr.proofs.Groups.{in_group, put_in_group, none_anywhere}
 use Rattle.shadow_mbr.proofs.places.Places.set.Goals as goal
 
@@ -13,7 +13,7 @@ returns-in-Some-clause-set c =
 
 -- a group without any place
 unfoldable no_place : List (Option ℕ)
-no_place = (None ∷ None ∷ None ∷ None ∷ None ∷ None ∷ None ∷ None ∷ None ∷ None ∷ None ∷ None ∷ None ∷ None ∷ None ∷ None ∷ [])
+no_place = replicate 64 None
 
 pub returns-clause-set : goal.returns-clause-set
 unfolding no_place

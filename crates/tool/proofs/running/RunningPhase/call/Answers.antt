@@ -11,7 +11,7 @@ returns c =
     (λ payload. Makes
     (λ o acts. sends o acts c.args.client c.args.com_id payload) c.args.self.now
     c.send_bytes.new.self c.args.report.now c.send_bytes.new.report)
-    c.in_ok-self.field-0.items (frame_bytes c.args.com_id c.args.session tokens)
-    (c.in_ok-self.ensures.exact ∙ ap (frame_bytes c.args.com_id c.args.session)
+    c.put_frame.new.buffer.items (frame_bytes c.args.com_id c.args.session tokens)
+    (c.in_ok-put_frame.ensures ∙ ap (frame_bytes c.args.com_id c.args.session)
     (c.deref.ensures.value ∙ c.in_ok-decode_into.ensures.appended
     ∙ ap (λ front. front ++ tokens) c.clear.ensures.items)) c.send_bytes.ensures

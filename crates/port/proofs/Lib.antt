@@ -1,0 +1,11 @@
+pub mod Tests
+pub mod Slots
+pub mod Memory
+pub mod Words
+pub mod Agreeing
+pub mod Lawful
+pub mod Calls
+pub mod Accepting
+pub mod Completing
+pub mod Restarting
+pub mod Readies

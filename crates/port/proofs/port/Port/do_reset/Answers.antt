@@ -1,0 +1,19 @@
+use Rattle.std.proofs.Common.{refl, rules}
+use Rattle.port.proofs.port.Port.do_reset.Goals as goal
+
+pub returns-in_err-may_reset-clause-refused : goal.returns-in_err-may_reset-clause-refused
+returns-in_err-may_reset-clause-refused c = let h = c.in_err-may_reset.ensures c.args.client c.args.kind in let r = c.from_residual.ensures in search (rules, h, r)
+
+pub returns-clause-state : goal.returns-clause-state
+returns-clause-state c = rw (← c.self.view_is) (record {
+  drive = search rules;
+  count = c.reset_slots.ensures.len.0;
+  count_outcomes = c.reset_slots.ensures.len.1;
+  slots = c.reset_slots.ensures.stages;
+  outcomes = c.reset_slots.ensures.outcomes;
+  failed = refl;
+  memory = refl;
+  regs = c.reset-2.ensures;
+  history = search rules;
+  audit = refl;
+})

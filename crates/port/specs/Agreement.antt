@@ -1,0 +1,55 @@
+-- When a port agrees with the origin of its drive and the list of its steps.
+use Rattle.std.specs.Prelude.{◌≡◌, ℕ, ◌<◌, List, length, reverse, take, slice_get, ◌++◌, Option, Some, Err}
+use Rattle.fis.specs.Tags.{slot_count}
+use Rattle.history.specs.Opening.{Origin}
+use Rattle.drive.specs.State.{Agrees as DriveAgrees}
+use Rattle.port_history.specs.Refusals.{IsLawful, IsRefusedBy, refusal}
+use Rattle.port_history.specs.Registers.{registers}
+use Rattle.port_history.specs.Steps.{Moment, trace, acts, sent, stage, failed, payload, answer, audit, entries}
+use Rattle.port_history.specs.declared.error.PortError.{PortError}
+use Rattle.port_history.specs.declared.request.Answer.{Answer}
+use Rattle.port_history.specs.declared.stages.Stage.{Stage}
+use Rattle.port_history.specs.declared.stages.Stage.TheVariants.{Free, Prepared, Issued, Accepted, Answered}
+use Rattle.port_history.specs.declared.step.Step.{Step}
+use Rattle.port.specs.Answers.{answer_in, outcome_at, stage_at}
+use Rattle.port.specs.Host.{IsLaid, IsReceived}
+use Rattle.port.specs.State.{State}
+use Rattle.port.specs.declared.outcome.Outcome.{Outcome}
+
+abbrev pub IsLaidAt : List ℕ → ℕ → Stage → List ℕ → Type 0
+IsLaidAt memory tag Free bytes = Unit {0}
+IsLaidAt memory tag (Prepared put) bytes = IsLaid memory tag put.command bytes
+IsLaidAt memory tag (Issued put) bytes = IsLaid memory tag put.command bytes
+IsLaidAt memory tag (Accepted put) bytes = IsLaid memory tag put.command bytes
+IsLaidAt memory tag (Answered put) bytes = Unit {0}
+
+-- What a port has of a tag: its slot, its answer, and what the host's memory holds for it.
+pub record TagStands (tag : ℕ) (memory : List ℕ) (slot : Stage) (outcome : Option Outcome) (its_stage : Stage) (its_answer : Option Answer) (bytes : List ℕ) : Type 0 where
+  pub stands : slot ≡ its_stage
+  pub answers : answer_in memory tag outcome ≡ its_answer
+  pub laid : IsLaidAt memory tag its_stage bytes
+
+abbrev pub TagAgrees : State → List Moment → ℕ → Type 0
+TagAgrees port ms tag =
+    TagStands tag port.memory (stage_at port.slots tag) (outcome_at port.outcomes tag)
+    (stage ms tag) (answer ms tag) (payload ms tag)
+
+-- The port stands as a lawful list of steps, the newest first, leaves it, part by part.
+pub record PortAgrees (port : State) (o : Origin) (steps : List Step) : Type 0 where
+  pub lawful : IsLawful o steps
+  pub drive : DriveAgrees port.drive o (acts o steps)
+  pub slots : length port.slots ≡ slot_count
+  pub outcomes : length port.outcomes ≡ slot_count
+  pub failure : port.failed ≡ failed (trace o steps)
+  pub tags : (tag : ℕ) → tag < slot_count → TagAgrees port (trace o steps) tag
+  pub regs : port.regs ≡ registers (trace o steps)
+  pub received : IsReceived port.memory (sent (trace o steps))
+  pub history : port.history ≡ reverse (entries o steps)
+  pub log : port.audit ≡ reverse (audit (trace o steps))
+
+-- Of steps, the oldest first, those before a place are done, and the one there is refused.
+pub record IsStopped (port : State) (o : Origin) (steps : List Step) (at : ℕ) (error : PortError) (list : List Step) : Type 0 where
+  pub within : at < length steps
+  pub before : PortAgrees port o (reverse (take at steps) ++ list)
+  pub refused : (step : Step) → slice_get steps at ≡ Some step
+      → IsRefusedBy {A = Unit {0}} (refusal (trace o (reverse (take at steps) ++ list)) step) (Err error)

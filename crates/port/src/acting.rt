@@ -1,0 +1,284 @@
+//! The steps of clients and of the engine.
+
+ghost use Rattle.std.specs.Prelude.{◌≡◌, ◌<◌, ◌++◌, vec_len, vec_capacity};
+ghost use Rattle.port_history.specs.Steps.{line_for_client};
+
+use crate::host;
+use crate::outcome::{Outcome, fails, outcome_then};
+use crate::port::Port;
+use crate::registers::{show_all, show_answer};
+use crate::stages::{accepted_stage, failed_then};
+use audit::{AuditLine, Why};
+use drive::DriveError;
+use fis::{RegH2d, Tag};
+use port_history::{Answer, Entry, PortError, Put, Request, Stage, Step, is_queued};
+use slots::BUFFER;
+use trusted_cmds::payload_len;
+
+/// Adds the line of a denial, if there was one.
+fn note(audit: &mut Vec<AuditLine>, step: u64, client: u32, denied: Option<Why>)
+    requires { vec_len audit.old < vec_capacity audit.old }
+    ensures { audit.new.items ≡ audit.old.items ++ line_for_client step client denied }
+{
+    if let Some(why) = denied {
+        audit.push_reserved(AuditLine { step, client, why });
+    }
+}
+
+impl Port {
+    ghost use Rattle.std.specs.Prelude.{◌≡◌, ◌+◌, ◌<◌, ◌≤◌, ℕ, List, ◌∷◌, length, unwrap_or, Ok, OnOk, OnErr, IfOk, None};
+    ghost use Rattle.fis.specs.H2d.{h2d_at};
+    ghost use Rattle.fis.specs.Tags.{slot_count};
+    ghost use Rattle.slots.specs.Fetch.{fetched};
+    ghost use Rattle.slots.specs.Layout.{buffer_size};
+    ghost use Rattle.slots.specs.declared.fetched.Fetched.{Fetched};
+    ghost use Rattle.trusted_cmds.specs.Commands.{payload_length};
+    ghost use Rattle.history.specs.Opening.{Origin};
+    ghost use Rattle.port_history.specs.declared.stages.Put.{Put};
+    ghost use Rattle.port_history.specs.declared.step.Step.{Step};
+    ghost use Rattle.port_history.specs.declared.step.Step.TheVariants as steps;
+    ghost use Rattle.port_history.specs.Refusals.{refusal, IsRefusedBy};
+    ghost use Rattle.port_history.specs.Requests.{no_bytes};
+    ghost use Rattle.port_history.specs.Steps.{trace, answer};
+    ghost use Rattle.port.specs.Agreement.{PortAgrees};
+    ghost use Rattle.port.specs.Answers.{stage_at, outcome_at, taken};
+    ghost use Rattle.port.specs.State.{refusal_on, IsPut, IsIssued, IsAccepted, IsCompleted, IsTaken, IsReady};
+
+    /// A client puts a request in a free slot, and its data in the slot's buffer. It answers the number of the step.
+    ///
+    /// # Errors
+    ///
+    /// In this order: `HistoryFull`, `Size`, `SlotBusy`, `OutOfMemory`. The port is then as before.
+    pub fn put(&mut self, client: u32, tag: Tag, request: &Request) -> Result<u64, PortError>
+        ensures agrees { OnOk result ((o : Origin) (list : List Step) → PortAgrees self.old o list
+            → PortAgrees self.new o (steps.Put client tag request.now ∷ list)) }
+        ensures number { IfOk result (λ n. (o : Origin) (list : List Step) → PortAgrees self.old o list
+            → n ≡ 1 + length (trace o list)) }
+        ensures refused { (o : Origin) (list : List Step) → PortAgrees self.old o list
+            → IsRefusedBy (refusal (trace o list) (steps.Put client tag request.now)) result }
+        ensures err { OnErr result (self.new ≡ self.old) }
+    {
+        self.do_put(client, tag, request)
+    }
+
+    fn do_put(&mut self, client: u32, tag: Tag, request: &Request) -> Result<u64, PortError>
+        ensures refused { IsRefusedBy (refusal_on self.old (steps.Put client tag request.now)) result }
+        ensures number { IfOk result (λ n. n ≡ 1 + length self.old.history) }
+        ensures state { OnOk result (IsPut self.old self.new client tag request.now) }
+        ensures slot { tag < slot_count }
+        ensures err { OnErr result (self.new ≡ self.old) }
+    {
+        self.may_put(tag, request)?;
+        let number = self.next_number();
+        let command = request.command();
+        let step = Step::Put {
+            client,
+            tag,
+            request: request.copy()?,
+        };
+        let reply = Answer::nothing(self.alloc);
+        self.history.reserve(1)?;
+        host::lay(&mut self.memory, tag, command, request.payload());
+        let put = Put {
+            client,
+            number,
+            command,
+        };
+        self.slots[usize::from(tag.number())] = Stage::Prepared(put);
+        self.outcomes[usize::from(tag.number())] = None;
+        self.history.push_reserved(Entry { step, reply });
+        Ok(number)
+    }
+
+    /// Issues a prepared command. It answers the number of the step.
+    ///
+    /// # Errors
+    ///
+    /// In this order: `HistoryFull`, `Failed`, `NotPrepared`, `Queue`, `OutOfMemory`. The port is then as before.
+    pub fn issue(&mut self, tag: Tag) -> Result<u64, PortError>
+        ensures agrees { OnOk result ((o : Origin) (list : List Step) → PortAgrees self.old o list
+            → PortAgrees self.new o (steps.Issue tag ∷ list)) }
+        ensures number { IfOk result (λ n. (o : Origin) (list : List Step) → PortAgrees self.old o list
+            → n ≡ 1 + length (trace o list)) }
+        ensures refused { (o : Origin) (list : List Step) → PortAgrees self.old o list
+            → IsRefusedBy (refusal (trace o list) (steps.Issue tag)) result }
+        ensures err { OnErr result (self.new ≡ self.old) }
+    {
+        self.do_issue(tag)
+    }
+
+    fn do_issue(&mut self, tag: Tag) -> Result<u64, PortError>
+        ensures refused { IsRefusedBy (refusal_on self.old (steps.Issue tag)) result }
+        ensures number { IfOk result (λ n. n ≡ 1 + length self.old.history) }
+        ensures state { OnOk result (IsIssued self.old self.new tag) }
+        ensures slot { tag < slot_count }
+        ensures err { OnErr result (self.new ≡ self.old) }
+    {
+        let put = self.prepared(tag)?;
+        let number = self.next_number();
+        let reply = Answer::nothing(self.alloc);
+        self.history.reserve(1)?;
+        self.slots[usize::from(tag.number())] = Stage::Issued(put);
+        self.regs.set_issue(tag, is_queued(put.command));
+        self.history.push_reserved(Entry {
+            step: Step::Issue { tag },
+            reply,
+        });
+        Ok(number)
+    }
+
+    /// The device takes an issued command. A queued one is held, or fails the port; every other is executed whole and
+    /// answered. It answers the number of the step.
+    ///
+    /// # Errors
+    ///
+    /// In this order: `HistoryFull`, `Failed`, `NotIssued`, `OutOfMemory`. The port is then as before.
+    pub fn accept(&mut self, tag: Tag) -> Result<u64, PortError>
+        ensures agrees { OnOk result ((o : Origin) (list : List Step) → PortAgrees self.old o list
+            → PortAgrees self.new o (steps.Accept tag ∷ list)) }
+        ensures number { IfOk result (λ n. (o : Origin) (list : List Step) → PortAgrees self.old o list
+            → n ≡ 1 + length (trace o list)) }
+        ensures refused { (o : Origin) (list : List Step) → PortAgrees self.old o list
+            → IsRefusedBy (refusal (trace o list) (steps.Accept tag)) result }
+        ensures err { OnErr result (self.new ≡ self.old) }
+    {
+        self.do_accept(tag)
+    }
+
+    fn do_accept(&mut self, tag: Tag) -> Result<u64, PortError>
+        ensures refused { ((put : Put) → stage_at self.old.slots tag ≡ Stage.Issued put
+            → (f : Fetched) × (fetched self.old.memory tag ≡ Ok f) × (payload_length (h2d_at f.fis) ≤ buffer_size))
+            → IsRefusedBy (refusal_on self.old (steps.Accept tag)) result }
+        ensures number { IfOk result (λ n. n ≡ 1 + length self.old.history) }
+        ensures state { OnOk result ((f : Fetched) → fetched self.old.memory tag ≡ Ok f
+            → IsAccepted self.old self.new tag f.fis) }
+        ensures slot { tag < slot_count }
+        ensures err { OnErr result (self.new ≡ self.old) }
+    {
+        let put = self.issued(tag)?;
+        let Ok(command) = self.memory.fetch(tag) else {
+            return Err(PortError::NotIssued);
+        };
+        let len = payload_len(&RegH2d::read(&command.fis));
+        if len > BUFFER {
+            return Err(PortError::NotIssued);
+        }
+        let number = self.next_number();
+        let reply = Answer::nothing(self.alloc);
+        self.history.reserve(1)?;
+        self.audit.reserve(1)?;
+        let payload = host::front(&self.memory, tag, len);
+        let Ok(answer) = self.drive.accept(&command.fis, payload) else {
+            return Err(PortError::OutOfMemory);
+        };
+        let queued = is_queued(put.command);
+        let fises = answer.fises.as_slice();
+        let len = host::take_in(&mut self.memory, tag, queued, fises, &answer.bytes);
+        show_answer(&mut self.regs, tag, queued, &answer);
+        let slot = usize::from(tag.number());
+        self.slots[slot] = accepted_stage(put);
+        self.outcomes[slot] = outcome_then(queued, &answer, len, self.outcomes[slot]);
+        self.failed = failed_then(queued, fails(&answer), tag, self.failed);
+        note(&mut self.audit, number, put.client, answer.denied);
+        self.history.push_reserved(Entry {
+            step: Step::Accept { tag },
+            reply,
+        });
+        Ok(number)
+    }
+
+    /// The device moves the data of an accepted command and ends it. It answers the number of the step.
+    ///
+    /// # Errors
+    ///
+    /// In this order: `HistoryFull`, `Failed`, `NotAccepted`, `OutOfMemory`. The port is then as before.
+    pub fn complete(&mut self, tag: Tag) -> Result<u64, PortError>
+        ensures agrees { OnOk result ((o : Origin) (list : List Step) → PortAgrees self.old o list
+            → PortAgrees self.new o (steps.Complete tag ∷ list)) }
+        ensures number { IfOk result (λ n. (o : Origin) (list : List Step) → PortAgrees self.old o list
+            → n ≡ 1 + length (trace o list)) }
+        ensures refused { (o : Origin) (list : List Step) → PortAgrees self.old o list
+            → IsRefusedBy (refusal (trace o list) (steps.Complete tag)) result }
+        ensures err { OnErr result (self.new ≡ self.old) }
+    {
+        self.do_complete(tag)
+    }
+
+    fn do_complete(&mut self, tag: Tag) -> Result<u64, PortError>
+        ensures refused { ((put : Put) → stage_at self.old.slots tag ≡ Stage.Accepted put
+            → self.old.failed ≡ None → IsReady self.old tag)
+            → IsRefusedBy (refusal_on self.old (steps.Complete tag)) result }
+        ensures number { IfOk result (λ n. n ≡ 1 + length self.old.history) }
+        ensures state { OnOk result (IsCompleted self.old self.new tag) }
+        ensures slot { tag < slot_count }
+        ensures err { OnErr result (self.new ≡ self.old) }
+    {
+        let put = self.accepted(tag)?;
+        let len = self.drive.expects(tag);
+        if len > BUFFER {
+            return Err(PortError::NotAccepted);
+        }
+        let number = self.next_number();
+        let reply = Answer::nothing(self.alloc);
+        self.history.reserve(1)?;
+        let payload = host::front(&self.memory, tag, len);
+        let done = match self.drive.complete(tag, payload) {
+            Ok(done) => done,
+            Err(DriveError::NotHeld) => return Err(PortError::NotAccepted),
+            Err(DriveError::OutOfMemory) => return Err(PortError::OutOfMemory),
+        };
+        let fises = done.fises.as_slice();
+        let len = host::take_in(&mut self.memory, tag, false, fises, &done.bytes);
+        show_all(&mut self.regs, tag, fises);
+        let slot = usize::from(tag.number());
+        self.slots[slot] = Stage::Answered(put);
+        self.outcomes[slot] = Some(Outcome::Done(len));
+        self.drive.give_back(done.bytes);
+        self.history.push_reserved(Entry {
+            step: Step::Complete { tag },
+            reply,
+        });
+        Ok(number)
+    }
+
+    /// A client takes its answer, and the slot is free. It answers the number of the step and the answer.
+    ///
+    /// # Errors
+    ///
+    /// In this order: `HistoryFull`, `NotAnswered`, `NotYours`, `OutOfMemory`. The port is then as before.
+    pub fn take(&mut self, client: u32, tag: Tag) -> Result<(u64, Answer), PortError>
+        ensures agrees { OnOk result ((o : Origin) (list : List Step) → PortAgrees self.old o list
+            → PortAgrees self.new o (steps.Take client tag ∷ list)) }
+        ensures answer { IfOk result (λ r. (o : Origin) (list : List Step) → PortAgrees self.old o list
+            → (r.0 ≡ 1 + length (trace o list)) × (r.1 ≡ unwrap_or (answer (trace o list) tag) no_bytes)) }
+        ensures refused { (o : Origin) (list : List Step) → PortAgrees self.old o list
+            → IsRefusedBy (refusal (trace o list) (steps.Take client tag)) result }
+        ensures err { OnErr result (self.new ≡ self.old) }
+    {
+        self.do_take(client, tag)
+    }
+
+    fn do_take(&mut self, client: u32, tag: Tag) -> Result<(u64, Answer), PortError>
+        ensures refused { IsRefusedBy (refusal_on self.old (steps.Take client tag)) result }
+        ensures number { IfOk result (λ r. (r.0 ≡ 1 + length self.old.history)
+            × (r.1 ≡ taken self.old.memory tag (outcome_at self.old.outcomes tag))) }
+        ensures state { OnOk result (IsTaken self.old self.new client tag) }
+        ensures slot { tag < slot_count }
+        ensures err { OnErr result (self.new ≡ self.old) }
+    {
+        let _put = self.answered(client, tag)?;
+        let slot = usize::from(tag.number());
+        let outcome = self.outcomes[slot].unwrap_or(Outcome::Done(0));
+        let answer = host::answer(&self.memory, self.alloc, tag, outcome)?;
+        let reply = host::answer(&self.memory, self.alloc, tag, outcome)?;
+        let number = self.next_number();
+        self.history.reserve(1)?;
+        self.slots[slot] = Stage::Free;
+        self.outcomes[slot] = None;
+        self.history.push_reserved(Entry {
+            step: Step::Take { client, tag },
+            reply,
+        });
+        Ok((number, answer))
+    }
+}

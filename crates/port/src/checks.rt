@@ -1,0 +1,199 @@
+//! Which steps a port refuses, and in which order.
+
+ghost use Rattle.std.specs.Prelude.{◌≡◌, true};
+ghost use Rattle.port_history.specs.Refusals.{has_slot};
+
+use crate::port::Port;
+use crate::stages::mixes;
+use fis::{SLOT_COUNT, Tag};
+use port_history::{PortError, Put, Request, Stage, Step};
+
+/// How many steps a history has room for.
+const MOST_STEPS: usize = 1_048_576;
+
+/// Every tag numbers a slot.
+fn has_slot(step: &Step) -> bool
+    ensures value { result ≡ true }
+    ensures slot { has_slot step.now ≡ true }
+{
+    match *step {
+        Step::Put { tag, .. }
+        | Step::Issue { tag }
+        | Step::Accept { tag }
+        | Step::Complete { tag }
+        | Step::Take { tag, .. } => usize::from(tag.number()) < SLOT_COUNT,
+        Step::Recover | Step::Reset { .. } => true,
+    }
+}
+
+impl Port {
+    ghost use Rattle.std.specs.Prelude.{◌≡◌, ◌+◌, ◌⊎◌, ℕ, List, length, is_some, is_none, IfOk, MatchResult, None, Some, true, false};
+    ghost use Rattle.drive.specs.declared.reset.ResetKind.{ResetKind};
+    ghost use Rattle.history.specs.Opening.{Origin};
+    ghost use Rattle.port_history.specs.declared.step.Step.{Step};
+    ghost use Rattle.port_history.specs.declared.step.Step.TheVariants as steps;
+    ghost use Rattle.port_history.specs.Refusals.{refusal, IsTold, most_steps};
+    ghost use Rattle.port_history.specs.Requests.{is_sized};
+    ghost use Rattle.port_history.specs.Steps.{trace};
+    ghost use Rattle.port.specs.Agreement.{PortAgrees};
+    ghost use Rattle.port.specs.Answers.{stage_at};
+    ghost use Rattle.port.specs.State.{is_full, refusal_on};
+
+    /// Whether the step would not be refused for another cause than memory.
+    pub fn may(&self, step: &Step) -> bool
+        ensures { (o : Origin) (list : List Step) → PortAgrees self.now o list
+            → result ≡ is_none (refusal (trace o list) step.now) }
+    {
+        has_slot(step) && self.may_do(step)
+    }
+
+    fn may_do(&self, step: &Step) -> bool
+        ensures { result ≡ is_none (refusal_on self.now step.now) }
+    {
+        match *step {
+            Step::Put {
+                tag, ref request, ..
+            } => self.may_put(tag, request).is_ok(),
+            Step::Issue { tag } => self.prepared(tag).is_ok(),
+            Step::Accept { tag } => self.issued(tag).is_ok(),
+            Step::Complete { tag } => self.accepted(tag).is_ok(),
+            Step::Recover => self.has_failed().is_ok(),
+            Step::Reset { .. } => self.may_reset().is_ok(),
+            Step::Take { client, tag } => self.answered(client, tag).is_ok(),
+        }
+    }
+
+    /// There is room for a step.
+    fn room(&self) -> Result<(), PortError>
+        ensures { MatchResult result (λ _. is_full self.now ≡ false)
+            (λ e. (is_full self.now ≡ true) × (e ≡ PortError.HistoryFull)) }
+    {
+        if self.history.len() >= MOST_STEPS {
+            return Err(PortError::HistoryFull);
+        }
+        Ok(())
+    }
+
+    /// There is room for a step, and no command has failed.
+    fn running(&self) -> Result<(), PortError>
+        ensures { MatchResult result (λ _. (is_full self.now ≡ false) × (self.now.failed ≡ None))
+            (λ e. ((is_full self.now ≡ true) × (e ≡ PortError.HistoryFull))
+            ⊎ ((is_full self.now ≡ false) × (is_some self.now.failed ≡ true) × (e ≡ PortError.Failed))) }
+    {
+        self.room()?;
+        if self.failed.is_some() {
+            return Err(PortError::Failed);
+        }
+        Ok(())
+    }
+
+    /// The number of the next step.
+    pub(crate) fn next_number(&self) -> u64
+        ensures { result ≡ 1 + length self.now.history }
+    {
+        self.history.len() as u64 + 1
+    }
+
+    /// A request may be put in the slot.
+    pub(crate) fn may_put(&self, tag: Tag, request: &Request) -> Result<(), PortError>
+        ensures order { (client : ℕ) → IsTold (refusal_on self.now (steps.Put client tag request.now)) result }
+        ensures sized { IfOk result (λ _. is_sized request.now ≡ true) }
+    {
+        self.room()?;
+        if !request.is_sized() {
+            return Err(PortError::Size);
+        }
+        match self.stage(tag) {
+            Stage::Free => Ok(()),
+            Stage::Prepared(_) | Stage::Issued(_) | Stage::Accepted(_) | Stage::Answered(_) => {
+                Err(PortError::SlotBusy)
+            }
+        }
+    }
+
+    /// The Put of a slot that may be issued.
+    pub(crate) fn prepared(&self, tag: Tag) -> Result<Put, PortError>
+        ensures order { IsTold (refusal_on self.now (steps.Issue tag)) result }
+        ensures put { IfOk result (λ put. stage_at self.now.slots tag ≡ Stage.Prepared put) }
+    {
+        self.running()?;
+        match self.stage(tag) {
+            Stage::Prepared(put) => {
+                if mixes(&self.slots, put) {
+                    return Err(PortError::Queue);
+                }
+                Ok(put)
+            }
+            Stage::Free | Stage::Issued(_) | Stage::Accepted(_) | Stage::Answered(_) => {
+                Err(PortError::NotPrepared)
+            }
+        }
+    }
+
+    /// The Put of a slot that the device may take.
+    pub(crate) fn issued(&self, tag: Tag) -> Result<Put, PortError>
+        ensures order { IsTold (refusal_on self.now (steps.Accept tag)) result }
+        ensures put { IfOk result (λ put. stage_at self.now.slots tag ≡ Stage.Issued put) }
+    {
+        self.running()?;
+        match self.stage(tag) {
+            Stage::Issued(put) => Ok(put),
+            Stage::Free | Stage::Prepared(_) | Stage::Accepted(_) | Stage::Answered(_) => {
+                Err(PortError::NotIssued)
+            }
+        }
+    }
+
+    /// The Put of a slot that the device may complete.
+    pub(crate) fn accepted(&self, tag: Tag) -> Result<Put, PortError>
+        ensures order { IsTold (refusal_on self.now (steps.Complete tag)) result }
+        ensures put { IfOk result (λ put. stage_at self.now.slots tag ≡ Stage.Accepted put) }
+        ensures mended { IfOk result (λ _. self.now.failed ≡ None) }
+    {
+        self.running()?;
+        match self.stage(tag) {
+            Stage::Accepted(put) => Ok(put),
+            Stage::Free | Stage::Prepared(_) | Stage::Issued(_) | Stage::Answered(_) => {
+                Err(PortError::NotAccepted)
+            }
+        }
+    }
+
+    /// The port may recover.
+    pub(crate) fn has_failed(&self) -> Result<(), PortError>
+        ensures order { IsTold (refusal_on self.now steps.Recover) result }
+        ensures failed { IfOk result (λ _. is_some self.now.failed ≡ true) }
+    {
+        self.room()?;
+        if self.failed.is_none() {
+            return Err(PortError::NotFailed);
+        }
+        Ok(())
+    }
+
+    /// The port may be reset.
+    pub(crate) fn may_reset(&self) -> Result<(), PortError>
+        ensures { (client : ℕ) (kind : ResetKind) → IsTold (refusal_on self.now (steps.Reset client kind)) result }
+    {
+        self.room()
+    }
+
+    /// The Put of a slot whose answer the client may take.
+    pub(crate) fn answered(&self, client: u32, tag: Tag) -> Result<Put, PortError>
+        ensures order { IsTold (refusal_on self.now (steps.Take client tag)) result }
+        ensures put { IfOk result (λ put. stage_at self.now.slots tag ≡ Stage.Answered put) }
+    {
+        self.room()?;
+        match self.stage(tag) {
+            Stage::Answered(put) => {
+                if put.client != client {
+                    return Err(PortError::NotYours);
+                }
+                Ok(put)
+            }
+            Stage::Free | Stage::Prepared(_) | Stage::Issued(_) | Stage::Accepted(_) => {
+                Err(PortError::NotAnswered)
+            }
+        }
+    }
+}

@@ -1,0 +1,19 @@
+//! One AHCI port with 32 command slots, the drive behind it, and the clients that share it (AHCI 1.3.1; ACS-3, NCQ
+//! feature set).
+#![tactic(auto)]
+
+mod acting;
+mod checks;
+mod engine;
+mod host;
+mod outcome;
+mod port;
+mod registers;
+mod restarts;
+mod stages;
+
+pub use outcome::Outcome;
+pub use port::Port;
+pub use port_history::{
+    Answer, EngineStep, Entry, PlayError, PortError, Put, Request, Stage, Step,
+};

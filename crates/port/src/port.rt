@@ -1,0 +1,139 @@
+//! A port, and what it shows.
+
+use crate::outcome::Outcome;
+use crate::stages::{free_slots, no_outcomes};
+use audit::AuditLine;
+use drive::Drive;
+use fis::{SLOT_COUNT, Tag};
+use hba_regs::PortRegs;
+use port_history::{Entry, PortError, Stage};
+use slots::PortMemory;
+use std::alloc::{AllocError, Global};
+use std::marker::Model;
+
+/// A port, the drive behind it, and the history of its steps.
+#[derive(Drop)]
+pub struct Port {
+    pub(crate) alloc: Global,
+    pub(crate) drive: Drive,
+    pub(crate) slots: [Stage; SLOT_COUNT],
+    pub(crate) outcomes: [Option<Outcome>; SLOT_COUNT],
+    /// The tag whose queued command failed, while the port is failed.
+    pub(crate) failed: Option<Tag>,
+    pub(crate) memory: PortMemory,
+    pub(crate) regs: PortRegs,
+    pub(crate) history: Vec<Entry>,
+    pub(crate) audit: Vec<AuditLine>,
+}
+
+impl Model for Port {
+    ghost use Rattle.port.specs.State.{State};
+
+    ghost Value = { State };
+
+    ghost view = { λ p. record {
+      drive = p.drive;
+      slots = p.slots;
+      outcomes = p.outcomes;
+      failed = p.failed;
+      memory = p.memory;
+      regs = p.regs;
+      history = p.history.items;
+      audit = p.audit.items;
+    } };
+}
+
+impl Port {
+    ghost use Rattle.std.specs.Prelude.{◌≡◌, ◌||◌, ◌<◌, ℕ, [], List, IfOk, IsOkUnless, Ok};
+    ghost use Rattle.std.specs.Int.{bit_at};
+    ghost use Rattle.fis.specs.Bytes.{bit};
+    ghost use Rattle.fis.specs.Tags.{slot_count};
+    ghost use Rattle.slots.specs.Fetch.{fetched};
+    ghost use Rattle.history.specs.Opening.{Origin};
+    ghost use Rattle.drive.specs.State.{Agrees as DriveAgrees};
+    ghost use Rattle.port_history.specs.declared.stages.Put.{Put};
+    ghost use Rattle.port_history.specs.declared.step.Step.{Step};
+    ghost use Rattle.port_history.specs.Stages.{is_active, is_issued};
+    ghost use Rattle.port_history.specs.Steps.{trace, stage, failed, is_tag};
+    ghost use Rattle.port.specs.Agreement.{PortAgrees};
+    ghost use Rattle.port.specs.Answers.{stage_at};
+    ghost use Rattle.port.specs.Host.{fetched_of};
+    ghost use Rattle.port.specs.State.{IsFresh};
+
+    /// A port over a drive on which nothing was done.
+    ///
+    /// # Errors
+    ///
+    /// `OutOfMemory`.
+    pub fn new(alloc: Global, drive: Drive) -> Result<Port, PortError>
+        ensures agrees { IfOk result (λ port. (o : Origin) → DriveAgrees drive o [] → PortAgrees port o []) }
+        ensures memory { IsOkUnless result PortError.OutOfMemory }
+    {
+        let port = Port::over(alloc, drive)?;
+        Ok(port)
+    }
+
+    fn over(alloc: Global, drive: Drive) -> Result<Port, AllocError>
+        ensures { IfOk result (λ port. IsFresh port drive) }
+    {
+        Ok(Port {
+            alloc,
+            drive,
+            slots: free_slots(),
+            outcomes: no_outcomes(),
+            failed: None,
+            memory: PortMemory::new(alloc)?,
+            regs: PortRegs::new(),
+            history: Vec::new(alloc),
+            audit: Vec::new(alloc),
+        })
+    }
+
+    /// The steps so far, the oldest first, each with what it answered.
+    pub fn history(&self) -> &[Entry]
+        ensures { result.now ≡ self.now.history }
+    {
+        self.history.as_slice()
+    }
+
+    /// The denials so far, the oldest first.
+    pub fn audit(&self) -> &[AuditLine]
+        ensures { result.now ≡ self.now.audit }
+    {
+        self.audit.as_slice()
+    }
+
+    /// The registers. PxSACT has the queued tags that are issued or accepted, PxCI those that are issued, and the one
+    /// that failed while the port is failed.
+    pub fn regs(&self) -> &PortRegs
+        ensures value { result.now ≡ self.now.regs }
+        ensures active { (o : Origin) (list : List Step) → PortAgrees self.now o list
+            → (tag : ℕ) → tag < slot_count
+            → bit_at result.now.active tag ≡ bit (is_active (stage (trace o list) tag)) }
+        ensures issued { (o : Origin) (list : List Step) → PortAgrees self.now o list
+            → (tag : ℕ) → tag < slot_count
+            → bit_at result.now.issued tag
+            ≡ bit (is_issued (stage (trace o list) tag) || is_tag tag (failed (trace o list))) }
+    {
+        &self.regs
+    }
+
+    /// The memory that the host shares with the port. While a command is issued, its slot holds the FIS, the direction
+    /// and the length of its request.
+    pub fn memory(&self) -> &PortMemory
+        ensures value { result.now ≡ self.now.memory }
+        ensures issued { (o : Origin) (list : List Step) → PortAgrees self.now o list
+            → (tag : ℕ) (put : Put) → tag < slot_count
+            → stage (trace o list) tag ≡ Stage.Issued put
+            → fetched result.now tag ≡ Ok (fetched_of put tag) }
+    {
+        &self.memory
+    }
+
+    /// The stage of a slot.
+    pub fn stage(&self, tag: Tag) -> Stage
+        ensures { result ≡ stage_at self.now.slots tag }
+    {
+        self.slots[usize::from(tag.number())]
+    }
+}

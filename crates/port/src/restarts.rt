@@ -1,0 +1,103 @@
+//! Recovery from a failed command, and resets.
+
+use crate::host;
+use crate::port::Port;
+use crate::registers;
+use crate::registers::{restart, show_all};
+use crate::stages::{LogEntry, recover_slots, reset_slots};
+use drive::ResetKind;
+use fis::Tag;
+use port_history::{Answer, Entry, PortError, Step};
+
+impl Port {
+    ghost use Rattle.std.specs.Prelude.{◌≡◌, ◌+◌, ℕ, List, ◌∷◌, length, OnOk, OnErr, IfOk};
+    ghost use Rattle.history.specs.Opening.{Origin};
+    ghost use Rattle.port_history.specs.declared.step.Step.{Step};
+    ghost use Rattle.port_history.specs.declared.step.Step.TheVariants as steps;
+    ghost use Rattle.port_history.specs.Refusals.{refusal, IsRefusedBy};
+    ghost use Rattle.port_history.specs.Steps.{trace};
+    ghost use Rattle.port.specs.Agreement.{PortAgrees};
+    ghost use Rattle.port.specs.State.{refusal_on, IsRecovered, IsReset};
+
+    /// Recovers from a failed command: the port stops and starts, reads log page 10h of the device, answers the command
+    /// that it names, and has the others that were out prepared again. It answers the number of the step.
+    ///
+    /// # Errors
+    ///
+    /// In this order: `HistoryFull`, `NotFailed`, `OutOfMemory`. The port is then as before.
+    pub fn recover(&mut self) -> Result<u64, PortError>
+        ensures agrees { OnOk result ((o : Origin) (list : List Step) → PortAgrees self.old o list
+            → PortAgrees self.new o (steps.Recover ∷ list)) }
+        ensures number { IfOk result (λ n. (o : Origin) (list : List Step) → PortAgrees self.old o list
+            → n ≡ 1 + length (trace o list)) }
+        ensures refused { (o : Origin) (list : List Step) → PortAgrees self.old o list
+            → IsRefusedBy (refusal (trace o list) steps.Recover) result }
+        ensures err { OnErr result (self.new ≡ self.old) }
+    {
+        self.do_recover()
+    }
+
+    fn do_recover(&mut self) -> Result<u64, PortError>
+        ensures refused { IsRefusedBy (refusal_on self.old steps.Recover) result }
+        ensures number { IfOk result (λ n. n ≡ 1 + length self.old.history) }
+        ensures state { OnOk result (IsRecovered self.old self.new) }
+        ensures err { OnErr result (self.new ≡ self.old) }
+    {
+        self.has_failed()?;
+        let number = self.next_number();
+        let reply = Answer::nothing(self.alloc);
+        self.history.reserve(1)?;
+        let Ok(answer) = self.drive.accept(&host::log_fis(), &[]) else {
+            return Err(PortError::OutOfMemory);
+        };
+        restart(&mut self.regs);
+        show_all(&mut self.regs, Tag::low_bits(0), answer.fises.as_slice());
+        host::receive(&mut self.memory, answer.fises.as_slice());
+        let log = LogEntry::read(&answer.bytes);
+        recover_slots(&mut self.slots, &mut self.outcomes, &log);
+        self.failed = None;
+        self.history.push_reserved(Entry {
+            step: Step::Recover,
+            reply,
+        });
+        Ok(number)
+    }
+
+    /// Resets the port and the device: every command that waits is answered `Reset`. It answers the number of the step.
+    ///
+    /// # Errors
+    ///
+    /// In this order: `HistoryFull`, `OutOfMemory`. The port is then as before.
+    pub fn reset(&mut self, client: u32, kind: ResetKind) -> Result<u64, PortError>
+        ensures agrees { OnOk result ((o : Origin) (list : List Step) → PortAgrees self.old o list
+            → PortAgrees self.new o (steps.Reset client kind ∷ list)) }
+        ensures number { IfOk result (λ n. (o : Origin) (list : List Step) → PortAgrees self.old o list
+            → n ≡ 1 + length (trace o list)) }
+        ensures refused { (o : Origin) (list : List Step) → PortAgrees self.old o list
+            → IsRefusedBy (refusal (trace o list) (steps.Reset client kind)) result }
+        ensures err { OnErr result (self.new ≡ self.old) }
+    {
+        self.do_reset(client, kind)
+    }
+
+    fn do_reset(&mut self, client: u32, kind: ResetKind) -> Result<u64, PortError>
+        ensures refused { IsRefusedBy (refusal_on self.old (steps.Reset client kind)) result }
+        ensures number { IfOk result (λ n. n ≡ 1 + length self.old.history) }
+        ensures state { OnOk result (IsReset self.old self.new client kind) }
+        ensures err { OnErr result (self.new ≡ self.old) }
+    {
+        self.may_reset()?;
+        let number = self.next_number();
+        let reply = Answer::nothing(self.alloc);
+        self.history.reserve(1)?;
+        self.drive.reset(kind);
+        registers::reset(&mut self.regs);
+        reset_slots(&mut self.slots, &mut self.outcomes);
+        self.failed = None;
+        self.history.push_reserved(Entry {
+            step: Step::Reset { client, kind },
+            reply,
+        });
+        Ok(number)
+    }
+}

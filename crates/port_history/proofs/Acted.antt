@@ -1,0 +1,495 @@
+-- What the drive does by the FISes that the port sends, and what it gives.
+use Rattle.std.proofs.Common.{◌≡◌, ◌∙◌, ℕ, ◌*◌, ◌≤◌, ◌<◌, ◌==◌, ◌&&◌, ◌||◌, not, nat_le, Bool, true, false, List, [], ◌∷◌, length, cond, if◌then◌else◌, Option, Some, None, refl, ap, arith}
+use Rattle.std.specs.Prelude.{is_some, unwrap_or, Result, Ok, Err}
+use Rattle.fis.specs.H2d.{h2d_at}
+use Rattle.fis.specs.declared.any.Fis.{Fis}
+use Rattle.fis.specs.declared.h2d.RegH2d.{RegH2d}
+use Rattle.audit.specs.declared.reason.Why.{Why}
+use Rattle.compacket.specs.declared.session.Session.{Session}
+use Rattle.compacket.specs.declared.error.FrameError.{FrameError}
+use Rattle.compacket.specs.Frames.{Frame, reading as frame_in}
+use Rattle.tcg_tokens.specs.Reading.{reading as message_in}
+use Rattle.device_data.specs.ErrorLog.{error_log}
+use Rattle.device_data.specs.declared.log_page.Failure.{Failure}
+use Rattle.locking.specs.declared.range.Op.{Op}
+use Rattle.locking.specs.declared.range.Op.TheVariants.{Read, Write}
+use Rattle.locking.specs.declared.ranges.Verdict.{Verdict}
+use Rattle.locking.specs.declared.ranges.Verdict.TheVariants.{Serve, Shadow, Denied}
+use Rattle.trusted_cmds.specs.declared.command.Command.{Command}
+use Rattle.trusted_cmds.specs.declared.command.Command.TheVariants.{ReadQueued, WriteQueued, ReadDma, WriteDma, Send, Receive, Identify, ReadLog10, Flush}
+use Rattle.trusted_cmds.specs.Commands.{reading, fis_of, tag_with, sector_size, IsCounted, is_queued as is_queued_code}
+use Rattle.history.specs.Opening.{Origin}
+use Rattle.history.specs.Sessions.{Begun}
+use Rattle.history.specs.Events.{HeldCommand, QueueMended, Deed, Nothing, InSession, OfQueue, Wrote, Took, WasReset, Event, did}
+use Rattle.history.specs.Readers.{holding, held, failing, failure}
+use Rattle.history.specs.Facts.{Facts, facts, session_named}
+use Rattle.history.specs.Decisions.{not_found, aborted, fails, refuses, fails_queue, on_drive, verdict_on, holds, queued_by, admitted, unqueued_by, answers, to_manager, is_trusted, is_session_com_id, discovery_com_id, is_manager, to_session, framed, sent, received, unqueued, known, is_busy, commanded, accepted}
+use Rattle.history.specs.Answers.{answer_fis, pio_fis, ready, failed, is_holding, answer_fises, fises_read, answer_data, data_read}
+use Rattle.history.specs.History.{Accept as AcceptFis, event_by}
+use Rattle.history.proofs.Words.{latest-skip}
+use Rattle.port_history.specs.Requests.{command_fis, log_fis, blocks_moved, bytes_moved}
+use Rattle.port_history.specs.Stages.{is_queued}
+use Rattle.port_history.specs.Steps.{Effect, effect_by}
+use Rattle.port_history.proofs.Fises.{fis_back, reads, read_as}
+use Rattle.port_history.proofs.Sizes.{sector_length, data-fits}
+
+-- The commands of requests: trusted ones in their forms by DMA, and no read of the log.
+abbrev pub is_asked : Command → Bool
+is_asked (ReadQueued lba count) = true
+is_asked (WriteQueued lba count) = true
+is_asked (ReadDma lba count) = true
+is_asked (WriteDma lba count) = true
+is_asked (Send protocol com_id blocks dma) = dma
+is_asked (Receive protocol com_id blocks dma) = dma
+is_asked Identify = true
+is_asked (ReadLog10 dma) = false
+is_asked Flush = true
+
+-- What a command needs so that the drive reads it as it is.
+pub record IsSized (command : Command) : Type 0 where
+  pub counted : IsCounted command
+  pub most : blocks_moved command ≤ 256
+  pub asked : is_asked command ≡ true
+
+-- the FISes
+pub commands_of : (command : Command) (tag : ℕ) → (fis_of command tag).is_command ≡ true
+commands_of (ReadQueued lba count) tag = refl
+commands_of (WriteQueued lba count) tag = refl
+commands_of (ReadDma lba count) tag = refl
+commands_of (WriteDma lba count) tag = refl
+commands_of (Send protocol com_id blocks dma) tag = refl
+commands_of (Receive protocol com_id blocks dma) tag = refl
+commands_of Identify tag = refl
+commands_of (ReadLog10 dma) tag = refl
+commands_of Flush tag = refl
+
+code_of : (command : Command) (tag : ℕ)
+    → is_queued_code (fis_of command tag).command ≡ is_queued command
+code_of (ReadQueued lba count) tag = refl
+code_of (WriteQueued lba count) tag = refl
+code_of (ReadDma lba count) tag = refl
+code_of (WriteDma lba count) tag = refl
+code_of (Send protocol com_id blocks true) tag = refl
+code_of (Send protocol com_id blocks false) tag = refl
+code_of (Receive protocol com_id blocks true) tag = refl
+code_of (Receive protocol com_id blocks false) tag = refl
+code_of Identify tag = refl
+code_of (ReadLog10 true) tag = refl
+code_of (ReadLog10 false) tag = refl
+code_of Flush tag = refl
+
+-- the drive reads the command from the bytes
+pub reads_bytes : (command : Command) (tag : ℕ) → tag < 32 → IsSized command
+    → reading (h2d_at (command_fis command tag)) ≡ Ok (read_as command, tag_with command tag)
+reads_bytes command tag lt sized =
+    ap reading (fis_back command tag) ∙ reads command tag lt sized.counted sized.most
+
+comes-to : (f : Facts) (h : RegH2d) (payload : List ℕ) → h.is_command ≡ true
+    → f.failure ≡ None → (is_busy f && not (is_queued_code h.command)) ≡ false
+    → commanded f h payload ≡ known f h payload (reading h)
+comes-to f h payload commands mended unmixed =
+    ap
+    (λ (b : Bool). if not b then refuses
+    else (if is_some f.failure then Rattle.history.specs.Decisions.while_failed (reading h)
+    else (if is_busy f && not (is_queued_code h.command) then fails_queue None aborted h None
+    else known f h payload (reading h))))
+    commands
+    ∙ ap
+    (λ (x : Option Failure). if is_some x then Rattle.history.specs.Decisions.while_failed
+    (reading h) else (if is_busy f && not (is_queued_code h.command)
+    then fails_queue None aborted h None else known f h payload (reading h)))
+    mended
+    ∙ ap
+    (λ (b : Bool). if b then fails_queue None aborted h None else known f h payload (reading h))
+    unmixed
+
+-- A FIS of the port comes to its command: past the failure of the queue and the mixing of queues.
+pub event_is : (o : Origin) (past : List Event) (command : Command) (tag : ℕ) (bytes : List ℕ)
+    → tag < 32 → IsSized command → failure past ≡ None
+    → (is_busy (facts o past) && not (is_queued command)) ≡ false
+    → event_by (facts o past) (AcceptFis (command_fis command tag) bytes)
+    ≡ known (facts o past) (fis_of command tag) bytes
+    (Ok (read_as command, tag_with command tag))
+event_is o past command tag bytes lt sized mended unmixed =
+    let f : Facts = facts o past in
+    ap (λ (h : RegH2d). commanded f h bytes) (fis_back command tag)
+    ∙ comes-to f (fis_of command tag) bytes (commands_of command tag) mended
+    (ap (λ (b : Bool). is_busy f && not b) (code_of command tag) ∙ unmixed)
+    ∙ ap (known f (fis_of command tag) bytes) (reads command tag lt sized.counted sized.most)
+
+effect-of : (f : Facts) (fis bytes : List ℕ) (e : Event) → event_by f (AcceptFis fis bytes) ≡ e
+    → effect_by f (AcceptFis fis bytes)
+    ≡ record {
+      event = e;
+      fises = answer_fises (h2d_at fis) e;
+      bytes = answer_data f
+          (h2d_at fis) e;
+    }
+effect-of f fis bytes e is =
+    ap
+    (λ (x : Event). record {
+      event = x;
+      fises = answer_fises (h2d_at fis) x;
+      bytes = answer_data f
+          (h2d_at fis) x;
+    })
+    is
+
+-- Queued commands.
+
+-- A queued command is held.
+abbrev pub held_effect : ℕ → Command → Verdict → Effect
+held_effect tag command v = record {
+  event = holds tag command v;
+  fises = answer_fis false ready 0 ∷ [];
+  bytes = [];
+}
+
+-- Or it fails the queue, which its tag names.
+abbrev pub failed_effect : ℕ → Command → ℕ → Option Why → Effect
+failed_effect tag command error denied = record {
+  event = fails_queue (Some tag) error (fis_of command tag) denied;
+  fises = answer_fis true failed error ∷ [];
+  bytes = [];
+}
+
+pub data IsHeldOrFailed (tag : ℕ) (command : Command) (e : Effect) : Type 0 where
+  IsHeld : (v : Verdict) → e ≡ held_effect tag command v → IsHeldOrFailed tag command e
+  IsFailed : (error : ℕ) (denied : Option Why) → e ≡ failed_effect tag command error denied
+      → IsHeldOrFailed tag command e
+
+data IsEither (tag : ℕ) (command : Command) (h : RegH2d) (e : Event) : Type 0 where
+  EventHeld : (v : Verdict) → e ≡ holds tag command v → IsEither tag command h e
+  EventFailed : (error : ℕ) (denied : Option Why) → e ≡ fails_queue (Some tag) error h denied
+      → IsEither tag command h e
+
+queued_by-either : (h : RegH2d) (tag : ℕ) (command : Command) (v : Verdict)
+    → IsEither tag command h (queued_by h tag command v)
+queued_by-either h tag command Serve = EventHeld Serve refl
+queued_by-either h tag command Shadow = EventHeld Shadow refl
+queued_by-either h tag command (Denied why) = EventFailed aborted (Some why) refl
+
+placed-either : (h : RegH2d) (tag : ℕ) (command : Command) (v : Verdict) (on : Bool)
+    → IsEither tag command h
+    (if on then queued_by h tag command v else fails_queue (Some tag) not_found h None)
+placed-either h tag command v true = queued_by-either h tag command v
+placed-either h tag command v false = EventFailed not_found None refl
+
+known-either : (f : Facts) (h : RegH2d) (bytes : List ℕ) (command : Command) (tag : ℕ)
+    → is_queued command ≡ true → f.held tag ≡ None
+    → IsEither tag command h (known f h bytes (Ok (read_as command, tag_with command tag)))
+known-either f h bytes (ReadQueued lba count) tag queued free =
+    rw (free) (placed-either h tag (ReadQueued lba count) (verdict_on f Read lba count)
+    (on_drive f lba count))
+known-either f h bytes (WriteQueued lba count) tag queued free =
+    rw (free) (placed-either h tag (WriteQueued lba count) (verdict_on f Write lba count)
+    (on_drive f lba count))
+known-either f h bytes (ReadDma lba count) tag queued free = absurd cc
+known-either f h bytes (WriteDma lba count) tag queued free = absurd cc
+known-either f h bytes (Send protocol com_id blocks dma) tag queued free = absurd cc
+known-either f h bytes (Receive protocol com_id blocks dma) tag queued free = absurd cc
+known-either f h bytes Identify tag queued free = absurd cc
+known-either f h bytes (ReadLog10 dma) tag queued free = absurd cc
+known-either f h bytes Flush tag queued free = absurd cc
+
+-- no data come with a tag
+no-data : (f : Facts) (command : Command) (tag : ℕ) → is_queued command ≡ true
+    → data_read f (Ok (read_as command, tag_with command tag)) ≡ []
+no-data f (ReadQueued lba count) tag queued = refl
+no-data f (WriteQueued lba count) tag queued = refl
+no-data f (ReadDma lba count) tag queued = absurd cc
+no-data f (WriteDma lba count) tag queued = absurd cc
+no-data f (Send protocol com_id blocks dma) tag queued = absurd cc
+no-data f (Receive protocol com_id blocks dma) tag queued = absurd cc
+no-data f Identify tag queued = absurd cc
+no-data f (ReadLog10 dma) tag queued = absurd cc
+no-data f Flush tag queued = absurd cc
+
+-- The FIS of a queued command, on a free tag.
+pub queued_effect : (o : Origin) (past : List Event) (command : Command) (tag : ℕ) (bytes : List ℕ)
+    → tag < 32 → IsSized command → is_queued command ≡ true → failure past ≡ None
+    → held past tag ≡ None
+    → IsHeldOrFailed tag command
+    (effect_by (facts o past) (AcceptFis (command_fis command tag) bytes))
+queued_effect o past command tag bytes lt sized queued mended free =
+    by_event _ refl
+    (known-either (facts o past) (fis_of command tag) bytes command tag queued free)
+  where
+    f : Facts
+    f = facts o past
+
+    fis : List ℕ
+    fis = command_fis command tag
+
+    unmixed : (is_busy f && not (is_queued command)) ≡ false
+    unmixed = ap (λ (b : Bool). is_busy f && not b) queued ∙ and-false (is_busy f)
+      where
+        and-false : (b : Bool) → (b && false) ≡ false
+        and-false true = refl
+        and-false false = refl
+
+    is : event_by f (AcceptFis fis bytes) ≡ known f (fis_of command tag) bytes
+        (Ok (read_as command, tag_with command tag))
+    is = event_is o past command tag bytes lt sized mended unmixed
+
+    none : answer_data f (h2d_at fis) (did Nothing) ≡ []
+    none = ap (data_read f) (reads_bytes command tag lt sized) ∙ no-data f command tag queued
+
+    by_event : (e : Event)
+        → known f (fis_of command tag) bytes (Ok (read_as command, tag_with command tag)) ≡ e
+        → IsEither tag command (fis_of command tag) e
+        → IsHeldOrFailed tag command (effect_by f (AcceptFis fis bytes))
+    by_event e same (EventHeld v made) =
+        IsHeld v
+        (effect-of f fis bytes (holds tag command v) (is ∙ same ∙ made)
+        ∙ ap (λ (xs : List ℕ). record {
+          event = holds tag command v;
+          fises = answer_fis false ready
+              0 ∷ [];
+          bytes = xs;
+        }) none)
+    by_event e same (EventFailed error denied made) =
+        IsFailed error denied
+        (effect-of f fis bytes (fails_queue (Some tag) error (fis_of command tag) denied) (is ∙ same
+        ∙ made))
+
+-- Unqueued commands.
+
+-- A deed that changes nothing of the queue.
+abbrev pub is_of_queue : Deed → Bool
+is_of_queue Nothing = false
+is_of_queue (InSession deed response) = false
+is_of_queue (OfQueue deed) = true
+is_of_queue (Wrote lba bytes) = false
+is_of_queue (Took com_id) = false
+is_of_queue (WasReset kind) = true
+
+abbrev pub executed_fis : Command → Option ℕ → Fis
+executed_fis command (Some error) = answer_fis true failed error
+executed_fis Identify None = pio_fis true ready
+executed_fis command None = answer_fis true ready 0
+
+-- A command that is not queued is executed whole: it changes nothing of the queue, is answered by
+-- one FIS, and gives no more data than it asks for.
+pub record IsExecuted (command : Command) (e : Effect) : Type 0 where
+  pub quiet : is_of_queue e.event.deed ≡ false
+  pub fises : e.fises ≡ executed_fis command e.event.failed ∷ []
+  pub bytes : length e.bytes ≤ bytes_moved command
+
+quiet-if : (b : Bool) (x y : Event) → is_of_queue x.deed ≡ false → is_of_queue y.deed ≡ false
+    → is_of_queue (cond b x y).deed ≡ false
+quiet-if true x y h g = h
+quiet-if false x y h g = g
+
+unqueued_by-quiet : (d : Deed) (v : Verdict) → is_of_queue d ≡ false
+    → is_of_queue (unqueued_by d v).deed ≡ false
+unqueued_by-quiet d Serve h = h
+unqueued_by-quiet d Shadow h = h
+unqueued_by-quiet d (Denied why) h = refl
+
+transfer-quiet : (f : Facts) (d : Deed) (op : Op) (lba count : ℕ) → is_of_queue d ≡ false
+    → is_of_queue (Rattle.history.specs.Decisions.unqueued_transfer f d op lba count).deed ≡ false
+transfer-quiet f d op lba count h =
+    quiet-if (on_drive f lba count) (unqueued_by d (verdict_on f op lba count))
+    (fails not_found None)
+    (unqueued_by-quiet d (verdict_on f op lba count) h) refl
+
+to_session-quiet : (f : Facts) (com_id : ℕ) (named : Session) (payload : List ℕ)
+    (x : Option Begun) → is_of_queue (to_session f com_id named payload x).deed ≡ false
+to_session-quiet f com_id named payload None = refl
+to_session-quiet f com_id named payload (Some session) = refl
+
+sent-quiet : (f : Facts) (com_id : ℕ) (r : Result Frame FrameError)
+    → is_of_queue (sent f com_id r).deed ≡ false
+sent-quiet f com_id (Err e) = refl
+sent-quiet f com_id (Ok frame) =
+    quiet-if (frame.com_id == com_id) (framed f com_id frame) (did Nothing)
+    (quiet-if (is_manager frame.session)
+    (answers com_id frame.session (to_manager f com_id (message_in frame.payload)))
+    (to_session f com_id frame.session frame.payload (session_named f com_id frame.session)) refl
+    (to_session-quiet f com_id frame.session frame.payload
+    (session_named f com_id frame.session)))
+    refl
+
+received-quiet : (com_id blocks : ℕ) (x : Option (List ℕ))
+    → is_of_queue (received com_id blocks x).deed ≡ false
+received-quiet com_id blocks None = refl
+received-quiet com_id blocks (Some response) =
+    quiet-if (nat_le (length response) (sector_size * blocks)) (did (Took com_id)) (did Nothing)
+    refl refl
+
+unqueued-quiet : (f : Facts) (payload : List ℕ) (command : Command)
+    → is_of_queue (unqueued f payload command).deed ≡ false
+unqueued-quiet f payload (ReadDma lba count) = transfer-quiet f Nothing Read lba count refl
+unqueued-quiet f payload (WriteDma lba count) =
+    transfer-quiet f (Wrote lba payload) Write lba count refl
+unqueued-quiet f payload (Send protocol com_id blocks dma) =
+    quiet-if
+    (is_trusted protocol blocks && is_session_com_id com_id && not (is_some (f.waiting com_id)))
+    (sent f com_id (frame_in payload)) refuses (sent-quiet f com_id (frame_in payload)) refl
+unqueued-quiet f payload (Receive protocol com_id blocks dma) =
+    quiet-if
+    (is_trusted protocol blocks && (is_session_com_id com_id || com_id == discovery_com_id))
+    (received com_id blocks (f.waiting com_id)) refuses
+    (received-quiet com_id blocks (f.waiting com_id)) refl
+unqueued-quiet f payload Identify = refl
+unqueued-quiet f payload (ReadLog10 dma) = refl
+unqueued-quiet f payload Flush = refl
+unqueued-quiet f payload (ReadQueued lba count) = refl
+unqueued-quiet f payload (WriteQueued lba count) = refl
+
+-- it holds nothing
+pub holds_nothing : (d : Deed) → is_of_queue d ≡ false → is_holding d ≡ false
+holds_nothing Nothing quiet = refl
+holds_nothing (InSession deed response) quiet = refl
+holds_nothing (OfQueue deed) quiet = absurd cc
+holds_nothing (Wrote lba bytes) quiet = refl
+holds_nothing (Took com_id) quiet = refl
+holds_nothing (WasReset kind) quiet = refl
+
+-- the queue is as before
+quiet-holding : (tag : ℕ) (d : Deed) → is_of_queue d ≡ false → holding tag d ≡ None
+quiet-holding tag Nothing quiet = refl
+quiet-holding tag (InSession deed response) quiet = refl
+quiet-holding tag (OfQueue deed) quiet = absurd cc
+quiet-holding tag (Wrote lba bytes) quiet = refl
+quiet-holding tag (Took com_id) quiet = refl
+quiet-holding tag (WasReset kind) quiet = absurd cc
+
+quiet-failing : (d : Deed) → is_of_queue d ≡ false → failing d ≡ None
+quiet-failing Nothing quiet = refl
+quiet-failing (InSession deed response) quiet = refl
+quiet-failing (OfQueue deed) quiet = absurd cc
+quiet-failing (Wrote lba bytes) quiet = refl
+quiet-failing (Took com_id) quiet = refl
+quiet-failing (WasReset kind) quiet = absurd cc
+
+pub held_stays : (e : Event) (past : List Event) (tag : ℕ) → is_of_queue e.deed ≡ false
+    → held (e ∷ past) tag ≡ held past tag
+held_stays e past tag quiet =
+    ap (λ (x : Option (Option HeldCommand)). unwrap_or x None)
+    (latest-skip (holding tag) e past (quiet-holding tag e.deed quiet))
+
+pub failure_stays : (e : Event) (past : List Event) → is_of_queue e.deed ≡ false
+    → failure (e ∷ past) ≡ failure past
+failure_stays e past quiet =
+    ap (λ (x : Option (Option Failure)). unwrap_or x None)
+    (latest-skip failing e past (quiet-failing e.deed quiet))
+
+known-unqueued : (f : Facts) (h : RegH2d) (bytes : List ℕ) (command : Command) (tag : ℕ)
+    → is_queued command ≡ false
+    → known f h bytes (Ok (read_as command, tag_with command tag))
+    ≡ unqueued f bytes (read_as command)
+known-unqueued f h bytes (ReadQueued lba count) tag unqueued = absurd cc
+known-unqueued f h bytes (WriteQueued lba count) tag unqueued = absurd cc
+known-unqueued f h bytes (ReadDma lba count) tag unqueued = refl
+known-unqueued f h bytes (WriteDma lba count) tag unqueued = refl
+known-unqueued f h bytes (Send protocol com_id blocks dma) tag unqueued = refl
+known-unqueued f h bytes (Receive protocol com_id blocks dma) tag unqueued = refl
+known-unqueued f h bytes Identify tag unqueued = refl
+known-unqueued f h bytes (ReadLog10 dma) tag unqueued = refl
+known-unqueued f h bytes Flush tag unqueued = refl
+
+served-fis : (command : Command) (tag : ℕ) → is_queued command ≡ false → is_asked command ≡ true
+    → fises_read (Ok (read_as command, tag_with command tag)) ≡ executed_fis command None ∷ []
+served-fis (ReadQueued lba count) tag unqueued asked = absurd cc
+served-fis (WriteQueued lba count) tag unqueued asked = absurd cc
+served-fis (ReadDma lba count) tag unqueued asked = refl
+served-fis (WriteDma lba count) tag unqueued asked = refl
+served-fis (Send protocol com_id blocks true) tag unqueued asked = refl
+served-fis (Send protocol com_id blocks false) tag unqueued asked = absurd cc
+served-fis (Receive protocol com_id blocks true) tag unqueued asked = refl
+served-fis (Receive protocol com_id blocks false) tag unqueued asked = absurd cc
+served-fis Identify tag unqueued asked = refl
+served-fis (ReadLog10 dma) tag unqueued asked = absurd cc
+served-fis Flush tag unqueued asked = refl
+
+failed-fis : (command : Command) (error : ℕ)
+    → answer_fis true failed error ∷ [] ≡ executed_fis command (Some error) ∷ []
+failed-fis (ReadQueued lba count) error = refl
+failed-fis (WriteQueued lba count) error = refl
+failed-fis (ReadDma lba count) error = refl
+failed-fis (WriteDma lba count) error = refl
+failed-fis (Send protocol com_id blocks dma) error = refl
+failed-fis (Receive protocol com_id blocks dma) error = refl
+failed-fis Identify error = refl
+failed-fis (ReadLog10 dma) error = refl
+failed-fis Flush error = refl
+
+read-data : (f : Facts) (command : Command) (tag : ℕ) → is_queued command ≡ false
+    → ((s : ℕ) → length (f.sector s) ≡ 512)
+    → length (data_read f (Ok (read_as command, tag_with command tag))) ≤ bytes_moved command
+read-data f (ReadQueued lba count) tag unqueued whole = absurd cc
+read-data f (WriteQueued lba count) tag unqueued whole = absurd cc
+read-data f (ReadDma lba count) tag unqueued whole = data-fits f (ReadDma lba count) whole
+read-data f (WriteDma lba count) tag unqueued whole = data-fits f (WriteDma lba count) whole
+read-data f (Send protocol com_id blocks dma) tag unqueued whole =
+    data-fits f (read_as (Send protocol com_id blocks dma)) whole
+read-data f (Receive protocol com_id blocks dma) tag unqueued whole =
+    data-fits f (read_as (Receive protocol com_id blocks dma)) whole
+read-data f Identify tag unqueued whole = data-fits f Identify whole
+read-data f (ReadLog10 dma) tag unqueued whole = data-fits f (ReadLog10 dma) whole
+read-data f Flush tag unqueued whole = data-fits f Flush whole
+
+fises-by : (command : Command) (fis : List ℕ) (read : List Fis) (d : Deed) (e : Option ℕ)
+    → is_holding d ≡ false → read ≡ executed_fis command None ∷ []
+    → (if is_some e then answer_fis true failed (unwrap_or e 0) ∷ []
+    else (if is_holding d then answer_fis false ready 0 ∷ [] else read))
+    ≡ executed_fis command e ∷ []
+fises-by command fis read d (Some error) quiet is = failed-fis command error
+fises-by command fis read d None quiet is =
+    ap (λ (b : Bool). if b then answer_fis false ready 0 ∷ [] else read) quiet ∙ is
+
+bytes-by : (read : List ℕ) (n : ℕ) (e : Option ℕ) → length read ≤ n
+    → length (if is_some e then [] else read) ≤ n
+bytes-by read n (Some error) le = omega arith
+bytes-by read n None le = le
+
+-- The FIS of a command that is not queued, while nothing is held.
+pub executed_effect : (o : Origin) (past : List Event) (command : Command) (tag : ℕ)
+    (bytes : List ℕ) → tag < 32 → IsSized command → is_queued command ≡ false
+    → failure past ≡ None → is_busy (facts o past) ≡ false
+    → IsExecuted command (effect_by (facts o past) (AcceptFis (command_fis command tag) bytes))
+executed_effect o past command tag bytes lt sized unqueued_is mended idle = record {
+  quiet = ap (λ (x : Event). is_of_queue x.deed) is ∙ unqueued-quiet f bytes (read_as command);
+  fises =
+      fises-by command fis (fises_read (reading (h2d_at fis)))
+      (event_by f (AcceptFis fis bytes)).deed (event_by f (AcceptFis fis bytes)).failed
+      (holds_nothing _ (ap (λ (x : Event). is_of_queue x.deed) is
+      ∙ unqueued-quiet f bytes (read_as command)))
+      (ap fises_read (reads_bytes command tag lt sized)
+      ∙ served-fis command tag unqueued_is sized.asked);
+  bytes =
+      bytes-by (data_read f (reading (h2d_at fis))) (bytes_moved command)
+      (event_by f (AcceptFis fis bytes)).failed
+      (rw (reads_bytes command tag lt sized) (read-data f command tag unqueued_is
+      (sector_length past)));
+}
+  where
+    f : Facts
+    f = facts o past
+
+    fis : List ℕ
+    fis = command_fis command tag
+
+    is : event_by f (AcceptFis fis bytes) ≡ unqueued f bytes (read_as command)
+    is =
+        event_is o past command tag bytes lt sized mended
+        (ap (λ (b : Bool). b && not (is_queued command)) idle)
+        ∙ known-unqueued f (fis_of command tag) bytes command tag unqueued_is
+
+-- The read of the log.
+abbrev pub mended_effect : Option Failure → Effect
+mended_effect failing = record {
+  event = did (OfQueue QueueMended);
+  fises = answer_fis true ready 0 ∷ [];
+  bytes = error_log failing;
+}
+
+pub mends : (o : Origin) (past : List Event) (found : Failure) → failure past ≡ Some found
+    → effect_by (facts o past) (AcceptFis log_fis []) ≡ mended_effect (Some found)
+mends o past found is =
+    ap
+    (λ (x : Option Failure). effect_by (record (facts o past) { failure = x })
+    (AcceptFis log_fis []))
+    is

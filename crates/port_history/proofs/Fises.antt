@@ -1,0 +1,223 @@
+-- The bytes of the FISes that the port sends, and what the drive reads in them.
+use Rattle.std.proofs.Common.{◌≡◌, ◌∙◌, ◌+◌, ◌*◌, ◌/◌, ◌%◌, ◌^◌, ◌<◌, ◌≤◌, ◌==◌, ℕ, true, false, List, [], ◌∷◌, length, slice_index, if◌then◌else◌, None, refl, ap, arith, inl, inr}
+use Rattle.std.specs.Prelude.{Ok}
+use Rattle.std.proofs.lemmas.Bool.{cases_eq, ne_eqb}
+use Rattle.std.proofs.Math.Nat.{mod-add-div}
+use Rattle.fis.specs.H2d.{h2d_at, IsH2dSpelling}
+use Rattle.fis.specs.declared.h2d.RegH2d.{RegH2d}
+use Rattle.trusted_cmds.specs.declared.command.Command.{Command}
+use Rattle.trusted_cmds.specs.declared.command.Command.TheVariants.{ReadQueued, WriteQueued, ReadDma, WriteDma, Send, Receive, Identify, ReadLog10, Flush}
+use Rattle.trusted_cmds.specs.Commands.{reading, fis_with, fis_of, tag_with, payload_length, sectors, sectors_field, most_sectors, sector_size, IsCounted}
+use Rattle.port_history.specs.Requests.{fis_bytes, log_fis, to_device, blocks_moved, bytes_moved}
+use Rattle.port_history.specs.Stages.{is_queued}
+
+-- a list of 20 bytes
+listed : (xs : List ℕ) → length xs ≡ 20
+    → xs ≡ slice_index xs 0 ∷ slice_index xs 1 ∷ slice_index xs 2 ∷ slice_index xs 3
+    ∷ slice_index xs 4 ∷ slice_index xs 5 ∷ slice_index xs 6 ∷ slice_index xs 7
+    ∷ slice_index xs 8 ∷ slice_index xs 9 ∷ slice_index xs 10 ∷ slice_index xs 11
+    ∷ slice_index xs 12 ∷ slice_index xs 13 ∷ slice_index xs 14 ∷ slice_index xs 15
+    ∷ slice_index xs 16 ∷ slice_index xs 17 ∷ slice_index xs 18 ∷ slice_index xs 19 ∷ []
+listed (a ∷ b ∷ c ∷ d ∷ e ∷ f ∷ g ∷ h ∷ i ∷ j ∷ k ∷ l ∷ m ∷ n ∷ o ∷ p ∷ q ∷ r ∷ s ∷ t
+    ∷ []) size = refl
+listed _ size = absurd (omega (arith, size))
+
+two_bytes : (a b n : ℕ) → a < 256 → b < 256 → a + 256 * b ≡ n → (a ≡ n % 256) × (b ≡ n / 256)
+two_bytes a b n la lb e = (omega (arith, e), omega (arith, e))
+
+record SixBytes (a b c d e f n : ℕ) : Type 0 where
+  zeroth : a ≡ n % 256
+  first : b ≡ n / 256 % 256
+  second : c ≡ n / 256 / 256 % 256
+  third : d ≡ n / 256 / 256 / 256 % 256
+  fourth : e ≡ n / 256 / 256 / 256 / 256 % 256
+  fifth : f ≡ n / 256 / 256 / 256 / 256 / 256
+
+six_bytes : (a b c d e f n : ℕ) → a < 256 → b < 256 → c < 256 → d < 256 → e < 256 → f < 256
+    → a + 256 * b + 256 ^ 2 * c + 256 ^ 3 * d + 256 ^ 4 * e + 256 ^ 5 * f ≡ n
+    → SixBytes a b c d e f n
+six_bytes a b c d e f n la lb lc ld le lf is = record {
+  zeroth = omega (arith, is);
+  first = omega (arith, is);
+  second = omega (arith, is);
+  third = omega (arith, is);
+  fourth = omega (arith, is);
+  fifth = omega (arith, is);
+}
+
+-- each is a byte
+abbrev pub AreBytes : List ℕ → Type 0
+AreBytes bytes = (k : ℕ) → slice_index bytes k < 256
+
+-- What spells a FIS, as the writer does, is these bytes.
+pub spelled : (h : RegH2d) (bytes : List ℕ) → IsH2dSpelling bytes h → length bytes ≡ 20
+    → AreBytes bytes → bytes ≡ fis_bytes h
+spelled h bytes s size small =
+    let w = s.writing in
+    let feature =
+    two_bytes (slice_index bytes 3) (slice_index bytes 11) h.feature (small 3) (small 11)
+    w.feature in
+    let count =
+    two_bytes (slice_index bytes 12) (slice_index bytes 13) h.count (small 12) (small 13)
+    w.count in
+    let lba =
+    six_bytes (slice_index bytes 4) (slice_index bytes 5) (slice_index bytes 6)
+    (slice_index bytes 8) (slice_index bytes 9) (slice_index bytes 10) h.lba (small 4)
+    (small 5) (small 6) (small 8) (small 9) (small 10) w.lba in
+    let clear = s.auxiliary in
+    listed bytes size
+    ∙ rw (
+      w.kind,
+      s.flags,
+      w.command,
+      feature.0,
+      lba.zeroth,
+      lba.first,
+      lba.second,
+      w.device,
+      lba.third,
+      lba.fourth,
+      lba.fifth,
+      feature.1,
+      count.0,
+      count.1,
+      w.icc,
+      w.control,
+      clear.0,
+      clear.1.0,
+      clear.1.1.0,
+      clear.1.1.1.0,
+    ) refl
+
+split-6 : (n : ℕ)
+    → n % 256 + 256 * (n / 256 % 256) + 256 ^ 2 * (n / 256 / 256 % 256)
+    + 256 ^ 3 * (n / 256 / 256 / 256 % 256) + 256 ^ 4 * (n / 256 / 256 / 256 / 256 % 256)
+    + 256 ^ 5 * (n / 256 / 256 / 256 / 256 / 256) ≡ n
+split-6 n = omega arith
+
+with-back : (code feature lba device count : ℕ)
+    → h2d_at (fis_bytes (fis_with code feature lba device count))
+    ≡ fis_with code feature lba device count
+with-back code feature lba device count =
+    rw (mod-add-div feature 256, split-6 lba, mod-add-div count 256) refl
+
+-- A command's FIS is read back from its bytes.
+pub fis_back : (command : Command) (tag : ℕ)
+    → h2d_at (fis_bytes (fis_of command tag)) ≡ fis_of command tag
+fis_back (ReadQueued lba count) tag = with-back _ _ _ _ _
+fis_back (WriteQueued lba count) tag = with-back _ _ _ _ _
+fis_back (ReadDma lba count) tag = with-back _ _ _ _ _
+fis_back (WriteDma lba count) tag = with-back _ _ _ _ _
+fis_back (Send protocol com_id blocks dma) tag = with-back _ _ _ _ _
+fis_back (Receive protocol com_id blocks dma) tag = with-back _ _ _ _ _
+fis_back Identify tag = with-back _ _ _ _ _
+fis_back (ReadLog10 dma) tag = with-back _ _ _ _ _
+fis_back Flush tag = with-back _ _ _ _ _
+
+-- What a command is read back as: a trusted one has a protocol of one byte and a ComID of two.
+abbrev pub read_as : Command → Command
+read_as (ReadQueued lba count) = ReadQueued lba count
+read_as (WriteQueued lba count) = WriteQueued lba count
+read_as (ReadDma lba count) = ReadDma lba count
+read_as (WriteDma lba count) = WriteDma lba count
+read_as (Send protocol com_id blocks dma) = Send (protocol % 256) (com_id % 65536) blocks dma
+read_as (Receive protocol com_id blocks dma) =
+    Receive (protocol % 256) (com_id % 65536) blocks dma
+read_as Identify = Identify
+read_as (ReadLog10 dma) = ReadLog10 dma
+read_as Flush = Flush
+
+-- a count of sectors, from its field
+sectors-back : (count : ℕ) → 0 < count → count ≤ most_sectors
+    → sectors (sectors_field count) ≡ count
+sectors-back count some most = elim (cases_eq count 65536) [
+  | inl same ↦ rw (same) refl
+  | inr other ↦
+      let none : (count == 0) ≡ false = ne_eqb count 0 (λ e. absurd (omega (arith, e, some))) in
+      rw (ne_eqb count 65536 other, none) refl
+]
+
+tag-back : (tag : ℕ) → tag < 32 → 8 * tag / 8 % 32 ≡ tag
+tag-back tag lt = omega arith
+
+com_id-back : (blocks com_id : ℕ) → blocks ≤ 256 → (blocks / 256 + 256 * com_id) / 256 ≡ com_id
+com_id-back blocks com_id most = omega arith
+
+blocks-back : (blocks com_id : ℕ) → blocks ≤ 256
+    → blocks % 256 % 256 + 256 * ((blocks / 256 + 256 * com_id) % 256) ≡ blocks
+blocks-back blocks com_id most = omega arith
+
+-- The drive reads the command, and the tag of a queued one.
+pub reads : (command : Command) (tag : ℕ) → tag < 32 → IsCounted command
+    → blocks_moved command ≤ 256
+    → reading (fis_of command tag) ≡ Ok (read_as command, tag_with command tag)
+reads (ReadQueued lba count) tag lt counted most =
+    rw (sectors-back count counted.0 counted.1, tag-back tag lt) refl
+reads (WriteQueued lba count) tag lt counted most =
+    rw (sectors-back count counted.0 counted.1, tag-back tag lt) refl
+reads (ReadDma lba count) tag lt counted most =
+    rw (sectors-back count counted.0 counted.1) refl
+reads (WriteDma lba count) tag lt counted most =
+    rw (sectors-back count counted.0 counted.1) refl
+reads (Send protocol com_id blocks true) tag lt counted most =
+    rw (com_id-back blocks com_id most, blocks-back blocks com_id most) refl
+reads (Send protocol com_id blocks false) tag lt counted most =
+    rw (com_id-back blocks com_id most, blocks-back blocks com_id most) refl
+reads (Receive protocol com_id blocks true) tag lt counted most =
+    rw (com_id-back blocks com_id most, blocks-back blocks com_id most) refl
+reads (Receive protocol com_id blocks false) tag lt counted most =
+    rw (com_id-back blocks com_id most, blocks-back blocks com_id most) refl
+reads Identify tag lt counted most = refl
+reads (ReadLog10 true) tag lt counted most = refl
+reads (ReadLog10 false) tag lt counted most = refl
+reads Flush tag lt counted most = refl
+
+pub read_as-queued : (command : Command) → is_queued (read_as command) ≡ is_queued command
+read_as-queued (ReadQueued lba count) = refl
+read_as-queued (WriteQueued lba count) = refl
+read_as-queued (ReadDma lba count) = refl
+read_as-queued (WriteDma lba count) = refl
+read_as-queued (Send protocol com_id blocks dma) = refl
+read_as-queued (Receive protocol com_id blocks dma) = refl
+read_as-queued Identify = refl
+read_as-queued (ReadLog10 dma) = refl
+read_as-queued Flush = refl
+
+pub read_as-tag : (command : Command) (tag : ℕ)
+    → tag_with (read_as command) tag ≡ tag_with command tag
+read_as-tag (ReadQueued lba count) tag = refl
+read_as-tag (WriteQueued lba count) tag = refl
+read_as-tag (ReadDma lba count) tag = refl
+read_as-tag (WriteDma lba count) tag = refl
+read_as-tag (Send protocol com_id blocks dma) tag = refl
+read_as-tag (Receive protocol com_id blocks dma) tag = refl
+read_as-tag Identify tag = refl
+read_as-tag (ReadLog10 dma) tag = refl
+read_as-tag Flush tag = refl
+
+-- How many bytes go to the device with a command.
+abbrev pub brought : Command → ℕ
+brought command = if to_device command then bytes_moved command else 0
+
+-- As many as its FIS asks for, where it is not queued.
+pub payload_is : (command : Command) (tag : ℕ) → IsCounted command → blocks_moved command ≤ 256
+    → payload_length (fis_of command tag) ≡ (if is_queued command then 0 else brought command)
+payload_is (ReadQueued lba count) tag counted most = refl
+payload_is (WriteQueued lba count) tag counted most = refl
+payload_is (ReadDma lba count) tag counted most = refl
+payload_is (WriteDma lba count) tag counted most =
+    ap (λ (n : ℕ). sector_size * n) (sectors-back count counted.0 counted.1)
+payload_is (Send protocol com_id blocks true) tag counted most =
+    ap (λ (n : ℕ). sector_size * n) (blocks-back blocks com_id most)
+payload_is (Send protocol com_id blocks false) tag counted most =
+    ap (λ (n : ℕ). sector_size * n) (blocks-back blocks com_id most)
+payload_is (Receive protocol com_id blocks true) tag counted most = refl
+payload_is (Receive protocol com_id blocks false) tag counted most = refl
+payload_is Identify tag counted most = refl
+payload_is (ReadLog10 true) tag counted most = refl
+payload_is (ReadLog10 false) tag counted most = refl
+payload_is Flush tag counted most = refl
+
+-- The read of the log.
+pub log_reads : reading (h2d_at log_fis) ≡ Ok (ReadLog10 true, None)
+log_reads = refl

@@ -1,0 +1,174 @@
+-- How many bytes the drive gives.
+use Rattle.std.proofs.Common.{◌≡◌, ◌∙◌, ℕ, zero, suc, ◌+◌, ◌-◌, ◌*◌, ◌/◌, ◌≤◌, ◌<◌, ◌&&◌, nat_le, nat_lt, Bool, true, false, List, [], ◌∷◌, ◌++◌, length, replicate, if◌then◌else◌, Option, Some, None, refl, ap, arith}
+use Rattle.std.specs.Prelude.{take, drop, unwrap_or}
+use Rattle.std.specs.List.{flat_map}
+use Rattle.std.proofs.lemmas.List.{length-take, length-take-le, length-drop, length-append, length-replicate}
+use Rattle.std.proofs.lemmas.Bool.Decides.{nat_tests}
+use Rattle.device_data.specs.ErrorLog.{sized, error_log, page_head}
+use Rattle.device_data.specs.Identity.{identity, identify_word, low_first, run_from}
+use Rattle.device_data.specs.Discovery.{discovery}
+use Rattle.device_data.specs.declared.log_page.Failure.{Failure}
+use Rattle.shadow_mbr.specs.Stored.{zeros, sectors_from}
+use Rattle.transactions.specs.Bytes.{bytes_from}
+use Rattle.trusted_cmds.specs.declared.command.Command.{Command}
+use Rattle.trusted_cmds.specs.declared.command.Command.TheVariants.{ReadQueued, WriteQueued, ReadDma, WriteDma, Send, Receive, Identify, ReadLog10, Flush}
+use Rattle.locking.specs.declared.range.Op.TheVariants.{Read}
+use Rattle.locking.specs.declared.ranges.Verdict.{Verdict}
+use Rattle.locking.specs.declared.ranges.Verdict.TheVariants.{Serve, Shadow, Denied}
+use Rattle.history.specs.Events.{SessionDeed, Reverted, CompletedWrite, Deed, InSession, OfQueue, Wrote, Event, or_else, latest}
+use Rattle.history.specs.Readers.{part_of, wipes, writing, sector}
+use Rattle.history.specs.Facts.{Facts}
+use Rattle.history.specs.Decisions.{verdict_on, discovery_com_id}
+use Rattle.history.specs.Answers.{read_by, received_bytes, receive_data, data_of, held_data}
+use Rattle.port_history.specs.Requests.{bytes_moved}
+
+-- sectors
+abbrev IsSector : Option (List ℕ) → Type 0
+IsSector None = Unit {0}
+IsSector (Some bytes) = length bytes ≡ 512
+
+length-zeros : length zeros ≡ 512
+unfolding zeros
+length-zeros = length-replicate {A = ℕ} 512 0
+
+part-long : (place lba : ℕ) (bytes : List ℕ)
+    → (nat_le lba place && nat_lt place (lba + length bytes / 512)) ≡ true
+    → 512 ≤ length bytes - 512 * (place - lba)
+part-long place lba bytes is =
+    let from : lba ≤ place = grind (arith, nat_tests) in
+    let below : place < lba + length bytes / 512 = grind (arith, nat_tests) in
+    omega (arith, from, below)
+
+part-is : (place lba : ℕ) (bytes : List ℕ) → IsSector (part_of place lba bytes)
+part-is place lba bytes =
+    by_test (nat_le lba place && nat_lt place (lba + length bytes / 512)) refl
+  where
+    by_test : (b : Bool)
+        → (nat_le lba place && nat_lt place (lba + length bytes / 512)) ≡ b
+        → IsSector (if b then Some (take 512 (drop (512 * (place - lba)) bytes)) else None)
+    by_test false is = tt
+    by_test true is =
+        let rest : length (drop (512 * (place - lba)) bytes) ≡ length bytes - 512 * (place - lba)
+        = length-drop (512 * (place - lba)) bytes in
+        length-take-le 512 (drop (512 * (place - lba)) bytes)
+        (omega (arith, rest, part-long place lba bytes is))
+
+wipes-is : (d : SessionDeed) → IsSector (wipes d)
+wipes-is (Reverted sp true) = length-zeros
+wipes-is _ = tt
+
+writing-is : (place : ℕ) (d : Deed) → IsSector (writing place d)
+writing-is place (OfQueue (CompletedWrite tag lba bytes)) = part-is place lba bytes
+writing-is place (Wrote lba bytes) = part-is place lba bytes
+writing-is place (InSession deed response) = wipes-is deed
+writing-is place _ = tt
+
+or-is : (x y : Option (List ℕ)) → IsSector x → IsSector y → IsSector (or_else x y)
+or-is None y h g = g
+or-is (Some bytes) y h g = h
+
+latest-is : (place : ℕ) (past : List Event) → IsSector (latest (writing place) past)
+latest-is place [] = tt
+latest-is place (event ∷ before) =
+    or-is (writing place event.deed) (latest (writing place) before)
+    (writing-is place event.deed) (latest-is place before)
+
+else-zeros : (x : Option (List ℕ)) → IsSector x → length (unwrap_or x zeros) ≡ 512
+else-zeros None h = length-zeros
+else-zeros (Some bytes) h = h
+
+-- Each sector has 512 bytes, after any events.
+pub sector_length : (past : List Event) (place : ℕ) → length (sector past place) ≡ 512
+sector_length past place = else-zeros (latest (writing place) past) (latest-is place past)
+
+length-sectors : (holds : ℕ → List ℕ) (lba n : ℕ) → ((s : ℕ) → length (holds s) ≡ 512)
+    → length (sectors_from holds lba n) ≡ 512 * n
+unfolding sectors_from
+length-sectors holds lba zero whole = refl
+length-sectors holds lba (suc n) whole =
+    omega (
+      arith,
+      length-append (holds lba) (sectors_from holds (lba + 1) n),
+      whole lba,
+      length-sectors holds (lba + 1) n whole,
+    )
+
+length-bytes : (holds : ℕ → ℕ) (place n : ℕ) → length (bytes_from holds place n) ≡ n
+length-bytes holds place zero = refl
+length-bytes holds place (suc n) = omega (arith, length-bytes holds (suc place) n)
+
+-- what is cut, or filled with zeros
+pub length-sized : (n : ℕ) (content : List ℕ) → length (sized n content) ≡ n
+length-sized n content =
+    omega (
+      arith,
+      length-append (take n content) (replicate (n - length content) 0),
+      length-take n content,
+      length-replicate {A = ℕ} (n - length content) 0,
+    )
+
+length-received : (f : Facts) (com_id room : ℕ) → length (receive_data f com_id room) ≡ room
+length-received f com_id room =
+    by_test (Rattle.std.specs.Prelude.nat_eq com_id discovery_com_id)
+  where
+    by_test : (b : Bool)
+        → length (if b then sized room (discovery f.rows)
+        else sized room (received_bytes com_id room (f.waiting com_id)))
+        ≡ room
+    by_test true = length-sized room (discovery f.rows)
+    by_test false = length-sized room (received_bytes com_id room (f.waiting com_id))
+
+length-words : (word : ℕ → ℕ) (xs : List ℕ)
+    → length (flat_map (λ x. low_first (word x)) xs) ≡ 2 * length xs
+length-words word [] = refl
+length-words word (x ∷ xs) = omega (arith, length-words word xs)
+
+length-run : (first n : ℕ) → length (run_from first n) ≡ n
+length-run first zero = refl
+length-run first (suc n) = omega (arith, length-run (suc first) n)
+
+length-identity : (sectors : ℕ) → length (identity sectors) ≡ 512
+length-identity sectors =
+    length-words (identify_word sectors) (run_from 0 256)
+    ∙ ap (λ (n : ℕ). 2 * n) (length-run 0 256)
+
+length-one : (xs : List ℕ) (last : ℕ) → length xs ≡ 511 → length (xs ++ last ∷ []) ≡ 512
+length-one xs last e = omega (arith, length-append xs (last ∷ []), e)
+
+pub length-log : (failure : Option Failure) → length (error_log failure) ≡ 512
+length-log failure =
+    length-one (sized 511 (page_head failure)) _ (length-sized 511 (page_head failure))
+
+-- What a read gives is no more than it asks for.
+pub read-fits : (f : Facts) (lba count : ℕ) (v : Verdict)
+    → ((s : ℕ) → length (f.sector s) ≡ 512)
+    → length (read_by f lba count v) ≤ 512 * count
+read-fits f lba count Serve whole = omega (arith, length-sectors f.sector lba count whole)
+read-fits f lba count Shadow whole = omega (arith, length-bytes f.byte (512 * lba) (512 * count))
+read-fits f lba count (Denied why) whole = omega arith
+
+pub data-fits : (f : Facts) (command : Command) → ((s : ℕ) → length (f.sector s) ≡ 512)
+    → length (data_of f command) ≤ bytes_moved command
+data-fits f (ReadQueued lba count) whole = omega arith
+data-fits f (WriteQueued lba count) whole = omega arith
+data-fits f (ReadDma lba count) whole = read-fits f lba count (verdict_on f Read lba count) whole
+data-fits f (WriteDma lba count) whole = omega arith
+data-fits f (Send protocol com_id blocks dma) whole = omega arith
+data-fits f (Receive protocol com_id blocks dma) whole =
+    omega (arith, length-received f com_id (512 * blocks))
+data-fits f Identify whole = omega (arith, length-identity f.sectors)
+data-fits f (ReadLog10 dma) whole = omega (arith, length-log f.failure)
+data-fits f Flush whole = omega arith
+
+pub held-fits : (f : Facts) (command : Command) (v : Verdict)
+    → ((s : ℕ) → length (f.sector s) ≡ 512)
+    → length (held_data f (record { command = command; verdict = v })) ≤ bytes_moved command
+held-fits f (ReadQueued lba count) v whole = read-fits f lba count v whole
+held-fits f (WriteQueued lba count) v whole = omega arith
+held-fits f (ReadDma lba count) v whole = omega arith
+held-fits f (WriteDma lba count) v whole = omega arith
+held-fits f (Send protocol com_id blocks dma) v whole = omega arith
+held-fits f (Receive protocol com_id blocks dma) v whole = omega arith
+held-fits f Identify v whole = omega arith
+held-fits f (ReadLog10 dma) v whole = omega arith
+held-fits f Flush v whole = omega arith

@@ -1,0 +1,84 @@
+-- Laws over every lawful list of steps.
+use Rattle.std.specs.Prelude.{◌≡◌, ◌⊎◌, ℕ, ◌<◌, ◌≤◌, ◌||◌, Bool, true, false, List, [], ◌∷◌, length, slice_index, is_some, option_map, Option, Some, None}
+use Rattle.std.specs.Int.{bit_at}
+use Rattle.fis.specs.Bytes.{bit}
+use Rattle.fis.specs.H2d.{h2d_at}
+use Rattle.fis.specs.Tags.{slot_count}
+use Rattle.fis.specs.Types.{h2d_type}
+use Rattle.trusted_cmds.specs.declared.command.Command.{Command}
+use Rattle.trusted_cmds.specs.Commands.{reading, tag_with}
+use Rattle.device_data.specs.declared.log_page.Failure.{Failure}
+use Rattle.history.specs.Bounds.{AreFed}
+use Rattle.history.specs.Decisions.{is_busy}
+use Rattle.history.specs.Events.{Event}
+use Rattle.history.specs.Facts.{facts}
+use Rattle.history.specs.History.{Accept as AcceptFis}
+use Rattle.history.specs.Opening.{Origin}
+use Rattle.history.specs.Readers.{held, failure}
+use Rattle.port_history.specs.declared.step.Step.{Step}
+use Rattle.port_history.specs.Refusals.{IsLawful, most_steps}
+use Rattle.port_history.specs.Ready.{ready}
+use Rattle.port_history.specs.Registers.{registers}
+use Rattle.port_history.specs.Requests.{log_fis}
+use Rattle.port_history.specs.Stages.{is_active, is_answered, is_issued, is_queued}
+use Rattle.port_history.specs.Steps.{Moment, trace, events, acts, stage, failed, is_tag, answer, act_of}
+
+-- A FIS comes past the rules that stand before addresses, policy and security protocols: the queue
+-- has not failed, the FIS carries a command; a queued one has a free tag, and any other finds
+-- nothing held.
+pub record IsUnmixed (o : Origin) (past : List Event) (fis : List ℕ) : Type 0 where
+  pub tag : ℕ
+  pub command : Command
+  pub mended : failure past ≡ None
+  pub kind : slice_index fis 0 ≡ h2d_type
+  pub carries : reading (h2d_at fis) ≡ Rattle.std.specs.Prelude.Ok (command, tag_with command tag)
+  pub is_command : (h2d_at fis).is_command ≡ true
+  pub free : is_queued command ≡ true → held past tag ≡ None
+  pub alone : is_queued command ≡ false → is_busy (facts o past) ≡ false
+
+-- Or it reads the log page of a queue that has failed.
+pub record IsRecovery (past : List Event) (fis : List ℕ) : Type 0 where
+  pub failed : is_some (failure past) ≡ true
+  pub reads : fis ≡ log_fis
+
+-- The drive refuses no act of a lawful list for mixing queues, nor for a fault of its FIS: the port
+-- never mixes queues.
+abbrev pub NeverMixes : Type 0
+NeverMixes =
+    (o : Origin) (step : Step) (before : List Step) → IsLawful o (step ∷ before)
+    → (fis payload : List ℕ) → act_of (trace o before) step ≡ Some (AcceptFis fis payload)
+    → IsUnmixed o (events (trace o before)) fis ⊎ IsRecovery (events (trace o before)) fis
+
+-- The drive's failure is the port's: it names the tag.
+abbrev pub FailureLaw : Type 0
+FailureLaw =
+    (o : Origin) (list : List Step) → IsLawful o list
+    → option_map (λ (f : Failure). f.tag) (failure (events (trace o list)))
+    ≡ option_map (λ (tag : ℕ). Some tag) (failed (trace o list))
+
+-- PxSACT has exactly the queued tags that are Issued or Accepted; PxCI exactly those that are
+-- Issued, and the failed one while the port is failed.
+pub record HasBits (ms : List Moment) (tag : ℕ) : Type 0 where
+  pub active : bit_at (registers ms).active tag ≡ bit (is_active (stage ms tag))
+  pub issued : bit_at (registers ms).issued tag
+      ≡ bit (is_issued (stage ms tag) || is_tag tag (failed ms))
+
+abbrev pub RegisterLaw : Type 0
+RegisterLaw =
+    (o : Origin) (list : List Step) → IsLawful o list → (tag : ℕ) → tag < slot_count
+    → HasBits (trace o list) tag
+
+-- Every tag that is Answered has an answer.
+abbrev pub AnswerLaw : Type 0
+AnswerLaw =
+    (o : Origin) (list : List Step) → IsLawful o list → (tag : ℕ)
+    → is_answered (stage (trace o list) tag) ≡ true → is_some (answer (trace o list) tag) ≡ true
+
+-- The acts bring as many bytes as their commands want.
+abbrev pub FedLaw : Type 0
+FedLaw = (o : Origin) (list : List Step) → IsLawful o list → AreFed o (acts o list)
+
+-- Where the history is full the engine may do nothing.
+abbrev pub FullLaw : Type 0
+FullLaw =
+    (o : Origin) (list : List Step) → most_steps ≤ length (trace o list) → ready o list ≡ []

@@ -1,0 +1,131 @@
+-- How far the command of a slot has come, and what each kind of step makes of it.
+use Rattle.std.specs.Prelude.{ℕ, Bool, true, false, not, ◌==◌, ◌&&◌, ◌||◌, nat_lt, Option, Some, None, if◌then◌else◌}
+use Rattle.fis.specs.Tags.{slot_count}
+use Rattle.trusted_cmds.specs.declared.command.Command.{Command}
+use Rattle.trusted_cmds.specs.declared.command.Command.TheVariants.{ReadQueued, WriteQueued, ReadDma, WriteDma, Send, Receive, Identify, ReadLog10, Flush}
+use Rattle.history.specs.Decisions.{any_below}
+use Rattle.port_history.specs.declared.stages.Put.{Put}
+use Rattle.port_history.specs.declared.stages.Stage.{Stage}
+use Rattle.port_history.specs.declared.stages.Stage.TheVariants.{Free, Prepared, Issued, Accepted, Answered}
+
+-- The commands of the queue.
+abbrev pub is_queued : Command → Bool
+is_queued (ReadQueued lba count) = true
+is_queued (WriteQueued lba count) = true
+is_queued (ReadDma lba count) = false
+is_queued (WriteDma lba count) = false
+is_queued (Send protocol com_id blocks dma) = false
+is_queued (Receive protocol com_id blocks dma) = false
+is_queued Identify = false
+is_queued (ReadLog10 dma) = false
+is_queued Flush = false
+
+abbrev pub is_queued_put : Option Put → Bool
+is_queued_put None = false
+is_queued_put (Some put) = is_queued put.command
+
+-- The same Put at another stage.
+abbrev pub to : (Put → Stage) → Stage → Stage
+to stage Free = Free
+to stage (Prepared put) = stage put
+to stage (Issued put) = stage put
+to stage (Accepted put) = stage put
+to stage (Answered put) = stage put
+
+abbrev pub put_in : Stage → Option Put
+put_in Free = None
+put_in (Prepared put) = Some put
+put_in (Issued put) = Some put
+put_in (Accepted put) = Some put
+put_in (Answered put) = Some put
+
+abbrev pub is_free : Stage → Bool
+is_free Free = true
+is_free (Prepared put) = false
+is_free (Issued put) = false
+is_free (Accepted put) = false
+is_free (Answered put) = false
+
+abbrev pub is_prepared : Stage → Bool
+is_prepared Free = false
+is_prepared (Prepared put) = true
+is_prepared (Issued put) = false
+is_prepared (Accepted put) = false
+is_prepared (Answered put) = false
+
+abbrev pub is_issued : Stage → Bool
+is_issued Free = false
+is_issued (Prepared put) = false
+is_issued (Issued put) = true
+is_issued (Accepted put) = false
+is_issued (Answered put) = false
+
+abbrev pub is_accepted : Stage → Bool
+is_accepted Free = false
+is_accepted (Prepared put) = false
+is_accepted (Issued put) = false
+is_accepted (Accepted put) = true
+is_accepted (Answered put) = false
+
+abbrev pub is_answered : Stage → Bool
+is_answered Free = false
+is_answered (Prepared put) = false
+is_answered (Issued put) = false
+is_answered (Accepted put) = false
+is_answered (Answered put) = true
+
+-- It is with the device; and it is a command of the queue.
+abbrev pub is_out : Stage → Bool
+is_out stage = is_issued stage || is_accepted stage
+
+abbrev pub is_active : Stage → Bool
+is_active stage = is_out stage && is_queued_put (put_in stage)
+
+-- A reset stops it.
+abbrev pub is_pending : Stage → Bool
+is_pending stage = is_prepared stage || is_out stage
+
+-- The device has accepted a command: a queued one is held until its completion, any other is done.
+abbrev pub accepted_stage : Put → Stage
+accepted_stage put = if is_queued put.command then Accepted put else Answered put
+
+-- A recovery answers the command that failed, and gives the others that are out back to the port,
+-- with their numbers.
+abbrev pub recovered : Bool → Stage → Stage
+recovered has_failed Free = Free
+recovered has_failed (Prepared put) = Prepared put
+recovered has_failed (Issued put) = if has_failed then Answered put else Prepared put
+recovered has_failed (Accepted put) = if has_failed then Answered put else Prepared put
+recovered has_failed (Answered put) = Answered put
+
+-- A reset answers all that wait.
+abbrev pub after_reset : Stage → Stage
+after_reset Free = Free
+after_reset (Prepared put) = Answered put
+after_reset (Issued put) = Answered put
+after_reset (Accepted put) = Answered put
+after_reset (Answered put) = Answered put
+
+-- A command that is not queued keeps a queued one back while it is issued, and while it is prepared
+-- and was put before.
+abbrev pub keeps_back : ℕ → Stage → Bool
+keeps_back number Free = false
+keeps_back number (Prepared put) = not (is_queued put.command) && nat_lt put.number number
+keeps_back number (Issued put) = not (is_queued put.command)
+keeps_back number (Accepted put) = false
+keeps_back number (Answered put) = false
+
+-- The command of a slot must not be issued beside those of the others: one that is not queued goes
+-- alone.
+abbrev pub mixes_put : (ℕ → Stage) → Option Put → Bool
+mixes_put stages None = false
+mixes_put stages (Some put) =
+    if is_queued put.command then any_below (λ tag. keeps_back put.number (stages tag)) slot_count
+    else any_below (λ tag. is_out (stages tag)) slot_count
+
+abbrev pub mixes : (ℕ → Stage) → Stage → Bool
+mixes stages stage = mixes_put stages (put_in stage)
+
+abbrev pub is_put_by : ℕ → Option Put → Bool
+is_put_by client None = false
+is_put_by client (Some put) = put.client == client

@@ -1,0 +1,21 @@
+//! What follows from the definitions alone.
+
+ghost use Rattle.port_history.specs.Laws.{NeverMixes, FailureLaw, RegisterLaw, AnswerLaw, FedLaw, FullLaw};
+
+/// Laws of the definitions, over every origin and every lawful list of steps.
+///
+/// `unmixed`: the port never mixes queues. The drive refuses no act of the list for mixing queued
+/// commands with others, nor for a fault of its FIS: each comes to its addresses and the policy, or
+/// reads the log page of a failed queue. `failure`: the drive's queue has failed exactly while the
+/// port has, and its log page names the tag. `registers`: PxSACT has exactly the queued tags that
+/// are Issued or Accepted, PxCI those that are Issued, and the failed tag. `answered`: each tag
+/// that is Answered has an answer. `fed`: each act brings as many bytes as its command wants.
+/// `full`: where the history is full, the engine may do nothing.
+pub fn laws_of_steps()
+    ensures unmixed { NeverMixes }
+    ensures failure { FailureLaw }
+    ensures registers { RegisterLaw }
+    ensures answered { AnswerLaw }
+    ensures fed { FedLaw }
+    ensures full { FullLaw }
+{}

@@ -1,0 +1,15 @@
+//! What a list of steps of an AHCI port means, and laws of it (AHCI 1.3.1, 5.5 and 6.2; ACS-3, NCQ
+//! feature set).
+#![tactic(auto)]
+
+mod error;
+mod laws;
+mod request;
+mod stages;
+mod step;
+
+pub use error::{PlayError, PortError};
+pub use laws::laws_of_steps;
+pub use request::{Answer, MOST_BLOCKS, Request};
+pub use stages::{Put, Stage, is_queued};
+pub use step::{EngineStep, Entry, Step};

@@ -1,0 +1,45 @@
+//! The stages of a slot.
+
+ghost use Rattle.std.specs.Prelude.{◌≡◌};
+ghost use Rattle.port_history.specs.Stages.{is_queued};
+
+use trusted_cmds::Command;
+
+/// A command that a client put: the client, the number of the step, and the command.
+#[derive(Clone, Copy, Debug, PartialEq, Eq)]
+pub struct Put {
+    pub client: u32,
+    pub number: u64,
+    pub command: Command,
+}
+
+/// How far the command of a slot has come.
+#[derive(Clone, Copy, Debug, PartialEq, Eq)]
+pub enum Stage {
+    /// There is no command.
+    Free,
+    /// A client put it.
+    Prepared(Put),
+    /// It waits for the device.
+    Issued(Put),
+    /// The device holds it, or failed it and waits for the port to recover.
+    Accepted(Put),
+    /// Its answer waits for the client.
+    Answered(Put),
+}
+
+/// Whether a command goes through the queue.
+pub fn is_queued(command: Command) -> bool
+    ensures { result ≡ is_queued command }
+{
+    match command {
+        Command::ReadQueued { .. } | Command::WriteQueued { .. } => true,
+        Command::ReadDma { .. }
+        | Command::WriteDma { .. }
+        | Command::Send { .. }
+        | Command::Receive { .. }
+        | Command::Identify
+        | Command::ReadLog10 { .. }
+        | Command::Flush => false,
+    }
+}

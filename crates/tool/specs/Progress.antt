@@ -1,0 +1,82 @@
+-- How far a run of a script has come, within the program.
+use Rattle.std.specs.Prelude.{◌≡◌, ℕ, Bool, List, [], ◌∷◌, ◌++◌, Option, None, Some, IfSome, Result, Ok, Err}
+use Rattle.std.specs.Io.KnownBytes.{Appends}
+use Rattle.sp_cells.specs.Config.{Config}
+use Rattle.history.specs.Opening.{Origin}
+use Rattle.script_lines.specs.Texts.{printed}
+use Rattle.script_lines.specs.declared.report.Report.{Report}
+use Rattle.tool.specs.Scripts.{bare, script_lines}
+use Rattle.tool.specs.Ends.{status_of}
+use Rattle.tool.specs.Courses.{Course, Advance, Advances, PhaseRunsOn, start}
+use Rattle.tool.specs.Outcomes.{Outcome, ends, behind, outcome_on, outcome_from, outcome_of}
+use Rattle.tool.specs.declared.ending.End.{End}
+use Rattle.tool.specs.declared.opening.OpeningPhase.{OpeningPhase}
+use Rattle.tool.specs.declared.opening.OpeningPhase.TheVariants.{Factory}
+use Rattle.tool.specs.declared.phase.Phase.{Phase}
+use Rattle.tool.specs.declared.running.Turn.{Turn}
+use Rattle.tool.specs.declared.running.Turn.TheVariants as turns
+use Rattle.tool.specs.declared.script.Opened.{Opened}
+use Rattle.tool.specs.declared.script.Opened.TheVariants.{Ended, Runs}
+
+-- what was pending is written as far as it is not pending still
+abbrev pub HandsOn : Option (List ℕ) → Option (List ℕ) → List ℕ → List ℕ → Type 0
+HandsOn before after pending left =
+    (bytes : List ℕ) × Appends before after bytes × (pending ≡ bytes ++ left)
+
+-- of all that is to come a rest is still to come; what comes before it is written or pending,
+-- behind what was pending before
+pub record LeadsTo (whole rest : Outcome) (before after : Option (List ℕ))
+    (pending left : List ℕ) : Type 0 where
+  pub earlier : List (List ℕ)
+  pub comes : whole ≡ behind earlier rest
+  pub written : HandsOn before after (pending ++ printed earlier) left
+
+-- the same, by what two reports have pending
+abbrev pub Leads : Outcome → Outcome → Option (List ℕ) → Option (List ℕ) → Report → Report → Type 0
+Leads whole rest before after old new =
+    LeadsTo whole rest before after old.pending.items new.pending.items
+
+-- the line at hand and those that are left come to this end, whatever origin and course left the
+-- drive or the port so
+abbrev pub RunLeads : Phase → List ℕ → Option (List ℕ) → End → Report → Report
+    → Option (List ℕ) → Option (List ℕ) → Type 0
+RunLeads run line left end old new before after =
+    (o : Origin) (course : Course) → PhaseRunsOn run o course
+    → IfSome left
+    (λ text. Leads (outcome_on o course old.last.items (bare line ∷ script_lines text))
+    (ends (status_of end)) before after old new)
+
+-- a whole script comes to this end
+abbrev pub ScriptLeads : Config → Option (List ℕ) → End → Report → Report → Option (List ℕ)
+    → Option (List ℕ) → Type 0
+ScriptLeads config left end old new before after =
+    IfSome left
+    (λ text. Leads (outcome_of config text) (ends (status_of end)) before after old new)
+
+-- a turn is what the line does, or the status that it ends the run with
+abbrev pub Steps : Turn → Result Advance ℕ → Phase → Origin → Report → Report → Type 0
+Steps (turns.Goes aborted) (Ok made) new o before after = Advances new o before after made
+Steps turns.ExpectationFailed (Err status) new o before after = (status ≡ 1) × (after ≡ before)
+Steps (turns.Bad fault) (Err status) new o before after = (status ≡ 2) × (after ≡ before)
+Steps turn result new o before after = ⊥
+
+-- what the range lines in front leave to come
+abbrev pub OpensTo : Bool → Opened → Outcome → List ℕ → Option (List ℕ) → Type 0
+OpensTo on_port (Ended end) whole line left = whole ≡ ends (status_of end)
+OpensTo on_port (Runs run count) whole line left =
+    (o : Origin) × (text : List ℕ) × PhaseRunsOn run o (start on_port) × (left ≡ Some text)
+    × (whole ≡ outcome_on o (start on_port) [] (bare line ∷ script_lines text))
+
+-- where the line at hand is in front of this text
+abbrev pub LinesOpenTo : Bool → Opened → OpeningPhase → List ℕ → Option (List ℕ) → List ℕ
+    → Option (List ℕ) → Type 0
+LinesOpenTo on_port opened phase first before line left =
+    IfSome before
+    (λ text. OpensTo on_port opened (outcome_from on_port phase (bare first ∷ script_lines text)) line left)
+
+-- the first line is none, or the line at hand is the first of a script on a drive or of a port script
+abbrev pub FirstLine : Option Bool → List ℕ → List ℕ → Option (List ℕ) → Type 0
+FirstLine None text line left = (config : Config) → outcome_of config text ≡ ends 0
+FirstLine (Some on_port) text line left =
+    (rest : List ℕ) × (left ≡ Some rest)
+    × ((config : Config) → outcome_of config text ≡ outcome_from on_port (Factory config) (bare line ∷ script_lines rest))
