@@ -13,7 +13,10 @@ const RECOVERY: [Row; 28] = [
     ("issue 5", "ok"),
     ("issue 3", "ok"),
     ("accept 5", "ok"),
-    ("accept 3", "ok\naudit 6 1 deny read 100+1 range 1 ReadLocked"),
+    (
+        "accept 3",
+        "ok\naudit 6 1 deny read 100+1 range 1 ReadLocked",
+    ),
     ("issue 5", "refused 7"),
     ("recover", "ok"),
     (
@@ -32,7 +35,10 @@ const RECOVERY: [Row; 28] = [
     ("issue 2", "ok"),
     ("accept 2", "ok"),
     ("issue 5", "ok"),
-    ("accept 5", "ok\naudit 18 1 deny read 200+1 range 2 ReadLocked"),
+    (
+        "accept 5",
+        "ok\naudit 18 1 deny read 200+1 range 2 ReadLocked",
+    ),
     ("recover", "ok"),
     ("take 1 3", "fail 51 04"),
     ("take 1 5", "fail 51 04"),
@@ -138,7 +144,10 @@ const REFUSALS: [Row; 34] = [
     ("issue 2", "refused 3"),
     ("accept 1", "ok"),
     ("issue 2", "ok"),
-    ("accept 2", "ok\naudit 10 1 deny read 100+1 range 1 ReadLocked"),
+    (
+        "accept 2",
+        "ok\naudit 10 1 deny read 100+1 range 1 ReadLocked",
+    ),
     ("issue 0", "refused 7"),
     ("accept 2", "refused 7"),
     ("complete 2", "refused 7"),

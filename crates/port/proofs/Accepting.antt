@@ -232,7 +232,7 @@ pub fetched_is : (port : State) (o : Origin) (list : List Step) (tag : ℕ) (put
 fetched_is port o list tag put lt h was =
     let ms = trace o list in
     let l : IsLaid port.memory tag put.command (payload ms tag) =
-        subst (λ (s : Stage). IsLaidAt port.memory tag s (payload ms tag)) was (h.tags tag lt).laid in
+    subst (λ (s : Stage). IsLaidAt port.memory tag s (payload ms tag)) was (h.tags tag lt).laid in
     held_slot port.memory tag (command_fis put.command tag) (to_device put.command)
     (bytes_moved put.command) lt refl (is_command_fis put.command tag) (omega arith)
     (issued_moves o list tag put h.lawful was) l.slot
@@ -259,16 +259,16 @@ accept_agrees old new o list tag lt h lawful made =
     let s : IsAccepted old new tag fis = made (fetched_of put tag) (fetched_is old o list tag put lt h was) in
     let same : s.put ≡ put = issued_same s.put put (sym s.was ∙ (h.tags tag lt).stands ∙ was) in
     let l : IsLaid old.memory tag put.command (payload ms tag) =
-        subst (λ (x : Stage). IsLaidAt old.memory tag x (payload ms tag)) was (h.tags tag lt).laid in
+    subst (λ (x : Stage). IsLaidAt old.memory tag x (payload ms tag)) was (h.tags tag lt).laid in
     let payload_is : front old.memory tag (payload_length (h2d_at fis)) ≡ accept_payload put (payload ms tag) =
-        brought old.memory (payload ms tag) tag put (is_queued put.command) (payload_length (h2d_at fis))
-        (issued_length o list tag put lt h.lawful was) l.buffer in
+    brought old.memory (payload ms tag) tag put (is_queued put.command) (payload_length (h2d_at fis))
+    (issued_length o list tag put lt h.lawful was) l.buffer in
     let act : Act = AcceptFis fis (accept_payload put (payload ms tag)) in
     let e : Effect = effect_by (facts o (events ms)) act in
     let answered : IsAnswer (facts o (events ms)) (h2d_at fis) e.event s.answer =
-        subst (λ (past : List Event). IsAnswer (facts o past) (h2d_at fis) (event o past act) s.answer) (sym (events_are o list))
-        (subst (λ (xs : List ℕ). IsAnswer (facts o (log o (acts o list))) (h2d_at fis) (event o (log o (acts o list)) (AcceptFis fis xs)) s.answer) payload_is
-        (s.took.answers o (acts o list) h.drive)) in
+    subst (λ (past : List Event). IsAnswer (facts o past) (h2d_at fis) (event o past act) s.answer) (sym (events_are o list))
+    (subst (λ (xs : List ℕ). IsAnswer (facts o (log o (acts o list))) (h2d_at fis) (event o (log o (acts o list)) (AcceptFis fis xs)) s.answer) payload_is
+    (s.took.answers o (acts o list) h.drive)) in
     let moment_is : moment o ms step ≡ accept_moment tag put e = accept_is o ms tag put was in
     let act_is : act_of ms step ≡ Some act = ap (λ (x : Option Put). acceptance tag x (payload ms tag)) (ap put_in was) in
     let w : Accepting old new o list tag put e = record {

@@ -114,19 +114,19 @@ complete_agrees old new o list tag lt h lawful s =
     let mended : failed ms ≡ None = none_is (failed ms) t0.1.0 in
     let same : s.put ≡ put = accepted_same s.put put (sym s.was ∙ (h.tags tag lt).stands ∙ was) in
     let l : IsLaid old.memory tag put.command (payload ms tag) =
-        subst (λ (x : Stage). IsLaidAt old.memory tag x (payload ms tag)) was (h.tags tag lt).laid in
+    subst (λ (x : Stage). IsLaidAt old.memory tag x (payload ms tag)) was (h.tags tag lt).laid in
     let payload_is : front old.memory tag (expected (held_at old.drive.queue tag)) ≡ payload ms tag =
-        ap (front old.memory tag) (ap expected (held_now old o list tag h) ∙ completed_length o list tag put h.lawful mended was)
-        ∙ l.buffer in
+    ap (front old.memory tag) (ap expected (held_now old o list tag h) ∙ completed_length o list tag put h.lawful mended was)
+    ∙ l.buffer in
     let act : Act = CompleteTag tag (payload ms tag) in
     let e : Effect = effect_by (facts o (events ms)) act in
     let answered : IsCompletion (facts o (events ms)) tag (held (events ms) tag) s.done =
-        subst (λ (past : List Event). IsCompletion (facts o past) tag (held past tag) s.done) (sym (events_are o list))
-        (s.answers o (acts o list) h.drive) in
+    subst (λ (past : List Event). IsCompletion (facts o past) tag (held past tag) s.done) (sym (events_are o list))
+    (s.answers o (acts o list) h.drive) in
     let moment_is : moment o ms step ≡ complete_moment tag put e = complete_is o ms tag put was in
     let bytes : s.bytes ≡ e.bytes =
-        s.memory.whole (omega (arith, ap length answered.bytes, completed_fits o list tag put h.lawful mended was))
-        ∙ answered.bytes in
+    s.memory.whole (omega (arith, ap length answered.bytes, completed_fits o list tag put h.lawful mended was))
+    ∙ answered.bytes in
     record {
       lawful = (lt-ltb tag 32 lt, lawful, h.lawful);
       drive = subst (λ (xs : List ℕ). DriveAgrees new.drive o (CompleteTag tag xs ∷ acts o list)) payload_is (s.drive o (acts o list) h.drive);

@@ -77,9 +77,12 @@ pub issued_small : (o : Origin) (list : List Step) (tag : ℕ) (put : Put) → t
     → payload_length (h2d_at (command_fis put.command tag)) ≤ buffer_size
 issued_small o list tag put lt lawful was =
     let fit = fit_issued (trace o list) tag put (kept o list lawful) was in
-    omega (arith, ap payload_length (fis_back put.command tag),
-    payload_is put.command tag fit.sized.counted fit.sized.most,
-    unqueued_small (is_queued put.command) (brought put.command) (brought_small put.command fit.sized.most))
+    omega (
+      arith,
+      ap payload_length (fis_back put.command tag),
+      payload_is put.command tag fit.sized.counted fit.sized.most,
+      unqueued_small (is_queued put.command) (brought put.command) (brought_small put.command fit.sized.most),
+    )
 
 no_bytes_fit : (e : Effect) (bytes : List ℕ) → bytes ≡ [] → e.bytes ≡ bytes → length e.bytes ≤ buffer_size
 no_bytes_fit e bytes none is = omega (arith, ap length (is ∙ none))
@@ -99,8 +102,11 @@ accepted_fits_by o list tag put lt lawful mended was true queued =
     held_or_failed_fits tag put.command (accepted_effect o (trace o list) tag put)
     (queued_comes o (trace o list) tag put lt (kept o list lawful) mended was queued)
 accepted_fits_by o list tag put lt lawful mended was false queued =
-    omega (arith, issued_moves o list tag put lawful was,
-    (unqueued_comes o (trace o list) tag put lt (kept o list lawful) mended was queued).bytes)
+    omega (
+      arith,
+      issued_moves o list tag put lawful was,
+      (unqueued_comes o (trace o list) tag put lt (kept o list lawful) mended was queued).bytes,
+    )
 
 pub accepted_fits : (o : Origin) (list : List Step) (tag : ℕ) (put : Put) → tag < 32
     → IsLawful o list → failed (trace o list) ≡ None → stage (trace o list) tag ≡ Issued put
@@ -139,16 +145,22 @@ pub completed_small : (o : Origin) (list : List Step) (tag : ℕ) (put : Put) �
     → failed (trace o list) ≡ None → stage (trace o list) tag ≡ Accepted put
     → expected (held (events (trace o list)) tag) ≤ buffer_size
 completed_small o list tag put lawful mended was =
-    omega (arith, completed_brings o list tag put lawful mended was,
-    brought_small put.command (fit_accepted (trace o list) tag put (kept o list lawful) was).fit.sized.most)
+    omega (
+      arith,
+      completed_brings o list tag put lawful mended was,
+      brought_small put.command (fit_accepted (trace o list) tag put (kept o list lawful) was).fit.sized.most,
+    )
 
 pub completed_fits : (o : Origin) (list : List Step) (tag : ℕ) (put : Put) → IsLawful o list
     → failed (trace o list) ≡ None → stage (trace o list) tag ≡ Accepted put
     → length (effect_by (facts o (events (trace o list))) (CompleteTag tag (payload (trace o list) tag))).bytes
     ≤ buffer_size
 completed_fits o list tag put lawful mended was =
-    omega (arith, (accepted_moves o (trace o list) tag put (kept o list lawful) mended was).bytes,
-    (fit_accepted (trace o list) tag put (kept o list lawful) was).fit.sized.most)
+    omega (
+      arith,
+      (accepted_moves o (trace o list) tag put (kept o list lawful) mended was).bytes,
+      (fit_accepted (trace o list) tag put (kept o list lawful) was).fit.sized.most,
+    )
 
 -- what the log page says of a failed port
 pub record Recovery (o : Origin) (list : List Step) (e : Effect) : Type 0 where

@@ -67,8 +67,8 @@ recover_agrees old new o list h lawful s =
     let act : Act = AcceptFis log_fis [] in
     let e : Effect = effect_by (facts o (events ms)) act in
     let answered : IsAnswer (facts o (events ms)) (h2d_at log_fis) e.event s.answer =
-        subst (λ (past : List Event). IsAnswer (facts o past) (h2d_at log_fis) (event o past act) s.answer) (sym (events_are o list))
-        (s.took.answers o (acts o list) h.drive) in
+    subst (λ (past : List Event). IsAnswer (facts o past) (h2d_at log_fis) (event o past act) s.answer) (sym (events_are o list))
+    (s.took.answers o (acts o list) h.drive) in
     let r : Recovery o list e = recovery o list h.lawful (none_holds (tests_of ms step) lawful).1.0 in
     let named : named_in s.answer.bytes.items ≡ failed ms = ap named_in answered.bytes ∙ r.named in
     record {

@@ -52,7 +52,9 @@ impl Port {
     {
         match *step {
             Step::Put {
-                tag, ref request, ..
+                tag,
+                ref request,
+                ..
             } => self.may_put(tag, request).is_ok(),
             Step::Issue { tag } => self.prepared(tag).is_ok(),
             Step::Accept { tag } => self.issued(tag).is_ok(),

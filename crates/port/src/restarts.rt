@@ -1,10 +1,9 @@
 //! Recovery from a failed command, and resets.
 
-use crate::host;
 use crate::port::Port;
-use crate::registers;
 use crate::registers::{restart, show_all};
 use crate::stages::{LogEntry, recover_slots, reset_slots};
+use crate::{host, registers};
 use drive::ResetKind;
 use fis::Tag;
 use port_history::{Answer, Entry, PortError, Step};

@@ -434,7 +434,7 @@ port-alone line next shown (Some text) now new takes is port more =
     let left : now ≡ Some (drop_through 10 text) = (taken (Some text) now line text refl takes).0 in
     let none : drop_through 10 text ≡ [] = subst (λ o. IfSome o (λ text. TakesLine false next text new)) left more in
     λ config. port-comes line text now shown takes is port config
-        ∙ ap (λ rest. outcome_from true (Factory config) (script_lines rest)) none
+    ∙ ap (λ rest. outcome_from true (Factory config) (script_lines rest)) none
 
 -- what the lines behind the first come to, the script does
 pub first-opens : (on_port : Bool) (config : Config) (opened : Opened) (text first line : List ℕ)

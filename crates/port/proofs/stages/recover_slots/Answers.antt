@@ -11,8 +11,7 @@ loop-slot-preserved c =
     let log = c.args.log.now in
     let slot = c.loop-slot.slot in
     let fails : c.names-fails.result ≡ is_tag slot log.tag =
-        c.names-fails.ensures ∙ ap (λ (t : ℕ). is_tag t log.tag) (omega (arith, c.low_bits.ensures, c.loop-slot-test.true)) in
-    (
+    c.names-fails.ensures ∙ ap (λ (t : ℕ). is_tag t log.tag) (omega (arith, c.low_bits.ensures, c.loop-slot-test.true)) in (
       search rules,
       search rules,
       one_more (λ (k : ℕ). recovered (is_tag k log.tag)) Free c.args.slots.now c.loop-slot.slots slot c.recovered.result (omega (arith, c.loop-slot.invariant.0, c.loop-slot-test.true)) (search rules) c.loop-slot.invariant.2,

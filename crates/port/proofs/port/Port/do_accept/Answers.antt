@@ -23,8 +23,8 @@ returns-clause-state c = rw (← c.self.view_is) (λ f e.
     let filled = c.take_in-len.ensures.filled in
     let same : c.in-Ok.command ≡ f = ok_same c.in-Ok.command f (c.in-Ok.ensures.exact ∙ e) in
     let payload : c.front-payload.result.now ≡ front memory tag (payload_length (h2d_at c.in-Ok.command.fis)) =
-        c.front-payload.ensures.value
-        ∙ ap (front memory tag) (c.payload_len-len.ensures ∙ ap payload_length c.read.ensures.exact) in
+    c.front-payload.ensures.value
+    ∙ ap (front memory tag) (c.payload_len-len.ensures ∙ ap payload_length c.read.ensures.exact) in
     record {
       put = c.in_ok-put.put;
       was = rw (← c.self.view_is) at c.in_ok-put.ensures.put;

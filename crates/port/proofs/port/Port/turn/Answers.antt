@@ -16,7 +16,7 @@ returns-in_default-clause-none c = λ o list h e. some_chosen c.args.choice (rea
 pub returns-in_err-number-clause-memory : goal.returns-in_err-number-clause-memory
 returns-in_err-number-clause-memory c =
     let alone : (o : Origin) (list : List Step) → PortAgrees c.args.self.now o list → c.in_err-number.field-0.0 ≡ OutOfMemory = λ o list h.
-      only_memory (refusal (trace o list) (as_step c.in-Some.step)) c.engine_step.result c.in_err-number.field-0.0 c.in_err-number.was
-      (chosen_may (λ (step : Step). is_none (refusal (trace o list) step)) c.args.choice c.in-Some.step (sym (c.pick.ensures o list h) ∙ c.in-Some.is))
-      (c.engine_step.ensures.refused o list h)
+    only_memory (refusal (trace o list) (as_step c.in-Some.step)) c.engine_step.result c.in_err-number.field-0.0 c.in_err-number.was
+    (chosen_may (λ (step : Step). is_none (refusal (trace o list) step)) c.args.choice c.in-Some.step (sym (c.pick.ensures o list h) ∙ c.in-Some.is))
+    (c.engine_step.ensures.refused o list h)
     in search (rules, alone)
