@@ -9,8 +9,6 @@ mod drives;
 #[cfg(test)]
 mod faults;
 #[cfg(test)]
-mod ports;
-#[cfg(test)]
 mod queue;
 #[cfg(test)]
 mod scripts;

@@ -9,8 +9,6 @@ mod aces;
 #[cfg(test)]
 mod audit_lines;
 #[cfg(test)]
-mod com_ids;
-#[cfg(test)]
 mod commands;
 #[cfg(test)]
 mod fises;
@@ -21,13 +19,9 @@ mod media;
 #[cfg(test)]
 mod memory;
 #[cfg(test)]
-mod method_calls;
-#[cfg(test)]
 mod ranges;
 #[cfg(test)]
 mod registers;
-#[cfg(test)]
-mod session_manager;
 #[cfg(test)]
 mod store;
 #[cfg(test)]
