@@ -5,8 +5,6 @@
 #[cfg(test)]
 mod acceptance;
 #[cfg(test)]
-mod drives;
-#[cfg(test)]
 mod faults;
 #[cfg(test)]
 mod queue;

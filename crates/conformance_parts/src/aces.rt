@@ -1,8 +1,9 @@
 //! Expressions over authorities, and the ACE that allows a method.
 
+use crate::tables::small_drive;
 use ace_eval::{Authorities, MOST_AUTHORITIES, entry, holds};
 use arrayvec::ArrayVec;
-use sp_cells::{Cell, Column, DriveConfig, Element, Expr, Sp, Uid};
+use sp_cells::{Cell, Column, Element, Expr, Sp, Uid};
 use sp_tables::Tables;
 use std::alloc::Global;
 use std::test::Fail;
@@ -78,7 +79,7 @@ fn the_longest_expression(rt: HostRuntime) -> Result<(), Fail> {
 }
 
 fn tables(alloc: Global) -> Result<Tables, Fail> {
-    let config = DriveConfig::new(1000, 8, b"OPALMSID").ok_or("limits")?;
+    let config = small_drive()?;
     Ok(Tables::factory(alloc, &config)?)
 }
 

@@ -2,8 +2,9 @@
 
 ghost use Rattle.std.specs.Prelude.{◌≡◌, IfOk};
 
+use crate::tables::small_drive;
 use shadow_mbr::Mbr;
-use sp_tables::{Cell, Column, DriveConfig, Rows, SetError, Sp, Tables, Uid, number_at};
+use sp_tables::{Cell, Column, Rows, SetError, Sp, Tables, Uid, number_at};
 use std::alloc::Global;
 use std::test::Fail;
 use transactions::{AlreadyOpen, Change, NotOpen, SessionId, Store};
@@ -24,9 +25,7 @@ const ADMIN1: SessionId = SessionId {
 fn new_store(alloc: Global) -> Result<Store, Fail>
     ensures { IfOk result (λ s. s.config.mbr_sectors ≡ 8) }
 {
-    let Some(config) = DriveConfig::new(1000, 8, MSID) else {
-        return Err(Fail::from("limits"));
-    };
+    let config = small_drive()?;
     let tables = Tables::factory(alloc, &config)?;
     Ok(Store::new(alloc, tables, Mbr::new(alloc, 8)))
 }

@@ -1,5 +1,7 @@
 //! The tables of a new drive, and the setting of cells.
 
+ghost use Rattle.std.specs.Prelude.{◌≡◌, IfOk};
+
 use arrayvec::ArrayVec;
 use sp_tables::{
     Bytes, Cell, Column, Columns, DriveConfig, Element, Expr, RANGES, ResetTypes, Rows, SetError,
@@ -10,9 +12,16 @@ use std::test::Fail;
 
 const MSID: &[u8] = b"OPALMSID";
 
-/// The tables of a new drive of 1,000 sectors with a shadow of 8.
+/// A drive of 1,000 sectors with a shadow of 8.
+pub(crate) fn small_drive() -> Result<DriveConfig, Fail>
+    ensures { IfOk result (λ c. c.mbr_sectors ≡ 8) }
+{
+    DriveConfig::new(1000, 8, MSID).ok_or("limits".into())
+}
+
+/// The tables of that drive as it leaves the factory.
 fn new_tables(alloc: Global) -> Result<Tables, Fail> {
-    let config = DriveConfig::new(1000, 8, MSID).ok_or("limits")?;
+    let config = small_drive()?;
     Ok(Tables::factory(alloc, &config)?)
 }
 
@@ -354,7 +363,7 @@ fn a_drive_whose_locking_sp_is_active(rt: HostRuntime) -> Result<(), Fail> {
 #[test]
 fn refused_memory(rt: HostRuntime) -> Result<(), Fail> {
     let alloc = rt.alloc();
-    let config = DriveConfig::new(1000, 8, MSID).ok_or("limits")?;
+    let config = small_drive()?;
     let Ok(mut tables) = Tables::factory(alloc, &config) else {
         return Ok(());
     };
