@@ -241,7 +241,7 @@ known_unqueued f h bytes command tag e = by_command command e
     by_command (commands.ReadLog10 dma) e = refl
     by_command commands.Flush e = refl
 
-unqueued_event : (o : Origin) (ms : List Moment) (u : ℕ) (put : Put) → u < 32 → Kept ms
+pub unqueued_event : (o : Origin) (ms : List Moment) (u : ℕ) (put : Put) → u < 32 → Kept ms
     → failed ms ≡ None → stage ms u ≡ Issued put → is_queued put.command ≡ false
     → (accepted_effect o ms u put).event
     ≡ unqueued (facts o (events ms)) (accept_payload put (payload ms u)) (read_as put.command)
@@ -253,7 +253,7 @@ unqueued_event o ms u put lu k mended was unqueued_is =
     put.command u unqueued_is
 
 -- its answer
-executed_now : (o : Origin) (ms : List Moment) (u : ℕ) (put : Put) → u < 32 → Kept ms
+pub executed_now : (o : Origin) (ms : List Moment) (u : ℕ) (put : Put) → u < 32 → Kept ms
     → failed ms ≡ None → stage ms u ≡ Issued put → is_queued put.command ≡ false
     → executed_answer (Some (accepted_effect o ms u put))
     ≡ Some (Some (executed (unqueued (facts o (events ms)) (accept_payload put (payload ms u)) (read_as put.command))

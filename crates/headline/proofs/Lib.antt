@@ -1,6 +1,7 @@
 pub mod Came
 pub mod Waits
 pub mod KeptTransfers
+pub mod Landed
 pub mod TransferLaws
 pub mod AuditLaws
 pub mod MethodLaws

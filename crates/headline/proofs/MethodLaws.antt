@@ -1,5 +1,5 @@
 -- A call takes effect exactly where it is granted.
-use Rattle.std.proofs.Common.{◌≡◌, ◌∙◌, ℕ, ◌%◌, ◌≤◌, ◌<◌, nat_lt, not, ◌&&◌, Bool, true, false, List, [], ◌∷◌, Option, Some, None, refl, sym, ap, subst, arith, eq-eqb}
+use Rattle.std.proofs.Common.{nat_le, ◌==◌, ◌≡◌, ◌∙◌, ◌||◌, ◌+◌, ◌-◌, ℕ, ◌%◌, ◌≤◌, ◌<◌, nat_lt, not, ◌&&◌, Bool, true, false, List, [], ◌∷◌, Option, Some, None, refl, sym, ap, subst, arith, eq-eqb}
 use Rattle.std.specs.Prelude.{is_some, option_map, Ok, if◌then◌else◌}
 use Rattle.std.proofs.lemmas.Bool.{ltb-true}
 use Rattle.std.proofs.lemmas.Bool.Decides.{nat_tests}
@@ -12,17 +12,29 @@ use Rattle.trusted_cmds.specs.declared.command.Command.{Command}
 use Rattle.trusted_cmds.specs.declared.command.Command.TheVariants.{Send}
 use Rattle.trusted_cmds.specs.Commands.{fis_of, tag_with, is_queued as is_queued_code}
 use Rattle.call_shapes.specs.Asks.{uid_of}
-use Rattle.call_shapes.specs.Statuses.{success, not_authorized}
+use Rattle.call_shapes.specs.Statuses.{invalid_parameter, response_overflow, not_authorized}
 use Rattle.call_shapes.specs.declared.ask.Ask.{Ask}
-use Rattle.call_shapes.specs.declared.ask.Ask.TheVariants.{GetCells}
+use Rattle.call_shapes.specs.declared.ask.Ask.TheVariants.{GetCells, GetBytes, SetCells, SetBytes, Authenticate, Activate, Revert, Other}
+use Rattle.call_shapes.specs.Limits.{most_response}
+use Rattle.sessions.specs.Starts.{is_in_use}
+use Rattle.methods.specs.Effects.{has_ask}
+use Rattle.methods.specs.Kinds.{kind_of}
+use Rattle.methods.specs.Settings.{Setting}
 use Rattle.methods.specs.Listed.{listed}
 use Rattle.methods.proofs.ListLaws.{list_law}
-use Rattle.history.specs.Calls.{Judgement, Refuses, Gives, Standing, asked, does, judged}
+use Rattle.history.specs.Calls.{Judgement, Refuses, Gives, Activates, Reverts, Standing, table_size, bytes_between, rows_given, gives, listing, makes, unless_open, does_ask, does, judged, asked}
+use Rattle.history.specs.Changes.{Sets}
 use Rattle.history.specs.Decisions.{answers, is_session_com_id, is_trusted, outcome_of}
 use Rattle.history.specs.Facts.{Facts, standing}
 use Rattle.history.specs.History.{Act, Accept as AcceptFis, event_by}
 use Rattle.history.specs.MethodLaws.{IsGranted, takes_effect, IsLookedAt, IsSent, IsCall}
 use Rattle.history.proofs.MethodProofs.{grant_law, call_law, effect_law}
+use Rattle.history.specs.Events.{Unchanged, Changed, Activated, Reverted}
+use Rattle.sp_cells.specs.declared.names.Sp.{Sp}
+use Rattle.sp_cells.specs.declared.names.Sp.TheVariants.{Admin, Locking}
+use Rattle.sp_cells.specs.declared.names.Uid.{Uid}
+use Rattle.sp_cells.specs.ColumnNames.{pin_column}
+use Rattle.sp_cells.specs.Names.{c_pin_sid}
 use Rattle.history.specs.Opening.{Origin}
 use Rattle.history.specs.Sessions.{Begun}
 use Rattle.port_history.specs.declared.stages.Put.{Put}
@@ -39,7 +51,8 @@ use Rattle.port_history.proofs.Kept.{Kept}
 use Rattle.port_history.proofs.KeptLaw.{kept, accept_is, mended_queue, idle, fit_issued}
 use Rattle.port_history.proofs.Tests.{none_is, none_holds, tests_of}
 use Rattle.headline.specs.Steps.{facts_after, event_after}
-use Rattle.headline.specs.Methods.{IsCallStep, IsGrantedAt, comes_to, DoesSo, Lists, MethodLaw}
+use Rattle.headline.proofs.AuditLaws.{lawful_before}
+use Rattle.headline.specs.Methods.{IsCallStep, IsGrantedAt, comes_to, EffectIs, refused_with, DoesSo, Lists, IsJudged, MethodLaw}
 
 -- a ComID of sessions has 16 bits
 com_id_fits : (com_id : ℕ) → is_session_com_id com_id ≡ true → com_id % 65536 ≡ com_id
@@ -144,30 +157,102 @@ same_some e = cc
 -- what a Get gives
 gives_cells : (s : Standing) (object : _) (first last : ℕ)
     → takes_effect (does s object (GetCells first last)) ≡ true
-    → does s object (GetCells first last) ≡ Gives (Rattle.history.specs.Calls.listing s object first last)
+    → does s object (GetCells first last) ≡ Gives (listing s object first last)
 gives_cells s object first last valid =
-    by_kind (Rattle.methods.specs.Effects.has_ask (Rattle.methods.specs.Kinds.kind_of s.sp object) (GetCells first last)) valid
+    by_kind (has_ask (kind_of s.sp object) (GetCells first last)) valid
   where
     by_room : (b : Bool) (results : List Tree)
-        → takes_effect (if b then Gives results else Refuses Rattle.call_shapes.specs.Statuses.response_overflow None) ≡ true
-        → (if b then Gives results else Refuses Rattle.call_shapes.specs.Statuses.response_overflow None) ≡ Gives results
+        → takes_effect (if b then Gives results else Refuses response_overflow None) ≡ true
+        → (if b then Gives results else Refuses response_overflow None) ≡ Gives results
     by_room true results v = refl
     by_room false results v = absurd (cc)
 
     by_kind : (b : Bool)
-        → takes_effect (Rattle.history.specs.Calls.does_ask s object (if b then GetCells first last else Rattle.call_shapes.specs.declared.ask.Ask.TheVariants.Other)) ≡ true
-        → Rattle.history.specs.Calls.does_ask s object (if b then GetCells first last else Rattle.call_shapes.specs.declared.ask.Ask.TheVariants.Other)
-        ≡ Gives (Rattle.history.specs.Calls.listing s object first last)
+        → takes_effect (does_ask s object (if b then GetCells first last else Other)) ≡ true
+        → does_ask s object (if b then GetCells first last else Other)
+        ≡ Gives (listing s object first last)
     by_kind true v = by_room _ _ v
     by_kind false v = absurd (cc)
 
-pub method_law : MethodLaw
+-- what takes effect, method by method
+by_room : (f : Facts) (session : Begun) (b : Bool) (results : List Tree)
+    → (outcome_of f session.sp (if b then Gives results else Refuses response_overflow None)).deed ≡ Unchanged
+by_room f session true results = refl
+by_room f session false results = refl
+
+by_setting : (f : Facts) (session : Begun) (found : Option Setting)
+    → takes_effect (makes found) ≡ true
+    → (set : Setting) × (found ≡ Some set)
+    × ((outcome_of f session.sp (makes found)).deed ≡ Changed session.sp (Sets set))
+by_setting f session None valid = absurd (cc)
+by_setting f session (Some set) valid = (set, refl, refl)
+
+rows_deed : (f : Facts) (session : Begun) (first last : ℕ)
+    → (outcome_of f session.sp (rows_given (standing f session) first last)).deed ≡ Unchanged
+rows_deed f session first last =
+    by_tests
+    ((table_size (standing f session) == 0) || (nat_le (table_size (standing f session)) last || nat_lt last first))
+    (nat_lt most_response (last + 1 - first))
+  where
+    by_tests : (a b : Bool)
+        → (outcome_of f session.sp (if a then Refuses invalid_parameter None
+        else (if b then Refuses response_overflow None
+        else gives (bytes_between (standing f session) first last)))).deed ≡ Unchanged
+    by_tests true b = refl
+    by_tests false true = refl
+    by_tests false false = by_room f session _ _
+
+activates_deed : (f : Facts) (session : Begun) (in_use is_open : Bool)
+    → takes_effect (unless_open is_open Activates) ≡ true → is_in_use f.rows Locking ≡ in_use
+    → (in_use ≡ true → (outcome_of f session.sp (unless_open is_open Activates)).deed ≡ Unchanged)
+    × (in_use ≡ false → (outcome_of f session.sp (unless_open is_open Activates)).deed
+    ≡ Activated (f.rows Admin c_pin_sid pin_column))
+activates_deed f session in_use true valid is = absurd (cc)
+activates_deed f session true false valid is = (
+  λ e. ap (λ (b : Bool). if b then Unchanged else Activated (f.rows Admin c_pin_sid pin_column)) is,
+  λ e. absurd (cc),
+)
+activates_deed f session false false valid is = (
+  λ e. absurd (cc),
+  λ e. ap (λ (b : Bool). if b then Unchanged else Activated (f.rows Admin c_pin_sid pin_column)) is,
+)
+
+reverts_deed : (f : Facts) (session : Begun) (reverted : Sp) (is_open : Bool)
+    → takes_effect (unless_open is_open (Reverts reverted)) ≡ true
+    → (outcome_of f session.sp (unless_open is_open (Reverts reverted))).deed
+    ≡ Reverted reverted (is_in_use f.rows Locking)
+reverts_deed f session reverted true valid = absurd (cc)
+reverts_deed f session reverted false valid = refl
+
+effect_is : (f : Facts) (session : Begun) (object : Uid) (ask : Ask) (has : Bool)
+    → takes_effect (does_ask (standing f session) object (if has then ask else Other)) ≡ true
+    → EffectIs f session object ask
+    (outcome_of f session.sp (does_ask (standing f session) object (if has then ask else Other))).deed
+effect_is f session object ask false valid = absurd (cc)
+effect_is f session object (GetCells first last) true valid = by_room f session _ _
+effect_is f session object (GetBytes first last) true valid = rows_deed f session first _
+effect_is f session object (SetCells values) true valid = by_setting f session _ valid
+effect_is f session object (SetBytes at content) true valid = by_setting f session _ valid
+effect_is f session object (Authenticate authority pin) true valid =
+    (_, refl, refl, refl, refl, refl)
+effect_is f session object Activate true valid =
+    activates_deed f session (is_in_use f.rows Locking) _ valid refl
+effect_is f session object Revert true valid = reverts_deed f session _ _ valid
+effect_is f session object Other true valid = absurd (cc)
+
+judged_so_far : (o : Origin) (before : List Step) (step : Step) (session : Begun)
+    (object method : List ℕ) (args : Trees) (ask : Ask) → IsLawful o (step ∷ before)
+    → (c : IsCallStep o before step session object method args)
+    → asked session.sp (uid_of object) (uid_of method) args ≡ Some ask
+    → IsJudged o before step session object method args c ask
 unfolding called looked
-method_law o before step session object method args ask h c shaped = record {
-  effect = λ valid. (
+judged_so_far o before step session object method args ask h c shaped = record {
+  granted = λ valid. (
     λ d. (law valid).0 (same_some (sym here ∙ d.event)),
     λ g. record { event = here ∙ ap Some ((law valid).1 g) },
   );
+  effect = λ valid. effect_is f session (uid_of object) ask
+      (has_ask (kind_of session.sp (uid_of object)) ask) valid;
   refused = λ bare. refused_by bare (judges.denied bare);
   listed = lists;
 }
@@ -204,7 +289,7 @@ method_law o before step session object method args ask h c shaped = record {
 
     refused_by : (IsGrantedAt o before session object method ask → ⊥)
         → (why : Why) × (judged (standing f session) (uid_of object) (uid_of method) (Some ask) ≡ Refuses not_authorized (Some why))
-        → (why : Why) × DoesSo o before step session object method args c (Refuses not_authorized (Some why))
+        → (why : Why) × DoesSo o before step session object method args c (refused_with why)
     refused_by bare d = (
       d.0,
       record {
@@ -228,3 +313,8 @@ method_law o before step session object method args ask h c shaped = record {
       exactly = λ column cell. list_law (standing f session).rows session.sp (uid_of object) first last
           (standing f session).held column cell;
     }
+
+pub method_law : MethodLaw
+method_law o all h later before step session object method args ask place c shaped =
+    judged_so_far o before step session object method args ask
+    (lawful_before o later (step ∷ before) (subst (IsLawful o) place h)) c shaped

@@ -23,7 +23,7 @@ effect_event f (CompleteTag tag bytes) = refl
 effect_event f (ResetDrive kind) = refl
 
 pub open_law_of_steps : OpenLaw
-open_law_of_steps o list sp number lawful is_open =
+open_law_of_steps o list lawful sp number is_open =
     let unseen = open_law o (past_of o list) sp number is_open in
     record {
       unseen = unseen;
@@ -68,10 +68,10 @@ past_is o (s ∷ later) step before aborts is =
     (act_of (trace o (later ++ step ∷ before)) s) (past_is o later step before aborts is)
 
 pub abort_law_of_steps : AbortLaw
-abort_law_of_steps o later step before sp number aborts lawful is_open is aborting = record {
+abort_law_of_steps o list lawful later before step sp number aborts place is_open is aborting = record {
   past = past_is o later step before aborts is;
   events = abort_law o (past_of o before) sp number aborts is_open aborting acts;
-  facts =
+  same =
       facts-alike o _ _ (alike_further o (aborts ∷ past_of o before) (aborts ∷ emptied sp (past_of o before))
       (alike_aborted aborts (past_of o before) sp number is_open aborting) acts)
       ∙ ap (facts o) (sym (past_is o later step before aborts is));

@@ -1,6 +1,9 @@
 -- Answered transfers are served exactly where they are allowed.
-use Rattle.std.proofs.Common.{◌≡◌, ◌∙◌, ◌⊎◌, ℕ, zero, suc, ◌+◌, ◌*◌, Bool, true, false, List, Option, Some, refl, sym, ap, subst, inl, inr, arith}
-use Rattle.std.specs.Prelude.{IfSome}
+use Rattle.std.proofs.Common.{None, ◌≡◌, ◌∙◌, ◌⊎◌, ℕ, zero, suc, ◌+◌, ◌*◌, Bool, true, false, List, Option, Some, refl, sym, ap, subst, inl, inr, arith}
+use Rattle.port_history.proofs.AnswerProofs.{answer_law}
+use Rattle.port_history.specs.Requests.{no_bytes}
+use Rattle.port_history.specs.Stages.{is_answered}
+use Rattle.std.specs.Prelude.{is_some, unwrap_or, IfSome}
 use Rattle.std.proofs.lemmas.Bool.{le-leb, leb-true}
 use Rattle.locking.specs.Range.{RangeRows}
 use Rattle.locking.specs.Verdict.{AreOpen, AreShadowed, IsVerdict, verdict_of}
@@ -21,9 +24,10 @@ use Rattle.port_history.specs.declared.request.Answer.{Answer}
 use Rattle.port_history.specs.declared.request.Answer.TheVariants as answers
 use Rattle.port_history.specs.declared.stages.Stage.TheVariants.{Answered}
 use Rattle.port_history.specs.declared.step.Step.{Step}
-use Rattle.port_history.specs.Steps.{Moment, trace, events, failed, answer}
-use Rattle.headline.specs.Steps.{facts_after, before_acceptance, before_move}
-use Rattle.headline.specs.Transfers.{Transfer, IsAnswered, IsDone, IsOnDrive, IsAllowed, GivesBytes, IsServed, TransferLaw}
+use Rattle.port_history.specs.Steps.{payload, Moment, trace, events, failed, answer}
+use Rattle.headline.proofs.Landed.{Lands, Landed, landed_by, landed}
+use Rattle.headline.specs.Steps.{past_of, through_move, facts_after, before_acceptance, before_move}
+use Rattle.headline.specs.Transfers.{Transfer, IsAnswered, IsDone, IsOnDrive, IsAllowed, GivesBytes, HaveData, IsServed, TransferLaw, TakenLaw}
 use Rattle.headline.proofs.Came.{moved_by, answer_by, answer_at, answer_to}
 use Rattle.headline.proofs.Waits.{Comes}
 use Rattle.headline.proofs.KeptTransfers.{comes_by, comes}
@@ -147,13 +151,16 @@ answered_so o list tag x a lawful is =
 
 served_so : (o : Origin) (list : List Step) (tag : ℕ) (x : Transfer) (a : Answer)
     → a ≡ answer_to (facts_after o (before_acceptance list tag)) (facts_after o (before_move list tag)) x
+    → (x.op ≡ Write → IsDone a
+    → HaveData (past_of o (through_move list tag)) x (payload (trace o list) tag))
     → IsServed o list tag x a
-served_so o list tag x a is = record {
+served_so o list tag x a is lands = record {
   served = λ fits. (
     λ d. law.0 (v.served.1 (subst IsDone (within fits) d)),
     λ p. subst IsDone (sym (within fits)) (v.served.0 (law.1 p)),
   );
   bytes = by_place (on_drive f x.lba x.count) refl;
+  written = lands;
   denied = λ fits h. within fits ∙ v.denied (λ e. h (law.0 e));
   beyond = λ out. is ∙ ap (λ (b : Bool). answer_at g x.op x.lba x.count b verdict) (outside out);
 }
@@ -193,6 +200,39 @@ served_so o list tag x a is = record {
     by_place false e bytes d =
         absurd (not_done (sym (is ∙ ap (λ (b : Bool). answer_at g x.op x.lba x.count b verdict) e) ∙ d))
 
+-- and what it wrote has landed
+landed_so : (o : Origin) (list : List Step) (tag : ℕ) (x : Transfer) (a : Answer)
+    → Rattle.port_history.specs.Refusals.IsLawful o list → IsAnswered o list tag x a
+    → x.op ≡ Write → IsDone a
+    → HaveData (past_of o (through_move list tag)) x (payload (trace o list) tag)
+landed_so o list tag x a lawful is write done =
+    (subst (λ (y : Option Transfer). IfSome y (λ z. Lands (past_of o (through_move list tag)) z (payload ms tag)
+    (answer ms tag))) is.asks here.it) write done.0 (is.answers ∙ ap Some done.1)
+  where
+    ms : List Moment
+    ms = trace o list
+
+    here : Landed (past_of o (through_move list tag)) (payload ms tag) (answer ms tag) (Answered is.put)
+    here = landed_by refl refl refl (sym is.stands) (landed o list lawful tag)
+
 pub transfer_law : TransferLaw
-transfer_law o list tag x a lawful is =
+transfer_law o list lawful tag x a is =
     served_so o list tag x a (answered_so o list tag x a lawful is)
+    (landed_so o list tag x a lawful is)
+
+-- what a client takes
+there : (x : Option Answer) (d : Answer) → is_some x ≡ true → x ≡ Some (unwrap_or x d)
+there None d h = absurd (cc)
+there (Some a) d h = refl
+
+pub taken_law : TakenLaw
+taken_law o list tag lawful put x stands asks no_reset =
+    transfer_law o list lawful tag x _
+    (record {
+      put = put;
+      stands = stands;
+      asks = asks;
+      answers = there (answer (trace o list) tag) no_bytes
+          (answer_law o list lawful tag (ap is_answered stands));
+      no_reset = no_reset;
+    })

@@ -30,10 +30,13 @@ pub record IsHidden (o : Origin) (list : List Step) (sp : Sp) (number : ℕ) : T
       → is_for number act ≡ false
       → event_after o list step ≡ Some (event o (emptied sp (past_of o list)) act)
 
+-- Each transaction that is open.
+abbrev pub AreHidden : Origin → List Step → Type 0
+AreHidden o list =
+    (sp : Sp) (number : ℕ) → open_on (past_of o list) sp ≡ Some number → IsHidden o list sp number
+
 abbrev pub OpenLaw : Type 0
-OpenLaw =
-    (o : Origin) (list : List Step) (sp : Sp) (number : ℕ) → IsLawful o list
-    → open_on (past_of o list) sp ≡ Some number → IsHidden o list sp number
+OpenLaw = (o : Origin) (list : List Step) → IsLawful o list → AreHidden o list
 
 -- The acts of the later steps of a list.
 abbrev pub acts_since : Origin → List Step → List Step → List Act
@@ -53,12 +56,16 @@ pub record IsForgotten (o : Origin) (later : List Step) (step : Step) (before : 
       ≡ past_with o (aborts ∷ past_of o before) (acts_since o later (step ∷ before))
   pub events : further o (aborts ∷ emptied sp (past_of o before)) (acts_since o later (step ∷ before))
       ≡ further o (aborts ∷ past_of o before) (acts_since o later (step ∷ before))
-  pub facts : facts o (past_with o (aborts ∷ emptied sp (past_of o before)) (acts_since o later (step ∷ before)))
+  pub same : facts o (past_with o (aborts ∷ emptied sp (past_of o before)) (acts_since o later (step ∷ before)))
       ≡ facts_after o (later ++ step ∷ before)
 
+-- Each transaction that was aborted.
+abbrev pub AreForgotten : Origin → List Step → Type 0
+AreForgotten o list =
+    (later before : List Step) (step : Step) (sp : Sp) (number : ℕ) (aborts : Event)
+    → list ≡ later ++ step ∷ before → open_on (past_of o before) sp ≡ Some number
+    → event_after o before step ≡ Some aborts → Aborts sp aborts
+    → IsForgotten o later step before sp aborts
+
 abbrev pub AbortLaw : Type 0
-AbortLaw =
-    (o : Origin) (later : List Step) (step : Step) (before : List Step) (sp : Sp) (number : ℕ)
-    (aborts : Event) → IsLawful o (later ++ step ∷ before)
-    → open_on (past_of o before) sp ≡ Some number → event_after o before step ≡ Some aborts
-    → Aborts sp aborts → IsForgotten o later step before sp aborts
+AbortLaw = (o : Origin) (list : List Step) → IsLawful o list → AreForgotten o list

@@ -47,3 +47,9 @@ moves tag _ = false
 abbrev pub before_move : List Step → ℕ → List Step
 before_move [] tag = []
 before_move (step ∷ before) tag = if moves tag step then before else before_move before tag
+
+-- and up to that act.
+abbrev pub through_move : List Step → ℕ → List Step
+through_move [] tag = []
+through_move (step ∷ before) tag =
+    if moves tag step then step ∷ before else through_move before tag

@@ -4,7 +4,7 @@
 ghost use Rattle.headline.specs.Denials.{AuditLaw};
 ghost use Rattle.headline.specs.Methods.{MethodLaw};
 ghost use Rattle.headline.specs.NoTrace.{OpenLaw, AbortLaw};
-ghost use Rattle.headline.specs.Transfers.{TransferLaw};
+ghost use Rattle.headline.specs.Transfers.{TransferLaw, TakenLaw};
 
 /// A read or write that the drive answers is served exactly where every range that it touches permits it by the rows
 /// in force at its last acceptance.
@@ -12,6 +12,7 @@ ghost use Rattle.headline.specs.Transfers.{TransferLaw};
 /// Not said: that a transfer is ever answered; what a reset stopped, which is answered `Reset`.
 pub fn law_of_transfers()
     ensures served { TransferLaw }
+    ensures taken { TakenLaw }
 {}
 
 /// Each act that was denied has exactly one line in the audit, at its step, with its client, in the words of what
