@@ -7,3 +7,7 @@ pub mod AuditLaws
 pub mod MethodLaws
 pub mod Forgotten
 pub mod NoTraceLaws
+mod Scenes
+mod RowsTransfers
+mod RowsMethods
+mod RowsNoTrace
