@@ -13,6 +13,8 @@ use Rattle.port.specs.State.{State, refusal_on}
 use Rattle.port.specs.Answers.{taken}
 use Rattle.port.specs.Agreement.{PortAgrees}
 use Rattle.port.proofs.Agreeing.{same_refusal, count_is, taken_answer}
+use Rattle.headline.specs.Transfers.{IsServedAnswer}
+use Rattle.headline.proofs.TransferLaws.{taken_law}
 
 pub refused_call : {A : Type 0} (port : State) (o : Origin) (list : List Step) (step : Step) (r : Result A PortError) → has_slot step ≡ true → PortAgrees port o list → IsRefusedBy (refusal_on port step) r → IsRefusedBy (refusal (trace o list) step) r
 refused_call port o list step r slot h told = subst (λ (x : Option PortError). IsRefusedBy x r) (same_refusal port o list step h slot) told
@@ -31,6 +33,14 @@ pub answered_call : (r : Result (ℕ × Answer) PortError) (old : State) (tag : 
     → IfOk r (λ x. (o : Origin) (list : List Step) → PortAgrees old o list → (x.0 ≡ 1 + length (trace o list)) × (x.1 ≡ unwrap_or (answer (trace o list) tag) no_bytes))
 answered_call (Ok x) old tag lt e = λ o list h. (e.0 ∙ ap (λ (k : ℕ). 1 + k) (count_is old o list h), e.1 ∙ taken_answer old o list tag lt h)
 answered_call (Err error) old tag lt e = tt
+
+-- and so it is served where it is allowed
+pub served_call : (r : Result (ℕ × Answer) PortError) (old : State) (tag : ℕ)
+    → IfOk r (λ x. (o : Origin) (list : List Step) → PortAgrees old o list → (x.0 ≡ 1 + length (trace o list)) × (x.1 ≡ unwrap_or (answer (trace o list) tag) no_bytes))
+    → IfOk r (λ x. (o : Origin) (list : List Step) → PortAgrees old o list → IsServedAnswer o list tag x.1)
+served_call (Ok x) old tag e = λ o list h.
+    subst (IsServedAnswer o list tag) (sym (e o list h).1) (taken_law o list tag h.lawful)
+served_call (Err error) old tag e = tt
 
 -- the same where the private step tells its refusals of a port that agrees
 pub agrees_where : {A : Type 0} (Made : Type 0) (old new : State) (step : Step) (r : Result A PortError) → has_slot step ≡ true → ((o : Origin) (list : List Step) → PortAgrees old o list → IsRefusedBy (refusal_on old step) r) → OnOk r Made

@@ -40,6 +40,7 @@ impl Port {
     ghost use Rattle.port_history.specs.Refusals.{refusal, IsRefusedBy};
     ghost use Rattle.port_history.specs.Requests.{no_bytes};
     ghost use Rattle.port_history.specs.Steps.{trace, answer};
+    ghost use Rattle.headline.specs.Transfers.{IsServedAnswer};
     ghost use Rattle.port.specs.Agreement.{PortAgrees};
     ghost use Rattle.port.specs.Answers.{stage_at, outcome_at, taken};
     ghost use Rattle.port.specs.State.{refusal_on, IsPut, IsIssued, IsAccepted, IsCompleted, IsTaken, IsReady};
@@ -243,6 +244,9 @@ impl Port {
 
     /// A client takes its answer, and the slot is free. It answers the number of the step and the answer.
     ///
+    /// `served`: what it is answered to a read or write, and not by a reset, is done exactly where every range that the
+    /// transfer touches permits it by the rows in force at its last acceptance.
+    ///
     /// # Errors
     ///
     /// In this order: `HistoryFull`, `NotAnswered`, `NotYours`, `OutOfMemory`. The port is then as before.
@@ -251,6 +255,8 @@ impl Port {
             → PortAgrees self.new o (steps.Take client tag ∷ list)) }
         ensures answer { IfOk result (λ r. (o : Origin) (list : List Step) → PortAgrees self.old o list
             → (r.0 ≡ 1 + length (trace o list)) × (r.1 ≡ unwrap_or (answer (trace o list) tag) no_bytes)) }
+        ensures served { IfOk result (λ r. (o : Origin) (list : List Step) → PortAgrees self.old o list
+            → IsServedAnswer o list tag r.1) }
         ensures refused { (o : Origin) (list : List Step) → PortAgrees self.old o list
             → IsRefusedBy (refusal (trace o list) (steps.Take client tag)) result }
         ensures err { OnErr result (self.new ≡ self.old) }

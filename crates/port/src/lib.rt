@@ -8,6 +8,7 @@ mod engine;
 mod host;
 mod outcome;
 mod port;
+mod promises;
 mod registers;
 mod restarts;
 mod stages;

@@ -2,7 +2,7 @@ use Rattle.std.proofs.lemmas.Bool.{lt-ltb}
 use Rattle.port_history.specs.declared.step.Step.TheVariants as steps
 use Rattle.port.specs.State.{IsTaken}
 use Rattle.port.proofs.Agreeing.{take_agrees}
-use Rattle.port.proofs.Calls.{refused_call, answered_call, agrees_call}
+use Rattle.port.proofs.Calls.{refused_call, answered_call, agrees_call, served_call}
 use Rattle.port.proofs.port.Port.take.Goals as goal
 
 pub returns-clause-agrees : goal.returns-clause-agrees
@@ -16,3 +16,8 @@ returns-clause-answer c = answered_call c.do_take.result c.args.self.now c.args.
 
 pub returns-clause-refused : goal.returns-clause-refused
 returns-clause-refused c = λ o list h. refused_call c.args.self.now o list (steps.Take c.args.client c.args.tag) c.do_take.result (lt-ltb c.args.tag 32 c.do_take.ensures.slot) h c.do_take.ensures.refused
+
+pub returns-clause-served : goal.returns-clause-served
+returns-clause-served c =
+    served_call c.do_take.result c.args.self.now c.args.tag
+    (answered_call c.do_take.result c.args.self.now c.args.tag c.do_take.ensures.slot c.do_take.ensures.number)

@@ -1,0 +1,13 @@
+pub mod Came
+pub mod Waits
+pub mod KeptTransfers
+pub mod Landed
+pub mod TransferLaws
+pub mod AuditLaws
+pub mod MethodLaws
+pub mod Forgotten
+pub mod NoTraceLaws
+mod Scenes
+mod RowsTransfers
+mod RowsMethods
+mod RowsNoTrace

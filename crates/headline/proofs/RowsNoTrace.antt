@@ -1,0 +1,70 @@
+-- Transactions on both sides of their law, computed from the definitions.
+use Rattle.std.proofs.Common.{◌≡◌, ℕ, true, false, List, [], ◌∷◌, ◌++◌, replicate, Some, None, refl}
+use Rattle.sp_cells.specs.declared.cells.Cell.TheVariants.{Number}
+use Rattle.sp_cells.specs.declared.names.Sp.TheVariants.{Locking}
+use Rattle.sp_cells.specs.ColumnNames.{read_locked_column}
+use Rattle.sp_cells.specs.Names.{range_uid}
+use Rattle.sp_cells.specs.Authorities.{authorities_of_locking}
+use Rattle.sp_tables.specs.Faults.{any_to}
+use Rattle.sp_factory.specs.Factory.{admin_sps, admin_authorities, locking_authorities, admin_pins, locking_pins, locking_ranges, locking_mbr_controls, admin_aces, authority_aces, pin_aces, range_aces, mbr_aces}
+use Rattle.access_list.specs.Access.{this_sp_grants, admin_grants, authority_grants, fixed_ace_gets, user_ace_grants, read_locked_ace_grants, write_locked_ace_grants, done_ace_grants, pin_grants, range_grants, mbr_grants}
+use Rattle.locking.specs.Ranges.{ranges_in}
+use Rattle.locking.specs.Verdict.{verdict_of}
+use Rattle.shadow_mbr.specs.Stored.{zeros, sectors_from}
+use Rattle.tcg_tokens.specs.Lex.{first_lexeme}
+use Rattle.tcg_tokens.specs.Reading.{expect, number_at, uid_at, values_up_to, list_with, list_value_with, named_with, value_of, list_at, status_at, call_at, reply_at, message_at, reading as message_in}
+use Rattle.tcg_tokens.specs.Spelling.{number_spelling, bytes_spelling}
+use Rattle.transactions.specs.Resets.{is_range}
+use Rattle.methods.specs.Listed.{listed_among}
+use Rattle.methods.specs.Settings.{cells_for}
+use Rattle.history.specs.Decisions.{any_below}
+use Rattle.tcg_tokens.specs.Message.{begin, end}
+use Rattle.tcg_tokens.specs.Tree as tree
+use Rattle.history.specs.Readers.{open_on}
+use Rattle.history.specs.Opening.{Origin}
+use Rattle.history.proofs.Scripts.{range_row, opened, set_cells}
+use Rattle.port_history.specs.declared.request.Answer.TheVariants as answers
+use Rattle.port_history.specs.declared.request.Request.TheVariants.{ReadDma}
+use Rattle.port_history.specs.declared.step.Step.{Step}
+use Rattle.port_history.specs.Steps.{trace, answer}
+use Rattle.headline.specs.Steps.{past_of, facts_after}
+use Rattle.headline.proofs.Scenes.{are_lawful, brings, begins, says, by_admin}
+
+-- Range 1 is 100+10, its read lock enabled and not set.
+abbrev enabled : Origin
+enabled = opened (range_row 1 100 10 true false false false)
+
+-- Admin1 begins a transaction and sets the lock in it.
+abbrev locking : List Step
+locking =
+    says 4 5 (set_cells (range_uid 1) ((7, tree.number 1) ∷ [])) ++ says 2 3 (begin 0) ++ begins by_admin
+
+-- While it is open the lock is in its session's view alone, and the range is read.
+abbrev within : List Step
+within = brings 1 8 (ReadDma 100 1) ++ locking
+
+set_open : (are_lawful enabled within ≡ true)
+    × (open_on (past_of enabled within) Locking ≡ Some 0x1000)
+    × ((facts_after enabled within).rows_of 0x1000 Locking (range_uid 1) read_locked_column ≡ Some (Number 1))
+    × ((facts_after enabled within).rows Locking (range_uid 1) read_locked_column ≡ Some (Number 0))
+    × (answer (trace enabled within) 8 ≡ Some (answers.Done (replicate 512 0)))
+unfolding admin_sps admin_authorities locking_authorities admin_pins locking_pins locking_ranges locking_mbr_controls admin_aces authority_aces pin_aces range_aces mbr_aces this_sp_grants admin_grants authority_grants fixed_ace_gets user_ace_grants read_locked_ace_grants write_locked_ace_grants done_ace_grants pin_grants range_grants mbr_grants first_lexeme expect number_at uid_at values_up_to list_with list_value_with named_with value_of list_at status_at call_at reply_at message_at message_in number_spelling bytes_spelling any_below ranges_in verdict_of is_range listed_among cells_for zeros sectors_from authorities_of_locking any_to
+set_open = (refl, refl, refl, refl, refl)
+
+-- It is aborted: the same, and nothing is open.
+abbrev ended : ℕ → List Step
+ended n = brings 1 8 (ReadDma 100 1) ++ says 6 7 (end n) ++ locking
+
+set_aborted : (are_lawful enabled (ended 1) ≡ true)
+    × (open_on (past_of enabled (ended 1)) Locking ≡ None)
+    × ((facts_after enabled (ended 1)).rows Locking (range_uid 1) read_locked_column ≡ Some (Number 0))
+    × (answer (trace enabled (ended 1)) 8 ≡ Some (answers.Done (replicate 512 0)))
+unfolding admin_sps admin_authorities locking_authorities admin_pins locking_pins locking_ranges locking_mbr_controls admin_aces authority_aces pin_aces range_aces mbr_aces this_sp_grants admin_grants authority_grants fixed_ace_gets user_ace_grants read_locked_ace_grants write_locked_ace_grants done_ace_grants pin_grants range_grants mbr_grants first_lexeme expect number_at uid_at values_up_to list_with list_value_with named_with value_of list_at status_at call_at reply_at message_at message_in number_spelling bytes_spelling any_below ranges_in verdict_of is_range listed_among cells_for zeros sectors_from authorities_of_locking any_to
+set_aborted = (refl, refl, refl, refl)
+
+-- It is committed: the lock is set, and the read is denied.
+set_committed : (are_lawful enabled (ended 0) ≡ true)
+    × ((facts_after enabled (ended 0)).rows Locking (range_uid 1) read_locked_column ≡ Some (Number 1))
+    × (answer (trace enabled (ended 0)) 8 ≡ Some (answers.Failed 0x51 0x04))
+unfolding admin_sps admin_authorities locking_authorities admin_pins locking_pins locking_ranges locking_mbr_controls admin_aces authority_aces pin_aces range_aces mbr_aces this_sp_grants admin_grants authority_grants fixed_ace_gets user_ace_grants read_locked_ace_grants write_locked_ace_grants done_ace_grants pin_grants range_grants mbr_grants first_lexeme expect number_at uid_at values_up_to list_with list_value_with named_with value_of list_at status_at call_at reply_at message_at message_in number_spelling bytes_spelling any_below ranges_in verdict_of is_range listed_among cells_for zeros sectors_from authorities_of_locking any_to
+set_committed = (refl, refl, refl)

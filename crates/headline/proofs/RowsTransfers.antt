@@ -1,0 +1,117 @@
+-- Transfers on both sides of their law, computed from the definitions.
+use Rattle.std.proofs.Common.{◌≡◌, ◌+◌, ◌≤◌, arith, true, false, List, [], ◌∷◌, ◌++◌, replicate, Some, refl}
+use Rattle.sp_cells.specs.Names.{mbr_control, mbr_table, set}
+use Rattle.sp_cells.specs.Authorities.{authorities_of_locking}
+use Rattle.sp_tables.specs.Faults.{any_to}
+use Rattle.sp_factory.specs.Factory.{admin_sps, admin_authorities, locking_authorities, admin_pins, locking_pins, locking_ranges, locking_mbr_controls, admin_aces, authority_aces, pin_aces, range_aces, mbr_aces}
+use Rattle.access_list.specs.Access.{this_sp_grants, admin_grants, authority_grants, fixed_ace_gets, user_ace_grants, read_locked_ace_grants, write_locked_ace_grants, done_ace_grants, pin_grants, range_grants, mbr_grants}
+use Rattle.locking.specs.Ranges.{ranges_in}
+use Rattle.locking.specs.Verdict.{verdict_of}
+use Rattle.shadow_mbr.specs.Stored.{zeros, sectors_from}
+use Rattle.tcg_tokens.specs.Lex.{first_lexeme}
+use Rattle.tcg_tokens.specs.Reading.{expect, number_at, uid_at, values_up_to, list_with, list_value_with, named_with, value_of, list_at, status_at, call_at, reply_at, message_at, reading as message_in}
+use Rattle.tcg_tokens.specs.Spelling.{number_spelling, bytes_spelling}
+use Rattle.transactions.specs.Resets.{is_range}
+use Rattle.methods.specs.Listed.{listed_among}
+use Rattle.methods.specs.Settings.{cells_for}
+use Rattle.history.specs.Decisions.{any_below}
+use Rattle.tcg_tokens.specs.Tree as tree
+use Rattle.locking.specs.declared.range.Op.TheVariants as ops
+use Rattle.trusted_cmds.specs.declared.command.Command.TheVariants as commands
+use Rattle.history.specs.Opening.{Origin}
+use Rattle.history.specs.Readers.{sector}
+use Rattle.history.proofs.Scripts.{range_row, activated, opened, set_cells, call_of}
+use Rattle.port_history.specs.declared.request.Answer.TheVariants as answers
+use Rattle.port_history.specs.declared.request.Request.TheVariants.{Read, ReadDma, WriteDma}
+use Rattle.port_history.specs.declared.step.Step.{Step}
+use Rattle.port_history.specs.declared.step.Step.TheVariants.{Complete, Recover}
+use Rattle.port_history.specs.Steps.{trace, answer}
+use Rattle.headline.specs.Steps.{past_of, before_acceptance, ranges_after}
+use Rattle.headline.specs.Transfers.{IsAnswered, IsAllowed}
+use Rattle.headline.proofs.Scenes.{are_lawful, lawful, brings, begins, says, by_admin}
+use Rattle.headline.proofs.TransferLaws.{transfer_law}
+
+-- Of 1,000 sectors: range 1 is 100+10, its read lock enabled and set.
+abbrev locked : Origin
+locked = opened (range_row 1 100 10 true false true false)
+
+-- A read behind the range is done.
+abbrev permitted : List Step
+permitted = Complete 0 ∷ brings 1 0 (Read 110 1)
+
+read_done : (are_lawful locked permitted ≡ true)
+    × (answer (trace locked permitted) 0 ≡ Some (answers.Done (replicate 512 0)))
+unfolding admin_sps admin_authorities locking_authorities admin_pins locking_pins locking_ranges locking_mbr_controls admin_aces authority_aces pin_aces range_aces mbr_aces this_sp_grants admin_grants authority_grants fixed_ace_gets user_ace_grants read_locked_ace_grants write_locked_ace_grants done_ace_grants pin_grants range_grants mbr_grants first_lexeme expect number_at uid_at values_up_to list_with list_value_with named_with value_of list_at status_at call_at reply_at message_at message_in number_spelling bytes_spelling any_below ranges_in verdict_of is_range listed_among cells_for zeros sectors_from authorities_of_locking any_to
+read_done = (refl, refl)
+
+-- One that touches it is denied, in the queue or not.
+abbrev denied : List Step
+denied = Recover ∷ brings 1 0 (Read 109 2)
+
+abbrev denied_alone : List Step
+denied_alone = brings 1 0 (ReadDma 109 2)
+
+read_denied : (are_lawful locked denied ≡ true)
+    × (answer (trace locked denied) 0 ≡ Some (answers.Failed 0x51 0x04))
+    × (are_lawful locked denied_alone ≡ true)
+    × (answer (trace locked denied_alone) 0 ≡ Some (answers.Failed 0x51 0x04))
+unfolding admin_sps admin_authorities locking_authorities admin_pins locking_pins locking_ranges locking_mbr_controls admin_aces authority_aces pin_aces range_aces mbr_aces this_sp_grants admin_grants authority_grants fixed_ace_gets user_ace_grants read_locked_ace_grants write_locked_ace_grants done_ace_grants pin_grants range_grants mbr_grants first_lexeme expect number_at uid_at values_up_to list_with list_value_with named_with value_of list_at status_at call_at reply_at message_at message_in number_spelling bytes_spelling any_below ranges_in verdict_of is_range listed_among cells_for zeros sectors_from authorities_of_locking any_to
+read_denied = (refl, refl, refl, refl)
+
+-- The law applies to both: the first is allowed, the second is not.
+read_answered : IsAnswered locked permitted 0 (record { op = ops.Read; lba = 110; count = 1 }) (answers.Done (replicate 512 0))
+unfolding admin_sps admin_authorities locking_authorities admin_pins locking_pins locking_ranges locking_mbr_controls admin_aces authority_aces pin_aces range_aces mbr_aces this_sp_grants admin_grants authority_grants fixed_ace_gets user_ace_grants read_locked_ace_grants write_locked_ace_grants done_ace_grants pin_grants range_grants mbr_grants first_lexeme expect number_at uid_at values_up_to list_with list_value_with named_with value_of list_at status_at call_at reply_at message_at message_in number_spelling bytes_spelling any_below ranges_in verdict_of is_range listed_among cells_for zeros sectors_from authorities_of_locking any_to
+read_answered = record {
+  put = record { client = 1; number = 1; command = commands.ReadQueued 110 1 };
+  stands = refl;
+  asks = refl;
+  answers = refl;
+  no_reset = λ e. absurd (no_reset e);
+}
+  where
+    no_reset : answers.Done (replicate 512 0) ≡ answers.Reset → ⊥
+    no_reset e = cc
+
+read_allowed : IsAllowed (ranges_after locked (before_acceptance permitted 0)) (record { op = ops.Read; lba = 110; count = 1 })
+read_allowed =
+    let fits : 110 + 1 ≤ 1000 = omega arith in
+    ((transfer_law locked permitted (lawful locked permitted read_done.0) 0 _ _ read_answered).served fits).0
+    (replicate 512 0, refl)
+
+-- Beyond the last sector.
+abbrev beyond : List Step
+beyond = Recover ∷ brings 1 0 (Read 999 2)
+
+read_beyond : (are_lawful locked beyond ≡ true)
+    × (answer (trace locked beyond) 0 ≡ Some (answers.Failed 0x51 0x10))
+unfolding admin_sps admin_authorities locking_authorities admin_pins locking_pins locking_ranges locking_mbr_controls admin_aces authority_aces pin_aces range_aces mbr_aces this_sp_grants admin_grants authority_grants fixed_ace_gets user_ace_grants read_locked_ace_grants write_locked_ace_grants done_ace_grants pin_grants range_grants mbr_grants first_lexeme expect number_at uid_at values_up_to list_with list_value_with named_with value_of list_at status_at call_at reply_at message_at message_in number_spelling bytes_spelling any_below ranges_in verdict_of is_range listed_among cells_for zeros sectors_from authorities_of_locking any_to
+read_beyond = (refl, refl)
+
+-- A write into the range, whose write lock is not set, is done, and its data are in media; a read of
+-- them is denied.
+abbrev written : List Step
+written = brings 1 1 (ReadDma 105 1) ++ brings 1 0 (WriteDma 105 (replicate 512 0xaa))
+
+write_done : (are_lawful locked written ≡ true)
+    × (answer (trace locked written) 0 ≡ Some (answers.Done []))
+    × (sector (past_of locked written) 105 ≡ replicate 512 0xaa)
+    × (answer (trace locked written) 1 ≡ Some (answers.Failed 0x51 0x04))
+unfolding admin_sps admin_authorities locking_authorities admin_pins locking_pins locking_ranges locking_mbr_controls admin_aces authority_aces pin_aces range_aces mbr_aces this_sp_grants admin_grants authority_grants fixed_ace_gets user_ace_grants read_locked_ace_grants write_locked_ace_grants done_ace_grants pin_grants range_grants mbr_grants first_lexeme expect number_at uid_at values_up_to list_with list_value_with named_with value_of list_at status_at call_at reply_at message_at message_in number_spelling bytes_spelling any_below ranges_in verdict_of is_range listed_among cells_for zeros sectors_from authorities_of_locking any_to
+write_done = (refl, refl, refl, refl)
+
+-- The shadow: Enable is 1, and byte 0 of the table is 5Ah; media have AAh there. A read inside gives
+-- the shadow's bytes, one that leaves it is denied.
+abbrev shadowed : List Step
+shadowed =
+    brings 1 8 (ReadDma 7 2)
+    ++ brings 1 7 (ReadDma 0 1)
+    ++ says 5 6 (call_of mbr_table set (tree.named (tree.number 1) (tree.bytes (0x5a ∷ [])) ∷ []))
+    ++ says 3 4 (set_cells mbr_control ((1, tree.number 1) ∷ []))
+    ++ begins by_admin
+    ++ brings 1 2 (WriteDma 0 (replicate 512 0xaa))
+
+read_shadow : (are_lawful activated shadowed ≡ true)
+    × (answer (trace activated shadowed) 7 ≡ Some (answers.Done (0x5a ∷ replicate 511 0)))
+    × (answer (trace activated shadowed) 8 ≡ Some (answers.Failed 0x51 0x04))
+unfolding admin_sps admin_authorities locking_authorities admin_pins locking_pins locking_ranges locking_mbr_controls admin_aces authority_aces pin_aces range_aces mbr_aces this_sp_grants admin_grants authority_grants fixed_ace_gets user_ace_grants read_locked_ace_grants write_locked_ace_grants done_ace_grants pin_grants range_grants mbr_grants first_lexeme expect number_at uid_at values_up_to list_with list_value_with named_with value_of list_at status_at call_at reply_at message_at message_in number_spelling bytes_spelling any_below ranges_in verdict_of is_range listed_among cells_for zeros sectors_from authorities_of_locking any_to
+read_shadow = (refl, refl, refl)

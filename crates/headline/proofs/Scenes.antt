@@ -1,0 +1,82 @@
+-- Words of worked lists of steps.
+use Rattle.std.proofs.Common.{◌≡◌, ℕ, ◌&&◌, Bool, true, false, List, [], ◌∷◌, ◌++◌, Option, Some, None, refl}
+use Rattle.std.specs.Prelude.{is_none, option_map}
+use Rattle.compacket.specs.Spelling.{frame_bytes}
+use Rattle.device_data.specs.ErrorLog.{sized}
+use Rattle.sp_cells.specs.Names.{locking_sp, admin_uid}
+use Rattle.tcg_tokens.specs.Message.{Message}
+use Rattle.tcg_tokens.specs.Spelling.{item_spelling_of}
+use Rattle.audit.specs.declared.reason.Why.{Why}
+use Rattle.history.specs.Events.{SessionDeed, Deed, InSession, Event}
+use Rattle.history.specs.Opening.{Origin}
+use Rattle.history.proofs.Scripts.{msid, start_as}
+use Rattle.port_history.specs.declared.error.PortError.{PortError}
+use Rattle.port_history.specs.declared.request.Request.{Request}
+use Rattle.port_history.specs.declared.request.Request.TheVariants.{Send, Receive}
+use Rattle.port_history.specs.declared.step.Step.{Step}
+use Rattle.port_history.specs.declared.step.Step.TheVariants.{Put, Issue, Accept}
+use Rattle.port_history.specs.Refusals.{IsLawful, refusal, has_slot}
+use Rattle.port_history.specs.Steps.{trace}
+use Rattle.headline.specs.Steps.{event_after}
+
+-- Each step of a list is lawful where it stands.
+abbrev pub are_lawful : Origin → List Step → Bool
+are_lawful o [] = true
+are_lawful o (step ∷ before) =
+    has_slot step && is_none (refusal (trace o before) step) && are_lawful o before
+
+both : (a b : Bool) → (a && b) ≡ true → (a ≡ true) × (b ≡ true)
+both true b e = (refl, e)
+both false b e = absurd (cc)
+
+none_of : (x : Option PortError) → is_none x ≡ true → x ≡ None
+none_of None e = refl
+none_of (Some x) e = absurd (cc)
+
+pub lawful : (o : Origin) (list : List Step) → are_lawful o list ≡ true → IsLawful o list
+lawful o [] e = tt
+lawful o (step ∷ before) e =
+    let p = both (has_slot step && is_none (refusal (trace o before) step)) (are_lawful o before) e in
+    let q = both (has_slot step) (is_none (refusal (trace o before) step)) p.0 in
+    (q.0, none_of (refusal (trace o before) step) q.1, lawful o before p.1)
+
+-- A request that sends a message to ComID 1000h.
+abbrev pub told : ℕ → ℕ → Message → Request
+told tsn hsn message =
+    Send 1 0x1000
+    (sized 512 (frame_bytes 0x1000 (record { tsn = tsn; hsn = hsn })
+    (item_spelling_of message)))
+
+-- The steps that bring a request to the device, the newest first; and those before its acceptance.
+abbrev pub lays : ℕ → ℕ → Request → List Step
+lays client tag request = Issue tag ∷ Put client tag request ∷ []
+
+abbrev pub brings : ℕ → ℕ → Request → List Step
+brings client tag request = Accept tag ∷ lays client tag request
+
+-- Client 2 begins a session of the Locking SP, of this start, and takes no answer.
+abbrev pub begins : Message → List Step
+begins start = brings 2 1 (Receive 1 0x1000 2) ++ brings 2 0 (told 0 0 start)
+
+-- It sends a message to it, and receives the response.
+abbrev pub says : ℕ → ℕ → Message → List Step
+says tag next message =
+    brings 2 next (Receive 1 0x1000 2) ++ brings 2 tag (told 0x1000 1 message)
+
+abbrev pub by_admin : Message
+by_admin = start_as locking_sp (admin_uid 1) msid
+
+-- What a step did in a session, and what denied it.
+abbrev pub in_session : Deed → Option SessionDeed
+in_session (InSession deed response) = Some deed
+in_session _ = None
+
+abbrev pub joined : {A : Type 0} → Option (Option A) → Option A
+joined None = None
+joined (Some x) = x
+
+abbrev pub deed_of : Origin → List Step → Step → Option SessionDeed
+deed_of o before step = joined (option_map (λ (e : Event). in_session e.deed) (event_after o before step))
+
+abbrev pub denied_of : Origin → List Step → Step → Option Why
+denied_of o before step = joined (option_map (λ (e : Event). e.denied) (event_after o before step))

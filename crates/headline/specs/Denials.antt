@@ -1,0 +1,80 @@
+-- The audit, over every lawful list of steps: each act that was denied has exactly one line, at its
+-- step, with its client, in the words of what denied it; no other act has one.
+use Rattle.std.specs.Prelude.{◌≡◌, ℕ, ◌+◌, ◌==◌, ◌⊎◌, List, [], ◌∷◌, ◌++◌, length, Some, if◌then◌else◌}
+use Rattle.audit.specs.declared.reason.AuditLine.{AuditLine}
+use Rattle.audit.specs.declared.reason.Why.{Why}
+use Rattle.call_shapes.specs.Asks.{uid_of}
+use Rattle.methods.specs.Laws.{IsAmong, IsDeniedBy}
+use Rattle.history.specs.Decisions.{ranges_in_force}
+use Rattle.history.specs.DenialLaws.{TransferDenied, MethodDenied, AttemptDenied, StartDenied}
+use Rattle.history.specs.Facts.{Facts, standing}
+use Rattle.history.specs.History.{Act}
+use Rattle.history.specs.Opening.{Origin}
+use Rattle.history.specs.TransferLaws.{IsReason}
+use Rattle.port_history.specs.declared.stages.Put.{Put}
+use Rattle.port_history.specs.declared.stages.Stage.TheVariants.{Issued}
+use Rattle.port_history.specs.declared.step.Step.{Step}
+use Rattle.port_history.specs.declared.step.Step.TheVariants as steps
+use Rattle.port_history.specs.Refusals.{IsLawful}
+use Rattle.port_history.specs.Steps.{trace, stage, act_of, audit}
+use Rattle.headline.specs.Steps.{facts_after}
+
+-- A transfer that its verdict denied: by the shadow, or by the range and flag of its least denied
+-- sector.
+pub record IsTransferDenied (f : Facts) (act : Act) (why : Why) : Type 0 where
+  pub by : TransferDenied f act why
+  pub names : IsReason (ranges_in_force f) by.op by.lba by.count why
+
+-- A call that no access entry granted: by the first column, in the call's order, that has none.
+pub record IsMethodDenied (f : Facts) (act : Act) (why : Why) : Type 0 where
+  pub by : MethodDenied f act why
+  pub names : IsDeniedBy (standing f by.session).rows by.session.sp (uid_of by.object)
+      (uid_of by.method) (standing f by.session).held by.ask why
+
+-- What denied an act: the policy, the access entries, or a failed attempt, which is named with its
+-- authority and how it failed.
+abbrev pub IsDeniedAs : Facts → Act → Why → Type 0
+IsDeniedAs f act why =
+    IsTransferDenied f act why ⊎ IsMethodDenied f act why ⊎ AttemptDenied f act why
+    ⊎ StartDenied f act why
+
+-- A step at which the drive denied the command that a client put.
+pub record IsDeniedStep (o : Origin) (before : List Step) (step : Step) (client : ℕ) (why : Why) : Type 0 where
+  pub tag : ℕ
+  pub put : Put
+  pub accepts : step ≡ steps.Accept tag
+  pub stands : stage (trace o before) tag ≡ Issued put
+  pub its_client : put.client ≡ client
+  pub act : Act
+  pub does : act_of (trace o before) step ≡ Some act
+  pub denied : IsDeniedAs (facts_after o before) act why
+
+-- The lines that carry a number.
+abbrev pub lines_at : ℕ → List AuditLine → List AuditLine
+lines_at number [] = []
+lines_at number (line ∷ lines) =
+    if line.step == number then line ∷ lines_at number lines else lines_at number lines
+
+-- The line is that of a denied step of the list, whose number it has: steps are counted from 1.
+pub record IsLineOf (o : Origin) (list : List Step) (line : AuditLine) : Type 0 where
+  pub later : List Step
+  pub step : Step
+  pub before : List Step
+  pub place : list ≡ later ++ step ∷ before
+  pub number : line.step ≡ 1 + length before
+  pub denied : IsDeniedStep o before step line.client line.why
+
+-- The log of a list of steps. A denied step has its line and no second one, any other step none; and
+-- there are no further lines.
+pub record IsAudited (o : Origin) (list : List Step) : Type 0 where
+  pub denied : (later before : List Step) (step : Step) (client : ℕ) (why : Why)
+      → list ≡ later ++ step ∷ before → IsDeniedStep o before step client why
+      → lines_at (1 + length before) (audit (trace o list))
+      ≡ record { step = 1 + length before; client = client; why = why } ∷ []
+  pub others : (later before : List Step) (step : Step) → list ≡ later ++ step ∷ before
+      → ((client : ℕ) (why : Why) → IsDeniedStep o before step client why → ⊥)
+      → lines_at (1 + length before) (audit (trace o list)) ≡ []
+  pub lines : (line : AuditLine) → IsAmong (audit (trace o list)) line → IsLineOf o list line
+
+abbrev pub AuditLaw : Type 0
+AuditLaw = (o : Origin) (list : List Step) → IsLawful o list → IsAudited o list

@@ -1,0 +1,5 @@
+pub mod Steps
+pub mod Transfers
+pub mod Denials
+pub mod Methods
+pub mod NoTrace

@@ -1,0 +1,109 @@
+-- Transfers, over every lawful list of steps: one that the drive answers is served exactly where
+-- every range that it touches permits it by the rows in force at its last acceptance.
+use Rattle.std.specs.Prelude.{◌≡◌, ◌≢◌, ◌↔◌, ℕ, ◌+◌, ◌*◌, ◌≤◌, ◌<◌, List, [], take, drop, unwrap_or, Option, Some, None}
+use Rattle.locking.specs.Range.{RangeRows}
+use Rattle.locking.specs.Verdict.{AreOpen, AreShadowed}
+use Rattle.locking.specs.declared.range.Op.{Op}
+use Rattle.locking.specs.declared.range.Op.TheVariants as ops
+use Rattle.shadow_mbr.specs.Stored.{sector_size, sectors_from}
+use Rattle.transactions.specs.Bytes.{bytes_from}
+use Rattle.trusted_cmds.specs.declared.command.Command.{Command}
+use Rattle.trusted_cmds.specs.declared.command.Command.TheVariants.{ReadQueued, WriteQueued, ReadDma, WriteDma}
+use Rattle.history.specs.Events.{Event}
+use Rattle.history.specs.Facts.{Facts}
+use Rattle.history.specs.Opening.{Origin}
+use Rattle.history.specs.Readers.{sector}
+use Rattle.history.specs.TransferLaws.{IsPermitted}
+use Rattle.port_history.specs.declared.request.Answer.{Answer}
+use Rattle.port_history.specs.declared.request.Answer.TheVariants.{Done, Failed, Reset}
+use Rattle.port_history.specs.declared.stages.Put.{Put}
+use Rattle.port_history.specs.declared.stages.Stage.TheVariants.{Answered}
+use Rattle.port_history.specs.declared.step.Step.{Step}
+use Rattle.port_history.specs.Refusals.{IsLawful}
+use Rattle.port_history.specs.Requests.{no_bytes}
+use Rattle.port_history.specs.Steps.{trace, stage, payload, answer}
+use Rattle.headline.specs.Steps.{past_of, facts_after, ranges_after, before_acceptance, before_move, through_move}
+
+-- A read or a write of so many sectors, from an address on.
+pub record Transfer : Type 0 where
+  pub op : Op
+  pub lba : ℕ
+  pub count : ℕ
+
+-- What a command transfers, in the queue or out of it.
+abbrev pub transfer_of : Command → Option Transfer
+transfer_of (ReadQueued lba count) = Some (record { op = ops.Read; lba = lba; count = count })
+transfer_of (WriteQueued lba count) = Some (record { op = ops.Write; lba = lba; count = count })
+transfer_of (ReadDma lba count) = Some (record { op = ops.Read; lba = lba; count = count })
+transfer_of (WriteDma lba count) = Some (record { op = ops.Write; lba = lba; count = count })
+transfer_of _ = None
+
+-- A client put it under a tag, and the drive answered it so: what a reset stopped is answered Reset,
+-- and the drive answered nothing.
+pub record IsAnswered (o : Origin) (list : List Step) (tag : ℕ) (x : Transfer) (a : Answer) : Type 0 where
+  pub put : Put
+  pub stands : stage (trace o list) tag ≡ Answered put
+  pub asks : transfer_of put.command ≡ Some x
+  pub answers : answer (trace o list) tag ≡ Some a
+  pub no_reset : a ≢ Reset
+
+abbrev pub IsDone : Answer → Type 0
+IsDone a = (bytes : List ℕ) × (a ≡ Done bytes)
+
+-- Its sectors are all on the drive.
+abbrev pub IsOnDrive : Origin → Transfer → Type 0
+IsOnDrive o x = x.lba + x.count ≤ o.tables.config.sectors
+
+-- Every range that it touches permits it: no sector is shadowed and the range of each permits it, or
+-- it is a read of shadowed sectors alone.
+abbrev pub IsAllowed : RangeRows → Transfer → Type 0
+IsAllowed ranges x = IsPermitted ranges x.op x.lba x.count
+
+-- What a served transfer gives: a read the sectors of media, or the shadow's bytes where its sectors
+-- are shadowed; a write none.
+pub record GivesBytes (ranges : RangeRows) (f : Facts) (x : Transfer) (bytes : List ℕ) : Type 0 where
+  pub media : x.op ≡ ops.Read → AreOpen ranges x.lba (x.lba + x.count)
+      → bytes ≡ sectors_from f.sector x.lba x.count
+  pub shadow : x.op ≡ ops.Read → AreShadowed ranges x.lba (x.lba + x.count)
+      → bytes ≡ bytes_from f.byte (sector_size * x.lba) (sector_size * x.count)
+  pub write : x.op ≡ ops.Write → bytes ≡ []
+
+-- The sectors of a write hold its data.
+abbrev pub HaveData : List Event → Transfer → List ℕ → Type 0
+HaveData past x content =
+    (k : ℕ) → k < x.count
+    → sector past (x.lba + k) ≡ take sector_size (drop (sector_size * k) content)
+
+-- It is done exactly where it is allowed by the rows in force at its last acceptance, with the bytes
+-- of the act that moved its data, by which media have those of a write; 51h 04h where it is not,
+-- 51h 10h where its addresses leave the drive. An earlier acceptance counts for nothing.
+pub record IsServed (o : Origin) (list : List Step) (tag : ℕ) (x : Transfer) (a : Answer) : Type 0 where
+  pub served : IsOnDrive o x
+      → IsDone a ↔ IsAllowed (ranges_after o (before_acceptance list tag)) x
+  pub bytes : (bytes : List ℕ) → a ≡ Done bytes
+      → GivesBytes (ranges_after o (before_acceptance list tag))
+      (facts_after o (before_move list tag)) x bytes
+  pub written : x.op ≡ ops.Write → IsDone a
+      → HaveData (past_of o (through_move list tag)) x (payload (trace o list) tag)
+  pub denied : IsOnDrive o x
+      → (IsAllowed (ranges_after o (before_acceptance list tag)) x → ⊥) → a ≡ Failed 0x51 0x04
+  pub beyond : (IsOnDrive o x → ⊥) → a ≡ Failed 0x51 0x10
+
+-- All that a list of steps answered.
+abbrev pub AreServed : Origin → List Step → Type 0
+AreServed o list =
+    (tag : ℕ) (x : Transfer) (a : Answer) → IsAnswered o list tag x a → IsServed o list tag x a
+
+abbrev pub TransferLaw : Type 0
+TransferLaw = (o : Origin) (list : List Step) → IsLawful o list → AreServed o list
+
+-- And so what a client takes: where its command is a transfer, and no reset stopped it.
+abbrev pub IsServedAnswer : Origin → List Step → ℕ → Answer → Type 0
+IsServedAnswer o list tag a =
+    (put : Put) (x : Transfer) → stage (trace o list) tag ≡ Answered put
+    → transfer_of put.command ≡ Some x → a ≢ Reset → IsServed o list tag x a
+
+abbrev pub TakenLaw : Type 0
+TakenLaw =
+    (o : Origin) (list : List Step) (tag : ℕ) → IsLawful o list
+    → IsServedAnswer o list tag (unwrap_or (answer (trace o list) tag) no_bytes)

@@ -1,0 +1,41 @@
+//! The headline, over every lawful list of steps of a port: what a self-locking drive promises to those who use it.
+#![tactic(auto)]
+
+ghost use Rattle.headline.specs.Denials.{AuditLaw};
+ghost use Rattle.headline.specs.Methods.{MethodLaw};
+ghost use Rattle.headline.specs.NoTrace.{OpenLaw, AbortLaw};
+ghost use Rattle.headline.specs.Transfers.{TransferLaw, TakenLaw};
+
+/// A read or write that the drive answers is served exactly where every range that it touches permits it by the rows
+/// in force at its last acceptance.
+///
+/// Not said: that a transfer is ever answered; what a reset stopped, which is answered `Reset`.
+pub fn law_of_transfers()
+    ensures served { TransferLaw }
+    ensures taken { TakenLaw }
+{}
+
+/// Each act that was denied has exactly one line in the audit, at its step, with its client, in the words of what
+/// denied it; no other act has one.
+///
+/// Not said: anything of faults that are no denials, as addresses beyond the drive, calls of a wrong shape, invalid
+/// values. They leave no line.
+pub fn law_of_denials()
+    ensures audited { AuditLaw }
+{}
+
+/// A call of a right shape with valid values takes effect, and a column is listed, exactly where an access entry that
+/// names it holds of the session's authorities in its view.
+///
+/// Not said: what shapes and values are right, which the definitions of the calls say.
+pub fn law_of_methods()
+    ensures granted { MethodLaw }
+{}
+
+/// Nothing is made from a Set of an open or aborted transaction, but in its session's own view while it is open.
+///
+/// Not said: that attempts made within it are undone. They count, and authorities that they gained stay.
+pub fn law_of_transactions()
+    ensures hidden { OpenLaw }
+    ensures forgotten { AbortLaw }
+{}

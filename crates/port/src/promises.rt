@@ -1,0 +1,32 @@
+//! What follows of the steps so far: the headline.
+
+use crate::port::Port;
+
+impl Port {
+    ghost use Rattle.std.specs.Prelude.{◌≡◌, List, reverse};
+    ghost use Rattle.history.specs.Opening.{Origin};
+    ghost use Rattle.port_history.specs.declared.step.Step.{Step};
+    ghost use Rattle.port_history.specs.Steps.{trace, audit};
+    ghost use Rattle.headline.specs.Denials.{IsAudited};
+    ghost use Rattle.headline.specs.Methods.{AreJudged};
+    ghost use Rattle.headline.specs.NoTrace.{AreHidden, AreForgotten};
+    ghost use Rattle.headline.specs.Transfers.{AreServed};
+    ghost use Rattle.port.specs.Agreement.{PortAgrees};
+
+    /// The headline, of the steps so far. It does nothing: what it is for is its contract.
+    ///
+    /// `transfers`: each transfer that the drive answered was served exactly where every range that it touches permits
+    /// it by the rows in force at its last acceptance. `methods`: each call of a right shape with valid values took
+    /// effect, and each column was listed, exactly where an access entry that names it holds. `hidden`, `forgotten`:
+    /// nothing was made from a Set of an open or aborted transaction, but in its session's own view. `audited`: the log
+    /// has one line for each denial, in the words of what denied it, and no other line.
+    pub fn headline(&self)
+        ensures transfers { (o : Origin) (list : List Step) → PortAgrees self.now o list → AreServed o list }
+        ensures methods { (o : Origin) (list : List Step) → PortAgrees self.now o list → AreJudged o list }
+        ensures hidden { (o : Origin) (list : List Step) → PortAgrees self.now o list → AreHidden o list }
+        ensures forgotten { (o : Origin) (list : List Step) → PortAgrees self.now o list → AreForgotten o list }
+        ensures audited { (o : Origin) (list : List Step) → PortAgrees self.now o list → IsAudited o list }
+        ensures log { (o : Origin) (list : List Step) → PortAgrees self.now o list
+            → self.now.audit ≡ reverse (audit (trace o list)) }
+    {}
+}
