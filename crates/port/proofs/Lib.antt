@@ -5,6 +5,7 @@ pub mod Words
 pub mod Agreeing
 pub mod Lawful
 pub mod Calls
+pub mod Handing
 pub mod Accepting
 pub mod Completing
 pub mod Restarting

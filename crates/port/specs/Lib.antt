@@ -2,3 +2,4 @@ pub mod Answers
 pub mod Host
 pub mod State
 pub mod Agreement
+pub mod Built

@@ -138,6 +138,33 @@ fn bytes_moved(command: Command) -> u32
     SECTOR_SIZE as u32 * blocks
 }
 
+/// The FIS of a command, as a slot holds it.
+pub(crate) fn command_block(command: Command, tag: Tag) -> CommandBlock
+    requires address { IfSome (lba_of command) (λ lba. lba < 2 ^ 48) }
+    requires counted { IsCounted command }
+    ensures { result ≡ command_fis command tag }
+{
+    CommandBlock::new(block(command, tag)).unwrap()
+}
+
+/// Lays a command, whose FIS is built, with its data in its slot.
+pub(crate) fn lay_block(
+    memory: &mut PortMemory,
+    tag: Tag,
+    fis: &CommandBlock,
+    command: Command,
+    bytes: &[u8],
+)
+    requires built { fis.now ≡ command_fis command tag }
+    requires moved { bytes_moved command ≤ buffer_size }
+    requires fits { length bytes.now ≤ buffer_size }
+    ensures laid { IsLaid memory.new tag command bytes.now }
+    ensures elsewhere { AreSameButSlot memory.old memory.new tag }
+{
+    memory.place(tag, fis, is_to_device(command), bytes_moved(command));
+    fill(memory, tag, bytes);
+}
+
 /// Lays a command with its data in its slot.
 pub(crate) fn lay(memory: &mut PortMemory, tag: Tag, command: Command, bytes: &[u8])
     requires address { IfSome (lba_of command) (λ lba. lba < 2 ^ 48) }
@@ -147,9 +174,8 @@ pub(crate) fn lay(memory: &mut PortMemory, tag: Tag, command: Command, bytes: &[
     ensures laid { IsLaid memory.new tag command bytes.now }
     ensures elsewhere { AreSameButSlot memory.old memory.new tag }
 {
-    let fis = CommandBlock::new(block(command, tag)).unwrap();
-    memory.place(tag, &fis, is_to_device(command), bytes_moved(command));
-    fill(memory, tag, bytes);
+    let fis = command_block(command, tag);
+    lay_block(memory, tag, &fis, command, bytes);
 }
 
 /// The answer that an outcome stands for.

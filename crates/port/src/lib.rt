@@ -3,6 +3,7 @@
 #![tactic(auto)]
 
 mod acting;
+mod built;
 mod checks;
 mod engine;
 mod host;
@@ -13,6 +14,7 @@ mod registers;
 mod restarts;
 mod stages;
 
+pub use built::{Built, fits};
 pub use outcome::Outcome;
 pub use port::Port;
 pub use port_history::{

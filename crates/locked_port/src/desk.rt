@@ -1,0 +1,201 @@
+//! What lies under the lock.
+
+ghost use Rattle.std.specs.Prelude.{◌≡◌};
+ghost use Rattle.port_history.specs.Stages.{put_in};
+ghost use Rattle.locked_port.specs.Counts.{Stands, client_steps};
+
+use crate::pass::PortName;
+use crate::ticket::{Receipt, Ticket};
+use arrayvec::ArrayVec;
+use drive::ResetKind;
+use fis::{SLOT_COUNT, Tag};
+use port::{Built, EngineStep, Port, PortError, Put, Stage, Step};
+use std::sync::ledger::{Book, Share};
+
+/// The port, and the book of its client steps. The port agrees with an origin of its drive and the list of steps that
+/// its history stores, and the book has as many as are clients' among them.
+#[derive(Drop)]
+pub(crate) struct Desk<L: PortName> {
+    pub(crate) port: Port,
+    pub(crate) book: Book<L>,
+    ghost stands: { Stands port book.total },
+}
+
+/// The Put of a slot that is not free.
+fn put_in(stage: Stage) -> Option<Put>
+    ensures { result ≡ put_in stage }
+{
+    match stage {
+        Stage::Free => None,
+        Stage::Prepared(put) | Stage::Issued(put) | Stage::Accepted(put) | Stage::Answered(put) =>
+            Some(put),
+    }
+}
+
+impl<L: PortName> Desk<L> {
+    ghost use Rattle.std.specs.Prelude.{◌≡◌, ◌+◌, ◌<◌, ◌≤◌, List, ◌∷◌, length, IfOk, IfSome, MatchResult, MatchOption};
+    ghost use Rattle.history.specs.Opening.{Origin};
+    ghost use Rattle.port_history.specs.declared.step.Step.{Step};
+    ghost use Rattle.port_history.specs.declared.step.Step.TheVariants as steps;
+    ghost use Rattle.port_history.specs.Ready.{with_step, chosen, ready};
+    ghost use Rattle.port_history.specs.Steps.{trace};
+    ghost use Rattle.port.specs.Agreement.{PortAgrees};
+
+    /// A port over the book that counted its client steps.
+    pub(crate) fn new(port: Port, book: Book<L>) -> Desk<L>
+        requires { Stands port book.total }
+    {
+        Desk { port, book }
+    }
+
+    /// The port, and the book that counted its client steps.
+    pub(crate) fn into_parts(self) -> (Port, Book<L>)
+        ensures stands { Stands result.0 result.1.total }
+        ensures counted { client_steps result.0.history ≡ result.1.total }
+    {
+        let Desk { port, book } = self;
+        (port, book)
+    }
+
+    /// Whether the history has no room: a reset is refused for nothing else.
+    fn is_full(&self) -> bool {
+        let reset = Step::Reset {
+            client: 0,
+            kind: ResetKind::Power,
+        };
+        !self.port.may(&reset)
+    }
+
+    /// Puts what was built.
+    ///
+    /// # Errors
+    ///
+    /// Those of `put_built`. The port is then as before.
+    pub(crate) fn submit(
+        &mut self,
+        mine: &mut Share<L>,
+        client: u32,
+        built: Built,
+    ) -> Result<Ticket, PortError>
+        requires { 0 < mine.old.parts }
+        ensures step { MatchResult result
+            (λ t. (t.client ≡ client) × (t.tag ≡ built.tag)
+            × ((o : Origin) (list : List Step) → PortAgrees self.old.port o list
+            → (t.number ≡ 1 + length (trace o list))
+            × PortAgrees self.new.port o (steps.Put client built.tag built.request ∷ list)))
+            (λ _. self.new.port ≡ self.old.port) }
+        ensures count { MatchResult result
+            (λ _. mine.new.amount ≡ mine.old.amount + 1) (λ _. mine.new.amount ≡ mine.old.amount) }
+        ensures parts { mine.new.parts ≡ mine.old.parts }
+    {
+        let tag = built.tag();
+        let Desk { port, book } = self;
+        match port.put_built(client, built) {
+            Ok(number) => {
+                book.add(mine, 1);
+                Ok(Ticket {
+                    client,
+                    tag,
+                    number,
+                })
+            }
+            Err((error, _built)) => Err(error),
+        }
+    }
+
+    /// Takes the answer of a ticket, or tells by `None` that it is still to come.
+    ///
+    /// # Errors
+    ///
+    /// In this order: `HistoryFull`, `NotAnswered`, `NotYours`, `OutOfMemory`. The port is then as before.
+    pub(crate) fn take(
+        &mut self,
+        mine: &mut Share<L>,
+        client: u32,
+        ticket: &Ticket,
+    ) -> Result<Option<Receipt>, PortError>
+        requires { 0 < mine.old.parts }
+        ensures step { MatchResult result
+            (λ o. MatchOption o (self.new.port ≡ self.old.port)
+            (λ r. (r.step ≡ steps.Take client ticket.now.tag) × (ticket.now.number < r.number)
+            × ((o : Origin) (list : List Step) → PortAgrees self.old.port o list
+            → PortAgrees self.new.port o (r.step ∷ list))))
+            (λ _. self.new.port ≡ self.old.port) }
+        ensures count { MatchResult result
+            (λ o. MatchOption o (mine.new.amount ≡ mine.old.amount)
+            (λ _. mine.new.amount ≡ mine.old.amount + 1))
+            (λ _. mine.new.amount ≡ mine.old.amount) }
+        ensures parts { mine.new.parts ≡ mine.old.parts }
+    {
+        if !self.is_answered(client, ticket)? {
+            return Ok(None);
+        }
+        let Desk { port, book } = self;
+        let (number, reply) = port.take(client, ticket.tag)?;
+        book.add(mine, 1);
+        Ok(Some(Receipt {
+            number,
+            step: Step::Take {
+                client,
+                tag: ticket.tag,
+            },
+            reply,
+        }))
+    }
+
+    /// The Put of a slot that is not free: its number is that of a step.
+    fn put_at(&self, tag: Tag) -> Option<Put>
+        ensures { IfSome result (λ put. put.number ≤ length self.now.port.history) }
+    {
+        let number = tag.number();
+        prove!(usize::from(number) < SLOT_COUNT);
+        put_in(self.port.stage(tag))
+    }
+
+    /// Whether the answer of a ticket has come.
+    fn is_answered(&self, client: u32, ticket: &Ticket) -> Result<bool, PortError>
+        ensures { IfOk result (λ _. ticket.now.number ≤ length self.now.port.history) }
+    {
+        if self.is_full() {
+            return Err(PortError::HistoryFull);
+        }
+        let Some(put) = self.put_at(ticket.tag) else {
+            return Err(PortError::NotAnswered);
+        };
+        if put.number != ticket.number {
+            return Err(PortError::NotAnswered);
+        }
+        if put.client != client {
+            return Err(PortError::NotYours);
+        }
+        Ok(matches!(self.port.stage(ticket.tag), Stage::Answered(_)))
+    }
+
+    /// The steps that the engine may do.
+    ///
+    /// # Errors
+    ///
+    /// `HistoryFull`.
+    pub(crate) fn ready(&self) -> Result<ArrayVec<EngineStep, SLOT_COUNT>, PortError> {
+        if self.is_full() {
+            return Err(PortError::HistoryFull);
+        }
+        Ok(self.port.ready())
+    }
+
+    /// Does one of the steps that the engine may do.
+    ///
+    /// # Errors
+    ///
+    /// `OutOfMemory`. The port is then as before.
+    pub(crate) fn turn(&mut self, choice: usize) -> Result<(), PortError>
+        ensures { MatchResult result
+            (λ _. (o : Origin) (list : List Step) → PortAgrees self.old.port o list
+            → PortAgrees self.new.port o (with_step (chosen choice (ready o list)) list))
+            (λ _. self.new.port ≡ self.old.port) }
+    {
+        let Desk { port, book: _ } = self;
+        port.turn(choice)?;
+        Ok(())
+    }
+}

@@ -1,0 +1,159 @@
+//! Passes: the right to act as one client, or as the engine.
+
+ghost use Rattle.std.specs.Prelude.{◌≡◌, ◌<◌, vec_len, sum_by};
+ghost use Rattle.locked_port.specs.Hands.{count_of};
+
+use crate::desk::Desk;
+use crate::ticket::{Receipt, Ticket};
+use fis::Tag;
+use port::{Built, PortError};
+use std::alloc::Global;
+use std::marker::{Brand, Model};
+use std::sync::ledger::{Ledger, Share};
+use tag_board::TagSeat;
+
+/// Names one locked port.
+pub trait PortName: Ledger {
+    ghost use Rattle.std.specs.Prelude.{ℕ};
+
+    /// How many passes there are, the engine's too.
+    ghost passes: { ℕ };
+}
+
+impl PortName for Brand {
+    ghost passes = { 0 };
+}
+
+/// The right to act as one client, or as the engine. Contracts see the client, and how many of its calls put or took
+/// something.
+#[derive(Drop)]
+pub struct Pass<L: PortName> {
+    client: u32,
+    share: Share<L>,
+    seat: TagSeat,
+}
+
+impl<L: PortName> Model for Pass<L> {
+    ghost use Rattle.std.specs.Prelude.{◌≡◌};
+    ghost use Rattle.locked_port.specs.Hands.{Hand, hand};
+
+    ghost Value = { Hand };
+
+    ghost view = { λ p. hand p.client p.share.amount };
+
+    ghost invariant = { λ p. p.share.parts ≡ 1 };
+}
+
+impl<L: PortName> Pass<L> {
+    ghost use Rattle.std.specs.Prelude.{◌≡◌, ◌<◌, IfOk, IsOkUnless, MatchResult, MatchOption};
+    ghost use Rattle.port_history.specs.declared.error.PortError.{PortError};
+    ghost use Rattle.port_history.specs.declared.step.Step.TheVariants as steps;
+    ghost use Rattle.locked_port.specs.Hands.{hands, counted};
+
+    /// The client: 1 and up, and the engine's one behind the last client's.
+    pub fn client(&self) -> u32
+        ensures { result ≡ self.now.client }
+    {
+        self.client
+    }
+
+    /// The passes 1 to `many`, each with a seat at the board.
+    pub(crate) fn deal(
+        alloc: Global,
+        whole: Share<L>,
+        mut first: TagSeat,
+        many: u32,
+    ) -> Result<Vec<Pass<L>>, PortError>
+        requires { (whole.parts ≡ many) × (whole.amount ≡ 0) }
+        ensures passes { IfOk result (λ passes. passes.items ≡ hands many) }
+        ensures memory { IsOkUnless result PortError.OutOfMemory }
+    {
+        let mut whole = whole;
+        let mut passes = Vec::new(alloc);
+        for k in 0..many {
+            let share = whole.split_off(1, 0);
+            let seat = first.split()?;
+            let pass = Pass {
+                client: k + 1,
+                share,
+                seat,
+            };
+            if passes.push(pass).is_err() {
+                return Err(PortError::OutOfMemory);
+            }
+        }
+        Ok(passes)
+    }
+
+    /// Claims a tag, without the lock.
+    pub(crate) fn claim(&mut self) -> Option<Tag>
+        ensures { self.new ≡ self.old }
+    {
+        self.seat.claim()
+    }
+
+    /// Gives a tag back, without the lock, where the seat holds it.
+    pub(crate) fn release(&mut self, tag: Tag)
+        ensures { self.new ≡ self.old }
+    {
+        if self.seat.holds(tag) {
+            self.seat.release(tag);
+        }
+    }
+
+    /// Puts what was built.
+    pub(crate) fn submit(&mut self, desk: &mut Desk<L>, built: Built) -> Result<Ticket, PortError>
+        ensures { MatchResult result
+            (λ t. (t.client ≡ self.old.client) × (t.tag ≡ built.tag) × (self.new ≡ counted self.old))
+            (λ _. self.new ≡ self.old) }
+    {
+        let ticket = desk.submit(&mut self.share, self.client, built)?;
+        Ok(ticket)
+    }
+
+    /// Takes the answer of a ticket, or tells by `None` that it is still to come.
+    pub(crate) fn take(
+        &mut self,
+        desk: &mut Desk<L>,
+        ticket: &Ticket,
+    ) -> Result<Option<Receipt>, PortError>
+        ensures { MatchResult result
+            (λ o. MatchOption o (self.new ≡ self.old)
+            (λ r. (r.step ≡ steps.Take self.old.client ticket.now.tag) × (ticket.now.number < r.number)
+            × (self.new ≡ counted self.old)))
+            (λ _. self.new ≡ self.old) }
+    {
+        match desk.take(&mut self.share, self.client, ticket)? {
+            None => Ok(None),
+            Some(receipt) => Ok(Some(receipt)),
+        }
+    }
+}
+
+/// The shares of all passes in one.
+pub(crate) fn gather<L: PortName>(mut passes: Vec<Pass<L>>) -> Share<L>
+    requires { 0 < vec_len passes }
+    ensures { (result.parts ≡ vec_len passes) × (result.amount ≡ sum_by count_of passes.items) }
+{
+    let Some(
+        Pass {
+            client: _,
+            share: mut all,
+            seat: _,
+        },
+    ) = passes.pop()
+    else {
+        unreachable!()
+    };
+    while let Some(
+        Pass {
+            client: _,
+            share,
+            seat: _,
+        },
+    ) = passes.pop()
+    {
+        all.merge(share);
+    }
+    all
+}
