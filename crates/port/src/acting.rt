@@ -77,7 +77,7 @@ impl Port {
             tag,
             request: request.copy()?,
         };
-        let reply = Answer::nothing(self.alloc);
+        let reply = Answer::nothing();
         self.history.reserve(1)?;
         host::lay(&mut self.memory, tag, command, request.payload());
         let put = Put {
@@ -117,7 +117,7 @@ impl Port {
     {
         let put = self.prepared(tag)?;
         let number = self.next_number();
-        let reply = Answer::nothing(self.alloc);
+        let reply = Answer::nothing();
         self.history.reserve(1)?;
         self.slots[usize::from(tag.number())] = Stage::Issued(put);
         self.regs.set_issue(tag, is_queued(put.command));
@@ -165,7 +165,7 @@ impl Port {
             return Err(PortError::NotIssued);
         }
         let number = self.next_number();
-        let reply = Answer::nothing(self.alloc);
+        let reply = Answer::nothing();
         self.history.reserve(1)?;
         self.audit.reserve(1)?;
         let payload = host::front(&self.memory, tag, len);
@@ -220,7 +220,7 @@ impl Port {
             return Err(PortError::NotAccepted);
         }
         let number = self.next_number();
-        let reply = Answer::nothing(self.alloc);
+        let reply = Answer::nothing();
         self.history.reserve(1)?;
         let payload = host::front(&self.memory, tag, len);
         let done = match self.drive.complete(tag, payload) {
@@ -276,7 +276,7 @@ impl Port {
         let slot = usize::from(tag.number());
         let outcome = self.outcomes[slot].unwrap_or(Outcome::Done(0));
         let answer = host::answer(&self.memory, self.alloc, tag, outcome)?;
-        let reply = host::answer(&self.memory, self.alloc, tag, outcome)?;
+        let reply = answer.copy(self.alloc)?;
         let number = self.next_number();
         self.history.reserve(1)?;
         self.slots[slot] = Stage::Free;

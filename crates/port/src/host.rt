@@ -10,9 +10,8 @@ ghost use Rattle.port.specs.Host.{IsLaid, AreSameButReceived, AreSameButBuffer, 
 ghost use Rattle.port.specs.State.{Receives, IsFilled};
 
 use crate::outcome::Outcome;
-use basics::Bytes;
 use fis::{Fis, H2D_LENGTH, Tag};
-use port_history::Answer;
+use port_history::{Answer, ReplyBytes};
 use slots::{BUFFER, CommandBlock, PortMemory};
 use std::alloc::{AllocError, Global};
 use trusted_cmds::{Command, SECTOR_SIZE, to_fis};
@@ -189,8 +188,8 @@ pub(crate) fn answer(
 {
     match outcome {
         Outcome::Done(len) => {
-            let bytes = front(memory, tag, len).to_vec(alloc)?;
-            Ok(Answer::Done(Bytes::from_vec(bytes)))
+            let bytes = ReplyBytes::new(alloc, front(memory, tag, len))?;
+            Ok(Answer::Done(bytes))
         }
         Outcome::Failed { status, error } => Ok(Answer::Failed { status, error }),
         Outcome::Reset => Ok(Answer::Reset),

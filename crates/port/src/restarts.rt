@@ -44,7 +44,7 @@ impl Port {
     {
         self.has_failed()?;
         let number = self.next_number();
-        let reply = Answer::nothing(self.alloc);
+        let reply = Answer::nothing();
         self.history.reserve(1)?;
         let Ok(answer) = self.drive.accept(&host::log_fis(), &[]) else {
             return Err(PortError::OutOfMemory);
@@ -87,7 +87,7 @@ impl Port {
     {
         self.may_reset()?;
         let number = self.next_number();
-        let reply = Answer::nothing(self.alloc);
+        let reply = Answer::nothing();
         self.history.reserve(1)?;
         self.drive.reset(kind);
         registers::reset(&mut self.regs);

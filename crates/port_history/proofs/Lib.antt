@@ -1,3 +1,4 @@
+pub mod Zeros
 pub mod Tests
 pub mod Sizes
 pub mod Fises

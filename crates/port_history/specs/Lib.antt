@@ -1,3 +1,4 @@
+pub mod Replies
 pub mod Requests
 pub mod Stages
 pub mod Steps

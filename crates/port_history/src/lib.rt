@@ -4,12 +4,14 @@
 
 mod error;
 mod laws;
+mod reply;
 mod request;
 mod stages;
 mod step;
 
 pub use error::{PlayError, PortError};
 pub use laws::laws_of_steps;
+pub use reply::ReplyBytes;
 pub use request::{Answer, MOST_BLOCKS, Request};
 pub use stages::{Put, Stage, is_queued};
 pub use step::{EngineStep, Entry, Step};

@@ -4,6 +4,7 @@ ghost use Rattle.std.specs.Prelude.{◌≡◌, ◌≤◌, ◌<◌, ◌^◌, ◌/
 ghost use Rattle.trusted_cmds.specs.Commands.{lba_of, IsCounted, sector_size};
 ghost use Rattle.port_history.specs.Requests.{no_bytes, is_address, are_blocks, are_whole, is_sized, command_of, payload_of, most_blocks, bytes_moved};
 
+use crate::reply::ReplyBytes;
 use basics::Bytes;
 use std::alloc::{AllocError, Global};
 use trusted_cmds::{Command, SECTOR_SIZE};
@@ -62,7 +63,7 @@ pub enum Request {
 #[derive(Drop)]
 pub enum Answer {
     /// Done, with the bytes that were read.
-    Done(Bytes),
+    Done(ReplyBytes),
     /// Failed, with the Status and Error registers.
     Failed { status: u8, error: u8 },
     /// Stopped by a reset.
@@ -70,11 +71,25 @@ pub enum Answer {
 }
 
 impl Answer {
-    /// The reply of every step but a Take: done, with no bytes. It takes no memory.
-    pub fn nothing(alloc: Global) -> Answer
+    /// The reply of every step but a Take: done, with no bytes.
+    pub fn nothing() -> Answer
         ensures { result ≡ no_bytes }
     {
-        Answer::Done(Bytes::from_vec(Vec::new(alloc)))
+        Answer::Done(ReplyBytes::none())
+    }
+
+    /// The same answer once more.
+    pub fn copy(&self, alloc: Global) -> Result<Answer, AllocError>
+        ensures { IfOk result (λ a. a ≡ self.now) }
+    {
+        match *self {
+            Answer::Done(ref bytes) => {
+                let bytes = bytes.copy(alloc)?;
+                Ok(Answer::Done(bytes))
+            }
+            Answer::Failed { status, error } => Ok(Answer::Failed { status, error }),
+            Answer::Reset => Ok(Answer::Reset),
+        }
     }
 }
 

@@ -1,4 +1,5 @@
 mod HexTexts
 mod Numerals
+mod SameWords
 mod Sectors
 mod WrongWords

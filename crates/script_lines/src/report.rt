@@ -52,7 +52,7 @@ impl Report {
     {
         self.last.clear();
         self.last.extend_from_slice(b"ok")?;
-        self.print_last()?;
+        self.pending.extend_from_slice(b"ok\n")?;
         Ok(())
     }
 

@@ -4,6 +4,8 @@ ghost use Rattle.std.specs.Prelude.{◌≡◌};
 ghost use Rattle.script_lines.specs.Verbs.{verb_of};
 ghost use Rattle.script_lines.specs.PortLines.{port_verb_of};
 
+use crate::words::is_word;
+
 /// What a line does, by its first word.
 #[derive(Clone, Copy, Debug, PartialEq, Eq)]
 pub enum Verb {
@@ -24,27 +26,27 @@ pub enum Verb {
 pub(crate) fn verb_of(word: &[u8]) -> Option<Verb>
     ensures { result ≡ verb_of word.now }
 {
-    if word == b"read".as_slice() {
+    if is_word(word, b"read") {
         Some(Verb::Read)
-    } else if word == b"write".as_slice() {
+    } else if is_word(word, b"write") {
         Some(Verb::Write)
-    } else if word == b"expect".as_slice() {
+    } else if is_word(word, b"expect") {
         Some(Verb::Expect)
-    } else if word == b"range".as_slice() {
+    } else if is_word(word, b"range") {
         Some(Verb::Range)
-    } else if word == b"dread".as_slice() {
+    } else if is_word(word, b"dread") {
         Some(Verb::ReadDma)
-    } else if word == b"dwrite".as_slice() {
+    } else if is_word(word, b"dwrite") {
         Some(Verb::WriteDma)
-    } else if word == b"call".as_slice() {
+    } else if is_word(word, b"call") {
         Some(Verb::Call)
-    } else if word == b"send".as_slice() {
+    } else if is_word(word, b"send") {
         Some(Verb::Send)
-    } else if word == b"recv".as_slice() {
+    } else if is_word(word, b"recv") {
         Some(Verb::Receive)
-    } else if word == b"log".as_slice() {
+    } else if is_word(word, b"log") {
         Some(Verb::Log)
-    } else if word == b"reset".as_slice() {
+    } else if is_word(word, b"reset") {
         Some(Verb::Reset)
     } else {
         None
@@ -69,23 +71,23 @@ pub enum PortVerb {
 pub(crate) fn port_verb_of(word: &[u8]) -> Option<PortVerb>
     ensures { result ≡ port_verb_of word.now }
 {
-    if word == b"put".as_slice() {
+    if is_word(word, b"put") {
         Some(PortVerb::Put)
-    } else if word == b"issue".as_slice() {
+    } else if is_word(word, b"issue") {
         Some(PortVerb::Issue)
-    } else if word == b"accept".as_slice() {
+    } else if is_word(word, b"accept") {
         Some(PortVerb::Accept)
-    } else if word == b"complete".as_slice() {
+    } else if is_word(word, b"complete") {
         Some(PortVerb::Complete)
-    } else if word == b"take".as_slice() {
+    } else if is_word(word, b"take") {
         Some(PortVerb::Take)
-    } else if word == b"recover".as_slice() {
+    } else if is_word(word, b"recover") {
         Some(PortVerb::Recover)
-    } else if word == b"reset".as_slice() {
+    } else if is_word(word, b"reset") {
         Some(PortVerb::Reset)
-    } else if word == b"expect".as_slice() {
+    } else if is_word(word, b"expect") {
         Some(PortVerb::Expect)
-    } else if word == b"range".as_slice() {
+    } else if is_word(word, b"range") {
         Some(PortVerb::Range)
     } else {
         None

@@ -1,0 +1,114 @@
+//! The bytes that a reply holds.
+
+ghost use Rattle.std.specs.Prelude.{◌≡◌, IfOk, replicate};
+ghost use Rattle.port_history.specs.Replies.{are_zero};
+
+use basics::Bytes;
+use std::alloc::{AllocError, Global};
+use std::boxed::Box;
+use std::marker::Model;
+
+/// Zeros up to this many take no memory of a reply.
+const MOST_ZEROS: usize = 65_535;
+
+static ZEROS: [u8; MOST_ZEROS] = [0; MOST_ZEROS];
+
+/// Bytes of any length, seen as their list. It is small, and where it has zeros alone, as what was read of sectors
+/// that were never written, it takes no memory.
+#[derive(Drop)]
+pub struct ReplyBytes {
+    kept: Kept,
+}
+
+#[derive(Drop)]
+enum Kept {
+    /// So many zeros.
+    Zeros(u16),
+    Own(Box<Bytes>),
+}
+
+impl Model for ReplyBytes {
+    ghost use Rattle.std.specs.Prelude.{List, ℕ};
+
+    ghost Value = { List ℕ };
+
+    ghost use Rattle.port_history.specs.Replies.{bytes_kept};
+
+    ghost view = { λ b. bytes_kept b.kept };
+}
+
+/// So many zeros.
+fn zeros(count: u16) -> &'static [u8]
+    ensures { result.now ≡ replicate count 0 }
+{
+    &ZEROS[..usize::from(count)]
+}
+
+/// Whether bytes are all zero. It looks at each, whatever came before, and so at many at a time.
+#[tactic(auto, using(crate::proofs::Zeros::are_zero_more))]
+fn are_zero(bytes: &[u8]) -> bool
+    ensures { result ≡ are_zero bytes.now }
+{
+    let mut all = true;
+    for i in 0..bytes.len() {
+        all = all & (bytes[i] == 0);
+    }
+    all
+}
+
+impl ReplyBytes {
+    ghost use Rattle.std.specs.Prelude.{◌≡◌, [], IfOk};
+
+    /// No bytes.
+    pub fn none() -> ReplyBytes
+        ensures { result ≡ [] }
+    {
+        ReplyBytes {
+            kept: Kept::Zeros(0),
+        }
+    }
+
+    /// These bytes.
+    pub fn new(alloc: Global, bytes: &[u8]) -> Result<ReplyBytes, AllocError>
+        ensures { IfOk result (λ b. b ≡ bytes.now) }
+    {
+        if bytes.len() <= MOST_ZEROS && are_zero(bytes) {
+            let kept = Kept::Zeros(bytes.len() as u16);
+            return Ok(ReplyBytes { kept });
+        }
+        let bytes = Bytes::from_vec(bytes.to_vec(alloc)?);
+        own(alloc, bytes)
+    }
+
+    /// The bytes.
+    pub fn as_slice(&self) -> &[u8]
+        ensures { result.now ≡ self.now }
+    {
+        match &self.kept {
+            Kept::Zeros(count) => zeros(*count),
+            Kept::Own(bytes) => bytes.as_slice(),
+        }
+    }
+
+    /// The same bytes once more.
+    pub fn copy(&self, alloc: Global) -> Result<ReplyBytes, AllocError>
+        ensures { IfOk result (λ b. b ≡ self.now) }
+    {
+        match &self.kept {
+            Kept::Zeros(count) => Ok(ReplyBytes {
+                kept: Kept::Zeros(*count),
+            }),
+            Kept::Own(bytes) => own(alloc, bytes.copy()?),
+        }
+    }
+}
+
+/// Bytes in memory of their own.
+fn own(alloc: Global, bytes: Bytes) -> Result<ReplyBytes, AllocError>
+    ensures { IfOk result (λ b. b ≡ bytes) }
+{
+    let bytes = Box::new(alloc, bytes)?;
+    Ok(ReplyBytes {
+        kept: Kept::Own(bytes),
+    })
+}
