@@ -16,7 +16,10 @@ const MSID: &[u8] = b"OPALMSID";
 pub(crate) fn small_drive() -> Result<DriveConfig, Fail>
     ensures { IfOk result (λ c. c.mbr_sectors ≡ 8) }
 {
-    DriveConfig::new(1000, 8, MSID).ok_or("limits".into())
+    let Some(config) = DriveConfig::new(1000, 8, MSID) else {
+        return Err("limits".into());
+    };
+    Ok(config)
 }
 
 /// The tables of that drive as it leaves the factory.
