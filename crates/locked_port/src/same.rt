@@ -16,11 +16,11 @@ fn are_same_bytes(one: &Bytes, other: &Bytes) -> bool
     one.as_slice() == other.as_slice()
 }
 
-fn is_done(answer: &Answer, bytes: &Bytes) -> bool
+fn is_done(answer: &Answer, bytes: &[u8]) -> bool
     ensures { IsTrue result ↔ (answer.now ≡ answers.Done bytes.now) }
 {
     match *answer {
-        Answer::Done(ref its) => are_same_bytes(its, bytes),
+        Answer::Done(ref its) => its.as_slice() == bytes,
         Answer::Failed { .. } | Answer::Reset => false,
     }
 }
@@ -30,7 +30,7 @@ pub fn is_same_answer(one: &Answer, other: &Answer) -> bool
     ensures { IsTrue result ↔ (one.now ≡ other.now) }
 {
     match *other {
-        Answer::Done(ref bytes) => is_done(one, bytes),
+        Answer::Done(ref bytes) => is_done(one, bytes.as_slice()),
         Answer::Failed { status, error } => {
             matches!(one, &Answer::Failed { status: its_status, error: its_error } if its_status == status && its_error == error)
         }

@@ -105,7 +105,7 @@ impl Port {
             return Err((PortError::OutOfMemory, built));
         }
         let number = self.next_number();
-        let reply = Answer::nothing(self.alloc);
+        let reply = Answer::nothing();
         let Built { tag, request, fis } = built;
         let command = request.command();
         host::lay_block(&mut self.memory, tag, &fis, command, request.payload());
