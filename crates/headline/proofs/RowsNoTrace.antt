@@ -21,14 +21,20 @@ use Rattle.history.specs.Decisions.{any_below}
 use Rattle.tcg_tokens.specs.Message.{begin, end}
 use Rattle.tcg_tokens.specs.Tree as tree
 use Rattle.history.specs.Readers.{open_on}
+use Rattle.trusted_cmds.specs.declared.command.Command.TheVariants.{Send}
+use Rattle.history.specs.Events.{Event}
+use Rattle.history.specs.History.{Accept as AcceptFis, event_by}
+use Rattle.history.specs.NoTrace.{Aborts, is_commit}
+use Rattle.port_history.specs.Requests.{command_fis}
+use Rattle.port_history.specs.declared.step.Step.TheVariants.{Accept}
 use Rattle.history.specs.Opening.{Origin}
 use Rattle.history.proofs.Scripts.{range_row, opened, set_cells}
 use Rattle.port_history.specs.declared.request.Answer.TheVariants as answers
 use Rattle.port_history.specs.declared.request.Request.TheVariants.{ReadDma}
 use Rattle.port_history.specs.declared.step.Step.{Step}
-use Rattle.port_history.specs.Steps.{trace, answer}
-use Rattle.headline.specs.Steps.{past_of, facts_after}
-use Rattle.headline.proofs.Scenes.{are_lawful, brings, begins, says, by_admin}
+use Rattle.port_history.specs.Steps.{trace, answer, payload}
+use Rattle.headline.specs.Steps.{past_of, facts_after, event_after}
+use Rattle.headline.proofs.Scenes.{are_lawful, told, lays, brings, begins, says, by_admin}
 
 -- Range 1 is 100+10, its read lock enabled and not set.
 abbrev enabled : Origin
@@ -68,3 +74,20 @@ set_committed : (are_lawful enabled (ended 0) ≡ true)
     × (answer (trace enabled (ended 0)) 8 ≡ Some (answers.Failed 0x51 0x04))
 unfolding admin_sps admin_authorities locking_authorities admin_pins locking_pins locking_ranges locking_mbr_controls admin_aces authority_aces pin_aces range_aces mbr_aces this_sp_grants admin_grants authority_grants fixed_ace_gets user_ace_grants read_locked_ace_grants write_locked_ace_grants done_ace_grants pin_grants range_grants mbr_grants first_lexeme expect number_at uid_at values_up_to list_with list_value_with named_with value_of list_at status_at call_at reply_at message_at message_in number_spelling bytes_spelling any_below ranges_in verdict_of is_range listed_among cells_for zeros sectors_from authorities_of_locking any_to
 set_committed = (refl, refl, refl)
+
+-- The step that ends it is an abort of the law; the one that commits is none.
+abbrev ending : ℕ → List Step
+ending n = lays 2 6 (told 0x1000 1 (end n)) ++ locking
+
+abbrev end_of : ℕ → Event
+end_of n =
+    event_by (facts_after enabled (ending n))
+    (AcceptFis (command_fis (Send 1 0x1000 1 true) 6) (payload (trace enabled (ending n)) 6))
+
+is_abort : (event_after enabled (ending 1) (Accept 6) ≡ Some (end_of 1)) × Aborts Locking (end_of 1)
+unfolding admin_sps admin_authorities locking_authorities admin_pins locking_pins locking_ranges locking_mbr_controls admin_aces authority_aces pin_aces range_aces mbr_aces this_sp_grants admin_grants authority_grants fixed_ace_gets user_ace_grants read_locked_ace_grants write_locked_ace_grants done_ace_grants pin_grants range_grants mbr_grants first_lexeme expect number_at uid_at values_up_to list_with list_value_with named_with value_of list_at status_at call_at reply_at message_at message_in number_spelling bytes_spelling any_below ranges_in verdict_of is_range listed_among cells_for zeros sectors_from authorities_of_locking any_to
+is_abort = (refl, record { closes = refl; no_commit = refl })
+
+is_no_abort : is_commit (end_of 0).deed ≡ true
+unfolding admin_sps admin_authorities locking_authorities admin_pins locking_pins locking_ranges locking_mbr_controls admin_aces authority_aces pin_aces range_aces mbr_aces this_sp_grants admin_grants authority_grants fixed_ace_gets user_ace_grants read_locked_ace_grants write_locked_ace_grants done_ace_grants pin_grants range_grants mbr_grants first_lexeme expect number_at uid_at values_up_to list_with list_value_with named_with value_of list_at status_at call_at reply_at message_at message_in number_spelling bytes_spelling any_below ranges_in verdict_of is_range listed_among cells_for zeros sectors_from authorities_of_locking any_to
+is_no_abort = refl

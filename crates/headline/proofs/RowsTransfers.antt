@@ -18,17 +18,24 @@ use Rattle.history.specs.Decisions.{any_below}
 use Rattle.tcg_tokens.specs.Tree as tree
 use Rattle.locking.specs.declared.range.Op.TheVariants as ops
 use Rattle.trusted_cmds.specs.declared.command.Command.TheVariants as commands
+use Rattle.audit.specs.declared.reason.Why.TheVariants.{ReadLocked}
+use Rattle.drive.specs.declared.reset.ResetKind.TheVariants.{Hardware}
+use Rattle.history.specs.History.{Act, Accept as AcceptFis, event_by}
+use Rattle.history.proofs.DenialProofs.{denial_law}
+use Rattle.port_history.specs.Requests.{command_fis}
+use Rattle.headline.specs.Denials.{IsDeniedStep, lines_at}
+use Rattle.headline.proofs.AuditLaws.{denied_as}
 use Rattle.history.specs.Opening.{Origin}
 use Rattle.history.specs.Readers.{sector}
 use Rattle.history.proofs.Scripts.{range_row, activated, opened, set_cells, call_of}
 use Rattle.port_history.specs.declared.request.Answer.TheVariants as answers
 use Rattle.port_history.specs.declared.request.Request.TheVariants.{Read, ReadDma, WriteDma}
 use Rattle.port_history.specs.declared.step.Step.{Step}
-use Rattle.port_history.specs.declared.step.Step.TheVariants.{Complete, Recover}
-use Rattle.port_history.specs.Steps.{trace, answer}
-use Rattle.headline.specs.Steps.{past_of, before_acceptance, ranges_after}
-use Rattle.headline.specs.Transfers.{IsAnswered, IsAllowed}
-use Rattle.headline.proofs.Scenes.{are_lawful, lawful, brings, begins, says, by_admin}
+use Rattle.port_history.specs.declared.step.Step.TheVariants.{Accept, Complete, Recover, Reset, Take}
+use Rattle.port_history.specs.Steps.{trace, answer, audit}
+use Rattle.headline.specs.Steps.{past_of, facts_after, before_acceptance, before_move, through_move, ranges_after}
+use Rattle.headline.specs.Transfers.{IsAnswered, IsAllowed, transfer_of}
+use Rattle.headline.proofs.Scenes.{are_lawful, lawful, lays, brings, begins, says, by_admin}
 use Rattle.headline.proofs.TransferLaws.{transfer_law}
 
 -- Of 1,000 sectors: range 1 is 100+10, its read lock enabled and set.
@@ -115,3 +122,53 @@ read_shadow : (are_lawful activated shadowed ≡ true)
     × (answer (trace activated shadowed) 8 ≡ Some (answers.Failed 0x51 0x04))
 unfolding admin_sps admin_authorities locking_authorities admin_pins locking_pins locking_ranges locking_mbr_controls admin_aces authority_aces pin_aces range_aces mbr_aces this_sp_grants admin_grants authority_grants fixed_ace_gets user_ace_grants read_locked_ace_grants write_locked_ace_grants done_ace_grants pin_grants range_grants mbr_grants first_lexeme expect number_at uid_at values_up_to list_with list_value_with named_with value_of list_at status_at call_at reply_at message_at message_in number_spelling bytes_spelling any_below ranges_in verdict_of is_range listed_among cells_for zeros sectors_from authorities_of_locking any_to
 read_shadow = (refl, refl, refl)
+
+-- Each of the four commands is a transfer.
+four : (transfer_of (commands.ReadQueued 5 2) ≡ Some (record { op = ops.Read; lba = 5; count = 2 }))
+    × (transfer_of (commands.WriteQueued 5 2) ≡ Some (record { op = ops.Write; lba = 5; count = 2 }))
+    × (transfer_of (commands.ReadDma 5 2) ≡ Some (record { op = ops.Read; lba = 5; count = 2 }))
+    × (transfer_of (commands.WriteDma 5 2) ≡ Some (record { op = ops.Write; lba = 5; count = 2 }))
+four = (refl, refl, refl, refl)
+
+-- A read is accepted before a reset and after it: the second time counts, and its data move behind.
+abbrev again : List Step
+again = Complete 0 ∷ brings 1 0 (Read 110 1) ++ Take 1 0 ∷ Reset 1 Hardware ∷ brings 1 0 (Read 110 1)
+
+places : (before_acceptance again 0 ≡ lays 1 0 (Read 110 1) ++ Take 1 0 ∷ Reset 1 Hardware ∷ brings 1 0 (Read 110 1))
+    × (before_move again 0 ≡ brings 1 0 (Read 110 1) ++ Take 1 0 ∷ Reset 1 Hardware ∷ brings 1 0 (Read 110 1))
+    × (through_move again 0 ≡ again)
+    × (are_lawful locked again ≡ true)
+unfolding admin_sps admin_authorities locking_authorities admin_pins locking_pins locking_ranges locking_mbr_controls admin_aces authority_aces pin_aces range_aces mbr_aces this_sp_grants admin_grants authority_grants fixed_ace_gets user_ace_grants read_locked_ace_grants write_locked_ace_grants done_ace_grants pin_grants range_grants mbr_grants first_lexeme expect number_at uid_at values_up_to list_with list_value_with named_with value_of list_at status_at call_at reply_at message_at message_in number_spelling bytes_spelling any_below ranges_in verdict_of is_range listed_among cells_for zeros sectors_from authorities_of_locking any_to
+places = (refl, refl, refl, refl)
+
+-- The denied read is a denied step of the audit's law, whose one line it has.
+abbrev denied_before : List Step
+denied_before = lays 1 0 (Read 109 2)
+
+denied_act : Act
+denied_act = AcceptFis (command_fis (commands.ReadQueued 109 2) 0) []
+
+denied_by : (event_by (facts_after locked denied_before) denied_act).denied ≡ Some (ReadLocked 109 2 1)
+unfolding denied_act admin_sps admin_authorities locking_authorities admin_pins locking_pins locking_ranges locking_mbr_controls admin_aces authority_aces pin_aces range_aces mbr_aces this_sp_grants admin_grants authority_grants fixed_ace_gets user_ace_grants read_locked_ace_grants write_locked_ace_grants done_ace_grants pin_grants range_grants mbr_grants first_lexeme expect number_at uid_at values_up_to list_with list_value_with named_with value_of list_at status_at call_at reply_at message_at message_in number_spelling bytes_spelling any_below ranges_in verdict_of is_range listed_among cells_for zeros sectors_from authorities_of_locking any_to
+denied_by = refl
+
+step_denied : IsDeniedStep locked denied_before (Accept 0) 1 (ReadLocked 109 2 1)
+unfolding denied_act admin_sps admin_authorities locking_authorities admin_pins locking_pins locking_ranges locking_mbr_controls admin_aces authority_aces pin_aces range_aces mbr_aces this_sp_grants admin_grants authority_grants fixed_ace_gets user_ace_grants read_locked_ace_grants write_locked_ace_grants done_ace_grants pin_grants range_grants mbr_grants first_lexeme expect number_at uid_at values_up_to list_with list_value_with named_with value_of list_at status_at call_at reply_at message_at message_in number_spelling bytes_spelling any_below ranges_in verdict_of is_range listed_among cells_for zeros sectors_from authorities_of_locking any_to
+step_denied = record {
+  tag = 0;
+  put = record { client = 1; number = 1; command = commands.ReadQueued 109 2 };
+  accepts = refl;
+  stands = refl;
+  its_client = refl;
+  act = denied_act;
+  does = refl;
+  denied = denied_as (facts_after locked denied_before) denied_act (ReadLocked 109 2 1)
+      ((denial_law (facts_after locked denied_before) denied_act (ReadLocked 109 2 1)).0 denied_by);
+}
+
+its_line : (audit (trace locked denied) ≡ record { step = 3; client = 1; why = ReadLocked 109 2 1 } ∷ [])
+    × (lines_at 3 (audit (trace locked denied)) ≡ record { step = 3; client = 1; why = ReadLocked 109 2 1 } ∷ [])
+    × (lines_at 2 (audit (trace locked denied)) ≡ [])
+    × (audit (trace locked permitted) ≡ [])
+unfolding admin_sps admin_authorities locking_authorities admin_pins locking_pins locking_ranges locking_mbr_controls admin_aces authority_aces pin_aces range_aces mbr_aces this_sp_grants admin_grants authority_grants fixed_ace_gets user_ace_grants read_locked_ace_grants write_locked_ace_grants done_ace_grants pin_grants range_grants mbr_grants first_lexeme expect number_at uid_at values_up_to list_with list_value_with named_with value_of list_at status_at call_at reply_at message_at message_in number_spelling bytes_spelling any_below ranges_in verdict_of is_range listed_among cells_for zeros sectors_from authorities_of_locking any_to
+its_line = (refl, refl, refl, refl)
