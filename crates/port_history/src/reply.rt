@@ -49,11 +49,11 @@ fn zeros(count: u16) -> &'static [u8]
 fn are_zero(bytes: &[u8]) -> bool
     ensures { result ≡ are_zero bytes.now }
 {
-    let mut all = true;
+    let mut most = 0;
     for i in 0..bytes.len() {
-        all = all & (bytes[i] == 0);
+        most = most.max(bytes[i]);
     }
-    all
+    most == 0
 }
 
 impl ReplyBytes {
