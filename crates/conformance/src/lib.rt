@@ -7,6 +7,8 @@ mod acceptance;
 #[cfg(test)]
 mod faults;
 #[cfg(test)]
+mod port_steps;
+#[cfg(test)]
 mod queue;
 #[cfg(test)]
 mod scripts;
