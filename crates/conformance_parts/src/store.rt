@@ -30,6 +30,18 @@ fn new_store(alloc: Global) -> Result<Store, Fail>
     Ok(Store::new(alloc, tables, Mbr::new(alloc, 8)))
 }
 
+/// Whether something holds of that store. The tests are lent it: to own it through their asserts would make each of them
+/// a long proof.
+fn on_store<F: FnOnce(Global, &mut Store) -> Result<bool, Fail>>(
+    alloc: Global,
+    holds: F,
+) -> Result<bool, Fail>
+    requires { F.IsAlwaysCallable holds }
+{
+    let mut store = new_store(alloc)?;
+    holds(alloc, &mut store)
+}
+
 /// One cell, with a number in it.
 fn number(alloc: Global, column: Column, number: u64) -> Result<Vec<(Column, Cell)>, Fail> {
     let mut cells = Vec::with_capacity(alloc, 1)?;
@@ -64,46 +76,52 @@ fn attempts(store: &Store) -> [u64; 2] {
     ]
 }
 
+fn shows_changes_to_their_session(alloc: Global, store: &mut Store) -> Result<bool, Fail> {
+    let mut held = store.begin(ADMIN1) == Ok(());
+    held = held && store.begin(ADMIN1) == Err(AlreadyOpen);
+    held = held && store.open_on(Sp::Locking) == Some(ADMIN1);
+    set_start(alloc, store, 100)?;
+    set_start(alloc, store, 200)?;
+    held = held && starts(store) == [0, 200, 0];
+    held = held && store.abort(SID) == Err(NotOpen);
+    held = held && store.abort(ADMIN1) == Ok(());
+    held = held && starts(store) == [0, 0, 0];
+    held = held && store.begin(ADMIN1) == Ok(());
+    set_start(alloc, store, 300)?;
+    held = held && store.commit(ADMIN1) == Ok(());
+    held = held && starts(store) == [300, 300, 300];
+    held = held && store.commit(ADMIN1) == Err(NotOpen);
+    Ok(held)
+}
+
 #[test]
 fn changes_are_seen_by_their_session_alone(rt: HostRuntime) -> Result<(), Fail> {
-    let alloc = rt.alloc();
-    let mut store = new_store(alloc)?;
-    assert_eq!(rt; store.begin(ADMIN1), Ok(()));
-    assert_eq!(rt; store.begin(ADMIN1), Err(AlreadyOpen));
-    assert_eq!(rt; store.open_on(Sp::Locking), Some(ADMIN1));
-    set_start(alloc, &mut store, 100)?;
-    set_start(alloc, &mut store, 200)?;
-    assert_eq!(rt; starts(&store), [0, 200, 0]);
-    assert_eq!(rt; store.abort(SID), Err(NotOpen));
-    assert_eq!(rt; store.abort(ADMIN1), Ok(()));
-    assert_eq!(rt; starts(&store), [0, 0, 0]);
-    assert_eq!(rt; store.begin(ADMIN1), Ok(()));
-    set_start(alloc, &mut store, 300)?;
-    assert_eq!(rt; store.commit(ADMIN1), Ok(()));
-    assert_eq!(rt; starts(&store), [300, 300, 300]);
-    assert_eq!(rt; store.commit(ADMIN1), Err(NotOpen));
+    assert!(rt; on_store(rt.alloc(), shows_changes_to_their_session)?);
     Ok(())
+}
+
+fn keeps_tries_outside(alloc: Global, store: &mut Store) -> Result<bool, Fail> {
+    let pin = Uid::pin_of_admin(1);
+    let mut held = store.begin(ADMIN1) == Ok(());
+    store.set_tries(Sp::Locking, pin, 4);
+    held = held && attempts(store) == [4, 4];
+    let cells = number(alloc, Column::TRIES, 0)?;
+    let refused = store.set(ADMIN1, &Change::Cells { object: pin, cells });
+    held = held && refused == Err(SetError::NoCell);
+    held = held && store.abort(ADMIN1) == Ok(());
+    held = held && attempts(store) == [4, 4];
+    store.set_tries(Sp::Admin, Uid::LOCKING_SP, 4);
+    held = held && state(store) == 8;
+    store.reset_rows(1);
+    held = held && attempts(store) == [4, 4];
+    store.reset_rows(0);
+    held = held && attempts(store) == [0, 0];
+    Ok(held)
 }
 
 #[test]
 fn tries_stand_outside(rt: HostRuntime) -> Result<(), Fail> {
-    let alloc = rt.alloc();
-    let pin = Uid::pin_of_admin(1);
-    let mut store = new_store(alloc)?;
-    assert_eq!(rt; store.begin(ADMIN1), Ok(()));
-    store.set_tries(Sp::Locking, pin, 4);
-    assert_eq!(rt; attempts(&store), [4, 4]);
-    let cells = number(alloc, Column::TRIES, 0)?;
-    let refused = store.set(ADMIN1, &Change::Cells { object: pin, cells });
-    assert_eq!(rt; refused, Err(SetError::NoCell));
-    assert_eq!(rt; store.abort(ADMIN1), Ok(()));
-    assert_eq!(rt; attempts(&store), [4, 4]);
-    store.set_tries(Sp::Admin, Uid::LOCKING_SP, 4);
-    assert_eq!(rt; state(&store), 8);
-    store.reset_rows(1);
-    assert_eq!(rt; attempts(&store), [4, 4]);
-    store.reset_rows(0);
-    assert_eq!(rt; attempts(&store), [0, 0]);
+    assert!(rt; on_store(rt.alloc(), keeps_tries_outside)?);
     Ok(())
 }
 
@@ -126,19 +144,23 @@ fn has_pin(store: &Store, pin: &[u8]) -> bool {
     }
 }
 
-#[test]
-fn activate_and_revert(rt: HostRuntime) -> Result<(), Fail> {
-    let mut store = new_store(rt.alloc())?;
+fn activates_and_reverts(_alloc: Global, store: &mut Store) -> Result<bool, Fail> {
     store.activate()?;
-    assert_eq!(rt; state(&store), 9);
-    assert!(rt; has_pin(&store, MSID));
+    let mut held = state(store) == 9;
+    held = held && has_pin(store, MSID);
     store.revert(Sp::Locking)?;
-    assert_eq!(rt; state(&store), 8);
-    assert!(rt; has_pin(&store, b""));
+    held = held && state(store) == 8;
+    held = held && has_pin(store, b"");
     store.activate()?;
     store.revert(Sp::Admin)?;
-    assert_eq!(rt; state(&store), 8);
-    assert_eq!(rt; store.open_on(Sp::Locking), None);
+    held = held && state(store) == 8;
+    held = held && store.open_on(Sp::Locking) == None;
+    Ok(held)
+}
+
+#[test]
+fn activate_and_revert(rt: HostRuntime) -> Result<(), Fail> {
+    assert!(rt; on_store(rt.alloc(), activates_and_reverts)?);
     Ok(())
 }
 
@@ -190,51 +212,61 @@ fn committed_bytes(rt: HostRuntime) -> Result<(), Fail> {
     Ok(())
 }
 
-#[test]
-fn resets_lock_and_abort(rt: HostRuntime) -> Result<(), Fail> {
-    let alloc = rt.alloc();
+fn locks_and_aborts(alloc: Global, store: &mut Store) -> Result<bool, Fail> {
     let range = Uid::range(2);
-    let mut store = new_store(alloc)?;
-    assert_eq!(rt; store.begin(ADMIN1), Ok(()));
-    set_start(alloc, &mut store, 100)?;
+    let mut held = store.begin(ADMIN1) == Ok(());
+    set_start(alloc, store, 100)?;
     store.reset_rows(1);
-    assert_eq!(rt; starts(&store), [0, 0, 0]);
-    assert_eq!(rt; store.open_on(Sp::Locking), None);
+    held = held && starts(store) == [0, 0, 0];
+    held = held && store.open_on(Sp::Locking) == None;
     let locked = number_at(&store.committed(), Sp::Locking, range, Column::READ_LOCKED);
-    assert_eq!(rt; locked, 0);
+    held = held && locked == 0;
     store.reset_rows(0);
     let locked = number_at(&store.committed(), Sp::Locking, range, Column::WRITE_LOCKED);
-    assert_eq!(rt; locked, 1);
-    Ok(())
+    held = held && locked == 1;
+    Ok(held)
 }
 
 #[test]
-fn refused_set(rt: HostRuntime) -> Result<(), Fail> {
-    let alloc = rt.alloc();
-    let mut store = new_store(alloc)?;
-    assert_eq!(rt; store.begin(ADMIN1), Ok(()));
-    set_start(alloc, &mut store, 100)?;
+fn resets_lock_and_abort(rt: HostRuntime) -> Result<(), Fail> {
+    assert!(rt; on_store(rt.alloc(), locks_and_aborts)?);
+    Ok(())
+}
+
+fn sets_or_refuses(alloc: Global, store: &mut Store) -> Result<bool, Fail> {
+    let mut held = store.begin(ADMIN1) == Ok(());
+    set_start(alloc, store, 100)?;
     let cells = number(alloc, Column::RANGE_START, 200)?;
     let object = Uid::range(1);
     let error = store.set(ADMIN1, &Change::Cells { object, cells }).err();
     let start = if error.is_none() { 200 } else { 100 };
-    assert!(rt; error.is_none() || error == Some(SetError::OutOfMemory));
-    assert_eq!(rt; starts(&store), [0, start, 0]);
-    assert_eq!(rt; store.abort(ADMIN1), Ok(()));
-    assert_eq!(rt; starts(&store), [0, 0, 0]);
+    held = held && (error.is_none() || error == Some(SetError::OutOfMemory));
+    held = held && starts(store) == [0, start, 0];
+    held = held && store.abort(ADMIN1) == Ok(());
+    held = held && starts(store) == [0, 0, 0];
+    Ok(held)
+}
+
+#[test]
+fn refused_set(rt: HostRuntime) -> Result<(), Fail> {
+    assert!(rt; on_store(rt.alloc(), sets_or_refuses)?);
     Ok(())
+}
+
+fn activates_or_refuses(_alloc: Global, store: &mut Store) -> Result<bool, Fail> {
+    let mut held = store.begin(ADMIN1) == Ok(());
+    let active = store.activate().is_ok();
+    held = held && state(store) == (if active { 9 } else { 8 });
+    held = held && has_pin(store, MSID) == active;
+    held = held && store.open_on(Sp::Locking).is_none() == active;
+    let reverted = store.revert(Sp::Admin).is_ok();
+    held = held && state(store) == (if active && !reverted { 9 } else { 8 });
+    held = held && has_pin(store, MSID) == (active && !reverted);
+    Ok(held)
 }
 
 #[test]
 fn refused_activate_and_revert(rt: HostRuntime) -> Result<(), Fail> {
-    let mut store = new_store(rt.alloc())?;
-    assert_eq!(rt; store.begin(ADMIN1), Ok(()));
-    let active = store.activate().is_ok();
-    assert_eq!(rt; state(&store), if active { 9 } else { 8 });
-    assert_eq!(rt; has_pin(&store, MSID), active);
-    assert_eq!(rt; store.open_on(Sp::Locking).is_none(), active);
-    let reverted = store.revert(Sp::Admin).is_ok();
-    assert_eq!(rt; state(&store), if active && !reverted { 9 } else { 8 });
-    assert_eq!(rt; has_pin(&store, MSID), active && !reverted);
+    assert!(rt; on_store(rt.alloc(), activates_or_refuses)?);
     Ok(())
 }
