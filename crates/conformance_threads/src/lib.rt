@@ -1,0 +1,5 @@
+//! Tests of what threads share.
+#![tactic(auto)]
+
+#[cfg(test)]
+mod tags;
