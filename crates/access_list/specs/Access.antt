@@ -4,8 +4,8 @@ use Rattle.arrayvec.specs.ArrayVec.{ArrayVec}
 use Rattle.sp_cells.specs.declared.names.Uid.{Uid}
 use Rattle.sp_cells.specs.declared.names.Sp.{Sp}
 use Rattle.sp_cells.specs.declared.names.Sp.TheVariants.{Admin, Locking}
-use Rattle.sp_cells.specs.Names.{get, set, authenticate, revert, activate, this_sp, admin_sp, locking_sp, anybody, sid, admin_uid, user_uid, c_pin_sid, c_pin_msid, admin_pin_uid, user_pin_uid, global_range, range_uid, mbr_control, mbr_table}
-use Rattle.sp_cells.specs.Names.{ace_anybody, ace_admins, ace_anybody_get_common_name, ace_c_pin_sid_get_nopin, ace_c_pin_sid_set_pin, ace_c_pin_msid_get_pin, ace_sp_sid, ace_ace_set_boolean_expression, ace_authority_set_enabled, ace_c_pin_admins_get_all_nopin, ace_c_pin_admins_set_pin, ace_c_pin_user_set_pin, ace_locking_get_all, ace_range_set_read_locked, ace_range_set_write_locked, ace_locking_global_range_admins_set, ace_locking_admins_set, ace_mbr_control_admins_set, ace_mbr_control_set_done_to_dor}
+use Rattle.sp_cells.specs.Names.{get, set, authenticate, revert, activate, this_sp, admin_sp, locking_sp, anybody, sid, admin_uid, user_uid, c_pin_sid, c_pin_msid, admin_pin_uid, user_pin_uid, global_range, range_uid, mbr_control, mbr_table, tper_info}
+use Rattle.sp_cells.specs.Names.{ace_anybody, ace_admins, ace_anybody_get_common_name, ace_c_pin_sid_get_nopin, ace_c_pin_sid_set_pin, ace_c_pin_msid_get_pin, ace_sp_sid, ace_tper_info_set_programmatic_reset_enable, ace_ace_set_boolean_expression, ace_authority_set_enabled, ace_c_pin_admins_get_all_nopin, ace_c_pin_admins_set_pin, ace_c_pin_user_set_pin, ace_locking_get_all, ace_range_set_read_locked, ace_range_set_write_locked, ace_locking_global_range_admins_set, ace_locking_admins_set, ace_mbr_control_admins_set, ace_mbr_control_set_done_to_dor}
 use Rattle.sp_cells.specs.Authorities.{admins, users, numbered_ranges, all_ranges, authorities_of_locking}
 use Rattle.sp_cells.specs.Flat.{sp_eq}
 
@@ -30,13 +30,14 @@ this_sp_grants = grant Admin this_sp authenticate (ace_anybody ∷ []) ∷ grant
 -- the Admin SP
 unfoldable pub admin_grants : List Grant
 admin_grants =
-    grants Admin (admin_sp ∷ locking_sp ∷ anybody ∷ sid ∷ ace_anybody ∷ ace_c_pin_sid_get_nopin ∷ ace_c_pin_sid_set_pin ∷ ace_c_pin_msid_get_pin ∷ ace_sp_sid ∷ []) get (ace_anybody ∷ [])
+    grants Admin (admin_sp ∷ locking_sp ∷ anybody ∷ sid ∷ ace_anybody ∷ ace_c_pin_sid_get_nopin ∷ ace_c_pin_sid_set_pin ∷ ace_c_pin_msid_get_pin ∷ ace_sp_sid ∷ ace_tper_info_set_programmatic_reset_enable ∷ tper_info ∷ []) get (ace_anybody ∷ [])
     ++ grant Admin c_pin_sid get (ace_c_pin_sid_get_nopin ∷ [])
     ∷ grant Admin c_pin_sid set (ace_c_pin_sid_set_pin ∷ [])
     ∷ grant Admin c_pin_msid get (ace_c_pin_msid_get_pin ∷ [])
     ∷ grant Admin locking_sp activate (ace_sp_sid ∷ [])
     ∷ grant Admin locking_sp revert (ace_sp_sid ∷ [])
     ∷ grant Admin admin_sp revert (ace_sp_sid ∷ [])
+    ∷ grant Admin tper_info set (ace_tper_info_set_programmatic_reset_enable ∷ [])
     ∷ []
 
 unfoldable pub authority_grants : List Grant

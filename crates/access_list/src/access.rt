@@ -33,6 +33,7 @@ fn admin_row(object: Uid, method: Uid) -> Option<ArrayVec<Uid, 4>>
         (Uid::C_PIN_MSID, Uid::GET) => Some(one(Uid::ACE_C_PIN_MSID_GET_PIN)),
         (Uid::LOCKING_SP, Uid::ACTIVATE | Uid::REVERT) => Some(one(Uid::ACE_SP_SID)),
         (Uid::ADMIN_SP, Uid::REVERT) => Some(one(Uid::ACE_SP_SID)),
+        (Uid::TPER_INFO, Uid::SET) => Some(one(Uid::ACE_TPER_INFO_SET_PROGRAMMATIC_RESET_ENABLE)),
         (
             Uid::ADMIN_SP
             | Uid::LOCKING_SP
@@ -42,7 +43,9 @@ fn admin_row(object: Uid, method: Uid) -> Option<ArrayVec<Uid, 4>>
             | Uid::ACE_C_PIN_SID_GET_NOPIN
             | Uid::ACE_C_PIN_SID_SET_PIN
             | Uid::ACE_C_PIN_MSID_GET_PIN
-            | Uid::ACE_SP_SID,
+            | Uid::ACE_SP_SID
+            | Uid::ACE_TPER_INFO_SET_PROGRAMMATIC_RESET_ENABLE
+            | Uid::TPER_INFO,
             Uid::GET,
         ) => Some(one(Uid::ACE_ANYBODY)),
         _ => None,

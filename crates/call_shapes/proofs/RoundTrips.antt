@@ -62,12 +62,16 @@ columns_back [] = refl
 columns_back (c ∷ cs) = ap (λ l. c ∷ l) (columns_back cs)
 
 resets_back : (r : ResetTypes) → resets_of (Some (reset_numbers r)) ≡ Some (Numbers r)
-resets_back r = by r.power_cycle r.hardware where
-  by : (p h : Bool) → resets_of (Some (reset_numbers (record { power_cycle = p; hardware = h }))) ≡ Some (Numbers (record { power_cycle = p; hardware = h }))
-  by true true = refl
-  by true false = refl
-  by false true = refl
-  by false false = refl
+resets_back r = by r.power_cycle r.hardware r.programmatic where
+  by : (p h c : Bool) → resets_of (Some (reset_numbers (record { power_cycle = p; hardware = h; programmatic = c }))) ≡ Some (Numbers (record { power_cycle = p; hardware = h; programmatic = c }))
+  by true true true = refl
+  by true true false = refl
+  by true false true = refl
+  by true false false = refl
+  by false true true = refl
+  by false true false = refl
+  by false false true = refl
+  by false false false = refl
 
 two : (a b : Bool) → (a && b) ≡ true → (a ≡ true) × (b ≡ true)
 two true true h = (refl, refl)

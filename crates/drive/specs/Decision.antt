@@ -12,15 +12,16 @@ use Rattle.locking.specs.declared.ranges.Verdict.TheVariants.{Serve, Shadow, Den
 use Rattle.transactions.specs.Sights.{look_up, committed_sight}
 use Rattle.trusted_cmds.specs.declared.command.Command.{Command}
 use Rattle.trusted_cmds.specs.declared.command.Command.TheVariants.{Send, Receive, Identify, ReadLog10, Flush}
-use Rattle.trusted_cmds.specs.Commands.{reading}
-use Rattle.history.specs.Events.{Deed, Nothing, OfQueue, QueueFailed, QueueMended, Wrote, Event, did}
+use Rattle.trusted_cmds.specs.Commands.{reading, is_programmatic_reset}
+use Rattle.sp_cells.specs.Resets.{programmatic}
+use Rattle.history.specs.Events.{Deed, Nothing, OfQueue, QueueFailed, QueueMended, Wrote, WasReset, Event, did}
 use Rattle.history.specs.Facts.{Facts}
 use Rattle.history.specs.Decisions.{aborted, not_found, fails, holds, sent, received, is_session_com_id, discovery_com_id}
 use Rattle.tper.specs.Tper.{Tper}
 use Rattle.drive.specs.Transfer.{by_op, queued_command, unqueued_command, verdict_held, fits, Fits}
 use Rattle.drive.specs.State.{State}
 use Rattle.drive.specs.declared.decision.Decision.{Decision}
-use Rattle.drive.specs.declared.decision.Decision.TheVariants.{Aborts, FailsQueue, Holds, Moves, Executes}
+use Rattle.drive.specs.declared.decision.Decision.TheVariants.{Aborts, FailsQueue, Holds, Moves, Restarts, Executes}
 use Rattle.drive.specs.declared.decision.Refusal.{Refusal}
 use Rattle.drive.specs.declared.transfer.Transfer.{Transfer}
 use Rattle.drive.specs.declared.transfer.Held.{Held}
@@ -70,6 +71,7 @@ event_of f payload (FailsQueue failure denied) =
     record { failed = Some failure.error; deed = OfQueue (QueueFailed failure); denied = denied }
 event_of f payload (Holds tag held) = holds tag (queued_command held.transfer) (verdict_held held)
 event_of f payload (Moves held) = did (moves held.transfer payload)
+event_of f payload (Restarts command) = did (WasReset programmatic)
 event_of f payload (Executes command) = executed f payload command
 
 -- What a decision rests on: the slot, the FIS, and that what is to be done can be done.
@@ -104,4 +106,6 @@ IsDue d h (Aborts error denied) = Unit {0}
 IsDue d h (FailsQueue failure denied) = Unit {0}
 IsDue d h (Holds tag held) = IsHeld d h tag held
 IsDue d h (Moves held) = IsMoved d h held
+IsDue d h (Restarts command) =
+    (reading h ≡ Ok (command, None)) × (is_programmatic_reset command ≡ true)
 IsDue d h (Executes command) = (reading h ≡ Ok (command, None)) × CanExecute command

@@ -50,10 +50,11 @@ fn fails_queue(tag: Option<Tag>, h: &RegH2d) -> Decision
 }
 
 impl Drive {
-    ghost use Rattle.std.specs.Prelude.{◌≡◌, ◌<◌, ◌&&◌, not, ℕ, List, Some, None, Ok, is_some, true};
+    ghost use Rattle.std.specs.Prelude.{◌≡◌, ◌<◌, ◌&&◌, not, ℕ, List, Some, None, Ok, is_some, true, false};
     ghost use Rattle.fis.specs.Tags.{slot_count};
     ghost use Rattle.trusted_cmds.specs.Commands.{is_queued};
-    ghost use Rattle.history.specs.Decisions.{any_below};
+    ghost use Rattle.history.specs.Decisions.{any_below, resets};
+    ghost use Rattle.transactions.specs.Sights.{look_up, committed_sight};
     ghost use Rattle.drive.specs.Decision.{event_of, moves, IsDue, IsTrusted};
     ghost use Rattle.drive.specs.State.{seen};
     ghost use Rattle.drive.specs.Queue.{held_at};
@@ -176,6 +177,7 @@ impl Drive {
             Command::WriteDma { lba, count } => {
                 self.unqueued_transfer(h, Transfer::by(Op::Write, lba, count))
             }
+            Command::Send { .. } if self.resets(&command) => Decision::Restarts(command),
             Command::Send { .. } | Command::Receive { .. } => self.trusted(h, command),
             Command::Identify | Command::ReadLog10 { .. } | Command::Flush => {
                 Decision::Executes(command)
@@ -210,6 +212,7 @@ impl Drive {
     fn trusted(&self, h: &RegH2d, command: Command) -> Decision
         requires reads { reading h.now ≡ Ok (command, None) }
         requires trusted { IsTrusted command }
+        requires kept { resets (look_up (committed_sight self.now.tper.store)) command ≡ false }
         ensures event { (f : Facts) (payload : List ℕ) → event_of (seen self.now f) payload result
             ≡ unqueued (seen self.now f) payload command }
         ensures due { IsDue self.now h.now result }

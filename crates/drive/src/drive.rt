@@ -26,6 +26,7 @@ use std::marker::Model;
 use std::mem::replace;
 use tper::{Tper, sized};
 use transactions::View;
+use trusted_cmds::{Command, is_programmatic_reset};
 
 /// Makes all media zeros, where they are to be.
 fn wipe_where(wipes: bool, media: &mut Media)
@@ -93,8 +94,8 @@ impl Drive {
     ghost use Rattle.history.specs.Agreement.{HasNoTries};
     ghost use Rattle.history.specs.KeptStore.{HasKnownRows};
     ghost use Rattle.history.specs.Answers.{received_bytes, expected};
-    ghost use Rattle.history.specs.Decisions.{any_below, is_session_com_id, sent, received};
-    ghost use Rattle.history.specs.Events.{Event};
+    ghost use Rattle.history.specs.Decisions.{any_below, is_session_com_id, resets, sent, received};
+    ghost use Rattle.history.specs.Events.{Event, WasReset, did};
     ghost use Rattle.history.specs.Facts.{Facts, facts};
     ghost use Rattle.history.specs.History.{Act, Accept, Complete, Reset, log, event};
     ghost use Rattle.history.specs.Readers.{failure as failure_in, held as held_in, waiting};
@@ -191,6 +192,13 @@ impl Drive {
         ensures { result ≡ is_some (response_at self.now.tper.waiting com_id) }
     {
         self.tper.is_waiting(com_id)
+    }
+
+    /// Whether a command resets the drive, by the rows in force.
+    pub(crate) fn resets(&self, command: &Command) -> bool
+        ensures { result ≡ resets (look_up (committed_sight self.now.tper.store)) command.now }
+    {
+        is_programmatic_reset(command) && self.tper.lets_reset()
     }
 
     /// How many bytes a completion of the tag has to bring: 512 for each sector of a held write,
@@ -440,14 +448,15 @@ impl Drive {
         ensures in_order { (o : Origin) (acts : List Act) → AgreesInOrder self.old o acts
             → AgreesInOrder self.new o (acts ++ Reset (kind_of kind) ∷ []) }
     {
-        self.restart(kind);
+        self.restart(kind.number());
     }
 
-    fn restart(&mut self, kind: ResetKind)
-        ensures { (o : Origin) (acts : List Act) → Agrees self.old o acts
-            → Agrees self.new o (Reset (kind_of kind) ∷ acts) }
+    /// What a reset of this kind makes of each part, whatever was done before.
+    pub(crate) fn restart(&mut self, kind: u8)
+        ensures { (o : Origin) (past : List Event) → Keeps self.old o past
+            → Keeps self.new o (did (WasReset kind) ∷ past) }
     {
-        self.tper.reset(kind.number());
+        self.tper.reset(kind);
         self.queue = Queue::new();
         self.ranges.refresh(&self.tper.in_force());
     }

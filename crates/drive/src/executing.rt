@@ -6,6 +6,7 @@ use crate::answer::{Accepted, moved_fises, served_fises};
 use crate::deciding::DISCOVERY_COM_ID;
 use crate::decision::Decision;
 use crate::drive::Drive;
+use crate::reset::PROGRAMMATIC;
 use audit::Why;
 use fis::RegH2d;
 use shadow_mbr::SECTOR_SIZE;
@@ -56,6 +57,10 @@ impl Drive {
             Decision::Moves(held) => {
                 let bytes = self.carry_out(&held, payload)?;
                 Ok(Accepted::served(moved_fises(), bytes, None))
+            }
+            Decision::Restarts(command) => {
+                self.restart(PROGRAMMATIC);
+                Ok(Accepted::served(served_fises(&command), Vec::new(alloc), None))
             }
             Decision::Executes(command) => {
                 let (bytes, denied) = self.execute(&command, payload)?;

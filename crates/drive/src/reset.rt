@@ -12,6 +12,9 @@ pub enum ResetKind {
     Hardware,
 }
 
+/// The number that those columns have for the reset that a command makes.
+pub(crate) const PROGRAMMATIC: u8 = 3;
+
 impl ResetKind {
     /// The number that those columns have for it.
     pub fn number(self) -> u8

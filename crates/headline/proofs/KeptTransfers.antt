@@ -24,7 +24,7 @@ use Rattle.port_history.specs.Refusals.{IsLawful}
 use Rattle.port_history.specs.Requests.{command_fis}
 use Rattle.port_history.specs.Stages.{is_queued, to, accepted_stage}
 use Rattle.port_history.specs.Steps.{Effect, Moment, moment, trace, events, stage, failed, is_tag, payload, put_of, answer, accept_payload, executed_answer}
-use Rattle.port_history.proofs.Acted.{IsExecuted, event_is, reads_bytes, held_stays}
+use Rattle.port_history.proofs.Acted.{IsExecuted, event_is, reads_bytes}
 use Rattle.port_history.proofs.Fises.{read_as}
 use Rattle.port_history.proofs.Kept.{Kept, accept_moment, complete_moment, recover_moment, failed_held, failed_failed, failed_executed, freed}
 use Rattle.port_history.proofs.KeptLaw.{kept, accept_is, accepted_effect, complete_is, completed_effect, mended_queue, free_tag, idle, fit_issued, unqueued_comes, accepted_moves}
@@ -314,7 +314,7 @@ unqueued_self o before u put lu k mended was unqueued_is =
 
 unqueued_other : (o : Origin) (before : List Step) (u : ℕ) (put : Put) (e : Effect)
     → failed (trace o before) ≡ None → is_queued put.command ≡ false
-    → IsExecuted put.command e
+    → IsExecuted (events (trace o before)) put.command e
     → (t : ℕ) → (u == t) ≡ false → ComesAt o before t
     → AtMoment (trace o before) (accept_moment u put e) t
     (facts_after o (if u == t then before else before_acceptance before t))
@@ -322,7 +322,7 @@ unqueued_other : (o : Origin) (before : List Step) (u : ℕ) (put : Put) (e : Ef
 unqueued_other o before u put e mended unqueued_is done t apart k =
     comes_by {u = None} (failed_executed ms u put e unqueued_is ∙ mended) refl refl (same_f _) (same_f _)
     (skips (u == t) _ (answer ms t) apart) (other_if (u == t) _ (stage ms t) apart)
-    (comes_beside t _ _ _ _ _ _ _ _ (held_stays e.event (events ms) t done.quiet)
+    (comes_beside t _ _ _ _ _ _ _ _ (done.still_held t)
     (comes_by (sym mended) refl refl refl refl refl refl k))
   where
     ms : List Moment

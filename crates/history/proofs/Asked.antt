@@ -5,7 +5,7 @@ use Rattle.std.specs.List.{list_all}
 use Rattle.sp_cells.specs.declared.names.Uid.{Uid}
 use Rattle.sp_cells.specs.declared.names.Sp.{Sp}
 use Rattle.sp_cells.specs.declared.names.Sp.TheVariants.{Admin, Locking}
-use Rattle.sp_cells.specs.Names.{get, set, authenticate, activate, revert, c_pin_sid}
+use Rattle.sp_cells.specs.Names.{get, set, authenticate, activate, revert, c_pin_sid, tper_info}
 use Rattle.sp_cells.specs.Authorities.{authorities_of_locking}
 use Rattle.sp_cells.specs.Flat.{sp_eq}
 use Rattle.access_list.specs.Access.{Grant, access_list, acl_in, this_sp_grants, admin_grants, authority_grants, fixed_ace_gets, user_ace_grants, read_locked_ace_grants, write_locked_ace_grants, done_ace_grants, pin_grants, range_grants, mbr_grants}
@@ -16,6 +16,7 @@ use Rattle.call_shapes.specs.Asks.{uid_of, is_mbr_table, cellblock, columns_betw
 use Rattle.call_shapes.specs.declared.ask.Ask.{Ask}
 use Rattle.call_shapes.specs.declared.ask.Ask.TheVariants.{GetCells, GetBytes, SetCells, SetBytes, Authenticate, Activate, Revert, Other}
 use Rattle.history.specs.Calls.{asked}
+use Rattle.history.specs.Deeds.{is_set_in_admin}
 
 -- the method that an ask is of; any for one that the drive does not know
 abbrev pub is_own : Ask → Uid → Bool
@@ -173,11 +174,11 @@ no_revert : list_all (λ g. not (is_row_of Locking revert g) || false) access_li
 unfolding this_sp_grants admin_grants authority_grants fixed_ace_gets user_ace_grants read_locked_ace_grants write_locked_ace_grants done_ace_grants pin_grants range_grants mbr_grants authorities_of_locking
 no_revert = refl
 
-only_sid_pin : list_all (λ g. not (is_row_of Admin set g) || (g.object.0 == c_pin_sid.0)) access_list ≡ true
+only_two_rows : list_all (λ g. not (is_row_of Admin set g) || is_set_in_admin g.object) access_list ≡ true
 unfolding this_sp_grants admin_grants authority_grants fixed_ace_gets user_ace_grants read_locked_ace_grants write_locked_ace_grants done_ace_grants pin_grants range_grants mbr_grants authorities_of_locking
-only_sid_pin = refl
+only_two_rows = refl
 
--- Activate and Revert are of the Admin SP; a Set there is of SID's PIN row
+-- Activate and Revert are of the Admin SP; a Set there is of one of two rows
 pub activate-admin : (sp : Sp) (object method : Uid) (row : List Uid) → (method.0 == activate.0) ≡ true → acl_in access_list sp object method ≡ Some row → sp ≡ Admin
 activate-admin Admin object method row is h = refl
 activate-admin Locking object method row is h = let g : false ≡ true = rows-among (λ n. false) Locking object activate access_list row no_activate (same-method method activate Locking object row is h) in cc
@@ -186,5 +187,5 @@ pub revert-admin : (sp : Sp) (object method : Uid) (row : List Uid) → (method.
 revert-admin Admin object method row is h = refl
 revert-admin Locking object method row is h = let g : false ≡ true = rows-among (λ n. false) Locking object revert access_list row no_revert (same-method method revert Locking object row is h) in cc
 
-pub set-c_pin_sid : (object method : Uid) (row : List Uid) → (method.0 == set.0) ≡ true → acl_in access_list Admin object method ≡ Some row → (object.0 == c_pin_sid.0) ≡ true
-set-c_pin_sid object method row is h = rows-among (λ n. n == c_pin_sid.0) Admin object set access_list row only_sid_pin (same-method method set Admin object row is h)
+pub set-in-admin : (object method : Uid) (row : List Uid) → (method.0 == set.0) ≡ true → acl_in access_list Admin object method ≡ Some row → is_set_in_admin object ≡ true
+set-in-admin object method row is h = rows-among (λ n. (n == c_pin_sid.0) || (n == tper_info.0)) Admin object set access_list row only_two_rows (same-method method set Admin object row is h)

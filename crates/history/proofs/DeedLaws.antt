@@ -49,11 +49,11 @@ use Rattle.history.specs.Events.{SessionDeed, Unchanged, Started, Tried, Changed
 use Rattle.history.specs.Readers.{living, lives_by, restores, session_on, open_on, is_of, in_force}
 use Rattle.history.specs.Facts.{facts, numbered, live, has_open, standing}
 use Rattle.history.specs.Decisions.{refusal, Outcome, says, tried_in, start_verdict, deed_of_start, start_deed, started, is_method_of_manager, to_manager, outcome_of, judgement_on, begins_on, ended_by, ends_on, in_session}
-use Rattle.history.specs.Deeds.{IsIn, is_of_row, is_inside, CanDo, DeedLaw}
+use Rattle.history.specs.Deeds.{IsIn, is_set_in_admin, is_of_row, is_inside, CanDo, DeedLaw}
 use Rattle.history.proofs.Words.{latest-here, latest-skip, sp-is, sp-same}
 use Rattle.history.proofs.Items.{item-from}
 use Rattle.history.proofs.MethodProofs.{denial-none, granted-row}
-use Rattle.history.proofs.Asked.{is_own, asked-own, activate-admin, revert-admin, set-c_pin_sid}
+use Rattle.history.proofs.Asked.{is_own, asked-own, activate-admin, revert-admin, set-in-admin}
 
 -- the kinds of judgements, a refusal being 0, and of asks
 abbrev kind : Judgement → ℕ
@@ -225,6 +225,7 @@ setting-fit p sp sectors object fit (Some kinds.CPin) ask set h = asked-fit p sp
 setting-fit p sp sectors object fit (Some kinds.Ace) ask set h = asked-fit p sp sectors object fit (set_types_of (Some kinds.Ace)) ask set h
 setting-fit p sp sectors object fit (Some kinds.Locking) ask set h = asked-fit p sp sectors object fit (set_types_of (Some kinds.Locking)) ask set h
 setting-fit p sp sectors object fit (Some kinds.MbrControl) ask set h = asked-fit p sp sectors object fit (set_types_of (Some kinds.MbrControl)) ask set h
+setting-fit p sp sectors object fit (Some kinds.TperInfo) ask set h = asked-fit p sp sectors object fit (set_types_of (Some kinds.TperInfo)) ask set h
 
 unfaulted : (fault : Option SetError) (set made : Setting) → unless_fault fault set ≡ Some made → made ≡ set
 unfaulted None set made h = some-same h
@@ -250,8 +251,8 @@ makes-fit p s object fit Activate c k h = cc
 makes-fit p s object fit Revert c k h = cc
 makes-fit p s object fit Other c k h = cc
 
-row-fit : (s : Standing) (object : Uid) → AreFit (λ y. is_of_row object (Sets y)) s.sp s.mbr_sectors object
-row-fit s object = record { cells = λ cells. eq-eqb object.0 object.0 refl; bytes = λ place content on is. refl }
+row-fit : (p : Uid → Bool) (s : Standing) (object : Uid) → p object ≡ true → AreFit (λ y. is_of_row p (Sets y)) s.sp s.mbr_sectors object
+row-fit p s object h = record { cells = λ cells. h; bytes = λ place content on is. refl }
 
 inside-fit : (s : Standing) (object : Uid) → AreFit (λ y. is_inside s.mbr_sectors s.sp (Sets y)) s.sp s.mbr_sectors object
 inside-fit s object = record {
@@ -276,14 +277,11 @@ set-is (Authenticate a b) method own h = cc
 set-is Revert method own h = cc
 set-is Other method own h = cc
 
-of-same : (a b : Uid) (c : Change) → (a.0 == b.0) ≡ true → is_of_row a c ≡ true → is_of_row b c ≡ true
-of-same a b c same h = ap (λ (n : ℕ). is_of_row (record { 0 = n }) c) (sym (eqb-true a.0 b.0 same)) ∙ h
-
-makes-sid : (s : Standing) (object method : Uid) (c : Setting) → Granted s object method 1 (Makes c) → s.sp ≡ Admin → is_of_row c_pin_sid (Sets c) ≡ true
-makes-sid s object method c g admin =
-    of-same object c_pin_sid (Sets c)
-    (set-c_pin_sid object method g.row (set-is g.ask method g.own g.kind) (ap (λ x. acl_at x object method) (sym admin) ∙ g.has))
-    (makes-fit (λ y. is_of_row object (Sets y)) s object (row-fit s object) g.ask c g.kind g.does)
+makes-one : (s : Standing) (object method : Uid) (c : Setting) → Granted s object method 1 (Makes c) → s.sp ≡ Admin → is_of_row is_set_in_admin (Sets c) ≡ true
+makes-one s object method c g admin =
+    makes-fit (λ y. is_of_row is_set_in_admin (Sets y)) s object
+    (row-fit is_set_in_admin s object (set-in-admin object method g.row (set-is g.ask method g.own g.kind) (ap (λ x. acl_at x object method) (sym admin) ∙ g.has)))
+    g.ask c g.kind g.does
 
 -- the live session of an SP is on it
 abbrev gone : Option (Option Begun)
@@ -339,7 +337,7 @@ judged-can o past s h object method args (Gives results) is = tt
 judged-can o past s h object method args (Makes c) is = record {
   session = s;
   lives = record { lives = h; on = refl };
-  row = λ admin. makes-sid (standing (facts o past) s) object method c (granted (standing (facts o past) s) object method args 1 (Makes c) (asked s.sp object method args) refl is refl) admin;
+  row = λ admin. makes-one (standing (facts o past) s) object method c (granted (standing (facts o past) s) object method args 1 (Makes c) (asked s.sp object method args) refl is refl) admin;
   inside = makes-inside (standing (facts o past) s) object method c (granted (standing (facts o past) s) object method args 1 (Makes c) (asked s.sp object method args) refl is refl);
 }
 judged-can o past s h object method args (Attempts authority pin) is = by_failure (failure_of (in_force o past) s.sp authority pin)

@@ -44,13 +44,14 @@ use Rattle.audit.specs.declared.reason.Why.TheVariants.{AttemptFailed}
 use Rattle.history.specs.Calls.{asked, Standing, Judgement, Refuses, Gives, Makes, Attempts, Activates, Reverts, denial, gives, listing, table_size, bytes_between, rows_given, to_set, makes, unless_open, does_ask, does, unless_denied, judged}
 use Rattle.call_shapes.specs.declared.ask.Ask.{Ask}
 use Rattle.call_shapes.specs.declared.ask.Ask.TheVariants.{GetCells, GetBytes, SetCells, SetBytes, Authenticate, Activate, Revert, Other}
-use Rattle.history.specs.Events.{Unchanged, Nothing, Wrote, Took, HeldCommand, Event, did}
+use Rattle.history.specs.Events.{Unchanged, Nothing, Wrote, Took, HeldCommand, Event, did, WasReset}
 use Rattle.history.specs.Facts.{Facts, session_named, has_open, standing}
-use Rattle.history.specs.Decisions.{refusal, not_found, fails, refuses, aborted, fails_queue, on_drive, verdict_on, queued_by, admitted, unqueued_by, says, answers, tried_in, start_verdict, started_by, started, is_method_of_manager, to_manager, outcome_of, judgement_on, begins_on, ends_on, in_session, is_trusted, is_session_com_id, discovery_com_id, is_manager, to_session, framed, sent, send, received, unqueued, known, while_failed, is_busy, commanded, completed_by, completed}
+use Rattle.history.specs.Decisions.{refusal, not_found, fails, refuses, aborted, fails_queue, on_drive, verdict_on, queued_by, admitted, unqueued_by, says, answers, tried_in, start_verdict, started_by, started, is_method_of_manager, to_manager, outcome_of, judgement_on, begins_on, ends_on, in_session, is_trusted, is_session_com_id, discovery_com_id, is_manager, to_session, framed, sent, send, received, unqueued, known, while_failed, is_busy, commanded, completed_by, completed, resets}
 use Rattle.history.specs.History.{Act, Accept, Complete, Reset, event_by}
 use Rattle.history.specs.MethodLaws.{IsLookedAt, IsSent, IsCall}
 use Rattle.history.specs.DenialLaws.{Moves, read_queued, write_queued, read_dma, write_dma, IsFree, TransferDenied, MethodDenied, AttemptDenied, StartDenied, IsDenied, DenialLaw}
 use Rattle.history.proofs.MethodProofs.{looked_event, looked_law, sent_law, call_law}
+use Rattle.sp_cells.specs.Resets.{programmatic}
 
 -- forward: each of the four is denied for its reason
 
@@ -318,7 +319,11 @@ none-if false x y h g = g
 unqueued-is : (f : Facts) (act : Act) (why : Why) (command : Command) (looked : IsLookedAt f act command None) → (unqueued f looked.payload command).denied ≡ Some why → IsDenied f act why
 unqueued-is f act why (ReadDma l n) looked h = moves-is f act why (ReadDma l n) None looked Read l n read_dma tt (unqueued_by Nothing) (fails not_found None) refl refl refl (λ w. refl) h
 unqueued-is f act why (WriteDma l n) looked h = moves-is f act why (WriteDma l n) None looked Write l n write_dma tt (unqueued_by (Wrote l looked.payload)) (fails not_found None) refl refl refl (λ w. refl) h
-unqueued-is f act why (Send p c b d) looked h = send-is f act why p c b d looked h
+unqueued-is f act why (Send p c b d) looked h = by_reset (resets f.rows (Send p c b d)) h
+  where
+    by_reset : (x : Bool) → (cond x (did (WasReset programmatic)) (send f p c b looked.payload)).denied ≡ Some why → IsDenied f act why
+    by_reset true g = absurd (nothing g)
+    by_reset false g = send-is f act why p c b d looked g
 unqueued-is f act why (Receive p c b d) looked h =
     absurd (nothing (sym (none-if (is_trusted p b && (is_session_com_id c || c == discovery_com_id)) (received c b (f.waiting c)) refuses (received-none c b (f.waiting c)) refl) ∙ h))
 unqueued-is f act why (ReadQueued l n) looked h = absurd (nothing h)

@@ -23,7 +23,7 @@ use Rattle.device_data.specs.declared.log_page.Failure.{Failure}
 use Rattle.history.specs.Events.{HeldCommand, Held, Completed, CompletedWrite, QueueFailed, QueueMended, Deed, Nothing, InSession, OfQueue, Wrote, Took, WasReset, Event, did}
 use Rattle.history.specs.Readers.{holding, held}
 use Rattle.history.specs.Facts.{Facts, facts, session_named}
-use Rattle.history.specs.Decisions.{not_found, aborted, fails, refuses, fails_queue, on_drive, ranges_in_force, verdict_on, queued_by, admitted, unqueued_by, answers, to_manager, is_trusted, is_session_com_id, discovery_com_id, is_manager, to_session, framed, sent, received, unqueued, known, while_failed, is_busy, commanded, completed_by, completed}
+use Rattle.history.specs.Decisions.{not_found, aborted, fails, refuses, fails_queue, on_drive, ranges_in_force, verdict_on, queued_by, admitted, unqueued_by, answers, to_manager, is_trusted, is_session_com_id, discovery_com_id, is_manager, to_session, framed, sent, received, unqueued, known, while_failed, is_busy, commanded, completed_by, completed, resets, send}
 use Rattle.history.specs.Answers.{is_holding}
 use Rattle.history.specs.History.{Act, Accept, Complete, Reset, event, event_by, log}
 use Rattle.history.specs.MethodLaws.{IsLookedAt}
@@ -31,6 +31,7 @@ use Rattle.history.specs.DenialLaws.{Moves, read_queued, write_queued}
 use Rattle.history.specs.TransferLaws.{TagLaw, is_denied, WasAccepted, HeldLaw}
 use Rattle.history.proofs.Words.{latest-here, latest-skip}
 use Rattle.history.proofs.TransferProofs.{verdict_law}
+use Rattle.sp_cells.specs.Resets.{programmatic}
 
 clash : {b : Bool} → b ≡ true → b ≡ false → ⊥
 clash h g = absurd (true-false (sym h ∙ g))
@@ -90,7 +91,9 @@ received-none com_id blocks (Some r) = none-if (nat_le (length r) (sector_size *
 unqueued-none : (f : Facts) (payload : List ℕ) (c : Command) → is_holding (unqueued f payload c).deed ≡ false
 unqueued-none f payload (ReadDma l n) = none-if (on_drive f l n) (unqueued_by Nothing (verdict_on f Read l n)) (fails not_found None) (unqueued_by-none Nothing (verdict_on f Read l n) refl) refl
 unqueued-none f payload (WriteDma l n) = none-if (on_drive f l n) (unqueued_by (Wrote l payload) (verdict_on f Write l n)) (fails not_found None) (unqueued_by-none (Wrote l payload) (verdict_on f Write l n) refl) refl
-unqueued-none f payload (Send p c b d) = none-if (is_trusted p b && is_session_com_id c && not (is_some (f.waiting c))) (sent f c (frame_in payload)) refuses (sent-none f c (frame_in payload)) refl
+unqueued-none f payload (Send p c b d) =
+    none-if (resets f.rows (Send p c b d)) (did (WasReset programmatic)) (send f p c b payload) refl
+    (none-if (is_trusted p b && is_session_com_id c && not (is_some (f.waiting c))) (sent f c (frame_in payload)) refuses (sent-none f c (frame_in payload)) refl)
 unqueued-none f payload (Receive p c b d) = none-if (is_trusted p b && (is_session_com_id c || c == discovery_com_id)) (received c b (f.waiting c)) refuses (received-none c b (f.waiting c)) refl
 unqueued-none f payload _ = refl
 

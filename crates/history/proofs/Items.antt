@@ -22,10 +22,11 @@ use Rattle.trusted_cmds.specs.Commands.{reading}
 use Rattle.locking.specs.declared.ranges.Verdict.{Verdict}
 use Rattle.locking.specs.declared.ranges.Verdict.TheVariants.{Serve, Shadow, Denied}
 use Rattle.history.specs.Sessions.{Begun}
-use Rattle.history.specs.Events.{SessionDeed, Response, HeldCommand, Deed, Nothing, InSession, Wrote, Event, or_else}
+use Rattle.history.specs.Events.{SessionDeed, Response, HeldCommand, Deed, Nothing, InSession, Wrote, Event, or_else, WasReset, did}
 use Rattle.history.specs.Facts.{Facts, is_named, if_named, session_named}
-use Rattle.history.specs.Decisions.{aborted, not_found, fails, refuses, fails_queue, on_drive, verdict_on, queued_by, queued_transfer, admitted, unqueued_by, unqueued_transfer, answers, to_manager, in_session, is_trusted, is_session_com_id, discovery_com_id, is_manager, to_session, framed, sent, received, unqueued, known, while_failed, is_busy, commanded, completed_by, completed}
+use Rattle.history.specs.Decisions.{aborted, not_found, fails, refuses, fails_queue, on_drive, verdict_on, queued_by, queued_transfer, admitted, unqueued_by, unqueued_transfer, answers, to_manager, in_session, is_trusted, is_session_com_id, discovery_com_id, is_manager, to_session, framed, sent, received, unqueued, known, while_failed, is_busy, commanded, completed_by, completed, resets}
 use Rattle.history.specs.History.{Act, Accept, Complete, Reset, event_by}
+use Rattle.sp_cells.specs.Resets.{programmatic}
 
 pub record OfManager (f : Facts) (deed : SessionDeed) : Type 0 where
   pub com_id : ℕ
@@ -110,7 +111,9 @@ transfer-comes f d op lba count h = either f (on_drive f lba count) _ (fails not
 unqueued-comes : (f : Facts) (payload : List ℕ) (c : Command) → Comes f (unqueued f payload c)
 unqueued-comes f payload (ReadDma lba count) = transfer-comes f Nothing Read lba count refl
 unqueued-comes f payload (WriteDma lba count) = transfer-comes f (Wrote lba payload) Write lba count refl
-unqueued-comes f payload (Send protocol com_id blocks dma) = either f (is_trusted protocol blocks && is_session_com_id com_id && not (is_some (f.waiting com_id))) _ refuses (sent-comes f com_id (frame_in payload)) (no_item refl)
+unqueued-comes f payload (Send protocol com_id blocks dma) =
+    either f (resets f.rows (Send protocol com_id blocks dma)) (did (WasReset programmatic)) _ (no_item refl)
+    (either f (is_trusted protocol blocks && is_session_com_id com_id && not (is_some (f.waiting com_id))) _ refuses (sent-comes f com_id (frame_in payload)) (no_item refl))
 unqueued-comes f payload (Receive protocol com_id blocks dma) = either f (is_trusted protocol blocks && (is_session_com_id com_id || com_id == discovery_com_id)) _ refuses (received-comes f com_id blocks (f.waiting com_id)) (no_item refl)
 unqueued-comes f payload _ = no_item refl
 

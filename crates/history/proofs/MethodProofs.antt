@@ -32,11 +32,12 @@ use Rattle.methods.specs.Grants.{why_denied, unless_allowed, denial as denial_of
 use Rattle.methods.specs.Laws.{EachHasAce}
 use Rattle.methods.proofs.GrantLaws.{grant_law as grants}
 use Rattle.history.specs.Calls.{Standing, Judgement, Refuses, Gives, Makes, Attempts, Activates, Reverts, denial, does, unless_denied, judged}
-use Rattle.history.specs.Events.{Event, Nothing, did}
+use Rattle.history.specs.Events.{Event, Nothing, did, WasReset}
 use Rattle.history.specs.Facts.{Facts, standing, session_named}
-use Rattle.history.specs.Decisions.{outcome_of, tried_in, admitted, unqueued, fails_queue, refuses, aborted, answers, to_manager, to_session, in_session, framed, sent, while_failed, is_busy, known, commanded}
+use Rattle.history.specs.Decisions.{outcome_of, tried_in, admitted, unqueued, fails_queue, refuses, aborted, answers, to_manager, to_session, in_session, framed, sent, while_failed, is_busy, known, commanded, resets, send}
 use Rattle.history.specs.History.{Act, event_by}
 use Rattle.history.specs.MethodLaws.{EffectLaw, IsGranted, takes_effect, GrantLaw, IsLookedAt, IsSent, CallLaw}
+use Rattle.sp_cells.specs.Resets.{programmatic}
 
 none-some : {A : Type 0} {x : A} → None ≡ Some x → ⊥
 none-some h = cc
@@ -115,10 +116,19 @@ looked_law f act command tag c =
     ∙ ap (known f h c.payload) c.reads
     ∙ known-looked f h c.payload command tag
 
+-- what is sent by security protocol 01h is no reset
+no-reset : (rows : LookUp) (p c k : ℕ) (d x : Bool) → (is_trusted p k && x) ≡ true → resets rows (Send p c k d) ≡ false
+no-reset rows p c k d x h = by (p == 1) refl h
+  where
+    by : (b : Bool) → (p == 1) ≡ b → ((b && nat_lt 0 k) && x) ≡ true → resets rows (Send p c k d) ≡ false
+    by true is g = ap (λ n. resets rows (Send n c k d)) (eqb-true p 1 is)
+    by false is g = cc
+
 -- a frame that is taken
 pub sent_law : (f : Facts) (act : Act) (com_id : ℕ) (frame : Frame) → IsSent f act com_id frame → event_by f act ≡ framed f com_id frame
 sent_law f act com_id frame c =
     looked_law f act (Send c.protocol com_id c.blocks c.dma) None c.looked
+    ∙ ap (λ b. cond b (did (WasReset programmatic)) (send f c.protocol com_id c.blocks c.looked.payload)) (no-reset f.rows c.protocol com_id c.blocks c.dma (is_session_com_id com_id && not (is_some (f.waiting com_id))) c.taken)
     ∙ ap (λ b. cond b (sent f com_id (frame_in c.looked.payload)) refuses) c.taken
     ∙ ap (sent f com_id) c.framed
     ∙ ap (λ b. cond b (framed f com_id frame) (did Nothing)) c.addressed

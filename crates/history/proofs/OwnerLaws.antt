@@ -7,7 +7,7 @@ use Rattle.sp_cells.specs.declared.names.Sp.{Sp}
 use Rattle.sp_cells.specs.declared.names.Sp.TheVariants.{Admin, Locking}
 use Rattle.sp_cells.specs.declared.names.Column.{Column}
 use Rattle.sp_cells.specs.declared.cells.Cell.{Cell}
-use Rattle.sp_cells.specs.Names.{c_pin_sid, locking_sp, mbr_control}
+use Rattle.sp_cells.specs.Names.{c_pin_sid, tper_info, locking_sp, mbr_control}
 use Rattle.sp_cells.specs.declared.cells.Cell.TheVariants.{Number}
 use Rattle.sp_cells.specs.Flat.{sp_eq}
 use Rattle.sp_cells.specs.Ranges.{number_in}
@@ -25,7 +25,7 @@ use Rattle.sessions.specs.Starts.{is_in_use}
 use Rattle.history.specs.Events.{SessionDeed, Unchanged, Started, Tried, Changed, Began, Committed, Aborted, Ended, Activated, Reverted, Response, Deed, Nothing, InSession, OfQueue, Wrote, Took, WasReset, Event}
 use Rattle.history.specs.Readers.{restores, living, session_on, open_on, is_of, in_force, turns, begins, changes_on, own_changes, if_open, open_changes, only_on, unless_open, brought, changes, factory_rows}
 use Rattle.history.specs.History.{Act, event, log}
-use Rattle.history.specs.Deeds.{IsNew, is_of_row, Begins, Changes, IsOutside, CanDo, OwnerLaw, LifeLaw, ActivateLaw, RevertLaw}
+use Rattle.history.specs.Deeds.{IsNew, is_set_in_admin, is_of_row, Begins, Changes, IsOutside, CanDo, OwnerLaw, LifeLaw, ActivateLaw, RevertLaw}
 use Rattle.history.proofs.Words.{latest-here, latest-skip, sp-is}
 use Rattle.history.proofs.Emptied.{every-since-more, closed}
 use Rattle.history.proofs.DeedLaws.{deed_law}
@@ -135,12 +135,12 @@ begun-is sp (Took c) s h = cc
 
 -- it leaves the state of the Locking SP
 abbrev spares : Change → Bool
-spares (Sets (cells_set object cells)) = object.0 == c_pin_sid.0
+spares (Sets (cells_set object cells)) = is_set_in_admin object
 spares (Sets (bytes_set place bytes)) = true
 spares (Resets kind) = true
 spares Restores = false
 
-row-spares : (c : Change) → is_of_row c_pin_sid c ≡ true → spares c ≡ true
+row-spares : (c : Change) → is_of_row is_set_in_admin c ≡ true → spares c ≡ true
 row-spares (Sets (cells_set object cells)) h = h
 row-spares (Sets (bytes_set place bytes)) h = refl
 row-spares (Resets kind) h = refl
@@ -227,10 +227,15 @@ own-kept o e es can k = by_begin (begins Admin e.deed) refl
     by_begin false is = ap (list_all spares) (every-since-more (changes_on Admin) (begins Admin) e es false is) ∙ by_change (changes_on Admin e.deed) refl
 
 -- changes that spare the state of the Locking SP leave it
-put-spares : (object : Uid) (c : Column) (v : Cell) (rows : RowLook) → (object.0 == c_pin_sid.0) ≡ true → put_in object c v rows locking_sp life_cycle_state_column ≡ rows locking_sp life_cycle_state_column
-put-spares object c v rows h = ap (λ (n : ℕ). put_in (record { 0 = n }) c v rows locking_sp life_cycle_state_column) (eqb-true object.0 c_pin_sid.0 h)
+put-spares : (object : Uid) (c : Column) (v : Cell) (rows : RowLook) → is_set_in_admin object ≡ true → put_in object c v rows locking_sp life_cycle_state_column ≡ rows locking_sp life_cycle_state_column
+put-spares object c v rows h = by (object.0 == c_pin_sid.0) (object.0 == tper_info.0) refl refl h
+  where
+    by : (a b : Bool) → (object.0 == c_pin_sid.0) ≡ a → (object.0 == tper_info.0) ≡ b → (a || b) ≡ true → put_in object c v rows locking_sp life_cycle_state_column ≡ rows locking_sp life_cycle_state_column
+    by true b is other g = ap (λ (n : ℕ). put_in (record { 0 = n }) c v rows locking_sp life_cycle_state_column) (eqb-true object.0 c_pin_sid.0 is)
+    by false true is other g = ap (λ (n : ℕ). put_in (record { 0 = n }) c v rows locking_sp life_cycle_state_column) (eqb-true object.0 tper_info.0 other)
+    by false false is other g = cc
 
-puts-spare : (object : Uid) (cells : List (Column × Cell)) (rows : RowLook) → (object.0 == c_pin_sid.0) ≡ true → puts_in object cells rows locking_sp life_cycle_state_column ≡ rows locking_sp life_cycle_state_column
+puts-spare : (object : Uid) (cells : List (Column × Cell)) (rows : RowLook) → is_set_in_admin object ≡ true → puts_in object cells rows locking_sp life_cycle_state_column ≡ rows locking_sp life_cycle_state_column
 puts-spare object [] rows h = refl
 puts-spare object (p ∷ ps) rows h = puts-spare object ps (put_in object p.0 p.1 rows) h ∙ put-spares object p.0 p.1 rows h
 

@@ -21,7 +21,7 @@ use Rattle.history.specs.Sessions.{Begun}
 use Rattle.history.specs.Opening.{Origin}
 use Rattle.history.specs.Events.{SessionDeed, did, HeldCommand, Deed, Nothing, InSession, Wrote, Event, or_else, OfQueue, Took, WasReset, latest, CompletedWrite, Completed, Held, QueueFailed, QueueMended, Reverted}
 use Rattle.history.specs.Facts.{Facts, facts, session_named}
-use Rattle.history.specs.Decisions.{aborted, not_found, fails, refuses, fails_queue, on_drive, verdict_on, queued_by, queued_transfer, admitted, unqueued_by, unqueued_transfer, answers, to_manager, is_trusted, is_session_com_id, discovery_com_id, is_manager, to_session, framed, sent, received, unqueued, known, while_failed, is_busy, commanded, completed_by, completed}
+use Rattle.history.specs.Decisions.{aborted, not_found, fails, refuses, fails_queue, on_drive, verdict_on, queued_by, queued_transfer, admitted, unqueued_by, unqueued_transfer, answers, to_manager, is_trusted, is_session_com_id, discovery_com_id, is_manager, to_session, framed, sent, received, unqueued, known, while_failed, is_busy, commanded, completed_by, completed, resets}
 use Rattle.history.specs.History.{Act, Accept, Complete, Reset, event_by, log}
 use Rattle.history.specs.Readers.{part_of, wipes, writing, sector}
 use Rattle.history.specs.Bounds.{IsFed, SectorLaw}
@@ -32,6 +32,7 @@ use Rattle.history.specs.DenialLaws.{Moves, read_queued as moves_read_queued, wr
 use Rattle.history.specs.TransferLaws.{Writes, WasAccepted}
 use Rattle.history.proofs.HeldProofs.{held_law}
 use Rattle.history.proofs.WriteProofs.{write_law}
+use Rattle.sp_cells.specs.Resets.{programmatic}
 
 -- no accepted command completes a write
 abbrev quiet : Deed → Bool
@@ -75,8 +76,9 @@ unqueued-quiet : (f : Facts) (payload : List ℕ) (c : Command) → quiet (unque
 unqueued-quiet f payload (ReadDma lba count) = transfer-quiet f Nothing Read lba count refl
 unqueued-quiet f payload (WriteDma lba count) = transfer-quiet f (Wrote lba payload) Write lba count refl
 unqueued-quiet f payload (Send protocol com_id blocks dma) =
-    either (is_trusted protocol blocks && is_session_com_id com_id && not (is_some (f.waiting com_id))) _ refuses
-    (λ is. sent-quiet f com_id (frame_in payload) (middle (is_trusted protocol blocks) (is_session_com_id com_id) (not (is_some (f.waiting com_id))) is)) refl
+    either (resets f.rows (Send protocol com_id blocks dma)) (did (WasReset programmatic)) _ (λ is. refl)
+    (either (is_trusted protocol blocks && is_session_com_id com_id && not (is_some (f.waiting com_id))) _ refuses
+    (λ is. sent-quiet f com_id (frame_in payload) (middle (is_trusted protocol blocks) (is_session_com_id com_id) (not (is_some (f.waiting com_id))) is)) refl)
 unqueued-quiet f payload (Receive protocol com_id blocks dma) = either (is_trusted protocol blocks && (is_session_com_id com_id || com_id == discovery_com_id)) _ refuses (λ is. received-quiet com_id blocks (f.waiting com_id)) refl
 unqueued-quiet f payload _ = refl
 

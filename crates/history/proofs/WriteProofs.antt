@@ -18,13 +18,14 @@ use Rattle.locking.specs.declared.ranges.Verdict.{Verdict}
 use Rattle.locking.specs.declared.ranges.Verdict.TheVariants.{Serve, Shadow, Denied}
 use Rattle.history.specs.Sessions.{Begun}
 use Rattle.device_data.specs.declared.log_page.Failure.{Failure}
-use Rattle.history.specs.Events.{HeldCommand, Deed, Nothing, Wrote, Took, Event, did}
+use Rattle.history.specs.Events.{HeldCommand, Deed, Nothing, Wrote, Took, Event, did, WasReset}
 use Rattle.history.specs.Facts.{Facts, session_named}
-use Rattle.history.specs.Decisions.{not_found, aborted, fails, refuses, fails_queue, on_drive, ranges_in_force, verdict_on, queued_by, admitted, unqueued_by, answers, to_manager, is_trusted, is_session_com_id, discovery_com_id, is_manager, to_session, framed, sent, received, unqueued, known, while_failed, is_busy, commanded, completed_by, completed}
+use Rattle.history.specs.Decisions.{not_found, aborted, fails, refuses, fails_queue, on_drive, ranges_in_force, verdict_on, queued_by, admitted, unqueued_by, answers, to_manager, is_trusted, is_session_com_id, discovery_com_id, is_manager, to_session, framed, sent, received, unqueued, known, while_failed, is_busy, commanded, completed_by, completed, resets, send}
 use Rattle.history.specs.History.{Act, Accept, Complete, Reset, event_by}
 use Rattle.history.specs.MethodLaws.{IsLookedAt}
 use Rattle.history.specs.TransferLaws.{IsPermitted, is_denied, Writes, WriteLaw}
 use Rattle.history.proofs.TransferProofs.{verdict_law}
+use Rattle.sp_cells.specs.Resets.{programmatic}
 
 abbrev is_write : Deed → Bool
 is_write (Wrote lba bytes) = true
@@ -80,7 +81,9 @@ served-is f act l n lba bytes looked true Shadow drive is g = written-as f act l
 unqueued-is : (f : Facts) (act : Act) (lba : ℕ) (bytes : List ℕ) (c : Command) (looked : IsLookedAt f act c None) → (unqueued f looked.payload c).deed ≡ Wrote lba bytes → Writes f act lba bytes
 unqueued-is f act lba bytes (WriteDma l n) looked g = served-is f act l n lba bytes looked (on_drive f l n) (verdict_on f Write l n) refl refl g
 unqueued-is f act lba bytes (ReadDma l n) looked g = absurd (not-write (none-if (on_drive f l n) (unqueued_by Nothing (verdict_on f Read l n)) (fails not_found None) (unqueued_by-none Nothing (verdict_on f Read l n) refl) refl) g)
-unqueued-is f act lba bytes (Send p c b d) looked g = absurd (not-write (none-if (is_trusted p b && is_session_com_id c && not (is_some (f.waiting c))) (sent f c (frame_in looked.payload)) refuses (sent-none f c (frame_in looked.payload)) refl) g)
+unqueued-is f act lba bytes (Send p c b d) looked g =
+    absurd (not-write (none-if (resets f.rows (Send p c b d)) (did (WasReset programmatic)) (send f p c b looked.payload) refl
+    (none-if (is_trusted p b && is_session_com_id c && not (is_some (f.waiting c))) (sent f c (frame_in looked.payload)) refuses (sent-none f c (frame_in looked.payload)) refl)) g)
 unqueued-is f act lba bytes (Receive p c b d) looked g = absurd (not-write (none-if (is_trusted p b && (is_session_com_id c || c == discovery_com_id)) (received c b (f.waiting c)) refuses (received-none c b (f.waiting c)) refl) g)
 unqueued-is f act lba bytes (ReadQueued l n) looked g = absurd (not-write refl g)
 unqueued-is f act lba bytes (WriteQueued l n) looked g = absurd (not-write refl g)

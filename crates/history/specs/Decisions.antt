@@ -8,11 +8,14 @@ use Rattle.fis.specs.declared.h2d.RegH2d.{RegH2d}
 use Rattle.sp_cells.specs.declared.names.Uid.{Uid}
 use Rattle.sp_cells.specs.declared.names.Sp.{Sp}
 use Rattle.sp_cells.specs.declared.names.Sp.TheVariants.{Admin, Locking}
-use Rattle.sp_cells.specs.Names.{c_pin_sid}
-use Rattle.sp_cells.specs.ColumnNames.{pin_column}
+use Rattle.sp_cells.specs.Flat.{LookUp}
+use Rattle.sp_cells.specs.Names.{c_pin_sid, tper_info}
+use Rattle.sp_cells.specs.ColumnNames.{pin_column, programmatic_reset_enable_column}
+use Rattle.sp_cells.specs.Ranges.{number}
+use Rattle.sp_cells.specs.Resets.{programmatic}
 use Rattle.locking.specs.declared.range.Op.{Op}
 use Rattle.locking.specs.declared.range.Op.TheVariants.{Read, Write}
-use Rattle.trusted_cmds.specs.Commands.{is_queued, tag_of, sector_size}
+use Rattle.trusted_cmds.specs.Commands.{is_queued, tag_of, sector_size, is_programmatic_reset}
 use Rattle.audit.specs.declared.reason.AttemptFailure.{AttemptFailure}
 use Rattle.audit.specs.declared.reason.Why.{Why}
 use Rattle.compacket.specs.declared.session.Session.{Session}
@@ -49,7 +52,7 @@ use Rattle.sessions.specs.Properties.{properties_message}
 use Rattle.methods.specs.Said.{reply_of, said_attempt}
 use Rattle.history.specs.Changes.{Sets}
 use Rattle.history.specs.Calls.{Judgement, Refuses, Gives, Makes, Attempts, Activates, Reverts, asked, judged}
-use Rattle.history.specs.Events.{SessionDeed, Unchanged, Started, Tried, Changed, Began, Committed, Aborted, Ended, Activated, Reverted, HeldCommand, Held, Completed, CompletedWrite, QueueFailed, QueueMended, Deed, Nothing, InSession, OfQueue, Wrote, Took, Event, did}
+use Rattle.history.specs.Events.{SessionDeed, Unchanged, Started, Tried, Changed, Began, Committed, Aborted, Ended, Activated, Reverted, HeldCommand, Held, Completed, CompletedWrite, QueueFailed, QueueMended, Deed, Nothing, InSession, OfQueue, Wrote, Took, WasReset, Event, did}
 use Rattle.history.specs.Facts.{Facts, live, session_named, has_open, standing}
 
 -- The Error field of a command that is aborted or denied, and of one whose sectors are not all on
@@ -301,6 +304,13 @@ send f protocol com_id blocks payload =
     if is_trusted protocol blocks && is_session_com_id com_id && not (is_some (f.waiting com_id))
     then sent f com_id (frame_in payload) else refuses
 
+-- A command resets the drive where the rows let it (Opal SSC 2.01, section 4.2, table TPerInfo).
+abbrev pub lets_reset : LookUp → Bool
+lets_reset rows = number rows Admin tper_info programmatic_reset_enable_column == 1
+
+abbrev pub resets : LookUp → Command → Bool
+resets rows command = is_programmatic_reset command && lets_reset rows
+
 -- The waiting response is taken where the transfer has room for it.
 abbrev pub received : ℕ → ℕ → Option (List ℕ) → Event
 received com_id blocks None = did Nothing
@@ -317,7 +327,9 @@ receive f protocol com_id blocks =
 abbrev pub unqueued : Facts → List ℕ → Command → Event
 unqueued f payload (ReadDma lba count) = unqueued_transfer f Nothing Read lba count
 unqueued f payload (WriteDma lba count) = unqueued_transfer f (Wrote lba payload) Write lba count
-unqueued f payload (Send protocol com_id blocks dma) = send f protocol com_id blocks payload
+unqueued f payload (Send protocol com_id blocks dma) =
+    if resets f.rows (Send protocol com_id blocks dma) then did (WasReset programmatic)
+    else send f protocol com_id blocks payload
 unqueued f payload (Receive protocol com_id blocks dma) = receive f protocol com_id blocks
 unqueued f payload Identify = did Nothing
 unqueued f payload (ReadLog10 dma) = did Nothing

@@ -1,9 +1,9 @@
 -- Which deed an item can do after a past: a law over every act. And with it, when no transaction
 -- can be open.
-use Rattle.std.specs.Prelude.{◌≡◌, ◌==◌, ℕ, Bool, true, false, List, ◌∷◌, Option, Some, None}
+use Rattle.std.specs.Prelude.{◌≡◌, ◌==◌, ◌||◌, ℕ, Bool, true, false, List, ◌∷◌, Option, Some, None}
 use Rattle.sp_cells.specs.declared.names.Sp.{Sp}
 use Rattle.sp_cells.specs.declared.names.Sp.TheVariants.{Admin, Locking}
-use Rattle.sp_cells.specs.Names.{c_pin_sid}
+use Rattle.sp_cells.specs.Names.{c_pin_sid, tper_info}
 use Rattle.sp_cells.specs.declared.names.Uid.{Uid}
 use Rattle.sp_cells.specs.declared.cells.Cell.{Cell}
 use Rattle.history.specs.Opening.{Origin}
@@ -43,12 +43,16 @@ pub record IsOutside (past : List Event) : Type 0 where
   pub lives : IsIn past Admin session
   pub outside : is_of session.number (open_on past Admin) ≡ false
 
--- It sets cells of this object, or bytes.
-abbrev pub is_of_row : Uid → Change → Bool
-is_of_row object (Sets (cells_set its cells)) = its.0 == object.0
-is_of_row object (Sets (bytes_set at bytes)) = true
-is_of_row object Restores = false
-is_of_row object (Resets kind) = false
+-- The objects of the Admin SP that a Set changes: SID's PIN, and what lets a command reset the drive.
+abbrev pub is_set_in_admin : Uid → Bool
+is_set_in_admin object = object.0 == c_pin_sid.0 || object.0 == tper_info.0
+
+-- It sets cells of an object that passes, or bytes.
+abbrev pub is_of_row : (Uid → Bool) → Change → Bool
+is_of_row p (Sets (cells_set object cells)) = p object
+is_of_row p (Sets (bytes_set at bytes)) = true
+is_of_row p Restores = false
+is_of_row p (Resets kind) = false
 
 -- Bytes of the shadow are set by sessions of the Locking SP alone, within its table of so many
 -- sectors.
@@ -59,11 +63,11 @@ is_inside mbr_sectors sp (Sets (cells_set object cells)) = true
 is_inside mbr_sectors sp Restores = true
 is_inside mbr_sectors sp (Resets kind) = true
 
--- A Set of a live session; on the Admin SP of SID's PIN alone.
+-- A Set of a live session; on the Admin SP of one of those objects.
 pub record Changes (o : Origin) (past : List Event) (sp : Sp) (change : Change) : Type 0 where
   pub session : Begun
   pub lives : IsIn past sp session
-  pub row : sp ≡ Admin → is_of_row c_pin_sid change ≡ true
+  pub row : sp ≡ Admin → is_of_row is_set_in_admin change ≡ true
   pub inside : is_inside o.tables.config.mbr_sectors sp change ≡ true
 
 abbrev pub CanDo : Origin → List Event → SessionDeed → Type 0

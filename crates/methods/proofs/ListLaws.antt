@@ -133,6 +133,7 @@ rise_law (Some kinds.CPin) = refl
 rise_law (Some kinds.Ace) = refl
 rise_law (Some kinds.Locking) = refl
 rise_law (Some kinds.MbrControl) = refl
+rise_law (Some kinds.TperInfo) = refl
 rise_law (Some kinds.MbrTable) = refl
 
 pub ruleset of_lists = (list_law, rise_law)

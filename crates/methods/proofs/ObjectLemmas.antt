@@ -74,6 +74,7 @@ cells_of_object sp n object o cells (Some kinds.CPin) ask e = asked_there object
 cells_of_object sp n object o cells (Some kinds.Ace) ask e = asked_there object o cells (set_types_of (Some kinds.Ace)) ask e
 cells_of_object sp n object o cells (Some kinds.Locking) ask e = asked_there object o cells (set_types_of (Some kinds.Locking)) ask e
 cells_of_object sp n object o cells (Some kinds.MbrControl) ask e = asked_there object o cells (set_types_of (Some kinds.MbrControl)) ask e
+cells_of_object sp n object o cells (Some kinds.TperInfo) ask e = asked_there object o cells (set_types_of (Some kinds.TperInfo)) ask e
 cells_of_object sp n object o cells None ask e = asked_there object o cells (set_types_of None) ask e
 
 -- no bytes are set in the Admin SP
@@ -86,6 +87,7 @@ bytes_of_locking n object at bs (Some kinds.CPin) ask e = no_bytes object at bs 
 bytes_of_locking n object at bs (Some kinds.Ace) ask e = no_bytes object at bs (set_types_of (Some kinds.Ace)) ask e
 bytes_of_locking n object at bs (Some kinds.Locking) ask e = no_bytes object at bs (set_types_of (Some kinds.Locking)) ask e
 bytes_of_locking n object at bs (Some kinds.MbrControl) ask e = no_bytes object at bs (set_types_of (Some kinds.MbrControl)) ask e
+bytes_of_locking n object at bs (Some kinds.TperInfo) ask e = no_bytes object at bs (set_types_of (Some kinds.TperInfo)) ask e
 bytes_of_locking n object at bs None ask e = no_bytes object at bs (set_types_of None) ask e
 
 -- where the object that a call names has Set, the object of what it sets has it

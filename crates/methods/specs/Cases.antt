@@ -18,6 +18,7 @@ methods_of (Some kinds.CPin) = get ∷ set ∷ []
 methods_of (Some kinds.Ace) = get ∷ set ∷ []
 methods_of (Some kinds.Locking) = get ∷ set ∷ []
 methods_of (Some kinds.MbrControl) = get ∷ set ∷ []
+methods_of (Some kinds.TperInfo) = get ∷ set ∷ []
 methods_of (Some kinds.MbrTable) = get ∷ set ∷ []
 
 -- the object is of a kind that has the method

@@ -3,9 +3,9 @@ use Rattle.std.specs.Prelude.{List, [], ◌∷◌, map, Option, None, Some}
 use Rattle.sp_cells.specs.declared.names.Column.{Column}
 use Rattle.sp_cells.specs.declared.values.ColumnType.{ColumnType}
 use Rattle.sp_cells.specs.declared.values.ColumnType.TheVariants as types
-use Rattle.sp_cells.specs.ColumnNames.{pin_column, enabled_column, boolean_expr_column, mbr_enable_column, mbr_done_column, mbr_done_on_reset_column}
+use Rattle.sp_cells.specs.ColumnNames.{pin_column, enabled_column, boolean_expr_column, mbr_enable_column, mbr_done_column, mbr_done_on_reset_column, programmatic_reset_enable_column}
 use Rattle.sp_cells.specs.ColumnNames.{range_start_column, range_length_column, read_lock_enabled_column, write_lock_enabled_column, read_locked_column, write_locked_column, lock_on_reset_column}
-use Rattle.sp_cells.specs.Values.{sp_types, ace_types, authority_types, c_pin_types, locking_types, mbr_control_types}
+use Rattle.sp_cells.specs.Values.{sp_types, ace_types, authority_types, c_pin_types, locking_types, mbr_control_types, tper_info_types}
 use Rattle.methods.specs.declared.kinds.Kind.{Kind}
 use Rattle.methods.specs.declared.kinds.Kind.TheVariants as kinds
 
@@ -19,6 +19,7 @@ types_of (Some kinds.CPin) = c_pin_types
 types_of (Some kinds.Ace) = ace_types
 types_of (Some kinds.Locking) = locking_types
 types_of (Some kinds.MbrControl) = mbr_control_types
+types_of (Some kinds.TperInfo) = tper_info_types
 types_of (Some kinds.MbrTable) = []
 
 -- without their types
@@ -49,11 +50,12 @@ mbr_control_set_types =
     ∷ []
 
 -- the columns that Set takes, with the types of their values: whether an authority is enabled, a PIN, an ACE's
--- expression, a range, and the control of the shadow MBR
+-- expression, a range, the control of the shadow MBR, and whether a command may reset the drive
 abbrev pub set_types_of : Option Kind → List (Column × ColumnType)
 set_types_of (Some kinds.Authority) = (enabled_column, types.Flag) ∷ []
 set_types_of (Some kinds.CPin) = (pin_column, types.Secret) ∷ []
 set_types_of (Some kinds.Ace) = (boolean_expr_column, types.Expression) ∷ []
 set_types_of (Some kinds.Locking) = range_set_types
 set_types_of (Some kinds.MbrControl) = mbr_control_set_types
+set_types_of (Some kinds.TperInfo) = (programmatic_reset_enable_column, types.Flag) ∷ []
 set_types_of _ = []

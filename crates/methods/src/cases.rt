@@ -40,6 +40,9 @@ macro_rules! method_cases {
             [MbrControl:
                 GetCells [UID Object, MBR_ENABLE Flag, MBR_DONE Flag, MBR_DONE_ON_RESET Resets] read_cells,
                 SetCells [MBR_ENABLE Flag, MBR_DONE Flag, MBR_DONE_ON_RESET Resets] write_cells]
+            [TperInfo:
+                GetCells [UID Object, PROGRAMMATIC_RESET_ENABLE Flag] read_cells,
+                SetCells [PROGRAMMATIC_RESET_ENABLE Flag] write_cells]
             [MbrTable:
                 GetBytes [] read_bytes,
                 SetBytes [] write_bytes]

@@ -16,6 +16,7 @@ pub enum Kind {
     Ace,
     Locking,
     MbrControl,
+    TperInfo,
     MbrTable,
 }
 
@@ -30,6 +31,7 @@ fn table_kind(table: u64) -> Option<Kind>
         tables::SP => Some(Kind::Sp),
         tables::LOCKING => Some(Kind::Locking),
         tables::MBR_CONTROL => Some(Kind::MbrControl),
+        tables::TPER_INFO => Some(Kind::TperInfo),
         _ => None,
     }
 }

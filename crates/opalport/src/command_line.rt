@@ -60,12 +60,13 @@ Lines, whose words stand between blanks; numbers are decimal, HH is two hex digi
                                     (1: Level 0 discovery)
   log C                             the log page of the last queued error
   reset C K                         a power cycle (K is 0) or a hardware reset (1)
+  tper C                            the command that resets the drive, where TPerInfo lets it
   expect TEXT                       the last printed line is TEXT
 
 Behind a first line `port` the lines are steps of an AHCI port, with range and expect as above:
   put C T REQUEST                   client C puts a request in slot T: read L N, write L N HH,
-                                    dread L N, dwrite L N HH, call ID TSN HSN HEX, send ID HEX
-                                    or recv ID BLOCKS
+                                    dread L N, dwrite L N HH, call ID TSN HSN HEX, send ID HEX,
+                                    recv ID BLOCKS or tper
   issue T, accept T, complete T     the port issues it, the drive takes it, the drive ends it
   recover                           the port recovers from a failed command
   reset C K                         client C resets the port and the drive

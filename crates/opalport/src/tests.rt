@@ -181,6 +181,7 @@ fn helps_with_lines(rt: HostRuntime) -> Result<(), Fail> {
         "recv C ID BLOCKS",
         "log C ",
         "reset C K ",
+        "tper C ",
         "expect TEXT",
         "Status: 0 done",
     ] {

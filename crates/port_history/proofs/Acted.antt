@@ -1,5 +1,5 @@
 -- What the drive does by the FISes that the port sends, and what it gives.
-use Rattle.std.proofs.Common.{◌≡◌, ◌∙◌, ℕ, ◌*◌, ◌≤◌, ◌<◌, ◌==◌, ◌&&◌, ◌||◌, not, nat_le, Bool, true, false, List, [], ◌∷◌, length, cond, if◌then◌else◌, Option, Some, None, refl, ap, arith}
+use Rattle.std.proofs.Common.{◌≡◌, ◌∙◌, ℕ, ◌*◌, ◌≤◌, ◌<◌, ◌==◌, ◌&&◌, ◌||◌, not, nat_le, Bool, true, false, List, [], ◌∷◌, length, cond, if◌then◌else◌, Option, Some, None, refl, sym, ap, arith}
 use Rattle.std.specs.Prelude.{is_some, unwrap_or, Result, Ok, Err}
 use Rattle.fis.specs.H2d.{h2d_at}
 use Rattle.fis.specs.declared.any.Fis.{Fis}
@@ -20,10 +20,10 @@ use Rattle.trusted_cmds.specs.declared.command.Command.TheVariants.{ReadQueued, 
 use Rattle.trusted_cmds.specs.Commands.{reading, fis_of, tag_with, sector_size, IsCounted, is_queued as is_queued_code}
 use Rattle.history.specs.Opening.{Origin}
 use Rattle.history.specs.Sessions.{Begun}
-use Rattle.history.specs.Events.{HeldCommand, QueueMended, Deed, Nothing, InSession, OfQueue, Wrote, Took, WasReset, Event, did}
+use Rattle.history.specs.Events.{HeldCommand, QueueMended, Deed, Nothing, InSession, OfQueue, Wrote, Took, WasReset, Event, did, or_else, latest}
 use Rattle.history.specs.Readers.{holding, held, failing, failure}
 use Rattle.history.specs.Facts.{Facts, facts, session_named}
-use Rattle.history.specs.Decisions.{not_found, aborted, fails, refuses, fails_queue, on_drive, verdict_on, holds, queued_by, admitted, unqueued_by, answers, to_manager, is_trusted, is_session_com_id, discovery_com_id, is_manager, to_session, framed, sent, received, unqueued, known, is_busy, commanded, accepted}
+use Rattle.history.specs.Decisions.{not_found, aborted, fails, refuses, fails_queue, on_drive, verdict_on, holds, queued_by, admitted, unqueued_by, answers, to_manager, is_trusted, is_session_com_id, discovery_com_id, is_manager, to_session, framed, sent, received, unqueued, known, is_busy, commanded, accepted, resets, send}
 use Rattle.history.specs.Answers.{answer_fis, pio_fis, ready, failed, is_holding, answer_fises, fises_read, answer_data, data_read}
 use Rattle.history.specs.History.{Accept as AcceptFis, event_by}
 use Rattle.history.proofs.Words.{latest-skip}
@@ -32,6 +32,7 @@ use Rattle.port_history.specs.Stages.{is_queued}
 use Rattle.port_history.specs.Steps.{Effect, effect_by}
 use Rattle.port_history.proofs.Fises.{fis_back, reads, read_as}
 use Rattle.port_history.proofs.Sizes.{sector_length, data-fits}
+use Rattle.sp_cells.specs.Resets.{programmatic}
 
 -- The commands of requests: trusted ones in their forms by DMA, and no read of the log.
 abbrev pub is_asked : Command → Bool
@@ -255,14 +256,14 @@ queued_effect o past command tag bytes lt sized queued mended free =
 
 -- Unqueued commands.
 
--- A deed that changes nothing of the queue.
+-- A deed that changes nothing of a queue in which nothing is held and that has not failed.
 abbrev pub is_of_queue : Deed → Bool
 is_of_queue Nothing = false
 is_of_queue (InSession deed response) = false
 is_of_queue (OfQueue deed) = true
 is_of_queue (Wrote lba bytes) = false
 is_of_queue (Took com_id) = false
-is_of_queue (WasReset kind) = true
+is_of_queue (WasReset kind) = false
 
 abbrev pub executed_fis : Command → Option ℕ → Fis
 executed_fis command (Some error) = answer_fis true failed error
@@ -271,8 +272,9 @@ executed_fis command None = answer_fis true ready 0
 
 -- A command that is not queued is executed whole: it changes nothing of the queue, is answered by
 -- one FIS, and gives no more data than it asks for.
-pub record IsExecuted (command : Command) (e : Effect) : Type 0 where
-  pub quiet : is_of_queue e.event.deed ≡ false
+pub record IsExecuted (past : List Event) (command : Command) (e : Effect) : Type 0 where
+  pub still_held : (tag : ℕ) → held (e.event ∷ past) tag ≡ held past tag
+  pub still_failing : failure (e.event ∷ past) ≡ failure past
   pub fises : e.fises ≡ executed_fis command e.event.failed ∷ []
   pub bytes : length e.bytes ≤ bytes_moved command
 
@@ -324,9 +326,11 @@ unqueued-quiet f payload (ReadDma lba count) = transfer-quiet f Nothing Read lba
 unqueued-quiet f payload (WriteDma lba count) =
     transfer-quiet f (Wrote lba payload) Write lba count refl
 unqueued-quiet f payload (Send protocol com_id blocks dma) =
-    quiet-if
+    quiet-if (resets f.rows (Send protocol com_id blocks dma)) (did (WasReset programmatic))
+    (send f protocol com_id blocks payload) refl
+    (quiet-if
     (is_trusted protocol blocks && is_session_com_id com_id && not (is_some (f.waiting com_id)))
-    (sent f com_id (frame_in payload)) refuses (sent-quiet f com_id (frame_in payload)) refl
+    (sent f com_id (frame_in payload)) refuses (sent-quiet f com_id (frame_in payload)) refl)
 unqueued-quiet f payload (Receive protocol com_id blocks dma) =
     quiet-if
     (is_trusted protocol blocks && (is_session_com_id com_id || com_id == discovery_com_id))
@@ -348,33 +352,24 @@ holds_nothing (Took com_id) quiet = refl
 holds_nothing (WasReset kind) quiet = refl
 
 -- the queue is as before
-quiet-holding : (tag : ℕ) (d : Deed) → is_of_queue d ≡ false → holding tag d ≡ None
-quiet-holding tag Nothing quiet = refl
-quiet-holding tag (InSession deed response) quiet = refl
-quiet-holding tag (OfQueue deed) quiet = absurd cc
-quiet-holding tag (Wrote lba bytes) quiet = refl
-quiet-holding tag (Took com_id) quiet = refl
-quiet-holding tag (WasReset kind) quiet = absurd cc
+held_stays : (d : Deed) (past : List Event) (tag : ℕ) → is_of_queue d ≡ false
+    → held past tag ≡ None
+    → unwrap_or (or_else (holding tag d) (latest (holding tag) past)) None ≡ held past tag
+held_stays Nothing past tag quiet none = refl
+held_stays (InSession deed response) past tag quiet none = refl
+held_stays (OfQueue deed) past tag quiet none = absurd cc
+held_stays (Wrote lba bytes) past tag quiet none = refl
+held_stays (Took com_id) past tag quiet none = refl
+held_stays (WasReset kind) past tag quiet none = sym none
 
-quiet-failing : (d : Deed) → is_of_queue d ≡ false → failing d ≡ None
-quiet-failing Nothing quiet = refl
-quiet-failing (InSession deed response) quiet = refl
-quiet-failing (OfQueue deed) quiet = absurd cc
-quiet-failing (Wrote lba bytes) quiet = refl
-quiet-failing (Took com_id) quiet = refl
-quiet-failing (WasReset kind) quiet = absurd cc
-
-pub held_stays : (e : Event) (past : List Event) (tag : ℕ) → is_of_queue e.deed ≡ false
-    → held (e ∷ past) tag ≡ held past tag
-held_stays e past tag quiet =
-    ap (λ (x : Option (Option HeldCommand)). unwrap_or x None)
-    (latest-skip (holding tag) e past (quiet-holding tag e.deed quiet))
-
-pub failure_stays : (e : Event) (past : List Event) → is_of_queue e.deed ≡ false
-    → failure (e ∷ past) ≡ failure past
-failure_stays e past quiet =
-    ap (λ (x : Option (Option Failure)). unwrap_or x None)
-    (latest-skip failing e past (quiet-failing e.deed quiet))
+failure_stays : (d : Deed) (past : List Event) → is_of_queue d ≡ false → failure past ≡ None
+    → unwrap_or (or_else (failing d) (latest failing past)) None ≡ failure past
+failure_stays Nothing past quiet none = refl
+failure_stays (InSession deed response) past quiet none = refl
+failure_stays (OfQueue deed) past quiet none = absurd cc
+failure_stays (Wrote lba bytes) past quiet none = refl
+failure_stays (Took com_id) past quiet none = refl
+failure_stays (WasReset kind) past quiet none = sym none
 
 known-unqueued : (f : Facts) (h : RegH2d) (bytes : List ℕ) (command : Command) (tag : ℕ)
     → is_queued command ≡ false
@@ -449,14 +444,15 @@ bytes-by read n None le = le
 pub executed_effect : (o : Origin) (past : List Event) (command : Command) (tag : ℕ)
     (bytes : List ℕ) → tag < 32 → IsSized command → is_queued command ≡ false
     → failure past ≡ None → is_busy (facts o past) ≡ false
-    → IsExecuted command (effect_by (facts o past) (AcceptFis (command_fis command tag) bytes))
-executed_effect o past command tag bytes lt sized unqueued_is mended idle = record {
-  quiet = ap (λ (x : Event). is_of_queue x.deed) is ∙ unqueued-quiet f bytes (read_as command);
+    → ((t : ℕ) → held past t ≡ None)
+    → IsExecuted past command (effect_by (facts o past) (AcceptFis (command_fis command tag) bytes))
+executed_effect o past command tag bytes lt sized unqueued_is mended idle none = record {
+  still_held = λ t. held_stays (event_by f (AcceptFis fis bytes)).deed past t quiet (none t);
+  still_failing = failure_stays (event_by f (AcceptFis fis bytes)).deed past quiet mended;
   fises =
       fises-by command fis (fises_read (reading (h2d_at fis)))
       (event_by f (AcceptFis fis bytes)).deed (event_by f (AcceptFis fis bytes)).failed
-      (holds_nothing _ (ap (λ (x : Event). is_of_queue x.deed) is
-      ∙ unqueued-quiet f bytes (read_as command)))
+      (holds_nothing _ quiet)
       (ap fises_read (reads_bytes command tag lt sized)
       ∙ served-fis command tag unqueued_is sized.asked);
   bytes =
@@ -477,6 +473,9 @@ executed_effect o past command tag bytes lt sized unqueued_is mended idle = reco
         event_is o past command tag bytes lt sized mended
         (ap (λ (b : Bool). b && not (is_queued command)) idle)
         ∙ known-unqueued f (fis_of command tag) bytes command tag unqueued_is
+
+    quiet : is_of_queue (event_by f (AcceptFis fis bytes)).deed ≡ false
+    quiet = ap (λ (x : Event). is_of_queue x.deed) is ∙ unqueued-quiet f bytes (read_as command)
 
 -- The read of the log.
 abbrev pub mended_effect : Option Failure → Effect

@@ -26,7 +26,7 @@ use Rattle.port_history.specs.Requests.{is_sized, is_address, are_blocks, are_wh
 use Rattle.port_history.specs.Stages.{is_queued, to, put_in, is_out, accepted_stage, recovered, after_reset, keeps_back, mixes, mixes_put}
 use Rattle.port_history.specs.Steps.{Effect, Moment, events, stage, failed, is_tag, put_of, payload}
 use Rattle.port_history.proofs.Fises.{brought}
-use Rattle.port_history.proofs.Acted.{IsSized, IsExecuted, held_effect, failed_effect, mended_effect, held_stays, failure_stays}
+use Rattle.port_history.proofs.Acted.{IsSized, IsExecuted, held_effect, failed_effect, mended_effect}
 use Rattle.port_history.proofs.Tests.{none_passes}
 
 -- What is held under a tag, by its stage, while the port has not failed.
@@ -85,6 +85,7 @@ pub record Kept (ms : List Moment) : Type 0 where
   pub fit : (tag : ℕ) → FitsStage (stage ms tag) (payload ms tag)
   pub alone : AreAlone (stage ms)
   pub low : (tag : ℕ) → failed ms ≡ Some tag → tag < 32
+  pub slots : (tag : ℕ) → is_out (stage ms tag) ≡ true → tag < 32
 
 true_false : true ≡ false → ⊥
 true_false e = cc
@@ -119,6 +120,16 @@ moves g u t stages next e =
     elim (cases_eq u t) [
       | inl same ↦ rw (eq-eqb u t same) (sym e ∙ ap (λ (k : ℕ). g (stages k)) same)
       | inr other ↦ rw (ne_eqb u t other) refl
+    ]
+
+-- what is out has a slot
+out_move : (u t : ℕ) (stages : ℕ → Stage) (next : Stage) → u < 32
+    → (is_out (stages t) ≡ true → t < 32)
+    → is_out (if u == t then next else stages t) ≡ true → t < 32
+out_move u t stages next lu h =
+    elim (cases_eq u t) [
+      | inl same ↦ λ e. subst (λ (n : ℕ). n < 32) same lu
+      | inr other ↦ rw (ne_eqb u t other) h
     ]
 
 -- the one that moves is out only where it was
@@ -299,6 +310,7 @@ kept_put ms client u request lu k free sized =
       ];
       alone = alone_move u (stage ms) next lu refl (λ e. absurd (true_false (sym e))) k.alone;
       low = k.low;
+      slots = λ t. out_move u t (stage ms) next lu (k.slots t);
     }
 
 -- Issue.
@@ -368,10 +380,10 @@ alone_issue u stages put unmixed alone = by_kind (is_queued put.command) refl
         then any_below (λ tag. keeps_back put.number (stages tag)) slot_count
         else any_below (λ tag. is_out (stages tag)) slot_count) is) ∙ unmixed)
 
-pub kept_issue : (ms : List Moment) (u : ℕ) (put : Put) → Kept ms → stage ms u ≡ Prepared put
+pub kept_issue : (ms : List Moment) (u : ℕ) (put : Put) → u < 32 → Kept ms → stage ms u ≡ Prepared put
     → mixes (stage ms) (stage ms u) ≡ false
     → Kept (quiet_moment (steps.Issue u) (put_in (stage ms u)) ∷ ms)
-kept_issue ms u put k was unmixed = record {
+kept_issue ms u put lu k was unmixed = record {
   queue = λ t.
       k.queue t
       ∙ quiet (failed ms) u t (stage ms) (Prepared put) (Issued put) was
@@ -388,6 +400,7 @@ kept_issue ms u put k was unmixed = record {
       (alone_issue u (stage ms) put (sym (ap (λ (s : Stage). mixes (stage ms) s) was)
       ∙ unmixed) k.alone);
   low = k.low;
+  slots = λ t e. out_move u t (stage ms) (Issued put) lu (k.slots t) (ap is_out (moved t) ∙ e);
 }
   where
     moved : (t : ℕ) → (if u == t then Issued put else stage ms t)
@@ -407,6 +420,7 @@ kept_take ms client u put lu k was = record {
   fit = λ t. fit_move u t (stage ms) (payload ms) Free tt (k.fit t);
   alone = alone_move u (stage ms) Free lu refl (λ e. absurd (true_false (sym e))) k.alone;
   low = k.low;
+  slots = λ t. out_move u t (stage ms) Free lu (k.slots t);
 }
 
 -- Accept.
@@ -466,6 +480,13 @@ accept_alone ms u put lu k was queued =
     (λ t. accepted_moves ms u t put was queued)
     (alone_move u (stage ms) (Accepted put) lu refl (λ e. ap is_out was) k.alone)
 
+accept_slots : (ms : List Moment) (u : ℕ) (put : Put) → u < 32 → Kept ms
+    → stage ms u ≡ Issued put → is_queued put.command ≡ true → (t : ℕ)
+    → is_out (if u == t then to accepted_stage (stage ms t) else stage ms t) ≡ true → t < 32
+accept_slots ms u put lu k was queued t e =
+    out_move u t (stage ms) (Accepted put) lu (k.slots t)
+    (ap is_out (accepted_moves ms u t put was queued) ∙ e)
+
 -- what a held command leaves of the queue
 held_now : (u t : ℕ) (command : Command) (v : Verdict) (past : List Event)
     → held (holds u command v ∷ past) t
@@ -515,6 +536,7 @@ kept_held ms u put v lu k mended was queued =
       fit = accept_fit ms u put k was queued;
       alone = accept_alone ms u put lu k was queued;
       low = λ t e. k.low t (sym same ∙ e);
+      slots = accept_slots ms u put lu k was queued;
     }
   where
     queue_now : (t : ℕ)
@@ -538,28 +560,29 @@ kept_failed ms u put error denied lu k was queued =
       fit = accept_fit ms u put k was queued;
       alone = accept_alone ms u put lu k was queued;
       low = λ t e. subst (λ (n : ℕ). n < 32) (same_tag t (sym now ∙ e)) lu;
+      slots = accept_slots ms u put lu k was queued;
     }
   where
     same_tag : (t : ℕ) → ◌≡◌ {A = Option ℕ} (Some u) (Some t) → u ≡ t
     same_tag t e = cc
 
 pub kept_executed : (ms : List Moment) (u : ℕ) (put : Put) (e : Effect) → u < 32 → Kept ms
-    → stage ms u ≡ Issued put → is_queued put.command ≡ false → IsExecuted put.command e
+    → stage ms u ≡ Issued put → is_queued put.command ≡ false
+    → IsExecuted (events ms) put.command e
     → Kept (accept_moment u put e ∷ ms)
 kept_executed ms u put e lu k was unqueued done =
     let m : Moment = accept_moment u put e in
     let same : failed (m ∷ ms) ≡ failed ms = failed_executed ms u put e unqueued in
     record {
       queue = λ t.
-          ap command_held (held_stays e.event (events ms) t done.quiet)
+          ap command_held (done.still_held t)
           ∙ k.queue t
           ∙ quiet (failed ms) u t (stage ms) (Issued put) (Answered put) was
           (issued_quiet (failed ms) put) (answered_quiet (failed ms) put)
           ∙ ap (held_by (failed ms)) (executed_moves ms u t put was unqueued)
           ∙ ap (λ (f : Option ℕ). held_by f (stage (m ∷ ms) t)) (sym same);
       failure =
-          ap tag_failed (failure_stays e.event (events ms) done.quiet) ∙ k.failure
-          ∙ ap as_tag (sym same);
+          ap tag_failed done.still_failing ∙ k.failure ∙ ap as_tag (sym same);
       fit = λ t.
           subst (λ (s : Stage). FitsStage s (payload ms t)) (executed_moves ms u t put was unqueued)
           (fit_move u t (stage ms) (payload ms) (Answered put) (fit_here ms u put k was) (k.fit t));
@@ -570,6 +593,9 @@ kept_executed ms u put e lu k was unqueued done =
           (alone_move u (stage ms) (Answered put) lu refl
           (λ g. absurd (true_false (sym g))) k.alone);
       low = λ t g. k.low t (sym same ∙ g);
+      slots = λ t g.
+          out_move u t (stage ms) (Answered put) lu (k.slots t)
+          (ap is_out (executed_moves ms u t put was unqueued) ∙ g);
     }
 
 -- Complete.
@@ -629,6 +655,7 @@ kept_complete ms u put e bytes lu k mended was is = record {
       then to Answered (stage ms t) else stage ms t) moved
       (alone_move u (stage ms) (Answered put) lu refl (λ g. absurd (true_false (sym g))) k.alone);
   low = k.low;
+  slots = λ t g. out_move u t (stage ms) (Answered put) lu (k.slots t) (ap is_out (moved t) ∙ g);
 }
   where
     here : IsHere put.command (payload ms u)
@@ -690,6 +717,7 @@ kept_recover ms f found k was = record {
   fit = λ t. recovered_fit (is_tag t (failed ms)) (stage ms t) (payload ms t) (k.fit t);
   alone = λ tag other lt lo single apart. recovered_in (is_tag other (failed ms)) (stage ms other);
   low = λ t e. absurd (none_some t e);
+  slots = λ t e. absurd (true_false (sym e ∙ recovered_in (is_tag t (failed ms)) (stage ms t)));
 }
   where
     none_some : (t : ℕ) → ◌≡◌ {A = Option ℕ} None (Some t) → ⊥
@@ -737,6 +765,7 @@ kept_reset ms client kind k = record {
   fit = λ t. reset_fit (stage ms t) (payload ms t) (k.fit t);
   alone = λ tag other lt lo single apart. reset_in (stage ms other);
   low = λ t e. absurd (none_some t e);
+  slots = λ t e. absurd (true_false (sym e ∙ reset_in (stage ms t)));
 }
   where
     none_some : (t : ℕ) → ◌≡◌ {A = Option ℕ} None (Some t) → ⊥

@@ -93,22 +93,31 @@ in_quiet None (Accepted put) e = absurd cc
 in_quiet None (Answered put) e = refl
 
 -- where a command is issued that is not queued, nothing is held
-pub idle : (o : Origin) (ms : List Moment) (u : ℕ) (put : Put) → u < 32 → Kept ms
-    → stage ms u ≡ Issued put → is_queued put.command ≡ false
-    → is_busy (facts o (events ms)) ≡ false
-idle o ms u put lu k was unqueued =
-    none_below (λ t. is_some (held (events ms) t)) 32 (λ t lt. ap is_some (nothing t lt))
+pub nothing_held : (ms : List Moment) (u : ℕ) (put : Put) → u < 32 → Kept ms
+    → stage ms u ≡ Issued put → is_queued put.command ≡ false → (t : ℕ)
+    → held (events ms) t ≡ None
+nothing_held ms u put lu k was unqueued t =
+    elim (cases_eq u t) [
+      | inl same ↦ subst (λ (n : ℕ). held (events ms) n ≡ None) same (free_tag ms u put k was)
+      | inr apart ↦
+          none_held (held (events ms) t) (k.queue t ∙ by_out (is_out (stage ms t)) refl apart)
+    ]
   where
     single : is_single (stage ms u) ≡ true
     single = ap is_single was ∙ ap not unqueued
 
-    nothing : (t : ℕ) → t < 32 → held (events ms) t ≡ None
-    nothing t lt = elim (cases_eq u t) [
-      | inl same ↦ subst (λ (n : ℕ). held (events ms) n ≡ None) same (free_tag ms u put k was)
-      | inr apart ↦
-          none_held (held (events ms) t)
-          (k.queue t ∙ in_quiet (failed ms) (stage ms t) (k.alone u t lu lt single apart))
-    ]
+    by_out : (b : Bool) → is_out (stage ms t) ≡ b → (u ≡ t → ⊥)
+        → held_by (failed ms) (stage ms t) ≡ None
+    by_out false is apart = in_quiet (failed ms) (stage ms t) is
+    by_out true is apart =
+        in_quiet (failed ms) (stage ms t) (k.alone u t lu (k.slots t is) single apart)
+
+pub idle : (o : Origin) (ms : List Moment) (u : ℕ) (put : Put) → u < 32 → Kept ms
+    → stage ms u ≡ Issued put → is_queued put.command ≡ false
+    → is_busy (facts o (events ms)) ≡ false
+idle o ms u put lu k was unqueued =
+    none_below (λ t. is_some (held (events ms) t)) 32
+    (λ t lt. ap is_some (nothing_held ms u put lu k was unqueued t))
 
 pub fit_issued : (ms : List Moment) (u : ℕ) (put : Put) → Kept ms → stage ms u ≡ Issued put
     → IsFit put.command (payload ms u)
@@ -129,11 +138,11 @@ queued_comes o ms u put lu k mended was queued =
 -- Another one is executed.
 pub unqueued_comes : (o : Origin) (ms : List Moment) (u : ℕ) (put : Put) → u < 32 → Kept ms
     → failed ms ≡ None → stage ms u ≡ Issued put → is_queued put.command ≡ false
-    → IsExecuted put.command (accepted_effect o ms u put)
+    → IsExecuted (events ms) put.command (accepted_effect o ms u put)
 unqueued_comes o ms u put lu k mended was unqueued =
     executed_effect o (events ms) put.command u (accept_payload put (payload ms u)) lu
     (fit_issued ms u put k was).sized unqueued (mended_queue ms k mended)
-    (idle o ms u put lu k was unqueued)
+    (idle o ms u put lu k was unqueued) (nothing_held ms u put lu k was unqueued)
 
 kept_accept : (o : Origin) (ms : List Moment) (u : ℕ) (put : Put) → u < 32 → Kept ms
     → failed ms ≡ None → stage ms u ≡ Issued put → Kept (moment o ms (steps.Accept u) ∷ ms)
@@ -266,6 +275,7 @@ kept o [] h = record {
   fit = λ t. tt;
   alone = λ tag other lt lo single apart. refl;
   low = λ t e. absurd (none_some t e);
+  slots = λ t e. absurd cc;
 }
   where
     none_some : (t : ℕ) → ◌≡◌ {A = Option ℕ} None (Some t) → ⊥
@@ -279,7 +289,7 @@ kept o (steps.Issue u ∷ before) h =
     let ms = trace o before in
     let t = none_holds (tests_of ms (steps.Issue u)) h.1 in
     let p = prepared_is (stage ms u) t.1.1.0 in
-    kept_issue ms u p.0 (kept o before h.2) p.1 t.1.1.1.0
+    kept_issue ms u p.0 (ltb-true u 32 h.0) (kept o before h.2) p.1 t.1.1.1.0
 kept o (steps.Accept u ∷ before) h =
     let ms = trace o before in
     let t = none_holds (tests_of ms (steps.Accept u)) h.1 in

@@ -263,7 +263,8 @@ bits_failed ms u tag put error denied mended was queued h =
     (subst (λ (f : Option ℕ). AreBits regs.active regs.issued tag (stage ms tag) f) mended h))))
 
 executed-regs : (ms : List Moment) (u : ℕ) (put : Put) (e : Effect) (x : Option ℕ)
-    → is_queued put.command ≡ false → IsExecuted put.command e → e.event.failed ≡ x
+    → is_queued put.command ≡ false → IsExecuted (events ms) put.command e
+    → e.event.failed ≡ x
     → registers (accept_moment u put e ∷ ms)
     ≡ restarted_if (is_some x) (shown u (registers ms) (executed_fis put.command x))
 executed-regs ms u put e x unqueued done is =
@@ -281,7 +282,7 @@ executed-regs ms u put e x unqueued done is =
 
 bits_executed : (ms : List Moment) (u tag : ℕ) (put : Put) (e : Effect) → u < 32 → tag < 32
     → Kept ms → failed ms ≡ None → stage ms u ≡ Issued put → is_queued put.command ≡ false
-    → IsExecuted put.command e → BitsOf ms tag → BitsOf (accept_moment u put e ∷ ms) tag
+    → IsExecuted (events ms) put.command e → BitsOf ms tag → BitsOf (accept_moment u put e ∷ ms) tag
 bits_executed ms u tag put e lu lt k mended was unqueued done h =
     by_answer e.event.failed refl
   where

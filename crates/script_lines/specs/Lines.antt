@@ -10,6 +10,7 @@
 --   recv C ID BLOCKS                     client C receives so many blocks from the ComID ID
 --   log C                                client C reads the log page of the last queued error
 --   reset C K                            client C turns the power off and on, where K is 0, or resets the hardware, where it is 1
+--   tper C                               client C sends one block of zeros as the command that resets the drive
 --   expect TEXT                          the last printed line is TEXT, byte for byte
 use Rattle.std.specs.Prelude.{ℕ, ◌==◌, ◌<◌, ◌≤◌, ⊤, length, drop, if◌then◌else◌, List, Result, Ok, Err}
 use Rattle.script_lines.specs.Words.{word, after_words, first_word, after_word}
@@ -82,6 +83,10 @@ reset_line rest = do
   kind ← reset_in (word 1 rest)
   ended (after_words 2 rest) (lines.Reset client kind)
 
+abbrev pub tper_reset_line : List ℕ → Result Line LineFault
+tper_reset_line rest =
+    number_in fields.Client (word 0 rest) >>= λ client. ended (after_words 1 rest) (lines.TperReset client)
+
 abbrev pub verb_line : Verb → List ℕ → Result Line LineFault
 verb_line verbs.Range rest = range_line rest
 verb_line verbs.Read rest = read_line rest
@@ -93,6 +98,7 @@ verb_line verbs.Send rest = send_line rest
 verb_line verbs.Receive rest = receive_line rest
 verb_line verbs.Log rest = log_line rest
 verb_line verbs.Reset rest = reset_line rest
+verb_line verbs.TperReset rest = tper_reset_line rest
 verb_line verbs.Expect rest = Ok lines.Expect
 
 -- what a line says, or what is wrong with it

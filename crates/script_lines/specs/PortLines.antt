@@ -8,6 +8,7 @@
 --   put C T call ID TSN HSN HEX          the tokens HEX for the ComID ID, in the session of these numbers
 --   put C T send ID HEX                  the ComPacket HEX for the ComID ID
 --   put C T recv ID BLOCKS               so many blocks from the ComID ID
+--   put C T tper                         one block of zeros, as the command that resets the drive
 --   issue T, accept T, complete T        the port issues it; the drive takes it; the drive ends it
 --   recover                              the port recovers from a failed command
 --   reset C K                            client C resets the port and the drive: the power where K is 0, the hardware where it is 1
@@ -96,6 +97,11 @@ receive_words rest = do
   _ ← none_left (after_words 2 rest)
   Ok (requests.Receive com_id blocks)
 
+abbrev pub tper_reset_words : List ℕ → Result PutRequest LineFault
+tper_reset_words rest = do
+  _ ← none_left rest
+  Ok requests.TperReset
+
 -- no other word names a request
 abbrev pub request_words : Verb → List ℕ → Result PutRequest LineFault
 request_words verbs.Read rest = read_words rest
@@ -105,6 +111,7 @@ request_words verbs.WriteDma rest = write_dma_words rest
 request_words verbs.Call rest = call_words rest
 request_words verbs.Send rest = send_words rest
 request_words verbs.Receive rest = receive_words rest
+request_words verbs.TperReset rest = tper_reset_words rest
 request_words verbs.Range rest = Err UnknownWord
 request_words verbs.Log rest = Err UnknownWord
 request_words verbs.Reset rest = Err UnknownWord

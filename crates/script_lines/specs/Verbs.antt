@@ -18,6 +18,7 @@ words =
     ∷ (codes "recv", verbs.Receive)
     ∷ (codes "log", verbs.Log)
     ∷ (codes "reset", verbs.Reset)
+    ∷ (codes "tper", verbs.TperReset)
     ∷ []
 
 -- the verb of the first of these that is the same bytes

@@ -39,7 +39,7 @@ impl fmt::Display for LineFault {
             LineFault::UnknownWord => {
                 f.write_str("the first word is none of ")?;
                 f.write_str(
-                    "range, read, write, dread, dwrite, call, send, recv, log, reset and expect",
+                    "range, read, write, dread, dwrite, call, send, recv, log, reset, tper and expect",
                 )
             }
             LineFault::Missing(field) => {

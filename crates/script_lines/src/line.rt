@@ -77,6 +77,10 @@ pub enum Line<'a> {
         client: u32,
         kind: Reset,
     },
+    /// The command that resets the drive.
+    TperReset {
+        client: u32,
+    },
     /// What the last printed line is to be: `expected_text` gives it.
     Expect,
 }
@@ -86,7 +90,7 @@ impl<'a> Words<'a> {
     ghost use Rattle.script_lines.specs.Words.{first_word, after_word, after_words};
     ghost use Rattle.script_lines.specs.Fields.{most_of, number_in, flag_in, byte_in, hex_in};
     ghost use Rattle.script_lines.specs.Groups.{range_in, transfer_in, dma_transfer_in, session_in, reset_in};
-    ghost use Rattle.script_lines.specs.Lines.{Fits, ended, verb_line, range_line, read_line, write_line, read_dma_line, write_dma_line, call_line, send_line, receive_line, log_line, reset_line};
+    ghost use Rattle.script_lines.specs.Lines.{Fits, ended, verb_line, range_line, read_line, write_line, read_dma_line, write_dma_line, call_line, send_line, receive_line, log_line, reset_line, tper_reset_line};
 
     /// The next word as the number of a field.
     pub(crate) fn number(&mut self, field: Field) -> Result<u64, LineFault>
@@ -327,6 +331,14 @@ impl<'a> Words<'a> {
         self.ended(Line::Reset { client, kind })
     }
 
+    fn tper_reset_line(&mut self) -> Result<Line<'a>, LineFault>
+        ensures exact { result ≡ tper_reset_line self.old.rest.now }
+        ensures fits { IfOk result Fits }
+    {
+        let client = self.number(Field::Client)? as u32;
+        self.ended(Line::TperReset { client })
+    }
+
     /// What stands behind the verb.
     fn line(&mut self, verb: Verb) -> Result<Line<'a>, LineFault>
         ensures exact { result ≡ verb_line verb self.old.rest.now }
@@ -343,6 +355,7 @@ impl<'a> Words<'a> {
             Verb::Receive => self.receive_line(),
             Verb::Log => self.log_line(),
             Verb::Reset => self.reset_line(),
+            Verb::TperReset => self.tper_reset_line(),
             Verb::Expect => Ok(Line::Expect),
         }
     }

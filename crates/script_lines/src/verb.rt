@@ -19,6 +19,7 @@ pub enum Verb {
     Receive,
     Log,
     Reset,
+    TperReset,
     Expect,
 }
 
@@ -48,6 +49,8 @@ pub(crate) fn verb_of(word: &[u8]) -> Option<Verb>
         Some(Verb::Log)
     } else if is_word(word, b"reset") {
         Some(Verb::Reset)
+    } else if is_word(word, b"tper") {
+        Some(Verb::TperReset)
     } else {
         None
     }

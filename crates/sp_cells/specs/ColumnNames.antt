@@ -16,6 +16,10 @@ common_name_column = col 2
 abbrev pub life_cycle_state_column : Column
 life_cycle_state_column = col 6
 
+-- TPerInfo (Core 2.01, section 5.4; Opal SSC 2.01, section 4.2)
+abbrev pub programmatic_reset_enable_column : Column
+programmatic_reset_enable_column = col 8
+
 -- C_PIN (Core 2.01, section 5.3)
 abbrev pub pin_column : Column
 pin_column = col 3

@@ -30,6 +30,9 @@ locking_table = 0x0802
 abbrev pub mbr_control_table : ℕ
 mbr_control_table = 0x0803
 
+abbrev pub tper_info_table : ℕ
+tper_info_table = 0x0201
+
 -- the column of this number
 abbrev pub col : ℕ → Column
 col n = record { 0 = n }
@@ -47,6 +50,10 @@ admin_sp = uid 0x0000020500000001
 
 abbrev pub locking_sp : Uid
 locking_sp = uid 0x0000020500000002
+
+-- the one row of the TPerInfo table
+abbrev pub tper_info : Uid
+tper_info = uid 0x0000020100030001
 
 -- the authority that everyone is, and the drive's owner
 abbrev pub anybody : Uid
@@ -128,7 +135,7 @@ ace_admins = ace_uid 2
 abbrev pub ace_anybody_get_common_name : Uid
 ace_anybody_get_common_name = ace_uid 3
 
--- the Admin SP: who may read and set SID's PIN, read the MSID, and change the SPs
+-- the Admin SP: who may read and set SID's PIN, read the MSID, change the SPs, and let a command reset the drive
 abbrev pub ace_c_pin_sid_get_nopin : Uid
 ace_c_pin_sid_get_nopin = ace_uid 0x8c02
 
@@ -140,6 +147,9 @@ ace_c_pin_msid_get_pin = ace_uid 0x8c04
 
 abbrev pub ace_sp_sid : Uid
 ace_sp_sid = ace_uid 0x30002
+
+abbrev pub ace_tper_info_set_programmatic_reset_enable : Uid
+ace_tper_info_set_programmatic_reset_enable = ace_uid 0x30003
 
 -- the Locking SP: who may set an ACE's expression, and enable an authority
 abbrev pub ace_ace_set_boolean_expression : Uid

@@ -6,8 +6,8 @@ use Rattle.sp_cells.specs.declared.names.Column.{Column}
 use Rattle.sp_cells.specs.declared.cells.Cell.{Cell}
 use Rattle.sp_cells.specs.declared.cells.Cell.TheVariants.{Number, Bytes, Uid, Numbers, Expr, Columns}
 use Rattle.sp_cells.specs.Limits.{most_pin_bytes}
-use Rattle.sp_cells.specs.Names.{table_of, ace_table, authority_table, c_pin_table, sp_table, locking_table, mbr_control_table}
-use Rattle.sp_cells.specs.ColumnNames.{uid_column, name_column, common_name_column, life_cycle_state_column, pin_column, char_set_column, try_limit_column, tries_column, persistence_column}
+use Rattle.sp_cells.specs.Names.{table_of, ace_table, authority_table, c_pin_table, sp_table, locking_table, mbr_control_table, tper_info_table}
+use Rattle.sp_cells.specs.ColumnNames.{uid_column, name_column, common_name_column, life_cycle_state_column, programmatic_reset_enable_column, pin_column, char_set_column, try_limit_column, tries_column, persistence_column}
 use Rattle.sp_cells.specs.ColumnNames.{is_class_column, class_column, enabled_column, operation_column, credential_column, boolean_expr_column, columns_column}
 use Rattle.sp_cells.specs.ColumnNames.{range_start_column, range_length_column, read_lock_enabled_column, write_lock_enabled_column, read_locked_column, write_locked_column, lock_on_reset_column, mbr_enable_column, mbr_done_column, mbr_done_on_reset_column}
 use Rattle.sp_cells.specs.declared.values.ColumnType.{ColumnType}
@@ -98,6 +98,13 @@ mbr_control_types =
     ∷ (mbr_done_on_reset_column, types.Resets)
     ∷ []
 
+-- TPerInfo
+abbrev pub tper_info_types : List (Column × ColumnType)
+tper_info_types =
+    (uid_column, types.Object)
+    ∷ (programmatic_reset_enable_column, types.Flag)
+    ∷ []
+
 -- the columns of a table, by the upper four bytes of its rows' names
 abbrev pub types_of : ℕ → List (Column × ColumnType)
 types_of table =
@@ -106,7 +113,8 @@ types_of table =
     if table == c_pin_table then c_pin_types else
     if table == sp_table then sp_types else
     if table == locking_table then locking_types else
-    if table == mbr_control_table then mbr_control_types else []
+    if table == mbr_control_table then mbr_control_types else
+    if table == tper_info_table then tper_info_types else []
 
 abbrev pub column_type : UidType → Column → Option ColumnType
 column_type object column = type_at (types_of (table_of object)) column

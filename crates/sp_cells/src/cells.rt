@@ -3,7 +3,7 @@
 ghost use Rattle.std.specs.Prelude.{◌≡◌, ◌≤◌, ◌<◌, ◌==◌, List, [], ◌∷◌, ◌++◌, length, IsTrue, IfOk, IfSome, IsSome, ◌↔◌, ◌||◌, SomeIff, count_by};
 ghost use Rattle.std.specs.List.{list_any, list_all};
 ghost use Rattle.sp_cells.specs.Limits.{most_elements};
-ghost use Rattle.sp_cells.specs.Resets.{is_reset_set as is_reset_set_of, reset_set, reset_numbers};
+ghost use Rattle.sp_cells.specs.Resets.{is_reset, is_reset_set as is_reset_set_of, reset_set, reset_numbers};
 
 use crate::limits::MOST_ELEMENTS;
 use crate::names::{Column, Uid};
@@ -13,7 +13,7 @@ use std::alloc::{AllocError, Global};
 use std::marker::Model;
 
 /// The resets that a column names (Core 2.01, section 5.1.3, `reset_types`): a set of numbers of resets, of which
-/// this drive has two, 0 and 1.
+/// this drive has three: 0, 1 and 3.
 #[derive(Clone, Copy, Debug, Default, PartialEq, Eq)]
 pub struct ResetTypes {
     /// Number 0.
@@ -21,6 +21,9 @@ pub struct ResetTypes {
 
     /// Number 1.
     pub hardware: bool,
+
+    /// Number 3: the reset that a command makes.
+    pub programmatic: bool,
 }
 
 impl ResetTypes {
@@ -35,11 +38,12 @@ impl ResetTypes {
         Some(ResetTypes {
             power_cycle: numbers.contains(&0),
             hardware: numbers.contains(&1),
+            programmatic: numbers.contains(&3),
         })
     }
 
     /// The numbers of the set, rising.
-    pub fn numbers(&self) -> ArrayVec<u64, 2>
+    pub fn numbers(&self) -> ArrayVec<u64, 3>
         ensures { result.items ≡ reset_numbers self.now }
     {
         let mut numbers = ArrayVec::new();
@@ -48,6 +52,9 @@ impl ResetTypes {
         }
         if self.hardware {
             numbers.push(1);
+        }
+        if self.programmatic {
+            numbers.push(3);
         }
         numbers
     }
@@ -59,6 +66,7 @@ impl ResetTypes {
         match number {
             0 => self.power_cycle,
             1 => self.hardware,
+            3 => self.programmatic,
             _ => false,
         }
     }
@@ -68,7 +76,10 @@ impl ResetTypes {
 fn is_reset_set(numbers: &[u64]) -> bool
     ensures { result ≡ is_reset_set_of numbers.now }
 {
-    count_of(numbers, 0) <= 1 && count_of(numbers, 1) <= 1 && are_resets(numbers)
+    count_of(numbers, 0) <= 1
+        && count_of(numbers, 1) <= 1
+        && count_of(numbers, 3) <= 1
+        && are_resets(numbers)
 }
 
 /// How often a number stands there.
@@ -80,9 +91,9 @@ fn count_of(numbers: &[u64], number: u64) -> usize
 
 /// Each number is a reset of this drive.
 fn are_resets(numbers: &[u64]) -> bool
-    ensures { result ≡ list_all (λ n. (n == 0) || (n == 1)) numbers.now }
+    ensures { result ≡ list_all is_reset numbers.now }
 {
-    numbers.iter().all(|n| *n == 0 || *n == 1)
+    numbers.iter().all(|n| *n == 0 || *n == 1 || *n == 3)
 }
 
 /// One element of an expression in postorder (Core 2.01, section 5.1.3, `ACE_expression`).

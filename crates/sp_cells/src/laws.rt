@@ -2,10 +2,10 @@
 
 ghost use Rattle.std.specs.Prelude.{◌≡◌, ◌^◌};
 ghost use Rattle.basics.specs.Addresses.{address_limit};
-ghost use Rattle.sp_cells.specs.Names.{none, this_sp, admin_sp, locking_sp, anybody, sid, admins_class, users_class, c_pin_sid, c_pin_msid, global_range, mbr_control, mbr_table, get, set, authenticate, revert, activate, session_manager, properties, start_session, sync_session};
-ghost use Rattle.sp_cells.specs.Names.{ace_table, authority_table, c_pin_table, sp_table, locking_table, mbr_control_table};
-ghost use Rattle.sp_cells.specs.Names.{ace_anybody, ace_admins, ace_anybody_get_common_name, ace_c_pin_sid_get_nopin, ace_c_pin_sid_set_pin, ace_c_pin_msid_get_pin, ace_sp_sid, ace_ace_set_boolean_expression, ace_authority_set_enabled, ace_c_pin_admins_get_all_nopin, ace_c_pin_admins_set_pin, ace_locking_get_all, ace_locking_global_range_admins_set, ace_locking_admins_set, ace_mbr_control_admins_set, ace_mbr_control_set_done_to_dor};
-ghost use Rattle.sp_cells.specs.ColumnNames.{uid_column, name_column, common_name_column, life_cycle_state_column, pin_column, char_set_column, try_limit_column, tries_column, persistence_column};
+ghost use Rattle.sp_cells.specs.Names.{none, this_sp, admin_sp, locking_sp, anybody, sid, admins_class, users_class, c_pin_sid, c_pin_msid, global_range, mbr_control, mbr_table, get, set, authenticate, revert, activate, session_manager, properties, start_session, sync_session, tper_info};
+ghost use Rattle.sp_cells.specs.Names.{ace_table, authority_table, c_pin_table, sp_table, locking_table, mbr_control_table, tper_info_table};
+ghost use Rattle.sp_cells.specs.Names.{ace_anybody, ace_admins, ace_anybody_get_common_name, ace_c_pin_sid_get_nopin, ace_c_pin_sid_set_pin, ace_c_pin_msid_get_pin, ace_sp_sid, ace_tper_info_set_programmatic_reset_enable, ace_ace_set_boolean_expression, ace_authority_set_enabled, ace_c_pin_admins_get_all_nopin, ace_c_pin_admins_set_pin, ace_locking_get_all, ace_locking_global_range_admins_set, ace_locking_admins_set, ace_mbr_control_admins_set, ace_mbr_control_set_done_to_dor};
+ghost use Rattle.sp_cells.specs.ColumnNames.{uid_column, name_column, common_name_column, life_cycle_state_column, programmatic_reset_enable_column, pin_column, char_set_column, try_limit_column, tries_column, persistence_column};
 ghost use Rattle.sp_cells.specs.ColumnNames.{is_class_column, class_column, enabled_column, operation_column, credential_column, boolean_expr_column, columns_column};
 ghost use Rattle.sp_cells.specs.ColumnNames.{range_start_column, range_length_column, read_lock_enabled_column, write_lock_enabled_column, read_locked_column, write_locked_column, lock_on_reset_column, mbr_enable_column, mbr_done_column, mbr_done_on_reset_column};
 ghost use Rattle.sp_cells.specs.Limits.{most_mbr_sectors, most_pin_bytes, most_elements, new_try_limit, no_try_limit, manufactured_inactive, manufactured};
@@ -24,6 +24,7 @@ pub fn laws_of_names()
     ensures authorities { (uids.ANYBODY ≡ anybody) × (uids.SID ≡ sid) × (uids.ADMINS ≡ admins_class)
         × (uids.USERS ≡ users_class) }
     ensures pins { (uids.C_PIN_SID ≡ c_pin_sid) × (uids.C_PIN_MSID ≡ c_pin_msid) }
+    ensures tper_info { (uids.TPER_INFO ≡ tper_info) }
     ensures ranges { (uids.GLOBAL_RANGE ≡ global_range) }
     ensures mbr { (uids.MBR_CONTROL ≡ mbr_control) × (uids.MBR_TABLE ≡ mbr_table) }
     ensures methods { (uids.GET ≡ get) × (uids.SET ≡ set) × (uids.AUTHENTICATE ≡ authenticate)
@@ -33,7 +34,8 @@ pub fn laws_of_names()
     ensures admin_sp_aces { (uids.ACE_C_PIN_SID_GET_NOPIN ≡ ace_c_pin_sid_get_nopin)
         × (uids.ACE_C_PIN_SID_SET_PIN ≡ ace_c_pin_sid_set_pin)
         × (uids.ACE_C_PIN_MSID_GET_PIN ≡ ace_c_pin_msid_get_pin)
-        × (uids.ACE_SP_SID ≡ ace_sp_sid) }
+        × (uids.ACE_SP_SID ≡ ace_sp_sid)
+        × (uids.ACE_TPER_INFO_SET_PROGRAMMATIC_RESET_ENABLE ≡ ace_tper_info_set_programmatic_reset_enable) }
     ensures aces { (uids.ACE_ANYBODY ≡ ace_anybody) × (uids.ACE_ADMINS ≡ ace_admins)
         × (uids.ACE_ANYBODY_GET_COMMON_NAME ≡ ace_anybody_get_common_name)
         × (uids.ACE_ACE_SET_BOOLEAN_EXPRESSION ≡ ace_ace_set_boolean_expression)
@@ -47,10 +49,12 @@ pub fn laws_of_names()
         × (uids.ACE_MBR_CONTROL_SET_DONE_TO_DOR ≡ ace_mbr_control_set_done_to_dor) }
     ensures tables { (tables.ACE ≡ ace_table) × (tables.AUTHORITY ≡ authority_table)
         × (tables.C_PIN ≡ c_pin_table) × (tables.SP ≡ sp_table)
-        × (tables.LOCKING ≡ locking_table) × (tables.MBR_CONTROL ≡ mbr_control_table) }
+        × (tables.LOCKING ≡ locking_table) × (tables.MBR_CONTROL ≡ mbr_control_table)
+        × (tables.TPER_INFO ≡ tper_info_table) }
     ensures every_row { (columns.UID ≡ uid_column) × (columns.NAME ≡ name_column)
         × (columns.COMMON_NAME ≡ common_name_column) }
     ensures sp_row { (columns.LIFE_CYCLE_STATE ≡ life_cycle_state_column) }
+    ensures tper_info_row { (columns.PROGRAMMATIC_RESET_ENABLE ≡ programmatic_reset_enable_column) }
     ensures pin_row { (columns.PIN ≡ pin_column) × (columns.CHAR_SET ≡ char_set_column)
         × (columns.TRY_LIMIT ≡ try_limit_column) × (columns.TRIES ≡ tries_column)
         × (columns.PERSISTENCE ≡ persistence_column) }

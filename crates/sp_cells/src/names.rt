@@ -43,6 +43,8 @@ pub mod tables {
     pub const LOCKING: u64 = 0x0802;
 
     pub const MBR_CONTROL: u64 = 0x0803;
+
+    pub const TPER_INFO: u64 = 0x0201;
 }
 
 /// A security provider of the drive (Opal SSC 2.01, sections 4.2 and 4.3).
@@ -63,6 +65,9 @@ impl Uid {
 
     /// The SP that a session is on.
     pub const THIS_SP: Uid = Uid(0x0000_0000_0000_0001);
+
+    /// The one row of the TPerInfo table.
+    pub const TPER_INFO: Uid = Uid(0x0000_0201_0003_0001);
 
     /// The row of the Admin SP in the SP table.
     pub const ADMIN_SP: Uid = Uid(0x0000_0205_0000_0001);
@@ -117,6 +122,9 @@ impl Uid {
 
     /// Who may activate and revert the SPs.
     pub const ACE_SP_SID: Uid = Uid(0x0000_0008_0003_0002);
+
+    /// Who may let a command reset the drive.
+    pub const ACE_TPER_INFO_SET_PROGRAMMATIC_RESET_ENABLE: Uid = Uid(0x0000_0008_0003_0003);
 
     /// Who may set an ACE's expression.
     pub const ACE_ACE_SET_BOOLEAN_EXPRESSION: Uid = Uid(0x0000_0008_0003_8001);
@@ -409,6 +417,9 @@ impl Column {
 
     /// The resets that bring the shadow MBR back.
     pub const MBR_DONE_ON_RESET: Column = Column(3);
+
+    /// Whether a command may reset the drive.
+    pub const PROGRAMMATIC_RESET_ENABLE: Column = Column(8);
 
     /// The expression of an ACE.
     pub const BOOLEAN_EXPR: Column = Column(3);

@@ -1,7 +1,7 @@
 //! Which value each column takes.
 
 ghost use Rattle.std.specs.Prelude.{◌≡◌, ◌<◌, ◌≤◌};
-ghost use Rattle.sp_cells.specs.Values.{is_of, type_at, sp_types, ace_types, authority_types, c_pin_types, locking_types, mbr_control_types, types_of, column_type as column_type_of, is_taken, takes_each};
+ghost use Rattle.sp_cells.specs.Values.{is_of, type_at, sp_types, ace_types, authority_types, c_pin_types, locking_types, mbr_control_types, tper_info_types, types_of, column_type as column_type_of, is_taken, takes_each};
 
 use crate::cells::Cell;
 use crate::limits::MOST_PIN_BYTES;
@@ -131,6 +131,16 @@ fn mbr_control_type(column: Column) -> Option<ColumnType>
     }
 }
 
+fn tper_info_type(column: Column) -> Option<ColumnType>
+    ensures { result ≡ type_at tper_info_types column }
+{
+    match column {
+        Column::UID => Some(ColumnType::Object),
+        Column::PROGRAMMATIC_RESET_ENABLE => Some(ColumnType::Flag),
+        _ => None,
+    }
+}
+
 /// The type of a column of an object, by the object's table.
 fn column_type(object: Uid, column: Column) -> Option<ColumnType>
     ensures { result ≡ column_type_of object column }
@@ -142,6 +152,7 @@ fn column_type(object: Uid, column: Column) -> Option<ColumnType>
         tables::SP => sp_type(column),
         tables::LOCKING => locking_type(column),
         tables::MBR_CONTROL => mbr_control_type(column),
+        tables::TPER_INFO => tper_info_type(column),
         _ => None,
     }
 }

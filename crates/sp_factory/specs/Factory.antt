@@ -10,9 +10,9 @@ use Rattle.sp_cells.specs.declared.cells.Cell.TheVariants.{Number, Bytes, Uid as
 use Rattle.sp_cells.specs.declared.cells.Element.{Element}
 use Rattle.sp_cells.specs.declared.cells.Element.TheVariants.{Authority, Or}
 use Rattle.sp_cells.specs.Limits.{new_try_limit, no_try_limit, manufactured, manufactured_inactive}
-use Rattle.sp_cells.specs.Names.{uid, none, admin_sp, locking_sp, anybody, sid, admins_class, admin_base, admin_uid, users_class, user_base, user_uid, c_pin_sid, c_pin_msid, admin_pin_base, admin_pin_uid, user_pin_base, user_pin_uid, global_range, range_base, range_uid, mbr_control}
-use Rattle.sp_cells.specs.Names.{ace_anybody, ace_admins, ace_anybody_get_common_name, ace_c_pin_sid_get_nopin, ace_c_pin_sid_set_pin, ace_c_pin_msid_get_pin, ace_sp_sid, ace_ace_set_boolean_expression, ace_authority_set_enabled, ace_c_pin_admins_get_all_nopin, ace_c_pin_admins_set_pin, user_ace_base, ace_c_pin_user_set_pin, ace_locking_get_all, read_locked_ace_base, ace_range_set_read_locked, write_locked_ace_base, ace_range_set_write_locked, ace_locking_global_range_admins_set, ace_locking_admins_set, ace_mbr_control_admins_set, ace_mbr_control_set_done_to_dor}
-use Rattle.sp_cells.specs.ColumnNames.{uid_column, name_column, common_name_column, life_cycle_state_column, pin_column, char_set_column, try_limit_column, tries_column, persistence_column}
+use Rattle.sp_cells.specs.Names.{uid, none, admin_sp, locking_sp, anybody, sid, admins_class, admin_base, admin_uid, users_class, user_base, user_uid, c_pin_sid, c_pin_msid, admin_pin_base, admin_pin_uid, user_pin_base, user_pin_uid, global_range, range_base, range_uid, mbr_control, tper_info}
+use Rattle.sp_cells.specs.Names.{ace_anybody, ace_admins, ace_anybody_get_common_name, ace_c_pin_sid_get_nopin, ace_c_pin_sid_set_pin, ace_c_pin_msid_get_pin, ace_sp_sid, ace_tper_info_set_programmatic_reset_enable, ace_ace_set_boolean_expression, ace_authority_set_enabled, ace_c_pin_admins_get_all_nopin, ace_c_pin_admins_set_pin, user_ace_base, ace_c_pin_user_set_pin, ace_locking_get_all, read_locked_ace_base, ace_range_set_read_locked, write_locked_ace_base, ace_range_set_write_locked, ace_locking_global_range_admins_set, ace_locking_admins_set, ace_mbr_control_admins_set, ace_mbr_control_set_done_to_dor}
+use Rattle.sp_cells.specs.ColumnNames.{uid_column, name_column, common_name_column, life_cycle_state_column, programmatic_reset_enable_column, pin_column, char_set_column, try_limit_column, tries_column, persistence_column}
 use Rattle.sp_cells.specs.ColumnNames.{is_class_column, class_column, enabled_column, operation_column, credential_column, boolean_expr_column, columns_column}
 use Rattle.sp_cells.specs.ColumnNames.{range_start_column, range_length_column, read_lock_enabled_column, write_lock_enabled_column, read_locked_column, write_locked_column, lock_on_reset_column, mbr_enable_column, mbr_done_column, mbr_done_on_reset_column}
 use Rattle.sp_rows.specs.declared.runs.Run.{Run}
@@ -62,7 +62,7 @@ new_pin object name secret limit =
 
 -- the set that has the power cycle alone
 abbrev pub power_cycle_alone : Cell
-power_cycle_alone = Numbers (record { power_cycle = true; hardware = false })
+power_cycle_alone = Numbers (record { power_cycle = true; hardware = false; programmatic = false })
 
 abbrev pub new_range : Uid → List ℕ → List (Column × Cell)
 new_range object name =
@@ -84,6 +84,12 @@ new_mbr_control object =
     ∷ (mbr_enable_column, Number 0)
     ∷ (mbr_done_column, Number 0)
     ∷ (mbr_done_on_reset_column, power_cycle_alone)
+    ∷ []
+
+abbrev pub new_tper_info : Uid → List (Column × Cell)
+new_tper_info object =
+    (uid_column, Object object)
+    ∷ (programmatic_reset_enable_column, Number 0)
     ∷ []
 
 abbrev pub new_ace : Uid → List ℕ → List Element → List Column → List (Column × Cell)
@@ -177,6 +183,10 @@ locking_ranges = row_items global_range (new_range global_range (codes "Locking_
 unfoldable pub locking_mbr_controls : List Item
 locking_mbr_controls = row_items mbr_control (new_mbr_control mbr_control)
 
+-- what the drive says of itself: no command resets it
+abbrev pub admin_tper_infos : List Item
+admin_tper_infos = row_items tper_info (new_tper_info tper_info)
+
 -- ACEs
 unfoldable pub admin_aces : List Item
 admin_aces =
@@ -185,6 +195,7 @@ admin_aces =
     ++ ace_row ace_c_pin_sid_set_pin (codes "C_PIN_SID_Set_PIN") sid (pin_column ∷ [])
     ++ ace_row ace_c_pin_msid_get_pin (codes "C_PIN_MSID_Get_PIN") anybody (uid_column ∷ pin_column ∷ [])
     ++ ace_row ace_sp_sid (codes "SP_SID") sid []
+    ++ ace_row ace_tper_info_set_programmatic_reset_enable (codes "TPerInfo_Set_ProgrammaticResetEnable") sid (programmatic_reset_enable_column ∷ [])
 
 unfoldable pub authority_aces : List Item
 authority_aces =
@@ -231,7 +242,7 @@ mbr_aces =
 
 -- the Admin SP of a drive with this MSID
 abbrev pub admin_factory : List ℕ → List Item
-admin_factory msid = admin_sps ++ (admin_authorities ++ (admin_pins msid ++ admin_aces))
+admin_factory msid = admin_sps ++ (admin_authorities ++ (admin_pins msid ++ (admin_tper_infos ++ admin_aces)))
 
 -- the Locking SP
 abbrev pub locking_factory : List Item

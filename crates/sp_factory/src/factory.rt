@@ -7,18 +7,20 @@ ghost use Rattle.sp_cells.specs.Names.{user_ace_base, read_locked_ace_base, ace_
 ghost use Rattle.sp_rows.specs.Items.{row_items, rows_from};
 ghost use Rattle.sp_rows.specs.Runs.{run_items};
 ghost use Rattle.sp_rows.specs.Halves.{half_items};
-ghost use Rattle.sp_rows.specs.Columns.{sp_columns, authority_columns, c_pin_columns, locking_columns, mbr_control_columns, ace_columns};
-ghost use Rattle.sp_factory.specs.Factory.{HasRows, AddsRows, ace_row, family, user_ace, read_locked_aces, write_locked_aces, admin_sps, admin_authorities, admin_pins, admin_aces, locking_authorities, locking_pins, locking_ranges, locking_mbr_controls, authority_aces, pin_aces, range_aces, mbr_aces, admin_factory, locking_factory};
+ghost use Rattle.sp_rows.specs.Columns.{sp_columns, authority_columns, c_pin_columns, locking_columns, mbr_control_columns, tper_info_columns, ace_columns};
+ghost use Rattle.sp_factory.specs.Factory.{HasRows, AddsRows, ace_row, family, user_ace, read_locked_aces, write_locked_aces, admin_sps, admin_authorities, admin_pins, admin_tper_infos, admin_aces, locking_authorities, locking_pins, locking_ranges, locking_mbr_controls, authority_aces, pin_aces, range_aces, mbr_aces, admin_factory, locking_factory};
 
 use crate::families::{
     admin_pin_rows, admin_rows, range_rows, read_locked_ace_row, read_locked_ace_rows,
     user_ace_rows, user_pin_rows, user_rows, write_locked_ace_row, write_locked_ace_rows,
 };
-use crate::new_rows::{ace, group, mbr_control, member, only, pin, push_row, range, sp_row};
+use crate::new_rows::{
+    ace, group, mbr_control, member, only, pin, push_row, range, sp_row, tper_info,
+};
 use sp_cells::limits::{MANUFACTURED, MANUFACTURED_INACTIVE, NEW_TRY_LIMIT, NO_TRY_LIMIT};
 use sp_cells::{Column, RANGES, USERS, Uid};
 use sp_rows::{
-    AceRow, AuthorityRow, CPinRow, LockingRow, MbrControlRow, Row, Run, SpRow, SpTables,
+    AceRow, AuthorityRow, CPinRow, LockingRow, MbrControlRow, Row, Run, SpRow, SpTables, TperInfoRow,
 };
 use std::alloc::{AllocError, Global};
 
@@ -223,6 +225,19 @@ fn mbr_controls_made(alloc: Global) -> Result<Vec<Run<MbrControlRow>>, AllocErro
     Ok(runs)
 }
 
+fn tper_infos_made(alloc: Global) -> Result<Vec<Run<TperInfoRow>>, AllocError>
+    ensures { IfOk result (λ runs. HasRows tper_info_columns runs.items admin_tper_infos) }
+{
+    let mut runs = Vec::new(alloc);
+    push_one(
+        alloc,
+        &mut runs,
+        Uid::TPER_INFO,
+        tper_info(Uid::TPER_INFO),
+    )?;
+    Ok(runs)
+}
+
 #[tactic(auto, unfolding(crate::specs::Factory::admin_aces))]
 fn admin_aces_made(alloc: Global) -> Result<Vec<Run<AceRow>>, AllocError>
     ensures { IfOk result (λ runs. HasRows ace_columns runs.items admin_aces) }
@@ -261,6 +276,14 @@ fn admin_aces_made(alloc: Global) -> Result<Vec<Run<AceRow>>, AllocError>
         &[Column::UID, Column::PIN],
     )?;
     push_ace(alloc, &mut runs, Uid::ACE_SP_SID, "SP_SID", Uid::SID, &[])?;
+    push_ace(
+        alloc,
+        &mut runs,
+        Uid::ACE_TPER_INFO_SET_PROGRAMMATIC_RESET_ENABLE,
+        "TPerInfo_Set_ProgrammaticResetEnable",
+        Uid::SID,
+        &[Column::PROGRAMMATIC_RESET_ENABLE],
+    )?;
     Ok(runs)
 }
 
@@ -450,6 +473,7 @@ pub fn new_admin_sp(alloc: Global, msid: &[u8]) -> Result<SpTables, AllocError>
         pins: admin_pins_made(alloc, msid)?,
         ranges: Vec::new(alloc),
         mbr_controls: Vec::new(alloc),
+        tper_infos: tper_infos_made(alloc)?,
         aces: admin_aces_made(alloc)?,
     })
 }
@@ -464,6 +488,7 @@ pub fn new_locking_sp(alloc: Global) -> Result<SpTables, AllocError>
         pins: locking_pins_made(alloc)?,
         ranges: locking_ranges_made(alloc)?,
         mbr_controls: mbr_controls_made(alloc)?,
+        tper_infos: Vec::new(alloc),
         aces: locking_aces_made(alloc)?,
     })
 }

@@ -7,12 +7,12 @@ ghost use Rattle.sp_cells.specs.declared.cells.Element.TheVariants as elements;
 ghost use Rattle.sp_cells.specs.Names.{uid, ace_uid};
 ghost use Rattle.sp_rows.specs.Items.{row_items, rows_from};
 ghost use Rattle.sp_rows.specs.Runs.{run_items};
-ghost use Rattle.sp_rows.specs.Columns.{sp_columns, authority_columns, c_pin_columns, locking_columns, mbr_control_columns, ace_columns};
-ghost use Rattle.sp_factory.specs.Factory.{new_sp, new_group, new_member, new_pin, new_range, new_mbr_control, new_ace};
+ghost use Rattle.sp_rows.specs.Columns.{sp_columns, authority_columns, c_pin_columns, locking_columns, mbr_control_columns, tper_info_columns, ace_columns};
+ghost use Rattle.sp_factory.specs.Factory.{new_sp, new_group, new_member, new_pin, new_range, new_mbr_control, new_tper_info, new_ace};
 
 use arrayvec::ArrayVec;
 use sp_cells::{Bytes, Cell, Column, Columns, Element, Expr, ResetTypes, Uid};
-use sp_rows::{AceRow, AuthorityRow, CPinRow, LockingRow, MbrControlRow, Row, Run, SpRow};
+use sp_rows::{AceRow, AuthorityRow, CPinRow, LockingRow, MbrControlRow, Row, Run, SpRow, TperInfoRow};
 use std::alloc::{AllocError, Global};
 
 /// A name as a cell.
@@ -104,11 +104,12 @@ pub fn pin(
 
 /// The set that has the power cycle alone.
 fn power_cycle_alone() -> Cell
-    ensures { result ≡ cells.Numbers (record { power_cycle = true; hardware = false }) }
+    ensures { result ≡ cells.Numbers (record { power_cycle = true; hardware = false; programmatic = false }) }
 {
     Cell::Numbers(ResetTypes {
         power_cycle: true,
         hardware: false,
+        programmatic: false,
     })
 }
 
@@ -139,6 +140,16 @@ pub fn mbr_control(object: Uid) -> MbrControlRow
         enable: Cell::Number(0),
         done: Cell::Number(0),
         done_on_reset: power_cycle_alone(),
+    }
+}
+
+/// The row of a TPer that no command resets.
+pub fn tper_info(object: Uid) -> TperInfoRow
+    ensures { tper_info_columns result ≡ new_tper_info object }
+{
+    TperInfoRow {
+        uid: Cell::Uid(object),
+        programmatic_reset_enable: Cell::Number(0),
     }
 }
 

@@ -7,8 +7,9 @@ use Rattle.sp_rows.specs.declared.rows.AuthorityRow.{AuthorityRow}
 use Rattle.sp_rows.specs.declared.rows.CPinRow.{CPinRow}
 use Rattle.sp_rows.specs.declared.rows.LockingRow.{LockingRow}
 use Rattle.sp_rows.specs.declared.rows.MbrControlRow.{MbrControlRow}
+use Rattle.sp_rows.specs.declared.rows.TperInfoRow.{TperInfoRow}
 use Rattle.sp_rows.specs.declared.rows.AceRow.{AceRow}
-use Rattle.sp_cells.specs.ColumnNames.{uid_column, name_column, common_name_column, life_cycle_state_column, pin_column, char_set_column, try_limit_column, tries_column, persistence_column}
+use Rattle.sp_cells.specs.ColumnNames.{uid_column, name_column, common_name_column, life_cycle_state_column, programmatic_reset_enable_column, pin_column, char_set_column, try_limit_column, tries_column, persistence_column}
 use Rattle.sp_cells.specs.ColumnNames.{is_class_column, class_column, enabled_column, operation_column, credential_column, boolean_expr_column, columns_column}
 use Rattle.sp_cells.specs.ColumnNames.{range_start_column, range_length_column, read_lock_enabled_column, write_lock_enabled_column, read_locked_column, write_locked_column, lock_on_reset_column, mbr_enable_column, mbr_done_column, mbr_done_on_reset_column}
 
@@ -68,6 +69,13 @@ mbr_control_columns r =
     ∷ (mbr_enable_column, r.enable)
     ∷ (mbr_done_column, r.done)
     ∷ (mbr_done_on_reset_column, r.done_on_reset)
+    ∷ []
+
+-- TPerInfo (Core 2.01, section 5.4, table TPerInfo; Opal SSC 2.01, section 4.2, ProgrammaticResetEnable)
+abbrev pub tper_info_columns : TperInfoRow → List (Column × Cell)
+tper_info_columns r =
+    (uid_column, r.uid)
+    ∷ (programmatic_reset_enable_column, r.programmatic_reset_enable)
     ∷ []
 
 -- ACE (Core 2.01, section 5.3, table ACE)

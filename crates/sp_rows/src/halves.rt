@@ -4,7 +4,7 @@ ghost use Rattle.std.specs.Prelude.{◌≡◌, option_copied, is_some, Some, IsT
 ghost use Rattle.std.specs.Bool.{OnTrue, OnFalse};
 ghost use Rattle.sp_rows.specs.Items.{item_at, with_item};
 
-use crate::rows::{AceRow, AuthorityRow, CPinRow, LockingRow, MbrControlRow, SpRow};
+use crate::rows::{AceRow, AuthorityRow, CPinRow, LockingRow, MbrControlRow, SpRow, TperInfoRow};
 use crate::runs::{Run, find_cell, swap_in};
 use sp_cells::{Cell, Column, Uid};
 
@@ -16,6 +16,7 @@ pub struct SpTables {
     pub pins: Vec<Run<CPinRow>>,
     pub ranges: Vec<Run<LockingRow>>,
     pub mbr_controls: Vec<Run<MbrControlRow>>,
+    pub tper_infos: Vec<Run<TperInfoRow>>,
     pub aces: Vec<Run<AceRow>>,
 }
 
@@ -42,6 +43,9 @@ impl SpTables {
         if let Some(cell) = find_cell(self.mbr_controls.as_slice(), object, column) {
             return Some(cell);
         }
+        if let Some(cell) = find_cell(self.tper_infos.as_slice(), object, column) {
+            return Some(cell);
+        }
         find_cell(self.aces.as_slice(), object, column)
     }
 
@@ -57,6 +61,7 @@ impl SpTables {
             || swap_in(&mut self.pins, object, column, cell)
             || swap_in(&mut self.ranges, object, column, cell)
             || swap_in(&mut self.mbr_controls, object, column, cell)
+            || swap_in(&mut self.tper_infos, object, column, cell)
             || swap_in(&mut self.aces, object, column, cell)
     }
 }

@@ -9,5 +9,5 @@ pub mod runs;
 
 pub use exchange::{exchange_all, new_cells};
 pub use halves::SpTables;
-pub use rows::{AceRow, AuthorityRow, CPinRow, LockingRow, MbrControlRow, Row, SpRow};
+pub use rows::{AceRow, AuthorityRow, CPinRow, LockingRow, MbrControlRow, Row, SpRow, TperInfoRow};
 pub use runs::{Run, find_cell, swap_in};

@@ -244,6 +244,38 @@ impl Row for MbrControlRow {
     }
 }
 
+/// The row of the TPerInfo table.
+#[derive(Drop)]
+pub struct TperInfoRow {
+    pub uid: Cell,
+    pub programmatic_reset_enable: Cell,
+}
+
+impl Row for TperInfoRow {
+    ghost use Rattle.sp_rows.specs.Columns.{tper_info_columns};
+
+    ghost held = { tper_info_columns };
+
+    fn cell(&self, column: Column) -> Option<&Cell> {
+        match column {
+            Column::UID => Some(&self.uid),
+            Column::PROGRAMMATIC_RESET_ENABLE => Some(&self.programmatic_reset_enable),
+            _ => None,
+        }
+    }
+
+    fn swap(&mut self, column: Column, cell: &mut Cell) -> bool {
+        match column {
+            Column::UID => mem::swap(&mut self.uid, cell),
+            Column::PROGRAMMATIC_RESET_ENABLE => {
+                mem::swap(&mut self.programmatic_reset_enable, cell)
+            }
+            _ => return false,
+        }
+        true
+    }
+}
+
 /// A row of the ACE table: an access control element, which may allow methods.
 #[derive(Drop)]
 pub struct AceRow {

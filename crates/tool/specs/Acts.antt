@@ -3,7 +3,7 @@ use Rattle.std.specs.Prelude.{ℕ, zero, suc, ◌+◌, ◌*◌, ◌/◌, ◌%◌
 use Rattle.fis.specs.Types.{h2d_type}
 use Rattle.fis.specs.Bytes.{bit}
 use Rattle.fis.specs.declared.h2d.RegH2d.{RegH2d}
-use Rattle.trusted_cmds.specs.Commands.{sectors, sector_size, fis_of}
+use Rattle.trusted_cmds.specs.Commands.{sectors, sector_size, fis_of, reset_protocol, reset_com_id}
 use Rattle.trusted_cmds.specs.declared.command.Command.{Command}
 use Rattle.trusted_cmds.specs.declared.command.Command.TheVariants.{ReadQueued, WriteQueued, ReadDma, WriteDma, Send, Receive}
 use Rattle.device_data.specs.ErrorLog.{sized}
@@ -79,6 +79,13 @@ send_of com_id blocks = Send com_id_protocol com_id blocks true
 
 abbrev pub receive_of : ℕ → ℕ → Command
 receive_of com_id blocks = Receive com_id_protocol com_id blocks true
+
+-- the command that resets the drive, with one block of zeros
+abbrev pub tper_reset : Command
+tper_reset = Send reset_protocol reset_com_id 1 true
+
+abbrev pub zero_block : List ℕ
+zero_block = replicate sector_size 0
 
 -- the kind of a reset
 abbrev pub kind_named : Reset → ResetKind

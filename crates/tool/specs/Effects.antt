@@ -24,7 +24,7 @@ use Rattle.script_lines.specs.declared.line.Reset.{Reset}
 use Rattle.script_lines.specs.declared.report.Report.{Report}
 use Rattle.script_lines.specs.declared.line.Line as told
 use Rattle.script_lines.specs.declared.line.Line.TheVariants as lines
-use Rattle.tool.specs.Acts.{accept_of, completion, step_of, read_of, write_of, read_dma_of, write_dma_of, write_bytes, blocks_of, in_blocks, send_of, receive_of, reset_of}
+use Rattle.tool.specs.Acts.{accept_of, completion, step_of, read_of, write_of, read_dma_of, write_dma_of, write_bytes, blocks_of, in_blocks, send_of, receive_of, tper_reset, zero_block, reset_of}
 use Rattle.tool.specs.declared.ending.Fault.TheVariants.{LateRange}
 use Rattle.tool.specs.declared.running.Turn.{Turn}
 use Rattle.tool.specs.declared.running.Turn.TheVariants.{Goes, ExpectationFailed, Bad}
@@ -151,6 +151,7 @@ effect_of o acts (lines.Receive client com_id blocks) =
     commanded o acts client (receive_of com_id blocks) []
 effect_of o acts (lines.Log client) = commanded o acts client (ReadLog10 true) []
 effect_of o acts (lines.Reset client kind) = restarted acts kind
+effect_of o acts (lines.TperReset client) = commanded o acts client tper_reset zero_block
 effect_of o acts lines.Expect = record { acts = acts; lines = [] }
 effect_of o acts (lines.Range row) = record { acts = acts; lines = [] }
 

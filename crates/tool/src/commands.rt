@@ -2,12 +2,12 @@
 
 ghost use Rattle.std.specs.Prelude.{◌≡◌, ◌<◌, ◌^◌, IfSome};
 ghost use Rattle.trusted_cmds.specs.Commands.{lba_of, IsCounted};
-ghost use Rattle.tool.specs.Acts.{read_of, write_of, read_dma_of, write_dma_of, send_of, receive_of, kind_named};
+ghost use Rattle.tool.specs.Acts.{read_of, write_of, read_dma_of, write_dma_of, send_of, receive_of, tper_reset, kind_named};
 
 use compacket::ComId;
 use drive::ResetKind;
 use script_lines::{DmaTransfer, Reset, Transfer};
-use trusted_cmds::{Command, sectors};
+use trusted_cmds::{Command, RESET_COM_ID, RESET_PROTOCOL, sectors};
 
 /// The security protocol whose SP Specific field is a ComID.
 pub const COM_ID_PROTOCOL: u8 = 1;
@@ -80,6 +80,18 @@ pub fn receive_of(com_id: ComId, blocks: u16) -> Command
         protocol: COM_ID_PROTOCOL,
         sp_specific: com_id,
         blocks,
+        dma: true,
+    }
+}
+
+/// The command that resets the drive, with one block.
+pub fn tper_reset() -> Command
+    ensures { result ≡ tper_reset }
+{
+    Command::Send {
+        protocol: RESET_PROTOCOL,
+        sp_specific: RESET_COM_ID,
+        blocks: 1,
         dma: true,
     }
 }

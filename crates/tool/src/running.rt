@@ -1,7 +1,7 @@
 //! The running phase of a script: a drive, and what the lines do with it.
 
 use crate::commands::{
-    kind_named, read_dma_of, read_of, receive_of, send_of, write_dma_of, write_of,
+    kind_named, read_dma_of, read_of, receive_of, send_of, tper_reset, write_dma_of, write_of,
 };
 use crate::ending::Fault;
 use crate::payload::{fill, pad, put_frame};
@@ -114,6 +114,7 @@ impl RunningPhase {
             } => self.receive(*client, *com_id, *blocks, report),
             Line::Log { client } => self.read_log(*client, report),
             Line::Reset { kind, .. } => self.reset(*kind, report),
+            Line::TperReset { client } => self.reset_tper(*client, report),
             Line::Expect => {
                 if report.last.as_slice() == expected_text(text) {
                     Ok(Turn::Goes { aborted: false })
@@ -336,6 +337,14 @@ impl RunningPhase {
     {
         self.payload.clear();
         self.command(client, &Command::ReadLog10 { dma: true }, report)
+    }
+
+    fn reset_tper(&mut self, client: u32, report: &mut Report) -> Result<Turn, AllocError>
+        ensures { IfOk result (Makes (λ o acts. effect_of o acts (Line.TperReset client))
+            self.old self.new report.old report.new) }
+    {
+        fill(&mut self.payload, SECTOR_SIZE, 0)?;
+        self.command(client, &tper_reset(), report)
     }
 
     fn reset(&mut self, kind: Reset, report: &mut Report) -> Result<Turn, AllocError>

@@ -6,12 +6,12 @@ ghost use Rattle.device_data.specs.ErrorLog.{sized};
 ghost use Rattle.sp_tables.specs.Contents.{Contents};
 ghost use Rattle.shadow_mbr.specs.Stored.{sector_size};
 ghost use Rattle.transactions.specs.Bytes.{bytes_from};
-ghost use Rattle.transactions.specs.Sights.{committed_sight};
+ghost use Rattle.transactions.specs.Sights.{look_up, committed_sight};
 ghost use Rattle.transactions.specs.Stored.{after_reset};
 ghost use Rattle.sessions.specs.Live.{session_at};
 ghost use Rattle.history.specs.Agreement.{HasNoTries};
 ghost use Rattle.history.specs.Answers.{received_bytes};
-ghost use Rattle.history.specs.Decisions.{is_session_com_id, sent, received, to_manager, in_session};
+ghost use Rattle.history.specs.Decisions.{is_session_com_id, lets_reset, sent, received, to_manager, in_session};
 ghost use Rattle.history.specs.Events.{Event, WasReset, did};
 ghost use Rattle.history.specs.Facts.{facts};
 ghost use Rattle.history.specs.History.{Act, log};
@@ -32,6 +32,7 @@ use compacket::{ComId, Session, open};
 use methods::Outcome;
 use sessions::Sessions;
 use shadow_mbr::{Mbr, SECTOR_SIZE};
+use sp_cells::{Column, Sp, Uid, number_at};
 use sp_tables::{Rows, Tables};
 use std::alloc::{AllocError, Global};
 use std::marker::Model;
@@ -131,6 +132,14 @@ impl Tper {
         ensures { buffer.new ≡ bytes_from (slice_index self.now.store.locking.bytes) place (length buffer.old) }
     {
         self.in_force().read_mbr(place, buffer);
+    }
+
+    /// Whether a command may reset the drive, by the rows in force.
+    pub fn lets_reset(&self) -> bool
+        ensures { result ≡ lets_reset (look_up (committed_sight self.now.store)) }
+    {
+        let enable = Column::PROGRAMMATIC_RESET_ENABLE;
+        number_at(&self.store.committed(), Sp::Admin, Uid::TPER_INFO, enable) == 1
     }
 
     /// Whether a response waits on a ComID.

@@ -1,5 +1,5 @@
 -- Commands, and the FISes that carry them (ACS-3, the commands' tables of inputs).
-use Rattle.std.specs.Prelude.{◌≡◌, ℕ, ◌+◌, ◌*◌, ◌/◌, ◌%◌, ◌<◌, ◌≤◌, ◌==◌, Bool, true, false, not, ◌&&◌, ◌||◌, Option, Some, None, IfSome, Result, Ok, Err, if◌then◌else◌}
+use Rattle.std.specs.Prelude.{◌≡◌, ℕ, ◌+◌, ◌*◌, ◌/◌, ◌%◌, ◌<◌, ◌≤◌, ◌==◌, Bool, true, false, not, ◌&&◌, ◌||◌, nat_lt, Option, Some, None, IfSome, Result, Ok, Err, if◌then◌else◌}
 use Rattle.fis.specs.declared.h2d.RegH2d.{RegH2d}
 use Rattle.trusted_cmds.specs.declared.command.Command.{Command}
 use Rattle.trusted_cmds.specs.declared.command.Command.TheVariants.{ReadQueued, WriteQueued, ReadDma, WriteDma, Send, Receive, Identify, ReadLog10, Flush}
@@ -103,6 +103,19 @@ sp_specific_of h = h.lba / 256 % 65536
 
 abbrev pub blocks : RegH2d → ℕ
 blocks h = h.count % 256 + 256 * (h.lba % 256)
+
+-- The reset that a command makes, TPER_RESET: a send of one block at least, of security protocol 02h to the ComID 0004h
+-- (Core 2.01, section 3.3.4.7; Opal SSC 2.01, section 3.3.3).
+abbrev pub reset_protocol : ℕ
+reset_protocol = 2
+
+abbrev pub reset_com_id : ℕ
+reset_com_id = 4
+
+abbrev pub is_programmatic_reset : Command → Bool
+is_programmatic_reset (Send protocol sp_specific count dma) =
+    protocol == reset_protocol && sp_specific == reset_com_id && nat_lt 0 count
+is_programmatic_reset _ = false
 
 -- The tag of a queued command: bits 7 to 3 of Count.
 abbrev pub tag_of : RegH2d → ℕ

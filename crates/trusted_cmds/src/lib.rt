@@ -6,6 +6,7 @@ mod command;
 mod fields;
 mod payload;
 mod reading;
+mod reset;
 mod spelling;
 
 pub use codes::is_queued;
@@ -13,4 +14,5 @@ pub use command::{Command, CommandError};
 pub use fields::{sectors, tag_of};
 pub use payload::{SECTOR_SIZE, payload_len};
 pub use reading::of_fis;
+pub use reset::{RESET_COM_ID, RESET_PROTOCOL, is_programmatic_reset};
 pub use spelling::to_fis;

@@ -19,3 +19,6 @@ returns-in-Some-Locking g c = subst (Lists (g.R.Rows.look_up c.args.rows.now) c.
 
 pub returns-in-Some-MbrControl : goal.returns-in-Some-MbrControl
 returns-in-Some-MbrControl g c = subst (Lists (g.R.Rows.look_up c.args.rows.now) c.args.sp c.args.object c.args.first c.args.last c.args.held.now c.list_each-in-Some-MbrControl.result) (ap Some (sym c.in-Some-MbrControl.field-0-is) ∙ sym c.in-Some-MbrControl.is ∙ c.kind_of.ensures) c.list_each-in-Some-MbrControl.ensures
+
+pub returns-in-Some-TperInfo : goal.returns-in-Some-TperInfo
+returns-in-Some-TperInfo g c = subst (Lists (g.R.Rows.look_up c.args.rows.now) c.args.sp c.args.object c.args.first c.args.last c.args.held.now c.list_each-in-Some-TperInfo.result) (ap Some (sym c.in-Some-TperInfo.field-0-is) ∙ sym c.in-Some-TperInfo.is ∙ c.kind_of.ensures) c.list_each-in-Some-TperInfo.ensures

@@ -1,0 +1,28 @@
+//! The reset that a command makes (TCG Storage, TPER_RESET).
+
+ghost use Rattle.std.specs.Prelude.{◌≡◌};
+ghost use Rattle.trusted_cmds.specs.Commands.{is_programmatic_reset};
+
+use crate::command::Command;
+
+/// The security protocol of the TPER_RESET command.
+pub const RESET_PROTOCOL: u8 = 2;
+
+/// The ComID of the TPER_RESET command.
+pub const RESET_COM_ID: u16 = 4;
+
+/// Whether a command is TPER_RESET: a TRUSTED SEND, by DMA or not, of one block at least, of security protocol 02h to the
+/// ComID 0004h. Whether it resets the drive is a matter of its rows.
+pub fn is_programmatic_reset(command: &Command) -> bool
+    ensures { result ≡ is_programmatic_reset command.now }
+{
+    match *command {
+        Command::Send {
+            protocol,
+            sp_specific,
+            blocks,
+            ..
+        } => protocol == RESET_PROTOCOL && sp_specific == RESET_COM_ID && blocks > 0,
+        _ => false,
+    }
+}
