@@ -8,7 +8,7 @@ use tool::{Options, RunError, run_tokens_with_faults};
 /// What is told of a line whose first word is none.
 const FIRST_WORD: &[u8] =
     b"line 1: the first word is none of range, read, write, dread, dwrite, call, send, recv, log, \
-    reset and expect\n";
+    reset, tper and expect\n";
 
 /// The lines that are none, and the rows that no drive takes.
 #[test]

@@ -22,10 +22,11 @@ use Rattle.shadow_mbr.specs.Stored.{Stored, sector_size, sector_at, zeros}
 use Rattle.transactions.specs.Sights.{look_up, committed_sight}
 use Rattle.trusted_cmds.specs.declared.command.Command.{Command}
 use Rattle.trusted_cmds.specs.declared.command.Command.TheVariants.{ReadQueued, WriteQueued, ReadDma, WriteDma, Send, Receive, Identify, ReadLog10, Flush}
-use Rattle.trusted_cmds.specs.Commands.{reading}
+use Rattle.trusted_cmds.specs.Commands.{reading, is_programmatic_reset}
+use Rattle.sp_cells.specs.Resets.{programmatic}
 use Rattle.history.specs.Opening.{Origin}
 use Rattle.history.specs.Sessions.{Begun}
-use Rattle.history.specs.Events.{Deed, Nothing, InSession, OfQueue, QueueMended, Took, Event, did}
+use Rattle.history.specs.Events.{Deed, Nothing, InSession, OfQueue, QueueMended, Took, WasReset, Event, did}
 use Rattle.history.specs.Readers.{waiting, writing}
 use Rattle.history.specs.Facts.{Facts, facts, session_named}
 use Rattle.history.specs.Decisions.{sent, framed, to_session, to_manager, answers, is_manager, received, accepted, commanded, aborted}
@@ -35,7 +36,7 @@ use Rattle.tper.specs.Tper.{Keeps as KeepsTper, IsSent, response_at}
 use Rattle.tper.specs.declared.trusted.Sent.{Sent}
 use Rattle.drive.specs.declared.answer.Accepted.{Accepted}
 use Rattle.drive.specs.declared.decision.Decision.{Decision}
-use Rattle.drive.specs.declared.decision.Decision.TheVariants.{Aborts, FailsQueue, Holds, Moves, Executes}
+use Rattle.drive.specs.declared.decision.Decision.TheVariants.{Aborts, FailsQueue, Holds, Moves, Executes, Restarts}
 use Rattle.drive.specs.declared.queue.Queue.{Queue}
 use Rattle.drive.specs.declared.transfer.Held.{Held}
 use Rattle.drive.specs.declared.transfer.Transfer.{Transfer}
@@ -207,6 +208,28 @@ pub executes-done : (f : Facts) (h : RegH2d) (e : State) (o : Origin) (past : Li
 executes-done f h e o past payload command made a is due t k =
     subst (λ (x : Decision). IsDone f h (event_of f payload x) e o past a) (sym is)
     (k, served-answer f h (executed f payload command) a command (executed-succeeds f payload command due.1) due.0 t)
+
+-- a command that resets gives no data
+reset-no-data : (f : Facts) (command : Command) → is_programmatic_reset command ≡ true → [] ≡ data_of f command
+reset-no-data f (Send protocol com_id blocks dma) is = refl
+reset-no-data f (Receive protocol com_id blocks dma) is = absurd cc
+reset-no-data f Identify is = absurd cc
+reset-no-data f (ReadLog10 dma) is = absurd cc
+reset-no-data f Flush is = absurd cc
+reset-no-data f (ReadQueued lba count) is = absurd cc
+reset-no-data f (WriteQueued lba count) is = absurd cc
+reset-no-data f (ReadDma lba count) is = absurd cc
+reset-no-data f (WriteDma lba count) is = absurd cc
+
+pub restarts-done : (f : Facts) (h : RegH2d) (e : State) (o : Origin) (past : List Event) (payload : List ℕ) (command : Command) (made : Decision) (a : Accepted)
+    → made ≡ Restarts command → (reading h ≡ Ok (command, None)) × (is_programmatic_reset command ≡ true)
+    → IsTold a ready 0 false (served_fises command) [] None
+    → Keeps e o (did (WasReset programmatic) ∷ past) → IsDone f h (event_of f payload made) e o past a
+restarts-done f h e o past payload command made a is due t k =
+    let told : IsTold a ready 0 false (served_fises command) (data_of f command) None =
+    record { status_is = t.status_is; error_is = t.error_is; held_is = t.held_is; fises_are = t.fises_are; bytes_are = t.bytes_are ∙ reset-no-data f command due.1; denied_is = t.denied_is } in
+    subst (λ (x : Decision). IsDone f h (event_of f payload x) e o past a) (sym is)
+    (k, served-answer f h (did (WasReset programmatic)) a command (refl, refl) due.0 told)
 
 -- the data of an unqueued transfer
 moved-data : (d : State) (f : Facts) (op : Op) (lba count : ℕ) (shadowed : Bool)

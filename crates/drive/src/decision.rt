@@ -31,10 +31,10 @@ pub enum Decision {
     },
     /// An unqueued transfer moves its data.
     Moves(Held),
-    /// The command resets the drive.
-    Restarts(Command),
     /// Another command that is not queued is executed.
     Executes(Command),
+    /// The command resets the drive.
+    Restarts(Command),
 }
 
 /// Why a transfer is refused.

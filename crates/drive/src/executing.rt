@@ -58,13 +58,13 @@ impl Drive {
                 let bytes = self.carry_out(&held, payload)?;
                 Ok(Accepted::served(moved_fises(), bytes, None))
             }
-            Decision::Restarts(command) => {
-                self.restart(PROGRAMMATIC);
-                Ok(Accepted::served(served_fises(&command), Vec::new(alloc), None))
-            }
             Decision::Executes(command) => {
                 let (bytes, denied) = self.execute(&command, payload)?;
                 Ok(Accepted::served(served_fises(&command), bytes, denied))
+            }
+            Decision::Restarts(command) => {
+                self.restart(PROGRAMMATIC);
+                Ok(Accepted::served(served_fises(&command), Vec::new(alloc), None))
             }
         }
     }

@@ -26,7 +26,6 @@ use Rattle.history.specs.Facts.{Facts, facts, session_named}
 use Rattle.history.specs.Decisions.{not_found, aborted, fails, refuses, fails_queue, on_drive, verdict_on, holds, queued_by, admitted, unqueued_by, answers, to_manager, is_trusted, is_session_com_id, discovery_com_id, is_manager, to_session, framed, sent, received, unqueued, known, is_busy, commanded, accepted, resets, send}
 use Rattle.history.specs.Answers.{answer_fis, pio_fis, ready, failed, is_holding, answer_fises, fises_read, answer_data, data_read}
 use Rattle.history.specs.History.{Accept as AcceptFis, event_by}
-use Rattle.history.proofs.Words.{latest-skip}
 use Rattle.port_history.specs.Requests.{command_fis, log_fis, blocks_moved, bytes_moved}
 use Rattle.port_history.specs.Stages.{is_queued}
 use Rattle.port_history.specs.Steps.{Effect, effect_by}

@@ -17,7 +17,7 @@ use Rattle.port_history.specs.declared.stages.Stage.TheVariants.{Free, Prepared,
 use Rattle.port_history.specs.declared.step.Step.{Step}
 use Rattle.port_history.specs.declared.step.Step.TheVariants as steps
 use Rattle.port_history.specs.Stages.{is_queued, is_queued_put, is_active, is_issued, is_out, put_in, to, recovered, after_reset}
-use Rattle.port_history.specs.Steps.{Effect, Moment, trace, stage, failed, is_tag, has_failed}
+use Rattle.port_history.specs.Steps.{Effect, Moment, trace, events, stage, failed, is_tag, has_failed}
 use Rattle.port_history.specs.Registers.{registers, with_issue, all_shown, shown, restarted_if}
 use Rattle.port_history.specs.Refusals.{IsLawful}
 use Rattle.port_history.specs.Laws.{RegisterLaw}

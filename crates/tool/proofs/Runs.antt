@@ -56,6 +56,8 @@ doing (lines.Log client) text turn old new o acts before after runs does =
     has-run new o before after _ does.0
 doing (lines.Reset client kind) text turn old new o acts before after runs does =
     has-run new o before after _ does.0
+doing (lines.TperReset client) text turn old new o acts before after runs does =
+    has-run new o before after _ does.0
 doing lines.Expect text turn old new o acts before after runs does =
     (o, acts, subst (λ run. RunsOn run o acts) (sym does.0) runs)
 doing (lines.Range row) text turn old new o acts before after runs does =

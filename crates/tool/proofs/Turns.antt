@@ -81,6 +81,8 @@ does-so (lines.Log client) text turn old new o acts before after runs does =
     goes-so turn _ new o before after _ does.1 does.0
 does-so (lines.Reset client kind) text turn old new o acts before after runs does =
     goes-so turn _ new o before after _ does.1 does.0
+does-so (lines.TperReset client) text turn old new o acts before after runs does =
+    goes-so turn _ new o before after _ does.1 does.0
 does-so lines.Expect text turn old new o acts before after runs does =
     expects-so (bytes_eq before.last.items (expected_text text)) turn old new o acts before after
     runs does.0 does.1 does.2

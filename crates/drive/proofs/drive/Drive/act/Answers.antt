@@ -3,7 +3,7 @@ use Rattle.history.specs.Facts.{facts}
 use Rattle.history.specs.History.{log}
 use Rattle.drive.specs.declared.decision.Decision.{Decision}
 use Rattle.drive.specs.Decision.{IsDue}
-use Rattle.drive.proofs.Acting.{aborts-done, fails-done, holds-done, moves-done, executes-done}
+use Rattle.drive.proofs.Acting.{aborts-done, fails-done, holds-done, moves-done, executes-done, restarts-done}
 use Rattle.drive.proofs.drive.Drive.act.Goals as goal
 
 pub returns-in-Aborts-clause-done : goal.returns-in-Aborts-clause-done
@@ -40,3 +40,10 @@ returns-in_ok-bytes-in-Executes-clause-done c = λ o acts k.
     let due = subst (λ (x : Decision). IsDue c.args.self.now c.args.h.now x) c.in-Executes.is c.requires.due in
     executes-done (facts o (log o acts)) c.args.h.now c.execute.new.self o (log o acts) c.args.payload.now c.in-Executes.command c.args.decision c.served-in-Executes.result c.in-Executes.is due
     (record { status_is = e.status; error_is = e.error; held_is = e.held; fises_are = e.fises ∙ c.served_fises.ensures; bytes_are = e.bytes ∙ x.data o acts k; denied_is = e.denied ∙ x.denied o acts k }) (x.kept o acts k)
+
+pub returns-in-Restarts-clause-done : goal.returns-in-Restarts-clause-done
+returns-in-Restarts-clause-done c = λ o acts k.
+    let e = c.served-in-Restarts.ensures in
+    let due = subst (λ (x : Decision). IsDue c.args.self.now c.args.h.now x) c.in-Restarts.is c.requires.due in
+    restarts-done (facts o (log o acts)) c.args.h.now c.restart.new.self o (log o acts) c.args.payload.now c.in-Restarts.command c.args.decision c.served-in-Restarts.result c.in-Restarts.is due
+    (record { status_is = e.status; error_is = e.error; held_is = e.held; fises_are = e.fises ∙ c.served_fises-in-Restarts.ensures; bytes_are = e.bytes; denied_is = e.denied }) (c.restart.ensures o (log o acts) k)

@@ -12,10 +12,9 @@ invariant_of-self c =
     (i.0, ap (λ (config : Config). config.sectors) c.reset.ensures.config ∙ i.1, search rules, i.3, c.new-self-inside.ensures.fits c.self.inside.sectors c.reset.new.self.store.config.mbr_sectors)
 
 pub returns : goal.returns
-returns c = λ o acts k.
+returns c = λ o past k.
     let inside = c.self.inside in
     let old : State = record { tper = inside.tper; queue = inside.queue; media = inside.media } in
     let new : State = record { tper = c.reset.new.self; queue = c.new-self-inside.result; media = inside.media } in
-    let kept : Keeps old o (log o acts) = subst (λ (x : State). Keeps x o (log o acts)) (sym c.self.view_is) k in
-    subst (λ (n : ℕ). Keeps new o (did (WasReset n) ∷ log o acts)) c.number.ensures
-    (restart-keeps old new o (log o acts) c.number.result (c.reset.ensures.kept o (log o acts) kept.tper) c.new-self-inside.ensures.empty refl kept)
+    let kept : Keeps old o past = subst (λ (x : State). Keeps x o past) (sym c.self.view_is) k in
+    restart-keeps old new o past c.args.kind (c.reset.ensures.kept o past kept.tper) c.new-self-inside.ensures.empty refl kept

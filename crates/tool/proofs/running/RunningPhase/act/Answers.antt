@@ -14,3 +14,6 @@ returns-in-Reset c =
 
 pub returns-in-Call : goal.returns-in-Call
 returns-in-Call c = rw c.in-Call.is c.call.ensures
+
+pub returns-in-TperReset : goal.returns-in-TperReset
+returns-in-TperReset c = rw c.in-TperReset.is c.reset_tper.ensures
