@@ -1,5 +1,5 @@
 -- A method takes effect, and a column is listed, exactly where entries say so.
-use Rattle.std.proofs.Common.{◌≡◌, ℕ, ◌==◌, Bool, true, false, ◌&&◌, not, List, [], ◌∷◌, Option, Some, None, refl, sym, subst, ◌∙◌, ap, cond, ◌⊎◌, inl, inr, eq-eqb, arith}
+use Rattle.std.proofs.Common.{◌≡◌, ℕ, ◌==◌, Bool, true, false, ◌&&◌, not, List, [], ◌∷◌, Option, Some, None, refl, sym, subst, ◌∙◌, ap, cond, ◌⊎◌, inl, inr, eq-eqb, arith, nat_lt, eqb-true}
 use Rattle.std.specs.Prelude.{length, is_some, unwrap_or, map, slice_index, Ok}
 use Rattle.std.proofs.lemmas.Bool.Decides.{nat_tests}
 use Rattle.fis.specs.H2d.{h2d_at}
@@ -34,7 +34,7 @@ use Rattle.methods.proofs.GrantLaws.{grant_law as grants}
 use Rattle.history.specs.Calls.{Standing, Judgement, Refuses, Gives, Makes, Attempts, Activates, Reverts, denial, does, unless_denied, judged}
 use Rattle.history.specs.Events.{Event, Nothing, did, WasReset}
 use Rattle.history.specs.Facts.{Facts, standing, session_named}
-use Rattle.history.specs.Decisions.{outcome_of, tried_in, admitted, unqueued, fails_queue, refuses, aborted, answers, to_manager, to_session, in_session, framed, sent, while_failed, is_busy, known, commanded, resets, send}
+use Rattle.history.specs.Decisions.{outcome_of, tried_in, admitted, unqueued, fails_queue, refuses, aborted, answers, to_manager, to_session, in_session, framed, sent, while_failed, is_busy, known, commanded, resets, send, is_trusted, is_session_com_id}
 use Rattle.history.specs.History.{Act, event_by}
 use Rattle.history.specs.MethodLaws.{EffectLaw, IsGranted, takes_effect, GrantLaw, IsLookedAt, IsSent, CallLaw}
 use Rattle.sp_cells.specs.Resets.{programmatic}
@@ -117,10 +117,10 @@ looked_law f act command tag c =
     ∙ known-looked f h c.payload command tag
 
 -- what is sent by security protocol 01h is no reset
-no-reset : (rows : LookUp) (p c k : ℕ) (d x : Bool) → (is_trusted p k && x) ≡ true → resets rows (Send p c k d) ≡ false
-no-reset rows p c k d x h = by (p == 1) refl h
+no-reset : (rows : LookUp) (p c k : ℕ) (d x y : Bool) → (is_trusted p k && x && y) ≡ true → resets rows (Send p c k d) ≡ false
+no-reset rows p c k d x y h = by (p == 1) refl h
   where
-    by : (b : Bool) → (p == 1) ≡ b → ((b && nat_lt 0 k) && x) ≡ true → resets rows (Send p c k d) ≡ false
+    by : (b : Bool) → (p == 1) ≡ b → ((b && nat_lt 0 k) && x && y) ≡ true → resets rows (Send p c k d) ≡ false
     by true is g = ap (λ n. resets rows (Send n c k d)) (eqb-true p 1 is)
     by false is g = cc
 
@@ -128,7 +128,7 @@ no-reset rows p c k d x h = by (p == 1) refl h
 pub sent_law : (f : Facts) (act : Act) (com_id : ℕ) (frame : Frame) → IsSent f act com_id frame → event_by f act ≡ framed f com_id frame
 sent_law f act com_id frame c =
     looked_law f act (Send c.protocol com_id c.blocks c.dma) None c.looked
-    ∙ ap (λ b. cond b (did (WasReset programmatic)) (send f c.protocol com_id c.blocks c.looked.payload)) (no-reset f.rows c.protocol com_id c.blocks c.dma (is_session_com_id com_id && not (is_some (f.waiting com_id))) c.taken)
+    ∙ ap (λ b. cond b (did (WasReset programmatic)) (send f c.protocol com_id c.blocks c.looked.payload)) (no-reset f.rows c.protocol com_id c.blocks c.dma (is_session_com_id com_id) (not (is_some (f.waiting com_id))) c.taken)
     ∙ ap (λ b. cond b (sent f com_id (frame_in c.looked.payload)) refuses) c.taken
     ∙ ap (sent f com_id) c.framed
     ∙ ap (λ b. cond b (framed f com_id frame) (did Nothing)) c.addressed
