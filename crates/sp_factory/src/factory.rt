@@ -20,7 +20,8 @@ use crate::new_rows::{
 use sp_cells::limits::{MANUFACTURED, MANUFACTURED_INACTIVE, NEW_TRY_LIMIT, NO_TRY_LIMIT};
 use sp_cells::{Column, RANGES, USERS, Uid};
 use sp_rows::{
-    AceRow, AuthorityRow, CPinRow, LockingRow, MbrControlRow, Row, Run, SpRow, SpTables, TperInfoRow,
+    AceRow, AuthorityRow, CPinRow, LockingRow, MbrControlRow, Row, Run, SpRow, SpTables,
+    TperInfoRow,
 };
 use std::alloc::{AllocError, Global};
 
@@ -229,12 +230,7 @@ fn tper_infos_made(alloc: Global) -> Result<Vec<Run<TperInfoRow>>, AllocError>
     ensures { IfOk result (λ runs. HasRows tper_info_columns runs.items admin_tper_infos) }
 {
     let mut runs = Vec::new(alloc);
-    push_one(
-        alloc,
-        &mut runs,
-        Uid::TPER_INFO,
-        tper_info(Uid::TPER_INFO),
-    )?;
+    push_one(alloc, &mut runs, Uid::TPER_INFO, tper_info(Uid::TPER_INFO))?;
     Ok(runs)
 }
 

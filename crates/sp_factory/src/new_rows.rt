@@ -12,7 +12,9 @@ ghost use Rattle.sp_factory.specs.Factory.{new_sp, new_group, new_member, new_pi
 
 use arrayvec::ArrayVec;
 use sp_cells::{Bytes, Cell, Column, Columns, Element, Expr, ResetTypes, Uid};
-use sp_rows::{AceRow, AuthorityRow, CPinRow, LockingRow, MbrControlRow, Row, Run, SpRow, TperInfoRow};
+use sp_rows::{
+    AceRow, AuthorityRow, CPinRow, LockingRow, MbrControlRow, Row, Run, SpRow, TperInfoRow,
+};
 use std::alloc::{AllocError, Global};
 
 /// A name as a cell.

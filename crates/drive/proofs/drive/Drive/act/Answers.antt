@@ -46,4 +46,4 @@ returns-in-Restarts-clause-done c = λ o acts k.
     let e = c.served-in-Restarts.ensures in
     let due = subst (λ (x : Decision). IsDue c.args.self.now c.args.h.now x) c.in-Restarts.is c.requires.due in
     restarts-done (facts o (log o acts)) c.args.h.now c.restart.new.self o (log o acts) c.args.payload.now c.in-Restarts.command c.args.decision c.served-in-Restarts.result c.in-Restarts.is due
-    (record { status_is = e.status; error_is = e.error; held_is = e.held; fises_are = e.fises ∙ c.served_fises-in-Restarts.ensures; bytes_are = e.bytes; denied_is = e.denied }) (c.restart.ensures o (log o acts) k)
+    (record { status_is = e.status; error_is = e.error; held_is = e.held; fises_are = e.fises ∙ c.served_fises-in-Restarts.ensures; bytes_are = e.bytes ∙ c.new.ensures.items; denied_is = e.denied }) (c.restart.ensures o (log o acts) k)
