@@ -105,7 +105,7 @@ abbrev pub blocks : RegH2d → ℕ
 blocks h = h.count % 256 + 256 * (h.lba % 256)
 
 -- The reset that a command makes, TPER_RESET: a send of one block at least, of security protocol 02h to the ComID 0004h
--- (Core 2.01, section 3.3.4.7; Opal SSC 2.01, section 3.3.3).
+-- (Opal SSC 2.01, section 3.3.3).
 abbrev pub reset_protocol : ℕ
 reset_protocol = 2
 
