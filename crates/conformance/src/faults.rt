@@ -83,8 +83,8 @@ fn tells_why_a_script_ends(rt: HostRuntime) -> Result<(), Fail> {
             b"line 1: word 8, WriteLocked, is missing: a number from 0 to 1\n",
         ),
         (
-            b"range 9 0 0 0 0 0 0",
-            b"line 1: there is no range 9 (0 to 8)\n",
+            b"range 17 0 0 0 0 0 0",
+            b"line 1: there is no range 17 (0 to 16)\n",
         ),
         (
             b"range 0 0 1 0 0 0 0",

@@ -27,7 +27,12 @@ fn access_rows(rt: HostRuntime) {
         (Sp::Admin, Uid::ADMIN_SP, Uid::ACTIVATE, [0, 0, 0]),
         (Sp::Locking, Uid::admin(1), Uid::SET, [0, 0, 0]),
         (Sp::Locking, Uid::admin(2), Uid::SET, [0x3_9001, 0, 0]),
-        (Sp::Locking, Uid::pin_of_user(8), Uid::SET, [0x3_a808, 0, 0]),
+        (
+            Sp::Locking,
+            Uid::pin_of_user(16),
+            Uid::SET,
+            [0x3_a810, 0, 0],
+        ),
         (
             Sp::Locking,
             Uid::range(0),
@@ -40,7 +45,7 @@ fn access_rows(rt: HostRuntime) {
             Uid::SET,
             [0x3_f001, 0x3_e001, 0x3_e801],
         ),
-        (Sp::Locking, Uid::range(8), Uid::GET, [0x3_d000, 3, 0]),
+        (Sp::Locking, Uid::range(16), Uid::GET, [0x3_d000, 3, 0]),
         (Sp::Locking, Uid::MBR_TABLE, Uid::SET, [2, 0, 0]),
         (
             Sp::Locking,

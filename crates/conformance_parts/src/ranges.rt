@@ -54,23 +54,23 @@ fn ranges_that_touch(rt: HostRuntime) -> Result<(), Fail> {
     Ok(())
 }
 
-/// A transfer over all nine ranges, of which the last alone is locked; then none is.
+/// A transfer over all seventeen ranges, of which the last alone is locked; then none is.
 #[test]
 fn a_transfer_over_all_ranges(rt: HostRuntime) -> Result<(), Fail> {
     let mut tables = tables(rt.alloc(), 1000)?;
-    for range in 1..9 {
+    for range in 1..17 {
         place(
             &mut tables,
             range,
-            100 * u64::from(9 - range),
-            50,
+            50 * u64::from(17 - range),
+            25,
             range == 1,
         )?;
     }
     let mut ranges = Ranges::of(rt.alloc(), &tables)?;
     assert_eq!(rt; ranges.verdict(Op::Read, 8, 992), read_denied(8, 992, 1));
     assert_eq!(rt; ranges.verdict(Op::Read, 8, 792), Verdict::Serve);
-    place(&mut tables, 1, 800, 50, false)?;
+    place(&mut tables, 1, 800, 25, false)?;
     ranges.refresh(&tables);
     assert_eq!(rt; ranges.verdict(Op::Read, 8, 992), Verdict::Serve);
     Ok(())
@@ -81,16 +81,16 @@ fn a_transfer_over_all_ranges(rt: HostRuntime) -> Result<(), Fail> {
 fn the_largest_drive(rt: HostRuntime) -> Result<(), Fail> {
     let end = 1 << 48;
     let mut tables = tables(rt.alloc(), end)?;
-    place(&mut tables, 8, end - 1, 1, true)?;
-    place(&mut tables, 7, 0, 1, true)?;
+    place(&mut tables, 16, end - 1, 1, true)?;
+    place(&mut tables, 15, 0, 1, true)?;
     let ranges = Ranges::of(rt.alloc(), &tables)?;
     assert_eq!(rt;
         [0, 1, end - 2, end - 1].map(|sector| ranges.range_of(sector)),
-        [7, 0, 0, 8]
+        [15, 0, 0, 16]
     );
-    assert_eq!(rt; ranges.verdict(Op::Read, 0, 1), read_denied(0, 1, 7));
+    assert_eq!(rt; ranges.verdict(Op::Read, 0, 1), read_denied(0, 1, 15));
     assert_eq!(rt; ranges.verdict(Op::Read, 1, 65536), Verdict::Serve);
-    let last = read_denied(end - 65536, 65536, 8);
+    let last = read_denied(end - 65536, 65536, 16);
     assert_eq!(rt; ranges.verdict(Op::Read, end - 65536, 65536), last);
     assert_eq!(rt;
         ranges.verdict(Op::Read, end - 65537, 65536),

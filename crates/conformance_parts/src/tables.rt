@@ -84,10 +84,10 @@ fn names_of_a_new_drive(rt: HostRuntime) -> Result<(), Fail> {
         (Sp::Locking, 0x0000_0009_0003_0000, "Users"),
         (Sp::Locking, 0x0000_000b_0003_0003, "C_PIN_User3"),
         (Sp::Locking, 0x0000_0802_0000_0001, "Locking_GlobalRange"),
-        (Sp::Locking, 0x0000_0802_0003_0008, "Locking_Range8"),
+        (Sp::Locking, 0x0000_0802_0003_0010, "Locking_Range16"),
         (Sp::Locking, 0x0000_0008_0003_a805, "C_PIN_User5_Set_PIN"),
         (Sp::Locking, 0x0000_0008_0003_e000, "Range_0_Set_RdLocked"),
-        (Sp::Locking, 0x0000_0008_0003_e808, "Range_8_Set_WrLocked"),
+        (Sp::Locking, 0x0000_0008_0003_e810, "Range_16_Set_WrLocked"),
         (
             Sp::Locking,
             0x0000_0008_0003_f801,
@@ -116,9 +116,9 @@ fn numbers_of_a_new_drive(rt: HostRuntime) -> Result<(), Fail> {
         (Sp::Admin, Uid::C_PIN_MSID, Column::TRY_LIMIT, 0),
         (Sp::Locking, Uid::admin(1), Column::ENABLED, 1),
         (Sp::Locking, Uid::admin(2), Column::ENABLED, 0),
-        (Sp::Locking, Uid::user(8), Column::ENABLED, 0),
+        (Sp::Locking, Uid::user(16), Column::ENABLED, 0),
         (Sp::Locking, Uid::USERS, Column::IS_CLASS, 1),
-        (Sp::Locking, Uid::user(8), Column::OPERATION, 1),
+        (Sp::Locking, Uid::user(16), Column::OPERATION, 1),
         (Sp::Locking, Uid::range(3), Column::RANGE_LENGTH, 0),
         (Sp::Locking, Uid::MBR_CONTROL, Column::MBR_DONE, 0),
     ] {
@@ -416,9 +416,9 @@ fn the_largest_drive(rt: HostRuntime) -> Result<(), Fail> {
         (Column::READ_LOCKED, Cell::Number(1)),
         (Column::WRITE_LOCKED, Cell::Number(0)),
     ];
-    let old = tables.set_row(Sp::Locking, Uid::range(8), &row)?;
+    let old = tables.set_row(Sp::Locking, Uid::range(16), &row)?;
     assert_eq!(rt; old.len(), 6);
-    assert!(rt; is_number(&tables, Sp::Locking, Uid::range(8), Column::READ_LOCKED, 1));
+    assert!(rt; is_number(&tables, Sp::Locking, Uid::range(16), Column::READ_LOCKED, 1));
     for (sectors, shadow, bytes) in [
         (0x1_0000_0000_0001, 8, 1),
         (0x1_0000_0000_0000, 262_145, 1),

@@ -61,10 +61,17 @@ abbrev pub geometry_feature : List ℕ
 geometry_feature =
     feature 0x0003 (replicate 8 0 ++ to_be_bytes w32 512 ++ to_be_bytes w64 1 ++ to_be_bytes w64 0)
 
--- Opal SSC 2: four ComIDs from 1000h on, the Locking SP's Admins and Users; SID's first PIN is the MSID.
+-- The ComIDs of sessions: so many, from the first one on (Opal SSC 2.01, section 3.1.1.5).
+abbrev pub first_com_id : ℕ
+first_com_id = 0x1000
+
+abbrev pub com_ids : ℕ
+com_ids = 4
+
+-- Opal SSC 2: its ComIDs, the Locking SP's Admins and Users; SID's first PIN is the MSID.
 abbrev pub opal_feature : List ℕ
 opal_feature =
-    feature 0x0203 (to_be_bytes w16 0x1000 ++ to_be_bytes w16 4 ++ 0 ∷ to_be_bytes w16 ADMINS
+    feature 0x0203 (to_be_bytes w16 first_com_id ++ to_be_bytes w16 com_ids ++ 0 ∷ to_be_bytes w16 ADMINS
     ++ to_be_bytes w16 USERS ++ 0 ∷ 0 ∷ replicate 5 0)
 
 abbrev pub features : LookUp → List ℕ

@@ -35,7 +35,7 @@ discovery_bytes : accepted_data (facts new_drive []) (fis 0x5d 1 0x100 1) (event
     ++ 0 ∷ 1 ∷ 0x10 ∷ 0x0c ∷ 0x11 ∷ replicate 11 0
     ++ 0 ∷ 2 ∷ 0x10 ∷ 0x0c ∷ 0x01 ∷ replicate 11 0
     ++ 0 ∷ 3 ∷ 0x10 ∷ 0x1c ∷ replicate 8 0 ++ 0 ∷ 0 ∷ 2 ∷ 0 ∷ 0 ∷ 0 ∷ 0 ∷ 0 ∷ 0 ∷ 0 ∷ 0 ∷ 1 ∷ replicate 8 0
-    ++ 2 ∷ 3 ∷ 0x10 ∷ 0x10 ∷ 0x10 ∷ 0 ∷ 0 ∷ 4 ∷ 0 ∷ 0 ∷ 4 ∷ 0 ∷ 8 ∷ 0 ∷ 0 ∷ replicate 5 0)
+    ++ 2 ∷ 3 ∷ 0x10 ∷ 0x10 ∷ 0x10 ∷ 0 ∷ 0 ∷ 4 ∷ 0 ∷ 0 ∷ 4 ∷ 0 ∷ 0x10 ∷ 0 ∷ 0 ∷ replicate 5 0)
 unfolding any_range_below admin_sps admin_authorities locking_authorities admin_pins locking_pins locking_ranges locking_mbr_controls admin_aces authority_aces pin_aces range_aces mbr_aces this_sp_grants admin_grants authority_grants fixed_ace_gets user_ace_grants read_locked_ace_grants write_locked_ace_grants done_ace_grants pin_grants range_grants mbr_grants first_lexeme expect number_at uid_at values_up_to list_with list_value_with named_with value_of list_at status_at call_at reply_at message_at message_in number_spelling bytes_spelling any_below ranges_in verdict_of is_range listed_among cells_for zeros sectors_from authorities_of_locking any_to
 discovery_bytes = refl
 

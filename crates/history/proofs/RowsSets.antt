@@ -66,7 +66,7 @@ expression authority = set_cells (ace_range_set_read_locked 1) ((3, tree.list (t
 statuses : List Message → List (List ℕ)
 statuses messages = drop 1 (replies activated (signed_in ++ flat_map in_it messages))
 
-row_values : statuses (pin_of 33 ∷ pin_of 32 ∷ set_cells (range_uid 1) ((5, tree.number 2) ∷ []) ∷ resets (0 ∷ 0 ∷ []) ∷ resets (2 ∷ []) ∷ resets (1 ∷ 0 ∷ []) ∷ resets [] ∷ expression (user_uid 9) ∷ expression (user_uid 8) ∷ []) ≡
+row_values : statuses (pin_of 33 ∷ pin_of 32 ∷ set_cells (range_uid 1) ((5, tree.number 2) ∷ []) ∷ resets (0 ∷ 0 ∷ []) ∷ resets (2 ∷ []) ∷ resets (1 ∷ 0 ∷ []) ∷ resets [] ∷ expression (user_uid 17) ∷ expression (user_uid 16) ∷ []) ≡
     said (refusal 0x0c) ∷ said (refusal 0) ∷ said (refusal 0x0c) ∷ said (refusal 0x0c) ∷ said (refusal 0x0c) ∷ said (refusal 0) ∷ said (refusal 0) ∷ said (refusal 0x0c) ∷ said (refusal 0) ∷ []
 unfolding admin_sps admin_authorities locking_authorities admin_pins locking_pins locking_ranges locking_mbr_controls admin_aces authority_aces pin_aces range_aces mbr_aces this_sp_grants admin_grants authority_grants fixed_ace_gets user_ace_grants read_locked_ace_grants write_locked_ace_grants done_ace_grants pin_grants range_grants mbr_grants first_lexeme expect number_at uid_at values_up_to list_with list_value_with named_with value_of list_at status_at call_at reply_at message_at message_in number_spelling bytes_spelling any_below ranges_in verdict_of is_range listed_among cells_for zeros sectors_from authorities_of_locking any_to signed_in pin_of resets expression statuses
 row_values = refl

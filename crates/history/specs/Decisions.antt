@@ -1,6 +1,6 @@
 -- What an act does, by the facts (ACS-3, NCQ and trusted computing feature sets; Core 2.01, chapter
 -- 3). The order of the rules stands here once.
-use Rattle.std.specs.Prelude.{ℕ, zero, suc, ◌+◌, ◌*◌, ◌==◌, Bool, true, false, not, ◌&&◌, ◌||◌, nat_le, nat_lt, List, [], length, slice_index, Option, Some, None, is_some, Result, Ok, Err, if◌then◌else◌}
+use Rattle.std.specs.Prelude.{ℕ, zero, suc, ◌+◌, ◌-◌, ◌*◌, ◌==◌, Bool, true, false, not, ◌&&◌, ◌||◌, nat_le, nat_lt, List, [], length, slice_index, Option, Some, None, is_some, Result, Ok, Err, if◌then◌else◌}
 use Rattle.fis.specs.Types.{h2d_type}
 use Rattle.fis.specs.Tags.{slot_count}
 use Rattle.fis.specs.H2d.{h2d_at}
@@ -32,6 +32,7 @@ use Rattle.trusted_cmds.specs.declared.command.Command.{Command}
 use Rattle.trusted_cmds.specs.declared.command.Command.TheVariants.{ReadQueued, WriteQueued, ReadDma, WriteDma, Send, Receive, Identify, ReadLog10, Flush}
 use Rattle.trusted_cmds.specs.declared.command.CommandError.{CommandError}
 use Rattle.trusted_cmds.specs.Commands.{reading}
+use Rattle.device_data.specs.Discovery.{first_com_id, com_ids}
 use Rattle.device_data.specs.ErrorLog.{failure_by}
 use Rattle.locking.specs.declared.ranges.Verdict.{Verdict}
 use Rattle.locking.specs.declared.ranges.Verdict.TheVariants.{Serve, Shadow, Denied}
@@ -268,8 +269,11 @@ in_session f session (Err e) = says Unchanged (refusal fail)
 
 -- Trusted commands.
 
+abbrev pub last_com_id : ℕ
+last_com_id = first_com_id + com_ids - 1
+
 abbrev pub is_session_com_id : ℕ → Bool
-is_session_com_id com_id = nat_le 0x1000 com_id && nat_le com_id 0x1003
+is_session_com_id com_id = nat_le first_com_id com_id && nat_le com_id last_com_id
 
 abbrev pub discovery_com_id : ℕ
 discovery_com_id = 1

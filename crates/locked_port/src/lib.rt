@@ -13,5 +13,5 @@ pub use gate::{Gate, Pick};
 pub use locked::{Closed, LockedPort};
 pub use pass::{Pass, PortName};
 pub use receipts::check_receipts;
-pub use same::{is_same_answer, is_same_step};
+pub use same::{is_done, is_same_answer, is_same_step};
 pub use ticket::{Receipt, Ticket};

@@ -16,7 +16,8 @@ fn are_same_bytes(one: &Bytes, other: &Bytes) -> bool
     one.as_slice() == other.as_slice()
 }
 
-fn is_done(answer: &Answer, bytes: &[u8]) -> bool
+/// Whether an answer is that it is done, with these bytes.
+pub fn is_done(answer: &Answer, bytes: &[u8]) -> bool
     ensures { IsTrue result ↔ (answer.now ≡ answers.Done bytes.now) }
 {
     match *answer {

@@ -24,6 +24,10 @@ pub length-rows_from : (look_up : LookUp) (first n : ℕ) → length (rows_from 
 length-rows_from look_up first zero = refl
 length-rows_from look_up first (suc n) = ap (λ (k : ℕ). suc k) (length-rows_from look_up (suc first) n)
 
+-- there is room for one more row
+pub has_room : (look_up : LookUp) (range : ℕ) (rows : List RangeRow) → 1 ≤ range → range ≤ RANGES → rows ≡ rows_from look_up 1 (range - 1) → length rows < RANGES
+has_room look_up range rows some few e = rw e (omega (arith, some, few, length-rows_from look_up 1 (range - 1)))
+
 row_at_place : (look_up : LookUp) (first n k : ℕ) (d : RangeRow) → k < n → get_or (rows_from look_up first n) k d ≡ row_of look_up (first + k)
 row_at_place look_up first zero k d lt = absurd (omega arith)
 row_at_place look_up first (suc n) zero d lt =

@@ -47,7 +47,7 @@ fn option<'a>(
 /// What `run --help` says of lines and statuses.
 const LINES: &str = "\
 Lines, whose words stand between blanks; numbers are decimal, HH is two hex digits, HEX is hex text:
-  range N START LENGTH RE WE RL WL  the cells of range N (0 to 8), before other lines
+  range N START LENGTH RE WE RL WL  the cells of range N (0 to 16), before other lines
   read C T L N                      a queued read of client C under tag T (0 to 31),
                                     from sector L, N sectors (0 is 65536)
   write C T L N HH                  a queued write, whose bytes are all HH

@@ -158,7 +158,7 @@ fn prints_the_discovery_of_a_new_drive(rt: HostRuntime) -> Result<(), Fail> {
         0001100c110000000000000000000000\
         0002100c010000000000000000000000\
         0003101c00000000000000000000020000000000000000010000000000000000\
-        0203101010000004000004000800000000000000\n";
+        0203101010000004000004001000000000000000\n";
     assert_eq!(rt; output.as_slice(), printed.as_bytes());
     let (status, output, _) = end(&rt, "opalport level0 --sectors 7", b"")?;
     assert_eq!(rt; (status, output.is_empty()), (2, true));

@@ -16,9 +16,9 @@ ghost use Rattle.sp_cells.specs.declared.names.tables.TheConstants as tables;
 ghost use Rattle.sp_cells.specs.declared.limits.TheConstants as limits;
 
 /// Each name of the code has the number that the standard gives to the object or the column of its name (TCG Core
-/// 2.01, chapter 5; Opal SSC 2.01, sections 4.2 and 4.3), and this drive has 8 numbered ranges, 8 Users and 4 Admins.
+/// 2.01, chapter 5; Opal SSC 2.01, sections 4.2 and 4.3), and this drive has 16 numbered ranges, 16 Users and 4 Admins.
 pub fn laws_of_names()
-    ensures counts { (RANGES ≡ 8) × (USERS ≡ 8) × (ADMINS ≡ 4) }
+    ensures counts { (RANGES ≡ 16) × (USERS ≡ 16) × (ADMINS ≡ 4) }
     ensures sps { (uids.NONE ≡ none) × (uids.THIS_SP ≡ this_sp) × (uids.ADMIN_SP ≡ admin_sp)
         × (uids.LOCKING_SP ≡ locking_sp) }
     ensures authorities { (uids.ANYBODY ≡ anybody) × (uids.SID ≡ sid) × (uids.ADMINS ≡ admins_class)

@@ -6,10 +6,10 @@ ghost use Rattle.sp_cells.specs.Names.{table_of, range_uid, admin_uid, user_uid,
 ghost use Rattle.sp_cells.specs.Numbers.{number_behind, admin_number, user_number, admin_pin_number, user_pin_number, range_number, user_ace_number, read_locked_ace_number, write_locked_ace_number};
 
 /// The number of ranges beside the global one: they are numbered from 1.
-pub const RANGES: u8 = 8;
+pub const RANGES: u8 = 16;
 
 /// The number of Users: they are numbered from 1.
-pub const USERS: u8 = 8;
+pub const USERS: u8 = 16;
 
 /// The number of Admins of the Locking SP: they are numbered from 1.
 pub const ADMINS: u8 = 4;

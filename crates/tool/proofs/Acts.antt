@@ -1,15 +1,13 @@
 -- The bytes of FISes, and what they are read back as.
-use Rattle.std.proofs.Common.{◌≡◌, ◌∙◌, ◌+◌, ◌*◌, ◌/◌, ◌%◌, ◌^◌, nat_le, ℕ, Bool, true, false, List, slice_index, refl, sym, ap, subst, arith}
+use Rattle.std.proofs.Common.{◌≡◌, ◌∙◌, ◌+◌, ◌/◌, ◌%◌, ◌^◌, nat_le, ℕ, Bool, true, false, List, slice_index, refl, sym, ap, subst, arith}
 use Rattle.std.specs.Prelude.{if◌then◌else◌, ◌==◌, ◌∷◌}
 use Rattle.std.proofs.lemmas.Bool.{le-leb, lt-leb}
-use Rattle.std.proofs.Math.Nat.{mod-add-div}
 use Rattle.fis.specs.Bytes.{bit}
 use Rattle.fis.specs.H2d.{h2d_at, IsH2d, IsH2dSpelling}
 use Rattle.fis.specs.Types.{h2d_type}
 use Rattle.fis.specs.declared.h2d.RegH2d.{RegH2d}
-use Rattle.trusted_cmds.specs.Commands.{fis_with, fis_of}
+use Rattle.trusted_cmds.specs.Commands.{fis_of}
 use Rattle.trusted_cmds.specs.declared.command.Command.{Command}
-use Rattle.trusted_cmds.specs.declared.command.Command.TheVariants as commands
 use Rattle.history.specs.Opening.{Origin}
 use Rattle.history.specs.Events.{Event}
 use Rattle.history.specs.Facts.{Facts, facts}
@@ -18,7 +16,8 @@ use Rattle.history.specs.History.{Act, Accept, log, event}
 use Rattle.drive.specs.Answers.{IsAnswer}
 use Rattle.drive.specs.State.{State, Keeps, Agrees}
 use Rattle.drive.specs.declared.answer.Accepted.{Accepted}
-use Rattle.tool.specs.Acts.{fis_bytes, accept_of, step_of}
+use Rattle.port_history.proofs.Fises.{fis_back}
+use Rattle.tool.specs.Acts.{accept_of, step_of}
 
 flag-of : (n : ℕ) (b : Bool) → n / 128 ≡ bit b → nat_le 128 n ≡ b
 flag-of n true e = le-leb 128 n (omega (arith, e))
@@ -40,31 +39,6 @@ read-back bytes h is =
       is.control,
     ) refl
 
-split-6 : (n : ℕ)
-    → n % 256 + 256 * (n / 256 % 256) + 256 ^ 2 * (n / 256 / 256 % 256) + 256 ^ 3 *
-    (n / 256 / 256 / 256 % 256)
-    + 256 ^ 4 * (n / 256 / 256 / 256 / 256 % 256) + 256 ^ 5 * (n / 256 / 256 / 256 / 256 / 256) ≡ n
-split-6 n = omega arith
-
--- a FIS of a command is read back from its bytes
-with-back : (code feature lba device count : ℕ)
-    → h2d_at
-    (fis_bytes (fis_with code feature lba device count)) ≡ fis_with code feature lba device count
-with-back code feature lba device count =
-    rw (mod-add-div feature 256, split-6 lba, mod-add-div count 256) refl
-
-pub fis-back : (command : Command) (tag : ℕ)
-    → h2d_at (fis_bytes (fis_of command tag)) ≡ fis_of command tag
-fis-back (commands.ReadQueued lba count) tag = with-back _ _ _ _ _
-fis-back (commands.WriteQueued lba count) tag = with-back _ _ _ _ _
-fis-back (commands.ReadDma lba count) tag = with-back _ _ _ _ _
-fis-back (commands.WriteDma lba count) tag = with-back _ _ _ _ _
-fis-back (commands.Send protocol com_id blocks dma) tag = with-back _ _ _ _ _
-fis-back (commands.Receive protocol com_id blocks dma) tag = with-back _ _ _ _ _
-fis-back commands.Identify tag = with-back _ _ _ _ _
-fis-back (commands.ReadLog10 dma) tag = with-back _ _ _ _ _
-fis-back commands.Flush tag = with-back _ _ _ _ _
-
 by-command : (f : Facts) (command : Command) (tag : ℕ) (bytes payload : List ℕ)
     → IsH2d bytes (fis_of command tag)
     → accepted f bytes payload ≡ commanded f (fis_of command tag) payload
@@ -78,7 +52,7 @@ pub same-event : (o : Origin) (past : List Event) (command : Command) (tag : ℕ
     → event o past (Accept bytes payload) ≡ event o past (accept_of command tag payload)
 same-event o past command tag bytes payload is =
     by-command (facts o past) command tag bytes payload is.writing
-    ∙ sym (ap (λ h. commanded (facts o past) h payload) (fis-back command tag))
+    ∙ sym (ap (λ h. commanded (facts o past) h payload) (fis_back command tag))
 
 -- a drive agrees with the act of the command, and its answer is that of the command's event
 pub agrees-so : (d : State) (o : Origin) (acts : List Act) (command : Command) (tag : ℕ)

@@ -1,9 +1,6 @@
 -- The acts of a drive's history that the lines of a script ask for.
-use Rattle.std.specs.Prelude.{ℕ, zero, suc, ◌+◌, ◌*◌, ◌/◌, ◌%◌, ◌-◌, ◌^◌, true, List, [], ◌∷◌, length, replicate}
-use Rattle.fis.specs.Types.{h2d_type}
-use Rattle.fis.specs.Bytes.{bit}
-use Rattle.fis.specs.declared.h2d.RegH2d.{RegH2d}
-use Rattle.trusted_cmds.specs.Commands.{sectors, sector_size, fis_of, reset_protocol, reset_com_id}
+use Rattle.std.specs.Prelude.{ℕ, ◌+◌, ◌*◌, ◌/◌, ◌%◌, ◌-◌, ◌^◌, true, List, [], ◌∷◌, length, replicate}
+use Rattle.trusted_cmds.specs.Commands.{sectors, sector_size, reset_protocol, reset_com_id}
 use Rattle.trusted_cmds.specs.declared.command.Command.{Command}
 use Rattle.trusted_cmds.specs.declared.command.Command.TheVariants.{ReadQueued, WriteQueued, ReadDma, WriteDma, Send, Receive}
 use Rattle.device_data.specs.ErrorLog.{sized}
@@ -14,28 +11,15 @@ use Rattle.history.specs.Readers.{held}
 use Rattle.drive.specs.Answers.{kind_of}
 use Rattle.drive.specs.declared.reset.ResetKind.{ResetKind}
 use Rattle.drive.specs.declared.reset.ResetKind.TheVariants.{Power, Hardware}
+use Rattle.port_history.specs.Requests.{command_fis}
 use Rattle.script_lines.specs.declared.line.Transfer.{Transfer}
 use Rattle.script_lines.specs.declared.line.DmaTransfer.{DmaTransfer}
 use Rattle.script_lines.specs.declared.line.Reset.{Reset}
 use Rattle.script_lines.specs.declared.line.Reset.TheVariants as resets
 
--- what is left of a number behind so many of its lowest bytes
-abbrev pub behind : ℕ → ℕ → ℕ
-behind zero n = n
-behind (suc k) n = behind k (n / 256)
-
--- the bytes of a FIS: its numbers from the lowest byte on, and zeros in what no field names
-abbrev pub fis_bytes : RegH2d → List ℕ
-fis_bytes h =
-    h2d_type ∷ (128 * bit h.is_command + h.port) ∷ h.command ∷ h.feature % 256
-    ∷ h.lba % 256 ∷ behind 1 h.lba % 256 ∷ behind 2 h.lba % 256 ∷ h.device
-    ∷ behind 3 h.lba % 256 ∷ behind 4 h.lba % 256 ∷ behind 5 h.lba ∷ behind 1 h.feature
-    ∷ h.count % 256 ∷ behind 1 h.count ∷ h.icc ∷ h.control
-    ∷ 0 ∷ 0 ∷ 0 ∷ 0 ∷ []
-
 -- the acceptance of a command, under the tag where it is queued
 abbrev pub accept_of : Command → ℕ → List ℕ → Act
-accept_of command tag payload = Accept (fis_bytes (fis_of command tag)) payload
+accept_of command tag payload = Accept (command_fis command tag) payload
 
 -- the completion of what is held under a tag, with the same byte in each place of its payload
 abbrev pub completion : List Event → ℕ → ℕ → Act

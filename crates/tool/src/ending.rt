@@ -61,7 +61,7 @@ impl fmt::Display for Fault {
             Fault::RefusedRow {
                 range,
                 error: SetError::NoCell,
-            } => write!(f, "there is no range {range} (0 to 8)"),
+            } => write!(f, "there is no range {range} (0 to 16)"),
             Fault::RefusedRow {
                 range: 0,
                 error: SetError::Beyond,

@@ -70,7 +70,7 @@ fn packed(alloc: Global, packet: &Hex<'_>) -> Result<Bytes, AllocError>
 }
 
 /// The request that a `put` line asks.
-fn request_of(alloc: Global, asked: &PutRequest<'_>) -> Result<Request, AllocError>
+pub fn request_of(alloc: Global, asked: &PutRequest<'_>) -> Result<Request, AllocError>
     requires { FitsPut asked.now }
     ensures { IfOk result (λ request. request ≡ request_of asked.now) }
 {

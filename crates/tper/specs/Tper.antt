@@ -1,6 +1,7 @@
 -- What is kept behind the ComIDs, and when it keeps what the past says.
 use Rattle.std.specs.Prelude.{◌≡◌, ◌==◌, ◌&&◌, ℕ, ◌-◌, Bool, false, nat_le, List, length, slice_index_or, Option, None, Some, if◌then◌else◌}
 use Rattle.transactions.specs.Stored.{Stored}
+use Rattle.device_data.specs.Discovery.{first_com_id}
 use Rattle.sessions.specs.Live.{Live}
 use Rattle.history.specs.Opening.{Origin}
 use Rattle.history.specs.Events.{Deed, InSession, Event}
@@ -22,10 +23,6 @@ pub record Tper : Type 0 where
   pub store : Stored
   pub live : Live
   pub waiting : List (Option (List ℕ))
-
--- the ComIDs of sessions: four, from 1000h on
-abbrev pub first_com_id : ℕ
-first_com_id = 0x1000
 
 -- The response that waits on a ComID.
 abbrev pub response_at : List (Option (List ℕ)) → ℕ → Option (List ℕ)

@@ -1,8 +1,12 @@
 use Rattle.std.proofs.Common.{◌≡◌, ℕ, ◌+◌, ◌-◌, arith, ap, ◌∙◌}
 use Rattle.sp_cells.specs.declared.names.TheConstants.{RANGES}
 use Rattle.locking.specs.Ranges.{rows_from}
-use Rattle.locking.proofs.Filling.{goes_on, next_is_apart}
+use Rattle.locking.proofs.Filling.{goes_on, has_room, next_is_apart}
 use Rattle.locking.proofs.ranges.fill.Goals as goal
+
+pub push-requires-clause-room : goal.push-requires-clause-room
+push-requires-clause-room g c =
+    has_room (g.R.Rows.look_up c.args.rows.now) c.loop-range.range c.loop-range.numbered (omega (arith, c.loop-range.auto.range)) (omega (arith, c.loop-range-test.true)) c.loop-range.invariant
 
 pub push-requires-clause-apart : goal.push-requires-clause-apart
 push-requires-clause-apart g c =
