@@ -4,7 +4,7 @@ use Rattle.std.specs.Str.{bytes_eq}
 use Rattle.clap.specs.Words.{App, Row, Rule, Text, first_of, new_app, new_rule, subcommand_of, with_rule, with_subcommand}
 use Rattle.clap.specs.Simple.{on_top}
 use Rattle.opalport.specs.declared.command_line.Request.{Request}
-use Rattle.opalport.specs.declared.command_line.Request.TheVariants.{Run, Level0, Tokens}
+use Rattle.opalport.specs.declared.command_line.Request.TheVariants.{Run, Level0, Threads, Tokens}
 
 -- `--name TEXT`, and the text that stands for it where it is left out
 abbrev pub option_rule : Text → Text → Rule
@@ -16,28 +16,37 @@ drive_line name =
     with_rule (with_rule (with_rule (new_app name) (option_rule (codes "sectors") (codes "1000")))
     (option_rule (codes "shadow") (codes "8"))) (option_rule (codes "msid") (codes "4f50414c4d534944"))
 
+-- `threads`, with the options that say how many clients make how many rounds
+abbrev pub threads_line : App
+threads_line =
+    with_rule (with_rule (new_app (codes "threads")) (option_rule (codes "clients") (codes "2")))
+    (option_rule (codes "rounds") (codes "100"))
+
 -- `tokens HEX`
 abbrev pub tokens_line : App
 tokens_line = with_rule (new_app (codes "tokens")) (record (new_rule (codes "hex")) { value_names = 1; required = true })
 
--- the program takes one of the three, and nothing else
+-- the program takes one of the four, and nothing else
 abbrev pub opalport_line : App
 opalport_line =
     with_subcommand
     (with_subcommand
+    (with_subcommand
     (with_subcommand (on_top (λ s. record s { has_version = true; subcommand_required = true; arg_required_else_help = true }) (new_app (codes "opalport")))
-    (drive_line (codes "run")).top) (drive_line (codes "level0")).top) tokens_line.top
+    (drive_line (codes "run")).top) (drive_line (codes "level0")).top) threads_line.top) tokens_line.top
 
 -- what words ask for, by the texts as they are written
 pub data Asked : Type 0 where
   run : Text → Text → Text → Asked
   level0 : Text → Text → Text → Asked
+  threads : Text → Text → Asked
   tokens : Text → Asked
 
 -- what a request asks for
 abbrev pub asked : Request → Asked
 asked (Run drive) = run drive.sectors.now drive.shadow.now drive.msid.now
 asked (Level0 drive) = level0 drive.sectors.now drive.shadow.now drive.msid.now
+asked (Threads load) = threads load.clients.now load.rounds.now
 asked (Tokens hex) = tokens hex.now
 
 -- the text of an argument; one that is required or has a default has one
@@ -51,6 +60,8 @@ asked_of (name, rows) =
     then Some (run (text_of (codes "sectors") rows) (text_of (codes "shadow") rows) (text_of (codes "msid") rows))
     else if bytes_eq name (codes "level0")
     then Some (level0 (text_of (codes "sectors") rows) (text_of (codes "shadow") rows) (text_of (codes "msid") rows))
+    else if bytes_eq name (codes "threads")
+    then Some (threads (text_of (codes "clients") rows) (text_of (codes "rounds") rows))
     else if bytes_eq name (codes "tokens") then Some (tokens (text_of (codes "hex") rows))
     else None
 

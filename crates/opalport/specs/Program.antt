@@ -4,6 +4,9 @@ use Rattle.std.specs.Io.KnownBytes.{Appends}
 use Rattle.hex.specs.Hex.{decode_of}
 use Rattle.hex.specs.declared.error.FromHexError.{FromHexError}
 use Rattle.sp_cells.specs.Config.{Config, IsWithinLimits}
+use Rattle.port_threads.specs.Loads.{WritesLoad, IsFirstFault}
+use Rattle.port_threads.specs.Works.{Ran}
+use Rattle.port_threads.specs.declared.load.LoadFault.{LoadFault}
 use Rattle.tool.specs.OptionTexts.{WritesConfig}
 use Rattle.tool.specs.Outcomes.{ScriptYields}
 use Rattle.tool.specs.Level0.{level0_text}
@@ -11,7 +14,7 @@ use Rattle.tool.specs.TokenLines.{token_text}
 use Rattle.clap.specs.Words.{IsAmong, Kinds, Text, fault_of}
 use Rattle.clap.specs.declared.error.kind.ErrorKind.{ErrorKind}
 use Rattle.clap.specs.declared.error.kind.ErrorKind.TheVariants.{DisplayHelp, DisplayVersion}
-use Rattle.opalport.specs.CommandLine.{Asked, run, level0, tokens, asked_by, opalport_line}
+use Rattle.opalport.specs.CommandLine.{Asked, run, level0, threads, tokens, asked_by, opalport_line}
 
 -- the texts write a configuration within the limits
 abbrev pub Opens : Text → Text → Text → Type 0
@@ -34,6 +37,12 @@ Level0Ends sectors shadow msid status old new =
     × (status ≡ 0) × Appends old new (level0_text config))
     ⊎ ((Opens sectors shadow msid → ⊥) × (status ≡ 2) × (new ≡ old))
 
+-- the clients ran, and what they tell is printed; where the texts write no load, the status is 2, and nothing is printed
+abbrev pub ThreadsEnd : Text → Text → ℕ → Option (List ℕ) → Option (List ℕ) → Type 0
+ThreadsEnd clients_text rounds_text status old new =
+    ((clients : ℕ) × (rounds : ℕ) × WritesLoad clients_text rounds_text clients rounds × Ran clients rounds status old new)
+    ⊎ ((fault : LoadFault) × IsFirstFault clients_text rounds_text fault × (status ≡ 2) × (new ≡ old))
+
 -- the item is printed with status 0; where the text is no hex, the status is 2, and nothing is printed
 abbrev pub TokensEnd : Text → ℕ → Option (List ℕ) → Option (List ℕ) → Type 0
 TokensEnd hex status old new =
@@ -51,6 +60,7 @@ abbrev pub Serves : Option Asked → Option (List ℕ) → ℕ → Option (List 
 Serves None input status old new = status ≡ 2
 Serves (Some (run sectors shadow msid)) input status old new = RunEnds sectors shadow msid input status old new
 Serves (Some (level0 sectors shadow msid)) input status old new = Level0Ends sectors shadow msid status old new
+Serves (Some (threads clients rounds)) input status old new = ThreadsEnd clients rounds status old new
 Serves (Some (tokens hex)) input status old new = TokensEnd hex status old new
 
 -- the words are no command line, and one of their faults is told

@@ -2,7 +2,7 @@
 
 ghost use Rattle.std.specs.Prelude.{◌≡◌, IfOk, false, map, option_map, option_and_then, string_bytes, codes};
 ghost use Rattle.clap.specs.Words.{FailsBy, app_of, fault_of, found_of, rows_of, rule_of, subcommand_rows_of};
-ghost use Rattle.opalport.specs.CommandLine.{option_rule, drive_line, tokens_line, opalport_line, text_of, asked, asked_of, asked_by};
+ghost use Rattle.opalport.specs.CommandLine.{option_rule, drive_line, threads_line, tokens_line, opalport_line, text_of, asked, asked_of, asked_by};
 
 use clap::{Arg, ArgMatches, Command, Error};
 use std::alloc::{AllocError, Global};
@@ -15,6 +15,13 @@ pub struct DriveTexts<'a> {
     pub msid: &'a str,
 }
 
+/// The options that say how many clients make how many rounds, as they are written.
+#[derive(Clone, Copy)]
+pub struct LoadTexts<'a> {
+    pub clients: &'a str,
+    pub rounds: &'a str,
+}
+
 /// What a command line asks for.
 #[derive(Clone, Copy)]
 pub enum Request<'a> {
@@ -22,6 +29,8 @@ pub enum Request<'a> {
     Run(DriveTexts<'a>),
     /// To print the Level 0 discovery of a new drive.
     Level0(DriveTexts<'a>),
+    /// To run clients and an engine at one port, each in a thread of its own.
+    Threads(LoadTexts<'a>),
     /// To tell a token stream, written in hex, as text.
     Tokens(&'a str),
 }
@@ -106,6 +115,24 @@ fn drive_command<'a>(
         .arg(msid)
 }
 
+/// The command that runs clients and an engine at one port, with the options that say how many.
+fn threads_command<'a>(alloc: Global) -> Result<Command<'a>, AllocError>
+    ensures { IfOk result (λ command. app_of command ≡ threads_line) }
+{
+    let clients = option(alloc, "clients", "N", "2", "The number of clients, 1 to 32");
+    let rounds = option(
+        alloc,
+        "rounds",
+        "N",
+        "100",
+        "The rounds of each client, 1 to 1000: a write of its sector, and a read of it",
+    );
+    Command::new(alloc, "threads")
+        .about("Runs clients and an engine at one port, each in a thread of its own")
+        .arg(clients)?
+        .arg(rounds)
+}
+
 /// The command that tells a token stream as text.
 fn tokens_command<'a>(alloc: Global) -> Result<Command<'a>, AllocError>
     ensures { IfOk result (λ command. app_of command ≡ tokens_line) }
@@ -135,6 +162,7 @@ fn command<'a>(alloc: Global) -> Result<Command<'a>, AllocError>
             "Prints the Level 0 discovery of a new drive, in hex",
             "",
         )?)?
+        .subcommand(threads_command(alloc)?)?
         .subcommand(tokens_command(alloc)?)
 }
 
@@ -158,6 +186,17 @@ fn drive_texts<'a>(matches: &ArgMatches<'a>) -> DriveTexts<'a>
     }
 }
 
+/// The options that say how many clients make how many rounds.
+fn load_texts<'a>(matches: &ArgMatches<'a>) -> LoadTexts<'a>
+    ensures clients { result.clients.now ≡ text_of (codes "clients") (rows_of (found_of matches.now)) }
+    ensures rounds { result.rounds.now ≡ text_of (codes "rounds") (rows_of (found_of matches.now)) }
+{
+    LoadTexts {
+        clients: text_of(matches, "clients"),
+        rounds: text_of(matches, "rounds"),
+    }
+}
+
 /// What the matches of a command line ask for.
 fn request_in<'a>(matches: &ArgMatches<'a>) -> Option<Request<'a>>
     ensures { option_map asked result ≡ option_and_then asked_of (subcommand_rows_of matches.now) }
@@ -166,6 +205,7 @@ fn request_in<'a>(matches: &ArgMatches<'a>) -> Option<Request<'a>>
     match name {
         "run" => Some(Request::Run(drive_texts(matches))),
         "level0" => Some(Request::Level0(drive_texts(matches))),
+        "threads" => Some(Request::Threads(load_texts(matches))),
         "tokens" => Some(Request::Tokens(text_of(matches, "hex"))),
         _ => None,
     }

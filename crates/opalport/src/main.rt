@@ -7,11 +7,14 @@ mod program;
 use crate::program::ends;
 use anyhow::Result;
 use std::process::ExitCode;
+use std::sync::Wait;
+use std::thread::Threads;
 
 /// Does what the words of the command line ask for, and gives the status.
-fn status(rt: &HostRuntime) -> Result<u8> {
+fn status<T: Threads + Wait + Sync>(rt: &HostRuntime, threads: &T) -> Result<u8> {
     let words: Vec<String> = std::env::args(rt)?.collect(rt.alloc())?;
     let status = ends(
+        threads,
         rt.alloc(),
         &words,
         rt.stdin(),
@@ -22,7 +25,7 @@ fn status(rt: &HostRuntime) -> Result<u8> {
 }
 
 fn main(rt: HostRuntime) -> ExitCode {
-    let status = match status(&rt) {
+    let status = match status(&rt, &rt) {
         Ok(status) => status,
         Err(error) => {
             let _ = eprintln!(rt; "error: {error}");

@@ -2,12 +2,15 @@
 
 ghost use Rattle.std.specs.Prelude.{◌≡◌, ◌≢◌, ◌≤◌, IfOk, map, string_bytes};
 ghost use Rattle.clap.specs.Words.{kind_of};
-ghost use Rattle.opalport.specs.Program.{Told, RunEnds, Level0Ends, TokensEnd, Ends};
+ghost use Rattle.opalport.specs.Program.{Told, RunEnds, Level0Ends, ThreadsEnd, TokensEnd, Ends};
 
-use crate::command_line::{DriveTexts, Request, request_of};
+use crate::command_line::{DriveTexts, LoadTexts, Request, request_of};
 use clap::error::ErrorKind;
+use port_threads::{Load, run_threads};
 use std::alloc::Global;
 use std::io::{Read, Write};
+use std::sync::Wait;
+use std::thread::Threads;
 use tool::{
     Options, OptionsFault, RunError, run_level0, run_script_with_faults, run_tokens_with_faults,
 };
@@ -64,6 +67,27 @@ fn level0<W: Write, E: Write>(
     }
 }
 
+/// Runs clients and an engine at one port, prints what they tell, and gives the status.
+fn threads<R: Threads + Wait + Sync, W: Write, E: Write>(
+    rt: &R,
+    alloc: Global,
+    load: &LoadTexts<'_>,
+    output: &mut W,
+    faults: &mut E,
+) -> Result<u8, RunError>
+    ensures most { IfOk result (λ status. status ≤ 2) }
+    ensures ends { IfOk result (λ status. ThreadsEnd load.now.clients.now load.now.rounds.now
+        status (W.contents output.old) (W.contents output.new)) }
+{
+    match Load::parse(load.clients.as_bytes(), load.rounds.as_bytes()) {
+        Ok(load) => run_threads(rt, alloc, load.blank(), output, &load),
+        Err(fault) => {
+            writeln!(faults, "error: {fault}").map_err(|_| RunError::Write)?;
+            Ok(2)
+        }
+    }
+}
+
 /// Tells a token stream as text, and gives the status.
 fn tokens<W: Write, E: Write>(
     alloc: Global,
@@ -109,7 +133,8 @@ fn tell<W: Write, E: Write>(
 /// # Errors
 ///
 /// An allocation was refused, or the reader or a writer failed.
-pub fn ends<R: Read + Drop, W: Write, E: Write>(
+pub fn ends<T: Threads + Wait + Sync, R: Read + Drop, W: Write, E: Write>(
+    rt: &T,
     alloc: Global,
     words: &[String],
     input: R,
@@ -122,6 +147,7 @@ pub fn ends<R: Read + Drop, W: Write, E: Write>(
     match request_of(alloc, words) {
         Ok(Some(Request::Run(drive))) => run(alloc, &drive, input, output, faults),
         Ok(Some(Request::Level0(drive))) => level0(alloc, &drive, output, faults),
+        Ok(Some(Request::Threads(load))) => threads(rt, alloc, &load, output, faults),
         Ok(Some(Request::Tokens(hex))) => tokens(alloc, hex, output, faults),
         Ok(None) => Ok(2),
         Err(error) => tell(&error, output, faults),

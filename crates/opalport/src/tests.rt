@@ -1,7 +1,9 @@
 use crate::command_line::{Request, request_of};
 use crate::program::ends;
 use std::alloc::{AllocError, Global};
+use std::sync::Wait;
 use std::test::Fail;
+use std::thread::Threads;
 
 /// The words of a line, with one blank between each two.
 fn words(alloc: Global, line: &str) -> Result<Vec<String>, AllocError> {
@@ -22,6 +24,9 @@ fn asked(alloc: Global, line: &str) -> Result<String, AllocError> {
         Ok(Some(Request::Level0(drive))) => {
             format!(in alloc; "level0 {} {} {}", drive.sectors, drive.shadow, drive.msid)
         }
+        Ok(Some(Request::Threads(load))) => {
+            format!(in alloc; "threads {} {}", load.clients, load.rounds)
+        }
         Ok(Some(Request::Tokens(hex))) => format!(in alloc; "tokens {hex}"),
         Ok(None) => format!(in alloc; "nothing"),
         Err(error) => format!(in alloc; "{:?}", error.kind()),
@@ -29,12 +34,16 @@ fn asked(alloc: Global, line: &str) -> Result<String, AllocError> {
 }
 
 /// The status of a line with a script, what it prints, and what it tells of faults.
-fn end(rt: &HostRuntime, line: &str, script: &[u8]) -> Result<(u8, Vec<u8>, Vec<u8>), Fail> {
-    let alloc = rt.alloc();
+fn end<T: Threads + Wait + Sync>(
+    rt: &T,
+    alloc: Global,
+    line: &str,
+    script: &[u8],
+) -> Result<(u8, Vec<u8>, Vec<u8>), Fail> {
     let words = words(alloc, line)?;
     let mut output = Vec::new(alloc);
     let mut faults = Vec::new(alloc);
-    let status = ends(alloc, &words, script, &mut output, &mut faults)?;
+    let status = ends(rt, alloc, &words, script, &mut output, &mut faults)?;
     Ok((status, output, faults))
 }
 
@@ -51,6 +60,8 @@ fn asks_what_is_written(rt: HostRuntime) -> Result<(), Fail> {
             "run 3 2 00",
         ),
         ("opalport level0 --msid=00", "level0 1000 8 00"),
+        ("opalport threads", "threads 2 100"),
+        ("opalport threads --rounds 3 --clients=8", "threads 8 3"),
         ("opalport tokens f8", "tokens f8"),
     ] {
         assert_eq!(rt; asked(rt.alloc(), line)?.as_str(), wanted, "at {line}");
@@ -74,6 +85,7 @@ fn tells_what_is_wrong_with_words(rt: HostRuntime) -> Result<(), Fail> {
         ("opalport run --size 70", "UnknownArgument"),
         ("opalport run --sectors", "InvalidValue"),
         ("opalport run --sectors 1 --sectors 2", "ArgumentConflict"),
+        ("opalport threads 2", "UnknownArgument"),
         ("opalport tokens", "MissingRequiredArgument"),
         ("opalport tokens f8 f9", "UnknownArgument"),
     ] {
@@ -128,13 +140,55 @@ fn ends_with_a_status(rt: HostRuntime) -> Result<(), Fail> {
             "",
             "error: HEX is not written in hex",
         ),
+        (
+            "opalport threads",
+            b"".as_slice(),
+            0,
+            "rounds 200\nclient steps 800\nreceipts ok\n",
+            "",
+        ),
+        (
+            "opalport threads --clients 32 --rounds 1",
+            b"".as_slice(),
+            0,
+            "rounds 32\nclient steps 128\nreceipts ok\n",
+            "",
+        ),
+        (
+            "opalport threads --clients 33",
+            reads,
+            2,
+            "",
+            "error: --clients takes",
+        ),
+        (
+            "opalport threads --clients 0",
+            reads,
+            2,
+            "",
+            "error: --clients takes",
+        ),
+        (
+            "opalport threads --rounds 0",
+            reads,
+            2,
+            "",
+            "error: --rounds takes",
+        ),
+        (
+            "opalport threads --rounds 1001",
+            reads,
+            2,
+            "",
+            "error: --rounds takes",
+        ),
         ("opalport --version", reads, 0, "opalport 0.2.0\n", ""),
         ("opalport --help", reads, 0, "A self-locking drive", ""),
         ("opalport run --help", reads, 0, "Runs a script", ""),
         ("opalport", reads, 2, "", "A self-locking drive"),
         ("opalport tokens", reads, 2, "", "error: "),
     ] {
-        let (end, output, faults) = end(&rt, line, script)?;
+        let (end, output, faults) = end(&rt, rt.alloc(), line, script)?;
         assert_eq!(rt; end, status, "at {line}");
         assert_eq!(rt; output.starts_with(printed.as_bytes()), true, "at {line}");
         assert_eq!(rt; faults.starts_with(told.as_bytes()), true, "at {line}");
@@ -151,7 +205,7 @@ fn ends_with_a_status(rt: HostRuntime) -> Result<(), Fail> {
 /// Geometry, Opal SSC 2.
 #[test]
 fn prints_the_discovery_of_a_new_drive(rt: HostRuntime) -> Result<(), Fail> {
-    let (status, output, faults) = end(&rt, "opalport level0 --sectors 12", b"")?;
+    let (status, output, faults) = end(&rt, rt.alloc(), "opalport level0 --sectors 12", b"")?;
     assert_eq!(rt; (status, faults.is_empty()), (0, true));
     let printed = "0000008000000001\
         00000000000000000000000000000000000000000000000000000000000000000000000000000000\
@@ -160,7 +214,7 @@ fn prints_the_discovery_of_a_new_drive(rt: HostRuntime) -> Result<(), Fail> {
         0003101c00000000000000000000020000000000000000010000000000000000\
         0203101010000004000004001000000000000000\n";
     assert_eq!(rt; output.as_slice(), printed.as_bytes());
-    let (status, output, _) = end(&rt, "opalport level0 --sectors 7", b"")?;
+    let (status, output, _) = end(&rt, rt.alloc(), "opalport level0 --sectors 7", b"")?;
     assert_eq!(rt; (status, output.is_empty()), (2, true));
     Ok(())
 }
@@ -168,7 +222,7 @@ fn prints_the_discovery_of_a_new_drive(rt: HostRuntime) -> Result<(), Fail> {
 /// What `run --help` says of the lines of a script and of the statuses.
 #[test]
 fn helps_with_lines(rt: HostRuntime) -> Result<(), Fail> {
-    let (_, output, _) = end(&rt, "opalport run --help", b"")?;
+    let (_, output, _) = end(&rt, rt.alloc(), "opalport run --help", b"")?;
     let text = str::from_utf8(&output)?;
     for part in [
         "range N START",

@@ -13,8 +13,11 @@ returns c =
     let run_plain = plain_fields c.in_ok-drive_command.field-0 (ap (λ (a : App). a.top.is_plain) run_line) in
     let level0_line = c.in_ok-drive_command-2.ensures in
     let level0_plain = plain_fields c.in_ok-drive_command-2.field-0 (ap (λ (a : App). a.top.is_plain) level0_line) in
+    let threads_line = c.in_ok-threads_command.ensures in
+    let threads_plain = plain_fields c.in_ok-threads_command.field-0 (ap (λ (a : App). a.top.is_plain) threads_line) in
     let tokens_line = c.in_ok-tokens_command.ensures in
     let tokens_plain = plain_fields c.in_ok-tokens_command.field-0 (ap (λ (a : App). a.top.is_plain) tokens_line) in
     let with_run = c.in_ok-subcommand.ensures.shape run_plain.globals ∙ ap₂ with_subcommand top (ap (λ (a : App). a.top) run_line) in
     let with_level0 = c.in_ok-subcommand-2.ensures.shape level0_plain.globals ∙ ap₂ with_subcommand with_run (ap (λ (a : App). a.top) level0_line) in
-    IfOk-weaker c.subcommand-3.result _ _ (λ command adds. adds.shape tokens_plain.globals ∙ ap₂ with_subcommand with_level0 (ap (λ (a : App). a.top) tokens_line)) c.subcommand-3.ensures
+    let with_threads = c.in_ok-subcommand-3.ensures.shape threads_plain.globals ∙ ap₂ with_subcommand with_level0 (ap (λ (a : App). a.top) threads_line) in
+    IfOk-weaker c.subcommand-4.result _ _ (λ command adds. adds.shape tokens_plain.globals ∙ ap₂ with_subcommand with_threads (ap (λ (a : App). a.top) tokens_line)) c.subcommand-4.ensures

@@ -15,6 +15,12 @@ returns-in-level0 c =
     entered_as _ _ _ _ _ c.in_ok-name.ensures.name c.in_ok-name.ensures.rows in
     rw (entered, c.in-level0.is) (cc)
 
+pub returns-in-threads : goal.returns-in-threads
+returns-in-threads c =
+    let entered : subcommand_rows_of c.args.matches.now ≡ Some (c.in_ok-name.name.now, rows_of (found_of c.in_ok-name.matches.now)) =
+    entered_as _ _ _ _ _ c.in_ok-name.ensures.name c.in_ok-name.ensures.rows in
+    rw (entered, c.in-threads.is) (cc)
+
 pub returns-in-tokens : goal.returns-in-tokens
 returns-in-tokens c =
     let entered : subcommand_rows_of c.args.matches.now ≡ Some (c.in_ok-name.name.now, rows_of (found_of c.in_ok-name.matches.now)) =

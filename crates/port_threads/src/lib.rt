@@ -1,0 +1,11 @@
+//! Clients and an engine at one port, each in a thread of its own.
+#![tactic(auto)]
+
+mod facts;
+mod load;
+mod log;
+mod run;
+mod work;
+
+pub use load::{Load, LoadFault};
+pub use run::run_threads;

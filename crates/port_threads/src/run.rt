@@ -1,0 +1,200 @@
+//! Clients and an engine, each in a thread of its own, and what they tell.
+
+ghost use Rattle.std.specs.Prelude.{◌≡◌, ◌+◌, ◌*◌, ◌≤◌, vec_len, IfOk, IfErr, ◌⊎◌};
+ghost use Rattle.locked_port.specs.Counts.{Stands};
+ghost use Rattle.tool.specs.declared.ending.RunError.{RunError};
+ghost use Rattle.port_threads.specs.Works.{steps_of_round, IsTold, Ran, is_right};
+
+use crate::facts::{Facts, facts_text};
+use crate::load::Load;
+use crate::work::{Work, make_rounds};
+use drive::{Drive, DriveConfig};
+use locked_port::{Closed, Gate, LockedPort, Pass, Pick, PortName, Receipt};
+use port::{EngineStep, Port};
+use std::alloc::{AllocError, Global};
+use std::io::Write;
+use std::marker::Brand;
+use std::sync::Wait;
+use std::sync::ledger::Blank;
+use std::thread;
+use std::thread::{Threads, join};
+use tool::RunError;
+
+/// The engine does three steps for a transfer: Issue, Accept and Complete; a round has two transfers.
+const ENGINE_STEPS: u64 = 6;
+
+/// A round is a write and a read, each of them a Put and a Take.
+const STEPS_OF_ROUND: u64 = 4;
+
+/// The first of the steps that are ready.
+struct First;
+
+impl Gate for First {
+    fn pick(&self, _ready: &[EngineStep]) -> Pick {
+        Pick::Do(0)
+    }
+}
+
+/// What all clients did.
+#[derive(Drop)]
+struct Works<L: PortName> {
+    passes: Vec<Pass<L>>,
+    receipts: Vec<Receipt>,
+    rounds: u64,
+    ghost told: { steps_of_round * rounds ≤ vec_len receipts },
+}
+
+impl<L: PortName> Works<L> {
+    /// Puts the engine's pass beside the clients'.
+    fn add_engine(&mut self, engine: Pass<L>) -> Result<(), AllocError> {
+        if self.passes.push(engine).is_err() {
+            return Err(AllocError);
+        }
+        Ok(())
+    }
+}
+
+/// What all clients did, in one.
+fn gather<L: PortName>(alloc: Global, works: Vec<Work<L>>) -> Result<Works<L>, AllocError> {
+    let mut passes = Vec::new(alloc);
+    let mut receipts = Vec::new(alloc);
+    let mut rounds = 0u64;
+    for work in works {
+        let Work {
+            pass,
+            receipts: mut more,
+            rounds: made,
+        } = work;
+        receipts.append(&mut more)?;
+        if passes.push(pass).is_err() {
+            return Err(AllocError);
+        }
+        rounds += made;
+    }
+    Ok(Works {
+        passes,
+        receipts,
+        rounds,
+    })
+}
+
+/// The default drive behind a port: 1,000 sectors, a shadow of 8, and the MSID of the command line's default.
+fn default_port(alloc: Global) -> Result<Port, RunError>
+    ensures { IfOk result (λ port. Stands port 0) }
+{
+    let config = DriveConfig::new(1_000, 8, b"OPALMSID").unwrap();
+    let Ok(drive) = Drive::new(alloc, config) else {
+        return Err(RunError::Memory);
+    };
+    let Ok(port) = Port::new(alloc, drive) else {
+        return Err(RunError::Memory);
+    };
+    Ok(port)
+}
+
+/// Runs each client in a thread of its own.
+fn run_clients<L: PortName + Send + Sync, R: Threads + Wait + Sync>(
+    rt: &R,
+    port: &LockedPort<L>,
+    alloc: Global,
+    passes: Vec<Pass<L>>,
+    rounds: u32,
+) -> Result<Vec<Work<L>>, AllocError> {
+    thread::map_vec(
+        rt,
+        passes,
+        &|pass| make_rounds(rt, alloc, port, pass, rounds),
+    )
+}
+
+/// Runs the engine and all clients at once.
+fn run_all<L: PortName + Send + Sync, R: Threads + Wait + Sync>(
+    rt: &R,
+    alloc: Global,
+    port: &LockedPort<L>,
+    mut passes: Vec<Pass<L>>,
+    load: &Load,
+) -> Result<Works<L>, RunError> {
+    let Some(mut engine) = passes.pop() else {
+        return Err(RunError::Memory);
+    };
+    let rounds = load.rounds;
+    let turns = ENGINE_STEPS * u64::from(load.clients) * u64::from(rounds);
+    let (left, works) = join(
+        rt,
+        || port.engine(rt, &mut engine, &First, turns),
+        || run_clients(rt, port, alloc, passes, rounds),
+    );
+    if left.is_err() {
+        return Err(RunError::Memory);
+    }
+    let mut works = gather(alloc, works?)?;
+    works.add_engine(engine)?;
+    Ok(works)
+}
+
+/// What the clients of a load tell of a new port.
+fn facts_of<L: PortName + Send + Sync, R: Threads + Wait + Sync>(
+    rt: &R,
+    alloc: Global,
+    blank: Blank,
+    load: &Load,
+) -> Result<Facts, RunError>
+    requires name { blank.name ≡ L.name }
+    requires parts { (blank.parts ≡ L.parts) × (blank.parts ≡ load.now.clients + 1) × (L.passes ≡ L.parts) }
+    ensures { IfOk result IsTold }
+{
+    let port = default_port(alloc)?;
+    // nothing but memory is refused here
+    let Ok((shared, passes)) = LockedPort::<L>::new(alloc, blank, port, load.clients) else {
+        return Err(RunError::Memory);
+    };
+    let Works {
+        passes,
+        receipts,
+        rounds,
+    } = run_all(rt, alloc, &shared, passes, load)?;
+    // no pass is missing
+    let Ok(closed) = shared.close(passes) else {
+        return Err(RunError::Memory);
+    };
+    Ok(Facts::of(&closed, rounds, &receipts))
+}
+
+/// Whether all rounds were made, no client step is beside them, and the receipts are those of the history.
+fn is_right(load: &Load, facts: &Facts) -> bool
+    ensures { result ≡ is_right load.now.clients load.now.rounds facts.now }
+{
+    let rounds = u64::from(load.clients) * u64::from(load.rounds);
+    facts.rounds == rounds && facts.client_steps == STEPS_OF_ROUND * rounds && facts.receipts
+}
+
+/// Runs the clients of a load and an engine, each in a thread of its own, at a port with a new drive behind it: each
+/// client fills its own sector and reads it back, round by round. Prints how many rounds were made, how many steps of
+/// the port's history are clients', and whether the clients' receipts are those of the history; gives status 0 where
+/// all is as the load says, else 1. The engine waits for the clients, so where memory is refused in one of them the
+/// call may never return; nor may it where the system starts no thread.
+///
+/// # Errors
+///
+/// Want of memory; a call of the writer that fails.
+pub fn run_threads<R: Threads + Wait + Sync, W: Write>(
+    rt: &R,
+    alloc: Global,
+    blank: Blank,
+    output: &mut W,
+    load: &Load,
+) -> Result<u8, RunError>
+    requires { blank.parts ≡ load.now.clients + 1 }
+    ensures ran { IfOk result (λ status.
+        Ran load.now.clients load.now.rounds status (W.contents output.old) (W.contents output.new)) }
+    ensures errors { IfErr result (λ error. (error ≡ RunError.Memory) ⊎ (error ≡ RunError.Write)) }
+{
+    let facts = facts_of::<Brand, R>(rt, alloc, blank, load)?;
+    let text = facts_text(alloc, &facts)?;
+    output
+        .write_all(text.as_bytes())
+        .map_err(|_| RunError::Write)?;
+    output.flush().map_err(|_| RunError::Write)?;
+    Ok(u8::from(!is_right(load, &facts)))
+}
