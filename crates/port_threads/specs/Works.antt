@@ -47,4 +47,4 @@ pub record Ran (clients rounds status : ℕ) (old new : Option (List ℕ)) : Typ
   pub facts : Facts
   pub told : IsTold facts
   pub printed : Appends old new (facts_text facts)
-  pub status : status ≡ (if is_right clients rounds facts then 0 else 1)
+  pub ends : status ≡ (if is_right clients rounds facts then 0 else 1)

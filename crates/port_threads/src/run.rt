@@ -80,7 +80,8 @@ fn gather<L: PortName>(alloc: Global, works: Vec<Work<L>>) -> Result<Works<L>, A
 
 /// The default drive behind a port: 1,000 sectors, a shadow of 8, and the MSID of the command line's default.
 fn default_port(alloc: Global) -> Result<Port, RunError>
-    ensures { IfOk result (λ port. Stands port 0) }
+    ensures stands { IfOk result (λ port. Stands port 0) }
+    ensures memory { IfErr result (λ error. error ≡ RunError.Memory) }
 {
     let config = DriveConfig::new(1_000, 8, b"OPALMSID").unwrap();
     let Ok(drive) = Drive::new(alloc, config) else {
@@ -114,7 +115,9 @@ fn run_all<L: PortName + Send + Sync, R: Threads + Wait + Sync>(
     port: &LockedPort<L>,
     mut passes: Vec<Pass<L>>,
     load: &Load,
-) -> Result<Works<L>, RunError> {
+) -> Result<Works<L>, RunError>
+    ensures { IfErr result (λ error. error ≡ RunError.Memory) }
+{
     let Some(mut engine) = passes.pop() else {
         return Err(RunError::Memory);
     };
@@ -142,7 +145,8 @@ fn facts_of<L: PortName + Send + Sync, R: Threads + Wait + Sync>(
 ) -> Result<Facts, RunError>
     requires name { blank.name ≡ L.name }
     requires parts { (blank.parts ≡ L.parts) × (blank.parts ≡ load.now.clients + 1) × (L.passes ≡ L.parts) }
-    ensures { IfOk result IsTold }
+    ensures told { IfOk result IsTold }
+    ensures memory { IfErr result (λ error. error ≡ RunError.Memory) }
 {
     let port = default_port(alloc)?;
     // nothing but memory is refused here

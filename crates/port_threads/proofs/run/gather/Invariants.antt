@@ -3,5 +3,5 @@ use Rattle.std.specs.Prelude.{vec_len}
 use Rattle.port_threads.specs.Works.{steps_of_round}
 use Rattle.port_threads.proofs.run.gather.Given as goal
 
-abbrev pub invariant-loop : goal.invariant-loop
-invariant-loop g l = steps_of_round * l.rounds ≤ vec_len l.receipts
+abbrev pub invariant-loop-work : goal.invariant-loop-work
+invariant-loop-work g l = steps_of_round * l.rounds ≤ vec_len l.receipts
