@@ -26,13 +26,17 @@ threads_line =
 abbrev pub tokens_line : App
 tokens_line = with_rule (new_app (codes "tokens")) (record (new_rule (codes "hex")) { value_names = 1; required = true })
 
+-- the program has a version, and takes one of its commands
+abbrev pub top_line : App
+top_line = on_top (λ s. record s { has_version = true; subcommand_required = true; arg_required_else_help = true }) (new_app (codes "opalport"))
+
 -- the program takes one of the four, and nothing else
 abbrev pub opalport_line : App
 opalport_line =
     with_subcommand
     (with_subcommand
     (with_subcommand
-    (with_subcommand (on_top (λ s. record s { has_version = true; subcommand_required = true; arg_required_else_help = true }) (new_app (codes "opalport")))
+    (with_subcommand top_line
     (drive_line (codes "run")).top) (drive_line (codes "level0")).top) threads_line.top) tokens_line.top
 
 -- what words ask for, by the texts as they are written

@@ -2,7 +2,7 @@
 
 ghost use Rattle.std.specs.Prelude.{◌≡◌, IfOk, false, map, option_map, option_and_then, string_bytes, codes};
 ghost use Rattle.clap.specs.Words.{FailsBy, app_of, fault_of, found_of, rows_of, rule_of, subcommand_rows_of};
-ghost use Rattle.opalport.specs.CommandLine.{option_rule, drive_line, threads_line, tokens_line, opalport_line, text_of, asked, asked_of, asked_by};
+ghost use Rattle.opalport.specs.CommandLine.{top_line, option_rule, drive_line, threads_line, tokens_line, opalport_line, text_of, asked, asked_of, asked_by};
 
 use clap::{Arg, ArgMatches, Command, Error};
 use std::alloc::{AllocError, Global};
@@ -146,15 +146,22 @@ fn tokens_command<'a>(alloc: Global) -> Result<Command<'a>, AllocError>
         .arg(hex)
 }
 
-/// The whole command line.
-fn command<'a>(alloc: Global) -> Result<Command<'a>, AllocError>
-    ensures { IfOk result (λ command. app_of command ≡ opalport_line) }
+/// The program, before its commands are there.
+fn top_command<'a>(alloc: Global) -> Command<'a>
+    ensures { app_of result ≡ top_line }
 {
     Command::new(alloc, "opalport")
         .version("0.2.0")
         .about("A self-locking drive behind an AHCI port, driven by a script")
         .subcommand_required(true)
         .arg_required_else_help(true)
+}
+
+/// The whole command line.
+fn command<'a>(alloc: Global) -> Result<Command<'a>, AllocError>
+    ensures { IfOk result (λ command. app_of command ≡ opalport_line) }
+{
+    top_command(alloc)
         .subcommand(drive_command(alloc, "run", "Runs a script from standard input", LINES)?)?
         .subcommand(drive_command(
             alloc,

@@ -1,14 +1,12 @@
-use Rattle.std.proofs.Common.{◌≡◌, ◌∙◌, rules, ap, ap₂, codes, true}
+use Rattle.std.proofs.Common.{◌∙◌, ap, ap₂}
 use Rattle.std.proofs.lemmas.Result.{IfOk-weaker}
-use Rattle.clap.specs.Words.{App, app_of, new_app, with_subcommand}
-use Rattle.clap.specs.Simple.{on_top}
+use Rattle.clap.specs.Words.{App, with_subcommand}
 use Rattle.clap.proofs.SimpleLemmas.{plain_fields}
 use Rattle.opalport.proofs.command_line.command.Goals as goal
 
 pub returns : goal.returns
 returns c =
-    let top : app_of c.arg_required_else_help.result ≡ on_top (λ s. record s { has_version = true; subcommand_required = true; arg_required_else_help = true }) (new_app (codes "opalport")) =
-    search rules in
+    let top = c.top_command.ensures in
     let run_line = c.in_ok-drive_command.ensures in
     let run_plain = plain_fields c.in_ok-drive_command.field-0 (ap (λ (a : App). a.top.is_plain) run_line) in
     let level0_line = c.in_ok-drive_command-2.ensures in
