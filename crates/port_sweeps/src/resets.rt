@@ -117,11 +117,14 @@ impl Sweep<'_> {
         Ok(wrong)
     }
 
-    /// Puts a reset at a place.
-    fn try_reset(&mut self, place: usize, kind: ResetKind) -> Result<(), SweepError> {
-        let mut port = self.port_at(place)?;
-        let mut twin = self.port_at(place)?;
-        let wrong = match self.compare(&mut port, &mut twin, place, kind) {
+    /// Keeps what was wrong at a place.
+    fn note(
+        &mut self,
+        place: usize,
+        kind: ResetKind,
+        wrong: Result<Option<Wrong>, PortError>,
+    ) -> Result<(), SweepError> {
+        let wrong = match wrong {
             Ok(wrong) => wrong,
             Err(PortError::OutOfMemory) => return Err(SweepError::OutOfMemory),
             Err(error) => Some(Wrong::Refused(error)),
@@ -130,6 +133,25 @@ impl Sweep<'_> {
             self.summary.found.push(Found { place, kind, wrong })?;
         }
         Ok(())
+    }
+
+    /// Resets the first of two ports on which the steps before a place were played.
+    fn try_on(
+        &mut self,
+        port: &mut Port,
+        twin: &mut Port,
+        place: usize,
+        kind: ResetKind,
+    ) -> Result<(), SweepError> {
+        let wrong = self.compare(port, twin, place, kind);
+        self.note(place, kind, wrong)
+    }
+
+    /// Puts a reset at a place.
+    fn try_reset(&mut self, place: usize, kind: ResetKind) -> Result<(), SweepError> {
+        let mut port = self.port_at(place)?;
+        let mut twin = self.port_at(place)?;
+        self.try_on(&mut port, &mut twin, place, kind)
     }
 }
 
