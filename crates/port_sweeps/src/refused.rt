@@ -45,15 +45,30 @@ fn play_on(port: &mut Port, steps: &[Step]) -> Result<u64, SweepError> {
     Ok(times)
 }
 
-/// Plays a list, and adds what came of it.
-fn add_list(alloc: Global, text: &mut Vec<u8>, list: &List) -> Result<u64, SweepError> {
-    let mut port = new_port(alloc, list)?;
-    let times = play_on(&mut port, &list.steps)?;
+/// Adds the name of a list, and what came of it.
+fn add_text(alloc: Global, text: &mut Vec<u8>, list: &List, port: &Port) -> Result<(), AllocError> {
     text.extend_from_slice(b"list ")?;
     text.extend_from_slice(list.name.as_bytes())?;
     text.push(b'\n')?;
-    add_port(alloc, text, &port)?;
+    add_port(alloc, text, port)
+}
+
+/// Plays a list on a new port, and adds what came of it.
+fn play_list(
+    alloc: Global,
+    text: &mut Vec<u8>,
+    list: &List,
+    port: &mut Port,
+) -> Result<u64, SweepError> {
+    let times = play_on(port, &list.steps)?;
+    add_text(alloc, text, list, port)?;
     Ok(times)
+}
+
+/// Plays a list, and adds what came of it.
+fn add_list(alloc: Global, text: &mut Vec<u8>, list: &List) -> Result<u64, SweepError> {
+    let mut port = new_port(alloc, list)?;
+    play_list(alloc, text, list, &mut port)
 }
 
 /// What came of each list, and how often a step was refused memory.
