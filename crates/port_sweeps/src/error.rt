@@ -1,0 +1,57 @@
+//! Why a sweep ends before its end.
+
+use std::alloc::{AllocError, AllocFailed};
+use std::io;
+use thiserror::Error;
+
+/// Why a sweep ends before its end.
+#[derive(Clone, Copy, Debug, PartialEq, Eq, Error)]
+pub enum SweepError {
+    #[error("usage: port_sweeps [refused [ALLOCATIONS]] < LISTS")]
+    Usage,
+    /// The line with this number is none of a list.
+    #[error("line {0}: no line of a list")]
+    Line(u64),
+    /// A list has range lines that no drive takes.
+    #[error("range lines that no drive takes")]
+    Ranges,
+    /// The input could not be read.
+    #[error("the input cannot be read")]
+    Read,
+    /// The output could not be written.
+    #[error("the output cannot be written")]
+    Write,
+    /// A growth was refused.
+    #[error("out of memory")]
+    OutOfMemory,
+}
+
+impl SweepError {
+    /// Why the input cannot be read.
+    pub fn reading(error: io::Error) -> SweepError {
+        match error.kind() {
+            io::ErrorKind::OutOfMemory => SweepError::OutOfMemory,
+            _ => SweepError::Read,
+        }
+    }
+
+    /// Why the output cannot be written.
+    pub fn writing(error: io::Error) -> SweepError {
+        match error.kind() {
+            io::ErrorKind::OutOfMemory => SweepError::OutOfMemory,
+            _ => SweepError::Write,
+        }
+    }
+}
+
+impl From<AllocError> for SweepError {
+    fn from(_error: AllocError) -> SweepError {
+        SweepError::OutOfMemory
+    }
+}
+
+impl<T: Drop> From<AllocFailed<T>> for SweepError {
+    fn from(_error: AllocFailed<T>) -> SweepError {
+        SweepError::OutOfMemory
+    }
+}
