@@ -81,7 +81,7 @@ fn is_log(alloc: Global, lines: &[AuditLine], texts: &[&str]) -> Result<bool, Fa
 }
 
 /// Whether the read before the range gave zeros, and the one that ends in it failed: DRDY, DF and ERR, and ABRT.
-fn is_denied(run: &Told) -> bool {
+fn is_denied(told: &Told) -> bool {
     let [_, before, _, into] = told.one.as_slice() else {
         return false;
     };
@@ -105,7 +105,7 @@ fn is_replayed(alloc: Global, was: &Port, again: &mut Port) -> Result<bool, Fail
     Ok(is_same_history(was.history(), again.history()) && was.audit() == again.audit())
 }
 
-fn is_the_same(alloc: Global, run: &Told) -> Result<bool, Fail> {
+fn is_the_same(alloc: Global, told: &Told) -> Result<bool, Fail> {
     let mut again = port(alloc, &[LOCKED])?;
     let was = &told.closed.port;
     let is_told = is_log(alloc, was.audit(), &DENIAL)?;
