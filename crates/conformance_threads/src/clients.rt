@@ -41,13 +41,14 @@ fn ask<L: PortName, R: Wait>(
     rt: &R,
     port: &LockedPort<L>,
     pass: &mut Pass<L>,
-    request: Request,
+    request: &Request,
     receipts: &mut Vec<Receipt>,
 ) -> Result<(), PortError> {
+    let asked = request.copy()?;
     receipts.reserve(2)?;
-    let ticket = port.submit(rt, pass, &request)?;
+    let ticket = port.submit(rt, pass, request)?;
     let taken = port.await_answer(rt, pass, ticket)?;
-    receipts.push_reserved(put_receipt(ticket, request));
+    receipts.push_reserved(put_receipt(ticket, asked));
     receipts.push_reserved(taken);
     Ok(())
 }
@@ -58,7 +59,7 @@ fn ask_all<L: PortName, R: Wait>(
     alloc: Global,
     port: &LockedPort<L>,
     pass: Pass<L>,
-    requests: Vec<Request>,
+    requests: &[Request],
 ) -> (Pass<L>, Vec<Receipt>) {
     let mut pass = pass;
     let mut receipts = Vec::new(alloc);
@@ -135,7 +136,7 @@ pub(crate) fn run<L: PortName + Send + Sync, R: Threads + Wait + Abort + Sync>(
     alloc: Global,
     blank: Blank,
     port: Port,
-    asked: (Vec<Request>, Vec<Request>),
+    asked: (&[Request], &[Request]),
     turns: u64,
 ) -> Result<Told, Fail>
     requires name { blank.name ≡ L.name }

@@ -1,5 +1,7 @@
 //! Two commands that are under way at once.
 
+ghost use Rattle.std.specs.Prelude.{◌≡◌};
+
 use crate::clients::{close, deal, port, put_receipt};
 use basics::Bytes;
 use fis::Tag;
@@ -45,27 +47,35 @@ impl Crossing {
         self.is_open.store(true, Ordering::SeqCst);
     }
 
-    fn holds(&self, step: EngineStep) -> bool {
-        if self.is_open.load(Ordering::SeqCst) {
-            return false;
+    fn is_open(&self) -> bool {
+        self.is_open.load(Ordering::SeqCst)
+    }
+
+    fn holds(&self, step: &EngineStep) -> bool {
+        match *step {
+            EngineStep::Complete { tag } if tag == self.write => {
+                !self.is_read_accepted.load(Ordering::SeqCst)
+            }
+            EngineStep::Complete { tag } if tag == self.read => {
+                !self.is_write_done.load(Ordering::SeqCst)
+            }
+            _ => false,
         }
-        if step == (EngineStep::Complete { tag: self.write }) {
-            return !self.is_read_accepted.load(Ordering::SeqCst);
-        }
-        step == (EngineStep::Complete { tag: self.read })
-            && !self.is_write_done.load(Ordering::SeqCst)
     }
 
     /// Remembers what it picked.
-    fn note(&self, step: EngineStep) {
-        if step == (EngineStep::Accept { tag: self.read }) {
-            self.is_read_accepted.store(true, Ordering::SeqCst);
-        }
-        if step == (EngineStep::Complete { tag: self.read }) {
-            self.is_read_done.store(true, Ordering::SeqCst);
-        }
-        if step == (EngineStep::Complete { tag: self.write }) {
-            self.is_write_done.store(true, Ordering::SeqCst);
+    fn note(&self, step: &EngineStep) {
+        match *step {
+            EngineStep::Accept { tag } if tag == self.read => {
+                self.is_read_accepted.store(true, Ordering::SeqCst);
+            }
+            EngineStep::Complete { tag } if tag == self.read => {
+                self.is_read_done.store(true, Ordering::SeqCst);
+            }
+            EngineStep::Complete { tag } if tag == self.write => {
+                self.is_write_done.store(true, Ordering::SeqCst);
+            }
+            _ => {}
         }
     }
 
@@ -78,8 +88,8 @@ impl Gate for Crossing {
     /// The first step that it does not hold. It stops where nothing is ready and both commands are done.
     fn pick(&self, ready: &[EngineStep]) -> Pick {
         for place in 0..ready.len() {
-            let step = ready[place];
-            if !self.holds(step) {
+            let step = &ready[place];
+            if self.is_open() || !self.holds(step) {
                 self.note(step);
                 return Pick::Do(place);
             }
@@ -136,10 +146,10 @@ fn cross<L: PortName + Send + Sync, R: Threads + Wait + Abort + Sync>(
     let (mut one, mut two, mut engine) = deal(rt, passes);
     let (read, write) = requests(alloc)?;
     let port = &shared;
-    let (reading, writing) = join(
+    let (writing, reading) = join(
         rt,
-        || port.submit(rt, &mut one, &read),
         || port.submit(rt, &mut two, &write),
+        || port.submit(rt, &mut one, &read),
     );
     let (reading, writing) = (reading?, writing?);
     let gate = Crossing::new(reading.tag, writing.tag);

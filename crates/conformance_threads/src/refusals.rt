@@ -1,5 +1,7 @@
 //! What is refused before anything waits, and when no tag is left.
 
+ghost use Rattle.std.specs.Prelude.{◌≡◌};
+
 use crate::clients::{First, deal, port};
 use locked_port::{LockedPort, Pass, PortName, Ticket};
 use port::{PortError, Request};

@@ -112,18 +112,13 @@ fn is_the_same(alloc: Global, told: &Told) -> Result<bool, Fail> {
     Ok(is_denied(told) && is_told && is_replayed(alloc, was, &mut again)?)
 }
 
-/// Reads of five sectors before the range, and of one more.
-fn reads(alloc: Global) -> Result<Vec<Request>, Fail> {
-    let five = Request::Read { lba: 95, count: 5 };
-    let six = Request::Read { lba: 95, count: 6 };
-    Ok(vec![in alloc; five, six]?)
-}
-
+/// A read of the five sectors before the range, and one of a sector more.
 #[test]
 fn is_played_again(rt: HostRuntime) -> Result<(), Fail> {
     let alloc = rt.alloc();
     let port = port(alloc, &[LOCKED])?;
-    let asked = (reads(alloc)?, Vec::new(alloc));
+    let reads = [Request::Read { lba: 95, count: 5 }, Request::Read { lba: 95, count: 6 }];
+    let asked = (reads.as_slice(), [].as_slice());
     let told = run::<Brand, HostRuntime>(&rt, alloc, Blank::new(3), port, asked, 6)?;
     assert!(rt; is_the_same(alloc, &told)?);
     Ok(())

@@ -37,21 +37,20 @@ fn requests(alloc: Global, lba: u64, first: u8) -> Result<Vec<Request>, Fail> {
 /// Whether the four receipts of each round are there, of the Puts and the Takes of its write and of its read, and the
 /// read has what the write wrote.
 fn has_read(receipts: &[Receipt], first: u8) -> bool {
-    let mut round = 0;
-    for four in receipts.chunks(4) {
-        let [put, written, asked, read] = four else {
+    for round in 0..ROUNDS {
+        let start = 4 * usize::from(round);
+        let Some([put, written, asked, read]) = receipts.get(start..start + 4) else {
             return false;
         };
         let is_right = is_done(&put.reply, &[])
             && is_done(&written.reply, &[])
             && is_done(&asked.reply, &[])
             && is_done(&read.reply, &sector(first, round));
-        if !is_right || round == ROUNDS {
+        if !is_right {
             return false;
         }
-        round += 1;
     }
-    round == ROUNDS
+    receipts.len() == 4 * usize::from(ROUNDS)
 }
 
 /// Whether both have read what they wrote, and their receipts are just the client steps of the history.
@@ -70,7 +69,8 @@ fn is_whole(told: Told) -> Result<bool, Fail> {
 #[test]
 fn both_read_what_they_wrote(rt: HostRuntime) -> Result<(), Fail> {
     let alloc = rt.alloc();
-    let asked = (requests(alloc, 100, 1)?, requests(alloc, 101, 101)?);
+    let (first, second) = (requests(alloc, 100, 1)?, requests(alloc, 101, 101)?);
+    let asked = (first.as_slice(), second.as_slice());
     let port = port(alloc, &[])?;
     let told = run::<Brand, HostRuntime>(&rt, alloc, Blank::new(3), port, asked, ENGINE_STEPS)?;
     assert!(rt; is_whole(told)?);
