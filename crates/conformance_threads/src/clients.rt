@@ -24,7 +24,7 @@ pub(crate) fn port(alloc: Global, rows: &[RangeRow]) -> Result<Port, Fail>
 }
 
 /// What a client writes of its own Put: it is done with no bytes.
-pub(crate) fn put_receipt(ticket: Ticket, request: Request) -> Receipt {
+pub(crate) fn put_receipt(ticket: &Ticket, request: Request) -> Receipt {
     Receipt {
         number: ticket.number,
         step: Step::Put {
@@ -47,8 +47,8 @@ fn ask<L: PortName, R: Wait>(
     let asked = request.copy()?;
     receipts.reserve(2)?;
     let ticket = port.submit(rt, pass, request)?;
+    receipts.push_reserved(put_receipt(&ticket, asked));
     let taken = port.await_answer(rt, pass, ticket)?;
-    receipts.push_reserved(put_receipt(ticket, asked));
     receipts.push_reserved(taken);
     Ok(())
 }

@@ -193,8 +193,8 @@ fn is_whole(alloc: Global, crossed: Crossed) -> Result<bool, Fail> {
     let (asked, wanted) = requests(alloc)?;
     let is_right = is_done(&read.1.reply, &[0; 512]) && is_done(&write.1.reply, &[]);
     let receipts = vec![in alloc;
-        put_receipt(read.0, asked),
-        put_receipt(write.0, wanted),
+        put_receipt(&read.0, asked),
+        put_receipt(&write.0, wanted),
         read.1,
         write.1
     ]?;

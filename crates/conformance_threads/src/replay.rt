@@ -113,12 +113,19 @@ fn is_the_same(alloc: Global, told: &Told) -> Result<bool, Fail> {
 }
 
 /// A read of the five sectors before the range, and one of a sector more.
+fn reads(alloc: Global) -> Result<Vec<Request>, AllocError> {
+    let five = Request::Read { lba: 95, count: 5 };
+    let six = Request::Read { lba: 95, count: 6 };
+    Ok(vec![in alloc; five, six]?)
+}
+
 #[test]
 fn is_played_again(rt: HostRuntime) -> Result<(), Fail> {
     let alloc = rt.alloc();
     let port = port(alloc, &[LOCKED])?;
-    let reads = [Request::Read { lba: 95, count: 5 }, Request::Read { lba: 95, count: 6 }];
-    let asked = (reads.as_slice(), [].as_slice());
+    let reads = reads(alloc)?;
+    let none = Vec::new(alloc);
+    let asked = (reads.as_slice(), none.as_slice());
     let told = run::<Brand, HostRuntime>(&rt, alloc, Blank::new(3), port, asked, 6)?;
     assert!(rt; is_the_same(alloc, &told)?);
     Ok(())
