@@ -46,15 +46,13 @@ fn history(alloc: Global) -> Result<Vec<Entry>, AllocError> {
         step: take(),
         reply: sector(alloc, 0x55)?,
     };
-    Ok(
-        vec![in alloc;
-            done(put(100)),
-            done(Step::Issue { tag: tag() }),
-            done(Step::Accept { tag: tag() }),
-            done(Step::Complete { tag: tag() }),
-            taken
-        ]?,
-    )
+    Ok(vec![in alloc;
+        done(put(100)),
+        done(Step::Issue { tag: tag() }),
+        done(Step::Accept { tag: tag() }),
+        done(Step::Complete { tag: tag() }),
+        taken,
+    ]?)
 }
 
 /// The receipt of the Put, of a sector.

@@ -16,6 +16,7 @@ const ROUNDS: u8 = 20;
 /// A round is a write and a read. Each is put and taken, and between the two the engine issues it, accepts it and
 /// completes it.
 const CLIENT_STEPS: u64 = 2 * 20 * 2 * 2;
+
 const ENGINE_STEPS: u64 = 2 * 20 * 2 * 3;
 
 /// A sector of one byte, for a round of the client that begins at this byte.
