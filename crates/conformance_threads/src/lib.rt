@@ -2,4 +2,10 @@
 #![tactic(auto)]
 
 #[cfg(test)]
+mod clients;
+#[cfg(test)]
+mod receipts;
+#[cfg(test)]
+mod rounds;
+#[cfg(test)]
 mod tags;

@@ -1,0 +1,168 @@
+//! A port under a lock, and the threads of two clients and of an engine.
+
+ghost use Rattle.std.specs.Prelude.{◌≡◌, IfOk};
+ghost use Rattle.locked_port.specs.Counts.{Stands};
+
+use drive::{Drive, DriveConfig, RangeRow};
+use locked_port::{Closed, Gate, LockedPort, Pass, Pick, PortName, Receipt, Ticket};
+use port::{Answer, EngineStep, Port, PortError, Request, Step};
+use std::alloc::Global;
+use std::process::Abort;
+use std::sync::Wait;
+use std::sync::ledger::Blank;
+use std::test::Fail;
+use std::thread::{Threads, join};
+
+/// A port over a drive of 1,000 sectors with these ranges, on which nothing was done.
+pub(crate) fn port(alloc: Global, rows: &[RangeRow]) -> Result<Port, Fail>
+    ensures { IfOk result (λ port. Stands port 0) }
+{
+    let config = DriveConfig::new(1000, 8, b"OPALMSID").ok_or("limits")?;
+    let drive = Drive::with_ranges(alloc, config, rows)?;
+    let port = Port::new(alloc, drive)?;
+    Ok(port)
+}
+
+/// What a client writes of its own Put: it is done with no bytes.
+pub(crate) fn put_receipt(ticket: &Ticket, request: Request) -> Receipt {
+    Receipt {
+        number: ticket.number,
+        step: Step::Put {
+            client: ticket.client,
+            tag: ticket.tag,
+            request,
+        },
+        reply: Answer::nothing(),
+    }
+}
+
+/// A request from its Put to its Take, with a receipt of each.
+fn ask<L: PortName, R: Wait>(
+    rt: &R,
+    port: &LockedPort<L>,
+    pass: &mut Pass<L>,
+    request: &Request,
+    receipts: &mut Vec<Receipt>,
+) -> Result<(), PortError> {
+    let asked = request.copy()?;
+    receipts.reserve(2)?;
+    let ticket = port.submit(rt, pass, request)?;
+    receipts.push_reserved(put_receipt(&ticket, asked));
+    let taken = port.await_answer(rt, pass, ticket)?;
+    receipts.push_reserved(taken);
+    Ok(())
+}
+
+/// A client that does its requests one after the other, until one of them is refused.
+fn ask_all<L: PortName, R: Wait>(
+    rt: &R,
+    alloc: Global,
+    port: &LockedPort<L>,
+    pass: Pass<L>,
+    requests: &[Request],
+) -> (Pass<L>, Vec<Receipt>) {
+    let mut pass = pass;
+    let mut receipts = Vec::new(alloc);
+    for request in requests {
+        if ask(rt, port, &mut pass, request, &mut receipts).is_err() {
+            break;
+        }
+    }
+    (pass, receipts)
+}
+
+/// Always the first step that is ready.
+pub(crate) struct First;
+
+impl Gate for First {
+    fn pick(&self, _ready: &[EngineStep]) -> Pick {
+        Pick::Do(0)
+    }
+}
+
+/// What threads bring back: the port that is out of its lock, and the receipts of both clients.
+#[derive(Drop)]
+pub(crate) struct Told {
+    pub(crate) closed: Closed,
+    pub(crate) one: Vec<Receipt>,
+    pub(crate) two: Vec<Receipt>,
+}
+
+/// Takes the port out of its lock with all passes, after a try that lacks the engine's: it gives all back.
+pub(crate) fn close<L: PortName, R: Abort>(
+    rt: &R,
+    alloc: Global,
+    port: LockedPort<L>,
+    clients: (Pass<L>, Pass<L>),
+    engine: Pass<L>,
+) -> Result<Closed, Fail>
+    requires { L.passes ≡ L.parts }
+{
+    let mut passes = Vec::new(alloc);
+    passes.push(clients.0)?;
+    passes.push(clients.1)?;
+    let Err((port, mut passes)) = port.close(passes) else {
+        panic!(rt; "a pass is missing")
+    };
+    assert_eq!(rt; passes.len(), 2);
+    passes.push(engine)?;
+    let Ok(closed) = port.close(passes) else {
+        panic!(rt; "all passes are there")
+    };
+    Ok(closed)
+}
+
+/// The passes of both clients and of the engine.
+pub(crate) fn deal<L: PortName, R: Abort>(
+    rt: &R,
+    mut passes: Vec<Pass<L>>,
+) -> (Pass<L>, Pass<L>, Pass<L>) {
+    let Some(engine) = passes.pop() else {
+        panic!(rt; "no pass")
+    };
+    let Some(two) = passes.pop() else {
+        panic!(rt; "no pass")
+    };
+    let Some(one) = passes.pop() else {
+        panic!(rt; "no pass")
+    };
+    (one, two, engine)
+}
+
+/// Two clients, each of which does its requests one after the other, and an engine that does so many steps, the first
+/// that is ready each time: each of the three in a thread of its own.
+pub(crate) fn run<L: PortName + Send + Sync, R: Threads + Wait + Abort + Sync>(
+    rt: &R,
+    alloc: Global,
+    blank: Blank,
+    port: Port,
+    asked: (&[Request], &[Request]),
+    turns: u64,
+) -> Result<Told, Fail>
+    requires name { blank.name ≡ L.name }
+    requires parts { (blank.parts ≡ L.parts) × (blank.parts ≡ 3) × (L.passes ≡ L.parts) }
+    requires fresh { Stands port 0 }
+{
+    let (shared, passes) = LockedPort::<L>::new(alloc, blank, port, 2)?;
+    let (one, two, mut engine) = deal(rt, passes);
+    let (first, second) = asked;
+    let port = &shared;
+    let (left, (one, two)) = join(
+        rt,
+        || port.engine(rt, &mut engine, &First, turns),
+        || {
+            join(
+                rt,
+                || ask_all(rt, alloc, port, one, first),
+                || ask_all(rt, alloc, port, two, second),
+            )
+        },
+    );
+    assert_eq!(rt; left?, 0);
+    let closed = close(rt, alloc, shared, (one.0, two.0), engine)?;
+    Ok(Told {
+        closed,
+        one: one.1,
+        two: two.1,
+    })
+}

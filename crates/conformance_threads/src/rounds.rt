@@ -1,0 +1,79 @@
+//! Rounds of two clients, and an engine, each in a thread of its own: what is written is read, and every step of a
+//! client has its receipt.
+
+use crate::clients::{Told, port, run};
+use basics::Bytes;
+use locked_port::{Receipt, check_receipts, is_done};
+use port::Request;
+use std::alloc::Global;
+use std::marker::Brand;
+use std::sync::ledger::Blank;
+use std::test::Fail;
+
+/// How many rounds each client makes. In each it writes its sector and reads it back.
+const ROUNDS: u8 = 20;
+
+/// A round is a write and a read. Each is put and taken, and between the two the engine issues it, accepts it and
+/// completes it.
+const CLIENT_STEPS: u64 = 2 * 20 * 2 * 2;
+
+const ENGINE_STEPS: u64 = 2 * 20 * 2 * 3;
+
+/// A sector of one byte, for a round of the client that begins at this byte.
+fn sector(first: u8, round: u8) -> [u8; 512] {
+    [first.wrapping_add(round); 512]
+}
+
+/// A client's requests: in each round other bytes are written.
+fn requests(alloc: Global, lba: u64, first: u8) -> Result<Vec<Request>, Fail> {
+    let mut requests = Vec::new(alloc);
+    for round in 0..ROUNDS {
+        let bytes = Bytes::from_vec(sector(first, round).to_vec(alloc)?);
+        requests.push(Request::Write { lba, bytes })?;
+        requests.push(Request::Read { lba, count: 1 })?;
+    }
+    Ok(requests)
+}
+
+/// Whether the four receipts of each round are there, of the Puts and the Takes of its write and of its read, and the
+/// read has what the write wrote.
+fn has_read(receipts: &[Receipt], first: u8) -> bool {
+    for round in 0..ROUNDS {
+        let start = 4 * usize::from(round);
+        let Some([put, written, asked, read]) = receipts.get(start..start + 4) else {
+            return false;
+        };
+        let is_right = is_done(&put.reply, &[])
+            && is_done(&written.reply, &[])
+            && is_done(&asked.reply, &[])
+            && is_done(&read.reply, &sector(first, round));
+        if !is_right {
+            return false;
+        }
+    }
+    receipts.len() == 4 * usize::from(ROUNDS)
+}
+
+/// Whether both have read what they wrote, and their receipts are just the client steps of the history.
+fn is_whole(told: Told) -> Result<bool, Fail> {
+    let has_read = has_read(&told.one, 1) && has_read(&told.two, 101);
+    let mut receipts = told.one;
+    for receipt in told.two {
+        receipts.push(receipt)?;
+    }
+    let history = told.closed.port.history();
+    let is_long = history.len() as u64 == CLIENT_STEPS + ENGINE_STEPS;
+    let is_counted = told.closed.client_steps == CLIENT_STEPS;
+    Ok(has_read && is_long && is_counted && check_receipts(history, &receipts))
+}
+
+#[test]
+fn both_read_what_they_wrote(rt: HostRuntime) -> Result<(), Fail> {
+    let alloc = rt.alloc();
+    let (first, second) = (requests(alloc, 100, 1)?, requests(alloc, 101, 101)?);
+    let asked = (first.as_slice(), second.as_slice());
+    let port = port(alloc, &[])?;
+    let told = run::<Brand, HostRuntime>(&rt, alloc, Blank::new(3), port, asked, ENGINE_STEPS)?;
+    assert!(rt; is_whole(told)?);
+    Ok(())
+}
