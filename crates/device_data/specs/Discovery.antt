@@ -1,6 +1,7 @@
 -- Level 0 discovery: what a drive says of itself before any session (Core 2.01, section 3.3.6; Opal SSC 2.01, section 3.1.1).
-use Rattle.std.specs.Prelude.{ℕ, zero, suc, ◌+◌, ◌*◌, ◌==◌, Bool, true, false, ◌&&◌, ◌||◌, List, [], ◌∷◌, ◌++◌, length, replicate}
+use Rattle.std.specs.Prelude.{ℕ, zero, suc, ◌+◌, ◌*◌, ◌==◌, Bool, false, ◌&&◌, ◌||◌, List, [], ◌∷◌, ◌++◌, length, replicate}
 use Rattle.std.specs.Int.{w16, w32, w64, to_be_bytes}
+use Rattle.fis.specs.Bytes.{bit}
 use Rattle.sp_cells.specs.declared.names.TheConstants.{RANGES, ADMINS, USERS}
 use Rattle.sp_cells.specs.declared.names.Sp.TheVariants.{Admin, Locking}
 use Rattle.sp_cells.specs.declared.names.Column.{Column}
@@ -9,10 +10,6 @@ use Rattle.sp_cells.specs.ColumnNames.{life_cycle_state_column, read_lock_enable
 use Rattle.sp_cells.specs.Limits.{manufactured}
 use Rattle.sp_cells.specs.Ranges.{number, of_range}
 use Rattle.sp_cells.specs.Flat.{LookUp}
-
-abbrev pub bit : Bool → ℕ
-bit true = 1
-bit false = 0
 
 -- A lock of the range is set, and enabled.
 abbrev pub is_set : LookUp → ℕ → Column → Bool

@@ -13,7 +13,7 @@ use Rattle.methods.specs.Effects.{ended_by}
 use Rattle.history.specs.Opening.{Origin}
 use Rattle.history.specs.Sessions.{Begun, holder_of}
 use Rattle.history.specs.Events.{Attempt, SessionDeed, Unchanged, Started, Tried, Changed, Began, Committed, Aborted, Ended, Activated, Reverted, Deed, Nothing, InSession, OfQueue, Wrote, Took, WasReset, Event, or_else}
-use Rattle.history.specs.Readers.{session_on, authorities, next_number}
+use Rattle.history.specs.Readers.{session_on, authorities, first_number, next_number}
 use Rattle.history.specs.Facts.{facts, session_named}
 
 -- A session is kept with the authorities that the past gave it.
@@ -105,7 +105,7 @@ LivesBy (WasReset kind) l m = Leaves (λ h. None) l m
 
 abbrev pub SessionsOpeningLaw : Type 0
 SessionsOpeningLaw =
-    (live : Live) → live.next ≡ 0x1000 → ((n : ℕ) → session_at live n ≡ None)
+    (live : Live) → live.next ≡ first_number → ((n : ℕ) → session_at live n ≡ None)
     → KeepsSessions live []
 
 -- What a deed makes of the sessions keeps what one more event says.

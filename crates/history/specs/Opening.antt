@@ -1,7 +1,7 @@
 -- What a drive starts from: the tables of its SPs. Its media are zeros, and nothing is held.
 use Rattle.std.specs.Prelude.{◌≡◌, ℕ, Bool, true, false, List, [], ◌∷◌, ◌++◌, Option, Some, None, Result, Ok, Err}
 use Rattle.sp_cells.specs.Config.{Config, IsWithinLimits}
-use Rattle.sp_tables.specs.Contents.{Contents, factory_contents, with_row, look_up}
+use Rattle.sp_tables.specs.Contents.{Contents, factory_contents, with_row}
 use Rattle.sp_tables.specs.Faults.{fault_of}
 use Rattle.sp_cells.specs.Limits.{manufactured}
 use Rattle.sp_cells.specs.Names.{locking_sp, range_uid, admin_pin_uid}
@@ -11,17 +11,11 @@ use Rattle.sp_cells.specs.declared.names.Column.{Column}
 use Rattle.sp_cells.specs.declared.cells.Cell.{Cell}
 use Rattle.sp_cells.specs.declared.cells.Cell.TheVariants.{Number, Bytes}
 use Rattle.sp_cells.specs.declared.error.SetError.{SetError}
-use Rattle.locking.specs.Range.{RangeRows}
-use Rattle.locking.specs.Ranges.{ranges_in}
 use Rattle.locking.specs.declared.range.RangeRow.{RangeRow}
 
 -- What a drive starts from.
 pub record Origin : Type 0 where
   pub tables : Contents
-
--- The ranges that tables describe, with the shadow of their drive.
-abbrev pub ranges_of : Contents → RangeRows
-ranges_of tables = ranges_in tables.config.mbr_sectors (look_up tables)
 
 -- The tables as they leave the factory.
 abbrev pub factory_origin : Config → Origin

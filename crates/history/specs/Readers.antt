@@ -13,6 +13,7 @@ use Rattle.sp_cells.specs.Names.{locking_sp, admin_pin_uid}
 use Rattle.sp_cells.specs.Flat.{LookUp, sp_eq}
 use Rattle.sp_cells.specs.ColumnNames.{life_cycle_state_column, pin_column}
 use Rattle.sp_tables.specs.Contents.{look_up, factory_contents}
+use Rattle.sp_tables.specs.AtReset.{is_power_cycle}
 use Rattle.audit.specs.declared.reason.AttemptFailure.{AttemptFailure}
 use Rattle.audit.specs.declared.reason.AttemptFailure.TheVariants.{WrongPin, LockedOut, Disabled, Unknown}
 use Rattle.shadow_mbr.specs.Stored.{sector_size, zeros}
@@ -213,7 +214,7 @@ tries_by sp row _ before = before
 
 abbrev pub tries_then : Sp → Uid → Deed → ℕ → ℕ
 tries_then sp row (InSession deed response) before = tries_by sp row deed before
-tries_then sp row (WasReset kind) before = if kind == 0 then 0 else before
+tries_then sp row (WasReset kind) before = if is_power_cycle kind then 0 else before
 tries_then sp row _ before = before
 
 -- The Tries of a C_PIN row.

@@ -9,16 +9,14 @@ use Rattle.sp_cells.specs.declared.error.SetError.TheVariants as faults
 use Rattle.sp_cells.specs.Names.{admin_sp, set}
 use Rattle.sp_cells.specs.Flat.{LookUp}
 use Rattle.sp_rows.specs.Items.{Item, with_items}
-use Rattle.sp_tables.specs.Looks.{fault_seen}
-use Rattle.sp_tables.specs.Tries.{names_tries}
 use Rattle.tcg_tokens.specs.Tree.{bytes as octets_tree, list, trees_of}
 use Rattle.audit.specs.declared.reason.AttemptFailure.{AttemptFailure}
 use Rattle.transactions.specs.declared.change.SessionId.{SessionId}
 use Rattle.transactions.specs.declared.change.Change.{Change}
 use Rattle.transactions.specs.Bytes.{written}
 use Rattle.transactions.specs.Stored.{Stored, Part, Transaction, part, at_part, part_set, is_open, reverted}
-use Rattle.transactions.specs.Changes.{fault_of_change}
-use Rattle.transactions.specs.Sights.{Sight, look_up, sight_of, latest_look, is_manufactured, activated}
+use Rattle.transactions.specs.Changes.{fault_of_cells, fault_of_change}
+use Rattle.transactions.specs.Sights.{Sight, look_up, sight_of, is_manufactured, activated}
 use Rattle.call_shapes.specs.declared.ask.Ask.{Ask}
 use Rattle.call_shapes.specs.declared.ask.Ask.TheVariants.{GetCells, GetBytes, SetCells, SetBytes, Authenticate, Activate, Revert, Other}
 use Rattle.sessions.specs.Attempts.{failure}
@@ -110,7 +108,7 @@ bytes_said v first last = rows_said v.bytes (512 * v.config.mbr_sectors) first (
 
 -- why a setting is refused
 abbrev pub fault_of_setting : Stored → Sp → Setting → Option SetError
-fault_of_setting s sp (cells_set object cells) = if names_tries object cells then Some faults.NoCell else fault_seen s.config.sectors (latest_look s) sp object cells
+fault_of_setting s sp (cells_set object cells) = fault_of_cells s sp object cells
 fault_of_setting s sp (bytes_set at bytes) = None
 
 -- why a Set does not make a change: the object's kind has no Set, or the change has a fault
