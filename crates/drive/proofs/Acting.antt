@@ -35,6 +35,7 @@ use Rattle.history.specs.History.{Act, log}
 use Rattle.tper.specs.Tper.{Keeps as KeepsTper, IsSent, response_at}
 use Rattle.tper.specs.declared.trusted.Sent.{Sent}
 use Rattle.drive.specs.declared.answer.Accepted.{Accepted}
+use Rattle.drive.specs.declared.decision.Denied.{Denied as Denial}
 use Rattle.drive.specs.declared.decision.Decision.{Decision}
 use Rattle.drive.specs.declared.decision.Decision.TheVariants.{Aborts, FailsQueue, Holds, Moves, Executes, Restarts}
 use Rattle.drive.specs.declared.queue.Queue.{Queue}
@@ -42,7 +43,7 @@ use Rattle.drive.specs.declared.transfer.Held.{Held}
 use Rattle.drive.specs.declared.transfer.Transfer.{Transfer}
 use Rattle.drive.specs.Transfer.{transfer_by, queued_command, unqueued_command, verdict_held, bytes_of, sector_then}
 use Rattle.drive.specs.Queue.{with_slot, failed_queue, mended_queue}
-use Rattle.drive.specs.Decision.{ranges_of, moves, executed, event_of, CanExecute, IsMoved}
+use Rattle.drive.specs.Decision.{ranges_of, moves, executed, reason, event_of, CanExecute, IsMoved}
 use Rattle.std.proofs.lemmas.List.{reverse-append}
 use Rattle.drive.specs.State.{State, seen, Keeps, Agrees, AgreesInOrder}
 use Rattle.drive.specs.Answers.{IsAnswer, IsDone}
@@ -175,20 +176,20 @@ served-answer f h ev a command s reads t = record {
 
 -- what each decision comes to
 
-pub aborts-done : (f : Facts) (h : RegH2d) (d : State) (o : Origin) (past : List Event) (payload : List ℕ) (error : ℕ) (denied : Option Why) (made : Decision) (a : Accepted)
-    → made ≡ Aborts error denied → IsTold a failed error false (answer_fis true failed error ∷ []) [] denied
+pub aborts-done : (f : Facts) (h : RegH2d) (d : State) (o : Origin) (past : List Event) (payload : List ℕ) (error : ℕ) (denied : Option Denial) (made : Decision) (a : Accepted)
+    → made ≡ Aborts error denied → IsTold a failed error false (answer_fis true failed error ∷ []) [] (reason denied)
     → Keeps d o past → IsDone f h (event_of f payload made) d o past a
 aborts-done f h d o past payload error denied made a is t k =
     subst (λ (x : Decision). IsDone f h (event_of f payload x) d o past a) (sym is)
-    (nothing-keeps d o past (event_of f payload (Aborts error denied)) refl k, failed-answer f h error Nothing denied a refl t)
+    (nothing-keeps d o past (event_of f payload (Aborts error denied)) refl k, failed-answer f h error Nothing (reason denied) a refl t)
 
-pub fails-done : (f : Facts) (h : RegH2d) (d e : State) (o : Origin) (past : List Event) (payload : List ℕ) (fault : Failure) (denied : Option Why) (made : Decision) (a : Accepted)
+pub fails-done : (f : Facts) (h : RegH2d) (d e : State) (o : Origin) (past : List Event) (payload : List ℕ) (fault : Failure) (denied : Option Denial) (made : Decision) (a : Accepted)
     → made ≡ FailsQueue fault denied → e ≡ record d { queue = failed_queue fault }
-    → IsTold a failed fault.error false (answer_fis true failed fault.error ∷ []) [] denied
+    → IsTold a failed fault.error false (answer_fis true failed fault.error ∷ []) [] (reason denied)
     → Keeps d o past → IsDone f h (event_of f payload made) e o past a
 fails-done f h d e o past payload fault denied made a is to t k =
     subst (λ (x : Decision). IsDone f h (event_of f payload x) e o past a) (sym is)
-    (failed-keeps d e o past fault (event_of f payload (FailsQueue fault denied)) refl to k, failed-answer f h fault.error _ denied a refl t)
+    (failed-keeps d e o past fault (event_of f payload (FailsQueue fault denied)) refl to k, failed-answer f h fault.error _ (reason denied) a refl t)
 
 pub holds-done : (f : Facts) (h : RegH2d) (d e : State) (o : Origin) (past : List Event) (payload : List ℕ) (tag : ℕ) (its : Held) (made : Decision) (a : Accepted)
     → tag < 32 → made ≡ Holds tag its → e ≡ record d { queue = with_slot tag (Some its) d.queue }

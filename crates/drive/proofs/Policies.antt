@@ -17,7 +17,7 @@ use Rattle.history.specs.Facts.{Facts}
 use Rattle.history.specs.Decisions.{aborted, not_found, fails, fails_queue, holds, on_drive, verdict_on, queued_by, unqueued_by, queued_transfer, unqueued_transfer}
 use Rattle.drive.specs.declared.decision.Refusal.{Refusal}
 use Rattle.drive.specs.declared.transfer.Transfer.{Transfer}
-use Rattle.drive.specs.Decision.{ranges_of, by_verdict, policy, policy_on}
+use Rattle.drive.specs.Decision.{ranges_of, Refused, told, by_verdict, policy, policy_on}
 use Rattle.drive.specs.Transfer.{fits, Fits}
 use Rattle.drive.specs.State.{State, seen}
 
@@ -30,10 +30,10 @@ queued-by-ok h tag c Serve b e = let same : false ≡ b = cc in ap (λ x. holds 
 queued-by-ok h tag c Shadow b e = let same : true ≡ b = cc in ap (λ x. holds tag c (permitting x)) same
 queued-by-ok h tag c (Denied why) b e = absurd cc
 
-queued-by-err : (h : RegH2d) (tag : ℕ) (c : Command) (v : Verdict) (r : Refusal) → by_verdict v ≡ Err r → queued_by h tag c v ≡ fails_queue (Some tag) r.error h r.denied
+queued-by-err : (h : RegH2d) (tag : ℕ) (c : Command) (v : Verdict) (r : Refused) → by_verdict v ≡ Err r → queued_by h tag c v ≡ fails_queue (Some tag) r.error h r.denied
 queued-by-err h tag c Serve r e = absurd cc
 queued-by-err h tag c Shadow r e = absurd cc
-queued-by-err h tag c (Denied why) r e = let same : (record { error = aborted; denied = Some why }) ≡ r = cc in ap (λ (x : Refusal). fails_queue (Some tag) x.error h x.denied) same
+queued-by-err h tag c (Denied why) r e = let same : (record { error = aborted; denied = Some why }) ≡ r = cc in ap (λ (x : Refused). fails_queue (Some tag) x.error h x.denied) same
 
 queued-ok : (b : Bool) (h : RegH2d) (tag : ℕ) (c : Command) (v : Verdict) (s : Bool)
     → (if b then by_verdict v else Err (record { error = not_found; denied = None })) ≡ Ok s
@@ -41,17 +41,17 @@ queued-ok : (b : Bool) (h : RegH2d) (tag : ℕ) (c : Command) (v : Verdict) (s :
 queued-ok true h tag c v s e = queued-by-ok h tag c v s e
 queued-ok false h tag c v s e = absurd cc
 
-queued-err : (b : Bool) (h : RegH2d) (tag : ℕ) (c : Command) (v : Verdict) (r : Refusal)
+queued-err : (b : Bool) (h : RegH2d) (tag : ℕ) (c : Command) (v : Verdict) (r : Refused)
     → (if b then by_verdict v else Err (record { error = not_found; denied = None })) ≡ Err r
     → (if b then queued_by h tag c v else fails_queue (Some tag) not_found h None) ≡ fails_queue (Some tag) r.error h r.denied
 queued-err true h tag c v r e = queued-by-err h tag c v r e
-queued-err false h tag c v r e = let same : (record { error = not_found; denied = None }) ≡ r = cc in ap (λ (x : Refusal). fails_queue (Some tag) x.error h x.denied) same
+queued-err false h tag c v r e = let same : (record { error = not_found; denied = None }) ≡ r = cc in ap (λ (x : Refused). fails_queue (Some tag) x.error h x.denied) same
 
 pub queued_held : (d : State) (f : Facts) (h : RegH2d) (tag : ℕ) (c : Command) (t : Transfer) (s : Bool) → policy_on d t ≡ Ok s
     → queued_transfer (seen d f) h tag c t.op t.lba t.count ≡ holds tag c (permitting s)
 queued_held d f h tag c t s e = queued-ok (on_drive (seen d f) t.lba t.count) h tag c (verdict_on (seen d f) t.op t.lba t.count) s e
 
-pub queued_refused : (d : State) (f : Facts) (h : RegH2d) (tag : ℕ) (c : Command) (t : Transfer) (r : Refusal) → policy_on d t ≡ Err r
+pub queued_refused : (d : State) (f : Facts) (h : RegH2d) (tag : ℕ) (c : Command) (t : Transfer) (r : Refused) → policy_on d t ≡ Err r
     → queued_transfer (seen d f) h tag c t.op t.lba t.count ≡ fails_queue (Some tag) r.error h r.denied
 queued_refused d f h tag c t r e = queued-err (on_drive (seen d f) t.lba t.count) h tag c (verdict_on (seen d f) t.op t.lba t.count) r e
 
@@ -60,10 +60,10 @@ unqueued-by-ok deed Serve b e = refl
 unqueued-by-ok deed Shadow b e = refl
 unqueued-by-ok deed (Denied why) b e = absurd cc
 
-unqueued-by-err : (deed : Deed) (v : Verdict) (r : Refusal) → by_verdict v ≡ Err r → unqueued_by deed v ≡ fails r.error r.denied
+unqueued-by-err : (deed : Deed) (v : Verdict) (r : Refused) → by_verdict v ≡ Err r → unqueued_by deed v ≡ fails r.error r.denied
 unqueued-by-err deed Serve r e = absurd cc
 unqueued-by-err deed Shadow r e = absurd cc
-unqueued-by-err deed (Denied why) r e = let same : (record { error = aborted; denied = Some why }) ≡ r = cc in ap (λ (x : Refusal). fails x.error x.denied) same
+unqueued-by-err deed (Denied why) r e = let same : (record { error = aborted; denied = Some why }) ≡ r = cc in ap (λ (x : Refused). fails x.error x.denied) same
 
 unqueued-ok : (b : Bool) (deed : Deed) (v : Verdict) (s : Bool)
     → (if b then by_verdict v else Err (record { error = not_found; denied = None })) ≡ Ok s
@@ -71,17 +71,17 @@ unqueued-ok : (b : Bool) (deed : Deed) (v : Verdict) (s : Bool)
 unqueued-ok true deed v s e = unqueued-by-ok deed v s e
 unqueued-ok false deed v s e = absurd cc
 
-unqueued-err : (b : Bool) (deed : Deed) (v : Verdict) (r : Refusal)
+unqueued-err : (b : Bool) (deed : Deed) (v : Verdict) (r : Refused)
     → (if b then by_verdict v else Err (record { error = not_found; denied = None })) ≡ Err r
     → (if b then unqueued_by deed v else fails not_found None) ≡ fails r.error r.denied
 unqueued-err true deed v r e = unqueued-by-err deed v r e
-unqueued-err false deed v r e = let same : (record { error = not_found; denied = None }) ≡ r = cc in ap (λ (x : Refusal). fails x.error x.denied) same
+unqueued-err false deed v r e = let same : (record { error = not_found; denied = None }) ≡ r = cc in ap (λ (x : Refused). fails x.error x.denied) same
 
 pub unqueued_moved : (d : State) (f : Facts) (deed : Deed) (t : Transfer) (s : Bool) → policy_on d t ≡ Ok s
     → unqueued_transfer (seen d f) deed t.op t.lba t.count ≡ did deed
 unqueued_moved d f deed t s e = unqueued-ok (on_drive (seen d f) t.lba t.count) deed (verdict_on (seen d f) t.op t.lba t.count) s e
 
-pub unqueued_refused : (d : State) (f : Facts) (deed : Deed) (t : Transfer) (r : Refusal) → policy_on d t ≡ Err r
+pub unqueued_refused : (d : State) (f : Facts) (deed : Deed) (t : Transfer) (r : Refused) → policy_on d t ≡ Err r
     → unqueued_transfer (seen d f) deed t.op t.lba t.count ≡ fails r.error r.denied
 unqueued_refused d f deed t r e = unqueued-err (on_drive (seen d f) t.lba t.count) deed (verdict_on (seen d f) t.op t.lba t.count) r e
 
@@ -122,7 +122,7 @@ fits-shadow sectors mbr look t Shadow s e r is =
     le-leb (t.lba + t.count) mbr (shadow-within (ranges_in mbr look) t.op t.lba t.count mbr (shadowed-few (is_shadow_up look) mbr) e)
 fits-shadow sectors mbr look t (Denied why) s e r is = absurd cc
 
-policy-by : (b : Bool) (sectors mbr : ℕ) (look : LookUp) (t : Transfer) (r : Result Bool Refusal) → fits sectors t ≡ b
+policy-by : (b : Bool) (sectors mbr : ℕ) (look : LookUp) (t : Transfer) (r : Result Bool Refused) → fits sectors t ≡ b
     → r ≡ (if b then by_verdict (verdict_of (ranges_in mbr look) t.op t.lba t.count) else Err (record { error = not_found; denied = None }))
     → IfOk r (λ s. Fits sectors mbr (record { transfer = t; is_shadowed = s }))
 policy-by true sectors mbr look t (Ok s) e h =
@@ -131,6 +131,11 @@ policy-by true sectors mbr look t (Err x) e h = tt
 policy-by false sectors mbr look t (Ok s) e h = absurd cc
 policy-by false sectors mbr look t (Err x) e h = tt
 
-pub policy-fits : (sectors mbr : ℕ) (look : LookUp) (t : Transfer) (r : Result Bool Refusal) → r ≡ policy sectors (ranges_in mbr look) t
+policy-fits : (sectors mbr : ℕ) (look : LookUp) (t : Transfer) (r : Result Bool Refused) → r ≡ policy sectors (ranges_in mbr look) t
     → IfOk r (λ s. Fits sectors mbr (record { transfer = t; is_shadowed = s }))
 policy-fits sectors mbr look t r h = policy-by (fits sectors t) sectors mbr look t r refl h
+
+pub told-fits : (sectors mbr : ℕ) (look : LookUp) (t : Transfer) (r : Result Bool Refusal) → told r ≡ policy sectors (ranges_in mbr look) t
+    → IfOk r (λ s. Fits sectors mbr (record { transfer = t; is_shadowed = s }))
+told-fits sectors mbr look t (Ok s) h = policy-fits sectors mbr look t (Ok s) h
+told-fits sectors mbr look t (Err x) h = tt

@@ -6,7 +6,7 @@ use Rattle.audit.specs.declared.reason.Why.{Why}
 use Rattle.compacket.specs.Frames.{reading as frame_in}
 use Rattle.locking.specs.Range.{RangeRows}
 use Rattle.locking.specs.Ranges.{ranges_in}
-use Rattle.locking.specs.Verdict.{verdict_of}
+use Rattle.locking.specs.Verdict.{verdict_of, denial_why}
 use Rattle.locking.specs.declared.ranges.Verdict.{Verdict}
 use Rattle.locking.specs.declared.ranges.Verdict.TheVariants.{Serve, Shadow, Denied}
 use Rattle.transactions.specs.Sights.{look_up, committed_sight}
@@ -22,6 +22,7 @@ use Rattle.drive.specs.Transfer.{by_op, queued_command, unqueued_command, verdic
 use Rattle.drive.specs.State.{State}
 use Rattle.drive.specs.declared.decision.Decision.{Decision}
 use Rattle.drive.specs.declared.decision.Decision.TheVariants.{Aborts, FailsQueue, Holds, Moves, Restarts, Executes}
+use Rattle.drive.specs.declared.decision.Denied.{Denied as Denial}
 use Rattle.drive.specs.declared.decision.Refusal.{Refusal}
 use Rattle.drive.specs.declared.transfer.Transfer.{Transfer}
 use Rattle.drive.specs.declared.transfer.Held.{Held}
@@ -30,19 +31,34 @@ use Rattle.drive.specs.declared.transfer.Held.{Held}
 abbrev pub ranges_of : Tper → RangeRows
 ranges_of t = ranges_in t.store.config.mbr_sectors (look_up (committed_sight t.store))
 
+-- The reason of a denial, of the transfer and what denies it.
+abbrev pub reason : Option Denial → Option Why
+reason None = None
+reason (Some denied) =
+    Some (denial_why denied.transfer.op denied.transfer.lba denied.transfer.count denied.by)
+
+-- Why a transfer is refused: the error, and the reason of a denial.
+pub record Refused : Type 0 where
+  pub error : ℕ
+  pub denied : Option Why
+
+abbrev pub told : Result Bool Refusal → Result Bool Refused
+told (Ok is_shadowed) = Ok is_shadowed
+told (Err refusal) = Err (record { error = refusal.error; denied = reason refusal.denied })
+
 -- Whether a transfer reads the shadow, or why it is refused: the addresses come before the policy.
-abbrev pub by_verdict : Verdict → Result Bool Refusal
+abbrev pub by_verdict : Verdict → Result Bool Refused
 by_verdict Serve = Ok false
 by_verdict Shadow = Ok true
 by_verdict (Denied why) = Err (record { error = aborted; denied = Some why })
 
-abbrev pub policy : ℕ → RangeRows → Transfer → Result Bool Refusal
+abbrev pub policy : ℕ → RangeRows → Transfer → Result Bool Refused
 policy sectors ranges transfer =
     if fits sectors transfer
     then by_verdict (verdict_of ranges transfer.op transfer.lba transfer.count)
     else Err (record { error = not_found; denied = None })
 
-abbrev pub policy_on : State → Transfer → Result Bool Refusal
+abbrev pub policy_on : State → Transfer → Result Bool Refused
 policy_on d transfer = policy d.tper.store.config.sectors (ranges_of d.tper) transfer
 
 -- A permitted transfer, as it is to be moved.
@@ -66,9 +82,12 @@ executed f payload _ = did Nothing
 
 -- The event of a decision.
 abbrev pub event_of : Facts → List ℕ → Decision → Event
-event_of f payload (Aborts error denied) = fails error denied
-event_of f payload (FailsQueue failure denied) =
-    record { failed = Some failure.error; deed = OfQueue (QueueFailed failure); denied = denied }
+event_of f payload (Aborts error denied) = fails error (reason denied)
+event_of f payload (FailsQueue failure denied) = record {
+  failed = Some failure.error;
+  deed = OfQueue (QueueFailed failure);
+  denied = reason denied;
+}
 event_of f payload (Holds tag held) = holds tag (queued_command held.transfer) (verdict_held held)
 event_of f payload (Moves held) = did (moves held.transfer payload)
 event_of f payload (Restarts command) = did (WasReset programmatic)

@@ -61,6 +61,7 @@ impl Drive {
     ghost use Rattle.drive.specs.Transfer.{queued_command, unqueued_command};
 
     /// What the drive does with the command of a FIS.
+    #[inline(always)]
     pub(crate) fn decide(&self, h: &RegH2d) -> Decision
         ensures event { (f : Facts) (payload : List ℕ) → event_of (seen self.now f) payload result
             ≡ commanded (seen self.now f) h.now payload }

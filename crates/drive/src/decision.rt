@@ -1,28 +1,34 @@
 //! What the drive decides on a command, before it does it.
 
-ghost use Rattle.std.specs.Prelude.{◌≡◌, ◌≤◌, ◌^◌, Err, Ok, IfOk, true};
-ghost use Rattle.drive.specs.Decision.{policy};
-ghost use Rattle.drive.specs.Transfer.{fits};
+ghost use Rattle.std.specs.Prelude.{◌≡◌, ◌≤◌, ◌^◌};
+ghost use Rattle.drive.specs.Decision.{policy, told, reason};
 
 use crate::transfer::{Held, Transfer};
 use audit::Why;
 use device_data::Failure;
 use fis::Tag;
-use locking::{Ranges, Verdict};
+use locking::{Denier, Judgement, Ranges};
 use trusted_cmds::Command;
 
+/// A transfer that is denied, and what denies it.
+#[derive(Clone, Copy, Debug, PartialEq, Eq)]
+pub struct Denied {
+    pub transfer: Transfer,
+    pub by: Denier,
+}
+
 /// What the drive does with a command.
-#[derive(Debug, Drop)]
+#[derive(Clone, Copy, Debug, PartialEq, Eq)]
 pub enum Decision {
     /// The command fails, and nothing changes.
     Aborts {
         error: u8,
-        denied: Option<Why>,
+        denied: Option<Denied>,
     },
     /// The command fails, and the queue with it.
     FailsQueue {
         failure: Failure,
-        denied: Option<Why>,
+        denied: Option<Denied>,
     },
     /// A queued transfer is held until it is completed.
     Holds {
@@ -38,11 +44,23 @@ pub enum Decision {
 }
 
 /// Why a transfer is refused.
-#[derive(Debug, Drop)]
+#[derive(Clone, Copy, Debug, PartialEq, Eq)]
 pub struct Refusal {
     pub error: u8,
     /// What denied it, where a range or the shadow did.
-    pub denied: Option<Why>,
+    pub denied: Option<Denied>,
+}
+
+/// The reason of a denial.
+pub(crate) fn reason(denied: &Option<Denied>) -> Option<Why>
+    ensures { result ≡ reason denied.now }
+{
+    match denied {
+        None => None,
+        Some(Denied { transfer, by }) => {
+            Some(by.why(transfer.op, transfer.lba, transfer.count.number()))
+        }
+    }
 }
 
 /// The error of a command that is aborted or denied (ACS-3, ABRT).
@@ -55,7 +73,7 @@ const NOT_FOUND: u8 = 0x10;
 /// and the shadow say.
 pub(crate) fn policy(sectors: u64, ranges: &Ranges, transfer: &Transfer) -> Result<bool, Refusal>
     requires { sectors ≤ 2 ^ 48 }
-    ensures { result ≡ policy sectors ranges.now transfer.now }
+    ensures { told result ≡ policy sectors ranges.now transfer.now }
 {
     if !transfer.fits(sectors) {
         return Err(Refusal {
@@ -63,12 +81,15 @@ pub(crate) fn policy(sectors: u64, ranges: &Ranges, transfer: &Transfer) -> Resu
             denied: None,
         });
     }
-    match ranges.verdict(transfer.op, transfer.lba, transfer.count.number()) {
-        Verdict::Serve => Ok(false),
-        Verdict::Shadow => Ok(true),
-        Verdict::Denied(why) => Err(Refusal {
+    match ranges.judge(transfer.op, transfer.lba, transfer.count.number()) {
+        Judgement::Serves => Ok(false),
+        Judgement::GivesShadow => Ok(true),
+        Judgement::Denies(by) => Err(Refusal {
             error: ABORTED,
-            denied: Some(why),
+            denied: Some(Denied {
+                transfer: *transfer,
+                by,
+            }),
         }),
     }
 }

@@ -102,7 +102,7 @@ impl Drive {
     ghost use Rattle.tper.specs.Tper.{response_at};
     ghost use Rattle.drive.specs.Queue.{slot_at, held_at, with_slot, failed_queue, mended_queue, SlotFits};
     ghost use Rattle.drive.specs.Transfer.{payload_size_of, bytes_of, sector_then, Fits};
-    ghost use Rattle.drive.specs.Decision.{policy_on, FitsPolicy, IsDue, event_of};
+    ghost use Rattle.drive.specs.Decision.{told, policy_on, FitsPolicy, IsDue, event_of};
     ghost use Rattle.drive.specs.State.{seen, Keeps, Agrees, AgreesInOrder};
     ghost use Rattle.drive.specs.Answers.{IsAnswer, IsCompletion, IsDone, IsFinished, kind_of};
 
@@ -181,7 +181,7 @@ impl Drive {
 
     /// Whether a transfer reads the shadow, or why it is refused.
     pub(crate) fn policy(&self, transfer: &Transfer) -> Result<bool, Refusal>
-        ensures value { result ≡ policy_on self.now transfer.now }
+        ensures value { told result ≡ policy_on self.now transfer.now }
         ensures fits { IfOk result (FitsPolicy self.now transfer.now) }
     {
         policy(self.sectors, &self.ranges, transfer)
@@ -343,6 +343,8 @@ impl Drive {
     /// # Errors
     ///
     /// Want of memory, and then the drive is as before.
+    // An answer is large: where the caller has the code at hand, it is not moved.
+    #[inline(always)]
     pub fn accept(&mut self, fis: &[u8; H2D_LENGTH], payload: &[u8]) -> Result<Accepted, DriveError>
         requires { length payload.now ≡ payload_length (h2d_at fis.now) }
         ensures agrees { OnOk result ((o : Origin) (acts : List Act) → Agrees self.old o acts
@@ -362,6 +364,7 @@ impl Drive {
     }
 
     /// Decides on a FIS, and does it.
+    #[inline(always)]
     fn take(&mut self, fis: &[u8; H2D_LENGTH], payload: &[u8]) -> Result<Accepted, AllocError>
         requires { length payload.now ≡ payload_length (h2d_at fis.now) }
         ensures done { IfOk result (λ a. (o : Origin) (acts : List Act) → Agrees self.old o acts

@@ -4,7 +4,7 @@ ghost use Rattle.std.specs.Prelude.{◌≡◌, ◌∷◌, List, length, IfOk, On
 
 use crate::answer::{Accepted, moved_fises, served_fises};
 use crate::deciding::DISCOVERY_COM_ID;
-use crate::decision::Decision;
+use crate::decision::{Decision, reason};
 use crate::drive::Drive;
 use crate::reset::PROGRAMMATIC;
 use audit::Why;
@@ -29,6 +29,7 @@ impl Drive {
     ghost use Rattle.drive.specs.Answers.{IsDone};
 
     /// Does what was decided on the command of a FIS.
+    #[inline(always)]
     pub(crate) fn act(
         &mut self,
         h: &RegH2d,
@@ -44,11 +45,13 @@ impl Drive {
     {
         let alloc = self.allocator();
         match decision {
-            Decision::Aborts { error, denied } => Ok(Accepted::failed(alloc, error, denied)),
+            Decision::Aborts { error, denied } => {
+                Ok(Accepted::failed(alloc, error, reason(&denied)))
+            }
             Decision::FailsQueue { failure, denied } => {
                 let error = failure.error;
                 self.fail_queue(failure);
-                Ok(Accepted::failed(alloc, error, denied))
+                Ok(Accepted::failed(alloc, error, reason(&denied)))
             }
             Decision::Holds { tag, held } => {
                 self.hold(tag, held);

@@ -6,6 +6,10 @@ use Rattle.audit.specs.declared.reason.Why.{Why}
 use Rattle.audit.specs.declared.reason.Why.TheVariants.{ReadLocked, WriteLocked, ReadShadow, WriteShadow}
 use Rattle.locking.specs.declared.ranges.Verdict.{Verdict}
 use Rattle.locking.specs.declared.ranges.Verdict.TheVariants.{Serve, Shadow, Denied}
+use Rattle.locking.specs.declared.ranges.Denier.{Denier}
+use Rattle.locking.specs.declared.ranges.Denier.TheVariants.{Shadow as ByShadow, Range as ByRange}
+use Rattle.locking.specs.declared.ranges.Judgement.{Judgement}
+use Rattle.locking.specs.declared.ranges.Judgement.TheVariants.{Serves, GivesShadow, Denies}
 use Rattle.locking.specs.Range.{RangeRows, row_at, permits, is_shadowed}
 
 -- The sector's range permits it.
@@ -21,6 +25,16 @@ why_of Write lba count range = WriteLocked lba count range
 abbrev pub shadow_why : Op → ℕ → ℕ → Why
 shadow_why Read lba count = ReadShadow lba count
 shadow_why Write lba count = WriteShadow lba count
+
+-- The same by what denies it, and the verdict that a judgement on a transfer stands for.
+abbrev pub denial_why : Op → ℕ → ℕ → Denier → Why
+denial_why op lba count ByShadow = shadow_why op lba count
+denial_why op lba count (ByRange range) = why_of op lba count range
+
+abbrev pub verdict_by : Op → ℕ → ℕ → Judgement → Verdict
+verdict_by op lba count Serves = Serve
+verdict_by op lba count GivesShadow = Shadow
+verdict_by op lba count (Denies denier) = Denied (denial_why op lba count denier)
 
 -- Each sector from the first to before the end is one.
 abbrev pub EachSector : ℕ → ℕ → (ℕ → Type 0) → Type 0

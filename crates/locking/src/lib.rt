@@ -6,4 +6,4 @@ mod range;
 mod ranges;
 
 pub use range::{Op, RangeRow};
-pub use ranges::{Ranges, Verdict};
+pub use ranges::{Denier, Judgement, Ranges, Verdict};

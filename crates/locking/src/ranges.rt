@@ -1,10 +1,10 @@
 //! The ranges that rows describe, the range of a sector, and the verdict on a transfer.
 
-ghost use Rattle.std.specs.Prelude.{◌≡◌, ◌≤◌};
+ghost use Rattle.std.specs.Prelude.{◌≡◌, ◌≤◌, ℕ};
 ghost use Rattle.sp_cells.specs.Ranges.{of_range};
 ghost use Rattle.sp_cells.specs.declared.names.TheConstants.{RANGES};
 ghost use Rattle.locking.specs.Ranges.{row_of, rows_from, shadowed_sectors};
-ghost use Rattle.locking.specs.Verdict.{why_of, verdict_inside};
+ghost use Rattle.locking.specs.Verdict.{why_of, shadow_why, denial_why, verdict_by, verdict_inside};
 
 use crate::numbered::NumberedRanges;
 use crate::range::{Op, RangeRow};
@@ -33,6 +33,48 @@ pub enum Verdict {
     Denied(Why),
 }
 
+/// What denies a transfer.
+#[derive(Clone, Copy, Debug, PartialEq, Eq)]
+pub enum Denier {
+    /// The shadow MBR.
+    Shadow,
+    /// The range of this number, by the lock of the transfer's direction.
+    Range(u8),
+}
+
+/// The verdict on a transfer that is at hand.
+#[derive(Clone, Copy, Debug, PartialEq, Eq)]
+pub enum Judgement {
+    Serves,
+    GivesShadow,
+    Denies(Denier),
+}
+
+impl Denier {
+    /// The reason of its denial of a transfer.
+    pub fn why(self, op: Op, lba: u64, count: u32) -> Why
+        ensures { result ≡ denial_why op lba count self }
+    {
+        match self {
+            Denier::Shadow => shadow_why(op, lba, count),
+            Denier::Range(range) => why_of(op, lba, count, range),
+        }
+    }
+}
+
+impl Judgement {
+    /// The verdict on the transfer.
+    fn verdict(self, op: Op, lba: u64, count: u32) -> Verdict
+        ensures { result ≡ verdict_by op lba count self }
+    {
+        match self {
+            Judgement::Serves => Verdict::Serve,
+            Judgement::GivesShadow => Verdict::Shadow,
+            Judgement::Denies(denier) => Verdict::Denied(denier.why(op, lba, count)),
+        }
+    }
+}
+
 impl Model for Ranges {
     ghost use Rattle.locking.specs.Range.{RangeRows};
 
@@ -46,7 +88,7 @@ impl Ranges {
     ghost use Rattle.locking.specs.Ranges.{ranges_in};
     ghost use Rattle.locking.specs.Range.{row_at, IsRangeOf};
     ghost use Rattle.locking.specs.declared.range.RangeRow.{RangeRow};
-    ghost use Rattle.locking.specs.Verdict.{IsVerdict, verdict_of, AreOpen};
+    ghost use Rattle.locking.specs.Verdict.{IsVerdict, verdict_by, verdict_of, AreOpen};
 
     /// The ranges that the rows describe. It takes room for all of them.
     pub fn of<R: Rows>(alloc: Global, rows: &R) -> Result<Ranges, AllocError>
@@ -98,41 +140,51 @@ impl Ranges {
         ensures by_sectors { IsVerdict self.now op lba count result }
         ensures exact { result ≡ verdict_of self.now op lba count }
     {
-        self.judge(op, lba, count)
+        self.judged(op, lba, count).verdict(op, lba, count)
     }
 
-    /// The verdict: by the shadow where it covers the first sector, else by the ranges.
-    fn judge(&self, op: Op, lba: u64, count: u32) -> Verdict
+    /// What the verdict comes to, without the reason of a denial.
+    #[tactic(auto, using(crate::proofs::Verdicts::is_verdict_of))]
+    pub fn judge(&self, op: Op, lba: u64, count: u32) -> Judgement
         requires some { 0 < count }
         requires room { lba + count ≤ 2 ^ 48 }
-        ensures { IsVerdict self.now op lba count result }
+        ensures { verdict_by op lba count result ≡ verdict_of self.now op lba count }
+    {
+        self.judged(op, lba, count)
+    }
+
+    /// By the shadow where it covers the first sector, else by the ranges.
+    fn judged(&self, op: Op, lba: u64, count: u32) -> Judgement
+        requires some { 0 < count }
+        requires room { lba + count ≤ 2 ^ 48 }
+        ensures { IsVerdict self.now op lba count (verdict_by op lba count result) }
     {
         if lba < self.shadowed {
             let wholly = lba + u64::from(count) <= self.shadowed;
-            verdict_inside(op, lba, count, wholly)
+            judged_inside(op, wholly)
         } else {
-            self.verdict_by_pieces(op, lba, count)
+            self.judged_by_pieces(op, lba, count)
         }
     }
 
-    /// The verdict on a transfer that touches no shadowed sector: it goes over the pieces that belong
-    /// to one range each.
-    fn verdict_by_pieces(&self, op: Op, lba: u64, count: u32) -> Verdict
+    /// A transfer that touches no shadowed sector: this goes over the pieces that belong to one range
+    /// each.
+    fn judged_by_pieces(&self, op: Op, lba: u64, count: u32) -> Judgement
         requires some { 0 < count }
         requires room { lba + count ≤ 2 ^ 48 }
         requires opened { AreOpen self.now lba (lba + count) }
-        ensures { IsVerdict self.now op lba count result }
+        ensures { IsVerdict self.now op lba count (verdict_by op lba count result) }
     {
         let end = lba + u64::from(count);
         let mut sector = lba;
         while sector < end {
             let piece = self.numbered.piece_at(self.global, sector);
             if !piece.row.permits(op) {
-                return Verdict::Denied(why_of(op, lba, count, piece.row.range));
+                return Judgement::Denies(Denier::Range(piece.row.range));
             }
             sector = piece.end;
         }
-        Verdict::Serve
+        Judgement::Serves
     }
 }
 
@@ -146,14 +198,23 @@ fn why_of(op: Op, lba: u64, count: u32, range: u8) -> Why
     }
 }
 
-/// What a transfer that touches the shadow is answered, by whether it is wholly inside.
-fn verdict_inside(op: Op, lba: u64, count: u32, wholly: bool) -> Verdict
-    ensures { result ≡ verdict_inside op lba count wholly }
+/// The reason of a denial by the shadow.
+fn shadow_why(op: Op, lba: u64, count: u32) -> Why
+    ensures { result ≡ shadow_why op lba count }
 {
     match op {
-        Op::Read if wholly => Verdict::Shadow,
-        Op::Read => Verdict::Denied(Why::ReadShadow { lba, count }),
-        Op::Write => Verdict::Denied(Why::WriteShadow { lba, count }),
+        Op::Read => Why::ReadShadow { lba, count },
+        Op::Write => Why::WriteShadow { lba, count },
+    }
+}
+
+/// A transfer that touches the shadow, by whether it is wholly inside.
+fn judged_inside(op: Op, wholly: bool) -> Judgement
+    ensures { (lba count : ℕ) → verdict_by op lba count result ≡ verdict_inside op lba count wholly }
+{
+    match op {
+        Op::Read if wholly => Judgement::GivesShadow,
+        _ => Judgement::Denies(Denier::Shadow),
     }
 }
 

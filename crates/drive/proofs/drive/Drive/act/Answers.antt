@@ -10,13 +10,13 @@ pub returns-in-Aborts-clause-done : goal.returns-in-Aborts-clause-done
 returns-in-Aborts-clause-done c = λ o acts k.
     let e = c.failed.ensures in
     aborts-done (facts o (log o acts)) c.args.h.now c.args.self.now o (log o acts) c.args.payload.now c.in-Aborts.error c.in-Aborts.denied c.args.decision c.failed.result c.in-Aborts.is
-    (record { status_is = e.status; error_is = e.error; held_is = e.held; fises_are = e.fises; bytes_are = e.bytes; denied_is = e.denied }) k
+    (record { status_is = e.status; error_is = e.error; held_is = e.held; fises_are = e.fises; bytes_are = e.bytes; denied_is = e.denied ∙ c.reason.ensures }) k
 
 pub returns-in-FailsQueue-clause-done : goal.returns-in-FailsQueue-clause-done
 returns-in-FailsQueue-clause-done c = λ o acts k.
     let e = c.failed-in-FailsQueue.ensures in
     fails-done (facts o (log o acts)) c.args.h.now c.args.self.now c.fail_queue.new.self o (log o acts) c.args.payload.now c.in-FailsQueue.failure c.in-FailsQueue.denied c.args.decision c.failed-in-FailsQueue.result c.in-FailsQueue.is c.fail_queue.ensures
-    (record { status_is = e.status; error_is = e.error; held_is = e.held; fises_are = e.fises; bytes_are = e.bytes; denied_is = e.denied }) k
+    (record { status_is = e.status; error_is = e.error; held_is = e.held; fises_are = e.fises; bytes_are = e.bytes; denied_is = e.denied ∙ c.reason-in-FailsQueue.ensures }) k
 
 pub returns-in-Holds-clause-done : goal.returns-in-Holds-clause-done
 returns-in-Holds-clause-done c = λ o acts k.
