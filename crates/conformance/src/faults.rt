@@ -185,6 +185,39 @@ fn tells_which_word_is_wrong(rt: HostRuntime) -> Result<(), Fail> {
     Ok(())
 }
 
+/// The words of a port script.
+#[test]
+fn tells_which_word_of_a_step_is_wrong(rt: HostRuntime) -> Result<(), Fail> {
+    let ends: [(&[u8], &[u8]); 5] = [
+        (
+            b"port\nread 1 5 1 1",
+            b"line 2: the first word is none of range, put, issue, accept, complete, recover, reset, take and expect\n",
+        ),
+        (
+            b"port\nput 1 0 tper",
+            b"line 2: word 4, the request, is none of read, write, dread, dwrite, call, send and recv\n",
+        ),
+        (
+            b"port\nput 1 0 write 5 1 0g",
+            b"line 2: word 7, the byte HH, is not two hex digits\n",
+        ),
+        (
+            b"port\nput 1 0 call 4096 0 0 f",
+            b"line 2: word 8, the tokens HEX, is not hex text, two digits for each of 1 to 65480 bytes\n",
+        ),
+        (
+            b"port\nput 1 0 send 4096",
+            b"line 2: word 6, the ComPacket HEX, is missing: hex text, two digits for each of 1 to 33553920 bytes\n",
+        ),
+    ];
+    for (script, text) in ends {
+        let (status, _, faults) = run(&rt, script)?;
+        assert_eq!(rt; status, 2);
+        assert_eq!(rt; faults.as_slice(), text);
+    }
+    Ok(())
+}
+
 /// An expectation that fails: what was expected and what came, as far as it is shown.
 #[test]
 fn tells_what_came(rt: HostRuntime) -> Result<(), Fail> {

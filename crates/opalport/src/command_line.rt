@@ -74,8 +74,8 @@ Lines, whose words stand between blanks; numbers are decimal, HH is two hex digi
 
 Behind a first line `port` the lines are steps of an AHCI port, with range and expect as above:
   put C T REQUEST                   client C puts a request in slot T: read L N, write L N HH,
-                                    dread L N, dwrite L N HH, call ID TSN HSN HEX, send ID HEX,
-                                    recv ID BLOCKS or tper
+                                    dread L N, dwrite L N HH, call ID TSN HSN HEX, send ID HEX
+                                    or recv ID BLOCKS
   issue T, accept T, complete T     the port issues it, the drive takes it, the drive ends it
   recover                           the port recovers from a failed command
   reset C K                         client C resets the port and the drive

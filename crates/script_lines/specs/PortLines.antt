@@ -8,7 +8,6 @@
 --   put C T call ID TSN HSN HEX          the tokens HEX for the ComID ID, in the session of these numbers
 --   put C T send ID HEX                  the ComPacket HEX for the ComID ID
 --   put C T recv ID BLOCKS               so many blocks from the ComID ID
---   put C T tper                         one block of zeros, as the command that resets the drive
 --   issue T, accept T, complete T        the port issues it; the drive takes it; the drive ends it
 --   recover                              the port recovers from a failed command
 --   reset C K                            client C resets the port and the drive: the power where K is 0, the hardware where it is 1
@@ -22,7 +21,7 @@ use Rattle.script_lines.specs.Verbs.{verb_of}
 use Rattle.script_lines.specs.Fields.{◌>>=◌, or_fault, number_in, byte_in, hex_in, most_call_bytes, most_send_bytes}
 use Rattle.script_lines.specs.Groups.{range_in, reset_in}
 use Rattle.script_lines.specs.declared.fault.LineFault.{LineFault}
-use Rattle.script_lines.specs.declared.fault.LineFault.TheVariants.{UnknownWord, Extra}
+use Rattle.script_lines.specs.declared.fault.LineFault.TheVariants.{UnknownStep, UnknownRequest, Extra}
 use Rattle.script_lines.specs.declared.field.Field.TheVariants as fields
 use Rattle.script_lines.specs.declared.verb.Verb.{Verb}
 use Rattle.script_lines.specs.declared.verb.Verb.TheVariants as verbs
@@ -97,11 +96,6 @@ receive_words rest = do
   _ ← none_left (after_words 2 rest)
   Ok (requests.Receive com_id blocks)
 
-abbrev pub tper_reset_words : List ℕ → Result PutRequest LineFault
-tper_reset_words rest = do
-  _ ← none_left rest
-  Ok requests.TperReset
-
 -- no other word names a request
 abbrev pub request_words : Verb → List ℕ → Result PutRequest LineFault
 request_words verbs.Read rest = read_words rest
@@ -111,11 +105,11 @@ request_words verbs.WriteDma rest = write_dma_words rest
 request_words verbs.Call rest = call_words rest
 request_words verbs.Send rest = send_words rest
 request_words verbs.Receive rest = receive_words rest
-request_words verbs.TperReset rest = tper_reset_words rest
-request_words verbs.Range rest = Err UnknownWord
-request_words verbs.Log rest = Err UnknownWord
-request_words verbs.Reset rest = Err UnknownWord
-request_words verbs.Expect rest = Err UnknownWord
+request_words verbs.TperReset rest = Err UnknownRequest
+request_words verbs.Range rest = Err UnknownRequest
+request_words verbs.Log rest = Err UnknownRequest
+request_words verbs.Reset rest = Err UnknownRequest
+request_words verbs.Expect rest = Err UnknownRequest
 
 -- what the words behind a verb say
 abbrev pub range_words : List ℕ → Result PortLine LineFault
@@ -128,7 +122,7 @@ abbrev pub put_words : List ℕ → Result PortLine LineFault
 put_words rest = do
   client ← number_in fields.Client (word 0 rest)
   tag ← number_in fields.Tag (word 1 rest)
-  verb ← or_fault UnknownWord (verb_of (word 2 rest))
+  verb ← or_fault UnknownRequest (verb_of (word 2 rest))
   request ← request_words verb (after_words 3 rest)
   Ok (lines.Put client tag request)
 
@@ -205,7 +199,7 @@ port_verb_of word = port_verb_among port_words word
 -- what a line of a port script says, or what is wrong with it
 abbrev pub port_line_of : List ℕ → Result PortLine LineFault
 port_line_of text =
-    or_fault UnknownWord (port_verb_of (first_word text)) >>= λ verb. port_verb_words verb (after_word text)
+    or_fault UnknownStep (port_verb_of (first_word text)) >>= λ verb. port_verb_words verb (after_word text)
 
 -- the word `port` alone
 abbrev pub is_port_line : List ℕ → Bool

@@ -9,6 +9,10 @@ use std::fmt;
 pub enum LineFault {
     /// The first word is none of a line.
     UnknownWord,
+    /// The first word is none of a line of a port script.
+    UnknownStep,
+    /// The word of a `put` line that says what is asked is no request.
+    UnknownRequest,
     /// The line ends before the word of a field.
     Missing(Field),
     /// The word is not what its field holds.
@@ -20,8 +24,8 @@ pub enum LineFault {
 /// Says what the word of a field is to be.
 fn write_wanted<W: fmt::Write>(f: &mut fmt::Formatter<W>, field: Field) -> fmt::Result {
     match field {
-        Field::Byte | Field::DmaByte => f.write_str("two hex digits"),
-        Field::Tokens | Field::ComPacket => {
+        Field::Byte | Field::DmaByte | Field::PutByte => f.write_str("two hex digits"),
+        Field::Tokens | Field::ComPacket | Field::PutTokens | Field::PutComPacket => {
             write!(
                 f,
                 "hex text, two digits for each of 1 to {} bytes",
@@ -41,6 +45,14 @@ impl fmt::Display for LineFault {
                 f.write_str(
                     "range, read, write, dread, dwrite, call, send, recv, log, reset, tper and expect",
                 )
+            }
+            LineFault::UnknownStep => {
+                f.write_str("the first word is none of ")?;
+                f.write_str("range, put, issue, accept, complete, recover, reset, take and expect")
+            }
+            LineFault::UnknownRequest => {
+                f.write_str("word 4, the request, is none of ")?;
+                f.write_str("read, write, dread, dwrite, call, send and recv")
             }
             LineFault::Missing(field) => {
                 write!(f, "{field} is missing: ")?;

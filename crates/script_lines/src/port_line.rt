@@ -54,8 +54,6 @@ pub enum PutRequest<'a> {
         com_id: ComId,
         blocks: u16,
     },
-    /// The command that resets the drive.
-    TperReset,
 }
 
 /// A line of a port script, behind the first.
@@ -95,7 +93,7 @@ pub enum PortLine<'a> {
 impl<'a> Words<'a> {
     ghost use Rattle.std.specs.Prelude.{◌≡◌, IfOk, OnOk};
     ghost use Rattle.script_lines.specs.Words.{first_word, after_word, after_words};
-    ghost use Rattle.script_lines.specs.PortLines.{none_left, slot_in, transfer_words, FitsPut, FitsPort, read_words, write_words, read_dma_words, write_dma_words, call_words, send_words, receive_words, tper_reset_words, request_words, range_words, put_words, issue_words, accept_words, complete_words, recover_words, reset_words, take_words, port_verb_words};
+    ghost use Rattle.script_lines.specs.PortLines.{none_left, slot_in, transfer_words, FitsPut, FitsPort, read_words, write_words, read_dma_words, write_dma_words, call_words, send_words, receive_words, request_words, range_words, put_words, issue_words, accept_words, complete_words, recover_words, reset_words, take_words, port_verb_words};
 
     /// No word is left.
     fn end(&mut self) -> Result<(), LineFault>
@@ -201,14 +199,6 @@ impl<'a> Words<'a> {
         Ok(PutRequest::Receive { com_id, blocks })
     }
 
-    fn tper_reset_words(&mut self) -> Result<PutRequest<'a>, LineFault>
-        ensures exact { result ≡ tper_reset_words self.old.rest.now }
-        ensures fits { IfOk result FitsPut }
-    {
-        self.end()?;
-        Ok(PutRequest::TperReset)
-    }
-
     /// What is asked, by the word that says which request it is.
     fn request(&mut self, verb: Verb) -> Result<PutRequest<'a>, LineFault>
         ensures exact { result ≡ request_words verb self.old.rest.now }
@@ -222,8 +212,9 @@ impl<'a> Words<'a> {
             Verb::Call => self.call_words(),
             Verb::Send => self.send_words(),
             Verb::Receive => self.receive_words(),
-            Verb::TperReset => self.tper_reset_words(),
-            Verb::Range | Verb::Log | Verb::Reset | Verb::Expect => Err(LineFault::UnknownWord),
+            Verb::Range | Verb::Log | Verb::Reset | Verb::TperReset | Verb::Expect => {
+                Err(LineFault::UnknownRequest)
+            }
         }
     }
 
@@ -242,7 +233,7 @@ impl<'a> Words<'a> {
     {
         let client = self.number(Field::Client)? as u32;
         let tag = Tag::new(self.number(Field::Tag)? as u8).unwrap();
-        let verb = verb_of(self.next_word()).ok_or(LineFault::UnknownWord)?;
+        let verb = verb_of(self.next_word()).ok_or(LineFault::UnknownRequest)?;
         let request = self.request(verb)?;
         Ok(PortLine::Put {
             client,
@@ -335,7 +326,7 @@ impl<'a> PortLine<'a> {
         ensures fits { IfOk result FitsPort }
     {
         let mut words = Words::new(text);
-        let verb = port_verb_of(words.next_word()).ok_or(LineFault::UnknownWord)?;
+        let verb = port_verb_of(words.next_word()).ok_or(LineFault::UnknownStep)?;
         words.port_line(verb)
     }
 }

@@ -2,7 +2,7 @@
 use Rattle.std.specs.Prelude.{◌≡◌, ℕ, ◌+◌, ◌*◌, false, if◌then◌else◌, List, [], ◌∷◌, length, replicate, Option, None, Some, Result, Ok, Err, unwrap_or}
 use Rattle.std.specs.Str.{bytes_eq}
 use Rattle.audit.specs.declared.reason.AuditLine.{AuditLine}
-use Rattle.trusted_cmds.specs.Commands.{sector_size, reset_protocol, reset_com_id}
+use Rattle.trusted_cmds.specs.Commands.{sector_size}
 use Rattle.trusted_cmds.specs.declared.command.Command.{Command}
 use Rattle.trusted_cmds.specs.declared.command.Command.TheVariants as commands
 use Rattle.compacket.specs.Spelling.{frame_bytes}
@@ -28,7 +28,7 @@ use Rattle.script_lines.specs.declared.port_line.PortLine.TheVariants as lines
 use Rattle.script_lines.specs.declared.port_line.PutRequest.{PutRequest}
 use Rattle.script_lines.specs.declared.port_line.PutRequest.TheVariants as asked
 use Rattle.script_lines.specs.declared.report.Report.{Report}
-use Rattle.tool.specs.Acts.{in_blocks, com_id_protocol, zero_block, kind_named}
+use Rattle.tool.specs.Acts.{in_blocks, com_id_protocol, kind_named}
 use Rattle.tool.specs.Effects.{shown}
 use Rattle.tool.specs.declared.ending.Fault.TheVariants.{LateRange}
 use Rattle.tool.specs.declared.running.Turn.{Turn}
@@ -53,7 +53,6 @@ request_of (asked.WriteDma lba count byte) = requests.WriteDma lba (same_bytes c
 request_of (asked.Call com_id session tokens) =
     requests.Send com_id_protocol com_id (in_blocks (frame_bytes com_id session tokens))
 request_of (asked.Send com_id packet) = requests.Send com_id_protocol com_id (in_blocks packet)
-request_of asked.TperReset = requests.Send reset_protocol reset_com_id zero_block
 request_of (asked.Receive com_id blocks) = requests.Receive com_id_protocol com_id blocks
 
 -- The number of a refusal.

@@ -22,7 +22,7 @@ use fis::Tag;
 use port::{Answer, Port, PortError, Put, Request, Stage};
 use script_lines::{Hex, PortLine, PutRequest, Report, Reset, expected_text};
 use std::alloc::{AllocError, Global};
-use trusted_cmds::{Command, RESET_COM_ID, RESET_PROTOCOL, SECTOR_SIZE};
+use trusted_cmds::{Command, SECTOR_SIZE};
 
 /// So many sectors whose bytes are all the same.
 fn same_bytes(alloc: Global, count: u16, byte: u8) -> Result<Bytes, AllocError>
@@ -104,14 +104,6 @@ pub fn request_of(alloc: Global, asked: &PutRequest<'_>) -> Result<Request, Allo
         PutRequest::Send { com_id, packet } => {
             let bytes = packed(alloc, packet)?;
             Ok(send_of(*com_id, bytes))
-        }
-        PutRequest::TperReset => {
-            let bytes = same_bytes(alloc, 1, 0)?;
-            Ok(Request::Send {
-                protocol: RESET_PROTOCOL,
-                com_id: RESET_COM_ID,
-                bytes,
-            })
         }
         PutRequest::Receive { com_id, blocks } => Ok(Request::Receive {
             protocol: COM_ID_PROTOCOL,
