@@ -97,6 +97,10 @@ of-command r P made asked given payload same bytes h =
     of-same r (λ command turn. P command payload turn) made asked same
     (of-same r (λ payload turn. P made payload turn) given payload bytes h)
 
+-- what was made of a command is what was asked for
+pub as-asked : (P : Command → Type 0) (made asked : Command) → made ≡ asked → P made → P asked
+as-asked P made asked same h = subst P same h
+
 -- a transfer that is held is completed
 pub held-then : (new mid : RunningPhase) (o : Origin) (acts : List Act) (command : Command)
     (transfer : Transfer) (byte : ℕ) (before after : Report)

@@ -79,9 +79,9 @@ impl RunningPhase {
         ensures steps { IfOk result (λ turn. (o : Origin) (acts : List Act) → RunsOn self.old o acts
             → DriveSteps turn (step o acts report.old.last.items text.now (line_of text.now)) self.new o report.old report.new) }
     {
-        match Line::parse(text) {
-            Ok(line) => self.act(&line, text, report),
-            Err(fault) => Ok(Turn::Bad(Fault::Line(fault))),
+        match &Line::parse(text) {
+            Ok(line) => self.act(line, text, report),
+            Err(fault) => Ok(Turn::Bad(Fault::Line(*fault))),
         }
     }
 
@@ -126,6 +126,7 @@ impl RunningPhase {
     }
 
     /// Gives the drive the FIS of a command, with the payload at hand.
+    #[inline(always)]
     fn accept(&mut self, command: &Command, tag: Tag) -> Result<Accepted, AllocError>
         requires address { IfSome (lba_of command.now) (λ lba. lba < 2 ^ 48) }
         requires counted { IsCounted command.now }
@@ -170,19 +171,20 @@ impl RunningPhase {
         Ok(())
     }
 
-    /// Accepts a queued transfer, and completes it where it is held.
+    /// Accepts a queued transfer, and completes it where it is held. It tells whether the transfer is the
+    /// first command that the failed queue aborts.
     fn transfer(
         &mut self,
         command: &Command,
         transfer: &Transfer,
         byte: u8,
         report: &mut Report,
-    ) -> Result<Turn, AllocError>
+    ) -> Result<bool, AllocError>
         requires address { IfSome (lba_of command.now) (λ lba. lba < 2 ^ 48) }
         requires counted { IsCounted command.now }
         requires payload { payload_length (fis_of command.now transfer.now.tag) ≡ 0 }
-        ensures { IfOk result (Makes (λ o acts. transferred o acts command.now transfer.now byte)
-            self.old self.new report.old report.new) }
+        ensures { IfOk result (λ aborted. Makes (λ o acts. transferred o acts command.now transfer.now byte)
+            self.old self.new report.old report.new (Turn.Goes aborted)) }
     {
         let has_failed = self.drive.failure().is_some();
         let aborted = self.is_first_abort(has_failed);
@@ -190,7 +192,7 @@ impl RunningPhase {
         let accepted = self.accept(command, transfer.tag)?;
         if accepted.held {
             self.serve(transfer.tag, byte, report)?;
-            return Ok(Turn::Goes { aborted: false });
+            return Ok(false);
         }
         let Accepted {
             status,
@@ -199,7 +201,7 @@ impl RunningPhase {
             ..
         } = accepted;
         report.print_refusal(self.acts, transfer.client, status, error, denied)?;
-        Ok(Turn::Goes { aborted })
+        Ok(aborted)
     }
 
     /// Gives the drive an unqueued command with the payload at hand, and prints what came of it.
@@ -228,7 +230,8 @@ impl RunningPhase {
         ensures { IfOk result (Makes (λ o acts. effect_of o acts (Line.Read transfer.now))
             self.old self.new report.old report.new) }
     {
-        self.transfer(&read_of(transfer), transfer, 0, report)
+        let aborted = self.transfer(&read_of(transfer), transfer, 0, report)?;
+        Ok(Turn::Goes { aborted })
     }
 
     fn write(
@@ -240,7 +243,8 @@ impl RunningPhase {
         ensures { IfOk result (Makes (λ o acts. effect_of o acts (Line.Write transfer.now byte))
             self.old self.new report.old report.new) }
     {
-        self.transfer(&write_of(transfer), transfer, byte, report)
+        let aborted = self.transfer(&write_of(transfer), transfer, byte, report)?;
+        Ok(Turn::Goes { aborted })
     }
 
     fn read_dma(&mut self, transfer: &DmaTransfer, report: &mut Report) -> Result<Turn, AllocError>
