@@ -1,10 +1,9 @@
 -- What lies under the lock stands after each step.
 use Rattle.std.proofs.Common.{◌≡◌, ℕ, suc, ◌+◌, ◌≤◌, ◌<◌, ◌==◌, Bool, true, false, List, [], ◌∷◌, ◌++◌, length, reverse, if◌then◌else◌, Option, Some, None, Result, Ok, Err, refl, sym, ap, ◌∙◌, arith}
-use Rattle.std.specs.Prelude.{OnOk, OnErr, IfSome}
+use Rattle.std.specs.Prelude.{OnOk, OnErr}
 use Rattle.std.proofs.lemmas.List.{reverse-append}
 use Rattle.history.specs.Opening.{Origin}
 use Rattle.port_history.specs.declared.error.PortError.{PortError}
-use Rattle.port_history.specs.declared.stages.Put.{Put}
 use Rattle.port_history.specs.declared.stages.Stage.{Stage}
 use Rattle.port_history.specs.declared.stages.Stage.TheVariants.{Free, Prepared, Issued, Accepted, Answered}
 use Rattle.port_history.specs.declared.step.EngineStep.{EngineStep}
@@ -13,7 +12,7 @@ use Rattle.port_history.specs.declared.step.Entry.{Entry}
 use Rattle.port_history.specs.declared.step.Step.{Step}
 use Rattle.port_history.specs.declared.step.Step.TheVariants as steps
 use Rattle.port_history.specs.Ready.{as_step, with_step, chosen, ready}
-use Rattle.port_history.specs.Stages.{to, put_in, is_queued, accepted_stage, recovered, after_reset}
+use Rattle.port_history.specs.Stages.{to, is_queued, accepted_stage, recovered, after_reset}
 use Rattle.port_history.specs.Steps.{Moment, trace, stage, stage_after, failed, is_tag, entry, entries}
 use Rattle.port.specs.Agreement.{PortAgrees}
 use Rattle.port.specs.Answers.{stage_at}
@@ -100,7 +99,7 @@ turned (Ok a) choice total old new s keeps same =
     ∥∥₁_map s (λ known. engine_did known.origin known.list (chosen choice (ready known.origin known.list)) total old new known.agrees known.counted (keeps known.origin known.list known.agrees))
 turned (Err e) choice total old new s keeps same = no_step total old new same s
 
--- the number of the Put of a slot is one of the history
+-- the number of the Put of a slot
 abbrev pub number_in : Stage → ℕ
 number_in Free = 0
 number_in (Prepared put) = put.number
@@ -163,27 +162,17 @@ number_of : (ms : List Moment) (tag : ℕ) → number_in (stage ms tag) ≤ leng
 number_of [] tag = omega arith
 number_of (m ∷ before) tag = grown (stage (m ∷ before) tag) (length before) (number_after m.step (failed before) tag (length before) (stage before tag) (number_of before tag))
 
-put_number : (s : Stage) (put : Put) → put_in s ≡ Some put → number_in s ≡ put.number
-put_number Free put e = cc
-put_number (Prepared p) put e = cc
-put_number (Issued p) put e = cc
-put_number (Accepted p) put e = cc
-put_number (Answered p) put e = cc
-
-numbered_in : (port : State) (total tag : ℕ) (put : Put) → Standing port total → tag < 32 → put_in (stage_at port.slots tag) ≡ Some put → put.number ≤ length port.history
-numbered_in port total tag put s lt e =
+stage_number_in : (port : State) (total tag : ℕ) → Standing port total → tag < 32 → number_in (stage_at port.slots tag) ≤ length port.history
+stage_number_in port total tag s lt =
     let known = number_of (trace s.origin s.list) tag in
     let stands = (s.agrees.tags tag lt).stands in
-    let same : number_in (stage (trace s.origin s.list) tag) ≡ put.number = ap number_in (sym stands) ∙ put_number (stage_at port.slots tag) put e in
+    let same : number_in (stage (trace s.origin s.list) tag) ≡ number_in (stage_at port.slots tag) = ap number_in (sym stands) in
     let count = count_is port s.origin s.list s.agrees in
     omega arith
 
-numbered : (port : State) (total tag : ℕ) (put : Put) → Stands port total → tag < 32 → put_in (stage_at port.slots tag) ≡ Some put → put.number ≤ length port.history
-numbered port total tag put s lt e = ∥∥₁_elim s le_prop (λ known. numbered_in port total tag put known lt e)
-
-pub all_numbered : (port : State) (total tag : ℕ) (put : Option Put) → Stands port total → tag < 32 → put ≡ put_in (stage_at port.slots tag) → IfSome put (λ p. p.number ≤ length port.history)
-all_numbered port total tag None s lt e = tt
-all_numbered port total tag (Some put) s lt e = numbered port total tag put s lt (sym e)
+-- the number of the Put of a slot is one of the history
+pub stage_number : (port : State) (total tag : ℕ) → Stands port total → tag < 32 → number_in (stage_at port.slots tag) ≤ length port.history
+stage_number port total tag s lt = ∥∥₁_elim s le_prop (λ known. stage_number_in port total tag known lt)
 
 -- the next number is above all of the history
 pub above : (port : State) (total ticket number : ℕ) → Stands port total → ticket ≤ length port.history → ((o : Origin) (list : List Step) → PortAgrees port o list → number ≡ 1 + length (trace o list)) → ticket < number

@@ -1,3 +1,4 @@
 pub mod Hands
 pub mod Counts
+pub mod Awaits
 pub mod Receipts

@@ -2,6 +2,7 @@
 
 ghost use Rattle.std.specs.Prelude.{◌≡◌};
 ghost use Rattle.port_history.specs.Stages.{put_in};
+ghost use Rattle.locked_port.specs.Awaits.{awaited_at};
 ghost use Rattle.locked_port.specs.Counts.{Stands, client_steps};
 
 use crate::pass::PortName;
@@ -32,14 +33,37 @@ fn put_in(stage: Stage) -> Option<Put>
     }
 }
 
+/// Whether the answer of a client's ticket has come, by whether the history is full and the stage of the ticket's slot.
+fn awaited(full: bool, client: u32, ticket: &Ticket, stage: Stage) -> Result<bool, PortError>
+    ensures { result ≡ awaited_at full client ticket.now stage }
+{
+    if full {
+        return Err(PortError::HistoryFull);
+    }
+    let Some(put) = put_in(stage) else {
+        return Err(PortError::NotAnswered);
+    };
+    if put.number != ticket.number {
+        return Err(PortError::NotAnswered);
+    }
+    if put.client != client {
+        return Err(PortError::NotYours);
+    }
+    Ok(matches!(stage, Stage::Answered(_)))
+}
+
 impl<L: PortName> Desk<L> {
-    ghost use Rattle.std.specs.Prelude.{◌≡◌, ◌+◌, ◌<◌, ◌≤◌, List, ◌∷◌, length, IfOk, IfSome, MatchResult, MatchOption};
+    ghost use Rattle.std.specs.Prelude.{◌≡◌, ◌+◌, ◌<◌, ◌≤◌, ◌⊎◌, List, ◌∷◌, length, Ok, Err, is_some, true, false, IfOk, IfErr, MatchResult, MatchOption};
+    ghost use Rattle.fis.specs.Tags.{slot_count};
     ghost use Rattle.history.specs.Opening.{Origin};
     ghost use Rattle.port_history.specs.declared.step.Step.{Step};
     ghost use Rattle.port_history.specs.declared.step.Step.TheVariants as steps;
     ghost use Rattle.port_history.specs.Ready.{with_step, chosen, ready};
+    ghost use Rattle.port_history.specs.Refusals.{refusal, IsRefusedBy};
     ghost use Rattle.port_history.specs.Steps.{trace};
     ghost use Rattle.port.specs.Agreement.{PortAgrees};
+    ghost use Rattle.port.specs.Answers.{stage_at};
+    ghost use Rattle.locked_port.specs.Awaits.{is_full, awaited, IsTaken};
 
     /// A port over the book that counted its client steps.
     pub(crate) fn new(port: Port, book: Book<L>) -> Desk<L>
@@ -58,7 +82,10 @@ impl<L: PortName> Desk<L> {
     }
 
     /// Whether the history has no room: a reset is refused for nothing else.
-    fn is_full(&self) -> bool {
+    fn is_full(&self) -> bool
+        ensures { (o : Origin) (list : List Step) → PortAgrees self.now.port o list
+            → result ≡ is_full (trace o list) }
+    {
         let reset = Step::Reset {
             client: 0,
             kind: ResetKind::Power,
@@ -84,6 +111,9 @@ impl<L: PortName> Desk<L> {
             → (t.number ≡ 1 + length (trace o list))
             × PortAgrees self.new.port o (steps.Put client built.tag built.request ∷ list)))
             (λ _. self.new.port ≡ self.old.port) }
+        ensures refused { (o : Origin) (list : List Step) → PortAgrees self.old.port o list
+            → IsRefusedBy
+            (refusal (trace o list) (steps.Put client built.tag built.request)) result }
         ensures count { MatchResult result
             (λ _. mine.new.amount ≡ mine.old.amount + 1) (λ _. mine.new.amount ≡ mine.old.amount) }
         ensures parts { mine.new.parts ≡ mine.old.parts }
@@ -119,8 +149,12 @@ impl<L: PortName> Desk<L> {
             (λ o. MatchOption o (self.new.port ≡ self.old.port)
             (λ r. (r.step ≡ steps.Take client ticket.now.tag) × (ticket.now.number < r.number)
             × ((o : Origin) (list : List Step) → PortAgrees self.old.port o list
-            → PortAgrees self.new.port o (r.step ∷ list))))
+            → IsTaken (trace o list) ticket.now.tag r × PortAgrees self.new.port o (r.step ∷ list))))
             (λ _. self.new.port ≡ self.old.port) }
+        ensures told { (o : Origin) (list : List Step) → PortAgrees self.old.port o list
+            → MatchResult result
+            (λ taken. awaited (trace o list) client ticket.now ≡ Ok (is_some taken))
+            (λ e. (e ≡ PortError.OutOfMemory) ⊎ (awaited (trace o list) client ticket.now ≡ Err e)) }
         ensures count { MatchResult result
             (λ o. MatchOption o (mine.new.amount ≡ mine.old.amount)
             (λ _. mine.new.amount ≡ mine.old.amount + 1))
@@ -143,32 +177,25 @@ impl<L: PortName> Desk<L> {
         }))
     }
 
-    /// The Put of a slot that is not free: its number is that of a step.
-    fn put_at(&self, tag: Tag) -> Option<Put>
-        ensures { IfSome result (λ put. put.number ≤ length self.now.port.history) }
+    /// The stage of a slot.
+    fn stage(&self, tag: Tag) -> Stage
+        ensures value { result ≡ stage_at self.now.port.slots tag }
+        ensures slot { tag < slot_count }
     {
         let number = tag.number();
         prove!(usize::from(number) < SLOT_COUNT);
-        put_in(self.port.stage(tag))
+        self.port.stage(tag)
     }
 
     /// Whether the answer of a ticket has come.
     fn is_answered(&self, client: u32, ticket: &Ticket) -> Result<bool, PortError>
-        ensures { IfOk result (λ _. ticket.now.number ≤ length self.now.port.history) }
+        ensures told { (o : Origin) (list : List Step) → PortAgrees self.now.port o list
+            → result ≡ awaited (trace o list) client ticket.now }
+        ensures number { IfOk result (λ _. ticket.now.number ≤ length self.now.port.history) }
     {
-        if self.is_full() {
-            return Err(PortError::HistoryFull);
-        }
-        let Some(put) = self.put_at(ticket.tag) else {
-            return Err(PortError::NotAnswered);
-        };
-        if put.number != ticket.number {
-            return Err(PortError::NotAnswered);
-        }
-        if put.client != client {
-            return Err(PortError::NotYours);
-        }
-        Ok(matches!(self.port.stage(ticket.tag), Stage::Answered(_)))
+        let full = self.is_full();
+        let stage = self.stage(ticket.tag);
+        awaited(full, client, ticket, stage)
     }
 
     /// The steps that the engine may do.
@@ -176,7 +203,12 @@ impl<L: PortName> Desk<L> {
     /// # Errors
     ///
     /// `HistoryFull`.
-    pub(crate) fn ready(&self) -> Result<ArrayVec<EngineStep, SLOT_COUNT>, PortError> {
+    pub(crate) fn ready(&self) -> Result<ArrayVec<EngineStep, SLOT_COUNT>, PortError>
+        ensures { (o : Origin) (list : List Step) → PortAgrees self.now.port o list
+            → MatchResult result
+            (λ steps. (is_full (trace o list) ≡ false) × (steps.items ≡ ready o list))
+            (λ e. (is_full (trace o list) ≡ true) × (e ≡ PortError.HistoryFull)) }
+    {
         if self.is_full() {
             return Err(PortError::HistoryFull);
         }
@@ -189,10 +221,12 @@ impl<L: PortName> Desk<L> {
     ///
     /// `OutOfMemory`. The port is then as before.
     pub(crate) fn turn(&mut self, choice: usize) -> Result<(), PortError>
-        ensures { MatchResult result
+        ensures step { MatchResult result
             (λ _. (o : Origin) (list : List Step) → PortAgrees self.old.port o list
             → PortAgrees self.new.port o (with_step (chosen choice (ready o list)) list))
             (λ _. self.new.port ≡ self.old.port) }
+        ensures memory { IfErr result (λ e. (o : Origin) (list : List Step)
+            → PortAgrees self.old.port o list → e ≡ PortError.OutOfMemory) }
     {
         let Desk { port, book: _ } = self;
         port.turn(choice)?;

@@ -32,12 +32,13 @@ pub struct Closed {
 }
 
 impl<L: PortName> LockedPort<L> {
-    ghost use Rattle.std.specs.Prelude.{◌≡◌, ◌+◌, ◌<◌, ◌≤◌, vec_len, sum_by, IfOk, IfErr, IsOk, IsOkUnless, MatchResult};
+    ghost use Rattle.std.specs.Prelude.{◌≡◌, ◌+◌, ◌<◌, ◌≤◌, vec_len, sum_by, false, Err, IfOk, IfErr, IsOk, IsOkUnless, MatchResult};
     ghost use mathlib.Core.Logic.{◌↔◌};
     ghost use Rattle.port_history.specs.declared.error.PortError.{PortError};
     ghost use Rattle.port_history.specs.declared.step.Step.TheVariants as steps;
+    ghost use Rattle.port_history.specs.Requests.{is_sized};
     ghost use Rattle.locked_port.specs.Counts.{Stands, client_steps};
-    ghost use Rattle.locked_port.specs.Hands.{hands, counted, count_of};
+    ghost use Rattle.locked_port.specs.Hands.{hands, counted, count_of, Claims, Frees};
 
     /// Puts a port under a lock: with the passes of the clients 1 to `clients`, and behind them one for the engine.
     ///
@@ -81,8 +82,10 @@ impl<L: PortName> LockedPort<L> {
         pass: &mut Pass<L>,
         request: &Request,
     ) -> Result<Ticket, PortError>
-        ensures { MatchResult result
-            (λ t. (t.client ≡ pass.old.client) × (pass.new ≡ counted pass.old)) (λ _. pass.new ≡ pass.old) }
+        ensures hand { MatchResult result
+            (λ t. (t.client ≡ pass.old.client) × Claims t.tag (counted pass.old) pass.new)
+            (λ _. pass.new ≡ pass.old) }
+        ensures size { is_sized request.now ≡ false → result ≡ Err PortError.Size }
     {
         if !fits(request) {
             return Err(PortError::Size);
@@ -121,7 +124,7 @@ impl<L: PortName> LockedPort<L> {
     ) -> Result<Receipt, PortError>
         ensures { MatchResult result
             (λ r. (r.step ≡ steps.Take pass.old.client ticket.tag) × (ticket.number < r.number)
-            × (pass.new ≡ counted pass.old))
+            × Frees ticket.tag (counted pass.old) pass.new)
             (λ _. pass.new ≡ pass.old) }
     {
         let receipt = self.taken(rt, pass, &ticket)?;

@@ -24,8 +24,8 @@ impl PortName for Brand {
     ghost passes = { 0 };
 }
 
-/// The right to act as one client, or as the engine. Contracts see the client, and how many of its calls put or took
-/// something.
+/// The right to act as one client, or as the engine. Contracts see the client, how many of its calls put or took
+/// something, and the tags that it holds.
 #[derive(Drop)]
 pub struct Pass<L: PortName> {
     client: u32,
@@ -39,16 +39,22 @@ impl<L: PortName> Model for Pass<L> {
 
     ghost Value = { Hand };
 
-    ghost view = { λ p. hand p.client p.share.amount };
+    ghost view = { λ p. hand p.client p.share.amount p.seat.held };
 
     ghost invariant = { λ p. p.share.parts ≡ 1 };
 }
 
 impl<L: PortName> Pass<L> {
-    ghost use Rattle.std.specs.Prelude.{◌≡◌, ◌<◌, IfOk, IsOkUnless, MatchResult, MatchOption};
+    ghost use Rattle.std.specs.Prelude.{◌≡◌, ◌+◌, ◌<◌, ◌⊎◌, List, ◌∷◌, length, Ok, Err, is_some, IfOk, IsOkUnless, MatchResult, MatchOption};
+    ghost use Rattle.history.specs.Opening.{Origin};
     ghost use Rattle.port_history.specs.declared.error.PortError.{PortError};
+    ghost use Rattle.port_history.specs.declared.step.Step.{Step};
     ghost use Rattle.port_history.specs.declared.step.Step.TheVariants as steps;
-    ghost use Rattle.locked_port.specs.Hands.{hands, counted};
+    ghost use Rattle.port_history.specs.Refusals.{refusal, IsRefusedBy};
+    ghost use Rattle.port_history.specs.Steps.{trace};
+    ghost use Rattle.port.specs.Agreement.{PortAgrees};
+    ghost use Rattle.locked_port.specs.Awaits.{awaited, IsTaken};
+    ghost use Rattle.locked_port.specs.Hands.{hands, counted, Claims, Frees};
 
     /// The client: 1 and up, and the engine's one behind the last client's.
     pub fn client(&self) -> u32
@@ -87,14 +93,14 @@ impl<L: PortName> Pass<L> {
 
     /// Claims a tag, without the lock.
     pub(crate) fn claim(&mut self) -> Option<Tag>
-        ensures { self.new ≡ self.old }
+        ensures { MatchOption result (self.new ≡ self.old) (λ tag. Claims tag self.old self.new) }
     {
         self.seat.claim()
     }
 
     /// Gives a tag back, without the lock, where the seat holds it.
     pub(crate) fn release(&mut self, tag: Tag)
-        ensures { self.new ≡ self.old }
+        ensures { Frees tag self.old self.new }
     {
         if self.seat.holds(tag) {
             self.seat.release(tag);
@@ -103,9 +109,17 @@ impl<L: PortName> Pass<L> {
 
     /// Puts what was built.
     pub(crate) fn submit(&mut self, desk: &mut Desk<L>, built: Built) -> Result<Ticket, PortError>
-        ensures { MatchResult result
+        ensures hand { MatchResult result
             (λ t. (t.client ≡ self.old.client) × (t.tag ≡ built.tag) × (self.new ≡ counted self.old))
             (λ _. self.new ≡ self.old) }
+        ensures step { MatchResult result
+            (λ t. (o : Origin) (list : List Step) → PortAgrees desk.old.port o list
+            → (t.number ≡ 1 + length (trace o list))
+            × PortAgrees desk.new.port o (steps.Put self.old.client built.tag built.request ∷ list))
+            (λ _. desk.new.port ≡ desk.old.port) }
+        ensures refused { (o : Origin) (list : List Step) → PortAgrees desk.old.port o list
+            → IsRefusedBy
+            (refusal (trace o list) (steps.Put self.old.client built.tag built.request)) result }
     {
         let ticket = desk.submit(&mut self.share, self.client, built)?;
         Ok(ticket)
@@ -117,11 +131,21 @@ impl<L: PortName> Pass<L> {
         desk: &mut Desk<L>,
         ticket: &Ticket,
     ) -> Result<Option<Receipt>, PortError>
-        ensures { MatchResult result
+        ensures hand { MatchResult result
             (λ o. MatchOption o (self.new ≡ self.old)
             (λ r. (r.step ≡ steps.Take self.old.client ticket.now.tag) × (ticket.now.number < r.number)
             × (self.new ≡ counted self.old)))
             (λ _. self.new ≡ self.old) }
+        ensures step { MatchResult result
+            (λ o. MatchOption o (desk.new.port ≡ desk.old.port)
+            (λ r. (o : Origin) (list : List Step) → PortAgrees desk.old.port o list
+            → IsTaken (trace o list) ticket.now.tag r × PortAgrees desk.new.port o (r.step ∷ list)))
+            (λ _. desk.new.port ≡ desk.old.port) }
+        ensures told { (o : Origin) (list : List Step) → PortAgrees desk.old.port o list
+            → MatchResult result
+            (λ taken. awaited (trace o list) self.old.client ticket.now ≡ Ok (is_some taken))
+            (λ e. (e ≡ PortError.OutOfMemory)
+            ⊎ (awaited (trace o list) self.old.client ticket.now ≡ Err e)) }
     {
         match desk.take(&mut self.share, self.client, ticket)? {
             None => Ok(None),

@@ -34,7 +34,7 @@ fn put_receipt(ticket: &Ticket, request: Request) -> Receipt
 
 impl Log {
     ghost use Rattle.std.specs.Prelude.{◌≡◌, ◌+◌, ◌++◌, ◌∷◌, [], ◌≤◌, vec_len, OnOk, MatchResult};
-    ghost use Rattle.locked_port.specs.Hands.{counted};
+    ghost use Rattle.locked_port.specs.Hands.{counted, Claims, Frees};
     ghost use Rattle.port_threads.specs.Steps.{put_receipt};
     ghost use Rattle.port_threads.specs.Works.{steps_of_round};
 
@@ -61,7 +61,7 @@ impl Log {
     ) -> Result<Ticket, PortError>
         ensures steps { MatchResult result
             (λ ticket. (self.new.receipts.items ≡ self.old.receipts.items ++ put_receipt ticket request ∷ [])
-            × (pass.new ≡ counted pass.old))
+            × Claims ticket.tag (counted pass.old) pass.new)
             (λ _. (self.new.receipts.items ≡ self.old.receipts.items) × (pass.new ≡ pass.old)) }
         ensures one { OnOk result (vec_len self.new.receipts ≡ vec_len self.old.receipts + 1) }
         ensures least { vec_len self.old.receipts ≤ vec_len self.new.receipts }
@@ -85,7 +85,8 @@ impl Log {
         ticket: Ticket,
     ) -> Result<(), PortError>
         ensures steps { MatchResult result
-            (λ _. (vec_len self.new.receipts ≡ vec_len self.old.receipts + 1) × (pass.new ≡ counted pass.old))
+            (λ _. (vec_len self.new.receipts ≡ vec_len self.old.receipts + 1)
+            × Frees ticket.tag (counted pass.old) pass.new)
             (λ _. (self.new.receipts.items ≡ self.old.receipts.items) × (pass.new ≡ pass.old)) }
         ensures least { vec_len self.old.receipts ≤ vec_len self.new.receipts }
     {

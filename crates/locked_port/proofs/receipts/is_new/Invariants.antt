@@ -1,4 +1,4 @@
-use Rattle.std.proofs.Common.{◌≡◌, ◌≢◌, ◌<◌, ℕ, slice_index_or}
+use Rattle.std.proofs.Common.{◌≢◌, ◌<◌, ℕ, slice_index_or}
 use Rattle.locked_port.specs.declared.ticket.Receipt.{Receipt}
 use Rattle.locked_port.proofs.receipts.is_new.Given as goal
 

@@ -13,6 +13,6 @@ pub returns-clause-step : goal.returns-clause-step
 returns-clause-step g c =
     let s = c.args.self.now in (
       refl,
-      above s.port s.book.total c.args.ticket.now.number c.in_ok-number.number s.stands c.in_ok-is_answered.ensures (λ o list h. (c.in_ok-number.ensures.answer o list h).0),
-      c.in_ok-number.ensures.agrees,
+      above s.port s.book.total c.args.ticket.now.number c.in_ok-number.number s.stands c.in_ok-is_answered.ensures.number (λ o list h. (c.in_ok-number.ensures.answer o list h).0),
+      (λ o list h. (c.in_ok-number.ensures.answer o list h, c.in_ok-number.ensures.agrees o list h)),
     )

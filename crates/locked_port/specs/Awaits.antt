@@ -1,0 +1,37 @@
+-- Whether the answer of a ticket has come.
+use Rattle.std.specs.Prelude.{◌≡◌, ◌==◌, ◌+◌, ℕ, Bool, not, nat_lt, List, length, unwrap_or, Option, Some, None, Result, Ok, Err, if◌then◌else◌}
+use Rattle.port_history.specs.declared.error.PortError.{PortError}
+use Rattle.port_history.specs.declared.error.PortError.TheVariants.{NotAnswered, NotYours, HistoryFull}
+use Rattle.port_history.specs.declared.stages.Put.{Put}
+use Rattle.port_history.specs.declared.stages.Stage.{Stage}
+use Rattle.port_history.specs.Refusals.{most_steps}
+use Rattle.port_history.specs.Requests.{no_bytes}
+use Rattle.port_history.specs.Stages.{put_in, is_answered}
+use Rattle.port_history.specs.Steps.{Moment, stage, answer}
+use Rattle.locked_port.specs.declared.ticket.Receipt.{Receipt}
+use Rattle.locked_port.specs.declared.ticket.Ticket.{Ticket}
+
+-- The history has no room.
+abbrev pub is_full : List Moment → Bool
+is_full before = not (nat_lt (length before) most_steps)
+
+-- Whether the slot's command is answered, where it is the very Put of the ticket, and the client's.
+abbrev pub awaited_put : ℕ → Ticket → Bool → Option Put → Result Bool PortError
+awaited_put client ticket answered None = Err NotAnswered
+awaited_put client ticket answered (Some put) =
+    if put.number == ticket.number
+    then (if put.client == client then Ok answered else Err NotYours) else Err NotAnswered
+
+abbrev pub awaited_at : Bool → ℕ → Ticket → Stage → Result Bool PortError
+awaited_at full client ticket stage =
+    if full then Err HistoryFull else awaited_put client ticket (is_answered stage) (put_in stage)
+
+-- Whether its answer has come, after these steps, or why none is to come.
+abbrev pub awaited : List Moment → ℕ → Ticket → Result Bool PortError
+awaited before client ticket = awaited_at (is_full before) client ticket (stage before ticket.tag)
+
+-- The receipt of a Take of the tag, made after these steps: its number is the next one, and the reply
+-- what the tag is answered.
+abbrev pub IsTaken : List Moment → ℕ → Receipt → Type 0
+IsTaken before tag r =
+    (r.number ≡ 1 + length before) × (r.reply ≡ unwrap_or (answer before tag) no_bytes)
