@@ -4,7 +4,9 @@ ghost use Rattle.std.specs.Prelude.{◌≡◌, IfOk};
 ghost use Rattle.locked_port.specs.Counts.{Stands};
 
 use drive::{Drive, DriveConfig, RangeRow};
-use locked_port::{Closed, Gate, LockedPort, Pass, Pick, PortName, Receipt, Ticket};
+use locked_port::{
+    Closed, Gate, LockedPort, Pass, Pick, PortName, Receipt, Ticket, check_receipts,
+};
 use port::{Answer, EngineStep, Port, PortError, Request, Step};
 use std::alloc::Global;
 use std::process::Abort;
@@ -80,12 +82,26 @@ impl Gate for First {
     }
 }
 
-/// What threads bring back: the port that is out of its lock, and the receipts of both clients.
+/// What threads bring back: the port that is out of its lock, the receipts of both clients, and the turns that the
+/// engine had left.
 #[derive(Drop)]
 pub(crate) struct Told {
     pub(crate) closed: Closed,
     pub(crate) one: Vec<Receipt>,
     pub(crate) two: Vec<Receipt>,
+    pub(crate) left: u64,
+}
+
+/// Whether the receipts of both clients are just the client steps of the history.
+pub(crate) fn has_all_receipts(told: Told) -> Result<bool, Fail> {
+    let Told {
+        closed,
+        one: mut receipts,
+        two: mut others,
+        left: _,
+    } = told;
+    receipts.append(&mut others)?;
+    Ok(check_receipts(closed.port.history(), &receipts))
 }
 
 /// Takes the port out of its lock with all passes, after a try that lacks the engine's: it gives all back.
@@ -129,27 +145,27 @@ pub(crate) fn deal<L: PortName, R: Abort>(
     (one, two, engine)
 }
 
-/// Two clients, each of which does its requests one after the other, and an engine that does so many steps, the first
-/// that is ready each time: each of the three in a thread of its own.
-pub(crate) fn run<L: PortName + Send + Sync, R: Threads + Wait + Abort + Sync>(
+/// Two clients at a port over a drive with these ranges, each of which does its requests one after the other, and an
+/// engine that does steps as a gate picks, for at most so many turns: each of the three in a thread of its own.
+pub(crate) fn run<L: PortName + Send + Sync, G: Gate + Sync, R: Threads + Wait + Abort + Sync>(
     rt: &R,
     alloc: Global,
     blank: Blank,
-    port: Port,
+    rows: &[RangeRow],
     asked: (&[Request], &[Request]),
+    gate: &G,
     turns: u64,
 ) -> Result<Told, Fail>
     requires name { blank.name ≡ L.name }
     requires parts { (blank.parts ≡ L.parts) × (blank.parts ≡ 3) × (L.passes ≡ L.parts) }
-    requires fresh { Stands port 0 }
 {
-    let (shared, passes) = LockedPort::<L>::new(alloc, blank, port, 2)?;
+    let (shared, passes) = LockedPort::<L>::new(alloc, blank, port(alloc, rows)?, 2)?;
     let (one, two, mut engine) = deal(rt, passes);
     let (first, second) = asked;
     let port = &shared;
     let (left, (one, two)) = join(
         rt,
-        || port.engine(rt, &mut engine, &First, turns),
+        || port.engine(rt, &mut engine, gate, turns),
         || {
             join(
                 rt,
@@ -158,11 +174,12 @@ pub(crate) fn run<L: PortName + Send + Sync, R: Threads + Wait + Abort + Sync>(
             )
         },
     );
-    assert_eq!(rt; left?, 0);
+    let left = left?;
     let closed = close(rt, alloc, shared, (one.0, two.0), engine)?;
     Ok(Told {
         closed,
         one: one.1,
         two: two.1,
+        left,
     })
 }

@@ -4,7 +4,11 @@
 #[cfg(test)]
 mod clients;
 #[cfg(test)]
+mod crossing;
+#[cfg(test)]
 mod receipts;
+#[cfg(test)]
+mod refusals;
 #[cfg(test)]
 mod rounds;
 #[cfg(test)]

@@ -1,9 +1,9 @@
 //! Rounds of two clients, and an engine, each in a thread of its own: what is written is read, and every step of a
 //! client has its receipt.
 
-use crate::clients::{Told, port, run};
+use crate::clients::{First, Told, has_all_receipts, run};
 use basics::Bytes;
-use locked_port::{Receipt, check_receipts, is_done};
+use locked_port::{Receipt, is_done};
 use port::Request;
 use std::alloc::Global;
 use std::marker::Brand;
@@ -54,17 +54,19 @@ fn has_read(receipts: &[Receipt], first: u8) -> bool {
     receipts.len() == 4 * usize::from(ROUNDS)
 }
 
-/// Whether both have read what they wrote, and their receipts are just the client steps of the history.
+/// Whether both have read what they wrote, the engine used all its turns, and the history has so many steps.
+fn is_right(told: &Told) -> bool {
+    has_read(&told.one, 1)
+        && has_read(&told.two, 101)
+        && told.left == 0
+        && told.closed.client_steps == CLIENT_STEPS
+        && told.closed.port.history().len() as u64 == CLIENT_STEPS + ENGINE_STEPS
+}
+
+/// Whether that holds, and the receipts are just the client steps of the history.
 fn is_whole(told: Told) -> Result<bool, Fail> {
-    let has_read = has_read(&told.one, 1) && has_read(&told.two, 101);
-    let mut receipts = told.one;
-    for receipt in told.two {
-        receipts.push(receipt)?;
-    }
-    let history = told.closed.port.history();
-    let is_long = history.len() as u64 == CLIENT_STEPS + ENGINE_STEPS;
-    let is_counted = told.closed.client_steps == CLIENT_STEPS;
-    Ok(has_read && is_long && is_counted && check_receipts(history, &receipts))
+    let is_right = is_right(&told);
+    Ok(has_all_receipts(told)? && is_right)
 }
 
 #[test]
@@ -72,8 +74,16 @@ fn both_read_what_they_wrote(rt: HostRuntime) -> Result<(), Fail> {
     let alloc = rt.alloc();
     let (first, second) = (requests(alloc, 100, 1)?, requests(alloc, 101, 101)?);
     let asked = (first.as_slice(), second.as_slice());
-    let port = port(alloc, &[])?;
-    let told = run::<Brand, HostRuntime>(&rt, alloc, Blank::new(3), port, asked, ENGINE_STEPS)?;
+    let blank = Blank::new(3);
+    let told = run::<Brand, First, HostRuntime>(
+        &rt,
+        alloc,
+        blank,
+        &[],
+        asked,
+        &First,
+        ENGINE_STEPS,
+    )?;
     assert!(rt; is_whole(told)?);
     Ok(())
 }
