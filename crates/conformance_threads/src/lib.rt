@@ -10,6 +10,8 @@ mod receipts;
 #[cfg(test)]
 mod refusals;
 #[cfg(test)]
+mod replay;
+#[cfg(test)]
 mod rounds;
 #[cfg(test)]
 mod tags;
