@@ -46,9 +46,7 @@ fn uid_value(alloc: Global, uid: Uid) -> Result<Value, AllocError>
 pub fn named_value(alloc: Global, name: Value, content: Value) -> Result<Value, AllocError>
     ensures { IfOk result (λ v. tree v ≡ named (tree name) (tree content)) }
 {
-    let name = Box::new(alloc, name)?;
-    let content = Box::new(alloc, content)?;
-    Ok(Value::Named(name, content))
+    Ok(Value::Named(Box::new(alloc, (name, content))?))
 }
 
 /// Values as one that is their list.
@@ -172,9 +170,10 @@ fn operator_in(value: &Value) -> Option<Element>
 fn element_in(value: &Value) -> Option<Element>
     ensures { result ≡ element_of_tree (tree value.now) }
 {
-    let Value::Named(name, content) = value else {
+    let Value::Named(both) = value else {
         return None;
     };
+    let (name, content) = &**both;
     let kind = bytes_in(name)?;
     if kind == AUTHORITY_REF.as_slice() {
         let authority = uid_in(content)?;

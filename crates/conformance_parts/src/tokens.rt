@@ -122,10 +122,7 @@ fn nested(alloc: Global, value: Value, lists: u8) -> Result<Item, AllocError> {
 #[test]
 fn values_that_cannot_be_written(rt: HostRuntime) -> Result<(), Fail> {
     let list = Value::List(Vec::new(rt.alloc()));
-    let named = Value::Named(
-        Box::new(rt.alloc(), list)?,
-        Box::new(rt.alloc(), Value::Number(5))?,
-    );
+    let named = Value::Named(Box::new(rt.alloc(), (list, Value::Number(5)))?);
     let shown = value_text(rt.alloc(), &named)?;
     assert_eq!(rt; shown.as_str(), "{[]=5}");
     assert!(rt; !writable(&nested(rt.alloc(), named, 0)?));

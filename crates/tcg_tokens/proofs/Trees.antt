@@ -38,5 +38,5 @@ pub tree_bytes : (b : Seq ℕ) → tree (value.Bytes b) ≡ bytes b
 tree_bytes b = search (rules, the_lemmas)
 
 -- a named value, where the value is known to be that
-pub tree_named : (v : Value) (name inner : Box Value Global) → v ≡ value.Named name inner → tree v ≡ named (tree name.value) (tree inner.value)
-tree_named v name inner e = ap tree e ∙ search (rules, the_lemmas)
+pub tree_named : (v : Value) (both : Box (Value × Value) Global) → v ≡ value.Named both → tree v ≡ named (tree both.value.0) (tree both.value.1)
+tree_named v both e = ap tree e ∙ search (rules, the_lemmas)

@@ -24,7 +24,7 @@ abbrev pub tree_step : Value-F Tree → Tree
 tree_step (Value-F.Number n) = number n
 tree_step (Value-F.Bytes b) = bytes b
 tree_step (Value-F.List items) = list (trees_of items.items)
-tree_step (Value-F.Named name value) = named name.value value.value
+tree_step (Value-F.Named both) = named both.value.0 both.value.1
 
 abbrev pub tree : Value → Tree
 tree = fold-Value Tree tree_step

@@ -77,7 +77,7 @@ fn is_name_value(name: &Value) -> bool
         Value::Number(number) => is_number(*number),
         Value::Bytes(content) => is_atom(content.as_slice()),
         Value::List(_) => false,
-        Value::Named(_, _) => false,
+        Value::Named(_) => false,
     }
 }
 
@@ -90,7 +90,8 @@ fn is_writable_in(value: &Value, room: u8) -> bool
         Value::Number(number) => is_number(*number),
         Value::Bytes(content) => is_atom(content.as_slice()),
         Value::List(items) => room > 0 && are_writable(items, room - 1),
-        Value::Named(name, inner) => {
+        Value::Named(both) => {
+            let (name, inner) = &**both;
             if room == 0 || !is_name_value(name) {
                 return false;
             }

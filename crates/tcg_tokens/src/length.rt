@@ -80,9 +80,12 @@ fn value_len(value: &Value) -> usize
         Value::Number(number) => number_len(*number),
         Value::Bytes(content) => bytes_len(content.as_slice()),
         Value::List(items) => list_len(items),
-        Value::Named(name, inner) => value_len(name)
-            .saturating_add(value_len(inner))
-            .saturating_add(2),
+        Value::Named(both) => {
+            let (name, inner) = &**both;
+            value_len(name)
+                .saturating_add(value_len(inner))
+                .saturating_add(2)
+        }
     }
 }
 

@@ -19,6 +19,7 @@ use std::alloc::Global;
 
 /// What is behind that mark.
 #[tactic(auto, unfolding(crate::specs::Reading::expect))]
+#[inline(always)]
 fn after_mark(mark: Mark, bytes: &[u8]) -> Result<&[u8], TokenError>
     ensures { Gives (λ x. x.now) result (expect mark bytes.now) }
 {
@@ -38,6 +39,7 @@ fn after_mark(mark: Mark, bytes: &[u8]) -> Result<&[u8], TokenError>
 
 /// A number, and what is behind it.
 #[tactic(auto, unfolding(crate::specs::Reading::number_at))]
+#[inline(always)]
 fn number(bytes: &[u8]) -> Result<(u64, &[u8]), TokenError>
     ensures { Gives (λ x. (x.0, x.1.now)) result (number_at bytes.now) }
 {
@@ -61,6 +63,7 @@ fn uid_from(content: &[u8]) -> Option<[u8; 8]>
 
 /// A UID, and what is behind it.
 #[tactic(auto, unfolding(crate::specs::Reading::uid_at))]
+#[inline(always)]
 fn uid(bytes: &[u8]) -> Result<([u8; 8], &[u8]), TokenError>
     ensures { Gives (λ x. (x.0, x.1.now)) result (uid_at bytes.now) }
 {
@@ -77,6 +80,7 @@ fn uid(bytes: &[u8]) -> Result<([u8; 8], &[u8]), TokenError>
 
 /// The three numbers of a status, and what is behind it.
 #[tactic(auto, unfolding(crate::specs::Reading::status_at))]
+#[inline(always)]
 fn status(bytes: &[u8]) -> Result<([u64; 3], &[u8]), TokenError>
     ensures { Gives (λ x. (x.0, x.1.now)) result (status_at bytes.now) }
 {
@@ -134,6 +138,7 @@ fn list<'a>(alloc: Global, bytes: &'a [u8], room: u8) -> Result<(Value, &'a [u8]
 }
 
 /// The name of a named value.
+#[inline(always)]
 fn name(alloc: Global, token: Token<'_>) -> Result<Value, TokenError>
     ensures { Gives (λ x. tree x) result (name_of (seen token.entry)) }
 {
@@ -158,9 +163,8 @@ fn named<'a>(alloc: Global, bytes: &'a [u8], room: u8) -> Result<(Value, &'a [u8
     let (token, rest) = next_token(rest)?;
     let (inner, rest) = value(alloc, token, rest, room)?;
     let rest = after_mark(Mark::EndName, rest)?;
-    let name = Box::new(alloc, name)?;
-    let inner = Box::new(alloc, inner)?;
-    Ok((Value::Named(name, inner), rest))
+    let both = Box::new(alloc, (name, inner))?;
+    Ok((Value::Named(both), rest))
 }
 
 /// The values up to the end of their list.
@@ -190,6 +194,7 @@ fn values<'a>(
 
 /// The values of an outermost list, behind its first token.
 #[tactic(auto, unfolding(crate::specs::Reading::list_at))]
+#[inline(always)]
 fn outermost(alloc: Global, bytes: &[u8]) -> Result<(Vec<Value>, &[u8]), TokenError>
     ensures { Gives (λ x. (trees x.0.items, x.1.now)) result (list_at bytes.now) }
 {
@@ -198,6 +203,7 @@ fn outermost(alloc: Global, bytes: &[u8]) -> Result<(Vec<Value>, &[u8]), TokenEr
 
 /// A call behind its first token.
 #[tactic(auto, unfolding(crate::specs::Reading::call_at))]
+#[inline(always)]
 fn call(alloc: Global, bytes: &[u8]) -> Result<(Item, &[u8]), TokenError>
     ensures { Gives (λ x. (message x.0, x.1.now)) result (call_at bytes.now) }
 {
@@ -230,6 +236,7 @@ fn reply(alloc: Global, bytes: &[u8]) -> Result<(Item, &[u8]), TokenError>
 }
 
 /// An item behind its first token, a mark.
+#[inline(always)]
 fn marked(alloc: Global, mark: Mark, rest: &[u8]) -> Result<(Item, &[u8]), TokenError>
     ensures { Gives (λ x. (message x.0, x.1.now)) result (marked_of mark rest.now) }
 {
@@ -253,6 +260,7 @@ fn marked(alloc: Global, mark: Mark, rest: &[u8]) -> Result<(Item, &[u8]), Token
 
 /// The item at the front, and what is behind it.
 #[tactic(auto, unfolding(crate::specs::Reading::message_at))]
+#[inline(always)]
 fn item(alloc: Global, bytes: &[u8]) -> Result<(Item, &[u8]), TokenError>
     ensures { Gives (λ x. (message x.0, x.1.now)) result (message_at bytes.now) }
 {
@@ -266,6 +274,7 @@ fn item(alloc: Global, bytes: &[u8]) -> Result<(Item, &[u8]), TokenError>
 
 /// The item that the bytes spell, all of the bytes but for FF behind it.
 #[tactic(auto, unfolding(crate::specs::Reading::reading))]
+#[inline(always)]
 fn read_whole(alloc: Global, bytes: &[u8]) -> Result<Item, TokenError>
     ensures { Gives message result (reading bytes.now) }
 {

@@ -88,7 +88,8 @@ fn show_value(alloc: Global, value: &Value, text: &mut String) -> Result<(), All
             show_list(alloc, items, text)?;
             Ok(())
         }
-        Value::Named(name, inner) => {
+        Value::Named(both) => {
+            let (name, inner) = &**both;
             text.push_str("{")?;
             show_value(alloc, name, text)?;
             text.push_str("=")?;

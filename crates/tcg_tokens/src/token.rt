@@ -60,6 +60,7 @@ fn number_of(content: &[u8]) -> Option<u64>
 }
 
 /// An atom behind its header, from `len` bytes of content.
+#[inline(always)]
 fn content(is_bytes: bool, len: usize, rest: &[u8]) -> Result<(Token<'_>, &[u8]), TokenError>
     ensures { Gives (λ x. (seen x.0, x.1.now)) result (content_at is_bytes len rest.now) }
 {
@@ -96,6 +97,7 @@ fn length_of(upper: u8, bytes: &[u8]) -> usize
 
 /// An atom behind its first byte, which says its kind and the upper bits of its length; `width` bytes of
 /// length follow.
+#[inline(always)]
 fn atom(
     is_bytes: bool,
     is_signed: bool,
@@ -122,6 +124,7 @@ fn atom(
 }
 
 /// An atom of a form, from its first byte on.
+#[inline(always)]
 fn form_at(form: Form, first: u8, rest: &[u8]) -> Result<(Token<'_>, &[u8]), TokenError>
     ensures { Gives (λ x. (seen x.0, x.1.now)) result (form_at form first rest.now) }
 {
@@ -138,6 +141,7 @@ fn form_at(form: Form, first: u8, rest: &[u8]) -> Result<(Token<'_>, &[u8]), Tok
 }
 
 /// The mark that a byte is.
+#[inline(always)]
 fn mark_of(byte: u8) -> Option<Mark>
     ensures { result ≡ mark_of byte }
 {
@@ -145,6 +149,7 @@ fn mark_of(byte: u8) -> Option<Mark>
 }
 
 /// The mark that a byte is, and what is behind it.
+#[inline(always)]
 fn mark_from(byte: u8, rest: &[u8]) -> Result<(Token<'_>, &[u8]), TokenError>
     ensures { Gives (λ x. (seen x.0, x.1.now)) result (mark_at byte rest.now) }
 {
@@ -155,6 +160,7 @@ fn mark_from(byte: u8, rest: &[u8]) -> Result<(Token<'_>, &[u8]), TokenError>
 }
 
 /// The bytes without the empty atoms in front.
+#[inline(always)]
 pub(crate) fn skipped(bytes: &[u8]) -> &[u8]
     ensures { result.now ≡ skip bytes.now }
 {
@@ -166,6 +172,7 @@ pub(crate) fn skipped(bytes: &[u8]) -> &[u8]
 }
 
 /// A token behind its first byte.
+#[inline(always)]
 fn token_from(first: u8, rest: &[u8]) -> Result<(Token<'_>, &[u8]), TokenError>
     ensures { Gives (λ x. (seen x.0, x.1.now)) result (lexeme_at first rest.now) }
 {
@@ -189,6 +196,7 @@ fn token_from(first: u8, rest: &[u8]) -> Result<(Token<'_>, &[u8]), TokenError>
 
 /// The token at the front, and what is behind it.
 #[tactic(auto, unfolding(crate::specs::Lex::first_lexeme))]
+#[inline(always)]
 pub(crate) fn next_token(bytes: &[u8]) -> Result<(Token<'_>, &[u8]), TokenError>
     ensures { Gives (λ x. (seen x.0, x.1.now)) result (token_at bytes.now) }
 {

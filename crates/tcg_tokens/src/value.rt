@@ -11,8 +11,8 @@ pub enum Value {
     Bytes(Bytes),
     /// A list of values.
     List(Vec<Value>),
-    /// A name and its value. The name is a number or bytes where the value can be written.
-    Named(Box<Value>, Box<Value>),
+    /// A name and its value, in one room. The name is a number or bytes where the value can be written.
+    Named(Box<(Value, Value)>),
 }
 
 /// The call of a method.

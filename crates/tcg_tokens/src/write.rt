@@ -54,6 +54,7 @@ pub fn write_item_into(item: &Item, out: &mut Vec<u8>)
 // Each function here adds to `out`, whose room the caller has made: none takes memory.
 
 /// One byte.
+#[inline(always)]
 fn put(out: &mut Vec<u8>, byte: u8)
     requires room { vec_len out.old + length (byte ∷ []) ≤ vec_capacity out.old }
     ensures items { out.new.items ≡ out.old.items ++ byte ∷ [] }
@@ -64,6 +65,7 @@ fn put(out: &mut Vec<u8>, byte: u8)
 }
 
 /// Bytes as they are.
+#[inline(always)]
 fn put_all(out: &mut Vec<u8>, bytes: &[u8])
     requires room { vec_len out.old + length (bytes.now) ≤ vec_capacity out.old }
     ensures items { out.new.items ≡ out.old.items ++ bytes.now }
@@ -74,6 +76,7 @@ fn put_all(out: &mut Vec<u8>, bytes: &[u8])
 }
 
 /// A mark.
+#[inline(always)]
 fn put_mark(out: &mut Vec<u8>, mark: Mark)
     requires room { vec_len out.old + length (code_of mark ∷ []) ≤ vec_capacity out.old }
     ensures items { out.new.items ≡ out.old.items ++ code_of mark ∷ [] }
@@ -84,6 +87,7 @@ fn put_mark(out: &mut Vec<u8>, mark: Mark)
 }
 
 /// What stands before the content of an atom, in its shortest form.
+#[inline(always)]
 fn put_header(out: &mut Vec<u8>, is_bytes: bool, len: usize)
     requires short { len < 2 ^ LENGTH_BITS }
     requires room { vec_len out.old + length (header is_bytes len) ≤ vec_capacity out.old }
@@ -129,6 +133,7 @@ pub(crate) fn without_zeros(bytes: &[u8]) -> &[u8]
 
 /// A number in the shortest atom.
 #[tactic(auto, unfolding(crate::specs::Spelling::number_spelling))]
+#[inline(always)]
 fn put_number(out: &mut Vec<u8>, number: u64)
     requires room { vec_len out.old + length (number_spelling number) ≤ vec_capacity out.old }
     ensures items { out.new.items ≡ out.old.items ++ number_spelling number }
@@ -147,6 +152,7 @@ fn put_number(out: &mut Vec<u8>, number: u64)
 
 /// Bytes in the shortest atom.
 #[tactic(auto, unfolding(crate::specs::Spelling::bytes_spelling))]
+#[inline(always)]
 fn put_bytes(out: &mut Vec<u8>, content: &[u8])
     requires short { length content.now < 2 ^ LENGTH_BITS }
     requires room { vec_len out.old + length (bytes_spelling content.now) ≤ vec_capacity out.old }
@@ -172,7 +178,8 @@ fn put_value(out: &mut Vec<u8>, value: &Value)
         Value::Number(number) => put_number(out, *number),
         Value::Bytes(content) => put_bytes(out, content.as_slice()),
         Value::List(items) => put_list(out, items),
-        Value::Named(name, inner) => {
+        Value::Named(both) => {
+            let (name, inner) = &**both;
             put_mark(out, Mark::StartName);
             put_value(out, name);
             put_value(out, inner);
@@ -199,6 +206,7 @@ fn put_list(out: &mut Vec<u8>, items: &Vec<Value>)
 }
 
 /// The numbers of a status as a list.
+#[inline(always)]
 fn put_status(out: &mut Vec<u8>, status: &[u64; 3])
     requires room { vec_len out.old + length (status_spelling status.now) ≤ vec_capacity out.old }
     ensures items { out.new.items ≡ out.old.items ++ status_spelling status.now }
