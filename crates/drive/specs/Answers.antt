@@ -6,6 +6,7 @@ use Rattle.history.specs.Events.{HeldCommand, Event}
 use Rattle.history.specs.Facts.{Facts}
 use Rattle.history.specs.Answers.{status_of, is_holding, answer_fises, answer_data, completed_fises, completed_data, fises_of}
 use Rattle.shadow_mbr.specs.Stored.{sector_at}
+use Rattle.sp_cells.specs.Resets.{power_cycle, hardware}
 use Rattle.drive.specs.Transfer.{queued_command, bytes_of, sector_then}
 use Rattle.drive.specs.Queue.{with_slot}
 use Rattle.drive.specs.State.{State, seen, Keeps}
@@ -47,7 +48,7 @@ abbrev pub IsFinished : ℕ → List ℕ → Option Held → State → State →
 IsFinished tag payload None old new done = ⊥
 IsFinished tag payload (Some held) old new done = Finishes tag payload held old new done
 
--- The kinds of reset (Core 2.01, reset_type).
+-- The number of a kind of reset (Core 2.01, reset_type).
 abbrev pub kind_of : ResetKind → ℕ
-kind_of Power = 0
-kind_of Hardware = 1
+kind_of Power = power_cycle
+kind_of Hardware = hardware

@@ -23,7 +23,8 @@ use Rattle.port_history.specs.declared.step.Step.TheVariants as steps
 use Rattle.port_history.specs.Refusals.{IsLawful}
 use Rattle.port_history.specs.Requests.{command_fis}
 use Rattle.port_history.specs.Stages.{put_in}
-use Rattle.port_history.specs.Steps.{Effect, Moment, moment, trace, stage, failed, payload, acceptance, accept_payload, act_of, audit, line_for_client, line_of}
+use Rattle.history.specs.Audit.{line_for}
+use Rattle.port_history.specs.Steps.{Effect, Moment, moment, trace, stage, failed, payload, acceptance, accept_payload, act_of, audit, line_of}
 use Rattle.port_history.proofs.KeptLaw.{kept, accept_is, found, recover_is}
 use Rattle.port_history.proofs.Tests.{some_is, was_true, none_holds, tests_of, issued_is}
 use Rattle.headline.specs.Steps.{facts_after}
@@ -58,7 +59,7 @@ line_at number client why =
     (eq-eqb number number refl)
 
 lines_beside : (number at client : ℕ) (why : Option Why) (rest : List AuditLine) → (at == number) ≡ false
-    → lines_at number (line_for_client at client why ++ rest) ≡ lines_at number rest
+    → lines_at number (line_for at client why ++ rest) ≡ lines_at number rest
 lines_beside number at client None rest other = refl
 lines_beside number at client (Some why) rest other =
     ap
@@ -67,7 +68,7 @@ lines_beside number at client (Some why) rest other =
     other
 
 lines_here : (number client : ℕ) (why : Option Why) (rest : List AuditLine) → lines_at number rest ≡ []
-    → lines_at number (line_for_client number client why ++ rest) ≡ line_for_client number client why
+    → lines_at number (line_for number client why ++ rest) ≡ line_for number client why
 lines_here number client None rest none = none
 lines_here number client (Some why) rest none =
     ap
@@ -154,7 +155,7 @@ event_then o before u put =
 line_then : (o : Origin) (before : List Step) (u : ℕ) (put : Put) (number : ℕ)
     → stage (trace o before) u ≡ Issued put
     → line_by o before (steps.Accept u) number
-    ≡ line_for_client number put.client (event_then o before u put).denied
+    ≡ line_for number put.client (event_then o before u put).denied
 line_then o before u put number was =
     ap (λ (m : Moment). line_of number m.served m.effect) (accept_is o (trace o before) u put was)
 
@@ -176,7 +177,7 @@ one_line o before step client why number d =
     (as_denied (facts_after o before) d.act why d.denied) in
     ap (λ (s : Step). line_by o before s number) d.accepts
     ∙ line_then o before d.tag d.put number d.stands
-    ∙ ap (line_for_client number d.put.client) so
+    ∙ ap (line_for number d.put.client) so
     ∙ ap (λ (c : ℕ). record { step = number; client = c; why = why } ∷ []) d.its_client
 
 -- What each lawful step adds: nothing, or its line.
@@ -205,7 +206,7 @@ accept_adds o before u put was = by_denied (event_then o before u put).denied re
   where
     by_denied : (d : Option Why) → (event_then o before u put).denied ≡ d → Adds o before (steps.Accept u)
     by_denied None is =
-        AddsNothing (λ number. line_then o before u put number was ∙ ap (line_for_client number put.client) is)
+        AddsNothing (λ number. line_then o before u put number was ∙ ap (line_for number put.client) is)
     by_denied (Some why) is =
         AddsLine put.client why
         (record {
@@ -228,7 +229,7 @@ adds o (steps.Accept u) before h =
     accept_adds o before u p.0 p.1
 adds o (steps.Complete u) before h =
     AddsNothing
-    (λ number. ap (line_for_client number _)
+    (λ number. ap (line_for number _)
     (none_completed u (payload (trace o before) u) ((facts_after o before).held u)))
 adds o steps.Recover before h =
     let ms = trace o before in

@@ -32,7 +32,8 @@ use Rattle.port_history.specs.Refusals.{refusal}
 use Rattle.port_history.specs.Registers.{registers, all_shown, restarted_if}
 use Rattle.port_history.specs.Requests.{command_fis, to_device, bytes_moved}
 use Rattle.port_history.specs.Stages.{is_queued, is_queued_put, to, put_in, accepted_stage}
-use Rattle.port_history.specs.Steps.{Effect, Moment, moment, effect_by, acceptance, accept_payload, act_of, act_before, event_before, executed_answer, answered_with, failing_by, has_failed, line_for_client, trace, events, acts, sent, stage, failed, payload, answer, audit}
+use Rattle.history.specs.Audit.{line_for}
+use Rattle.port_history.specs.Steps.{Effect, Moment, moment, effect_by, acceptance, accept_payload, act_of, act_before, event_before, executed_answer, answered_with, failing_by, has_failed, trace, events, acts, sent, stage, failed, payload, answer, audit}
 use Rattle.port_history.proofs.Tests.{none_holds, issued_is, none_is}
 use Rattle.port.specs.declared.outcome.Outcome.{Outcome}
 use Rattle.port.specs.declared.outcome.Outcome.TheVariants as outcomes
@@ -86,22 +87,22 @@ executed memory given bytes content tag a (Some code) status error failing is =
     ∙ ap (λ (n : ℕ). Some (answers.Failed failed_status n)) error
 
 lines_back : (n client : ℕ) (why : Option Why)
-    → reverse (line_for_client n client why) ≡ line_for_client n client why
+    → reverse (line_for n client why) ≡ line_for n client why
 lines_back n client None = refl
 lines_back n client (Some why) = refl
 
 -- the log with the line of an act
 pub one_line : (port : State) (o : Origin) (list : List Step) (now : List AuditLine) (client : ℕ)
     (why told : Option Why) → PortAgrees port o list
-    → now ≡ port.audit ++ line_for_client (1 + length port.history) client why → why ≡ told
-    → now ≡ reverse (line_for_client (1 + length (trace o list)) client told ++ audit (trace o list))
+    → now ≡ port.audit ++ line_for (1 + length port.history) client why → why ≡ told
+    → now ≡ reverse (line_for (1 + length (trace o list)) client told ++ audit (trace o list))
 one_line port o list now client why told h is same =
     let ms = trace o list in
-    is ∙ ap (λ (n : ℕ). port.audit ++ line_for_client (1 + n) client why) (count_is port o list h)
-    ∙ ap (λ (x : Option Why). port.audit ++ line_for_client (1 + length ms) client x) same
-    ∙ ap (λ (xs : List AuditLine). xs ++ line_for_client (1 + length ms) client told) h.log
+    is ∙ ap (λ (n : ℕ). port.audit ++ line_for (1 + n) client why) (count_is port o list h)
+    ∙ ap (λ (x : Option Why). port.audit ++ line_for (1 + length ms) client x) same
+    ∙ ap (λ (xs : List AuditLine). xs ++ line_for (1 + length ms) client told) h.log
     ∙ ap (λ (xs : List AuditLine). reverse (audit ms) ++ xs) (sym (lines_back (1 + length ms) client told))
-    ∙ sym (reverse-append (line_for_client (1 + length ms) client told) (audit ms))
+    ∙ sym (reverse-append (line_for (1 + length ms) client told) (audit ms))
 
 issued_same : (a b : Put) → Issued a ≡ Issued b → a ≡ b
 issued_same a b e = cc
@@ -299,7 +300,7 @@ accept_agrees old new o list tag lt h lawful made =
       history = one_entry old o list step new.history (entry_of step) h s.history refl;
       log =
           one_line old o list new.audit put.client s.answer.denied e.event.denied h
-          (s.audit ∙ ap (λ (x : Put). old.audit ++ line_for_client (1 + length old.history) x.client s.answer.denied) same)
+          (s.audit ∙ ap (λ (x : Put). old.audit ++ line_for (1 + length old.history) x.client s.answer.denied) same)
           answered.denied
           ∙ sym (ap (λ (m : Moment). reverse (audit (m ∷ ms))) moment_is);
     }

@@ -25,7 +25,8 @@ use Rattle.port_history.specs.Refusals.{refusal}
 use Rattle.port_history.specs.Registers.{registers, all_shown, restarted, reset_regs}
 use Rattle.port_history.specs.Requests.{log_fis}
 use Rattle.port_history.specs.Stages.{recovered, after_reset, is_pending}
-use Rattle.port_history.specs.Steps.{Effect, effect_by, recovered_answer, line_for_client, is_tag, trace, events, acts, sent, stage, failed, payload, answer, audit}
+use Rattle.history.specs.Audit.{line_for}
+use Rattle.port_history.specs.Steps.{Effect, effect_by, recovered_answer, is_tag, trace, events, acts, sent, stage, failed, payload, answer, audit}
 use Rattle.port_history.proofs.Tests.{none_holds}
 use Rattle.port.specs.declared.outcome.Outcome.{Outcome}
 use Rattle.port.specs.Agreement.{PortAgrees, IsLaidAt}
@@ -101,7 +102,7 @@ recover_agrees old new o list h lawful s =
       history = one_entry old o list step new.history (entry_of step) h s.history refl;
       log =
           s.audit ∙ h.log
-          ∙ sym (ap (λ (why : Option Why). reverse (line_for_client (1 + length ms) 0 why ++ audit ms)) r.denied);
+          ∙ sym (ap (λ (why : Option Why). reverse (line_for (1 + length ms) 0 why ++ audit ms)) r.denied);
     }
 
 laid_reset : (memory : List ℕ) (t : ℕ) (s : Stage) (bytes : List ℕ)

@@ -2,6 +2,7 @@
 use Rattle.std.specs.Prelude.{◌≡◌, ℕ, ◌+◌, ◌++◌, ◌∷◌, ◌≤◌, ◌<◌, ◌==◌, ◌&&◌, ◌%◌, Bool, true, false, not, nat_lt, List, [], length, reverse, slice_index, slice_set, is_some, Option, Some, None, if◌then◌else◌}
 use Rattle.audit.specs.declared.reason.AuditLine.{AuditLine}
 use Rattle.fis.specs.H2d.{h2d_at}
+use Rattle.fis.specs.Tags.{slot_count}
 use Rattle.fis.specs.declared.any.Fis.{Fis}
 use Rattle.hba_regs.specs.Registers.{Regs, fresh}
 use Rattle.trusted_cmds.specs.Commands.{payload_length}
@@ -21,7 +22,8 @@ use Rattle.port_history.specs.Refusals.{most_steps, refusal_by}
 use Rattle.port_history.specs.Registers.{all_shown, restarted, restarted_if, reset_regs, with_issue}
 use Rattle.port_history.specs.Requests.{command_of, payload_of, log_fis, no_bytes}
 use Rattle.port_history.specs.Stages.{is_queued, is_pending, accepted_stage, recovered, after_reset}
-use Rattle.port_history.specs.Steps.{put_of, is_tag, line_for_client}
+use Rattle.history.specs.Audit.{line_for}
+use Rattle.port_history.specs.Steps.{put_of, is_tag}
 use Rattle.port_history.specs.declared.error.PortError.{PortError}
 use Rattle.port_history.specs.declared.request.Request.{Request}
 use Rattle.port_history.specs.declared.stages.Put.{Put}
@@ -48,8 +50,8 @@ pub record State : Type 0 where
 -- A port that did nothing.
 pub record IsFresh (port : State) (drive : DriveState) : Type 0 where
   pub its_drive : port.drive ≡ drive
-  pub slots : length port.slots ≡ 32
-  pub kept_outcomes : length port.outcomes ≡ 32
+  pub slots : length port.slots ≡ slot_count
+  pub kept_outcomes : length port.outcomes ≡ slot_count
   pub stages : (tag : ℕ) → stage_at port.slots tag ≡ Free
   pub outcomes : (tag : ℕ) → outcome_at port.outcomes tag ≡ None
   pub failed : port.failed ≡ None
@@ -151,7 +153,7 @@ pub record IsAccepted (old new : State) (tag : ℕ) (fis : List ℕ) : Type 0 wh
       (all_shown tag old.regs answer.fises.items)
   pub history : new.history ≡ old.history ++ entry_of (steps.Accept tag) ∷ []
   pub audit : new.audit
-      ≡ old.audit ++ line_for_client (1 + length old.history) put.client answer.denied
+      ≡ old.audit ++ line_for (1 + length old.history) put.client answer.denied
 
 pub record IsCompleted (old new : State) (tag : ℕ) : Type 0 where
   pub put : Put
@@ -182,11 +184,11 @@ pub record IsRecovered (old new : State) : Type 0 where
   pub answer : DriveAccepted
   pub was : is_some old.failed ≡ true
   pub took : Took old.drive new.drive log_fis [] answer
-  pub count : length new.slots ≡ 32
-  pub count_outcomes : length new.outcomes ≡ 32
-  pub slots : (t : ℕ) → t < 32 → stage_at new.slots t
+  pub count : length new.slots ≡ slot_count
+  pub count_outcomes : length new.outcomes ≡ slot_count
+  pub slots : (t : ℕ) → t < slot_count → stage_at new.slots t
       ≡ recovered (is_tag t (named_in answer.bytes.items)) (stage_at old.slots t)
-  pub outcomes : (t : ℕ) → t < 32 → outcome_at new.outcomes t
+  pub outcomes : (t : ℕ) → t < slot_count → outcome_at new.outcomes t
       ≡ outcome_recovered (is_tag t (named_in answer.bytes.items))
       (slice_index answer.bytes.items 2) (slice_index answer.bytes.items 3)
       (outcome_at old.outcomes t)
@@ -200,10 +202,10 @@ pub record IsRecovered (old new : State) : Type 0 where
 pub record IsReset (old new : State) (client : ℕ) (kind : ResetKind) : Type 0 where
   pub drive : (o : Origin) (acts : List Act) → DriveAgrees old.drive o acts
       → DriveAgrees new.drive o (ResetDrive (kind_of kind) ∷ acts)
-  pub count : length new.slots ≡ 32
-  pub count_outcomes : length new.outcomes ≡ 32
-  pub slots : (t : ℕ) → t < 32 → stage_at new.slots t ≡ after_reset (stage_at old.slots t)
-  pub outcomes : (t : ℕ) → t < 32 → outcome_at new.outcomes t
+  pub count : length new.slots ≡ slot_count
+  pub count_outcomes : length new.outcomes ≡ slot_count
+  pub slots : (t : ℕ) → t < slot_count → stage_at new.slots t ≡ after_reset (stage_at old.slots t)
+  pub outcomes : (t : ℕ) → t < slot_count → outcome_at new.outcomes t
       ≡ outcome_after_reset (is_pending (stage_at old.slots t)) (outcome_at old.outcomes t)
   pub failed : new.failed ≡ None
   pub memory : new.memory ≡ old.memory

@@ -1,7 +1,7 @@
 //! The steps of clients and of the engine.
 
 ghost use Rattle.std.specs.Prelude.{◌≡◌, ◌<◌, ◌++◌, vec_len, vec_capacity};
-ghost use Rattle.port_history.specs.Steps.{line_for_client};
+ghost use Rattle.history.specs.Audit.{line_for};
 
 use crate::host;
 use crate::outcome::{Outcome, fails, outcome_then};
@@ -18,7 +18,7 @@ use trusted_cmds::payload_len;
 /// Adds the line of a denial, if there was one.
 fn note(audit: &mut Vec<AuditLine>, step: u64, client: u32, denied: Option<Why>)
     requires { vec_len audit.old < vec_capacity audit.old }
-    ensures { audit.new.items ≡ audit.old.items ++ line_for_client step client denied }
+    ensures { audit.new.items ≡ audit.old.items ++ line_for step client denied }
 {
     if let Some(why) = denied {
         audit.push_reserved(AuditLine { step, client, why });

@@ -1,5 +1,6 @@
 -- What a request asks of the device, and the bytes of the FISes by which the port asks it.
-use Rattle.std.specs.Prelude.{ℕ, zero, suc, ◌+◌, ◌*◌, ◌/◌, ◌%◌, ◌^◌, ◌==◌, ◌&&◌, nat_le, nat_lt, Bool, true, false, List, [], ◌∷◌, length}
+use Rattle.std.specs.Prelude.{ℕ, zero, suc, ◌+◌, ◌*◌, ◌/◌, ◌%◌, ◌==◌, ◌&&◌, nat_le, nat_lt, Bool, true, false, List, [], ◌∷◌, length}
+use Rattle.basics.specs.Addresses.{address_limit}
 use Rattle.fis.specs.Bytes.{bit}
 use Rattle.fis.specs.Types.{h2d_type}
 use Rattle.fis.specs.declared.h2d.RegH2d.{RegH2d}
@@ -43,7 +44,7 @@ payload_of Flush = []
 
 -- 1 to 256 whole blocks, from an address of 48 bits on.
 abbrev pub is_address : ℕ → Bool
-is_address lba = nat_lt lba (2 ^ 48)
+is_address lba = nat_lt lba address_limit
 
 abbrev pub are_blocks : ℕ → Bool
 are_blocks count = nat_le 1 count && nat_le count most_blocks

@@ -2,11 +2,11 @@
 -- what is read off them.
 use Rattle.std.specs.Prelude.{ℕ, ◌+◌, ◌&&◌, ◌==◌, Bool, false, ◌∷◌, ◌++◌, List, [], length, reverse, is_some, option_map, unwrap_or, Option, Some, None, if◌then◌else◌}
 use Rattle.audit.specs.declared.reason.AuditLine.{AuditLine}
-use Rattle.audit.specs.declared.reason.Why.{Why}
 use Rattle.device_data.specs.declared.log_page.Failure.{Failure}
 use Rattle.fis.specs.declared.any.Fis.{Fis}
 use Rattle.drive.specs.Answers.{kind_of}
 use Rattle.history.specs.Answers.{status_of, accepted_fises, accepted_data, completed_fises, completed_data}
+use Rattle.history.specs.Audit.{line_for}
 use Rattle.history.specs.Events.{Event}
 use Rattle.history.specs.Facts.{Facts, facts}
 use Rattle.history.specs.History.{Act, Accept as AcceptFis, Complete as CompleteTag, Reset as ResetDrive, event_by}
@@ -244,14 +244,9 @@ abbrev pub client_of : Option Put → ℕ
 client_of None = 0
 client_of (Some put) = put.client
 
-abbrev pub line_for_client : ℕ → ℕ → Option Why → List AuditLine
-line_for_client number client None = []
-line_for_client number client (Some why) =
-    record { step = number; client = client; why = why } ∷ []
-
 abbrev pub line_of : ℕ → Option Put → Option Effect → List AuditLine
 line_of number served None = []
-line_of number served (Some e) = line_for_client number (client_of served) e.event.denied
+line_of number served (Some e) = line_for number (client_of served) e.event.denied
 
 -- The audit log, the newest line first.
 abbrev pub audit : List Moment → List AuditLine

@@ -14,7 +14,8 @@ use Rattle.port.specs.State.{State}
 use Rattle.port_history.specs.Refusals.{refusal, IsRefusedBy}
 use Rattle.port_history.specs.Requests.{no_bytes}
 use Rattle.port_history.specs.Stages.{put_in}
-use Rattle.port_history.specs.Steps.{Effect, moment, trace, stage, answer, audit, line_of, line_for_client, client_of}
+use Rattle.history.specs.Audit.{line_for}
+use Rattle.port_history.specs.Steps.{Effect, moment, trace, stage, answer, audit, line_of, client_of}
 use Rattle.port_history.specs.declared.error.PortError.{PortError}
 use Rattle.port_history.specs.declared.request.Answer.{Answer}
 use Rattle.port_history.specs.declared.stages.Put.{Put}
@@ -113,7 +114,7 @@ line-so number served (Some e) past = by_reason e.event.denied
   where
     by_reason : (why : Option Why)
         → audit_lines (slice_get
-        (reverse (line_for_client number (client_of served) why ++ past)) (length (reverse past)))
+        (reverse (line_for number (client_of served) why ++ past)) (length (reverse past)))
         ≡ denial_lines number (client_of served) why
     by_reason None =
         ap audit_lines (slice_get_past (reverse past) (length (reverse past)) (omega arith))

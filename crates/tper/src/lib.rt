@@ -7,6 +7,6 @@ mod laws;
 mod response;
 mod trusted;
 
-pub use laws::laws_of_answers;
+pub use laws::{laws_of_answers, laws_of_sizes};
 pub use response::{is_session_com_id, sized};
 pub use trusted::{Sent, Tper};

@@ -9,7 +9,7 @@ use Rattle.history.specs.History.{Accept as AcceptFis, log, event}
 use Rattle.drive.specs.Answers.{IsAnswer}
 use Rattle.drive.specs.State.{Agrees as DriveAgrees}
 use Rattle.port_history.specs.Stages.{is_queued}
-use Rattle.port_history.specs.Steps.{line_for_client}
+use Rattle.history.specs.Audit.{line_for}
 use Rattle.port.specs.Answers.{front}
 use Rattle.port.specs.State.{State, Receives, IsFilled}
 use Rattle.port.proofs.Words.{ok_same}
@@ -49,6 +49,6 @@ returns-clause-state c = rw (← c.self.view_is) (λ f e.
       history = search rules;
       audit =
           c.note.ensures
-          ∙ ap (λ (xs : List AuditLine). xs ++ line_for_client c.next_number-number.result c.in_ok-put.put.client answer.denied) c.reserve-2.ensures.items
-          ∙ ap (λ (n : ℕ). c.self.inside.audit.items ++ line_for_client n c.in_ok-put.put.client answer.denied) (c.next_number-number.ensures ∙ ap (λ (s : State). 1 + length s.history) (sym c.self.view_is));
+          ∙ ap (λ (xs : List AuditLine). xs ++ line_for c.next_number-number.result c.in_ok-put.put.client answer.denied) c.reserve-2.ensures.items
+          ∙ ap (λ (n : ℕ). c.self.inside.audit.items ++ line_for n c.in_ok-put.put.client answer.denied) (c.next_number-number.ensures ∙ ap (λ (s : State). 1 + length s.history) (sym c.self.view_is));
     })
