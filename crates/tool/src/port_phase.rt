@@ -1,8 +1,9 @@
 //! The phase of a script that runs on a port: a port, and what the lines do with it.
 
-ghost use Rattle.std.specs.Prelude.{◌≡◌, ◌<◌, ◌≤◌, ◌∷◌, [], IfOk, OnOk, length, slice_get};
+ghost use Rattle.std.specs.Prelude.{◌≡◌, ◌<◌, ◌≤◌, ◌↔◌, ◌∷◌, [], None, IfOk, IfSome, OnOk, length, slice_get};
 ghost use Rattle.compacket.specs.Spelling.{frame_bytes};
 ghost use Rattle.port_history.specs.Stages.{put_in};
+ghost use Rattle.port_history.specs.declared.error.PortError.TheVariants as errors;
 ghost use Rattle.port_history.specs.declared.request.Request.TheVariants as requests;
 ghost use Rattle.script_lines.specs.Fields.{most_call_bytes, most_send_bytes};
 ghost use Rattle.script_lines.specs.PortLines.{FitsPut};
@@ -124,34 +125,35 @@ fn send_of(com_id: ComId, bytes: Bytes) -> Request
     }
 }
 
-/// The number of a refusal.
-fn number_of(error: PortError) -> u8
-    ensures { result ≡ number_of error }
+/// The number of a refusal; want of memory is none, but the program's own.
+fn refusal_number(error: PortError) -> Option<u8>
+    ensures memory { (result ≡ None) ↔ (error ≡ errors.OutOfMemory) }
+    ensures number { IfSome result (λ n. n ≡ number_of error) }
 {
     match error {
-        PortError::SlotBusy => 1,
-        PortError::NotPrepared => 2,
-        PortError::Queue => 3,
-        PortError::NotIssued => 4,
-        PortError::NotAccepted => 5,
-        PortError::NotFailed => 6,
-        PortError::Failed => 7,
-        PortError::NotAnswered => 8,
-        PortError::NotYours => 9,
-        PortError::Size => 10,
-        PortError::HistoryFull => 11,
-        PortError::OutOfMemory => 12,
+        PortError::SlotBusy => Some(1),
+        PortError::NotPrepared => Some(2),
+        PortError::Queue => Some(3),
+        PortError::NotIssued => Some(4),
+        PortError::NotAccepted => Some(5),
+        PortError::NotFailed => Some(6),
+        PortError::Failed => Some(7),
+        PortError::NotAnswered => Some(8),
+        PortError::NotYours => Some(9),
+        PortError::Size => Some(10),
+        PortError::HistoryFull => Some(11),
+        PortError::OutOfMemory => None,
     }
 }
 
-/// Prints a refusal. Want of memory is the program's own.
+/// Prints a refusal. Want of memory stays an error.
 fn print_error(error: PortError, report: &mut Report) -> Result<(), AllocError>
     ensures { OnOk result (PrintsError error report.old report.new) }
 {
-    if error == PortError::OutOfMemory {
+    let Some(number) = refusal_number(error) else {
         return Err(AllocError);
-    }
-    report.print_refused(number_of(error))?;
+    };
+    report.print_refused(number)?;
     Ok(())
 }
 
