@@ -1,3 +1,4 @@
 pub mod Loads
+pub mod Rounds
 pub mod Steps
 pub mod Works

@@ -1,5 +1,5 @@
 -- How many clients make how many rounds, as the command line writes it.
-use Rattle.std.specs.Prelude.{◌≡◌, ℕ, ◌==◌, List, Option, None, Some, if◌then◌else◌}
+use Rattle.std.specs.Prelude.{◌≡◌, ℕ, ◌==◌, List, Option, None, Some, is_some, true, if◌then◌else◌}
 use Rattle.script_lines.specs.Numbers.{number_up_to}
 use Rattle.port_threads.specs.declared.load.LoadFault.{LoadFault}
 use Rattle.port_threads.specs.declared.load.LoadFault.TheVariants.{Clients, Rounds}
@@ -28,4 +28,5 @@ WritesLoad clients_text rounds_text clients rounds =
 -- the fault is the first one of the texts
 abbrev pub IsFirstFault : List ℕ → List ℕ → LoadFault → Type 0
 IsFirstFault clients_text rounds_text Clients = from_1_to most_clients clients_text ≡ None
-IsFirstFault clients_text rounds_text Rounds = from_1_to most_rounds rounds_text ≡ None
+IsFirstFault clients_text rounds_text Rounds =
+    (is_some (from_1_to most_clients clients_text) ≡ true) × (from_1_to most_rounds rounds_text ≡ None)

@@ -1,16 +1,13 @@
 -- What a run of clients and an engine tells.
-use Rattle.std.specs.Prelude.{◌≡◌, ◌↔◌, ℕ, ◌+◌, ◌*◌, ◌≤◌, ◌==◌, ◌&&◌, Bool, true, List, ◌++◌, length, All, Option, codes, decimal, if◌then◌else◌}
+use Rattle.std.specs.Prelude.{◌≡◌, ◌↔◌, ℕ, ◌+◌, ◌*◌, ◌==◌, ◌&&◌, Bool, true, List, ◌++◌, length, All, Option, codes, decimal, if◌then◌else◌}
 use Rattle.std.specs.Io.KnownBytes.{Appends}
 use Rattle.port.specs.State.{State}
 use Rattle.port_history.specs.declared.step.Entry.{Entry}
 use Rattle.locked_port.specs.Counts.{Stands}
 use Rattle.locked_port.specs.Receipts.{AreApart, IsShown, AreNamed}
 use Rattle.locked_port.specs.declared.ticket.Receipt.{Receipt}
+use Rattle.port_threads.specs.Rounds.{steps_of_round, ClientLog, AreMade, rounds_of, receipts_of}
 use Rattle.port_threads.specs.declared.facts.Facts.{Facts}
-
--- A round is a write and a read, each of them a Put and a Take.
-abbrev pub steps_of_round : ℕ
-steps_of_round = 4
 
 -- The receipts are for all client steps of the history, each once and as the history has it.
 abbrev pub AreWhole : List Entry → List Receipt → Type 0
@@ -34,17 +31,20 @@ abbrev pub is_right : ℕ → ℕ → Facts → Bool
 is_right clients rounds facts =
     (facts.rounds == clients * rounds) && (facts.client_steps == steps_of_round * (clients * rounds)) && facts.receipts
 
--- The facts are those of a port that stands and of receipts that clients were told.
-pub record IsTold (facts : Facts) : Type 0 where
+-- The facts are those of a port that stands, and of so many clients that were asked for so many rounds each: of what
+-- each made, and of the receipts of all.
+pub record IsTold (clients rounds : ℕ) (facts : Facts) : Type 0 where
   pub port : State
-  pub receipts : List Receipt
+  pub logs : List ClientLog
   pub stands : Stands port facts.client_steps
-  pub rounds : steps_of_round * facts.rounds ≤ length receipts
-  pub whole : (facts.receipts ≡ true) ↔ AreWhole port.history receipts
+  pub count : length logs ≡ clients
+  pub made : AreMade rounds logs
+  pub rounds_are : facts.rounds ≡ rounds_of logs
+  pub whole : (facts.receipts ≡ true) ↔ AreWhole port.history (receipts_of logs)
 
 -- The facts are printed, and the status is 0 exactly where they are right.
 pub record Ran (clients rounds status : ℕ) (old new : Option (List ℕ)) : Type 0 where
   pub facts : Facts
-  pub told : IsTold facts
+  pub told : IsTold clients rounds facts
   pub printed : Appends old new (facts_text facts)
   pub ends : status ≡ (if is_right clients rounds facts then 0 else 1)

@@ -1,9 +1,10 @@
 //! Clients and an engine, each in a thread of its own, and what they tell.
 
-ghost use Rattle.std.specs.Prelude.{◌≡◌, ◌+◌, ◌*◌, ◌≤◌, vec_len, IfOk, IfErr, ◌⊎◌};
+ghost use Rattle.std.specs.Prelude.{◌≡◌, ◌+◌, ◌*◌, ◌≤◌, ◌<◌, ℕ, map, vec_len, slice_index_or, OnOk, IfOk, IfErr, ◌⊎◌};
 ghost use Rattle.locked_port.specs.Counts.{Stands};
 ghost use Rattle.tool.specs.declared.ending.RunError.{RunError};
-ghost use Rattle.port_threads.specs.Works.{steps_of_round, IsTold, Ran, is_right};
+ghost use Rattle.port_threads.specs.Rounds.{steps_of_round, Made, AreOf, rounds_of, receipts_of};
+ghost use Rattle.port_threads.specs.Works.{IsTold, Ran, is_right};
 
 use crate::facts::{Facts, facts_text};
 use crate::load::Load;
@@ -46,7 +47,11 @@ struct Works<L: PortName> {
 
 impl<L: PortName> Works<L> {
     /// Puts the engine's pass beside the clients'.
-    fn add_engine(&mut self, engine: Pass<L>) -> Result<(), AllocError> {
+    fn add_engine(&mut self, engine: Pass<L>) -> Result<(), AllocError>
+        ensures rounds { self.new.rounds ≡ self.old.rounds }
+        ensures receipts { self.new.receipts ≡ self.old.receipts }
+        ensures passes { OnOk result (vec_len self.new.passes ≡ vec_len self.old.passes + 1) }
+    {
         if self.passes.push(engine).is_err() {
             return Err(AllocError);
         }
@@ -55,7 +60,14 @@ impl<L: PortName> Works<L> {
 }
 
 /// What all clients did, in one.
-fn gather<L: PortName>(alloc: Global, works: Vec<Work<L>>) -> Result<Works<L>, AllocError> {
+#[tactic(auto, using(crate::proofs::Logs::rounds_more, crate::proofs::Logs::receipts_more))]
+fn gather<L: PortName>(alloc: Global, works: Vec<Work<L>>) -> Result<Works<L>, AllocError>
+    ensures rounds { IfOk result (λ all. all.rounds
+        ≡ rounds_of (map (λ w. (w.rounds, w.receipts.items)) works.items)) }
+    ensures receipts { IfOk result (λ all. all.receipts.items
+        ≡ receipts_of (map (λ w. (w.rounds, w.receipts.items)) works.items)) }
+    ensures passes { IfOk result (λ all. vec_len all.passes ≡ vec_len works) }
+{
     let mut passes = Vec::new(alloc);
     let mut receipts = Vec::new(alloc);
     let mut rounds = 0u64;
@@ -100,7 +112,11 @@ fn run_clients<L: PortName + Send + Sync, R: Threads + Wait + Sync>(
     alloc: Global,
     passes: Vec<Pass<L>>,
     rounds: u32,
-) -> Result<Vec<Work<L>>, AllocError> {
+) -> Result<Vec<Work<L>>, AllocError>
+    ensures made { IfOk result (λ works. (i : ℕ) (d : _) (p : _) → i < vec_len works
+        → Made (slice_index_or passes.items i p).client rounds
+        (slice_index_or works.items i d).rounds (slice_index_or works.items i d).receipts.items) }
+{
     thread::map_vec(
         rt,
         passes,
@@ -116,7 +132,8 @@ fn run_all<L: PortName + Send + Sync, R: Threads + Wait + Sync>(
     mut passes: Vec<Pass<L>>,
     load: &Load,
 ) -> Result<Works<L>, RunError>
-    ensures { IfErr result (λ error. error ≡ RunError.Memory) }
+    ensures made { IfOk result (λ all. AreOf load.now.rounds (vec_len all.passes) all.rounds all.receipts.items) }
+    ensures memory { IfErr result (λ error. error ≡ RunError.Memory) }
 {
     let Some(mut engine) = passes.pop() else {
         return Err(RunError::Memory);
@@ -145,7 +162,7 @@ fn facts_of<L: PortName + Send + Sync, R: Threads + Wait + Sync>(
 ) -> Result<Facts, RunError>
     requires name { blank.name ≡ L.name }
     requires parts { (blank.parts ≡ L.parts) × (blank.parts ≡ load.now.clients + 1) × (L.passes ≡ L.parts) }
-    ensures told { IfOk result IsTold }
+    ensures told { IfOk result (λ facts. IsTold load.now.clients load.now.rounds facts) }
     ensures memory { IfErr result (λ error. error ≡ RunError.Memory) }
 {
     let port = default_port(alloc)?;

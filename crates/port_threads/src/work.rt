@@ -1,14 +1,15 @@
 //! What one client does, in a thread of its own.
 
-ghost use Rattle.std.specs.Prelude.{◌*◌, ◌≤◌, vec_len};
-ghost use Rattle.port_threads.specs.Works.{steps_of_round};
+ghost use Rattle.std.specs.Prelude.{◌≡◌, ◌*◌, ◌≤◌, vec_len};
+ghost use Rattle.port_threads.specs.Rounds.{steps_of_round, Made};
 
 use crate::log::Log;
 use locked_port::{LockedPort, Pass, PortName, Receipt};
 use std::alloc::Global;
 use std::sync::Wait;
 
-/// The pass of a client that has ended, its receipts, and how many rounds it made.
+/// The pass of a client that has ended, its receipts, and how many rounds it made. That the receipts are enough for the
+/// rounds bounds these by memory, so that the rounds of all clients can be added.
 #[derive(Drop)]
 pub(crate) struct Work<L: PortName> {
     pub(crate) pass: Pass<L>,
@@ -17,27 +18,36 @@ pub(crate) struct Work<L: PortName> {
     ghost told: { steps_of_round * rounds ≤ vec_len receipts },
 }
 
-/// Makes so many rounds. It ends before that where a round is refused, or reads back something else than what was
-/// written.
+/// What a client did that has this log.
+fn work_of<L: PortName>(pass: Pass<L>, log: Log, rounds: u32) -> Work<L>
+    requires { steps_of_round * rounds ≤ vec_len log.receipts }
+    ensures receipts { result.receipts ≡ log.receipts }
+    ensures rounds { result.rounds ≡ rounds }
+{
+    let Log { receipts } = log;
+    Work {
+        pass,
+        receipts,
+        rounds: u64::from(rounds),
+    }
+}
+
+/// Makes so many rounds, each with the low byte of its number. It ends before that where a round is refused, or reads
+/// back something else than what was written.
 pub(crate) fn make_rounds<L: PortName, R: Wait>(
     rt: &R,
     alloc: Global,
     port: &LockedPort<L>,
     mut pass: Pass<L>,
     rounds: u32,
-) -> Work<L> {
+) -> Work<L>
+    ensures { Made pass.client rounds result.rounds result.receipts.items }
+{
     let mut log = Log::new(alloc);
-    let mut made = 0u64;
     for round in 0..rounds {
-        let Ok(true) = log.round(rt, alloc, port, &mut pass, (round % 256) as u8) else {
-            break;
-        };
-        made += 1;
+        if !log.makes(rt, alloc, port, &mut pass, (round % 256) as u8) {
+            return work_of(pass, log, round);
+        }
     }
-    let Log { receipts } = log;
-    Work {
-        pass,
-        receipts,
-        rounds: made,
-    }
+    work_of(pass, log, rounds)
 }
