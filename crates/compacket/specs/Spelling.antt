@@ -28,9 +28,13 @@ padding n = replicate (padded n - n) 0
 abbrev pub frame_length : ℕ → ℕ
 frame_length n = headers_size + padded n
 
+-- What stands before a payload of n bytes.
+abbrev pub headers_bytes : ℕ → Session → ℕ → List ℕ
+headers_bytes com_id session n =
+    com_packet_header com_id 0 0 (packet_header_size + subpacket_header_size + padded n)
+    ++ packet_header session (subpacket_header_size + padded n) ++ subpacket_header n
+
 -- The frame of a payload.
 abbrev pub frame_bytes : ℕ → Session → List ℕ → List ℕ
 frame_bytes com_id session payload =
-    com_packet_header com_id 0 0 (packet_header_size + subpacket_header_size + padded (length payload))
-    ++ packet_header session (subpacket_header_size + padded (length payload))
-    ++ subpacket_header (length payload) ++ payload ++ padding (length payload)
+    headers_bytes com_id session (length payload) ++ payload ++ padding (length payload)

@@ -1,10 +1,10 @@
 //! Frames as they are written.
 
-ghost use Rattle.std.specs.Prelude.{ℕ, List, Ok, ◌≡◌, ◌+◌, ◌-◌, ◌<◌, ◌≤◌, ◌++◌, IfOk, length, vec_len, vec_capacity};
+ghost use Rattle.std.specs.Prelude.{ℕ, List, Ok, ◌≡◌, ◌+◌, ◌-◌, ◌^◌, ◌<◌, ◌≤◌, ◌++◌, IfOk, length, vec_len, vec_capacity};
 ghost use Rattle.compacket.specs.declared.headers.TheConstants.{MAX_COM_PACKET, COM_PACKET_HEADER};
 ghost use Rattle.compacket.specs.declared.writer.TheConstants.{MAX_PAYLOAD};
-ghost use Rattle.compacket.specs.Frames.{IsFrame, reading};
-ghost use Rattle.compacket.specs.Spelling.{frame_bytes, frame_length, padding};
+ghost use Rattle.compacket.specs.Frames.{IsFrame, reading, headers_size, padded};
+ghost use Rattle.compacket.specs.Spelling.{frame_bytes, frame_length, headers_bytes, padding};
 
 use crate::headers::{
     HEADERS, MAX_COM_PACKET, PACKET_HEADER, SUBPACKET_HEADER, com_packet_header, packet_header,
@@ -42,6 +42,36 @@ fn append(out: &mut Vec<u8>, bytes: &[u8])
     let _ = out.extend_from_slice(bytes);
 }
 
+/// Adds the headers that stand before so many bytes of a payload, without taking memory.
+pub fn headers_into(com_id: ComId, session: Session, len: usize, out: &mut Vec<u8>)
+    requires fits { len ≤ MAX_PAYLOAD }
+    requires room { vec_len out.old + headers_size ≤ vec_capacity out.old }
+    ensures items { out.new.items ≡ out.old.items ++ headers_bytes com_id session len }
+    ensures fits { (session.tsn < 2 ^ 32) × (session.hsn < 2 ^ 32) }
+    ensures len { vec_len out.new ≡ vec_len out.old + headers_size }
+    ensures room_stays { vec_capacity out.old ≤ vec_capacity out.new }
+{
+    let whole = padded(len);
+    let content = PACKET_HEADER + SUBPACKET_HEADER + whole;
+    append(out, &com_packet_header(com_id, 0, 0, content as u32));
+    append(
+        out,
+        &packet_header(session, (SUBPACKET_HEADER + whole) as u32),
+    );
+    append(out, &subpacket_header(len as u32));
+}
+
+/// Adds the zeros that stand behind so many bytes of a payload, without taking memory.
+pub fn padding_into(len: usize, out: &mut Vec<u8>)
+    requires fits { len ≤ MAX_PAYLOAD }
+    requires room { vec_len out.old + padded len ≤ vec_capacity out.old + len }
+    ensures items { out.new.items ≡ out.old.items ++ padding len }
+    ensures len { vec_len out.new + len ≡ vec_len out.old + padded len }
+    ensures room_stays { vec_capacity out.old ≤ vec_capacity out.new }
+{
+    append(out, padding(len));
+}
+
 /// Adds the frame of the payload, without taking memory.
 pub fn frame_into(com_id: ComId, session: Session, payload: &[u8], out: &mut Vec<u8>)
     requires some { 0 < length payload.now }
@@ -55,17 +85,9 @@ pub fn frame_into(com_id: ComId, session: Session, payload: &[u8], out: &mut Vec
     ensures is_frame { (rest : List ℕ) → IsFrame (frame_bytes com_id session payload.now ++ rest) (record { com_id = com_id; session = session; payload = payload.now }) }
     ensures opens { (rest : List ℕ) → reading (frame_bytes com_id session payload.now ++ rest) ≡ Ok (record { com_id = com_id; session = session; payload = payload.now }) }
 {
-    let len = payload.len();
-    let whole = padded(len);
-    let content = PACKET_HEADER + SUBPACKET_HEADER + whole;
-    append(out, &com_packet_header(com_id, 0, 0, content as u32));
-    append(
-        out,
-        &packet_header(session, (SUBPACKET_HEADER + whole) as u32),
-    );
-    append(out, &subpacket_header(len as u32));
+    headers_into(com_id, session, payload.len(), out);
     append(out, payload);
-    append(out, padding(len));
+    padding_into(payload.len(), out);
 }
 
 /// The frame of the payload: a ComPacket of one packet of the session with one data subpacket

@@ -9,6 +9,7 @@ use Rattle.sp_cells.specs.declared.error.SetError.TheVariants as faults
 use Rattle.sp_cells.specs.Names.{admin_sp, set}
 use Rattle.sp_cells.specs.Flat.{LookUp}
 use Rattle.sp_rows.specs.Items.{Item, with_items}
+use Rattle.shadow_mbr.specs.Stored.{sector_size}
 use Rattle.tcg_tokens.specs.Tree.{bytes as octets_tree, list, trees_of}
 use Rattle.audit.specs.declared.reason.AttemptFailure.{AttemptFailure}
 use Rattle.transactions.specs.declared.change.SessionId.{SessionId}
@@ -104,7 +105,7 @@ rows_said bs size first last =
 
 -- Get of bytes
 abbrev pub bytes_said : Sight → ℕ → Option ℕ → Said
-bytes_said v first last = rows_said v.bytes (512 * v.config.mbr_sectors) first (last_row (512 * v.config.mbr_sectors) last)
+bytes_said v first last = rows_said v.bytes (sector_size * v.config.mbr_sectors) first (last_row (sector_size * v.config.mbr_sectors) last)
 
 -- why a setting is refused
 abbrev pub fault_of_setting : Stored → Sp → Setting → Option SetError

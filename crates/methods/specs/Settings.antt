@@ -9,6 +9,7 @@ use Rattle.sp_cells.specs.declared.cells.Cell.{Cell}
 use Rattle.sp_cells.specs.declared.values.ColumnType.{ColumnType}
 use Rattle.sp_cells.specs.Names.{col}
 use Rattle.sp_cells.specs.Values.{type_at}
+use Rattle.shadow_mbr.specs.Stored.{sector_size}
 use Rattle.tcg_tokens.specs.Tree.{Tree}
 use Rattle.call_shapes.specs.CellValues.{cell_in}
 use Rattle.call_shapes.specs.declared.ask.Ask.{Ask}
@@ -36,7 +37,7 @@ cells_for types ps = if list_all (λ p. is_some (cell_for types p)) ps then Some
 
 -- the bytes stand within the byte table
 abbrev pub is_within : ℕ → ℕ → List ℕ → Bool
-is_within mbr_sectors at bytes = nat_le (at + length bytes) (512 * mbr_sectors)
+is_within mbr_sectors at bytes = nat_le (at + length bytes) (sector_size * mbr_sectors)
 
 -- what a call sets: cells of its object, or bytes of the byte table
 pub data Setting : Type 0 where

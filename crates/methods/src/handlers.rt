@@ -1,6 +1,7 @@
 //! The handlers of granted calls. In each, all that can fail comes before the first change.
 
 ghost use Rattle.std.specs.Prelude.{◌≡◌, ◌==◌, ◌↔◌, ◌+◌, ◌*◌, ◌≤◌, ◌<◌, ◌-◌, length, ℕ, Err, [], ◌∷◌, Some, None, true, false, not, is_some, option_map, IfOk, OnOk, OnErr, IfErr, if◌then◌else◌};
+ghost use Rattle.shadow_mbr.specs.Stored.{sector_size};
 ghost use Rattle.sessions.specs.Live.{session_at};
 ghost use Rattle.methods.specs.Kinds.{kind_of as kind_of_object};
 ghost use Rattle.methods.specs.Said.{said_seen, said_attempt};
@@ -24,6 +25,7 @@ use audit::{AttemptFailure, Why};
 use call_shapes::limits::MOST_RESPONSE;
 use call_shapes::{Ask, list_value, status};
 use sessions::{AuthAnswer, Sessions};
+use shadow_mbr::SECTOR_SIZE;
 use sp_cells::limits::MANUFACTURED;
 use sp_cells::{Column, Rows, Sp, Uid, number_at};
 use std::alloc::{AllocError, Global};
@@ -87,7 +89,7 @@ fn bytes_outcome(
 ) -> Result<Outcome, AllocError>
     ensures { IfOk result (λ out. said_seen out ≡ bytes_said view.now first last) }
 {
-    let size = 512 * u128::from(view.mbr_sectors());
+    let size = SECTOR_SIZE as u128 * u128::from(view.mbr_sectors());
     if size == 0 {
         return Ok(refused(alloc, status::INVALID_PARAMETER, None));
     }
@@ -110,7 +112,7 @@ fn bytes_outcome(
 
 /// Fills a buffer with the bytes of the table from a row on.
 fn fill(view: &View<'_>, first: u64, buffer: &mut [u8])
-    requires { first + length buffer.old ≤ 512 * view.now.config.mbr_sectors }
+    requires { first + length buffer.old ≤ sector_size * view.now.config.mbr_sectors }
     ensures { buffer.new ≡ bytes_from view.now.bytes first (length buffer.old) }
 {
     view.read_mbr(first, buffer);
@@ -123,7 +125,7 @@ fn read_rows(
     first: u64,
     count: usize,
 ) -> Result<Vec<u8>, AllocError>
-    requires { first + count ≤ 512 * view.now.config.mbr_sectors }
+    requires { first + count ≤ sector_size * view.now.config.mbr_sectors }
     ensures { IfOk result (λ v. v.items ≡ bytes_from view.now.bytes first count) }
 {
     let mut buffer = vec![in alloc; 0; count]?;

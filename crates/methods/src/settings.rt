@@ -10,6 +10,7 @@ ghost use Rattle.methods.specs.Kinds.{kind_of as kind_of_object};
 use crate::cases::method_cases;
 use crate::kinds::{Kind, kind_of};
 use call_shapes::{Ask, Assignments, cell_of};
+use shadow_mbr::SECTOR_SIZE;
 use sp_cells::values::ColumnType;
 use sp_cells::{Cell, Column, Rows, Sp, Uid};
 use std::alloc::{AllocError, Global};
@@ -71,7 +72,7 @@ fn check_cells(
 fn is_within<R: Rows>(rows: &R, at: u64, bytes: &[u8]) -> bool
     ensures { result ≡ is_within_table (R.shadow_sectors rows.now) at bytes.now }
 {
-    u128::from(at) + bytes.len() as u128 <= 512 * u128::from(rows.mbr_sectors())
+    u128::from(at) + bytes.len() as u128 <= SECTOR_SIZE as u128 * u128::from(rows.mbr_sectors())
 }
 
 /// What Set of columns sets, by the types that they take.

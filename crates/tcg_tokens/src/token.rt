@@ -24,19 +24,6 @@ pub(crate) enum Mark {
     EndTransaction,
 }
 
-/// All of them.
-const MARKS: [Mark; 9] = [
-    Mark::StartList,
-    Mark::EndList,
-    Mark::StartName,
-    Mark::EndName,
-    Mark::Call,
-    Mark::EndOfData,
-    Mark::EndOfSession,
-    Mark::StartTransaction,
-    Mark::EndTransaction,
-];
-
 /// A token. The bytes of an atom lie in the input.
 #[derive(Clone, Copy)]
 pub(crate) enum Token<'a> {
@@ -145,7 +132,18 @@ fn form_at(form: Form, first: u8, rest: &[u8]) -> Result<(Token<'_>, &[u8]), Tok
 fn mark_of(byte: u8) -> Option<Mark>
     ensures { result ≡ mark_of byte }
 {
-    MARKS.iter().copied().find(|mark| byte == mark.code())
+    match byte {
+        0xf0 => Some(Mark::StartList),
+        0xf1 => Some(Mark::EndList),
+        0xf2 => Some(Mark::StartName),
+        0xf3 => Some(Mark::EndName),
+        0xf8 => Some(Mark::Call),
+        0xf9 => Some(Mark::EndOfData),
+        0xfa => Some(Mark::EndOfSession),
+        0xfb => Some(Mark::StartTransaction),
+        0xfc => Some(Mark::EndTransaction),
+        _ => None,
+    }
 }
 
 /// The mark that a byte is, and what is behind it.

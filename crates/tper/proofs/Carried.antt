@@ -1,4 +1,5 @@
 -- Each answer can be carried by a response: that to a call, that to a StartSession, and that to Properties.
+use Rattle.shadow_mbr.specs.Stored.{sector_size}
 use Rattle.std.proofs.Common.{◌≡◌, ℕ, ◌+◌, ◌*◌, ◌^◌, ◌<◌, ◌≤◌, Bool, true, false, not, ltb, List, [], ◌∷◌, ◌++◌, length, Option, None, Some, refl, cond, arith, inl, inr}
 use Rattle.std.specs.Prelude.{◌==◌, ◌-◌, ◌||◌, suc, nat_le, nat_lt}
 use Rattle.std.specs.Int.{w64, to_be_bytes}
@@ -115,7 +116,7 @@ inside_carried false said h = h
 
 ask_carried : (s : Stored) (session : SessionId) (object : Uid) (held : List Uid) (ask : Ask) → Carries (said_ask s session object held ask)
 ask_carried s session object held (GetCells first last) = fits_carried _
-ask_carried s session object held (GetBytes first last) = bytes_carried (sight_of s session).bytes (512 * (sight_of s session).config.mbr_sectors) first (last_row (512 * (sight_of s session).config.mbr_sectors) last)
+ask_carried s session object held (GetBytes first last) = bytes_carried (sight_of s session).bytes (sector_size * (sight_of s session).config.mbr_sectors) first (last_row (sector_size * (sight_of s session).config.mbr_sectors) last)
 ask_carried s session object held (SetCells ps) = set_carried (to_set s session object (SetCells ps))
 ask_carried s session object held (SetBytes at octets) = set_carried (to_set s session object (SetBytes at octets))
 ask_carried s session object held (Authenticate authority proof) = attempt_carried session.sp authority (tried s session authority proof)

@@ -6,7 +6,7 @@ ghost use Rattle.call_shapes.specs.Carried.{is_carried};
 ghost use Rattle.transactions.specs.Stored.{Stored};
 ghost use Rattle.sessions.specs.Live.{Live};
 ghost use Rattle.sessions.specs.Properties.{properties_message, max_com_packet_size, max_packet_size};
-ghost use Rattle.compacket.specs.declared.headers.TheConstants.{MAX_COM_PACKET};
+ghost use Rattle.compacket.specs.declared.headers.TheConstants.{COM_PACKET_HEADER, MAX_COM_PACKET};
 ghost use Rattle.sessions.specs.Starts.{start_reply};
 ghost use Rattle.methods.specs.Calls.{Called, said_call};
 
@@ -21,8 +21,8 @@ pub fn laws_of_answers()
     ensures properties { (args : List Tree) → is_carried (properties_message args) ≡ true }
 {}
 
-/// What Properties tells of sizes is what ComPackets have: at most so many bytes, of which the ComPacket's header takes 20.
+/// What Properties tells of sizes is what ComPackets have: at most so many bytes, less the ComPacket's header in a packet.
 pub fn laws_of_sizes()
     ensures com_packet { max_com_packet_size ≡ MAX_COM_PACKET }
-    ensures packet { max_packet_size + 20 ≡ MAX_COM_PACKET }
+    ensures packet { max_packet_size + COM_PACKET_HEADER ≡ MAX_COM_PACKET }
 {}

@@ -8,11 +8,11 @@ ghost use Rattle.history.specs.Answers.{received_bytes};
 ghost use Rattle.tper.specs.Tper.{response_at, fits_in};
 
 use compacket::{
-    ComId, MAX_COM_PACKET, MAX_PAYLOAD, Session, empty_header, frame_into, short_header,
+    ComId, MAX_COM_PACKET, Session, empty_header, headers_into, padding_into, short_header,
 };
 use std::alloc::{AllocError, Global};
 use std::marker::Model;
-use tcg_tokens::{Item, write_item_into};
+use tcg_tokens::{Item, item_len, write_item_into};
 
 /// How many ComIDs sessions have.
 const COM_IDS: usize = 4;
@@ -154,23 +154,21 @@ impl Responses {
     }
 }
 
-/// Room for the tokens of an answer and for the longest frame.
+/// Room for the longest frame.
 #[derive(Drop)]
 pub struct Room {
-    tokens: Vec<u8>,
     frame: Vec<u8>,
 }
 
 impl Model for Room {
     ghost use Rattle.std.specs.Prelude.{vec_capacity, ◌≤◌};
     ghost use Rattle.compacket.specs.declared.headers.TheConstants.{MAX_COM_PACKET};
-    ghost use Rattle.compacket.specs.declared.writer.TheConstants.{MAX_PAYLOAD};
 
     ghost Value = { Unit {0} };
 
     ghost view = { λ r. tt };
 
-    ghost invariant = { λ r. (MAX_PAYLOAD ≤ vec_capacity r.tokens) × (MAX_COM_PACKET ≤ vec_capacity r.frame) };
+    ghost invariant = { λ r. MAX_COM_PACKET ≤ vec_capacity r.frame };
 }
 
 impl Room {
@@ -182,9 +180,8 @@ impl Room {
 
     /// All memory that an answer can want.
     pub fn new(alloc: Global) -> Result<Room, AllocError> {
-        let tokens = Vec::with_capacity(alloc, MAX_PAYLOAD)?;
         let frame = Vec::with_capacity(alloc, MAX_COM_PACKET)?;
-        Ok(Room { tokens, frame })
+        Ok(Room { frame })
     }
 
     /// The frame of an answer.
@@ -192,14 +189,12 @@ impl Room {
         requires { is_carried (message answer.now) ≡ true }
         ensures { result ≡ frame_bytes com_id session (item_spelling_of (message answer.now)) }
     {
-        let Room {
-            mut tokens,
-            mut frame,
-        } = self;
-        tokens.clear();
+        let Room { mut frame } = self;
         frame.clear();
-        write_item_into(answer, &mut tokens);
-        frame_into(com_id, session, tokens.as_slice(), &mut frame);
+        let len = item_len(answer);
+        headers_into(com_id, session, len, &mut frame);
+        write_item_into(answer, &mut frame);
+        padding_into(len, &mut frame);
         Response::new(frame)
     }
 }

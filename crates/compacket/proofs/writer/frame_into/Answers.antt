@@ -1,21 +1,16 @@
--- The five parts stand behind one another.
+-- Headers, payload and padding stand behind one another.
 use Rattle.compacket.proofs.Appended.{appended}
 use Rattle.compacket.proofs.Opening.{frame_written, frame_reads}
 use Rattle.compacket.proofs.writer.frame_into.Goals as goal
 
 pub returns-clause-items : goal.returns-clause-items
 returns-clause-items c =
-    appended _ _ _ _ _ _ _ _ _ _ _
-    (rw (c.com_packet_header.ensures, c.padded-whole.ensures) at c.append.ensures.items)
-    (rw (c.packet_header.ensures.exact, c.padded-whole.ensures) at c.append-2.ensures.items)
-    (rw c.subpacket_header.ensures at c.append-3.ensures.items)
-    c.append-4.ensures.items
-    (rw c.padding.ensures at c.append-5.ensures.items)
+    appended _ _ _ _ _ _ _ c.headers_into.ensures.items c.append.ensures.items c.padding_into.ensures.items
 
 pub returns-clause-is_frame : goal.returns-clause-is_frame
 returns-clause-is_frame c =
-    λ rest. frame_written c.args.com_id c.args.session c.args.payload.now rest c.ranges.com_id.fits c.packet_header.ensures.fits.0 c.packet_header.ensures.fits.1 c.requires.some c.requires.fits
+    λ rest. frame_written c.args.com_id c.args.session c.args.payload.now rest c.ranges.com_id.fits c.headers_into.ensures.fits.0 c.headers_into.ensures.fits.1 c.requires.some c.requires.fits
 
 pub returns-clause-opens : goal.returns-clause-opens
 returns-clause-opens c =
-    λ rest. frame_reads c.args.com_id c.args.session c.args.payload.now rest c.ranges.com_id.fits c.packet_header.ensures.fits.0 c.packet_header.ensures.fits.1 c.requires.some c.requires.fits
+    λ rest. frame_reads c.args.com_id c.args.session c.args.payload.now rest c.ranges.com_id.fits c.headers_into.ensures.fits.0 c.headers_into.ensures.fits.1 c.requires.some c.requires.fits
