@@ -1,5 +1,5 @@
 -- The rounds of a client, by the receipts of its steps.
-use Rattle.std.specs.Prelude.{◌≡◌, ◌↔◌, ◌⊎◌, ℕ, zero, suc, ◌+◌, ◌<◌, ◌%◌, Bool, true, false, List, [], ◌∷◌, ◌++◌, length, replicate}
+use Rattle.std.specs.Prelude.{◌≡◌, ◌↔◌, ◌⊎◌, ⊥, ℕ, zero, suc, ◌+◌, ◌<◌, ◌%◌, Bool, true, false, List, [], ◌∷◌, ◌++◌, length, replicate}
 use Rattle.trusted_cmds.specs.Commands.{sector_size}
 use Rattle.port_history.specs.Requests.{no_bytes}
 use Rattle.port_history.specs.declared.request.Answer.{Answer}
@@ -7,6 +7,7 @@ use Rattle.port_history.specs.declared.request.Answer.TheVariants.{Done}
 use Rattle.port_history.specs.declared.request.Request.{Request}
 use Rattle.port_history.specs.declared.request.Request.TheVariants.{Read, Write}
 use Rattle.port_history.specs.declared.step.Step.TheVariants as steps
+use Rattle.locked_port.specs.Hands.{Hand}
 use Rattle.locked_port.specs.declared.ticket.Receipt.{Receipt}
 
 -- A round is a write and a read, each of them a Put and a Take.
@@ -81,16 +82,15 @@ abbrev pub receipts_of : List ClientLog → List Receipt
 receipts_of [] = []
 receipts_of (l ∷ ls) = l.1 ++ receipts_of ls
 
--- Each is of a client that was asked for so many rounds.
-abbrev pub AreMade : ℕ → List ClientLog → Type 0
-AreMade asked [] = Unit {0}
-AreMade asked (l ∷ ls) = ((client : ℕ) × Made client asked l.0 l.1) × AreMade asked ls
+-- One of each pass but the last, which is the engine's: of its client, which was asked for so many rounds.
+abbrev pub AreMade : List Hand → ℕ → List ClientLog → Type 0
+AreMade (engine ∷ []) asked [] = Unit {0}
+AreMade (h ∷ next ∷ hs) asked (l ∷ ls) = Made h.client asked l.0 l.1 × AreMade (next ∷ hs) asked ls
+AreMade _ asked _ = ⊥
 
--- The rounds and receipts of a set of passes, one of them the engine's, are those of clients that were asked for so many
--- rounds each.
-pub record AreOf (asked passes rounds : ℕ) (receipts : List Receipt) : Type 0 where
+-- The rounds and receipts are those of the clients of these passes, which were asked for so many rounds each.
+pub record AreOf (asked : ℕ) (passes : List Hand) (rounds : ℕ) (receipts : List Receipt) : Type 0 where
   pub logs : List ClientLog
-  pub count : length logs + 1 ≡ passes
-  pub made : AreMade asked logs
+  pub made : AreMade passes asked logs
   pub rounds_are : rounds ≡ rounds_of logs
   pub receipts_are : receipts ≡ receipts_of logs

@@ -4,6 +4,7 @@ use Rattle.std.specs.Io.KnownBytes.{Appends}
 use Rattle.port.specs.State.{State}
 use Rattle.port_history.specs.declared.step.Entry.{Entry}
 use Rattle.locked_port.specs.Counts.{Stands}
+use Rattle.locked_port.specs.Hands.{hands}
 use Rattle.locked_port.specs.Receipts.{AreApart, IsShown, AreNamed}
 use Rattle.locked_port.specs.declared.ticket.Receipt.{Receipt}
 use Rattle.port_threads.specs.Rounds.{steps_of_round, ClientLog, AreMade, rounds_of, receipts_of}
@@ -31,14 +32,13 @@ abbrev pub is_right : ℕ → ℕ → Facts → Bool
 is_right clients rounds facts =
     (facts.rounds == clients * rounds) && (facts.client_steps == steps_of_round * (clients * rounds)) && facts.receipts
 
--- The facts are those of a port that stands, and of so many clients that were asked for so many rounds each: of what
--- each made, and of the receipts of all.
+-- The facts are those of a port that stands, and of so many clients that were asked for so many rounds each: of what each
+-- made with a pass of its own, and of the receipts of all.
 pub record IsTold (clients rounds : ℕ) (facts : Facts) : Type 0 where
   pub port : State
   pub logs : List ClientLog
   pub stands : Stands port facts.client_steps
-  pub count : length logs ≡ clients
-  pub made : AreMade rounds logs
+  pub made : AreMade (hands (clients + 1)) rounds logs
   pub rounds_are : facts.rounds ≡ rounds_of logs
   pub whole : (facts.receipts ≡ true) ↔ AreWhole port.history (receipts_of logs)
 

@@ -106,6 +106,10 @@ impl Log {
     }
 
     /// Puts a request, and takes its answer. Tells whether that is that all is done, with these bytes.
+    ///
+    /// # Errors
+    ///
+    /// Those of `put`, and nothing is put then; those of `take`, and then the request is put.
     fn transfer<L: PortName, R: Wait>(
         &mut self,
         rt: &R,

@@ -116,6 +116,7 @@ fn run_clients<L: PortName + Send + Sync, R: Threads + Wait + Sync>(
     ensures made { IfOk result (λ works. (i : ℕ) (d : _) (p : _) → i < vec_len works
         → Made (slice_index_or passes.items i p).client rounds
         (slice_index_or works.items i d).rounds (slice_index_or works.items i d).receipts.items) }
+    ensures clients { IfOk result (λ works. vec_len works ≡ vec_len passes) }
 {
     thread::map_vec(
         rt,
@@ -132,7 +133,8 @@ fn run_all<L: PortName + Send + Sync, R: Threads + Wait + Sync>(
     mut passes: Vec<Pass<L>>,
     load: &Load,
 ) -> Result<Works<L>, RunError>
-    ensures made { IfOk result (λ all. AreOf load.now.rounds (vec_len all.passes) all.rounds all.receipts.items) }
+    ensures made { IfOk result (λ all. AreOf load.now.rounds passes.items all.rounds all.receipts.items) }
+    ensures passes { IfOk result (λ all. vec_len all.passes ≡ vec_len passes) }
     ensures memory { IfErr result (λ error. error ≡ RunError.Memory) }
 {
     let Some(mut engine) = passes.pop() else {

@@ -55,7 +55,7 @@ request_of (asked.Call com_id session tokens) =
 request_of (asked.Send com_id packet) = requests.Send com_id_protocol com_id (in_blocks packet)
 request_of (asked.Receive com_id blocks) = requests.Receive com_id_protocol com_id blocks
 
--- The number of a refusal.
+-- The number of a refusal; that of want of memory is never printed (`PrintsError`).
 abbrev pub number_of : PortError → ℕ
 number_of errors.SlotBusy = 1
 number_of errors.NotPrepared = 2
