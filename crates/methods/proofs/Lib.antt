@@ -5,3 +5,4 @@ pub mod ListLemmas
 pub mod ObjectLemmas
 pub mod GrantLaws
 pub mod ListLaws
+pub mod SetLaws

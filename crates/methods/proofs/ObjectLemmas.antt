@@ -54,7 +54,7 @@ no_cells_if : (o : Uid) (cells : List (Column × Cell)) (at : ℕ) (bs : List �
 no_cells_if o cells at bs true e = cc
 no_cells_if o cells at bs false e = cc
 
-no_cells : (o : Uid) (cells : List (Column × Cell)) (sp : Sp) (n : ℕ) (ask : Ask) → bytes_of_ask sp n ask ≡ Some (cells_set o cells) → ⊥
+pub no_cells : (o : Uid) (cells : List (Column × Cell)) (sp : Sp) (n : ℕ) (ask : Ask) → bytes_of_ask sp n ask ≡ Some (cells_set o cells) → ⊥
 no_cells o cells Admin n ask e = cc
 no_cells o cells Locking n (SetBytes at bs) e = no_cells_if o cells at bs (is_within n at bs) e
 no_cells o cells Locking n (SetCells ps) e = cc

@@ -5,21 +5,25 @@ use Rattle.sp_cells.specs.declared.names.Uid.{Uid}
 use Rattle.sp_cells.specs.declared.names.Sp.{Sp}
 use Rattle.sp_cells.specs.declared.names.Column.{Column}
 use Rattle.sp_cells.specs.declared.cells.Cell.{Cell}
+use Rattle.sp_cells.specs.ColumnNames.{pin_column}
 use Rattle.sp_cells.specs.Names.{get}
 use Rattle.sp_cells.specs.Flat.{LookUp}
 use Rattle.ace_eval.specs.Aces.{HasAce, acl_at}
 use Rattle.audit.specs.declared.reason.Why.{Why}
+use Rattle.transactions.specs.declared.change.SessionId.{SessionId}
 use Rattle.transactions.specs.Stored.{Stored}
 use Rattle.call_shapes.specs.declared.ask.Ask.{Ask}
 use Rattle.call_shapes.specs.Statuses.{not_authorized}
 use Rattle.sessions.specs.Live.{Holder}
 use Rattle.methods.specs.declared.kinds.Kind.{Kind}
+use Rattle.methods.specs.declared.kinds.Kind.TheVariants as kinds
 use Rattle.methods.specs.Kinds.{kind_of}
-use Rattle.methods.specs.Columns.{columns_of}
+use Rattle.methods.specs.Columns.{columns_in, columns_of, set_types_of}
 use Rattle.methods.specs.Listed.{listed}
 use Rattle.methods.specs.Grants.{wanted, why_denied, denied}
 use Rattle.methods.specs.Said.{refuses}
-use Rattle.methods.specs.Effects.{seen_by, ask_at, said_ask, stored_ask, holder_ask}
+use Rattle.methods.specs.Settings.{Setting, cells_set, setting}
+use Rattle.methods.specs.Effects.{seen_by, ask_at, said_ask, stored_ask, holder_ask, to_set}
 use Rattle.methods.specs.Calls.{Called, said_call, stored_call, holder_call}
 
 -- each of these columns has an ACE: one that names it, and whose expression is the postorder writing of a tree that is
@@ -101,3 +105,24 @@ are_rising (k ∷ ks) = is_below k.0 ks && are_rising ks
 -- the columns of each kind rise
 abbrev pub RiseLaw : Type 0
 RiseLaw = (kind : Option Kind) → are_rising (columns_of kind) ≡ true
+
+-- the columns of a kind that Set takes
+abbrev pub set_columns_of : Option Kind → List Column
+set_columns_of kind = columns_in (set_types_of kind)
+
+-- the cells are of this object, and each stands in one of these columns
+pub record SetsOnly (object : Uid) (columns : List Column) (target : Uid) (cells : List (Column × Cell)) : Type 0 where
+  pub object_is : target ≡ object
+  pub column_is : (k : Column) (cell : Cell) → IsAmong {A = Column × Cell} cells (k, cell) → IsAmong columns k
+
+-- a call sets cells of its own object alone, and in columns that Set takes of the object's kind
+abbrev pub SetLaw : Type 0
+SetLaw = (sp : Sp) (mbr_sectors : ℕ) (object target : Uid) (ask : Ask) (cells : List (Column × Cell)) → setting sp mbr_sectors object (kind_of sp object) ask ≡ Some (cells_set target cells) → SetsOnly object (set_columns_of (kind_of sp object)) target cells
+
+-- of a C_PIN row it sets the PIN alone: no Set changes a TryLimit, a Tries or a UID
+abbrev pub PinLaw : Type 0
+PinLaw = (sp : Sp) (mbr_sectors : ℕ) (object target : Uid) (ask : Ask) (cells : List (Column × Cell)) → kind_of sp object ≡ Some kinds.CPin → setting sp mbr_sectors object (kind_of sp object) ask ≡ Some (cells_set target cells) → SetsOnly object (pin_column ∷ []) target cells
+
+-- what is stored is what the call sets
+abbrev pub StoreLaw : Type 0
+StoreLaw = (s : Stored) (session : SessionId) (object : Uid) (ask : Ask) (set : Setting) → to_set s session object ask ≡ Some set → setting session.sp s.config.mbr_sectors object (kind_of session.sp object) ask ≡ Some set

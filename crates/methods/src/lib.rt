@@ -16,7 +16,7 @@ pub use calls::invoke;
 pub use changes::apply_set;
 pub use grants::denied;
 pub use kinds::{Kind, kind_of};
-pub use laws::{laws_of_cases, laws_of_grants, laws_of_lists};
+pub use laws::{laws_of_cases, laws_of_grants, laws_of_lists, laws_of_sets};
 pub use lists::list_columns;
 pub use outcome::{MethodFault, Outcome};
 pub use settings::check_set;

@@ -1,0 +1,122 @@
+-- A Set sets cells of its own object alone, in columns that Set takes of the object's kind.
+use Rattle.std.proofs.Common.{◌≡◌, ◌==◌, ℕ, Bool, true, false, List, [], ◌∷◌, Option, None, Some, refl, sym, ◌∙◌, ap, subst, ◌⊎◌, inl, inr, if◌then◌else◌, eqb-true}
+use Rattle.std.specs.Prelude.{is_some}
+use Rattle.std.specs.List.{list_all, filter_map, cons_option}
+use Rattle.sp_cells.specs.declared.names.Uid.{Uid}
+use Rattle.sp_cells.specs.declared.names.Sp.{Sp}
+use Rattle.sp_cells.specs.declared.names.Column.{Column}
+use Rattle.sp_cells.specs.declared.cells.Cell.{Cell}
+use Rattle.sp_cells.specs.declared.error.SetError.{SetError}
+use Rattle.sp_cells.specs.declared.values.ColumnType.{ColumnType}
+use Rattle.sp_cells.specs.Names.{col}
+use Rattle.sp_cells.specs.Values.{type_at}
+use Rattle.tcg_tokens.specs.Tree.{Tree}
+use Rattle.transactions.specs.Stored.{Stored}
+use Rattle.call_shapes.specs.declared.ask.Ask.{Ask}
+use Rattle.call_shapes.specs.declared.ask.Ask.TheVariants.{GetCells, GetBytes, SetCells, SetBytes, Authenticate, Activate, Revert, Other}
+use Rattle.methods.specs.declared.kinds.Kind.{Kind}
+use Rattle.methods.specs.declared.kinds.Kind.TheVariants as kinds
+use Rattle.methods.specs.Kinds.{kind_of}
+use Rattle.methods.specs.Columns.{columns_in, set_types_of}
+use Rattle.methods.specs.Settings.{Setting, cells_set, setting, setting_of_cells, cells_of_ask, cells_for, cell_for, cell_as, with_column}
+use Rattle.methods.specs.Effects.{valid_setting, unless_fault, fault_of_setting}
+use Rattle.methods.specs.Laws.{IsAmong, SetsOnly, SetLaw, PinLaw, StoreLaw, set_columns_of}
+use Rattle.methods.proofs.ObjectLemmas.{no_cells}
+
+-- an element of what a function gives of a list is given by it
+from_option : {A B : Type 0} (f : A → Option B) (x : A) (rest : List B) (y : B) (o : Option B) → f x ≡ o → IsAmong (cons_option o rest) y → (f x ≡ Some y) ⊎ IsAmong rest y
+from_option f x rest y None is h = inr h
+from_option f x rest y (Some z) is (inl h) = inl (is ∙ ap Some h)
+from_option f x rest y (Some z) is (inr h) = inr h
+
+from_filter : {A B : Type 0} (f : A → Option B) (xs : List A) (y : B) → IsAmong (filter_map f xs) y → (x : A) × (f x ≡ Some y)
+from_filter f [] y h = absurd h
+from_filter f (x ∷ xs) y h = elim (from_option f x (filter_map f xs) y (f x) refl h) [
+  | inl given ↦ (x, given)
+  | inr later ↦ from_filter f xs y later
+]
+
+-- a column that has a type is among those of the types
+typed_step : (p : Column × ColumnType) (ps : List (Column × ColumnType)) (k : Column) (kind : ColumnType) (b : Bool) → (p.0.0 == k.0) ≡ b → (if b then Some p.1 else type_at ps k) ≡ Some kind → (type_at ps k ≡ Some kind → IsAmong (columns_in ps) k) → IsAmong (columns_in (p ∷ ps)) k
+typed_step p ps k kind true same is later = inl (ap col (eqb-true p.0.0 k.0 same))
+typed_step p ps k kind false apart is later = inr (later is)
+
+typed_column : (types : List (Column × ColumnType)) (k : Column) (kind : ColumnType) → type_at types k ≡ Some kind → IsAmong (columns_in types) k
+typed_column [] k kind is = cc
+typed_column (p ∷ ps) k kind is = typed_step p ps k kind (p.0.0 == k.0) refl is (typed_column ps k kind)
+
+-- a cell that is assigned stands in a column that has a type
+same_parts : (p q : Column × Cell) → Some p ≡ Some q → (p.0 ≡ q.0) × (Some p.1 ≡ Some q.1)
+same_parts p q is = (let same : p ≡ q = cc in (ap (λ (x : Column × Cell). x.0) same, ap (λ (x : Column × Cell). Some x.1) same))
+
+with_there : (n k : Column) (cell : Cell) (o : Option Cell) → with_column n o ≡ Some (k, cell) → (n ≡ k) × (o ≡ Some cell)
+with_there n k cell None is = (cc, cc)
+with_there n k cell (Some c) is = same_parts (n, c) (k, cell) is
+
+type_there : (o : Option ColumnType) (t : Tree) (cell : Cell) → cell_as o t ≡ Some cell → (kind : ColumnType) × (o ≡ Some kind)
+type_there None t cell is = absurd (cc)
+type_there (Some kind) t cell is = (kind, refl)
+
+column_there : (types : List (Column × ColumnType)) (p : ℕ × Tree) (k : Column) (cell : Cell) → cell_for types p ≡ Some (k, cell) → IsAmong (columns_in types) k
+column_there types p k cell is =
+    let w = with_there (col p.0) k cell (cell_as (type_at types (col p.0)) p.1) is in
+    let t = type_there (type_at types (col p.0)) p.1 cell w.1 in
+    subst (λ (n : Column). IsAmong (columns_in types) n) w.0 (typed_column types (col p.0) t.0 t.1)
+
+-- all of them do
+if_there : (b : Bool) (found cells : List (Column × Cell)) → (if b then Some found else None) ≡ Some cells → found ≡ cells
+if_there true found cells is = cc
+if_there false found cells is = cc
+
+columns_there : (types : List (Column × ColumnType)) (ps : List (ℕ × Tree)) (cells : List (Column × Cell)) → cells_for types ps ≡ Some cells → (k : Column) (cell : Cell) → IsAmong {A = Column × Cell} cells (k, cell) → IsAmong (columns_in types) k
+unfolding cells_for
+columns_there types ps cells is k cell h =
+    let found = if_there (list_all (λ p. is_some (cell_for types p)) ps) (filter_map (cell_for types) ps) cells is in
+    let w = from_filter (cell_for types) ps (k, cell) (subst (λ (cs : List (Column × Cell)). IsAmong {A = Column × Cell} cs (k, cell)) (sym found) h) in
+    column_there types w.0 k cell w.1
+
+cells_there : (object target : Uid) (cells : List (Column × Cell)) (c : Option (List (Column × Cell))) → setting_of_cells object c ≡ Some (cells_set target cells) → (target ≡ object) × (c ≡ Some cells)
+cells_there object target cells None is = (cc, cc)
+cells_there object target cells (Some cs) is = (cc, cc)
+
+asked_there : (object target : Uid) (cells : List (Column × Cell)) (types : List (Column × ColumnType)) (ask : Ask) → cells_of_ask object types ask ≡ Some (cells_set target cells) → SetsOnly object (columns_in types) target cells
+asked_there object target cells types (SetCells ps) is =
+    let w = cells_there object target cells (cells_for types ps) is in
+    record { object_is = w.0; column_is = columns_there types ps cells w.1 }
+asked_there object target cells types (GetCells first last) is = absurd cc
+asked_there object target cells types (GetBytes first last) is = absurd cc
+asked_there object target cells types (SetBytes at bs) is = absurd cc
+asked_there object target cells types (Authenticate a p) is = absurd cc
+asked_there object target cells types Activate is = absurd cc
+asked_there object target cells types Revert is = absurd cc
+asked_there object target cells types Other is = absurd cc
+
+set_there : (sp : Sp) (n : ℕ) (object target : Uid) (cells : List (Column × Cell)) (kind : Option Kind) (ask : Ask) → setting sp n object kind ask ≡ Some (cells_set target cells) → SetsOnly object (set_columns_of kind) target cells
+set_there sp n object target cells (Some kinds.MbrTable) ask is = absurd (no_cells target cells sp n ask is)
+set_there sp n object target cells (Some kinds.ThisSp) ask is = asked_there object target cells (set_types_of (Some kinds.ThisSp)) ask is
+set_there sp n object target cells (Some kinds.Sp) ask is = asked_there object target cells (set_types_of (Some kinds.Sp)) ask is
+set_there sp n object target cells (Some kinds.Authority) ask is = asked_there object target cells (set_types_of (Some kinds.Authority)) ask is
+set_there sp n object target cells (Some kinds.CPin) ask is = asked_there object target cells (set_types_of (Some kinds.CPin)) ask is
+set_there sp n object target cells (Some kinds.Ace) ask is = asked_there object target cells (set_types_of (Some kinds.Ace)) ask is
+set_there sp n object target cells (Some kinds.Locking) ask is = asked_there object target cells (set_types_of (Some kinds.Locking)) ask is
+set_there sp n object target cells (Some kinds.MbrControl) ask is = asked_there object target cells (set_types_of (Some kinds.MbrControl)) ask is
+set_there sp n object target cells (Some kinds.TperInfo) ask is = asked_there object target cells (set_types_of (Some kinds.TperInfo)) ask is
+set_there sp n object target cells None ask is = asked_there object target cells (set_types_of None) ask is
+
+pub set_law : SetLaw
+set_law sp n object target ask cells is = set_there sp n object target cells (kind_of sp object) ask is
+
+pub pin_law : PinLaw
+pin_law sp n object target ask cells kind is = subst (λ (k : Option Kind). SetsOnly object (set_columns_of k) target cells) kind (set_law sp n object target ask cells is)
+
+-- a setting that is valid is the one that was asked for
+fault_there : (fault : Option SetError) (st asked : Setting) → unless_fault fault asked ≡ Some st → Some asked ≡ Some st
+fault_there None st asked is = is
+fault_there (Some f) st asked is = cc
+
+valid_there : (s : Stored) (sp : Sp) (o : Option Setting) (st : Setting) → valid_setting s sp o ≡ Some st → o ≡ Some st
+valid_there s sp None st is = is
+valid_there s sp (Some asked) st is = fault_there (fault_of_setting s sp asked) st asked is
+
+pub store_law : StoreLaw
+store_law s session object ask st is = valid_there s session.sp (setting session.sp s.config.mbr_sectors object (kind_of session.sp object) ask) st is
