@@ -3,3 +3,7 @@ mod Numerals
 mod SameWords
 mod Sectors
 mod WrongWords
+pub mod SpellingLaws
+pub mod LineLaws
+pub mod PortLineLaws
+pub mod WholeWords

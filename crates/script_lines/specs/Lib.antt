@@ -7,3 +7,5 @@ pub mod Groups
 pub mod Lines
 pub mod Texts
 pub mod PortLines
+pub mod Spellings
+pub mod Laws

@@ -15,7 +15,6 @@
 --   expect TEXT                          the last printed line is TEXT, byte for byte
 use Rattle.std.specs.Prelude.{ℕ, Bool, ◌==◌, ◌&&◌, ◌<◌, ◌≤◌, ⊤, codes, length, if◌then◌else◌, List, [], ◌∷◌, Option, Some, None, Result, Ok, Err}
 use Rattle.std.specs.Str.{bytes_eq}
-use Rattle.compacket.specs.declared.session.Session.{Session}
 use Rattle.script_lines.specs.Words.{word, after_words, first_word, after_word}
 use Rattle.script_lines.specs.Verbs.{verb_of}
 use Rattle.script_lines.specs.Fields.{◌>>=◌, or_fault, number_in, byte_in, hex_in, most_call_bytes, most_send_bytes}

@@ -133,8 +133,25 @@ impl<'a> Words<'a> {
         }
     }
 
-    /// The next word as the bytes that it writes in hex.
+    /// The next word as the bytes that it writes in hex. A text of digits alone is a word, and is not searched for a blank.
     pub(crate) fn hex(&mut self, field: Field) -> Result<Hex<'a>, LineFault>
+        ensures value { result ≡ hex_in field (first_word self.old.rest.now) }
+        ensures some { IfOk result (λ bytes. 0 < length bytes) }
+        ensures most { IfOk result (λ bytes. length bytes ≤ most_of field) }
+        ensures rest { self.new.rest.now ≡ after_word self.old.rest.now }
+    {
+        let text = skip_blanks(self.rest);
+        match Hex::up_to(field.most() as usize, text) {
+            Some(bytes) if !text.is_empty() => {
+                self.rest = &[];
+                Ok(bytes)
+            }
+            _ => self.hex_word(field),
+        }
+    }
+
+    /// The same, of a word behind which there may be more.
+    fn hex_word(&mut self, field: Field) -> Result<Hex<'a>, LineFault>
         ensures value { result ≡ hex_in field (first_word self.old.rest.now) }
         ensures some { IfOk result (λ bytes. 0 < length bytes) }
         ensures most { IfOk result (λ bytes. length bytes ≤ most_of field) }

@@ -1,0 +1,34 @@
+-- What lines are, in words: the reader finds the words that a text spells, and a line says what its words say.
+use Rattle.std.specs.Prelude.{◌≡◌, ℕ, List, [], slice_index_or}
+use Rattle.script_lines.specs.Words.{word}
+use Rattle.script_lines.specs.Lines.{line_of}
+use Rattle.script_lines.specs.PortLines.{port_line_of, is_port_line}
+use Rattle.script_lines.specs.Spellings.{Spells}
+
+-- every text spells some words
+abbrev pub SomeWordsLaw : Type 0
+SomeWordsLaw = (text : List ℕ) → (words : List (List ℕ)) × Spells words text
+
+-- and no others
+abbrev pub OneSpellingLaw : Type 0
+OneSpellingLaw = (text : List ℕ) (words others : List (List ℕ)) → Spells words text → Spells others text → words ≡ others
+
+-- the word that the reader finds at a number is the one that the text spells there, and empty behind the last
+abbrev pub WordLaw : Type 0
+WordLaw = (text : List ℕ) (words : List (List ℕ)) → Spells words text → (k : ℕ) → word k text ≡ slice_index_or words k []
+
+-- two texts that spell the same words
+abbrev pub SpellTheSame : List ℕ → List ℕ → Type 0
+SpellTheSame a b = (words : List (List ℕ)) × Spells words a × Spells words b
+
+-- they say the same line, or the same is wrong with them
+abbrev pub LineLaw : Type 0
+LineLaw = (a b : List ℕ) → SpellTheSame a b → line_of a ≡ line_of b
+
+-- in a port script too
+abbrev pub PortLineLaw : Type 0
+PortLineLaw = (a b : List ℕ) → SpellTheSame a b → port_line_of a ≡ port_line_of b
+
+-- and where one says that the lines behind it are those of a port script, so does the other
+abbrev pub PortHeadLaw : Type 0
+PortHeadLaw = (a b : List ℕ) → SpellTheSame a b → is_port_line a ≡ is_port_line b
