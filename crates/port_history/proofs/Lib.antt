@@ -8,6 +8,7 @@ pub mod KeptLaw
 pub mod Bits
 pub mod RegisterProofs
 pub mod AnswerProofs
+pub mod TakeProofs
 pub mod FedProofs
 pub mod FullProofs
 pub mod Pages

@@ -1,5 +1,5 @@
 -- Bytes that are all zero.
-use Rattle.std.proofs.Common.{◌≡◌, ℕ, ◌==◌, ◌&&◌, ◌+◌, ◌<◌, Bool, true, List, [], ◌∷◌, length, replicate, take, get_or, refl}
+use Rattle.std.proofs.Common.{◌≡◌, ℕ, ◌==◌, ◌&&◌, ◌+◌, ◌<◌, true, List, [], ◌∷◌, length, replicate, take, get_or, refl}
 use Rattle.std.proofs.lemmas.Bool.{eqb-true, and_parts}
 use Rattle.std.proofs.lemmas.List.Folds.{list_all_more}
 use Rattle.port_history.specs.Replies.{are_zero}

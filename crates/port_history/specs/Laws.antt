@@ -1,5 +1,5 @@
 -- Laws over every lawful list of steps.
-use Rattle.std.specs.Prelude.{◌≡◌, ◌⊎◌, ℕ, ◌<◌, ◌≤◌, ◌||◌, Bool, true, false, List, [], ◌∷◌, length, slice_index, is_some, option_map, Option, Some, None}
+use Rattle.std.specs.Prelude.{◌≡◌, ◌⊎◌, ℕ, ◌<◌, ◌≤◌, ◌||◌, ◌==◌, Bool, true, false, List, [], ◌∷◌, length, slice_index, is_some, option_map, unwrap_or, Option, Some, None, if◌then◌else◌}
 use Rattle.std.specs.Int.{bit_at}
 use Rattle.fis.specs.Bytes.{bit}
 use Rattle.fis.specs.H2d.{h2d_at}
@@ -15,13 +15,15 @@ use Rattle.history.specs.Facts.{facts}
 use Rattle.history.specs.History.{Accept as AcceptFis}
 use Rattle.history.specs.Opening.{Origin}
 use Rattle.history.specs.Readers.{held, failure}
+use Rattle.port_history.specs.declared.request.Answer.{Answer}
 use Rattle.port_history.specs.declared.step.Step.{Step}
+use Rattle.port_history.specs.declared.step.Step.TheVariants as steps
 use Rattle.port_history.specs.Refusals.{IsLawful, most_steps}
 use Rattle.port_history.specs.Ready.{ready}
 use Rattle.port_history.specs.Registers.{registers}
 use Rattle.port_history.specs.Requests.{log_fis}
 use Rattle.port_history.specs.Stages.{is_active, is_answered, is_issued, is_queued}
-use Rattle.port_history.specs.Steps.{Moment, trace, events, acts, stage, failed, is_tag, answer, act_of}
+use Rattle.port_history.specs.Steps.{Moment, trace, events, acts, stage, failed, is_tag, answer, act_of, reply}
 
 -- A FIS comes past the rules that stand before addresses, policy and security protocols: the queue
 -- has not failed, the FIS carries a command; a queued one has a free tag, and any other finds
@@ -73,6 +75,45 @@ abbrev pub AnswerLaw : Type 0
 AnswerLaw =
     (o : Origin) (list : List Step) → IsLawful o list → (tag : ℕ)
     → is_answered (stage (trace o list) tag) ≡ true → is_some (answer (trace o list) tag) ≡ true
+
+-- What a step says of a slot's owner: a Put makes its client the owner, a Take leaves none.
+abbrev pub owner_by : ℕ → Step → Option (Option ℕ)
+owner_by tag (steps.Put client slot request) = if slot == tag then Some (Some client) else None
+owner_by tag (steps.Issue slot) = None
+owner_by tag (steps.Accept slot) = None
+owner_by tag (steps.Complete slot) = None
+owner_by tag steps.Recover = None
+owner_by tag (steps.Reset client kind) = None
+owner_by tag (steps.Take client slot) = if slot == tag then Some None else None
+
+-- The client of the newest Put into a slot, none where the slot was taken since: read off the steps
+-- alone.
+abbrev pub owner : List Step → ℕ → Option ℕ
+owner [] tag = None
+owner (step ∷ before) tag = unwrap_or (owner_by tag step) (owner before tag)
+
+-- A client takes what is its own: the newest Put into the slot, not taken since, was this client's;
+-- the slot is Answered; and the client gets its answer.
+pub record TakesOwn (o : Origin) (client tag : ℕ) (before : List Step) : Type 0 where
+  pub owns : owner before tag ≡ Some client
+  pub answered : is_answered (stage (trace o before) tag) ≡ true
+  pub its_answer : Answer
+  pub stands : answer (trace o before) tag ≡ Some its_answer
+  pub gets : reply (trace o before) (steps.Take client tag) ≡ its_answer
+
+-- No client takes an answer to another's command, nor one twice.
+abbrev pub TakeLaw : Type 0
+TakeLaw =
+    (o : Origin) (client tag : ℕ) (before : List Step)
+    → IsLawful o (steps.Take client tag ∷ before) → TakesOwn o client tag before
+
+-- And none is refused its own: where the history has room, its Take of an answer is lawful.
+abbrev pub OwnLaw : Type 0
+OwnLaw =
+    (o : Origin) (client tag : ℕ) (before : List Step) → IsLawful o before → tag < slot_count
+    → length (trace o before) < most_steps → owner before tag ≡ Some client
+    → is_answered (stage (trace o before) tag) ≡ true
+    → IsLawful o (steps.Take client tag ∷ before)
 
 -- The acts bring as many bytes as their commands want.
 abbrev pub FedLaw : Type 0
