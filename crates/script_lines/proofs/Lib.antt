@@ -7,3 +7,8 @@ pub mod SpellingLaws
 pub mod LineLaws
 pub mod PortLineLaws
 pub mod WholeWords
+pub mod NumberWords
+pub mod HexWords
+pub mod ItemWords
+pub mod ReadLines
+pub mod GoodLines

@@ -83,7 +83,7 @@ after_is text w rest b =
     ∙ ap (λ n. drop n (w ++ rest)) (ends_behind w rest b.is_word.1 b.apart) ∙ drop-append_seam w rest
 
 -- Where only blanks are left, there is no word.
-none_first : (text : List ℕ) → AreBlanks text → first_word text ≡ []
+pub none_first : (text : List ℕ) → AreBlanks text → first_word text ≡ []
 none_first text all = ap (λ s. take (word_length s) s) (skip_all text all)
 
 none_after : (text : List ℕ) → AreBlanks text → after_word text ≡ []

@@ -1,9 +1,11 @@
 -- What lines are, in words: the reader finds the words that a text spells, and a line says what its words say.
-use Rattle.std.specs.Prelude.{◌≡◌, ℕ, List, [], slice_index_or}
+use Rattle.std.specs.Prelude.{◌≡◌, ◌↔◌, ℕ, List, [], slice_index_or, Ok}
 use Rattle.script_lines.specs.Words.{word}
 use Rattle.script_lines.specs.Lines.{line_of}
 use Rattle.script_lines.specs.PortLines.{port_line_of, is_port_line}
 use Rattle.script_lines.specs.Spellings.{Spells}
+use Rattle.script_lines.specs.Says.{Says}
+use Rattle.script_lines.specs.declared.line.Line.{Line}
 
 -- every text spells some words
 abbrev pub SomeWordsLaw : Type 0
@@ -32,3 +34,7 @@ PortLineLaw = (a b : List ℕ) → SpellTheSame a b → port_line_of a ≡ port_
 -- and where one says that the lines behind it are those of a port script, so does the other
 abbrev pub PortHeadLaw : Type 0
 PortHeadLaw = (a b : List ℕ) → SpellTheSame a b → is_port_line a ≡ is_port_line b
+
+-- a text says a line exactly where the words that it spells are those of the line
+abbrev pub GoodLineLaw : Type 0
+GoodLineLaw = (text : List ℕ) (words : List (List ℕ)) (line : Line) → Spells words text → (line_of text ≡ Ok line) ↔ Says line words

@@ -8,4 +8,5 @@ pub mod Lines
 pub mod Texts
 pub mod PortLines
 pub mod Spellings
+pub mod Says
 pub mod Laws

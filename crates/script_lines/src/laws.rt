@@ -1,6 +1,6 @@
 //! Laws over the definitions.
 
-ghost use Rattle.script_lines.specs.Laws.{SomeWordsLaw, OneSpellingLaw, WordLaw, LineLaw, PortLineLaw, PortHeadLaw};
+ghost use Rattle.script_lines.specs.Laws.{SomeWordsLaw, OneSpellingLaw, WordLaw, LineLaw, PortLineLaw, PortHeadLaw, GoodLineLaw};
 
 /// Each text spells one list of words, blanks apart, and these are the words that the reader finds.
 #[tactic(auto, using(crate::proofs::SpellingLaws::of_words))]
@@ -16,4 +16,10 @@ pub fn laws_of_lines()
     ensures lines { LineLaw }
     ensures port_lines { PortLineLaw }
     ensures port_head { PortHeadLaw }
+{}
+
+/// A text says a line exactly where its words are the line's name and, one by one, what the line holds.
+#[tactic(auto, using(crate::proofs::GoodLines::good_line_law))]
+pub fn laws_of_good_lines()
+    ensures { GoodLineLaw }
 {}

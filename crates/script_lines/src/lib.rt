@@ -15,7 +15,7 @@ mod words;
 pub use fault::LineFault;
 pub use field::{Field, MOST_CALL_BYTES, MOST_SEND_BYTES, laws_of_limits};
 pub use hex_text::Hex;
-pub use laws::{laws_of_lines, laws_of_words};
+pub use laws::{laws_of_good_lines, laws_of_lines, laws_of_words};
 pub use line::{DmaTransfer, Line, Reset, Transfer, expected_text};
 pub use number::number_up_to;
 pub use port_line::{PortLine, PutRequest, is_port_line};

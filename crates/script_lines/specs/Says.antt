@@ -1,0 +1,108 @@
+-- The words of a good line: its name, and then one word for each thing that it says.
+use Rattle.std.specs.Prelude.{◌≡◌, ◌<◌, ◌≤◌, ◌/◌, ◌%◌, ⊤, ℕ, Bool, true, false, List, [], ◌∷◌, ◌++◌, length, replicate, codes, decimal, Some}
+use Rattle.hex.specs.Hex.{hex_digit_value}
+use Rattle.compacket.specs.declared.session.Session.{Session}
+use Rattle.locking.specs.declared.range.RangeRow.{RangeRow}
+use Rattle.script_lines.specs.Fields.{most_of}
+use Rattle.script_lines.specs.declared.field.Field.{Field}
+use Rattle.script_lines.specs.declared.field.Field.TheVariants as fields
+use Rattle.script_lines.specs.declared.line.Transfer.{Transfer}
+use Rattle.script_lines.specs.declared.line.DmaTransfer.{DmaTransfer}
+use Rattle.script_lines.specs.declared.line.Reset.{Reset}
+use Rattle.script_lines.specs.declared.line.Reset.TheVariants as resets
+use Rattle.script_lines.specs.declared.line.Line.{Line}
+use Rattle.script_lines.specs.declared.line.Line.TheVariants as lines
+
+-- a word writes a number: the number as it is printed, behind so many zeros
+abbrev pub WritesNumber : ℕ → List ℕ → Type 0
+WritesNumber number word = (zeros : ℕ) × (word ≡ replicate zeros 48 ++ decimal number)
+
+-- two digits write a byte, in either case, the high one first
+pub record WritesByte (byte high low : ℕ) : Type 0 where
+  pub high_is : hex_digit_value high ≡ Some (byte / 16)
+  pub low_is : hex_digit_value low ≡ Some (byte % 16)
+
+-- a word writes bytes: two digits for each, one byte after the other
+abbrev pub WritesBytes : List ℕ → List ℕ → Type 0
+WritesBytes [] word = word ≡ []
+WritesBytes (byte ∷ bytes) word =
+    (high low : ℕ) × (rest : List ℕ) × (word ≡ high ∷ low ∷ rest) × WritesByte byte high low × WritesBytes bytes rest
+
+-- what one word says: a number, a byte or some bytes, each of a field
+pub data Item : Type 0 where
+  Number : Field → ℕ → Item
+  Byte : Field → ℕ → Item
+  Bytes : Field → List ℕ → Item
+
+-- a word writes it, and the field holds it
+abbrev pub Writes : Item → List ℕ → Type 0
+Writes (Number field number) word = WritesNumber number word × (number ≤ most_of field)
+Writes (Byte field byte) word = WritesBytes (byte ∷ []) word
+Writes (Bytes field bytes) word = WritesBytes bytes word × (0 < length bytes) × (length bytes ≤ most_of field)
+
+-- as many words as items, and each writes its item
+abbrev pub WriteEach : List Item → List (List ℕ) → Type 0
+WriteEach [] [] = ⊤
+WriteEach [] (word ∷ words) = ⊥
+WriteEach (item ∷ items) [] = ⊥
+WriteEach (item ∷ items) (word ∷ words) = Writes item word × WriteEach items words
+
+-- 1 for yes
+abbrev pub flag : Bool → ℕ
+flag false = 0
+flag true = 1
+
+abbrev pub range_items : RangeRow → List Item
+range_items row =
+    Number fields.Range row.range
+    ∷ Number fields.Start row.start
+    ∷ Number fields.Length row.length
+    ∷ Number fields.ReadLockEnabled (flag row.read_enabled)
+    ∷ Number fields.WriteLockEnabled (flag row.write_enabled)
+    ∷ Number fields.ReadLocked (flag row.read_locked)
+    ∷ Number fields.WriteLocked (flag row.write_locked)
+    ∷ []
+
+-- client, tag, first sector and count, and what else
+abbrev pub transfer_items : Transfer → List Item → List Item
+transfer_items t more =
+    Number fields.Client t.client ∷ Number fields.Tag t.tag ∷ Number fields.Address t.lba ∷ Number fields.Count t.count ∷ more
+
+abbrev pub dma_items : DmaTransfer → List Item → List Item
+dma_items t more =
+    Number fields.Client t.client ∷ Number fields.DmaAddress t.lba ∷ Number fields.DmaCount t.count ∷ more
+
+-- a client and a ComID, and what else
+abbrev pub com_items : ℕ → ℕ → List Item → List Item
+com_items client com_id more = Number fields.Client client ∷ Number fields.ComId com_id ∷ more
+
+abbrev pub call_items : Session → List ℕ → List Item
+call_items session tokens =
+    Number fields.TperSession session.tsn ∷ Number fields.HostSession session.hsn ∷ Bytes fields.Tokens tokens ∷ []
+
+abbrev pub reset_number : Reset → ℕ
+reset_number resets.Power = 0
+reset_number resets.Hardware = 1
+
+-- the first word is a name, and the others write these items
+abbrev pub Are : List ℕ → List Item → List (List ℕ) → Type 0
+Are name items words = (others : List (List ℕ)) × (words ≡ name ∷ others) × WriteEach items others
+
+-- these words say a line; behind `expect` any words may stand
+abbrev pub Says : Line → List (List ℕ) → Type 0
+Says (lines.Range row) words = Are (codes "range") (range_items row) words
+Says (lines.Read t) words = Are (codes "read") (transfer_items t []) words
+Says (lines.Write t byte) words = Are (codes "write") (transfer_items t (Byte fields.Byte byte ∷ [])) words
+Says (lines.ReadDma t) words = Are (codes "dread") (dma_items t []) words
+Says (lines.WriteDma t byte) words = Are (codes "dwrite") (dma_items t (Byte fields.DmaByte byte ∷ [])) words
+Says (lines.Call client com_id session tokens) words =
+    Are (codes "call") (com_items client com_id (call_items session tokens)) words
+Says (lines.Send client com_id packet) words =
+    Are (codes "send") (com_items client com_id (Bytes fields.ComPacket packet ∷ [])) words
+Says (lines.Receive client com_id blocks) words =
+    Are (codes "recv") (com_items client com_id (Number fields.Blocks blocks ∷ [])) words
+Says (lines.Log client) words = Are (codes "log") (Number fields.Client client ∷ []) words
+Says (lines.Reset client kind) words =
+    Are (codes "reset") (Number fields.Client client ∷ Number fields.ResetKind (reset_number kind) ∷ []) words
+Says (lines.TperReset client) words = Are (codes "tper") (Number fields.Client client ∷ []) words
+Says lines.Expect words = (others : List (List ℕ)) × (words ≡ codes "expect" ∷ others)
