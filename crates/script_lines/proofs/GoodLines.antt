@@ -1,76 +1,22 @@
 -- A text says a line exactly where its words are those of the line.
-use Rattle.std.proofs.Common.{◌≡◌, ℕ, Bool, true, false, List, [], ◌∷◌, refl, sym, ap, ◌∙◌, Option, Some, None, Ok, if◌then◌else◌}
-use Rattle.std.specs.Prelude.{codes, ⊤}
-use Rattle.std.specs.Str.{bytes_eq}
-use Rattle.std.proofs.lemmas.Slice.Eq.{bytes_eq-Decides}
+use Rattle.std.proofs.Common.{◌≡◌, ℕ, List, [], ◌∷◌, sym, ap, ◌∙◌, Option, Some, None, Ok}
+use Rattle.std.specs.Prelude.{codes}
 use Rattle.script_lines.specs.Words.{first_word, after_word}
-use Rattle.script_lines.specs.Verbs.{words, verb_among, verb_of}
+use Rattle.script_lines.specs.Verbs.{verb_of}
 use Rattle.script_lines.specs.Fields.{or_fault, ◌>>=◌}
 use Rattle.script_lines.specs.Lines.{verb_line, line_of}
 use Rattle.script_lines.specs.Spellings.{Spells}
-use Rattle.script_lines.specs.Says.{Number, Byte, Bytes, range_items, transfer_items, dma_items, com_items, call_items, reset_number, Says}
+use Rattle.script_lines.specs.Says.{verb_name, Number, Byte, Bytes, range_items, transfer_items, dma_items, com_items, call_items, reset_number, Says}
 use Rattle.script_lines.specs.Laws.{GoodLineLaw}
 use Rattle.script_lines.specs.declared.fault.LineFault.TheVariants.{UnknownWord}
 use Rattle.script_lines.specs.declared.field.Field.TheVariants as fields
 use Rattle.script_lines.specs.declared.verb.Verb.{Verb}
-use Rattle.script_lines.specs.declared.verb.Verb.TheVariants as verbs
 use Rattle.script_lines.specs.declared.line.Line.{Line}
 use Rattle.script_lines.specs.declared.line.Line.TheVariants as lines
+use Rattle.script_lines.proofs.VerbNames.{is_name, name_is, no_name}
 use Rattle.script_lines.proofs.SpellingLaws.{first_is, after_is, none_first}
 use Rattle.script_lines.proofs.ItemWords.{named, name_first, name_then}
 use Rattle.script_lines.proofs.ReadLines.{bind_ok, ReadBy, verb_of_line, back, known}
-
--- each verb's name
-abbrev verb_name : Verb → List ℕ
-verb_name verbs.Range = codes "range"
-verb_name verbs.Read = codes "read"
-verb_name verbs.Write = codes "write"
-verb_name verbs.ReadDma = codes "dread"
-verb_name verbs.WriteDma = codes "dwrite"
-verb_name verbs.Call = codes "call"
-verb_name verbs.Send = codes "send"
-verb_name verbs.Receive = codes "recv"
-verb_name verbs.Log = codes "log"
-verb_name verbs.Reset = codes "reset"
-verb_name verbs.TperReset = codes "tper"
-verb_name verbs.Expect = codes "expect"
-
-is_name : (verb : Verb) → verb_of (verb_name verb) ≡ Some verb
-is_name verbs.Range = refl
-is_name verbs.Read = refl
-is_name verbs.Write = refl
-is_name verbs.ReadDma = refl
-is_name verbs.WriteDma = refl
-is_name verbs.Call = refl
-is_name verbs.Send = refl
-is_name verbs.Receive = refl
-is_name verbs.Log = refl
-is_name verbs.Reset = refl
-is_name verbs.TperReset = refl
-is_name verbs.Expect = refl
-
-abbrev AreNamed : List (List ℕ × Verb) → Type 0
-AreNamed [] = ⊤
-AreNamed (named ∷ others) = (named.0 ≡ verb_name named.1) × AreNamed others
-
-some_is : {A : Type 0} (x y : A) → Some x ≡ Some y → x ≡ y
-some_is x y h = cc
-
-among_step : (b : Bool) (w name : List ℕ) (verb found : Verb) (others : List (List ℕ × Verb)) → bytes_eq w name ≡ b → name ≡ verb_name verb
-    → (verb_among others w ≡ Some found → w ≡ verb_name found)
-    → (if b then Some verb else verb_among others w) ≡ Some found → w ≡ verb_name found
-among_step true w name verb found others is here later h =
-    (bytes_eq-Decides w name).0 is ∙ here ∙ ap verb_name (some_is verb found h)
-among_step false w name verb found others is here later h = later h
-
-among_is : (list : List (List ℕ × Verb)) (w : List ℕ) (found : Verb) → AreNamed list → verb_among list w ≡ Some found → w ≡ verb_name found
-among_is [] w found all h = cc h
-among_is (n ∷ others) w found all h =
-    among_step (bytes_eq w n.0) w n.0 n.1 found others refl all.0 (among_is others w found all.1) h
-
-name_is : (w : List ℕ) (verb : Verb) → verb_of w ≡ Some verb → w ≡ verb_name verb
-name_is w verb h =
-    among_is words w verb (refl, (refl, (refl, (refl, (refl, (refl, (refl, (refl, (refl, (refl, (refl, (refl, tt)))))))))))) h
 
 known_verb : (v : Option Verb) (verb : Verb) → or_fault UnknownWord v ≡ Ok verb → v ≡ Some verb
 known_verb None verb h = cc h
@@ -95,11 +41,6 @@ says (lines.Reset client kind) w ws rest is s h =
     named (codes "reset") (Number fields.Client client ∷ Number fields.ResetKind (reset_number kind) ∷ []) w ws rest is s h
 says (lines.TperReset client) w ws rest is s h = named (codes "tper") (Number fields.Client client ∷ []) w ws rest is s h
 says lines.Expect w ws rest is s h = (ws, ap (λ x. x ∷ ws) is)
-
-no_name : (verb : Verb) → [] ≡ verb_name verb → ⊥
-no_name verb h = let some = is_name verb in let e : verb_of [] ≡ Some verb = ap verb_of h ∙ some in none_there e where
-  none_there : None ≡ Some verb → ⊥
-  none_there e = cc
 
 split : (line : Line) (ws : List (List ℕ)) (text : List ℕ) → Spells ws text → first_word text ≡ verb_name (verb_of_line line) → ReadBy line (after_word text)
     → Says line ws

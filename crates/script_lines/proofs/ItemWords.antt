@@ -1,14 +1,17 @@
 -- Words are read one by one exactly where each writes its item.
-use Rattle.std.proofs.Common.{◌≡◌, ℕ, ◌<◌, List, [], ◌∷◌, length, sym, ap, ◌∙◌, arith, Ok, subst}
+use Rattle.std.proofs.Common.{◌≡◌, ℕ, ◌<◌, List, [], ◌∷◌, length, sym, ap, ◌∙◌, arith, Some, Ok, subst}
 use Rattle.script_lines.specs.Words.{first_word, after_word}
+use Rattle.script_lines.specs.Verbs.{verb_of}
 use Rattle.script_lines.specs.Fields.{number_in, byte_in, hex_in}
 use Rattle.script_lines.specs.Spellings.{Spells}
-use Rattle.script_lines.specs.Says.{Item, Number, Byte, Bytes, Writes, WriteEach, Are}
+use Rattle.script_lines.specs.Says.{Item, Name, Number, Byte, Bytes, Writes, WriteEach, Are}
 use Rattle.script_lines.proofs.SpellingLaws.{first_is, after_is, none_first}
+use Rattle.script_lines.proofs.VerbNames.{is_name, name_is, no_name}
 use Rattle.script_lines.proofs.NumberWords.{number_is, is_number}
 use Rattle.script_lines.proofs.HexWords.{bytes_are, are_bytes, byte_is, is_byte}
 
 abbrev pub ReadsItem : Item → List ℕ → Type 0
+ReadsItem (Name verb) word = verb_of word ≡ Some verb
 ReadsItem (Number field number) word = number_in field word ≡ Ok number
 ReadsItem (Byte field byte) word = byte_in field word ≡ Ok byte
 ReadsItem (Bytes field bytes) word = hex_in field word ≡ Ok bytes
@@ -19,16 +22,19 @@ ReadEach [] text = first_word text ≡ []
 ReadEach (item ∷ items) text = ReadsItem item (first_word text) × ReadEach items (after_word text)
 
 writes_item : (item : Item) (word : List ℕ) → ReadsItem item word → Writes item word
+writes_item (Name verb) word h = name_is word verb h
 writes_item (Number field number) word h = number_is field word number h
 writes_item (Byte field byte) word h = byte_is field word byte h
 writes_item (Bytes field bytes) word h = bytes_are field word bytes h
 
 reads_item : (item : Item) (word : List ℕ) → Writes item word → ReadsItem item word
+reads_item (Name verb) word h = ap verb_of h ∙ is_name verb
 reads_item (Number field number) word h = is_number field word number h
 reads_item (Byte field byte) word h = is_byte field word byte h
 reads_item (Bytes field bytes) word h = are_bytes field word bytes h
 
 not_empty : (item : Item) → ReadsItem item [] → ⊥
+not_empty (Name verb) h = no_name verb (name_is [] verb h)
 not_empty (Number field number) h = cc h
 not_empty (Byte field byte) h = cc h
 not_empty (Bytes field bytes) h = cc h

@@ -9,6 +9,9 @@ pub mod PortLineLaws
 pub mod WholeWords
 pub mod NumberWords
 pub mod HexWords
+pub mod VerbNames
 pub mod ItemWords
 pub mod ReadLines
 pub mod GoodLines
+pub mod PortReadLines
+pub mod GoodPortLines

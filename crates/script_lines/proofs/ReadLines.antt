@@ -30,14 +30,14 @@ pub bind_ok : {A B : Type 0} (r : Result A LineFault) (f : A → Result B LineFa
 bind_ok (Ok x) f y h = (x, refl, h)
 bind_ok (Err e) f y h = cc h
 
-abbrev ok : {A : Type 0} → A → Result A LineFault
+abbrev pub ok : {A : Type 0} → A → Result A LineFault
 ok x = Ok x
 
-ok_is : {A : Type 0} (x y : A) → ok x ≡ ok y → x ≡ y
+pub ok_is : {A : Type 0} (x y : A) → ok x ≡ ok y → x ≡ y
 ok_is x y h = cc
 
 -- the end of a line
-empty_is : (l : List ℕ) → (length l == 0) ≡ true → l ≡ []
+pub empty_is : (l : List ℕ) → (length l == 0) ≡ true → l ≡ []
 empty_is [] h = refl
 empty_is (x ∷ xs) h = let e = eqb-true (length (x ∷ xs)) 0 h in absurd (omega (arith, e))
 
@@ -76,13 +76,13 @@ reset_flag : (b : Bool) → reset_number (reset_of b) ≡ flag b
 reset_flag false = refl
 reset_flag true = refl
 
-reset_back : (w : List ℕ) (kind : Reset) → reset_in w ≡ Ok kind → number_in fields.ResetKind w ≡ Ok (reset_number kind)
+pub reset_back : (w : List ℕ) (kind : Reset) → reset_in w ≡ Ok kind → number_in fields.ResetKind w ≡ Ok (reset_number kind)
 reset_back w kind h =
     let b = bind_ok (flag_in fields.ResetKind w) _ kind h in
     let is : reset_of b.0 ≡ kind = ok_is (reset_of b.0) kind b.2 in
     flag_back fields.ResetKind w b.0 refl b.1 ∙ ap Ok (sym (reset_flag b.0) ∙ ap reset_number is)
 
-reset_known : (w : List ℕ) (kind : Reset) → number_in fields.ResetKind w ≡ Ok (reset_number kind) → reset_in w ≡ Ok kind
+pub reset_known : (w : List ℕ) (kind : Reset) → number_in fields.ResetKind w ≡ Ok (reset_number kind) → reset_in w ≡ Ok kind
 reset_known w resets.Power h = ap (λ (r : Result Bool LineFault). r >>= λ b. Ok (reset_of b)) (flag_known fields.ResetKind w false h)
 reset_known w resets.Hardware h = ap (λ (r : Result Bool LineFault). r >>= λ b. Ok (reset_of b)) (flag_known fields.ResetKind w true h)
 
@@ -109,6 +109,30 @@ dma_back rest t more h later =
 
 dma_known : (rest : List ℕ) (t : DmaTransfer) (more : List Item) → ReadEach (dma_items t more) rest → dma_transfer_in rest ≡ Ok t
 dma_known rest t more h = rw (h.0, h.1.0, h.1.1.0) refl
+
+pub row_back : (rest : List ℕ) (row : RangeRow) → range_in rest ≡ Ok row → first_word (after_words 7 rest) ≡ [] → ReadEach (range_items row) rest
+row_back rest row h end =
+    let a = bind_ok (number_in fields.Range (word 0 rest)) _ row h in
+    let b = bind_ok (number_in fields.Start (word 1 rest)) _ row a.2 in
+    let c = bind_ok (number_in fields.Length (word 2 rest)) _ row b.2 in
+    let d = bind_ok (flag_in fields.ReadLockEnabled (word 3 rest)) _ row c.2 in
+    let e = bind_ok (flag_in fields.WriteLockEnabled (word 4 rest)) _ row d.2 in
+    let f = bind_ok (flag_in fields.ReadLocked (word 5 rest)) _ row e.2 in
+    let g = bind_ok (flag_in fields.WriteLocked (word 6 rest)) _ row f.2 in
+    let is = ok_is _ row g.2 in
+    let j = flag_back fields.ReadLockEnabled (word 3 rest) d.0 refl d.1 in
+    let k = flag_back fields.WriteLockEnabled (word 4 rest) e.0 refl e.1 in
+    let l = flag_back fields.ReadLocked (word 5 rest) f.0 refl f.1 in
+    let m = flag_back fields.WriteLocked (word 6 rest) g.0 refl g.1 in
+    rw (← is) (a.1, (b.1, (c.1, (j, (k, (l, (m, end)))))))
+
+pub row_known : (rest : List ℕ) (row : RangeRow) → ReadEach (range_items row) rest → range_in rest ≡ Ok row
+row_known rest row h =
+    let d = flag_known fields.ReadLockEnabled (word 3 rest) row.read_enabled h.1.1.1.0 in
+    let e = flag_known fields.WriteLockEnabled (word 4 rest) row.write_enabled h.1.1.1.1.0 in
+    let f = flag_known fields.ReadLocked (word 5 rest) row.read_locked h.1.1.1.1.1.0 in
+    let g = flag_known fields.WriteLocked (word 6 rest) row.write_locked h.1.1.1.1.1.1.0 in
+    rw (h.0, h.1.0, h.1.1.0, d, e, f, g) refl
 
 session_back : (rest : List ℕ) (s : Session) (more : List Item) → session_in rest ≡ Ok s → ReadEach more (after_words 2 rest)
     → ReadEach (Number fields.TperSession s.tsn ∷ Number fields.HostSession s.hsn ∷ more) rest
@@ -153,30 +177,12 @@ Back verb line rest = (verb ≡ verb_of_line line) × ReadBy line rest
 range_back : (rest : List ℕ) (line : Line) → range_line rest ≡ Ok line → Back verbs.Range line rest
 range_back rest line h =
     let g = bind_ok (range_in rest) _ line h in
-    let row = g.0 in
-    let a = bind_ok (number_in fields.Range (word 0 rest)) _ row g.1 in
-    let b = bind_ok (number_in fields.Start (word 1 rest)) _ row a.2 in
-    let c = bind_ok (number_in fields.Length (word 2 rest)) _ row b.2 in
-    let d = bind_ok (flag_in fields.ReadLockEnabled (word 3 rest)) _ row c.2 in
-    let e = bind_ok (flag_in fields.WriteLockEnabled (word 4 rest)) _ row d.2 in
-    let f = bind_ok (flag_in fields.ReadLocked (word 5 rest)) _ row e.2 in
-    let i = bind_ok (flag_in fields.WriteLocked (word 6 rest)) _ row f.2 in
-    let row_is = ok_is _ row i.2 in
-    let end = ended_back (after_words 7 rest) (lines.Range row) line g.2 in
-    let rd = flag_back fields.ReadLockEnabled (word 3 rest) d.0 refl d.1 in
-    let we = flag_back fields.WriteLockEnabled (word 4 rest) e.0 refl e.1 in
-    let rl = flag_back fields.ReadLocked (word 5 rest) f.0 refl f.1 in
-    let wl = flag_back fields.WriteLocked (word 6 rest) i.0 refl i.1 in
-    rw (← end.1) (refl, rw (← row_is) (a.1, (b.1, (c.1, (rd, (we, (rl, (wl, end.0))))))))
+    let end = ended_back (after_words 7 rest) (lines.Range g.0) line g.2 in
+    rw (← end.1) (refl, row_back rest g.0 g.1 end.0)
 
 range_known : (rest : List ℕ) (row : RangeRow) → ReadBy (lines.Range row) rest → range_line rest ≡ Ok (lines.Range row)
 range_known rest row h =
-    let d = flag_known fields.ReadLockEnabled (word 3 rest) row.read_enabled h.1.1.1.0 in
-    let e = flag_known fields.WriteLockEnabled (word 4 rest) row.write_enabled h.1.1.1.1.0 in
-    let f = flag_known fields.ReadLocked (word 5 rest) row.read_locked h.1.1.1.1.1.0 in
-    let g = flag_known fields.WriteLocked (word 6 rest) row.write_locked h.1.1.1.1.1.1.0 in
-    let all : range_in rest ≡ Ok row = rw (h.0, h.1.0, h.1.1.0, d, e, f, g) refl in
-    ap (λ (r : Result RangeRow LineFault). r >>= λ row. ended (after_words 7 rest) (lines.Range row)) all
+    ap (λ (r : Result RangeRow LineFault). r >>= λ row. ended (after_words 7 rest) (lines.Range row)) (row_known rest row h)
     ∙ ended_known (after_words 7 rest) (lines.Range row) h.1.1.1.1.1.1.1
 
 read_back : (rest : List ℕ) (line : Line) → read_line rest ≡ Ok line → Back verbs.Read line rest

@@ -5,7 +5,9 @@ use Rattle.script_lines.specs.Lines.{line_of}
 use Rattle.script_lines.specs.PortLines.{port_line_of, is_port_line}
 use Rattle.script_lines.specs.Spellings.{Spells}
 use Rattle.script_lines.specs.Says.{Says}
+use Rattle.script_lines.specs.PortSays.{PortSays}
 use Rattle.script_lines.specs.declared.line.Line.{Line}
+use Rattle.script_lines.specs.declared.port_line.PortLine.{PortLine}
 
 -- every text spells some words
 abbrev pub SomeWordsLaw : Type 0
@@ -38,3 +40,7 @@ PortHeadLaw = (a b : List ℕ) → SpellTheSame a b → is_port_line a ≡ is_po
 -- a text says a line exactly where the words that it spells are those of the line
 abbrev pub GoodLineLaw : Type 0
 GoodLineLaw = (text : List ℕ) (words : List (List ℕ)) (line : Line) → Spells words text → (line_of text ≡ Ok line) ↔ Says line words
+
+-- in a port script too
+abbrev pub GoodPortLineLaw : Type 0
+GoodPortLineLaw = (text : List ℕ) (words : List (List ℕ)) (line : PortLine) → Spells words text → (port_line_of text ≡ Ok line) ↔ PortSays line words

@@ -9,4 +9,5 @@ pub mod Texts
 pub mod PortLines
 pub mod Spellings
 pub mod Says
+pub mod PortSays
 pub mod Laws

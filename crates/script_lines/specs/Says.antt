@@ -6,6 +6,8 @@ use Rattle.locking.specs.declared.range.RangeRow.{RangeRow}
 use Rattle.script_lines.specs.Fields.{most_of}
 use Rattle.script_lines.specs.declared.field.Field.{Field}
 use Rattle.script_lines.specs.declared.field.Field.TheVariants as fields
+use Rattle.script_lines.specs.declared.verb.Verb.{Verb}
+use Rattle.script_lines.specs.declared.verb.Verb.TheVariants as verbs
 use Rattle.script_lines.specs.declared.line.Transfer.{Transfer}
 use Rattle.script_lines.specs.declared.line.DmaTransfer.{DmaTransfer}
 use Rattle.script_lines.specs.declared.line.Reset.{Reset}
@@ -28,14 +30,31 @@ WritesBytes [] word = word ≡ []
 WritesBytes (byte ∷ bytes) word =
     (high low : ℕ) × (rest : List ℕ) × (word ≡ high ∷ low ∷ rest) × WritesByte byte high low × WritesBytes bytes rest
 
--- what one word says: a number, a byte or some bytes, each of a field
+-- the name that stands for a verb
+abbrev pub verb_name : Verb → List ℕ
+verb_name verbs.Range = codes "range"
+verb_name verbs.Read = codes "read"
+verb_name verbs.Write = codes "write"
+verb_name verbs.ReadDma = codes "dread"
+verb_name verbs.WriteDma = codes "dwrite"
+verb_name verbs.Call = codes "call"
+verb_name verbs.Send = codes "send"
+verb_name verbs.Receive = codes "recv"
+verb_name verbs.Log = codes "log"
+verb_name verbs.Reset = codes "reset"
+verb_name verbs.TperReset = codes "tper"
+verb_name verbs.Expect = codes "expect"
+
+-- what one word says: a verb by its name, or a number, a byte or some bytes, each of a field
 pub data Item : Type 0 where
+  Name : Verb → Item
   Number : Field → ℕ → Item
   Byte : Field → ℕ → Item
   Bytes : Field → List ℕ → Item
 
 -- a word writes it, and the field holds it
 abbrev pub Writes : Item → List ℕ → Type 0
+Writes (Name verb) word = word ≡ verb_name verb
 Writes (Number field number) word = WritesNumber number word × (number ≤ most_of field)
 Writes (Byte field byte) word = WritesBytes (byte ∷ []) word
 Writes (Bytes field bytes) word = WritesBytes bytes word × (0 < length bytes) × (length bytes ≤ most_of field)

@@ -53,6 +53,10 @@ impl<'a> Hex<'a> {
     }
 
     /// Appends the bytes. Where memory is refused nothing is appended.
+    ///
+    /// # Errors
+    ///
+    /// Want of memory.
     pub fn decode_into(&self, bytes: &mut Vec<u8>) -> Result<(), AllocError>
         ensures appended { OnOk result (bytes.new.items ≡ bytes.old.items ++ self.now) }
         ensures kept { OnErr result (bytes.new.items ≡ bytes.old.items) }

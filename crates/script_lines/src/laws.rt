@@ -1,6 +1,6 @@
 //! Laws over the definitions.
 
-ghost use Rattle.script_lines.specs.Laws.{SomeWordsLaw, OneSpellingLaw, WordLaw, LineLaw, PortLineLaw, PortHeadLaw, GoodLineLaw};
+ghost use Rattle.script_lines.specs.Laws.{SomeWordsLaw, OneSpellingLaw, WordLaw, LineLaw, PortLineLaw, PortHeadLaw, GoodLineLaw, GoodPortLineLaw};
 
 /// Each text spells one list of words, blanks apart, and these are the words that the reader finds.
 #[tactic(auto, using(crate::proofs::SpellingLaws::of_words))]
@@ -19,7 +19,8 @@ pub fn laws_of_lines()
 {}
 
 /// A text says a line exactly where its words are the line's name and, one by one, what the line holds.
-#[tactic(auto, using(crate::proofs::GoodLines::good_line_law))]
+#[tactic(auto, using(crate::proofs::GoodPortLines::of_good_lines))]
 pub fn laws_of_good_lines()
-    ensures { GoodLineLaw }
+    ensures lines { GoodLineLaw }
+    ensures port_lines { GoodPortLineLaw }
 {}

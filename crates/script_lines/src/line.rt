@@ -383,6 +383,10 @@ impl<'a> Line<'a> {
     ghost use Rattle.script_lines.specs.Lines.{line_of, Fits};
 
     /// Reads a line, which has no line feed.
+    ///
+    /// # Errors
+    ///
+    /// The first thing that is wrong with the line.
     pub fn parse(text: &'a [u8]) -> Result<Line<'a>, LineFault>
         ensures exact { result ≡ line_of text.now }
         ensures fits { IfOk result Fits }

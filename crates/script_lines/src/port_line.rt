@@ -321,6 +321,10 @@ impl<'a> PortLine<'a> {
     ghost use Rattle.script_lines.specs.PortLines.{port_line_of, FitsPort};
 
     /// Reads a line of a port script, which has no line feed.
+    ///
+    /// # Errors
+    ///
+    /// The first thing that is wrong with the line.
     pub fn parse(text: &'a [u8]) -> Result<PortLine<'a>, LineFault>
         ensures exact { result ≡ port_line_of text.now }
         ensures fits { IfOk result FitsPort }

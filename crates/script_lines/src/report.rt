@@ -47,6 +47,10 @@ impl Report {
     }
 
     /// Prints that something was done.
+    ///
+    /// # Errors
+    ///
+    /// Want of memory: then the line may be pending in part.
     pub fn print_ok(&mut self) -> Result<(), AllocError>
         ensures { OnOk result (Prints self.old self.new (done_text ∷ [])) }
     {
@@ -57,6 +61,10 @@ impl Report {
     }
 
     /// Prints bytes that were received.
+    ///
+    /// # Errors
+    ///
+    /// Want of memory: then the line may be pending in part.
     pub fn print_hex(&mut self, bytes: &[u8]) -> Result<(), AllocError>
         ensures { OnOk result (Prints self.old self.new (hex_text bytes.now ∷ [])) }
     {
@@ -68,6 +76,10 @@ impl Report {
     }
 
     /// Prints that a transfer was served, with the data that it gave.
+    ///
+    /// # Errors
+    ///
+    /// Want of memory: then the line may be pending in part.
     pub fn print_data(&mut self, sectors: &[u8]) -> Result<(), AllocError>
         ensures { OnOk result (Prints self.old self.new (data_text sectors.now ∷ [])) }
     {
@@ -79,6 +91,10 @@ impl Report {
     }
 
     /// Prints the status and the error of a command that failed.
+    ///
+    /// # Errors
+    ///
+    /// Want of memory: then the line may be pending in part.
     pub fn print_failure(&mut self, status: u8, error: u8) -> Result<(), AllocError>
         ensures { OnOk result (Prints self.old self.new (failure_text status error ∷ [])) }
     {
@@ -92,6 +108,10 @@ impl Report {
     }
 
     /// Prints the audit line of a denial.
+    ///
+    /// # Errors
+    ///
+    /// Want of memory: then the line may be pending in part.
     pub fn print_audit(&mut self, line: &AuditLine) -> Result<(), AllocError>
         ensures { OnOk result (Prints self.old self.new (audit_text line.now ∷ [])) }
     {
@@ -104,6 +124,10 @@ impl Report {
     }
 
     /// Prints that a command failed, and under the number of its act what denied it to a client.
+    ///
+    /// # Errors
+    ///
+    /// Want of memory: then the line may be pending in part.
     pub fn print_refusal(
         &mut self,
         step: u64,
@@ -122,6 +146,10 @@ impl Report {
     }
 
     /// Prints that a step was refused, with the number of the reason.
+    ///
+    /// # Errors
+    ///
+    /// Want of memory: then the line may be pending in part.
     pub fn print_refused(&mut self, number: u8) -> Result<(), AllocError>
         ensures { OnOk result (Prints self.old self.new (refused_text number ∷ [])) }
     {
@@ -133,6 +161,10 @@ impl Report {
     }
 
     /// Prints that a reset stopped a command.
+    ///
+    /// # Errors
+    ///
+    /// Want of memory: then the line may be pending in part.
     pub fn print_reset(&mut self) -> Result<(), AllocError>
         ensures { OnOk result (Prints self.old self.new (reset_text ∷ [])) }
     {
@@ -144,6 +176,10 @@ impl Report {
 
     /// Writes what is pending. Nothing is pending then, also where the writer failed: what it took of it
     /// is not written once more.
+    ///
+    /// # Errors
+    ///
+    /// What the writer answers.
     pub fn hand_on<W: Write>(&mut self, output: &mut W) -> io::Result<()>
         ensures written { OnOk result (Appends (W.contents output.old) (W.contents output.new) self.old.pending.items) }
         ensures cleared { self.new.pending.items ≡ [] }
