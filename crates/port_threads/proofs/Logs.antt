@@ -1,5 +1,5 @@
 -- The logs of clients, one more.
-use Rattle.std.proofs.Common.{◌≡◌, ℕ, suc, ◌+◌, ◌<◌, List, [], ◌∷◌, ◌++◌, map, length, get_or, append_assoc, append-nil, sym, ◌∙◌, ap, refl, arith}
+use Rattle.std.proofs.Common.{◌≡◌, ℕ, suc, ◌+◌, ◌<◌, List, [], ◌∷◌, ◌++◌, map, length, get_or, append_assoc, append-nil, sym, ◌∙◌, ap, arith}
 use Rattle.locked_port.specs.Hands.{Hand}
 use Rattle.locked_port.specs.declared.ticket.Receipt.{Receipt}
 use Rattle.port_threads.specs.Rounds.{ClientLog, rounds_of, receipts_of, Made, AreMade}

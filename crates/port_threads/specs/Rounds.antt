@@ -1,5 +1,5 @@
 -- The rounds of a client, by the receipts of its steps.
-use Rattle.std.specs.Prelude.{◌≡◌, ◌↔◌, ◌⊎◌, ⊥, ℕ, zero, suc, ◌+◌, ◌<◌, ◌%◌, Bool, true, false, List, [], ◌∷◌, ◌++◌, length, replicate}
+use Rattle.std.specs.Prelude.{◌≡◌, ◌↔◌, ◌⊎◌, ℕ, zero, suc, ◌+◌, ◌<◌, ◌%◌, Bool, true, false, List, [], ◌∷◌, ◌++◌, length, replicate}
 use Rattle.trusted_cmds.specs.Commands.{sector_size}
 use Rattle.port_history.specs.Requests.{no_bytes}
 use Rattle.port_history.specs.declared.request.Answer.{Answer}

@@ -1,5 +1,5 @@
 -- What a run of clients and an engine tells.
-use Rattle.std.specs.Prelude.{◌≡◌, ◌↔◌, ℕ, ◌+◌, ◌*◌, ◌==◌, ◌&&◌, Bool, true, List, ◌++◌, length, All, Option, codes, decimal, if◌then◌else◌}
+use Rattle.std.specs.Prelude.{◌≡◌, ◌↔◌, ℕ, ◌+◌, ◌*◌, ◌==◌, ◌&&◌, Bool, true, List, ◌++◌, All, Option, codes, decimal, if◌then◌else◌}
 use Rattle.std.specs.Io.KnownBytes.{Appends}
 use Rattle.port.specs.State.{State}
 use Rattle.port_history.specs.declared.step.Entry.{Entry}

@@ -9,7 +9,7 @@ pub returns-clause-told : goal.returns-clause-told
 returns-clause-told g c =
     let all = c.in_ok-passes.ensures.made in
     let same : c.deref.result.now ≡ receipts_of all.logs = search rules in
-    let passes : c.in-Ok-new.passes.items ≡ hands (c.args.load.now.clients + 1) = search rules in
+    let passes : c.in-Ok.passes.items ≡ hands (c.args.load.now.clients + 1) = search rules in
     record {
       port = c.in-Ok-close.closed.port;
       logs = all.logs;

@@ -1,7 +1,7 @@
-use Rattle.std.proofs.Common.{rules, ◌≡◌, ℕ, ◌+◌, ◌<◌, List, [], ◌∷◌, ◌++◌, map, length, sym, subst}
+use Rattle.std.proofs.Common.{rules, ◌≡◌, ℕ, ◌<◌, List, [], ◌∷◌, ◌++◌, map, length, sym, subst}
 use Rattle.std.specs.Prelude.{vec_len, slice_index_or}
 use Rattle.locked_port.specs.Hands.{Hand}
-use Rattle.port_threads.specs.Rounds.{Made, AreMade, AreOf}
+use Rattle.port_threads.specs.Rounds.{Made, AreMade}
 use Rattle.port_threads.proofs.Logs.{made_each}
 use Rattle.port_threads.proofs.run.run_all.Goals as goal
 

@@ -1,4 +1,4 @@
-use Rattle.std.proofs.Common.{rules, ◌≡◌, ℕ, ◌+◌, ◌*◌, ◌<◌, ◌≤◌, Bool, true, false, refl, sym, ◌∙◌, subst, Vec, Global, arith}
+use Rattle.std.proofs.Common.{rules, ◌≡◌, ℕ, ◌+◌, ◌*◌, ◌<◌, ◌≤◌, true, false, refl, sym, ◌∙◌, subst, Vec, Global, arith}
 use Rattle.std.specs.Prelude.{vec_len}
 use Rattle.locked_port.specs.declared.ticket.Receipt.{Receipt}
 use Rattle.port_threads.specs.Rounds.{steps_of_round, Made}

@@ -1,8 +1,7 @@
-use Rattle.std.proofs.Common.{rules, ◌≡◌, ◌↔◌, ℕ, List, [], Bool, true, refl, ap, ap₂}
-use Rattle.port_history.specs.declared.request.Request.{Request}
+use Rattle.std.proofs.Common.{rules, ◌≡◌, ◌↔◌, ℕ, List, [], true, refl, ap, ap₂}
 use Rattle.port_history.specs.declared.request.Request.TheVariants.{Read, Write}
 use Rattle.port_threads.specs.Rounds.{filled}
-use Rattle.port_threads.proofs.Told.{Tells, tells_as, round_told}
+use Rattle.port_threads.proofs.Told.{tells_as, round_told}
 use Rattle.port_threads.proofs.log.Log.round.Goals as goal
 
 pub returns-clause-steps : goal.returns-clause-steps
