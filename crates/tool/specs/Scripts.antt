@@ -1,5 +1,5 @@
 -- Scripts: their lines, and how they are read.
-use Rattle.std.specs.Prelude.{◌≤◌, ◌≡◌, ◌<◌, ℕ, ◌==◌, Bool, true, false, List, [], ◌∷◌, map, length, Option, Some, if◌then◌else◌}
+use Rattle.std.specs.Prelude.{◌≤◌, ◌≡◌, ◌<◌, ℕ, ◌==◌, Bool, true, false, List, [], ◌∷◌, map, length, Option, Some, is_some, IfSome, if◌then◌else◌}
 use Rattle.std.specs.List.{list_any}
 use Rattle.std.specs.Io.BufRead.{strip_last, take_through, drop_through}
 
@@ -31,6 +31,11 @@ TakesLine true line text left = (0 < length line) × (line ≡ take_through 10 t
 -- a whole line stands in what a reader has at hand
 abbrev pub has_line : List ℕ → Bool
 has_line at_hand = list_any (λ byte. byte == 10) at_hand
+
+-- how many bytes the next line has with its line feed, where it stands whole in what a reader has at hand
+abbrev pub IsAtHand : List ℕ → Option ℕ → Type 0
+IsAtHand at_hand size = (is_some size ≡ has_line at_hand)
+    × IfSome size (λ n. (n ≡ length (take_through 10 at_hand)) × (n ≤ length at_hand))
 
 -- how many bytes of answers wait at most
 abbrev pub most_pending : ℕ

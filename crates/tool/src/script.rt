@@ -12,7 +12,7 @@ use crate::ending::{End, RunError, tell, tell_abort};
 use crate::opening::{OpeningPhase, OpeningTurn};
 use crate::options::Options;
 use crate::phase::Phase;
-use crate::reading::{answer, lines_of, read_line, without_end};
+use crate::reading::{answer, line_at_hand, lines_of, read_line, without_end};
 use crate::running::Turn;
 use script_lines::{Report, is_port_line};
 use std::alloc::Global;
@@ -47,13 +47,13 @@ fn first_line<R: Read + Drop>(
     ensures { IfOk result (λ first. IfSome (reader_remaining R.remaining reader.old)
         (λ text. FirstLine first text line.new.items (reader_remaining R.remaining reader.new))) }
 {
-    if !read_line(reader, line, report)? {
+    if !read_line(reader, line_at_hand(reader), line, report)? {
         return Ok(None);
     }
     if !is_port_line(without_end(line)) {
         return Ok(Some(false));
     }
-    if !read_line(reader, line, report)? {
+    if !read_line(reader, line_at_hand(reader), line, report)? {
         return Ok(None);
     }
     Ok(Some(true))
@@ -84,7 +84,7 @@ fn opening_lines<R: Read + Drop>(
                 return Ok(Opened::Ended(End::Bad { line, fault }));
             }
         }
-        if !read_line(reader, line, report)? {
+        if !read_line(reader, line_at_hand(reader), line, report)? {
             return Ok(Opened::Ended(End::Done));
         }
     }
@@ -117,8 +117,8 @@ fn running_lines<R: Read + Drop, W: Write, E: Write>(
                 });
             }
         }
-        answer(reader, report, output)?;
-        if !read_line(reader, line, report)? {
+        let at_hand = answer(reader, report, output)?;
+        if !read_line(reader, at_hand, line, report)? {
             return Ok(End::Done);
         }
     }

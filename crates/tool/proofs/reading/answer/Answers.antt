@@ -8,10 +8,6 @@ returns-in_ok-map_err-clause-answered g c =
     let none : c.hand_on.new.self.pending.items ≡ [] = c.hand_on.ensures.cleared in
     rw none ((λ _. refl), omega arith)
 
-pub returns-else-len-gt-MOST_PENDING-clause-answered : goal.returns-else-len-gt-MOST_PENDING-clause-answered
-returns-else-len-gt-MOST_PENDING-clause-answered g c =
-    ((λ none. absurd (cc (none, c.has_line.ensures, c.if-not-has_line.false))), search rules)
-
 pub returns-in_ok-map_err-clause-written : goal.returns-in_ok-map_err-clause-written
 returns-in_ok-map_err-clause-written g c =
     let before = c.args.report.now.pending.items in

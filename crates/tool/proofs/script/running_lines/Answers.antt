@@ -59,7 +59,7 @@ returns-then-not-branch g c = λ o course runs.
     c.turn.new.report c.loop-number.line.items c.without_end.result.now now _ _ _ shown
     c.in_ok-aborted.ensures.steps at) in
     none-at-hand whole o c.turn.new.self c.answer.new.report.last.items c.read_line.new.line.items now after (g.W.Write.contents c.args.output.now) (g.W.Write.contents c.answer.new.output) _ _
-    (handed-on whole o c.turn.new.self _ _ now _ _ _ _ _ _ goes (ap (λ last. last.items) c.answer.ensures.last) c.in_ok-answer.ensures.written) takes)
+    (handed-on whole o c.turn.new.self _ _ now _ _ _ _ _ _ goes (ap (λ last. last.items) c.answer.ensures.last) c.in_ok-at_hand.ensures.written) takes)
     (c.loop-number.invariant.1 o course runs)
 
 pub loop-number-preserved : goal.loop-number-preserved
@@ -84,7 +84,7 @@ loop-number-preserved g c = (
       c.turn.new.report c.loop-number.line.items c.without_end.result.now now _ _ _ shown
       c.in_ok-aborted.ensures.steps at) in
       next-at-hand whole o c.turn.new.self c.answer.new.report.last.items c.read_line.new.line.items now after (g.W.Write.contents c.args.output.now) (g.W.Write.contents c.answer.new.output) _ _
-      (handed-on whole o c.turn.new.self _ _ now _ _ _ _ _ _ goes (ap (λ last. last.items) c.answer.ensures.last) c.in_ok-answer.ensures.written) takes)
+      (handed-on whole o c.turn.new.self _ _ now _ _ _ _ _ _ goes (ap (λ last. last.items) c.answer.ensures.last) c.in_ok-at_hand.ensures.written) takes)
       (c.loop-number.invariant.1 o course runs),
 )
 
