@@ -40,6 +40,9 @@ tested most text is =
     let later = and_parts (nat_le (length text / 2) most) (list_all is_hex_digit text) parts.1 in
     (eqb-true (length text % 2) 0 parts.0, grind (arith, nat_tests, later.0), later.1)
 
+pub even_up_to : (most : ℕ) (text : List ℕ) → is_hex_up_to most text ≡ true → (length text % 2 ≡ 0) × (length text / 2 ≤ most)
+even_up_to most text is = let all = tested most text is in (all.0, all.1)
+
 -- A text that passes the tests is decoded,
 pub is_decoded : (most : ℕ) (text : List ℕ) → is_hex_up_to most text ≡ true → IsOk (decode_of text)
 is_decoded most text is =
@@ -63,7 +66,7 @@ is_value most text is =
     taken most (value text) (within most text is) ∙ ap (at_most most) (sym (decodes_to_value text (is_decoded most text is)))
 
 -- A text that fails one writes nothing.
-passes : (most : ℕ) (text bytes : List ℕ) → decode_of text ≡ Ok bytes → length bytes ≤ most → is_hex_up_to most text ≡ true
+pub passes : (most : ℕ) (text bytes : List ℕ) → decode_of text ≡ Ok bytes → length bytes ≤ most → is_hex_up_to most text ≡ true
 passes most text bytes ok le =
     let parts = decode_of-ok text bytes ok in
     let len = parts.2 in

@@ -15,3 +15,5 @@ pub mod ReadLines
 pub mod GoodLines
 pub mod PortReadLines
 pub mod GoodPortLines
+pub mod FieldFaults
+pub mod BadLines

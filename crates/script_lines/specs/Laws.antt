@@ -6,6 +6,7 @@ use Rattle.script_lines.specs.PortLines.{port_line_of, is_port_line}
 use Rattle.script_lines.specs.Spellings.{Spells}
 use Rattle.script_lines.specs.Says.{Says}
 use Rattle.script_lines.specs.PortSays.{PortSays}
+use Rattle.script_lines.specs.Faults.{fault_in, wrong_in, wrong_in_port}
 use Rattle.script_lines.specs.declared.line.Line.{Line}
 use Rattle.script_lines.specs.declared.port_line.PortLine.{PortLine}
 
@@ -44,3 +45,12 @@ GoodLineLaw = (text : List ℕ) (words : List (List ℕ)) (line : Line) → Spel
 -- in a port script too
 abbrev pub GoodPortLineLaw : Type 0
 GoodPortLineLaw = (text : List ℕ) (words : List (List ℕ)) (line : PortLine) → Spells words text → (port_line_of text ≡ Ok line) ↔ PortSays line words
+
+-- what is wrong with a text is what is wrong with the words that it spells, and nothing is where it says a line
+abbrev pub BadLineLaw : Type 0
+BadLineLaw = (text : List ℕ) (words : List (List ℕ)) → Spells words text → fault_in (line_of text) ≡ wrong_in words
+
+-- in a port script too
+abbrev pub BadPortLineLaw : Type 0
+BadPortLineLaw =
+    (text : List ℕ) (words : List (List ℕ)) → Spells words text → fault_in (port_line_of text) ≡ wrong_in_port words

@@ -10,4 +10,5 @@ pub mod PortLines
 pub mod Spellings
 pub mod Says
 pub mod PortSays
+pub mod Faults
 pub mod Laws

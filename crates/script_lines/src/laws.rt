@@ -1,6 +1,6 @@
 //! Laws over the definitions.
 
-ghost use Rattle.script_lines.specs.Laws.{SomeWordsLaw, OneSpellingLaw, WordLaw, LineLaw, PortLineLaw, PortHeadLaw, GoodLineLaw, GoodPortLineLaw};
+ghost use Rattle.script_lines.specs.Laws.{SomeWordsLaw, OneSpellingLaw, WordLaw, LineLaw, PortLineLaw, PortHeadLaw, GoodLineLaw, GoodPortLineLaw, BadLineLaw, BadPortLineLaw};
 
 /// Each text spells one list of words, blanks apart, and these are the words that the reader finds.
 #[tactic(auto, using(crate::proofs::SpellingLaws::of_words))]
@@ -23,4 +23,11 @@ pub fn laws_of_lines()
 pub fn laws_of_good_lines()
     ensures lines { GoodLineLaw }
     ensures port_lines { GoodPortLineLaw }
+{}
+
+/// What is wrong with a text is the first thing, from the left, that is wrong with its words; nothing is where it says a line.
+#[tactic(auto, using(crate::proofs::BadLines::of_bad_lines))]
+pub fn laws_of_bad_lines()
+    ensures lines { BadLineLaw }
+    ensures port_lines { BadPortLineLaw }
 {}
