@@ -1,19 +1,29 @@
 -- Whether an answer has come: what follows where it is told.
-use Rattle.std.proofs.Common.{◌≡◌, ℕ, ◌≤◌, ◌==◌, ◌⊎◌, inl, inr, Bool, true, false, not, List, [], ◌∷◌, Some, None, Ok, Err, refl, ap, arith, eqb-true, if◌then◌else◌}
+use Rattle.std.proofs.Common.{◌≡◌, ℕ, ◌≤◌, ◌==◌, ◌⊎◌, inl, inr, Bool, true, false, not, List, [], ◌∷◌, Option, Some, None, Ok, Err, refl, sym, ap, ◌∙◌, arith, eqb-true, if◌then◌else◌}
 use Rattle.std.specs.Prelude.{IfOk, is_none}
 use Rattle.port_history.specs.declared.error.PortError.{PortError}
-use Rattle.port_history.specs.declared.error.PortError.TheVariants.{NotAnswered, NotYours, HistoryFull, OutOfMemory}
+use Rattle.port_history.specs.declared.error.PortError.TheVariants.{SlotBusy, NotAnswered, NotYours, Size, HistoryFull, OutOfMemory}
 use Rattle.port_history.specs.declared.stages.Put.{Put}
 use Rattle.port_history.specs.declared.stages.Stage.{Stage}
 use Rattle.port_history.specs.declared.stages.Stage.TheVariants.{Free, Prepared, Issued, Accepted, Answered}
 use Rattle.port_history.specs.declared.request.Answer.{Answer}
 use Rattle.port_history.specs.declared.step.Step.TheVariants as steps
 use Rattle.port_history.specs.Refusals.{refusal, first_refusal, IsRefusedBy}
-use Rattle.port_history.specs.Stages.{put_in, is_answered, is_put_by}
+use Rattle.port_history.specs.Stages.{put_in, is_free, is_answered, is_put_by}
 use Rattle.port_history.specs.Steps.{Moment, stage}
 use Rattle.locked_port.specs.declared.ticket.Ticket.{Ticket}
-use Rattle.locked_port.specs.Awaits.{is_full, awaited, awaited_at, awaited_put}
+use Rattle.locked_port.specs.Awaits.{is_full, awaited, awaited_at, awaited_put, is_of_submit, is_of_wait, is_of_engine}
+use Rattle.locked_port.specs.Counts.{Stands}
 use Rattle.locked_port.proofs.Counts.{number_in}
+use Rattle.history.specs.Opening.{Origin}
+use Rattle.port_history.specs.declared.request.Request.{Request}
+use Rattle.port_history.specs.declared.step.Step.{Step}
+use Rattle.port_history.specs.Requests.{is_sized}
+use Rattle.port_history.specs.Steps.{trace}
+use Rattle.port.specs.Agreement.{PortAgrees}
+use Rattle.port.specs.State.{State}
+use Rattle.std.proofs.Math.Logic.{∥∥₁_elim}
+use Rattle.std.specs.Coded.{coded_bool, Coded-set}
 
 -- a reset is refused for nothing but a history that is full
 pub full_is : (b : Bool) → not (is_none (if b then Some HistoryFull else None)) ≡ b
@@ -65,3 +75,55 @@ pub only_memory : (before : List Moment) (client : ℕ) (ticket : Ticket) (e : P
     → IsRefusedBy {A = ℕ × Answer} (refusal before (steps.Take client ticket.tag)) (Err e) → (e ≡ OutOfMemory) ⊎ (awaited before client ticket ≡ Err e)
 only_memory before client ticket e told (inl memory) = inl memory
 only_memory before client ticket e told (inr refused) = let none = may_take_at (is_full before) client ticket (stage before ticket.tag) told in cc
+
+-- where a port stands, what each list says of an error it is
+of_standing : (of : PortError → Bool) (e : PortError) (port : State) (total : ℕ) → Stands port total → ((o : Origin) (list : List Step) → PortAgrees port o list → of e ≡ true) → of e ≡ true
+of_standing of e port total s says = ∥∥₁_elim s (Coded-set coded_bool _ _) (λ known. says known.origin known.list known.agrees)
+
+abbrev is_of : (PortError → Bool) → Option PortError → Bool
+is_of of None = true
+is_of of (Some e) = of e
+
+put_ends : (full free : Bool) → is_of (is_of_submit true) (first_refusal ((full, HistoryFull) ∷ (not true, Size) ∷ (not free, SlotBusy) ∷ [])) ≡ true
+put_ends true free = refl
+put_ends false true = refl
+put_ends false false = refl
+
+-- a Put of a request that has a size is refused for no other error
+put_only : (before : List Moment) (client tag : ℕ) (request : Request) (e : PortError) → is_sized request ≡ true
+    → (e ≡ OutOfMemory) ⊎ (refusal before (steps.Put client tag request) ≡ Some e) → is_of_submit true e ≡ true
+put_only before client tag request e sized (inl memory) = ap (is_of_submit true) memory
+put_only before client tag request e sized (inr refused) =
+    let full = is_full before in
+    let free = is_free (stage before tag) in
+    let all : is_of (is_of_submit true) (first_refusal ((full, HistoryFull) ∷ (not (is_sized request), Size) ∷ (not free, SlotBusy) ∷ [])) ≡ true = rw sized (put_ends full free) in
+    sym (ap (is_of (is_of_submit true)) refused) ∙ all
+
+pub submit_ends : (client tag total : ℕ) (request : Request) (port : State) (e : PortError) → is_sized request ≡ true → Stands port total
+    → ((o : Origin) (list : List Step) → PortAgrees port o list → (e ≡ OutOfMemory) ⊎ (refusal (trace o list) (steps.Put client tag request) ≡ Some e)) → is_of_submit true e ≡ true
+submit_ends client tag total request port e sized s says =
+    of_standing (is_of_submit true) e port total s (λ o list h. put_only (trace o list) client tag request e sized (says o list h))
+
+-- a Take of an answer that has come is refused for memory alone
+memory_left : (before : List Moment) (client : ℕ) (ticket : Ticket) (e : PortError) → awaited before client ticket ≡ Ok true
+    → IsRefusedBy {A = ℕ × Answer} (refusal before (steps.Take client ticket.tag)) (Err e) → e ≡ OutOfMemory
+memory_left before client ticket e told refused =
+    elim (only_memory before client ticket e told refused) [
+      | inl memory ↦ memory
+      | inr other ↦ absurd (let clash = sym told ∙ other in cc)
+    ]
+
+-- so a wait ends with no other error,
+pub take_ends : (client total : ℕ) (ticket : Ticket) (answered : Bool) (port : State) (e : PortError) → Stands port total → answered ≡ true
+    → ((o : Origin) (list : List Step) → PortAgrees port o list → Ok answered ≡ awaited (trace o list) client ticket)
+    → ((o : Origin) (list : List Step) → PortAgrees port o list
+    → IsRefusedBy {A = ℕ × Answer} (refusal (trace o list) (steps.Take client ticket.tag)) (Err e))
+    → is_of_wait e ≡ true
+take_ends client total ticket answered port e s there told refused =
+    of_standing is_of_wait e port total s (λ o list h.
+    ap is_of_wait (memory_left (trace o list) client ticket e (sym (told o list h) ∙ ap Ok there) (refused o list h)))
+
+-- nor a turn of the engine
+pub turn_ends : (total : ℕ) (port : State) (e : PortError) → Stands port total
+    → ((o : Origin) (list : List Step) → PortAgrees port o list → e ≡ OutOfMemory) → is_of_engine e ≡ true
+turn_ends total port e s says = of_standing is_of_engine e port total s (λ o list h. ap is_of_engine (says o list h))

@@ -1,7 +1,7 @@
 -- Whether the answer of a ticket has come.
-use Rattle.std.specs.Prelude.{◌≡◌, ◌==◌, ◌+◌, ℕ, Bool, not, nat_lt, List, length, unwrap_or, Option, Some, None, Result, Ok, Err, if◌then◌else◌}
+use Rattle.std.specs.Prelude.{◌≡◌, ◌==◌, ◌+◌, ℕ, Bool, true, false, not, nat_lt, List, length, unwrap_or, Option, Some, None, Result, Ok, Err, if◌then◌else◌}
 use Rattle.port_history.specs.declared.error.PortError.{PortError}
-use Rattle.port_history.specs.declared.error.PortError.TheVariants.{NotAnswered, NotYours, HistoryFull}
+use Rattle.port_history.specs.declared.error.PortError.TheVariants.{SlotBusy, NotAnswered, NotYours, Size, HistoryFull, OutOfMemory}
 use Rattle.port_history.specs.declared.stages.Put.{Put}
 use Rattle.port_history.specs.declared.stages.Stage.{Stage}
 use Rattle.port_history.specs.Refusals.{most_steps}
@@ -35,3 +35,25 @@ awaited before client ticket = awaited_at (is_full before) client ticket (stage 
 abbrev pub IsTaken : List Moment → ℕ → Receipt → Type 0
 IsTaken before tag r =
     (r.number ≡ 1 + length before) × (r.reply ≡ unwrap_or (answer before tag) no_bytes)
+
+-- The errors of a submit, by whether its request has a size that a port takes.
+abbrev pub is_of_submit : Bool → PortError → Bool
+is_of_submit sized Size = not sized
+is_of_submit sized SlotBusy = sized
+is_of_submit sized HistoryFull = sized
+is_of_submit sized OutOfMemory = sized
+is_of_submit sized _ = false
+
+-- The errors of a wait for an answer.
+abbrev pub is_of_wait : PortError → Bool
+is_of_wait HistoryFull = true
+is_of_wait NotAnswered = true
+is_of_wait NotYours = true
+is_of_wait OutOfMemory = true
+is_of_wait _ = false
+
+-- The errors of the engine.
+abbrev pub is_of_engine : PortError → Bool
+is_of_engine HistoryFull = true
+is_of_engine OutOfMemory = true
+is_of_engine _ = false

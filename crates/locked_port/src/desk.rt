@@ -1,8 +1,8 @@
 //! What lies under the lock.
 
-ghost use Rattle.std.specs.Prelude.{◌≡◌};
+ghost use Rattle.std.specs.Prelude.{◌≡◌, true, IfErr};
 ghost use Rattle.port_history.specs.Stages.{put_in};
-ghost use Rattle.locked_port.specs.Awaits.{awaited_at};
+ghost use Rattle.locked_port.specs.Awaits.{awaited_at, is_of_wait};
 ghost use Rattle.locked_port.specs.Counts.{Stands, client_steps};
 
 use crate::pass::PortName;
@@ -35,7 +35,8 @@ fn put_in(stage: Stage) -> Option<Put>
 
 /// Whether the answer of a client's ticket has come, by whether the history is full and the stage of the ticket's slot.
 fn awaited(full: bool, client: u32, ticket: &Ticket, stage: Stage) -> Result<bool, PortError>
-    ensures { result ≡ awaited_at full client ticket.now stage }
+    ensures told { result ≡ awaited_at full client ticket.now stage }
+    ensures errors { IfErr result (λ e. is_of_wait e ≡ true) }
 {
     if full {
         return Err(PortError::HistoryFull);
@@ -60,10 +61,11 @@ impl<L: PortName> Desk<L> {
     ghost use Rattle.port_history.specs.declared.step.Step.TheVariants as steps;
     ghost use Rattle.port_history.specs.Ready.{with_step, chosen, ready};
     ghost use Rattle.port_history.specs.Refusals.{refusal, IsRefusedBy};
+    ghost use Rattle.port_history.specs.Requests.{is_sized};
     ghost use Rattle.port_history.specs.Steps.{trace};
     ghost use Rattle.port.specs.Agreement.{PortAgrees};
     ghost use Rattle.port.specs.Answers.{stage_at};
-    ghost use Rattle.locked_port.specs.Awaits.{is_full, awaited, IsTaken};
+    ghost use Rattle.locked_port.specs.Awaits.{is_full, awaited, IsTaken, is_of_submit, is_of_wait, is_of_engine};
 
     /// A port over the book that counted its client steps.
     pub(crate) fn new(port: Port, book: Book<L>) -> Desk<L>
@@ -104,7 +106,8 @@ impl<L: PortName> Desk<L> {
         client: u32,
         built: Built,
     ) -> Result<Ticket, PortError>
-        requires { 0 < mine.old.parts }
+        requires parts { 0 < mine.old.parts }
+        requires sized { is_sized built.request ≡ true }
         ensures step { MatchResult result
             (λ t. (t.client ≡ client) × (t.tag ≡ built.tag)
             × ((o : Origin) (list : List Step) → PortAgrees self.old.port o list
@@ -114,6 +117,7 @@ impl<L: PortName> Desk<L> {
         ensures refused { (o : Origin) (list : List Step) → PortAgrees self.old.port o list
             → IsRefusedBy
             (refusal (trace o list) (steps.Put client built.tag built.request)) result }
+        ensures errors { IfErr result (λ e. is_of_submit true e ≡ true) }
         ensures count { MatchResult result
             (λ _. mine.new.amount ≡ mine.old.amount + 1) (λ _. mine.new.amount ≡ mine.old.amount) }
         ensures parts { mine.new.parts ≡ mine.old.parts }
@@ -155,6 +159,7 @@ impl<L: PortName> Desk<L> {
             → MatchResult result
             (λ taken. awaited (trace o list) client ticket.now ≡ Ok (is_some taken))
             (λ e. (e ≡ PortError.OutOfMemory) ⊎ (awaited (trace o list) client ticket.now ≡ Err e)) }
+        ensures errors { IfErr result (λ e. is_of_wait e ≡ true) }
         ensures count { MatchResult result
             (λ o. MatchOption o (mine.new.amount ≡ mine.old.amount)
             (λ _. mine.new.amount ≡ mine.old.amount + 1))
@@ -192,6 +197,7 @@ impl<L: PortName> Desk<L> {
         ensures told { (o : Origin) (list : List Step) → PortAgrees self.now.port o list
             → result ≡ awaited (trace o list) client ticket.now }
         ensures number { IfOk result (λ _. ticket.now.number ≤ length self.now.port.history) }
+        ensures errors { IfErr result (λ e. is_of_wait e ≡ true) }
     {
         let full = self.is_full();
         let stage = self.stage(ticket.tag);
@@ -204,10 +210,11 @@ impl<L: PortName> Desk<L> {
     ///
     /// `HistoryFull`.
     pub(crate) fn ready(&self) -> Result<ArrayVec<EngineStep, SLOT_COUNT>, PortError>
-        ensures { (o : Origin) (list : List Step) → PortAgrees self.now.port o list
+        ensures steps { (o : Origin) (list : List Step) → PortAgrees self.now.port o list
             → MatchResult result
             (λ steps. (is_full (trace o list) ≡ false) × (steps.items ≡ ready o list))
             (λ e. (is_full (trace o list) ≡ true) × (e ≡ PortError.HistoryFull)) }
+        ensures errors { IfErr result (λ e. is_of_engine e ≡ true) }
     {
         if self.is_full() {
             return Err(PortError::HistoryFull);
@@ -227,6 +234,7 @@ impl<L: PortName> Desk<L> {
             (λ _. self.new.port ≡ self.old.port) }
         ensures memory { IfErr result (λ e. (o : Origin) (list : List Step)
             → PortAgrees self.old.port o list → e ≡ PortError.OutOfMemory) }
+        ensures errors { IfErr result (λ e. is_of_engine e ≡ true) }
     {
         let Desk { port, book: _ } = self;
         port.turn(choice)?;

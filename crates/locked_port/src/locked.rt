@@ -32,11 +32,12 @@ pub struct Closed {
 }
 
 impl<L: PortName> LockedPort<L> {
-    ghost use Rattle.std.specs.Prelude.{◌≡◌, ◌+◌, ◌<◌, ◌≤◌, vec_len, sum_by, false, Err, IfOk, IfErr, IsOk, IsOkUnless, MatchResult};
+    ghost use Rattle.std.specs.Prelude.{◌≡◌, ◌+◌, ◌<◌, ◌≤◌, vec_len, sum_by, true, false, Err, IfOk, IfErr, IsOk, IsOkUnless, MatchResult};
     ghost use mathlib.Core.Logic.{◌↔◌};
     ghost use Rattle.port_history.specs.declared.error.PortError.{PortError};
     ghost use Rattle.port_history.specs.declared.step.Step.TheVariants as steps;
     ghost use Rattle.port_history.specs.Requests.{is_sized};
+    ghost use Rattle.locked_port.specs.Awaits.{is_of_submit, is_of_wait, is_of_engine};
     ghost use Rattle.locked_port.specs.Counts.{Stands, client_steps};
     ghost use Rattle.locked_port.specs.Hands.{hands, counted, count_of, Claims, Frees};
 
@@ -86,6 +87,7 @@ impl<L: PortName> LockedPort<L> {
             (λ t. (t.client ≡ pass.old.client) × Claims t.tag (counted pass.old) pass.new)
             (λ _. pass.new ≡ pass.old) }
         ensures size { is_sized request.now ≡ false → result ≡ Err PortError.Size }
+        ensures errors { IfErr result (λ e. is_of_submit (is_sized request.now) e ≡ true) }
     {
         if !fits(request) {
             return Err(PortError::Size);
@@ -122,10 +124,11 @@ impl<L: PortName> LockedPort<L> {
         pass: &mut Pass<L>,
         ticket: Ticket,
     ) -> Result<Receipt, PortError>
-        ensures { MatchResult result
+        ensures hand { MatchResult result
             (λ r. (r.step ≡ steps.Take pass.old.client ticket.tag) × (ticket.number < r.number)
             × Frees ticket.tag (counted pass.old) pass.new)
             (λ _. pass.new ≡ pass.old) }
+        ensures errors { IfErr result (λ e. is_of_wait e ≡ true) }
     {
         let receipt = self.taken(rt, pass, &ticket)?;
         self.moved.notify_all();
@@ -140,10 +143,11 @@ impl<L: PortName> LockedPort<L> {
         pass: &mut Pass<L>,
         ticket: &Ticket,
     ) -> Result<Receipt, PortError>
-        ensures { MatchResult result
+        ensures hand { MatchResult result
             (λ r. (r.step ≡ steps.Take pass.old.client ticket.now.tag) × (ticket.now.number < r.number)
             × (pass.new ≡ counted pass.old))
             (λ _. pass.new ≡ pass.old) }
+        ensures errors { IfErr result (λ e. is_of_wait e ≡ true) }
     {
         let mut desk = self.desk.lock(rt);
         for _ in rt.forever() {
@@ -170,6 +174,7 @@ impl<L: PortName> LockedPort<L> {
         turns: u64,
     ) -> Result<u64, PortError>
         ensures turns { IfOk result (λ left. left ≤ turns) }
+        ensures errors { IfErr result (λ e. is_of_engine e ≡ true) }
         ensures pass { pass.new ≡ pass.old }
     {
         let _engine = pass.client();

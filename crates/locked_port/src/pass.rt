@@ -45,15 +45,16 @@ impl<L: PortName> Model for Pass<L> {
 }
 
 impl<L: PortName> Pass<L> {
-    ghost use Rattle.std.specs.Prelude.{◌≡◌, ◌+◌, ◌<◌, ◌⊎◌, List, ◌∷◌, length, Ok, Err, is_some, IfOk, IsOkUnless, MatchResult, MatchOption};
+    ghost use Rattle.std.specs.Prelude.{◌≡◌, ◌+◌, ◌<◌, ◌⊎◌, List, ◌∷◌, length, Ok, Err, is_some, true, IfOk, IfErr, IsOkUnless, MatchResult, MatchOption};
     ghost use Rattle.history.specs.Opening.{Origin};
     ghost use Rattle.port_history.specs.declared.error.PortError.{PortError};
     ghost use Rattle.port_history.specs.declared.step.Step.{Step};
     ghost use Rattle.port_history.specs.declared.step.Step.TheVariants as steps;
     ghost use Rattle.port_history.specs.Refusals.{refusal, IsRefusedBy};
+    ghost use Rattle.port_history.specs.Requests.{is_sized};
     ghost use Rattle.port_history.specs.Steps.{trace};
     ghost use Rattle.port.specs.Agreement.{PortAgrees};
-    ghost use Rattle.locked_port.specs.Awaits.{awaited, IsTaken};
+    ghost use Rattle.locked_port.specs.Awaits.{awaited, IsTaken, is_of_submit, is_of_wait};
     ghost use Rattle.locked_port.specs.Hands.{hands, counted, Claims, Frees};
 
     /// The client: 1 and up, and the engine's one behind the last client's.
@@ -109,6 +110,7 @@ impl<L: PortName> Pass<L> {
 
     /// Puts what was built.
     pub(crate) fn submit(&mut self, desk: &mut Desk<L>, built: Built) -> Result<Ticket, PortError>
+        requires { is_sized built.request ≡ true }
         ensures hand { MatchResult result
             (λ t. (t.client ≡ self.old.client) × (t.tag ≡ built.tag) × (self.new ≡ counted self.old))
             (λ _. self.new ≡ self.old) }
@@ -120,6 +122,7 @@ impl<L: PortName> Pass<L> {
         ensures refused { (o : Origin) (list : List Step) → PortAgrees desk.old.port o list
             → IsRefusedBy
             (refusal (trace o list) (steps.Put self.old.client built.tag built.request)) result }
+        ensures errors { IfErr result (λ e. is_of_submit true e ≡ true) }
     {
         let ticket = desk.submit(&mut self.share, self.client, built)?;
         Ok(ticket)
@@ -146,6 +149,7 @@ impl<L: PortName> Pass<L> {
             (λ taken. awaited (trace o list) self.old.client ticket.now ≡ Ok (is_some taken))
             (λ e. (e ≡ PortError.OutOfMemory)
             ⊎ (awaited (trace o list) self.old.client ticket.now ≡ Err e)) }
+        ensures errors { IfErr result (λ e. is_of_wait e ≡ true) }
     {
         match desk.take(&mut self.share, self.client, ticket)? {
             None => Ok(None),
