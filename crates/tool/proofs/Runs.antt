@@ -90,12 +90,11 @@ pub of-same : {E A : Type 0} (r : Result Turn E) (P : A → Turn → Type 0) (ma
 of-same (Ok turn) P made asked same h = subst (λ x. P x turn) same h
 of-same (Err e) P made asked same h = h
 
-pub of-command : {E : Type 0} (r : Result Turn E) (P : Command → List ℕ → Turn → Type 0)
-    (made asked : Command) (given payload : List ℕ)
-    → made ≡ asked → given ≡ payload → IfOk r (P made given) → IfOk r (P asked payload)
-of-command r P made asked given payload same bytes h =
-    of-same r (λ command turn. P command payload turn) made asked same
-    (of-same r (λ payload turn. P made payload turn) given payload bytes h)
+-- what holds of a command and the bytes that went with it holds of those that were asked for
+pub as-given : (P : Command → List ℕ → Type 0) (made asked : Command) (given payload : List ℕ)
+    → made ≡ asked → given ≡ payload → P made given → P asked payload
+as-given P made asked given payload same bytes h =
+    subst (λ command. P command payload) same (subst (P made) bytes h)
 
 -- what was made of a command is what was asked for
 pub as-asked : (P : Command → Type 0) (made asked : Command) → made ≡ asked → P made → P asked

@@ -204,26 +204,27 @@ impl RunningPhase {
         Ok(aborted)
     }
 
-    /// Gives the drive an unqueued command with the payload at hand, and prints what came of it.
+    /// Gives the drive an unqueued command with the payload at hand, and prints what came of it. It tells
+    /// whether the command is the first one that the failed queue aborts.
     fn command(
         &mut self,
         client: u32,
         command: &Command,
         report: &mut Report,
-    ) -> Result<Turn, AllocError>
+    ) -> Result<bool, AllocError>
         requires address { IfSome (lba_of command.now) (λ lba. lba < 2 ^ 48) }
         requires counted { IsCounted command.now }
         requires payload { length self.old.payload.items ≡ payload_length (fis_of command.now 0) }
         ensures { IfOk result
-            (Makes (λ o acts. commanded o acts client command.now self.old.payload.items)
-            self.old self.new report.old report.new) }
+            (λ aborted. Makes (λ o acts. commanded o acts client command.now self.old.payload.items)
+            self.old self.new report.old report.new (Turn.Goes aborted)) }
     {
         let has_failed = self.drive.failure().is_some();
         let is_first = self.is_first_abort(has_failed);
         let accepted = self.accept(command, Tag::low_bits(0))?;
         let aborted = printing::has_failed(&accepted) && is_first;
         print_answer(report, self.acts, client, command, accepted)?;
-        Ok(Turn::Goes { aborted })
+        Ok(aborted)
     }
 
     fn read(&mut self, transfer: &Transfer, report: &mut Report) -> Result<Turn, AllocError>
@@ -252,7 +253,8 @@ impl RunningPhase {
             self.old self.new report.old report.new) }
     {
         self.payload.clear();
-        self.command(transfer.client, &read_dma_of(transfer), report)
+        let aborted = self.command(transfer.client, &read_dma_of(transfer), report)?;
+        Ok(Turn::Goes { aborted })
     }
 
     fn write_dma(
@@ -266,7 +268,8 @@ impl RunningPhase {
     {
         let size = SECTOR_SIZE * sectors(transfer.count) as usize;
         fill(&mut self.payload, size, byte)?;
-        self.command(transfer.client, &write_dma_of(transfer), report)
+        let aborted = self.command(transfer.client, &write_dma_of(transfer), report)?;
+        Ok(Turn::Goes { aborted })
     }
 
     /// Sends the bytes at hand to a ComID.
@@ -281,7 +284,8 @@ impl RunningPhase {
             self.old self.new report.old report.new) }
     {
         let blocks = pad(&mut self.payload)?;
-        self.command(client, &send_of(com_id, blocks), report)
+        let aborted = self.command(client, &send_of(com_id, blocks), report)?;
+        Ok(Turn::Goes { aborted })
     }
 
     fn call(
@@ -332,7 +336,8 @@ impl RunningPhase {
             self.old self.new report.old report.new) }
     {
         self.payload.clear();
-        self.command(client, &receive_of(com_id, blocks), report)
+        let aborted = self.command(client, &receive_of(com_id, blocks), report)?;
+        Ok(Turn::Goes { aborted })
     }
 
     fn read_log(&mut self, client: u32, report: &mut Report) -> Result<Turn, AllocError>
@@ -340,7 +345,8 @@ impl RunningPhase {
             self.old self.new report.old report.new) }
     {
         self.payload.clear();
-        self.command(client, &Command::ReadLog10 { dma: true }, report)
+        let aborted = self.command(client, &Command::ReadLog10 { dma: true }, report)?;
+        Ok(Turn::Goes { aborted })
     }
 
     fn reset_tper(&mut self, client: u32, report: &mut Report) -> Result<Turn, AllocError>
@@ -348,7 +354,8 @@ impl RunningPhase {
             self.old self.new report.old report.new) }
     {
         fill(&mut self.payload, SECTOR_SIZE, 0)?;
-        self.command(client, &tper_reset(), report)
+        let aborted = self.command(client, &tper_reset(), report)?;
+        Ok(Turn::Goes { aborted })
     }
 
     fn reset(&mut self, kind: Reset, report: &mut Report) -> Result<Turn, AllocError>
