@@ -7,8 +7,8 @@ ghost use Rattle.compacket.specs.Frames.{IsFrame, reading, headers_size, padded}
 ghost use Rattle.compacket.specs.Spelling.{frame_bytes, frame_length, headers_bytes, padding};
 
 use crate::headers::{
-    HEADERS, MAX_COM_PACKET, PACKET_HEADER, SUBPACKET_HEADER, com_packet_header, packet_header,
-    subpacket_header,
+    COM_PACKET_HEADER, HEADERS, MAX_COM_PACKET, PACKET_HEADER, SUBPACKET_HEADER, com_packet_header,
+    packet_header, subpacket_header,
 };
 use crate::padding::{padded, padding};
 use crate::session::{ComId, Session};
@@ -42,6 +42,23 @@ fn append(out: &mut Vec<u8>, bytes: &[u8])
     let _ = out.extend_from_slice(bytes);
 }
 
+/// The headers that stand before so many bytes of a payload.
+fn headers(com_id: ComId, session: Session, len: usize) -> [u8; HEADERS]
+    requires { len ≤ MAX_PAYLOAD }
+    ensures exact { result ≡ headers_bytes com_id session len }
+    ensures fits { (session.tsn < 2 ^ 32) × (session.hsn < 2 ^ 32) }
+{
+    let whole = padded(len);
+    let content = PACKET_HEADER + SUBPACKET_HEADER + whole;
+    let mut headers = [0; HEADERS];
+    let (com_packet, rest) = headers.split_at_mut(COM_PACKET_HEADER);
+    let (packet, subpacket) = rest.split_at_mut(PACKET_HEADER);
+    com_packet.copy_from_slice(&com_packet_header(com_id, 0, 0, content as u32));
+    packet.copy_from_slice(&packet_header(session, (SUBPACKET_HEADER + whole) as u32));
+    subpacket.copy_from_slice(&subpacket_header(len as u32));
+    headers
+}
+
 /// Adds the headers that stand before so many bytes of a payload, without taking memory.
 pub fn headers_into(com_id: ComId, session: Session, len: usize, out: &mut Vec<u8>)
     requires fits { len ≤ MAX_PAYLOAD }
@@ -51,14 +68,7 @@ pub fn headers_into(com_id: ComId, session: Session, len: usize, out: &mut Vec<u
     ensures len { vec_len out.new ≡ vec_len out.old + headers_size }
     ensures room_stays { vec_capacity out.old ≤ vec_capacity out.new }
 {
-    let whole = padded(len);
-    let content = PACKET_HEADER + SUBPACKET_HEADER + whole;
-    append(out, &com_packet_header(com_id, 0, 0, content as u32));
-    append(
-        out,
-        &packet_header(session, (SUBPACKET_HEADER + whole) as u32),
-    );
-    append(out, &subpacket_header(len as u32));
+    append(out, &headers(com_id, session, len));
 }
 
 /// Adds the zeros that stand behind so many bytes of a payload, without taking memory.
