@@ -3,11 +3,12 @@
 ghost use Rattle.std.specs.Prelude.{◌≡◌, ◌==◌, ◌<◌, ◌^◌, [], ◌∷◌, List, map, length, IfOk, option_map, ℕ, None, Some, if◌then◌else◌};
 ghost use Rattle.std.specs.Int.{w64, from_be_bytes};
 ghost use Rattle.tcg_tokens.specs.Tree.{tree};
-ghost use Rattle.call_shapes.specs.Named.{options as options_of};
+ghost use Rattle.call_shapes.specs.Named.{options as options_of, pair_of};
 ghost use Rattle.call_shapes.specs.Asks.{uid_of as uid_of_octets, is_mbr_table as is_mbr_table_of, cellblock, columns_in, rows_in, cells_in, bytes_in, proof_in, attempt_in, without_arguments as without_arguments_of, get_of, set_of, ask_of as ask_by};
 
 use crate::named::{
-    Assignments, bytes_or_empty, list_in, number_if_any, number_or, read_assignments, read_options,
+    Assignments, Pair, bytes_or_empty, list_in, number_if_any, number_or, read_assignments,
+    read_options, read_pair,
 };
 use sp_cells::{Sp, Uid};
 use std::alloc::{AllocError, Global};
@@ -88,29 +89,24 @@ fn is_mbr_table(sp: Sp, object: Uid) -> bool
 }
 
 /// What a cellblock names: one list.
-fn read_cellblock<'a>(
-    alloc: Global,
-    first: u64,
-    last: u64,
-    args: &'a [Value],
-) -> Result<Option<Assignments<'a>>, AllocError>
-    ensures { IfOk result (λ a. a ≡ cellblock first last (map tree args.now)) }
+fn read_cellblock<'a>(first: u64, last: u64, args: &'a [Value]) -> Option<Pair<'a>>
+    requires { first < last }
+    ensures { option_map (λ p. (option_map (λ v. tree v.now) p.first, option_map (λ v. tree v.now) p.last)) result
+        ≡ option_map (pair_of first last) (cellblock first last (map tree args.now)) }
 {
     let [block] = args else {
-        return Ok(None);
+        return None;
     };
-    match list_in(block) {
-        Some(block) => read_options(alloc, &[first, last], block),
-        None => Ok(None),
-    }
+    read_pair(first, last, list_in(block)?)
 }
 
 /// Get of columns.
-fn columns_asked<'a>(block: &Assignments<'a>) -> Option<Ask<'a>>
-    ensures { result ≡ columns_in (Some block.now) }
+fn columns_asked<'a>(args: &'a [Value]) -> Option<Ask<'a>>
+    ensures { result ≡ columns_in (cellblock 3 4 (map tree args.now)) }
 {
-    let first = number_or(0, block.get(3))?;
-    let last = number_or(u64::MAX, block.get(4))?;
+    let block = read_cellblock(3, 4, args)?;
+    let first = number_or(0, block.first)?;
+    let last = number_or(u64::MAX, block.last)?;
     if first > last {
         return None;
     }
@@ -118,11 +114,12 @@ fn columns_asked<'a>(block: &Assignments<'a>) -> Option<Ask<'a>>
 }
 
 /// Get of bytes.
-fn rows_asked<'a>(block: &Assignments<'a>) -> Option<Ask<'a>>
-    ensures { result ≡ rows_in (Some block.now) }
+fn rows_asked<'a>(args: &'a [Value]) -> Option<Ask<'a>>
+    ensures { result ≡ rows_in (cellblock 1 2 (map tree args.now)) }
 {
-    let first = number_or(0, block.get(1))?;
-    let last = number_if_any(block.get(2))?;
+    let block = read_cellblock(1, 2, args)?;
+    let first = number_or(0, block.first)?;
+    let last = number_if_any(block.last)?;
     match last {
         Some(last) if last < first => None,
         _ => Some(Ask::GetBytes { first, last }),
@@ -213,7 +210,7 @@ pub fn read_ask<'a>(
     ensures { IfOk result (λ ask. ask ≡ ask_by sp object method (map tree args.now)) }
 {
     match method {
-        Uid::GET => get_asked(alloc, is_mbr_table(sp, object), args),
+        Uid::GET => Ok(get_asked(is_mbr_table(sp, object), args)),
         Uid::SET => set_asked(alloc, is_mbr_table(sp, object), args),
         Uid::AUTHENTICATE => attempt_asked(alloc, args),
         Uid::ACTIVATE => Ok(without_arguments(Ask::Activate, args)),
@@ -223,23 +220,13 @@ pub fn read_ask<'a>(
 }
 
 /// Get, of a byte table or of columns.
-fn get_asked<'a>(
-    alloc: Global,
-    of_bytes: bool,
-    args: &'a [Value],
-) -> Result<Option<Ask<'a>>, AllocError>
-    ensures { IfOk result (λ ask. ask ≡ get_of of_bytes (map tree args.now)) }
+fn get_asked<'a>(of_bytes: bool, args: &'a [Value]) -> Option<Ask<'a>>
+    ensures { result ≡ get_of of_bytes (map tree args.now) }
 {
     if of_bytes {
-        match read_cellblock(alloc, 1, 2, args)? {
-            Some(block) => Ok(rows_asked(&block)),
-            None => Ok(None),
-        }
+        rows_asked(args)
     } else {
-        match read_cellblock(alloc, 3, 4, args)? {
-            Some(block) => Ok(columns_asked(&block)),
-            None => Ok(None),
-        }
+        columns_asked(args)
     }
 }
 

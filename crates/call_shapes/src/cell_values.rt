@@ -28,8 +28,7 @@ const OPERATOR_REF: [u8; 4] = [0, 0, 0x04, 0x0e];
 pub fn bytes_value(alloc: Global, octets: &[u8]) -> Result<Value, AllocError>
     ensures { IfOk result (λ v. tree v ≡ bytes octets.now) }
 {
-    let mut items = Vec::new(alloc);
-    items.extend_from_slice(octets)?;
+    let items = Vec::from_slice(alloc, octets)?;
     Ok(Value::Bytes(tcg_tokens::Bytes::from_vec(items)))
 }
 
