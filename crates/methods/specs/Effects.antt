@@ -25,6 +25,8 @@ use Rattle.sessions.specs.Answers.{in_force, after_attempt, gaining_if}
 use Rattle.sessions.specs.Live.{Live, Holder, session_at, holder_on, unless_on}
 use Rattle.methods.specs.declared.kinds.Kind.{Kind}
 use Rattle.methods.specs.declared.kinds.Kind.TheVariants as kinds
+use Rattle.methods.specs.declared.kinds.Handler.{Handler}
+use Rattle.methods.specs.declared.kinds.Handler.TheVariants as handlers
 use Rattle.methods.specs.Kinds.{kind_of}
 use Rattle.methods.specs.Cases.{has_case}
 use Rattle.methods.specs.Listed.{listed, cell_value}
@@ -55,6 +57,17 @@ has_ask (Some kinds.TperInfo) (SetCells ps) = true
 has_ask (Some kinds.MbrTable) (GetBytes first last) = true
 has_ask (Some kinds.MbrTable) (SetBytes at bytes) = true
 has_ask _ _ = false
+
+-- a handler does what is asked in this shape
+abbrev pub handles : Handler → Ask → Bool
+handles handlers.ReadCells (GetCells first last) = true
+handles handlers.ReadBytes (GetBytes first last) = true
+handles handlers.WriteCells (SetCells ps) = true
+handles handlers.WriteBytes (SetBytes at bytes) = true
+handles handlers.Authenticate (Authenticate authority proof) = true
+handles handlers.Activate Activate = true
+handles handlers.Revert Revert = true
+handles _ _ = false
 
 -- what is asked, where the object's kind has it; else nothing that it knows
 abbrev pub cased : Option Kind → Ask → Ask

@@ -1,18 +1,18 @@
 //! Methods called in a session.
 
-ghost use Rattle.std.specs.Prelude.{◌≡◌, ◌↔◌, ℕ, false, Err, Some, None, IfOk, OnOk, OnErr, option_map, map};
+ghost use Rattle.std.specs.Prelude.{◌≡◌, ◌↔◌, ℕ, true, false, Err, Some, None, IfOk, OnOk, OnErr, IfSome, is_some, option_map, map};
 ghost use Rattle.tcg_tokens.specs.Tree.{tree};
 ghost use Rattle.sessions.specs.Live.{session_at};
 ghost use Rattle.methods.specs.Grants.{denied as denied_by};
 ghost use Rattle.methods.specs.Said.{said_seen};
-ghost use Rattle.methods.specs.Effects.{seen_by, holder_of, held_in, ask_at, said_ask, stored_ask, holder_ask};
+ghost use Rattle.methods.specs.Effects.{seen_by, holder_of, held_in, has_ask, handles, ask_at, said_ask, stored_ask, holder_ask};
 ghost use Rattle.methods.specs.Calls.{called as called_by, called_with, call_in, said_call, stored_call, holder_call};
 ghost use Rattle.methods.specs.declared.outcome.MethodFault.TheVariants as faults;
 
 use crate::cases::method_cases;
 use crate::grants::denied;
 use crate::handlers;
-use crate::kinds::{Kind, kind_of};
+use crate::kinds::{Handler, Kind, kind_of};
 use crate::outcome::{MethodFault, Outcome, refused};
 use ace_eval::Authorities;
 use audit::Why;
@@ -23,56 +23,24 @@ use std::alloc::Global;
 use tcg_tokens::{Call, Value};
 use transactions::{SessionId, Store};
 
-/// The call of a handler, by the name that its row gives it.
-macro_rules! handle {
-    (read_cells ($alloc:ident $store:ident $sessions:ident $session:ident $object:ident $ask:ident)) => {
-        match $ask {
-            Ask::GetCells { first, last } => {
-                handlers::read_cells($alloc, $store, $sessions, $session, $object, *first, *last)
-            }
-            _ => Ok(refused($alloc, status::FAIL, None)),
+macro_rules! handler_arms {
+    (($kind:expr, $ask:ident) $([$k:ident: $($method:ident $columns:tt $handler:ident),*])*) => {
+        match $kind {
+            $(Some(Kind::$k) => match $ask {
+                $(Ask::$method { .. } => Some(Handler::$handler),)*
+                _ => None,
+            },)*
+            None => None,
         }
-    };
-    (read_bytes ($alloc:ident $store:ident $sessions:ident $session:ident $object:ident $ask:ident)) => {
-        match $ask {
-            Ask::GetBytes { first, last } => {
-                handlers::read_bytes($alloc, $store, $session, *first, *last)
-            }
-            _ => Ok(refused($alloc, status::FAIL, None)),
-        }
-    };
-    (write_cells ($alloc:ident $store:ident $sessions:ident $session:ident $object:ident $ask:ident)) => {
-        handlers::write($alloc, $store, $session, $object, $ask)
-    };
-    (write_bytes ($alloc:ident $store:ident $sessions:ident $session:ident $object:ident $ask:ident)) => {
-        handlers::write($alloc, $store, $session, $object, $ask)
-    };
-    (authenticate ($alloc:ident $store:ident $sessions:ident $session:ident $object:ident $ask:ident)) => {
-        match $ask {
-            Ask::Authenticate { authority, proof } => {
-                handlers::authenticate($alloc, $store, $sessions, $session, *authority, proof.as_slice())
-            }
-            _ => Ok(refused($alloc, status::FAIL, None)),
-        }
-    };
-    (activate ($alloc:ident $store:ident $sessions:ident $session:ident $object:ident $ask:ident)) => {
-        handlers::activate($alloc, $store, $session)
-    };
-    (revert ($alloc:ident $store:ident $sessions:ident $session:ident $object:ident $ask:ident)) => {
-        handlers::revert($alloc, $store, $sessions, $session, $object)
     };
 }
 
-macro_rules! call_arms {
-    (($kind:expr, $ask:ident, $alloc:ident, $env:tt) $([$k:ident: $($method:ident $columns:tt $handler:ident),*])*) => {
-        match $kind {
-            $(Some(Kind::$k) => match $ask {
-                $(Ask::$method { .. } => handle!($handler $env),)*
-                _ => Ok(refused($alloc, status::FAIL, None)),
-            },)*
-            None => Ok(refused($alloc, status::FAIL, None)),
-        }
-    };
+/// The handler of a call, where the object's kind has what is asked.
+fn handler_of(kind: Option<Kind>, ask: &Ask) -> Option<Handler>
+    ensures cased { is_some result ≡ has_ask kind ask.now }
+    ensures handles { IfSome result (λ handler. handles handler ask.now ≡ true) }
+{
+    method_cases!(handler_arms(kind, ask))
 }
 
 /// Does what a granted call asks, by the kind of its object.
@@ -98,9 +66,33 @@ fn perform(
     ensures err_sessions { OnErr result (sessions.new ≡ sessions.old) }
     ensures no_session { (result ≡ Err faults.NoSession) → (holder_of sessions.old session ≡ None) }
 {
-    method_cases!(call_arms(
-        kind_of(session.sp, object), ask, alloc, (alloc store sessions session object ask)
-    ))
+    let Some(handler) = handler_of(kind_of(session.sp, object), ask) else {
+        return Ok(refused(alloc, status::FAIL, None));
+    };
+    match (handler, ask) {
+        (Handler::ReadCells, Ask::GetCells { first, last }) => {
+            handlers::read_cells(alloc, store, sessions, session, object, *first, *last)
+        }
+        (Handler::ReadBytes, Ask::GetBytes { first, last }) => {
+            handlers::read_bytes(alloc, store, session, *first, *last)
+        }
+        (Handler::WriteCells, Ask::SetCells(_)) | (Handler::WriteBytes, Ask::SetBytes { .. }) => {
+            handlers::write(alloc, store, session, object, ask)
+        }
+        (Handler::Authenticate, Ask::Authenticate { authority, proof }) => {
+            handlers::authenticate(
+                alloc,
+                store,
+                sessions,
+                session,
+                *authority,
+                proof.as_slice(),
+            )
+        }
+        (Handler::Activate, _) => handlers::activate(alloc, store, session),
+        (Handler::Revert, _) => handlers::revert(alloc, store, sessions, session, object),
+        _ => Ok(refused(alloc, status::FAIL, None)),
+    }
 }
 
 /// Why a call is denied in a session, by what it sees and what it holds.

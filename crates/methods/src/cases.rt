@@ -5,47 +5,47 @@
 macro_rules! method_cases {
     ($arms:ident $args:tt) => {
         $arms! { $args
-            [ThisSp: Authenticate [] authenticate]
+            [ThisSp: Authenticate [] Authenticate]
             [Sp:
-                GetCells [UID Object, NAME Name, LIFE_CYCLE_STATE Number] read_cells,
-                Activate [] activate,
-                Revert [] revert]
+                GetCells [UID Object, NAME Name, LIFE_CYCLE_STATE Number] ReadCells,
+                Activate [] Activate,
+                Revert [] Revert]
             [Authority:
                 GetCells [
                     UID Object, NAME Name, COMMON_NAME Name, IS_CLASS Flag, CLASS Object, ENABLED Flag,
                     OPERATION Number, CREDENTIAL Object
-                ] read_cells,
-                SetCells [ENABLED Flag] write_cells]
+                ] ReadCells,
+                SetCells [ENABLED Flag] WriteCells]
             [CPin:
                 GetCells [
                     UID Object, NAME Name, COMMON_NAME Name, PIN Secret, CHAR_SET Object, TRY_LIMIT Number,
                     TRIES Number, PERSISTENCE Flag
-                ] read_cells,
-                SetCells [PIN Secret] write_cells]
+                ] ReadCells,
+                SetCells [PIN Secret] WriteCells]
             [Ace:
                 GetCells [
                     UID Object, NAME Name, COMMON_NAME Name, BOOLEAN_EXPR Expression, COLUMNS Columns
-                ] read_cells,
-                SetCells [BOOLEAN_EXPR Expression] write_cells]
+                ] ReadCells,
+                SetCells [BOOLEAN_EXPR Expression] WriteCells]
             [Locking:
                 GetCells [
                     UID Object, NAME Name, COMMON_NAME Name, RANGE_START Number, RANGE_LENGTH Number,
                     READ_LOCK_ENABLED Flag, WRITE_LOCK_ENABLED Flag, READ_LOCKED Flag, WRITE_LOCKED Flag,
                     LOCK_ON_RESET Resets
-                ] read_cells,
+                ] ReadCells,
                 SetCells [
                     RANGE_START Number, RANGE_LENGTH Number, READ_LOCK_ENABLED Flag, WRITE_LOCK_ENABLED Flag,
                     READ_LOCKED Flag, WRITE_LOCKED Flag, LOCK_ON_RESET Resets
-                ] write_cells]
+                ] WriteCells]
             [MbrControl:
-                GetCells [UID Object, MBR_ENABLE Flag, MBR_DONE Flag, MBR_DONE_ON_RESET Resets] read_cells,
-                SetCells [MBR_ENABLE Flag, MBR_DONE Flag, MBR_DONE_ON_RESET Resets] write_cells]
+                GetCells [UID Object, MBR_ENABLE Flag, MBR_DONE Flag, MBR_DONE_ON_RESET Resets] ReadCells,
+                SetCells [MBR_ENABLE Flag, MBR_DONE Flag, MBR_DONE_ON_RESET Resets] WriteCells]
             [TperInfo:
-                GetCells [UID Object, PROGRAMMATIC_RESET_ENABLE Flag] read_cells,
-                SetCells [PROGRAMMATIC_RESET_ENABLE Flag] write_cells]
+                GetCells [UID Object, PROGRAMMATIC_RESET_ENABLE Flag] ReadCells,
+                SetCells [PROGRAMMATIC_RESET_ENABLE Flag] WriteCells]
             [MbrTable:
-                GetBytes [] read_bytes,
-                SetBytes [] write_bytes]
+                GetBytes [] ReadBytes,
+                SetBytes [] WriteBytes]
         }
     };
 }

@@ -46,7 +46,7 @@ fn columns_outcome<R: Rows>(
         ≡ columns_said (R.look_up rows.now) sp object first last held.now) }
 {
     let listed = list_columns(alloc, rows, sp, object, first, last, held)?;
-    let mut results = Vec::new(alloc);
+    let mut results = Vec::with_capacity(alloc, 1)?;
     results.push(list_value(listed))?;
     Ok(fitting(alloc, results))
 }

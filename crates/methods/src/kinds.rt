@@ -20,6 +20,18 @@ pub enum Kind {
     MbrTable,
 }
 
+/// What does a call of a method that a kind of object has.
+#[derive(Clone, Copy, Debug, PartialEq, Eq)]
+pub enum Handler {
+    ReadCells,
+    ReadBytes,
+    WriteCells,
+    WriteBytes,
+    Authenticate,
+    Activate,
+    Revert,
+}
+
 /// The kind of the rows of a table, by the upper four bytes of their names.
 fn table_kind(table: u64) -> Option<Kind>
     ensures { result ≡ kind_of_table table }
