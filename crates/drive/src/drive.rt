@@ -58,7 +58,7 @@ pub struct Drive {
     tper: Tper,
     queue: Queue,
     media: Media,
-    /// A vector for the bytes of the next read.
+    /// A vector for the bytes of the next read, or of the next response.
     spare: Vec<u8>,
 }
 
@@ -276,7 +276,7 @@ impl Drive {
             → why ≡ (sent (facts o (log o acts)) com_id (frame_in payload.now)).denied) }
         ensures err { OnErr result (self.new ≡ self.old) }
     {
-        let sent = self.tper.send(com_id, payload)?;
+        let sent = self.tper.send(com_id, payload, &mut self.spare)?;
         wipe_where(sent.wipes, &mut self.media);
         refresh_where(sent.changes, &mut self.ranges, &self.tper.in_force());
         Ok(sent.denied)
@@ -432,8 +432,8 @@ impl Drive {
         self.queue.release(tag);
     }
 
-    /// Takes back the vector of a completion: the next read puts its bytes there, and takes no memory
-    /// where there is room.
+    /// Takes back the vector of an answer: the next read or response puts its bytes there, and takes no
+    /// memory where there is room.
     pub fn give_back(&mut self, bytes: Vec<u8>)
         ensures { self.new ≡ self.old }
     {

@@ -12,6 +12,7 @@ use compacket::{
 };
 use std::alloc::{AllocError, Global};
 use std::marker::Model;
+use std::mem::replace;
 use tcg_tokens::{Item, item_len, write_item_into};
 
 /// How many ComIDs sessions have.
@@ -45,7 +46,7 @@ impl Model for Response {
 }
 
 impl Response {
-    ghost use Rattle.std.specs.Prelude.{◌≡◌, ◌≤◌, length};
+    ghost use Rattle.std.specs.Prelude.{◌≡◌, ◌≤◌, length, MatchResult};
     ghost use Rattle.compacket.specs.declared.headers.TheConstants.{MAX_COM_PACKET};
 
     pub fn new(bytes: Vec<u8>) -> Response
@@ -53,6 +54,19 @@ impl Response {
         ensures { result ≡ bytes.items }
     {
         Response { bytes }
+    }
+
+    /// The bytes with zeros behind them up to a length, in the vector that they stand in; where memory is refused, the
+    /// response as it was.
+    fn padded(self, room: usize) -> Result<Vec<u8>, Response>
+        requires { length self ≤ room }
+        ensures { MatchResult result (λ v. v.items ≡ sized room self) (λ r. r ≡ self) }
+    {
+        let Response { mut bytes } = self;
+        match bytes.resize(room, 0) {
+            Ok(()) => Ok(bytes),
+            Err(_) => Err(Response { bytes }),
+        }
     }
 
     fn as_slice(&self) -> &[u8]
@@ -143,6 +157,30 @@ impl Responses {
         }
     }
 
+    /// Takes the response that waits on a ComID and has room in a transfer: the data of the receive, in the vector that
+    /// the response stood in. Where memory is refused, it waits on.
+    pub fn take(&mut self, com_id: ComId, room: usize) -> Result<Vec<u8>, AllocError>
+        requires com_id { is_session_com_id com_id ≡ true }
+        requires fits { fits_in room (response_at self.old.waiting com_id) ≡ true }
+        ensures data { IfOk result (λ v. v.items
+            ≡ sized room (received_bytes com_id room (response_at self.old.waiting com_id))) }
+        ensures taken { OnOk result ((other : ℕ) → response_at self.new.waiting other
+            ≡ (if com_id == other then None else response_at self.old.waiting other)) }
+        ensures err { OnErr result (self.new.waiting ≡ self.old.waiting) }
+    {
+        let place = usize::from(com_id - FIRST_COM_ID);
+        let Some(response) = replace(&mut self.waiting[place], None) else {
+            unreachable!()
+        };
+        match response.padded(room) {
+            Ok(data) => Ok(data),
+            Err(response) => {
+                self.waiting[place] = Some(response);
+                Err(AllocError)
+            }
+        }
+    }
+
     /// Whether the response that waits on a ComID, if one does, has room in a transfer.
     pub fn fits(&self, com_id: ComId, room: usize) -> bool
         ensures { result ≡ fits_in room (response_at self.now.waiting com_id) }
@@ -178,9 +216,11 @@ impl Room {
     ghost use Rattle.call_shapes.specs.Carried.{is_carried};
     ghost use Rattle.compacket.specs.Spelling.{frame_bytes};
 
-    /// All memory that an answer can want.
-    pub fn new(alloc: Global) -> Result<Room, AllocError> {
-        let frame = Vec::with_capacity(alloc, MAX_COM_PACKET)?;
+    /// All memory that an answer can want: that of a vector at hand, where it is enough.
+    pub fn over(alloc: Global, spare: &mut Vec<u8>) -> Result<Room, AllocError> {
+        let mut frame = replace(spare, Vec::new(alloc));
+        frame.clear();
+        frame.reserve(MAX_COM_PACKET)?;
         Ok(Room { frame })
     }
 

@@ -150,8 +150,14 @@ impl Tper {
     }
 
     /// Takes what is sent to one of the ComIDs of sessions, and keeps the response. What is no frame of that
-    /// ComID, or is for no live session, is taken and has no response. After an error nothing has changed.
-    pub fn send(&mut self, com_id: ComId, payload: &[u8]) -> Result<Sent, AllocError>
+    /// ComID, or is for no live session, is taken and has no response. The response is written into the spare vector,
+    /// where that has the room. After an error nothing has changed.
+    pub fn send(
+        &mut self,
+        com_id: ComId,
+        payload: &[u8],
+        spare: &mut Vec<u8>,
+    ) -> Result<Sent, AllocError>
         requires { is_session_com_id com_id ≡ true }
         ensures kept { OnOk result ((o : Origin) (acts : List Act) → Keeps self.old o (log o acts)
             → Keeps self.new o (sent (facts o (log o acts)) com_id (frame_in payload.now) ∷ log o acts)) }
@@ -170,16 +176,22 @@ impl Tper {
         }
         let session = frame.session;
         if session.tsn == 0 && session.hsn == 0 {
-            return self.manage(com_id, session, frame.payload);
+            return self.manage(com_id, session, frame.payload, spare);
         }
         match self.sessions.find(com_id, session.tsn, session.hsn) {
             None => Ok(nothing()),
-            Some(id) => self.serve(com_id, session, id, frame.payload),
+            Some(id) => self.serve(com_id, session, id, frame.payload, spare),
         }
     }
 
     /// What is sent to the session manager.
-    fn manage(&mut self, com_id: ComId, session: Session, tokens: &[u8]) -> Result<Sent, AllocError>
+    fn manage(
+        &mut self,
+        com_id: ComId,
+        session: Session,
+        tokens: &[u8],
+        spare: &mut Vec<u8>,
+    ) -> Result<Sent, AllocError>
         requires { is_session_com_id com_id ≡ true }
         ensures handled { IfOk result (λ s. Handles (λ said. OfManager (λ f. to_manager f com_id (message_in tokens.now)) said
             self.old.store self.new.store self.old.live self.new.live) com_id session s self.old self.new) }
@@ -187,7 +199,7 @@ impl Tper {
         ensures err { OnErr result (self.new ≡ self.old) }
         ensures config { self.new.store.config ≡ self.old.store.config }
     {
-        let room = Room::new(self.alloc)?;
+        let room = Room::over(self.alloc, spare)?;
         let outcome = to_manager(
             self.alloc,
             &mut self.store,
@@ -205,6 +217,7 @@ impl Tper {
         session: Session,
         id: SessionId,
         tokens: &[u8],
+        spare: &mut Vec<u8>,
     ) -> Result<Sent, AllocError>
         requires com_id { is_session_com_id com_id ≡ true }
         requires lives { holder_of self.old.live id ≢ None }
@@ -214,7 +227,7 @@ impl Tper {
         ensures err { OnErr result (self.new ≡ self.old) }
         ensures config { self.new.store.config ≡ self.old.store.config }
     {
-        let room = Room::new(self.alloc)?;
+        let room = Room::over(self.alloc, spare)?;
         let outcome = in_session(self.alloc, &mut self.store, &mut self.sessions, id, tokens)?;
         Ok(self.respond(com_id, session, outcome, room))
     }
@@ -260,10 +273,11 @@ impl Tper {
             → room ≡ sector_size * blocks → Keeps self.old o past
             → Keeps self.new o (received com_id blocks (waiting past com_id) ∷ past)) }
     {
-        let data = self.responses.data(self.alloc, com_id, room)?;
         if self.responses.fits(com_id, room) {
-            self.responses.put(com_id, None);
+            let data = self.responses.take(com_id, room)?;
+            return Ok(data);
         }
+        let data = self.responses.data(self.alloc, com_id, room)?;
         Ok(data)
     }
 
