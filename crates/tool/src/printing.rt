@@ -62,14 +62,15 @@ fn print_served(report: &mut Report, command: &Command, bytes: &[u8]) -> Result<
     Ok(())
 }
 
-/// Prints what came of a command, and under the number of its act what denied it to a client.
+/// Prints what came of a command, and under the number of its act what denied it to a client. It gives the vector
+/// of the data, which is not wanted any more.
 pub fn print_answer(
     report: &mut Report,
     step: u64,
     client: u32,
     command: &Command,
     accepted: Accepted,
-) -> Result<(), AllocError>
+) -> Result<Vec<u8>, AllocError>
     ensures { OnOk result (Prints report.old report.new (told_lines step client command.now accepted)) }
 {
     let failed = has_failed(&accepted);
@@ -81,11 +82,12 @@ pub fn print_answer(
         ..
     } = accepted;
     if failed {
-        return report.print_refusal(step, client, status, error, denied);
+        report.print_refusal(step, client, status, error, denied)?;
+        return Ok(bytes);
     }
     print_served(report, command, &bytes)?;
     if let Some(why) = denied {
         report.print_audit(&AuditLine { step, client, why })?;
     }
-    Ok(())
+    Ok(bytes)
 }

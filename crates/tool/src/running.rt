@@ -223,7 +223,8 @@ impl RunningPhase {
         let is_first = self.is_first_abort(has_failed);
         let accepted = self.accept(command, Tag::low_bits(0))?;
         let aborted = printing::has_failed(&accepted) && is_first;
-        print_answer(report, self.acts, client, command, accepted)?;
+        let bytes = print_answer(report, self.acts, client, command, accepted)?;
+        self.drive.give_back(bytes);
         Ok(aborted)
     }
 

@@ -6,13 +6,13 @@ use Rattle.tool.proofs.running.RunningPhase.command.Goals.{then-has_failed, else
 
 pub returns : goal.returns
 returns c = λ o acts runs. (
-  command-then c.accept.new.self o acts c.args.client c.args.command.now c.low_bits.result
+  rw c.give_back.ensures (command-then c.accept.new.self o acts c.args.client c.args.command.now c.low_bits.result
       c.is_first_abort-is_first.new.self.payload.items
       c.args.self.now.payload.items c.args.report.now c.print_answer.new.report
       c.in_ok-accepted.accepted c.low_bits.ensures
       (ap (λ payload. payload.items) c.is_first_abort-is_first.ensures.payload)
       (c.in_ok-accepted.ensures o acts (c.is_first_abort-is_first.ensures.runs o acts runs))
-      c.in_ok-print_answer.ensures,
+      c.in_ok-bytes.ensures),
   elim c.if-has_failed.branch [
     | then-has_failed w ↦ λ told. sym (ap is_some (c.failure.ensures.told o acts runs.0))
         ∙ sym c.is_some-has_failed.ensures
