@@ -4,12 +4,14 @@ ghost use Rattle.std.specs.Prelude.{◌≡◌, ◌==◌, ◌<◌, ◌^◌, [], �
 ghost use Rattle.std.specs.Int.{w64, from_be_bytes};
 ghost use Rattle.tcg_tokens.specs.Tree.{tree};
 ghost use Rattle.call_shapes.specs.Named.{options as options_of, pair_of};
+ghost use Rattle.call_shapes.specs.Parameters.{start_row_parameter, end_row_parameter, start_column_parameter, end_column_parameter};
 ghost use Rattle.call_shapes.specs.Asks.{uid_of as uid_of_octets, is_mbr_table as is_mbr_table_of, cellblock, columns_in, rows_in, cells_in, bytes_in, proof_in, attempt_in, without_arguments as without_arguments_of, get_of, set_of, ask_of as ask_by};
 
 use crate::named::{
     Assignments, Pair, bytes_or_empty, list_in, number_if_any, number_or, read_assignments,
     read_options, read_pair,
 };
+use crate::parameter;
 use sp_cells::{Sp, Uid};
 use std::alloc::{AllocError, Global};
 use std::marker::Model;
@@ -91,8 +93,7 @@ fn is_mbr_table(sp: Sp, object: Uid) -> bool
 /// What a cellblock names: one list.
 fn read_cellblock<'a>(first: u64, last: u64, args: &'a [Value]) -> Option<Pair<'a>>
     requires { first < last }
-    ensures { option_map (λ p. (option_map (λ v. tree v.now) p.first, option_map (λ v. tree v.now) p.last)) result
-        ≡ option_map (pair_of first last) (cellblock first last (map tree args.now)) }
+    ensures { result ≡ option_map (pair_of first last) (cellblock first last (map tree args.now)) }
 {
     let [block] = args else {
         return None;
@@ -102,9 +103,9 @@ fn read_cellblock<'a>(first: u64, last: u64, args: &'a [Value]) -> Option<Pair<'
 
 /// Get of columns.
 fn columns_asked<'a>(args: &'a [Value]) -> Option<Ask<'a>>
-    ensures { result ≡ columns_in (cellblock 3 4 (map tree args.now)) }
+    ensures { result ≡ columns_in (cellblock start_column_parameter end_column_parameter (map tree args.now)) }
 {
-    let block = read_cellblock(3, 4, args)?;
+    let block = read_cellblock(parameter::START_COLUMN, parameter::END_COLUMN, args)?;
     let first = number_or(0, block.first)?;
     let last = number_or(u64::MAX, block.last)?;
     if first > last {
@@ -115,9 +116,9 @@ fn columns_asked<'a>(args: &'a [Value]) -> Option<Ask<'a>>
 
 /// Get of bytes.
 fn rows_asked<'a>(args: &'a [Value]) -> Option<Ask<'a>>
-    ensures { result ≡ rows_in (cellblock 1 2 (map tree args.now)) }
+    ensures { result ≡ rows_in (cellblock start_row_parameter end_row_parameter (map tree args.now)) }
 {
-    let block = read_cellblock(1, 2, args)?;
+    let block = read_cellblock(parameter::START_ROW, parameter::END_ROW, args)?;
     let first = number_or(0, block.first)?;
     let last = number_if_any(block.last)?;
     match last {
@@ -130,7 +131,7 @@ fn rows_asked<'a>(args: &'a [Value]) -> Option<Ask<'a>>
 fn cells_asked<'a>(alloc: Global, args: &Assignments<'a>) -> Result<Option<Ask<'a>>, AllocError>
     ensures { IfOk result (λ ask. ask ≡ cells_in (Some args.now)) }
 {
-    let Some(cells) = args.get(1) else {
+    let Some(cells) = args.get(parameter::VALUES) else {
         return Ok(None);
     };
     let Some(cells) = list_in(cells) else {
@@ -146,8 +147,8 @@ fn cells_asked<'a>(alloc: Global, args: &Assignments<'a>) -> Result<Option<Ask<'
 fn bytes_asked<'a>(args: &Assignments<'a>) -> Option<Ask<'a>>
     ensures { result ≡ bytes_in (Some args.now) }
 {
-    let at = number_or(0, args.get(0))?;
-    match args.get(1) {
+    let at = number_or(0, args.get(parameter::WHERE))?;
+    match args.get(parameter::VALUES) {
         Some(Value::Bytes(bytes)) => Some(Ask::SetBytes {
             at,
             bytes: Octets::new(bytes.as_slice()),
@@ -176,10 +177,10 @@ fn attempt_asked<'a>(alloc: Global, args: &'a [Value]) -> Result<Option<Ask<'a>>
     let Some(authority) = authority_of(name.as_slice()) else {
         return Ok(None);
     };
-    let Some(named) = read_options(alloc, &[0], rest)? else {
+    let Some(named) = read_options(alloc, &[parameter::PROOF], rest)? else {
         return Ok(None);
     };
-    let Some(proof) = bytes_or_empty(named.get(0)) else {
+    let Some(proof) = bytes_or_empty(named.get(parameter::PROOF)) else {
         return Ok(None);
     };
     Ok(Some(Ask::Authenticate {
@@ -239,12 +240,12 @@ fn set_asked<'a>(
     ensures { IfOk result (λ ask. ask ≡ set_of of_bytes (map tree args.now)) }
 {
     if of_bytes {
-        match read_options(alloc, &[0, 1], args)? {
+        match read_options(alloc, &[parameter::WHERE, parameter::VALUES], args)? {
             Some(named) => Ok(bytes_asked(&named)),
             None => Ok(None),
         }
     } else {
-        match read_options(alloc, &[1], args)? {
+        match read_options(alloc, &[parameter::VALUES], args)? {
             Some(named) => Ok(cells_asked(alloc, &named)?),
             None => Ok(None),
         }

@@ -9,6 +9,7 @@ mod cell_values;
 mod laws;
 pub mod limits;
 mod named;
+pub mod parameter;
 pub mod status;
 
 pub use ask::{Ask, Octets, read_ask, uid_of};

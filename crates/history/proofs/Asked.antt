@@ -11,6 +11,7 @@ use Rattle.sp_cells.specs.Flat.{sp_eq}
 use Rattle.access_list.specs.Access.{Grant, access_list, acl_in, this_sp_grants, admin_grants, authority_grants, fixed_ace_gets, user_ace_grants, read_locked_ace_grants, write_locked_ace_grants, done_ace_grants, pin_grants, range_grants, mbr_grants}
 use Rattle.tcg_tokens.specs.Tree.{Tree, Trees}
 use Rattle.tcg_tokens.specs.Tree as tree
+use Rattle.call_shapes.specs.Parameters.{start_row_parameter, end_row_parameter, start_column_parameter, end_column_parameter, where_parameter, values_parameter, proof_parameter}
 use Rattle.call_shapes.specs.Named.{values_of, list_in, assignments, value_of, options, number_or, number_if_any, bytes_or_empty}
 use Rattle.call_shapes.specs.Asks.{uid_of, is_mbr_table, cellblock, columns_between, columns_in, is_ordered, rows_between, rows_in, cells_of, cells_to_set, cells_in, bytes_to_set, bytes_in, proof_of, proof_in, attempt_in, without_arguments, get_of, set_of, ask_of}
 use Rattle.call_shapes.specs.declared.ask.Ask.{Ask}
@@ -52,7 +53,7 @@ gives-if p false x y h g = g
 -- Get
 columns-gives : (p : Ask → Bool) (x : Option (List (ℕ × Tree))) → ((first last : ℕ) → p (GetCells first last) ≡ true) → Gives p (columns_in x)
 columns-gives p None h = gives-none p
-columns-gives p (Some ps) h = between (number_or 0 (value_of 3 ps)) (number_or (2 ^ 64 - 1) (value_of 4 ps))
+columns-gives p (Some ps) h = between (number_or 0 (value_of start_column_parameter ps)) (number_or (2 ^ 64 - 1) (value_of end_column_parameter ps))
   where
     between : (a b : Option ℕ) → Gives p (columns_between a b)
     between None b = gives-none p
@@ -61,7 +62,7 @@ columns-gives p (Some ps) h = between (number_or 0 (value_of 3 ps)) (number_or (
 
 rows-gives : (p : Ask → Bool) (x : Option (List (ℕ × Tree))) → ((first : ℕ) (last : Option ℕ) → p (GetBytes first last) ≡ true) → Gives p (rows_in x)
 rows-gives p None h = gives-none p
-rows-gives p (Some ps) h = between (number_or 0 (value_of 1 ps)) (number_if_any (value_of 2 ps))
+rows-gives p (Some ps) h = between (number_or 0 (value_of start_row_parameter ps)) (number_if_any (value_of end_row_parameter ps))
   where
     between : (a : Option ℕ) (b : Option (Option ℕ)) → Gives p (rows_between a b)
     between None b = gives-none p
@@ -69,8 +70,8 @@ rows-gives p (Some ps) h = between (number_or 0 (value_of 1 ps)) (number_if_any 
     between (Some a) (Some b) = gives-if p (is_ordered a b) _ None (gives-some p (GetBytes a b) (h a b)) (gives-none p)
 
 get-gives : (p : Ask → Bool) (b : Bool) (args : List Tree) → ((first : ℕ) (last : Option ℕ) → p (GetBytes first last) ≡ true) → ((first last : ℕ) → p (GetCells first last) ≡ true) → Gives p (get_of b args)
-get-gives p true args h g = rows-gives p (cellblock 1 2 args) h
-get-gives p false args h g = columns-gives p (cellblock 3 4 args) g
+get-gives p true args h g = rows-gives p (cellblock start_row_parameter end_row_parameter args) h
+get-gives p false args h g = columns-gives p (cellblock start_column_parameter end_column_parameter args) g
 
 -- Set
 assigned-gives : (p : Ask → Bool) (x : Option (List (ℕ × Tree))) → ((values : List (ℕ × Tree)) → p (SetCells values) ≡ true) → Gives p (option_map SetCells x)
@@ -87,11 +88,11 @@ value-gives p (Some t) h = list-gives p (list_in t) h
 
 cells-gives : (p : Ask → Bool) (x : Option (List (ℕ × Tree))) → ((values : List (ℕ × Tree)) → p (SetCells values) ≡ true) → Gives p (cells_in x)
 cells-gives p None h = gives-none p
-cells-gives p (Some ps) h = value-gives p (value_of 1 ps) h
+cells-gives p (Some ps) h = value-gives p (value_of values_parameter ps) h
 
 bytes-gives : (p : Ask → Bool) (x : Option (List (ℕ × Tree))) → ((at : ℕ) (content : List ℕ) → p (SetBytes at content) ≡ true) → Gives p (bytes_in x)
 bytes-gives p None h = gives-none p
-bytes-gives p (Some ps) h = by_parts (number_or 0 (value_of 0 ps)) (value_of 1 ps)
+bytes-gives p (Some ps) h = by_parts (number_or 0 (value_of where_parameter ps)) (value_of values_parameter ps)
   where
     by_parts : (a : Option ℕ) (b : Option Tree) → Gives p (bytes_to_set a b)
     by_parts None b = gives-none p
@@ -102,13 +103,13 @@ bytes-gives p (Some ps) h = by_parts (number_or 0 (value_of 0 ps)) (value_of 1 p
     by_parts (Some a) (Some (tree.named n v)) = gives-none p
 
 set-gives : (p : Ask → Bool) (b : Bool) (args : List Tree) → ((at : ℕ) (content : List ℕ) → p (SetBytes at content) ≡ true) → ((values : List (ℕ × Tree)) → p (SetCells values) ≡ true) → Gives p (set_of b args)
-set-gives p true args h g = bytes-gives p (options (0 ∷ 1 ∷ []) args) h
-set-gives p false args h g = cells-gives p (options (1 ∷ []) args) g
+set-gives p true args h g = bytes-gives p (options (where_parameter ∷ values_parameter ∷ []) args) h
+set-gives p false args h g = cells-gives p (options (values_parameter ∷ []) args) g
 
 -- Authenticate, Activate, Revert
 proof-gives : (p : Ask → Bool) (a : Uid) (x : Option (List (ℕ × Tree))) → ((pin : List ℕ) → p (Authenticate a pin) ≡ true) → Gives p (proof_in a x)
 proof-gives p a None h = gives-none p
-proof-gives p a (Some ps) h = by_bytes (bytes_or_empty (value_of 0 ps))
+proof-gives p a (Some ps) h = by_bytes (bytes_or_empty (value_of proof_parameter ps))
   where
     by_bytes : (x : Option (List ℕ)) → Gives p (proof_of a x)
     by_bytes None = gives-none p
@@ -116,7 +117,7 @@ proof-gives p a (Some ps) h = by_bytes (bytes_or_empty (value_of 0 ps))
 
 attempt-gives : (p : Ask → Bool) (args : List Tree) → ((a : Uid) (pin : List ℕ) → p (Authenticate a pin) ≡ true) → Gives p (attempt_in args)
 attempt-gives p [] h = gives-none p
-attempt-gives p (tree.bytes b ∷ rest) h = gives-if p (length b == 8) _ None (proof-gives p (uid_of b) (options (0 ∷ []) rest) (h (uid_of b))) (gives-none p)
+attempt-gives p (tree.bytes b ∷ rest) h = gives-if p (length b == 8) _ None (proof-gives p (uid_of b) (options (proof_parameter ∷ []) rest) (h (uid_of b))) (gives-none p)
 attempt-gives p (tree.number n ∷ rest) h = gives-none p
 attempt-gives p (tree.list ts ∷ rest) h = gives-none p
 attempt-gives p (tree.named n v ∷ rest) h = gives-none p

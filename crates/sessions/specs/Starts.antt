@@ -15,6 +15,7 @@ use Rattle.audit.specs.declared.reason.AttemptFailure.{AttemptFailure}
 use Rattle.audit.specs.declared.reason.AttemptFailure.TheVariants.{WrongPin, LockedOut, Disabled, Unknown}
 use Rattle.audit.specs.declared.reason.Why.{Why}
 use Rattle.audit.specs.declared.reason.Why.TheVariants.{AttemptFailed}
+use Rattle.call_shapes.specs.Parameters.{host_challenge_parameter, host_signing_authority_parameter}
 use Rattle.call_shapes.specs.Named.{options, value_of, bytes_or_empty}
 use Rattle.call_shapes.specs.CellValues.{number_in, uid_in}
 use Rattle.call_shapes.specs.Statuses.{success, not_authorized, sp_busy, no_sessions_available, invalid_parameter, authority_locked_out}
@@ -39,7 +40,7 @@ opening_by host spid (Some authority) (Some proof) = Some (record { host = host;
 
 abbrev pub opening_named : ℕ → Uid → Option (List (ℕ × Tree)) → Option Opening
 opening_named host spid None = None
-opening_named host spid (Some ps) = opening_by host spid (signing (is_some (value_of 0 ps)) (value_of 3 ps)) (bytes_or_empty (value_of 0 ps))
+opening_named host spid (Some ps) = opening_by host spid (signing (is_some (value_of host_challenge_parameter ps)) (value_of host_signing_authority_parameter ps)) (bytes_or_empty (value_of host_challenge_parameter ps))
 
 -- the number that a host gives its session: 32 bits
 abbrev pub is_host : ℕ → Bool
@@ -54,7 +55,7 @@ abbrev pub opening_of : List Tree → Option Opening
 opening_of [] = None
 opening_of (h ∷ []) = None
 opening_of (h ∷ p ∷ []) = None
-opening_of (h ∷ p ∷ w ∷ rest) = opening_from (number_in h) (uid_in p) (number_in w) (options (0 ∷ 3 ∷ []) rest)
+opening_of (h ∷ p ∷ w ∷ rest) = opening_from (number_in h) (uid_in p) (number_in w) (options (host_challenge_parameter ∷ host_signing_authority_parameter ∷ []) rest)
 
 -- the SP that a name names
 abbrev pub sp_named : Uid → Option Sp
