@@ -11,7 +11,6 @@ use Rattle.sp_cells.specs.Flat.{LookUp}
 use Rattle.sp_rows.specs.Items.{Item, with_items}
 use Rattle.shadow_mbr.specs.Stored.{sector_size}
 use Rattle.tcg_tokens.specs.Tree.{bytes as octets_tree, list, trees_of}
-use Rattle.audit.specs.declared.reason.AttemptFailure.{AttemptFailure}
 use Rattle.transactions.specs.declared.change.SessionId.{SessionId}
 use Rattle.transactions.specs.declared.change.Change.{Change}
 use Rattle.transactions.specs.Bytes.{written}
@@ -20,8 +19,7 @@ use Rattle.transactions.specs.Changes.{fault_of_cells, fault_of_change}
 use Rattle.transactions.specs.Sights.{Sight, look_up, sight_of, is_manufactured, activated}
 use Rattle.call_shapes.specs.declared.ask.Ask.{Ask}
 use Rattle.call_shapes.specs.declared.ask.Ask.TheVariants.{GetCells, GetBytes, SetCells, SetBytes, Authenticate, Activate, Revert, Other}
-use Rattle.sessions.specs.Attempts.{failure}
-use Rattle.sessions.specs.Answers.{in_force, after_attempt, gaining_if}
+use Rattle.sessions.specs.Answers.{in_force, attempt, after_attempt, gaining_if}
 use Rattle.sessions.specs.Live.{Live, Holder, session_at, holder_on, unless_on}
 use Rattle.methods.specs.declared.kinds.Kind.{Kind}
 use Rattle.methods.specs.declared.kinds.Kind.TheVariants as kinds
@@ -189,17 +187,13 @@ stored_unless false s t = t
 abbrev pub sp_of_row : Uid → Sp
 sp_of_row object = if object.0 == admin_sp.0 then Admin else Locking
 
--- how an attempt fails by the rows in force; None where it is right
-abbrev pub tried : Stored → SessionId → Uid → List ℕ → Option AttemptFailure
-tried s session authority proof = failure (in_force s) session.sp authority proof
-
 -- the answer
 abbrev pub said_ask : Stored → SessionId → Uid → List Uid → Ask → Said
 said_ask s session object held (GetCells first last) = columns_said (seen_by s session) session.sp object first last held
 said_ask s session object held (GetBytes first last) = bytes_said (sight_of s session) first last
 said_ask s session object held (SetCells ps) = set_said (to_set s session object (SetCells ps))
 said_ask s session object held (SetBytes at bytes) = set_said (to_set s session object (SetBytes at bytes))
-said_ask s session object held (Authenticate authority proof) = said_attempt session.sp authority (tried s session authority proof)
+said_ask s session object held (Authenticate authority proof) = said_attempt session.sp authority (attempt s session.sp authority proof)
 said_ask s session object held Activate = unless_inside (is_inside s session) (says [] None false)
 said_ask s session object held Revert = unless_inside (is_inside s session) (says [] None (is_manufactured s))
 said_ask s session object held Other = refuses fail None
@@ -208,7 +202,7 @@ said_ask s session object held Other = refuses fail None
 abbrev pub stored_ask : Stored → SessionId → Uid → Ask → Stored
 stored_ask s session object (SetCells ps) = set_stored s session.sp (to_set s session object (SetCells ps))
 stored_ask s session object (SetBytes at bytes) = set_stored s session.sp (to_set s session object (SetBytes at bytes))
-stored_ask s session object (Authenticate authority proof) = after_attempt session.sp authority (tried s session authority proof) s
+stored_ask s session object (Authenticate authority proof) = after_attempt session.sp authority (attempt s session.sp authority proof) s
 stored_ask s session object Activate = stored_unless (is_inside s session) s (activated s)
 stored_ask s session object Revert = stored_unless (is_inside s session) s (reverted (sp_of_row object) s)
 stored_ask s session object _ = s
@@ -223,7 +217,7 @@ ended_unless true sp o = o
 ended_unless false sp o = ended_by sp o
 
 abbrev pub gaining : Stored → SessionId → Uid → List ℕ → ℕ → Option Holder → Option Holder
-gaining s session authority proof n o = if session.tsn == n then gaining_if (in_force s) authority (tried s session authority proof) o else o
+gaining s session authority proof n o = if session.tsn == n then gaining_if (in_force s) authority (attempt s session.sp authority proof) o else o
 
 abbrev pub holder_ask : Stored → SessionId → Uid → Ask → ℕ → Option Holder → Option Holder
 holder_ask s session object (Authenticate authority proof) n o = gaining s session authority proof n o

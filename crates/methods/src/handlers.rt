@@ -7,13 +7,13 @@ ghost use Rattle.methods.specs.Kinds.{kind_of as kind_of_object};
 ghost use Rattle.methods.specs.Said.{said_seen, said_attempt};
 ghost use Rattle.methods.specs.Settings.{setting};
 ghost use Rattle.methods.specs.Changes.{setting_seen};
-ghost use Rattle.methods.specs.Effects.{columns_said, bytes_said, bytes_from, seen_by, holder_of, held_in, tried, gaining, to_set, valid_setting, set_said, set_stored, is_inside, unless_inside, stored_unless, ended_unless, sp_of_row as sp_of};
+ghost use Rattle.methods.specs.Effects.{columns_said, bytes_said, bytes_from, seen_by, holder_of, held_in, gaining, to_set, valid_setting, set_said, set_stored, is_inside, unless_inside, stored_unless, ended_unless, sp_of_row as sp_of};
 ghost use Rattle.methods.specs.Cases.{has_case};
 ghost use Rattle.methods.specs.Said.{says};
 ghost use Rattle.sp_cells.specs.Names.{set};
 ghost use Rattle.transactions.specs.Stored.{reverted};
 ghost use Rattle.transactions.specs.Sights.{sight_of, activated, is_manufactured};
-ghost use Rattle.sessions.specs.Answers.{after_attempt};
+ghost use Rattle.sessions.specs.Answers.{attempt, after_attempt};
 ghost use Rattle.methods.specs.declared.outcome.MethodFault.TheVariants as faults;
 
 use crate::changes::apply_set;
@@ -187,9 +187,9 @@ pub(crate) fn authenticate(
     proof: &[u8],
 ) -> Result<Outcome, MethodFault>
     ensures outcome { IfOk result (λ out. said_seen out
-        ≡ said_attempt session.sp authority (tried store.old session authority proof.now)) }
+        ≡ said_attempt session.sp authority (attempt store.old session.sp authority proof.now)) }
     ensures store { OnOk result (store.new
-        ≡ after_attempt session.sp authority (tried store.old session authority proof.now) store.old) }
+        ≡ after_attempt session.sp authority (attempt store.old session.sp authority proof.now) store.old) }
     ensures unchanged { IfOk result (λ out. out.changes ≡ false → store.new ≡ store.old) }
     ensures points { OnOk result ((n : ℕ) → session_at sessions.new n
         ≡ gaining store.old session authority proof.now n (session_at sessions.old n)) }

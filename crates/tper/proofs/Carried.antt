@@ -32,14 +32,14 @@ use Rattle.call_shapes.specs.declared.ask.Ask.{Ask}
 use Rattle.call_shapes.specs.declared.ask.Ask.TheVariants.{GetCells, GetBytes, SetCells, SetBytes, Authenticate, Activate, Revert, Other}
 use Rattle.sessions.specs.declared.opening.Opening.{Opening}
 use Rattle.sessions.specs.declared.opening.StartVerdict.TheVariants.{Refused, Attempted}
-use Rattle.sessions.specs.Answers.{in_force}
+use Rattle.sessions.specs.Answers.{in_force, attempt}
 use Rattle.sessions.specs.Attempts.{failure}
 use Rattle.sessions.specs.Live.{Live, lives_on}
 use Rattle.sessions.specs.Properties.{takes_properties, properties_list, properties_call, properties_message}
 use Rattle.sessions.specs.Starts.{sp_named, is_in_use, is_full, is_host, verdict_on, verdict, opening_of, host_among, host_of, sync_message, reply_to, start_reply}
 use Rattle.methods.specs.Said.{Said, reply_of, says, refuses, fits, said_attempt}
 use Rattle.methods.specs.Settings.{Setting}
-use Rattle.methods.specs.Effects.{ask_at, is_inside, rows_said, last_row, bytes_from, set_said, to_set, unless_inside, tried, said_ask}
+use Rattle.methods.specs.Effects.{ask_at, is_inside, rows_said, last_row, bytes_from, set_said, to_set, unless_inside, said_ask}
 use Rattle.methods.specs.Calls.{Called, denied_call, said_unless, said_shaped, said_call}
 
 -- The answer can be carried.
@@ -119,7 +119,7 @@ ask_carried s session object held (GetCells first last) = fits_carried _
 ask_carried s session object held (GetBytes first last) = bytes_carried (sight_of s session).bytes (sector_size * (sight_of s session).config.mbr_sectors) first (last_row (sector_size * (sight_of s session).config.mbr_sectors) last)
 ask_carried s session object held (SetCells ps) = set_carried (to_set s session object (SetCells ps))
 ask_carried s session object held (SetBytes at octets) = set_carried (to_set s session object (SetBytes at octets))
-ask_carried s session object held (Authenticate authority proof) = attempt_carried session.sp authority (tried s session authority proof)
+ask_carried s session object held (Authenticate authority proof) = attempt_carried session.sp authority (attempt s session.sp authority proof)
 ask_carried s session object held Activate = inside_carried (is_inside s session) (says [] None false) bare_success
 ask_carried s session object held Revert = inside_carried (is_inside s session) (says [] None (is_manufactured s)) bare_success
 ask_carried s session object held Other = bare_fail

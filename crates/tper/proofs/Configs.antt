@@ -17,11 +17,11 @@ use Rattle.call_shapes.specs.declared.ask.Ask.TheVariants.{GetCells, GetBytes, S
 use Rattle.sessions.specs.declared.opening.Opening.{Opening}
 use Rattle.sessions.specs.declared.opening.StartVerdict.{StartVerdict}
 use Rattle.sessions.specs.declared.opening.StartVerdict.TheVariants.{Refused, Attempted}
-use Rattle.sessions.specs.Answers.{after_attempt}
+use Rattle.sessions.specs.Answers.{attempt, after_attempt}
 use Rattle.sessions.specs.Live.{Live}
 use Rattle.sessions.specs.Starts.{opening_of, stored_by, stored_with, start_verdict, start_stored}
 use Rattle.methods.specs.Settings.{Setting}
-use Rattle.methods.specs.Effects.{ask_at, is_inside, to_set, set_stored, stored_unless, sp_of_row, tried, stored_ask}
+use Rattle.methods.specs.Effects.{ask_at, is_inside, to_set, set_stored, stored_unless, sp_of_row, stored_ask}
 use Rattle.methods.specs.Calls.{Called, denied_call, stored_unless_denied, stored_shaped, stored_call}
 
 -- The store has what the other was made with.
@@ -38,17 +38,17 @@ chosen false t u s h k = k
 
 -- ---- a StartSession
 
-attempt : (sp : Sp) (authority : Uid) (o : Option AttemptFailure) (s : Stored)
+attempted : (sp : Sp) (authority : Uid) (o : Option AttemptFailure) (s : Stored)
     → Same (after_attempt sp authority o s) s
-attempt sp authority None s = part_config sp _ s
-attempt sp authority (Some WrongPin) s = part_config sp _ s
-attempt sp authority (Some LockedOut) s = refl
-attempt sp authority (Some Disabled) s = refl
-attempt sp authority (Some Unknown) s = refl
+attempted sp authority None s = part_config sp _ s
+attempted sp authority (Some WrongPin) s = part_config sp _ s
+attempted sp authority (Some LockedOut) s = refl
+attempted sp authority (Some Disabled) s = refl
+attempted sp authority (Some Unknown) s = refl
 
 by-verdict : (authority : Uid) (v : StartVerdict) (s : Stored) → Same (stored_by authority v s) s
 by-verdict authority (Refused status) s = refl
-by-verdict authority (Attempted sp f) s = attempt sp authority f s
+by-verdict authority (Attempted sp f) s = attempted sp authority f s
 
 with-verdict : (o : Option Opening) (v : StartVerdict) (s : Stored) → Same (stored_with o v s) s
 with-verdict None v s = refl
@@ -85,7 +85,7 @@ asked s session object (SetCells ps) = set session.sp (to_set s session object (
 asked s session object (SetBytes at octets) =
     set session.sp (to_set s session object (SetBytes at octets)) s
 asked s session object (Authenticate authority proof) =
-    attempt session.sp authority (tried s session authority proof) s
+    attempted session.sp authority (attempt s session.sp authority proof) s
 asked s session object Activate = unless (is_inside s session) (activated s) s (activates s)
 asked s session object Revert =
     unless (is_inside s session) (reverted (sp_of_row object) s) s (reverts (sp_of_row object) s)
