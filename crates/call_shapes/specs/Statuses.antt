@@ -16,6 +16,9 @@ no_sessions_available = 0x07
 abbrev pub invalid_parameter : ℕ
 invalid_parameter = 0x0c
 
+abbrev pub transaction_failure : ℕ
+transaction_failure = 0x10
+
 abbrev pub response_overflow : ℕ
 response_overflow = 0x11
 

@@ -10,6 +10,8 @@ pub const NO_SESSIONS_AVAILABLE: u64 = 0x07;
 
 pub const INVALID_PARAMETER: u64 = 0x0c;
 
+pub const TRANSACTION_FAILURE: u64 = 0x10;
+
 pub const RESPONSE_OVERFLOW: u64 = 0x11;
 
 pub const AUTHORITY_LOCKED_OUT: u64 = 0x12;

@@ -43,7 +43,7 @@ use Rattle.sessions.specs.Attempts.{failure as failure_of, credential}
 use Rattle.call_shapes.specs.Asks.{uid_of}
 use Rattle.sp_cells.specs.Names.{session_manager, properties, start_session}
 use Rattle.history.specs.Sessions.{Begun}
-use Rattle.call_shapes.specs.Statuses.{success, fail}
+use Rattle.call_shapes.specs.Statuses.{success, transaction_failure, fail}
 use Rattle.sessions.specs.declared.opening.Opening.{Opening}
 use Rattle.sessions.specs.declared.opening.StartVerdict.{StartVerdict}
 use Rattle.sessions.specs.declared.opening.StartVerdict.TheVariants.{Refused, Attempted}
@@ -248,7 +248,7 @@ judgement_on f session object method args =
 -- A transaction on an SP is opened where none is open, and closed where the session has one open.
 abbrev pub begins_on : Sp → ℕ → Option ℕ → Outcome
 begins_on sp number None = says (Began sp number) (begin 0)
-begins_on sp number (Some owner) = says Unchanged (begin 0x10)
+begins_on sp number (Some owner) = says Unchanged (begin transaction_failure)
 
 abbrev pub ended_by : Sp → ℕ → Outcome
 ended_by sp zero = says (Committed sp) (end 0)
@@ -256,7 +256,7 @@ ended_by sp (suc n) = says (Aborted sp) (end 1)
 
 abbrev pub ends_on : Sp → ℕ → Bool → Outcome
 ends_on sp number true = ended_by sp number
-ends_on sp number false = says Unchanged (end 0x10)
+ends_on sp number false = says Unchanged (end transaction_failure)
 
 abbrev pub in_session : Facts → Begun → Result Message TokenError → Outcome
 in_session f session (Ok (call object method args status)) =

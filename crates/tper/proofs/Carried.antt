@@ -27,7 +27,7 @@ use Rattle.transactions.specs.Sights.{sight_of, is_manufactured}
 use Rattle.call_shapes.specs.Carried.{is_carried}
 use Rattle.call_shapes.specs.CellValues.{number_in}
 use Rattle.call_shapes.specs.Limits.{most_response}
-use Rattle.call_shapes.specs.Statuses.{success, not_authorized, sp_busy, no_sessions_available, invalid_parameter, response_overflow, authority_locked_out, fail}
+use Rattle.call_shapes.specs.Statuses.{success, not_authorized, sp_busy, no_sessions_available, invalid_parameter, transaction_failure, response_overflow, authority_locked_out, fail}
 use Rattle.call_shapes.specs.declared.ask.Ask.{Ask}
 use Rattle.call_shapes.specs.declared.ask.Ask.TheVariants.{GetCells, GetBytes, SetCells, SetBytes, Authenticate, Activate, Revert, Other}
 use Rattle.sessions.specs.declared.opening.Opening.{Opening}
@@ -255,7 +255,7 @@ pub begin_carried : is_carried (begin 0) ≡ true
 unfolding number_spelling
 begin_carried = refl
 
-pub begin_refused_carried : is_carried (begin 0x10) ≡ true
+pub begin_refused_carried : is_carried (begin transaction_failure) ≡ true
 unfolding number_spelling
 begin_refused_carried = refl
 
@@ -267,6 +267,6 @@ pub abort_carried : is_carried (end 1) ≡ true
 unfolding number_spelling
 abort_carried = refl
 
-pub end_refused_carried : is_carried (end 0x10) ≡ true
+pub end_refused_carried : is_carried (end transaction_failure) ≡ true
 unfolding number_spelling
 end_refused_carried = refl

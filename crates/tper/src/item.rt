@@ -154,10 +154,7 @@ fn call_in_session(
     }
 }
 
-/// The status of a transaction that cannot be opened or closed: one is open on the SP, or none of the session's.
-const NOT_DONE: u64 = 0x10;
-
-/// A transaction opens, where none is open on the session's SP.
+/// A transaction opens, where none is open on the session's SP; else it fails.
 #[tactic(auto, using(crate::proofs::Configs::part_config))]
 fn begin(store: &mut Store, session: SessionId) -> Outcome
     ensures met { (live : Live) → OfSession
@@ -169,11 +166,11 @@ fn begin(store: &mut Store, session: SessionId) -> Outcome
 {
     match store.begin(session) {
         Ok(()) => answer(Item::Begin(0), true),
-        Err(_) => answer(Item::Begin(NOT_DONE), true),
+        Err(_) => answer(Item::Begin(status::TRANSACTION_FAILURE), true),
     }
 }
 
-/// The session's transaction ends: 0 commits it, any other number aborts it.
+/// The session's transaction ends: 0 commits it, any other number aborts it. Where the session has none open, this fails.
 #[tactic(auto, using(crate::proofs::Configs::part_config))]
 fn end(store: &mut Store, session: SessionId, number: u64) -> Outcome
     ensures met { (live : Live) → OfSession
@@ -186,12 +183,12 @@ fn end(store: &mut Store, session: SessionId, number: u64) -> Outcome
     if number == 0 {
         return match store.commit(session) {
             Ok(()) => answer(Item::End(0), true),
-            Err(_) => answer(Item::End(NOT_DONE), true),
+            Err(_) => answer(Item::End(status::TRANSACTION_FAILURE), true),
         };
     }
     match store.abort(session) {
         Ok(()) => answer(Item::End(1), true),
-        Err(_) => answer(Item::End(NOT_DONE), true),
+        Err(_) => answer(Item::End(status::TRANSACTION_FAILURE), true),
     }
 }
 
