@@ -1,6 +1,6 @@
 //! What the drive answers (Serial ATA, FISes to the host; ACS-3, Status and Error).
 
-ghost use Rattle.std.specs.Prelude.{◌≡◌, ◌^◌, ◌<◌, ◌≤◌, ℕ, true, false, [], ◌∷◌, Some, None};
+ghost use Rattle.std.specs.Prelude.{◌≡◌, ◌==◌, ◌^◌, ◌<◌, ◌≤◌, ℕ, true, false, [], ◌∷◌, Some, None};
 ghost use Rattle.history.specs.Answers.{answer_fis, pio_fis, served_fises, ready, failed, setup_fis, moved_fis, fises_of};
 ghost use Rattle.drive.specs.Transfer.{queued_command, by_op, size_of};
 
@@ -52,6 +52,13 @@ const DATA_REQUESTED: u8 = 0x58;
 const BUSY: u8 = 0xd0;
 
 impl Accepted {
+    /// Whether the command failed: the status is 51h.
+    pub fn has_failed(&self) -> bool
+        ensures { result ≡ (self.now.status == failed) }
+    {
+        self.status == FAILED
+    }
+
     /// The command failed.
     pub(crate) fn failed(alloc: Global, error: u8, denied: Option<Why>) -> Accepted
         ensures status { result.status ≡ failed }

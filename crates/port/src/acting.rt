@@ -4,7 +4,7 @@ ghost use Rattle.std.specs.Prelude.{◌≡◌, ◌<◌, ◌++◌, vec_len, vec_c
 ghost use Rattle.history.specs.Audit.{line_for};
 
 use crate::host;
-use crate::outcome::{Outcome, fails, outcome_then};
+use crate::outcome::{Outcome, outcome_then};
 use crate::port::Port;
 use crate::registers::{show_all, show_answer};
 use crate::stages::{accepted_stage, failed_then};
@@ -179,7 +179,7 @@ impl Port {
         let slot = usize::from(tag.number());
         self.slots[slot] = accepted_stage(put);
         self.outcomes[slot] = outcome_then(queued, &answer, len, self.outcomes[slot]);
-        self.failed = failed_then(queued, fails(&answer), tag, self.failed);
+        self.failed = failed_then(queued, answer.has_failed(), tag, self.failed);
         note(&mut self.audit, number, put.client, answer.denied);
         self.history.push_reserved(Entry {
             step: Step::Accept { tag },

@@ -6,9 +6,6 @@ ghost use Rattle.port.specs.State.{fails, executed_outcome, outcome_then};
 
 use drive::Accepted;
 
-/// The status of a command that failed (ACS-3, Status field).
-const FAILED: u8 = 0x51;
-
 /// How a command ended. Its data stand in the buffer of its slot until the client takes them.
 #[derive(Clone, Copy, Debug, PartialEq, Eq)]
 pub enum Outcome {
@@ -20,19 +17,12 @@ pub enum Outcome {
     Reset,
 }
 
-/// Whether the device failed a command.
-pub(crate) fn fails(answer: &Accepted) -> bool
-    ensures { result ≡ fails answer.now }
-{
-    answer.status == FAILED
-}
-
 /// The outcome of a command that was executed whole, with so many bytes for the host.
 fn executed(answer: &Accepted, len: usize) -> Outcome
     ensures { result ≡ executed_outcome (fails answer.now) answer.now.status answer.now.error len }
 {
     let (status, error) = (answer.status, answer.error);
-    if fails(answer) {
+    if answer.has_failed() {
         Outcome::Failed { status, error }
     } else {
         Outcome::Done(len)

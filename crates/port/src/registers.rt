@@ -4,7 +4,6 @@ ghost use Rattle.std.specs.Prelude.{◌≡◌, ◌&&◌, not};
 ghost use Rattle.port.specs.State.{fails};
 ghost use Rattle.port_history.specs.Registers.{is_finished, carried, with_task, shown, all_shown, restarted, restarted_if, reset_regs, no_more_issued, raised};
 
-use crate::outcome::fails;
 use drive::Accepted;
 use fis::{Fis, Tag};
 use hba_regs::{PortRegs, PxIs};
@@ -113,7 +112,7 @@ pub(crate) fn show_answer(regs: &mut PortRegs, tag: Tag, queued: bool, answer: &
         (all_shown tag regs.old answer.now.fises.items) }
 {
     show_all(regs, tag, answer.fises.as_slice());
-    if !queued && fails(answer) {
+    if !queued && answer.has_failed() {
         restart(regs);
     }
 }

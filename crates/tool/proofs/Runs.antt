@@ -22,10 +22,10 @@ use Rattle.fis.specs.declared.h2d.RegH2d.{RegH2d}
 use Rattle.script_lines.specs.Texts.{Prints, failure_text, denial_lines}
 use Rattle.drive.specs.State.{Agrees}
 use Rattle.drive.specs.Answers.{IsAnswer}
-use Rattle.tool.specs.Effects.{Effect, RunsOn, Stands, Has, Accepts, GoesTruly, completed, failed, transferred, failed_status, served_text, answer_text, told_lines, commanded, Does}
+use Rattle.tool.specs.Effects.{Effect, RunsOn, Stands, Has, Accepts, GoesTruly, completed, failed, transferred, served_text, answer_text, told_lines, commanded, Does}
 use Rattle.drive.specs.declared.answer.Accepted.{Accepted}
 use Rattle.script_lines.specs.declared.line.Transfer.{Transfer}
-use Rattle.history.specs.Answers.{status_of, is_holding, answer_data}
+use Rattle.history.specs.Answers.{failed as failed_status, status_of, is_holding, answer_data}
 use Rattle.tool.specs.declared.running.Turn.{Turn}
 use Rattle.tool.specs.declared.running.Turn.TheVariants as turns
 use Rattle.tool.specs.declared.running.RunningPhase.{RunningPhase}

@@ -12,7 +12,7 @@ use Rattle.history.specs.Events.{Event}
 use Rattle.history.specs.Facts.{facts}
 use Rattle.history.specs.History.{Act, log, event}
 use Rattle.history.specs.Readers.{held, failure}
-use Rattle.history.specs.Answers.{status_of, is_holding, answer_data, completed_data}
+use Rattle.history.specs.Answers.{failed as failed_status, status_of, is_holding, answer_data, completed_data}
 use Rattle.history.specs.Decisions.{discovery_com_id}
 use Rattle.drive.specs.State.{Agrees}
 use Rattle.drive.specs.Answers.{IsAnswer}
@@ -103,9 +103,6 @@ answer_text command None bytes = served_text command bytes
 answer_text command (Some error) bytes = failure_text (status_of (Some error)) error
 
 -- the same by the fields of an answer
-abbrev pub failed_status : ℕ
-failed_status = 0x51
-
 abbrev pub told_lines : ℕ → ℕ → Command → Accepted → List (List ℕ)
 told_lines step client command accepted =
     (if accepted.status == failed_status then failure_text accepted.status accepted.error

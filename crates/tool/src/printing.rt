@@ -1,9 +1,9 @@
 //! What a command prints.
 
-ghost use Rattle.std.specs.Prelude.{◌≡◌, ◌∷◌, ◌==◌, [], OnOk, take};
+ghost use Rattle.std.specs.Prelude.{◌≡◌, ◌∷◌, [], OnOk, take};
 ghost use Rattle.compacket.specs.Frames.{com_packet_size};
 ghost use Rattle.script_lines.specs.Texts.{Prints};
-ghost use Rattle.tool.specs.Effects.{failed_status, shown, served_text, told_lines};
+ghost use Rattle.tool.specs.Effects.{shown, served_text, told_lines};
 
 use audit::AuditLine;
 use byteorder::{BigEndian, ByteOrder};
@@ -16,16 +16,6 @@ use trusted_cmds::Command;
 
 /// The ComID of Level 0 discovery.
 const DISCOVERY_COM_ID: ComId = 1;
-
-/// The status of a command that failed.
-const FAILED: u8 = 0x51;
-
-/// Whether a command failed.
-pub fn has_failed(accepted: &Accepted) -> bool
-    ensures { result ≡ (accepted.now.status == failed_status) }
-{
-    accepted.status == FAILED
-}
 
 /// The header of a ComPacket and the bytes that it counts, as far as they are there.
 fn com_packet(bytes: &[u8]) -> &[u8]
@@ -73,7 +63,7 @@ pub fn print_answer(
 ) -> Result<Vec<u8>, AllocError>
     ensures { OnOk result (Prints report.old report.new (told_lines step client command.now accepted)) }
 {
-    let failed = has_failed(&accepted);
+    let failed = accepted.has_failed();
     let Accepted {
         status,
         error,

@@ -5,7 +5,6 @@ use crate::commands::{
 };
 use crate::ending::Fault;
 use crate::payload::{fill, pad, put_frame};
-use crate::printing;
 use crate::printing::print_answer;
 use compacket::{ComId, Session};
 use drive::{Accepted, Drive};
@@ -222,7 +221,7 @@ impl RunningPhase {
         let has_failed = self.drive.failure().is_some();
         let is_first = self.is_first_abort(has_failed);
         let accepted = self.accept(command, Tag::low_bits(0))?;
-        let aborted = printing::has_failed(&accepted) && is_first;
+        let aborted = accepted.has_failed() && is_first;
         let bytes = print_answer(report, self.acts, client, command, accepted)?;
         self.drive.give_back(bytes);
         Ok(aborted)
