@@ -22,9 +22,9 @@ use Rattle.port_history.specs.declared.stages.Put.{Put}
 use Rattle.port_history.specs.declared.stages.Stage.{Stage}
 use Rattle.port_history.specs.declared.step.Step.{Step}
 use Rattle.port_history.specs.declared.step.Step.TheVariants as steps
-use Rattle.script_lines.specs.Texts.{Prints, printed, last_of, done_text, refused_text, denial_lines}
+use Rattle.script_lines.specs.Texts.{Prints, printed, last_of, done_text, denial_lines}
 use Rattle.script_lines.specs.declared.report.Report.{Report}
-use Rattle.tool.specs.PortEffects.{PortHas, PortRunsOn, PrintsError, PrintsStep, number_of, step_lines, stepped, step_effect, audit_lines, accepted_lines, taken_text}
+use Rattle.tool.specs.PortEffects.{PortHas, PortRunsOn, PrintsError, PrintsStep, number_of, refused_lines, step_lines, stepped, step_effect, audit_lines, accepted_lines, taken_text}
 use Rattle.tool.specs.declared.port_phase.PortPhase.{PortPhase}
 
 -- a line, and lines behind it
@@ -34,6 +34,14 @@ prints-then before mid after text later first second = record {
   pending = second.pending ∙ ap (λ (p : List ℕ). p ++ printed later) first.pending
       ∙ simp (append_assoc, append-nil);
   last = second.last ∙ ap (λ (l : List ℕ). last_of l later) first.last;
+}
+
+-- lines, and none behind them
+prints-none : (before mid after : Report) (lines : List (List ℕ))
+    → Prints before mid lines → Prints mid after [] → Prints before after lines
+prints-none before mid after lines first second = record {
+  pending = second.pending ∙ ap (λ (p : List ℕ). p ++ []) first.pending ∙ simp (append-nil);
+  last = second.last ∙ first.last;
 }
 
 -- the refusal, where it is one, is printed
@@ -166,7 +174,7 @@ accept-so (Err error) old new o list tag before mid after refused agrees kept pr
     (refused o list runs) runs agrees kept
     (record {
       told = prints.told;
-      prints = prints-then before mid after (refused_text (number_of error)) [] prints.prints
+      prints = prints-none before mid after (refused_lines (number_of error)) prints.prints
           (subst (λ (lines : List (List ℕ)). Prints mid after lines)
           (ap (λ (port : State). audit_lines (slice_get port.audit (length old.port.audit))) kept
           ∙ ap audit_lines

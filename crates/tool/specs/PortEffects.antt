@@ -55,20 +55,24 @@ request_of (asked.Call com_id session tokens) =
 request_of (asked.Send com_id packet) = requests.Send com_id_protocol com_id (in_blocks packet)
 request_of (asked.Receive com_id blocks) = requests.Receive com_id_protocol com_id blocks
 
--- The number of a refusal; that of want of memory is never printed (`PrintsError`).
-abbrev pub number_of : PortError → ℕ
-number_of errors.SlotBusy = 1
-number_of errors.NotPrepared = 2
-number_of errors.Queue = 3
-number_of errors.NotIssued = 4
-number_of errors.NotAccepted = 5
-number_of errors.NotFailed = 6
-number_of errors.Failed = 7
-number_of errors.NotAnswered = 8
-number_of errors.NotYours = 9
-number_of errors.Size = 10
-number_of errors.HistoryFull = 11
-number_of errors.OutOfMemory = 12
+-- The number of a refusal. Want of memory has none: it is the program's own.
+abbrev pub number_of : PortError → Option ℕ
+number_of errors.SlotBusy = Some 1
+number_of errors.NotPrepared = Some 2
+number_of errors.Queue = Some 3
+number_of errors.NotIssued = Some 4
+number_of errors.NotAccepted = Some 5
+number_of errors.NotFailed = Some 6
+number_of errors.Failed = Some 7
+number_of errors.NotAnswered = Some 8
+number_of errors.NotYours = Some 9
+number_of errors.Size = Some 10
+number_of errors.HistoryFull = Some 11
+number_of errors.OutOfMemory = None
+
+abbrev pub refused_lines : Option ℕ → List (List ℕ)
+refused_lines None = []
+refused_lines (Some number) = refused_text number ∷ []
 
 -- What is printed of the data of a command; of a slot without one, that it is done.
 abbrev pub command_text : Command → List ℕ → List ℕ
@@ -108,7 +112,7 @@ step_lines before (steps.Reset client kind) m = done_text ∷ []
 abbrev pub stepped : Origin → List Step → Step → Option PortError → PortEffect
 stepped o list step (Some error) = record {
   steps = list;
-  lines = refused_text (number_of error) ∷ [];
+  lines = refused_lines (number_of error);
 }
 stepped o list step None = record {
   steps = step ∷ list;
@@ -139,7 +143,7 @@ PortRunsOn phase o list = PortAgrees phase.port o list
 -- A refusal is printed by its number, unless it is want of memory.
 pub record PrintsError (error : PortError) (before after : Report) : Type 0 where
   pub told : error ≡ errors.OutOfMemory → ⊥
-  pub prints : Prints before after (refused_text (number_of error) ∷ [])
+  pub prints : Prints before after (refused_lines (number_of error))
 
 -- The line of the audit log that came, if one did.
 abbrev pub audit_lines : Option AuditLine → List (List ℕ)

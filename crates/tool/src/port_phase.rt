@@ -1,9 +1,8 @@
 //! The phase of a script that runs on a port: a port, and what the lines do with it.
 
-ghost use Rattle.std.specs.Prelude.{◌≡◌, ◌<◌, ◌≤◌, ◌↔◌, ◌∷◌, [], None, IfOk, IfSome, OnOk, length, slice_get};
+ghost use Rattle.std.specs.Prelude.{◌≡◌, ◌<◌, ◌≤◌, ◌∷◌, [], IfOk, OnOk, length, slice_get};
 ghost use Rattle.compacket.specs.Spelling.{frame_bytes};
 ghost use Rattle.port_history.specs.Stages.{put_in};
-ghost use Rattle.port_history.specs.declared.error.PortError.TheVariants as errors;
 ghost use Rattle.port_history.specs.declared.request.Request.TheVariants as requests;
 ghost use Rattle.script_lines.specs.Fields.{most_call_bytes, most_send_bytes};
 ghost use Rattle.script_lines.specs.PortLines.{FitsPut};
@@ -127,8 +126,7 @@ fn send_of(com_id: ComId, bytes: Bytes) -> Request
 
 /// The number of a refusal; want of memory is none, but the program's own.
 fn refusal_number(error: PortError) -> Option<u8>
-    ensures memory { (result ≡ None) ↔ (error ≡ errors.OutOfMemory) }
-    ensures number { IfSome result (λ n. n ≡ number_of error) }
+    ensures { result ≡ number_of error }
 {
     match error {
         PortError::SlotBusy => Some(1),
