@@ -1,7 +1,9 @@
 //! How a script ends, and what is told of it.
 
-ghost use Rattle.std.specs.Prelude.{◌≡◌, IfOk};
+ghost use Rattle.std.specs.Prelude.{◌≡◌, false, IfOk, IfErr, IsOk};
 ghost use Rattle.tool.specs.Ends.{status_of};
+ghost use Rattle.tool.specs.declared.ending.End.TheVariants as ends;
+ghost use Rattle.tool.specs.declared.ending.RunError.{RunError};
 
 use drive::SetError;
 use script_lines::{LineFault, expected_text};
@@ -35,8 +37,13 @@ impl From<AllocError> for RunError {
 }
 
 impl RunError {
+    ghost use Rattle.std.specs.Prelude.{◌≡◌, ◌⊎◌};
+    ghost use Rattle.tool.specs.declared.ending.RunError.TheVariants.{Memory, Read};
+
     /// The error of a call that reads.
-    pub(crate) fn reading(error: io::Error) -> RunError {
+    pub(crate) fn reading(error: io::Error) -> RunError
+        ensures { (result ≡ Memory) ⊎ (result ≡ Read) }
+    {
         if error.kind() == ErrorKind::OutOfMemory {
             RunError::Memory
         } else {
@@ -110,7 +117,14 @@ fn tell_difference<E: Write>(
 }
 
 /// Writes that a line's command is the first one that the failed queue aborts, where it is.
-pub fn tell_abort<E: Write>(aborted: bool, line: u64, faults: &mut E) -> Result<(), RunError> {
+///
+/// # Errors
+///
+/// `Write`.
+pub fn tell_abort<E: Write>(aborted: bool, line: u64, faults: &mut E) -> Result<(), RunError>
+    ensures quiet { aborted ≡ false → IsOk result × (faults.new ≡ faults.old) }
+    ensures errors { IfErr result (λ error. error ≡ RunError.Write) }
+{
     if !aborted {
         return Ok(());
     }
@@ -123,8 +137,14 @@ pub fn tell_abort<E: Write>(aborted: bool, line: u64, faults: &mut E) -> Result<
 
 /// The status that a run ends with; writes why, where it is not 0. The line that ended the run is
 /// `text`, and `last` is the last one printed.
+///
+/// # Errors
+///
+/// `Write`.
 pub fn tell<E: Write>(end: End, text: &[u8], last: &[u8], faults: &mut E) -> Result<u8, RunError>
-    ensures { IfOk result (λ status. status ≡ status_of end) }
+    ensures status { IfOk result (λ status. status ≡ status_of end) }
+    ensures quiet { end ≡ ends.Done → IsOk result × (faults.new ≡ faults.old) }
+    ensures errors { IfErr result (λ error. error ≡ RunError.Write) }
 {
     match end {
         End::Done => Ok(0),

@@ -1,10 +1,11 @@
 //! Reading the lines of a script, and answering before a read that could wait.
 
-ghost use Rattle.std.specs.Prelude.{◌≡◌, ◌≤◌, ◌++◌, length, Some, is_some, OnOk, IfOk, IfSome};
+ghost use Rattle.std.specs.Prelude.{◌≡◌, ◌≤◌, ◌++◌, ◌⊎◌, length, Some, is_some, OnOk, IfOk, IfErr, IfSome};
 ghost use Rattle.std.specs.Io.Buffered.{reader_buffer, reader_remaining};
 ghost use Rattle.std.specs.Io.BufRead.{take_through, drop_through};
 ghost use Rattle.tool.specs.Scripts.{bare, has_line, IsAtHand, IsAnswered, TakesLine};
 ghost use Rattle.tool.specs.Progress.{HandsOn};
+ghost use Rattle.tool.specs.declared.ending.RunError.{RunError};
 
 use crate::ending::RunError;
 use memchr::memchr;
@@ -24,10 +25,15 @@ pub fn without_end(line: &[u8]) -> &[u8]
 }
 
 /// A reader of lines, with all that the input gives.
+///
+/// # Errors
+///
+/// `Memory`.
 pub fn lines_of<R: Read + Drop>(alloc: Global, input: R) -> Result<BufReader<R>, RunError>
-    ensures { IfOk result (λ reader. reader_remaining R.remaining reader ≡ R.remaining input) }
+    ensures reader { IfOk result (λ reader. reader_remaining R.remaining reader ≡ R.remaining input) }
+    ensures memory { IfErr result (λ error. error ≡ RunError.Memory) }
 {
-    BufReader::with_capacity(alloc, 65_536, input).map_err(RunError::reading)
+    BufReader::with_capacity(alloc, 65_536, input).map_err(|_| RunError::Memory)
 }
 
 /// How many bytes the first line has with its line feed, where it stands whole in what is at hand.
@@ -51,6 +57,10 @@ pub fn line_at_hand<R: Read + Drop>(reader: &BufReader<R>) -> Option<usize>
 }
 
 /// Hands on what is printed where the next read could wait, and where it is much; it gives what `line_at_hand` does.
+///
+/// # Errors
+///
+/// `Write`.
 pub fn answer<R: Read + Drop, W: Write>(
     reader: &BufReader<R>,
     report: &mut Report,
@@ -61,6 +71,7 @@ pub fn answer<R: Read + Drop, W: Write>(
     ensures written { OnOk result
         (HandsOn (W.contents output.old) (W.contents output.new) report.old.pending.items report.new.pending.items) }
     ensures last { report.new.last ≡ report.old.last }
+    ensures errors { IfErr result (λ error. error ≡ RunError.Write) }
 {
     let at_hand = line_at_hand(reader);
     if at_hand.is_none() || report.pending.len() > MOST_PENDING {
@@ -87,6 +98,10 @@ fn take_line<R: Read + Drop>(
 
 /// Reads the next line, with its end; false where none is left. `at_hand` is what `line_at_hand` gives of the
 /// reader. A client that waits was answered before: the report is looked at in the contract alone.
+///
+/// # Errors
+///
+/// `Memory`, `Read`.
 pub fn read_line<R: Read + Drop>(
     reader: &mut BufReader<R>,
     at_hand: Option<usize>,
@@ -95,8 +110,9 @@ pub fn read_line<R: Read + Drop>(
 ) -> Result<bool, RunError>
     requires at_hand { IsAtHand (reader_buffer reader.old) at_hand }
     requires answered { IsAnswered (reader_buffer reader.old) _report.now.pending.items }
-    ensures { IfSome (reader_remaining R.remaining reader.old)
+    ensures line { IfSome (reader_remaining R.remaining reader.old)
         (λ text. IfOk result (λ is_line. TakesLine is_line line.new.items text (reader_remaining R.remaining reader.new))) }
+    ensures errors { IfErr result (λ error. (error ≡ RunError.Memory) ⊎ (error ≡ RunError.Read)) }
 {
     line.clear();
     if let Some(size) = at_hand {

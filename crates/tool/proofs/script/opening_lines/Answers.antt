@@ -43,7 +43,7 @@ returns-then-not-branch-clause-leads g c =
     let line = c.loop-number.line.items in
     let shown : c.without_end.result.now ≡ bare line = c.without_end.ensures ∙ ap bare c.deref.ensures.value in
     let later = reader_remaining g.R.Read.remaining c.read_line.new.reader in
-    let takes = subst (λ b. IfSome left (λ text. TakesLine b c.read_line.new.line.items text later)) c.if-not-branch.true c.in_ok-read_line.ensures in
+    let takes = subst (λ b. IfSome left (λ text. TakesLine b c.read_line.new.line.items text later)) c.if-not-branch.true c.in_ok-read_line.ensures.line in
     weaker (reader_remaining g.R.Read.remaining c.args.reader.now) _ _
     (λ text opens. nothing-opens c.args.on_port _ c.in-Goes.next c.read_line.new.line.items left later
     (subst
@@ -60,7 +60,7 @@ loop-number-preserved g c =
     let line = c.loop-number.line.items in
     let shown : c.without_end.result.now ≡ bare line = c.without_end.ensures ∙ ap bare c.deref.ensures.value in
     let later = reader_remaining g.R.Read.remaining c.read_line.new.reader in
-    let takes = subst (λ b. IfSome left (λ text. TakesLine b c.read_line.new.line.items text later)) c.if-not-branch.false c.in_ok-read_line.ensures in
+    let takes = subst (λ b. IfSome left (λ text. TakesLine b c.read_line.new.line.items text later)) c.if-not-branch.false c.in_ok-read_line.ensures.line in
     weaker (reader_remaining g.R.Read.remaining c.args.reader.now) _ _
     (λ text opens. next-opens c.args.on_port _ c.in-Goes.next c.read_line.new.line.items left later
     (subst

@@ -16,7 +16,7 @@ returns-clause-whole g c =
     let written : Appends now new pending = first_of (search rules, grind (arith, common_steps)) in
     subst
     (λ start. IfOk c.tell.result (λ status. ScriptYields c.args.options.now start status old new))
-    c.in_ok-reader.ensures
+    c.in_ok-reader.ensures.reader
     (yields-so c.tell.result c.in_ok-end.field-0 start (outcome_of c.args.options.now) old now new
-    c.new-report.result.pending.items pending c.tell.ensures c.new-report.ensures.pending written
+    c.new-report.result.pending.items pending c.tell.ensures.status c.new-report.ensures.pending written
     c.in_ok-end.ensures)

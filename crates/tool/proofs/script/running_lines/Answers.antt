@@ -44,7 +44,7 @@ pub returns-then-not-branch : goal.returns-then-not-branch
 returns-then-not-branch g c = λ o course runs.
     let now = reader_remaining g.R.Read.remaining c.loop-number.reader in
     let after = reader_remaining g.R.Read.remaining c.read_line.new.reader in
-    let takes = subst (λ b. IfSome now (λ text. TakesLine b c.read_line.new.line.items text after)) c.if-not-branch.true c.in_ok-read_line.ensures in
+    let takes = subst (λ b. IfSome now (λ text. TakesLine b c.read_line.new.line.items text after)) c.if-not-branch.true c.in_ok-read_line.ensures.line in
     let shown : c.without_end.result.now ≡ bare c.loop-number.line.items = c.without_end.ensures ∙ ap bare c.deref.ensures.value in
     weaker (reader_remaining g.R.Read.remaining c.args.reader.now) _ _
     (λ text at.
@@ -69,7 +69,7 @@ loop-number-preserved g c = (
   λ o course runs.
       let now = reader_remaining g.R.Read.remaining c.loop-number.reader in
       let after = reader_remaining g.R.Read.remaining c.read_line.new.reader in
-      let takes = subst (λ b. IfSome now (λ text. TakesLine b c.read_line.new.line.items text after)) c.if-not-branch.false c.in_ok-read_line.ensures in
+      let takes = subst (λ b. IfSome now (λ text. TakesLine b c.read_line.new.line.items text after)) c.if-not-branch.false c.in_ok-read_line.ensures.line in
       let shown : c.without_end.result.now ≡ bare c.loop-number.line.items = c.without_end.ensures ∙ ap bare c.deref.ensures.value in
       weaker (reader_remaining g.R.Read.remaining c.args.reader.now) _ _
       (λ text at.
