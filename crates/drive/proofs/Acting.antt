@@ -29,8 +29,9 @@ use Rattle.history.specs.Sessions.{Begun}
 use Rattle.history.specs.Events.{Deed, Nothing, InSession, OfQueue, QueueMended, Took, WasReset, Event, did}
 use Rattle.history.specs.Readers.{waiting, writing}
 use Rattle.history.specs.Facts.{Facts, facts, session_named}
-use Rattle.history.specs.Decisions.{sent, framed, to_session, to_manager, answers, is_manager, received, accepted, commanded, aborted}
-use Rattle.history.specs.Answers.{failed, ready, answer_fis, read_by, data_read, is_holding, data_of, served_fises, receive_data, received_bytes}
+use Rattle.history.specs.Decisions.{received, aborted}
+use Rattle.history.specs.Tcg.{sent, framed, to_session, to_manager, answers, is_manager, accepted, commanded, data_read, data_of, receive_data, received_bytes}
+use Rattle.history.specs.Answers.{failed, ready, answer_fis, read_by, is_holding, served_fises}
 use Rattle.history.specs.History.{Act, log}
 use Rattle.tper.specs.Tper.{Keeps as KeepsTper, IsSent, response_at}
 use Rattle.tper.specs.declared.trusted.Sent.{Sent}

@@ -10,7 +10,8 @@ use Rattle.trusted_cmds.specs.declared.command.CommandError.{CommandError}
 use Rattle.trusted_cmds.specs.Commands.{reading, is_queued, Carries}
 use Rattle.history.specs.Events.{Wrote, Nothing}
 use Rattle.history.specs.Facts.{Facts}
-use Rattle.history.specs.Decisions.{accepted, refuses, commanded, known, while_failed, admitted, unqueued, queued_transfer, unqueued_transfer, is_busy}
+use Rattle.history.specs.Decisions.{refuses, while_failed, admitted, queued_transfer, unqueued_transfer, is_busy}
+use Rattle.history.specs.Tcg.{accepted, commanded, known, unqueued}
 use Rattle.drive.specs.declared.transfer.Held.{Held}
 use Rattle.drive.specs.declared.transfer.Transfer.{Transfer}
 use Rattle.drive.specs.Transfer.{transfer_by, queued_command, held_command}

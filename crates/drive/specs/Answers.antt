@@ -4,17 +4,15 @@ use Rattle.fis.specs.declared.h2d.RegH2d.{RegH2d}
 use Rattle.history.specs.Opening.{Origin}
 use Rattle.history.specs.Events.{HeldCommand, Event}
 use Rattle.history.specs.Facts.{Facts}
-use Rattle.history.specs.Answers.{status_of, is_holding, answer_fises, answer_data, completed_fises, completed_data, fises_of}
+use Rattle.history.specs.Answers.{status_of, is_holding, answer_fises, completed_fises, completed_data, fises_of}
+use Rattle.history.specs.Tcg.{answer_data}
 use Rattle.shadow_mbr.specs.Stored.{sector_at}
-use Rattle.sp_cells.specs.Resets.{power_cycle, hardware}
 use Rattle.drive.specs.Transfer.{queued_command, bytes_of, sector_then}
 use Rattle.drive.specs.Queue.{with_slot}
 use Rattle.drive.specs.State.{State, seen, Keeps}
 use Rattle.drive.specs.declared.transfer.Held.{Held}
 use Rattle.drive.specs.declared.answer.Accepted.{Accepted}
 use Rattle.drive.specs.declared.answer.Completed.{Completed}
-use Rattle.drive.specs.declared.reset.ResetKind.{ResetKind}
-use Rattle.drive.specs.declared.reset.ResetKind.TheVariants.{Power, Hardware}
 
 -- The answer to the FIS of a command is that of its event.
 pub record IsAnswer (f : Facts) (h : RegH2d) (event : Event) (answer : Accepted) : Type 0 where
@@ -47,8 +45,3 @@ pub record Finishes (tag : ℕ) (payload : List ℕ) (held : Held) (old new : St
 abbrev pub IsFinished : ℕ → List ℕ → Option Held → State → State → Completed → Type 0
 IsFinished tag payload None old new done = ⊥
 IsFinished tag payload (Some held) old new done = Finishes tag payload held old new done
-
--- The number of a kind of reset (Core 2.01, reset_type).
-abbrev pub kind_of : ResetKind → ℕ
-kind_of Power = power_cycle
-kind_of Hardware = hardware

@@ -16,7 +16,8 @@ use Rattle.trusted_cmds.specs.Commands.{reading, is_programmatic_reset}
 use Rattle.sp_cells.specs.Resets.{programmatic}
 use Rattle.history.specs.Events.{Deed, Nothing, OfQueue, QueueFailed, QueueMended, Wrote, WasReset, Event, did}
 use Rattle.history.specs.Facts.{Facts}
-use Rattle.history.specs.Decisions.{aborted, not_found, fails, holds, sent, received, is_session_com_id, discovery_com_id}
+use Rattle.history.specs.Decisions.{aborted, not_found, fails, holds, received, is_session_com_id, discovery_com_id}
+use Rattle.history.specs.Tcg.{sent}
 use Rattle.tper.specs.Tper.{Tper}
 use Rattle.drive.specs.Transfer.{by_op, queued_command, unqueued_command, verdict_held, fits, Fits}
 use Rattle.drive.specs.State.{State}

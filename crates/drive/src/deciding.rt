@@ -2,7 +2,8 @@
 
 ghost use Rattle.std.specs.Prelude.{◌≡◌, ◌<◌, ◌≤◌, ℕ, List, Some, None, Ok, is_some};
 ghost use Rattle.history.specs.Facts.{Facts};
-ghost use Rattle.history.specs.Decisions.{aborted, commanded, known, while_failed, admitted, unqueued, send, receive, is_trusted, queued_transfer, unqueued_transfer};
+ghost use Rattle.history.specs.Decisions.{aborted, while_failed, admitted, receive, is_trusted, queued_transfer, unqueued_transfer};
+ghost use Rattle.history.specs.Tcg.{commanded, known, unqueued, send};
 ghost use Rattle.trusted_cmds.specs.Commands.{reading, IsCounted, most_sectors};
 ghost use Rattle.device_data.specs.ErrorLog.{failure_by};
 ghost use Rattle.drive.specs.declared.decision.Decision.{Decision};

@@ -12,11 +12,11 @@ use crate::decision::{ABORTED, Refusal, policy};
 use crate::error::DriveError;
 use crate::opening::Opening;
 use crate::queue::Queue;
-use crate::reset::ResetKind;
 use crate::transfer::{Held, Transfer};
 use audit::Why;
 use device_data::{Failure, discovery, error_log, identity};
 use fis::{H2D_LENGTH, H2D_TYPE, RegH2d, Tag};
+use history::ResetKind;
 use locking::{Op, RangeRow, Ranges};
 use shadow_mbr::Media;
 use sp_cells::{DriveConfig, SetError};
@@ -93,18 +93,20 @@ impl Drive {
     ghost use Rattle.history.specs.Opening.{Origin, factory_origin, origin_with};
     ghost use Rattle.history.specs.Agreement.{HasNoTries};
     ghost use Rattle.history.specs.KeptStore.{HasKnownRows};
-    ghost use Rattle.history.specs.Answers.{received_bytes, expected};
-    ghost use Rattle.history.specs.Decisions.{any_below, is_session_com_id, resets, sent, received};
+    ghost use Rattle.history.specs.Answers.{expected};
+    ghost use Rattle.history.specs.Tcg.{received_bytes, sent};
+    ghost use Rattle.history.specs.Decisions.{any_below, is_session_com_id, resets, received};
     ghost use Rattle.history.specs.Events.{Event, WasReset, did};
     ghost use Rattle.history.specs.Facts.{Facts, facts};
     ghost use Rattle.history.specs.History.{Act, Accept, Complete, Reset, log, event};
+    ghost use Rattle.history.specs.Resets.{kind_of};
     ghost use Rattle.history.specs.Readers.{failure as failure_in, held as held_in, waiting};
     ghost use Rattle.tper.specs.Tper.{response_at};
     ghost use Rattle.drive.specs.Queue.{slot_at, held_at, with_slot, failed_queue, mended_queue, SlotFits};
     ghost use Rattle.drive.specs.Transfer.{payload_size_of, bytes_of, sector_then, Fits};
     ghost use Rattle.drive.specs.Decision.{told, policy_on, FitsPolicy, IsDue, event_of};
     ghost use Rattle.drive.specs.State.{seen, Keeps, Agrees, AgreesInOrder};
-    ghost use Rattle.drive.specs.Answers.{IsAnswer, IsCompletion, IsDone, IsFinished, kind_of};
+    ghost use Rattle.drive.specs.Answers.{IsAnswer, IsCompletion, IsDone, IsFinished};
 
     // What is opened.
 

@@ -18,7 +18,7 @@ impl Drive {
     ghost use Rattle.history.specs.Opening.{Origin};
     ghost use Rattle.std.specs.Prelude.{◌==◌, ◌||◌, ◌*◌, ℕ, true};
     ghost use Rattle.shadow_mbr.specs.Stored.{sector_size};
-    ghost use Rattle.history.specs.Answers.{data_of, receive_data};
+    ghost use Rattle.history.specs.Tcg.{data_of, receive_data};
     ghost use Rattle.history.specs.Decisions.{is_session_com_id, discovery_com_id, received};
     ghost use Rattle.history.specs.Events.{Event};
     ghost use Rattle.history.specs.Readers.{waiting};

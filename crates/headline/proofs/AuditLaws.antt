@@ -11,6 +11,7 @@ use Rattle.methods.proofs.GrantLaws.{deny_law}
 use Rattle.history.specs.Decisions.{ranges_in_force, completed, completed_by}
 use Rattle.history.specs.DenialLaws.{IsDenied}
 use Rattle.history.specs.Events.{HeldCommand, Event}
+use Rattle.history.specs.Tcg.{tcg}
 use Rattle.history.specs.Facts.{Facts, standing}
 use Rattle.history.specs.History.{Act, Accept as AcceptFis, event_by}
 use Rattle.history.specs.Opening.{Origin}
@@ -27,6 +28,7 @@ use Rattle.history.specs.Audit.{line_for}
 use Rattle.port_history.specs.Steps.{Effect, Moment, moment, trace, stage, failed, payload, acceptance, accept_payload, act_of, audit, line_of}
 use Rattle.port_history.proofs.KeptLaw.{kept, accept_is, found, recover_is}
 use Rattle.port_history.proofs.Tests.{some_is, was_true, none_holds, tests_of, issued_is}
+use Rattle.history.proofs.QuietProofs.{tcg_quiet}
 use Rattle.headline.specs.Steps.{facts_after}
 use Rattle.headline.specs.Denials.{IsDeniedAs, IsDeniedStep, lines_at, IsLineOf, AuditLaw}
 
@@ -149,7 +151,7 @@ accepted_act o before u put was =
 
 abbrev event_then : Origin → List Step → ℕ → Put → Event
 event_then o before u put =
-    event_by (facts_after o before)
+    event_by (facts_after tcg o before)
     (AcceptFis (command_fis put.command u) (accept_payload put (payload (trace o before) u)))
 
 line_then : (o : Origin) (before : List Step) (u : ℕ) (put : Put) (number : ℕ)
@@ -157,7 +159,7 @@ line_then : (o : Origin) (before : List Step) (u : ℕ) (put : Put) (number : �
     → line_by o before (steps.Accept u) number
     ≡ line_for number put.client (event_then o before u put).denied
 line_then o before u put number was =
-    ap (λ (m : Moment). line_of number m.served m.effect) (accept_is o (trace o before) u put was)
+    ap (λ (m : Moment). line_of number m.served m.effect) (accept_is tcg o (trace o before) u put was)
 
 same_act : {x y : Act} → Some x ≡ Some y → x ≡ y
 same_act e = cc
@@ -172,9 +174,9 @@ one_line o before step client why number d =
     same_act (sym (accepted_act o before d.tag d.put d.stands)
     ∙ ap (act_of (trace o before)) (sym d.accepts) ∙ d.does) in
     let so : (event_then o before d.tag d.put).denied ≡ Some why =
-    ap (λ (a : Act). (event_by (facts_after o before) a).denied) is
-    ∙ (denial_law (facts_after o before) d.act why).1
-    (as_denied (facts_after o before) d.act why d.denied) in
+    ap (λ (a : Act). (event_by (facts_after tcg o before) a).denied) is
+    ∙ (denial_law (facts_after tcg o before) d.act why).1
+    (as_denied (facts_after tcg o before) d.act why d.denied) in
     ap (λ (s : Step). line_by o before s number) d.accepts
     ∙ line_then o before d.tag d.put number d.stands
     ∙ ap (line_for number d.put.client) so
@@ -217,7 +219,7 @@ accept_adds o before u put was = by_denied (event_then o before u put).denied re
           its_client = refl;
           act = AcceptFis (command_fis put.command u) (accept_payload put (payload (trace o before) u));
           does = accepted_act o before u put was;
-          denied = denied_as (facts_after o before) _ why ((denial_law (facts_after o before) _ why).0 is);
+          denied = denied_as (facts_after tcg o before) _ why ((denial_law (facts_after tcg o before) _ why).0 is);
         })
 
 adds : (o : Origin) (step : Step) (before : List Step) → IsLawful o (step ∷ before) → Adds o before step
@@ -230,14 +232,14 @@ adds o (steps.Accept u) before h =
 adds o (steps.Complete u) before h =
     AddsNothing
     (λ number. ap (line_for number _)
-    (none_completed u (payload (trace o before) u) ((facts_after o before).held u)))
+    (none_completed u (payload (trace o before) u) ((facts_after tcg o before).held u)))
 adds o steps.Recover before h =
     let ms = trace o before in
     let x = none_holds (tests_of ms steps.Recover) h.1 in
     let f = some_is (failed ms) (was_true _ x.1.0) in
-    let y = found ms f.0 (kept o before h.2) f.1 in
+    let y = found ms f.0 (kept tcg tcg_quiet o before h.2) f.1 in
     AddsNothing
-    (λ number. ap (λ (m : Moment). line_of number m.served m.effect) (recover_is o ms y.found y.failing))
+    (λ number. ap (λ (m : Moment). line_of number m.served m.effect) (recover_is tcg o ms y.found y.failing))
 adds o (steps.Reset client kind) before h = AddsNothing (λ number. refl)
 adds o (steps.Take client u) before h = AddsNothing (λ number. refl)
 

@@ -10,10 +10,11 @@ use Rattle.locking.specs.declared.ranges.Verdict.TheVariants.{Serve, Shadow, Den
 use Rattle.trusted_cmds.specs.declared.command.Command.{Command}
 use Rattle.trusted_cmds.specs.declared.command.Command.TheVariants.{ReadQueued, WriteQueued, ReadDma, WriteDma, Send, Receive, Identify, ReadLog10, Flush}
 use Rattle.trusted_cmds.specs.Commands.{tag_with}
-use Rattle.history.specs.Answers.{read_by, held_data, data_read}
+use Rattle.history.specs.Answers.{read_by, held_data, data_read_of}
 use Rattle.history.specs.Events.{Deed, Nothing, Wrote, Event}
+use Rattle.history.specs.Items.{Items}
 use Rattle.history.specs.Facts.{Facts}
-use Rattle.history.specs.Decisions.{not_found, fails, fails_queue, on_drive, verdict_on, holds, queued_by, unqueued_by, unqueued, known}
+use Rattle.history.specs.Decisions.{not_found, fails, fails_queue, on_drive, verdict_on, holds, queued_by, unqueued_by, unqueued_of, known_of}
 use Rattle.port_history.specs.declared.request.Answer.{Answer}
 use Rattle.port_history.specs.declared.request.Answer.TheVariants as answers
 use Rattle.port_history.specs.Stages.{is_queued}
@@ -87,26 +88,26 @@ pub record IsTakenTransfer (tag : ℕ) (command : Command) (f : Facts) (h : RegH
   pub is : transfer_of command ≡ Some x
   pub taken : IsTaken tag command f x h e
 
-pub queued_taken : (f : Facts) (h : RegH2d) (bytes : List ℕ) (command : Command) (tag : ℕ)
+pub queued_taken : (items : Items) (f : Facts) (h : RegH2d) (bytes : List ℕ) (command : Command) (tag : ℕ)
     → is_queued command ≡ true → f.held tag ≡ None
-    → IsTakenTransfer tag command f h (known f h bytes (Ok (read_as command, tag_with command tag)))
-queued_taken f h bytes (ReadQueued lba count) tag queued free = record {
+    → IsTakenTransfer tag command f h (known_of items f h bytes (Ok (read_as command, tag_with command tag)))
+queued_taken items f h bytes (ReadQueued lba count) tag queued free = record {
   x = record { op = Read; lba = lba; count = count };
   is = refl;
   taken = rw (free) (read_taken f h tag lba count (on_drive f lba count) (verdict_on f Read lba count) refl refl);
 }
-queued_taken f h bytes (WriteQueued lba count) tag queued free = record {
+queued_taken items f h bytes (WriteQueued lba count) tag queued free = record {
   x = record { op = Write; lba = lba; count = count };
   is = refl;
   taken = rw (free) (write_taken f h tag lba count (on_drive f lba count) (verdict_on f Write lba count) refl refl);
 }
-queued_taken f h bytes (ReadDma lba count) tag queued free = absurd cc
-queued_taken f h bytes (WriteDma lba count) tag queued free = absurd cc
-queued_taken f h bytes (Send protocol com_id blocks dma) tag queued free = absurd cc
-queued_taken f h bytes (Receive protocol com_id blocks dma) tag queued free = absurd cc
-queued_taken f h bytes Identify tag queued free = absurd cc
-queued_taken f h bytes (ReadLog10 dma) tag queued free = absurd cc
-queued_taken f h bytes Flush tag queued free = absurd cc
+queued_taken items f h bytes (ReadDma lba count) tag queued free = absurd cc
+queued_taken items f h bytes (WriteDma lba count) tag queued free = absurd cc
+queued_taken items f h bytes (Send protocol com_id blocks dma) tag queued free = absurd cc
+queued_taken items f h bytes (Receive protocol com_id blocks dma) tag queued free = absurd cc
+queued_taken items f h bytes Identify tag queued free = absurd cc
+queued_taken items f h bytes (ReadLog10 dma) tag queued free = absurd cc
+queued_taken items f h bytes Flush tag queued free = absurd cc
 
 -- A transfer that is executed whole.
 abbrev pub executed : Event → List ℕ → Answer
@@ -125,28 +126,28 @@ same : {x y : Transfer} → ◌≡◌ {A = Option Transfer} (Some x) (Some y) �
 same e = cc
 
 -- the answer of a command that is executed whole, where it is a transfer
-pub executed_is : (f : Facts) (payload : List ℕ) (command : Command) (tag : ℕ) (x : Transfer)
+pub executed_is : (items : Items) (f : Facts) (payload : List ℕ) (command : Command) (tag : ℕ) (x : Transfer)
     → is_queued command ≡ false → transfer_of command ≡ Some x
-    → executed (unqueued f payload (read_as command)) (data_read f (Ok (read_as command, tag_with command tag)))
+    → executed (unqueued_of items f payload (read_as command)) (data_read_of items f (Ok (read_as command, tag_with command tag)))
     ≡ answer_to f f x
-executed_is f payload (ReadQueued lba count) tag x unqueued_is is = absurd cc
-executed_is f payload (WriteQueued lba count) tag x unqueued_is is = absurd cc
-executed_is f payload (ReadDma lba count) tag x unqueued_is is =
+executed_is items f payload (ReadQueued lba count) tag x unqueued_is is = absurd cc
+executed_is items f payload (WriteQueued lba count) tag x unqueued_is is = absurd cc
+executed_is items f payload (ReadDma lba count) tag x unqueued_is is =
     served_now f Nothing Read lba count (on_drive f lba count) (verdict_on f Read lba count) _ refl
     ∙ same_transfer is
   where
     same_transfer : ◌≡◌ {A = Option Transfer} (Some (record { op = Read; lba = lba; count = count })) (Some x)
         → answer_to f f (record { op = Read; lba = lba; count = count }) ≡ answer_to f f x
     same_transfer e = ap (answer_to f f) (same e)
-executed_is f payload (WriteDma lba count) tag x unqueued_is is =
+executed_is items f payload (WriteDma lba count) tag x unqueued_is is =
     served_now f (Wrote lba payload) Write lba count (on_drive f lba count) (verdict_on f Write lba count) _ refl
     ∙ same_transfer is
   where
     same_transfer : ◌≡◌ {A = Option Transfer} (Some (record { op = Write; lba = lba; count = count })) (Some x)
         → answer_to f f (record { op = Write; lba = lba; count = count }) ≡ answer_to f f x
     same_transfer e = ap (answer_to f f) (same e)
-executed_is f payload (Send protocol com_id blocks dma) tag x unqueued_is is = absurd cc
-executed_is f payload (Receive protocol com_id blocks dma) tag x unqueued_is is = absurd cc
-executed_is f payload Identify tag x unqueued_is is = absurd cc
-executed_is f payload (ReadLog10 dma) tag x unqueued_is is = absurd cc
-executed_is f payload Flush tag x unqueued_is is = absurd cc
+executed_is items f payload (Send protocol com_id blocks dma) tag x unqueued_is is = absurd cc
+executed_is items f payload (Receive protocol com_id blocks dma) tag x unqueued_is is = absurd cc
+executed_is items f payload Identify tag x unqueued_is is = absurd cc
+executed_is items f payload (ReadLog10 dma) tag x unqueued_is is = absurd cc
+executed_is items f payload Flush tag x unqueued_is is = absurd cc

@@ -4,7 +4,8 @@ use Rattle.std.specs.Prelude.{unwrap_or}
 use Rattle.sp_cells.specs.declared.names.Sp.{Sp}
 use Rattle.sp_cells.specs.Flat.{sp_eq}
 use Rattle.history.specs.Events.{Changed, Committed, Deed, InSession, Event, or_else, latest, since, every}
-use Rattle.history.specs.History.{Act, event, event_by}
+use Rattle.history.specs.Items.{Items}
+use Rattle.history.specs.History.{Act, event_of, event_in}
 use Rattle.history.specs.NoTrace.{emptied, is_commit, Aborts, further}
 use Rattle.history.specs.Opening.{Origin}
 use Rattle.history.specs.Readers.{is_start, living, starts, gains, turns, open_on, own_changes, if_open, open_changes, only_on, unless_open, brought, changes, tries_then, writing, holding, failing, waits}
@@ -89,15 +90,15 @@ alike_aborted e es sp n is_open a = record {
         open_changes-more s e es (emptied sp es) (open_on-emptied sp s es) (open_changes-emptied sp s is es)
 
 -- and after all further acts
-pub alike_further : (o : Origin) (es fs : List Event) → Alike es fs → (acts : List Act)
-    → Alike (further o es acts ++ es) (further o fs acts ++ fs)
-alike_further o es fs h [] = h
-alike_further o es fs h (act ∷ acts) =
-    let before = alike_further o es fs h acts in
-    let same : event o (further o fs acts ++ fs) act ≡ event o (further o es acts ++ es) act =
-    ap (λ f. event_by f act) (facts-alike o (further o es acts ++ es) (further o fs acts ++ fs) before) in
-    alike_by same (alike_more (event o (further o es acts ++ es) act) (further o es acts ++ es)
-    (further o fs acts ++ fs) before)
+pub alike_further : (items : Items) (o : Origin) (es fs : List Event) → Alike es fs → (acts : List Act)
+    → Alike (further items o es acts ++ es) (further items o fs acts ++ fs)
+alike_further items o es fs h [] = h
+alike_further items o es fs h (act ∷ acts) =
+    let before = alike_further items o es fs h acts in
+    let same : event_of items o (further items o fs acts ++ fs) act ≡ event_of items o (further items o es acts ++ es) act =
+    ap (λ f. event_in items f act) (facts-alike o (further items o es acts ++ es) (further items o fs acts ++ fs) before) in
+    alike_by same (alike_more (event_of items o (further items o es acts ++ es) act) (further items o es acts ++ es)
+    (further items o fs acts ++ fs) before)
   where
     alike_by : {x y : Event} {ps qs : List Event} → x ≡ y → Alike (y ∷ ps) (y ∷ qs) → Alike (y ∷ ps) (x ∷ qs)
     alike_by {x} {y} {ps} {qs} same a = rw same a

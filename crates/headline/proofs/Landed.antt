@@ -10,9 +10,11 @@ use Rattle.locking.specs.declared.ranges.Verdict.TheVariants.{Serve, Shadow, Den
 use Rattle.trusted_cmds.specs.declared.command.Command.{Command}
 use Rattle.trusted_cmds.specs.declared.command.Command.TheVariants as commands
 use Rattle.trusted_cmds.specs.Commands.{tag_with}
-use Rattle.history.specs.Answers.{data_read}
-use Rattle.history.specs.Decisions.{not_found, fails, on_drive, verdict_on, unqueued_by, unqueued, completed_by}
+use Rattle.history.specs.Decisions.{not_found, fails, on_drive, verdict_on, unqueued_by, completed_by, unqueued_of}
 use Rattle.history.specs.Events.{Wrote, did, Event, or_else, latest}
+use Rattle.history.specs.Items.{Items}
+use Rattle.history.specs.Quiet.{IsQuiet}
+use Rattle.history.specs.Answers.{data_read_of}
 use Rattle.history.specs.Facts.{Facts}
 use Rattle.history.specs.Opening.{Origin}
 use Rattle.shadow_mbr.specs.Stored.{zeros}
@@ -24,9 +26,9 @@ use Rattle.port_history.specs.declared.stages.Stage.{Stage}
 use Rattle.port_history.specs.declared.stages.Stage.TheVariants.{Free, Prepared, Issued, Accepted, Answered}
 use Rattle.port_history.specs.declared.step.Step.{Step}
 use Rattle.port_history.specs.declared.step.Step.TheVariants as steps
-use Rattle.port_history.specs.Refusals.{IsLawful}
+use Rattle.port_history.specs.Refusals.{AreLawful}
 use Rattle.port_history.specs.Stages.{is_queued, is_pending, to, recovered, after_reset}
-use Rattle.port_history.specs.Steps.{Effect, Moment, moment, trace, events, stage, failed, is_tag, payload, put_of, answer, accept_payload, recovered_answer}
+use Rattle.port_history.specs.Steps.{Effect, Moment, events, stage, failed, is_tag, payload, put_of, answer, accept_payload, recovered_answer, trace_of}
 use Rattle.port_history.proofs.Fises.{read_as, brought}
 use Rattle.port_history.proofs.Kept.{Kept, accept_moment, complete_moment, accepted_moves, executed_moves}
 use Rattle.port_history.proofs.KeptLaw.{kept, accept_is, accepted_effect, complete_is, completed_effect, fit_issued, fit_accepted, accepted_moves as completion_moves, found}
@@ -58,10 +60,10 @@ pub landed_by : {after after' : List Event} {content content' : List ℕ} {a a' 
     → after' ≡ after → content' ≡ content → a' ≡ a → s' ≡ s → Landed after content a s → Landed after' content' a' s'
 landed_by ea ed eb es k = rw (ea, ed, eb, es) k
 
-abbrev pub LandedAt : Origin → List Step → ℕ → Type 0
-LandedAt o list tag =
-    Landed (past_of o (through_move list tag)) (payload (trace o list) tag) (answer (trace o list) tag)
-    (stage (trace o list) tag)
+abbrev pub LandedAt : (items : Items) → Origin → List Step → ℕ → Type 0
+LandedAt items o list tag =
+    Landed (past_of items o (through_move list tag)) (payload (trace_of items o list) tag) (answer (trace_of items o list) tag)
+    (stage (trace_of items o list) tag)
 
 -- an answer that is none of Done
 not_done : (after : List Event) (command : Command) (content : List ℕ) (a : Option Answer)
@@ -163,23 +165,23 @@ wrote_lands past lba count content true Serve long given bytes e =
 wrote_lands past lba count content true Shadow long given bytes e =
     λ k below. lands_at (did (Wrote lba content)) past lba k count content refl long below
 
-executed_lands : (f : Facts) (past : List Event) (content given : List ℕ) (command : Command)
+executed_lands : (items : Items) (f : Facts) (past : List Event) (content given : List ℕ) (command : Command)
     → is_queued command ≡ false → length content ≡ brought command
-    → HasLanded (unqueued f content (read_as command) ∷ past) command content
-    (Some (executed (unqueued f content (read_as command)) given))
-executed_lands f past content given (commands.ReadQueued lba count) unqueued_is long = absurd (cc)
-executed_lands f past content given (commands.WriteQueued lba count) unqueued_is long = absurd (cc)
-executed_lands f past content given (commands.ReadDma lba count) unqueued_is long = λ w. absurd (no_write w)
+    → HasLanded (unqueued_of items f content (read_as command) ∷ past) command content
+    (Some (executed (unqueued_of items f content (read_as command)) given))
+executed_lands items f past content given (commands.ReadQueued lba count) unqueued_is long = absurd (cc)
+executed_lands items f past content given (commands.WriteQueued lba count) unqueued_is long = absurd (cc)
+executed_lands items f past content given (commands.ReadDma lba count) unqueued_is long = λ w. absurd (no_write w)
   where
     no_write : Read ≡ Write → ⊥
     no_write e = cc
-executed_lands f past content given (commands.WriteDma lba count) unqueued_is long =
+executed_lands items f past content given (commands.WriteDma lba count) unqueued_is long =
     λ w bytes e. wrote_lands past lba count content (on_drive f lba count) (verdict_on f Write lba count) long given bytes e
-executed_lands f past content given (commands.Send protocol com_id blocks dma) unqueued_is long = tt
-executed_lands f past content given (commands.Receive protocol com_id blocks dma) unqueued_is long = tt
-executed_lands f past content given commands.Identify unqueued_is long = tt
-executed_lands f past content given (commands.ReadLog10 dma) unqueued_is long = tt
-executed_lands f past content given commands.Flush unqueued_is long = tt
+executed_lands items f past content given (commands.Send protocol com_id blocks dma) unqueued_is long = tt
+executed_lands items f past content given (commands.Receive protocol com_id blocks dma) unqueued_is long = tt
+executed_lands items f past content given commands.Identify unqueued_is long = tt
+executed_lands items f past content given (commands.ReadLog10 dma) unqueued_is long = tt
+executed_lands items f past content given commands.Flush unqueued_is long = tt
 
 -- a completion
 completed_lands : (u : ℕ) (past : List Event) (content : List ℕ) (a : Option Answer) (command : Command)
@@ -199,29 +201,29 @@ completed_lands u past content a commands.Identify queued long = tt
 completed_lands u past content a (commands.ReadLog10 dma) queued long = tt
 completed_lands u past content a commands.Flush queued long = tt
 
-split : (o : Origin) (list : List Step) (u : ℕ) → LandedAt o list u
-    → ((t : ℕ) → (u == t) ≡ false → LandedAt o list t) → (t : ℕ) → LandedAt o list t
-split o list u self other t = elim (cases_eq u t) [
-  | inl same ↦ subst (λ (k : ℕ). LandedAt o list k) same self
+split : (items : Items) (o : Origin) (list : List Step) (u : ℕ) → LandedAt items o list u
+    → ((t : ℕ) → (u == t) ≡ false → LandedAt items o list t) → (t : ℕ) → LandedAt items o list t
+split items o list u self other t = elim (cases_eq u t) [
+  | inl same ↦ subst (λ (k : ℕ). LandedAt items o list k) same self
   | inr apart ↦ other t (ne_eqb u t apart)
 ]
 
 abbrev AtMoment : List Moment → Moment → ℕ → Type 0
 AtMoment ms m u = Landed (events (m ∷ ms)) (payload (m ∷ ms) u) (answer (m ∷ ms) u) (stage (m ∷ ms) u)
 
-accept_self : (o : Origin) (before : List Step) (u : ℕ) (put : Put) → u < 32 → Kept (trace o before)
-    → failed (trace o before) ≡ None → stage (trace o before) u ≡ Issued put
-    → AtMoment (trace o before) (accept_moment u put (accepted_effect o (trace o before) u put)) u
-accept_self o before u put lu k mended was = by_kind (is_queued put.command) refl
+accept_self : (items : Items) (o : Origin) (before : List Step) (u : ℕ) (put : Put) → u < 32 → Kept (trace_of items o before)
+    → failed (trace_of items o before) ≡ None → stage (trace_of items o before) u ≡ Issued put
+    → AtMoment (trace_of items o before) (accept_moment u put (accepted_effect items o (trace_of items o before) u put)) u
+accept_self items o before u put lu k mended was = by_kind (is_queued put.command) refl
   where
     ms : List Moment
-    ms = trace o before
+    ms = trace_of items o before
 
     f : Facts
-    f = facts_after o before
+    f = facts_after items o before
 
     e : Effect
-    e = accepted_effect o ms u put
+    e = accepted_effect items o ms u put
 
     bytes_are : is_queued put.command ≡ false → accept_payload put (payload ms u) ≡ payload ms u
     bytes_are unqueued_is = ap (λ (b : Bool). if b then [] else payload ms u) unqueued_is
@@ -233,46 +235,46 @@ accept_self o before u put lu k mended was = by_kind (is_queued put.command) ref
         (record { it = tt })
     by_kind false unqueued_is =
         landed_by {s = Answered put}
-        (ap (λ (x : Event). x ∷ events ms) (unqueued_event o ms u put lu k mended was unqueued_is
-        ∙ ap (λ (bytes : List ℕ). unqueued f bytes (read_as put.command)) (bytes_are unqueued_is)))
+        (ap (λ (x : Event). x ∷ events ms) (unqueued_event items o ms u put lu k mended was unqueued_is
+        ∙ ap (λ (bytes : List ℕ). unqueued_of items f bytes (read_as put.command)) (bytes_are unqueued_is)))
         refl
         (takes (u == u) _ (answer ms u) (itself u)
         ∙ ap (λ (b : Bool). unwrap_or (if b then None else Rattle.port_history.specs.Steps.executed_answer (Some e)) (answer ms u)) unqueued_is
         ∙ ap (λ (y : Option (Option Answer)). unwrap_or y (answer ms u))
-        (executed_now o ms u put lu k mended was unqueued_is
-        ∙ ap (λ (bytes : List ℕ). Some (Some (executed (unqueued f bytes (read_as put.command))
-        (data_read f (Ok (read_as put.command, tag_with put.command u)))))) (bytes_are unqueued_is)))
+        (executed_now items o ms u put lu k mended was unqueued_is
+        ∙ ap (λ (bytes : List ℕ). Some (Some (executed (unqueued_of items f bytes (read_as put.command))
+        (data_read_of items f (Ok (read_as put.command, tag_with put.command u)))))) (bytes_are unqueued_is)))
         (sym (executed_moves ms u u put was unqueued_is)
         ∙ this_if (u == u) (Answered put) (stage ms u) (itself u))
         (record {
-          it = executed_lands f (events ms) (payload ms u)
-              (data_read f (Ok (read_as put.command, tag_with put.command u))) put.command unqueued_is
+          it = executed_lands items f (events ms) (payload ms u)
+              (data_read_of items f (Ok (read_as put.command, tag_with put.command u))) put.command unqueued_is
               (fit_issued ms u put k was).brings;
         })
 
-landed_accept : (o : Origin) (before : List Step) (u : ℕ) (put : Put) → u < 32 → Kept (trace o before)
-    → failed (trace o before) ≡ None → stage (trace o before) u ≡ Issued put
-    → ((t : ℕ) → LandedAt o before t) → (t : ℕ) → LandedAt o (steps.Accept u ∷ before) t
-landed_accept o before u put lu k mended was all =
-    split o (steps.Accept u ∷ before) u
+landed_accept : (items : Items) (o : Origin) (before : List Step) (u : ℕ) (put : Put) → u < 32 → Kept (trace_of items o before)
+    → failed (trace_of items o before) ≡ None → stage (trace_of items o before) u ≡ Issued put
+    → ((t : ℕ) → LandedAt items o before t) → (t : ℕ) → LandedAt items o (steps.Accept u ∷ before) t
+landed_accept items o before u put lu k mended was all =
+    split items o (steps.Accept u ∷ before) u
     (landed_by
-    (ap (past_of o) (this_if (u == u) (steps.Accept u ∷ before) (through_move before u) (itself u)))
+    (ap (past_of items o) (this_if (u == u) (steps.Accept u ∷ before) (through_move before u) (itself u)))
     refl refl refl
-    (subst (λ (m : Moment). AtMoment ms m u) (sym (accept_is o ms u put was))
-    (accept_self o before u put lu k mended was)))
+    (subst (λ (m : Moment). AtMoment ms m u) (sym (accept_is items o ms u put was))
+    (accept_self items o before u put lu k mended was)))
     (λ t apart. landed_by
-    (ap (past_of o) (other_if (u == t) (steps.Accept u ∷ before) (through_move before t) apart))
+    (ap (past_of items o) (other_if (u == t) (steps.Accept u ∷ before) (through_move before t) apart))
     refl (skips (u == t) _ (answer ms t) apart) (other_if (u == t) _ (stage ms t) apart) (all t))
   where
     ms : List Moment
-    ms = trace o before
+    ms = trace_of items o before
 
-complete_self : (o : Origin) (before : List Step) (u : ℕ) (put : Put) → Kept (trace o before)
-    → failed (trace o before) ≡ None → stage (trace o before) u ≡ Accepted put
-    → AtMoment (trace o before) (complete_moment u put (completed_effect o (trace o before) u)) u
-complete_self o before u put k mended was =
+complete_self : (items : Items) (o : Origin) (before : List Step) (u : ℕ) (put : Put) → Kept (trace_of items o before)
+    → failed (trace_of items o before) ≡ None → stage (trace_of items o before) u ≡ Accepted put
+    → AtMoment (trace_of items o before) (complete_moment u put (completed_effect items o (trace_of items o before) u)) u
+complete_self items o before u put k mended was =
     landed_by {s = Answered put}
-    (ap (λ (x : Event). x ∷ events ms) (completion_moves o ms u put k mended was).event)
+    (ap (λ (x : Event). x ∷ events ms) (completion_moves items o ms u put k mended was).event)
     refl refl
     (this_if (u == u) _ (stage ms u) (itself u) ∙ ap (to Answered) was)
     (record {
@@ -281,52 +283,52 @@ complete_self o before u put k mended was =
     })
   where
     ms : List Moment
-    ms = trace o before
+    ms = trace_of items o before
 
-landed_complete : (o : Origin) (before : List Step) (u : ℕ) (put : Put) → Kept (trace o before)
-    → failed (trace o before) ≡ None → stage (trace o before) u ≡ Accepted put
-    → ((t : ℕ) → LandedAt o before t) → (t : ℕ) → LandedAt o (steps.Complete u ∷ before) t
-landed_complete o before u put k mended was all =
-    split o (steps.Complete u ∷ before) u
+landed_complete : (items : Items) (o : Origin) (before : List Step) (u : ℕ) (put : Put) → Kept (trace_of items o before)
+    → failed (trace_of items o before) ≡ None → stage (trace_of items o before) u ≡ Accepted put
+    → ((t : ℕ) → LandedAt items o before t) → (t : ℕ) → LandedAt items o (steps.Complete u ∷ before) t
+landed_complete items o before u put k mended was all =
+    split items o (steps.Complete u ∷ before) u
     (landed_by
-    (ap (past_of o) (this_if (u == u) (steps.Complete u ∷ before) (through_move before u) (itself u)))
+    (ap (past_of items o) (this_if (u == u) (steps.Complete u ∷ before) (through_move before u) (itself u)))
     refl refl refl
-    (subst (λ (m : Moment). AtMoment ms m u) (sym (complete_is o ms u put was))
-    (complete_self o before u put k mended was)))
+    (subst (λ (m : Moment). AtMoment ms m u) (sym (complete_is items o ms u put was))
+    (complete_self items o before u put k mended was)))
     (λ t apart. landed_by
-    (ap (past_of o) (other_if (u == t) (steps.Complete u ∷ before) (through_move before t) apart))
+    (ap (past_of items o) (other_if (u == t) (steps.Complete u ∷ before) (through_move before t) apart))
     refl (skips (u == t) _ (answer ms t) apart) (other_if (u == t) _ (stage ms t) apart) (all t))
   where
     ms : List Moment
-    ms = trace o before
+    ms = trace_of items o before
 
 -- Every lawful list.
-pub landed : (o : Origin) (list : List Step) → IsLawful o list → (t : ℕ) → LandedAt o list t
-landed o [] h t = record { it = tt }
-landed o (steps.Put client u request ∷ before) h t =
-    landed_put (u == t) (put_of _ client request) _ (landed o before h.2 t)
-landed o (steps.Issue u ∷ before) h t =
-    landed_issue (u == t) _ _ _ (stage (trace o before) t) (landed o before h.2 t)
-landed o (steps.Accept u ∷ before) h t =
-    let ms = trace o before in
+pub landed : (items : Items) (still : IsQuiet items) (o : Origin) (list : List Step) → AreLawful items o list → (t : ℕ) → LandedAt items o list t
+landed items still o [] h t = record { it = tt }
+landed items still o (steps.Put client u request ∷ before) h t =
+    landed_put (u == t) (put_of _ client request) _ (landed items still o before h.2 t)
+landed items still o (steps.Issue u ∷ before) h t =
+    landed_issue (u == t) _ _ _ (stage (trace_of items o before) t) (landed items still o before h.2 t)
+landed items still o (steps.Accept u ∷ before) h t =
+    let ms = trace_of items o before in
     let x = none_holds (tests_of ms (steps.Accept u)) h.1 in
     let p = issued_is (stage ms u) x.1.1.0 in
-    landed_accept o before u p.0 (ltb-true u 32 h.0) (kept o before h.2) (none_is (failed ms) x.1.0) p.1
-    (landed o before h.2) t
-landed o (steps.Complete u ∷ before) h t =
-    let ms = trace o before in
+    landed_accept items o before u p.0 (ltb-true u 32 h.0) (kept items still o before h.2) (none_is (failed ms) x.1.0) p.1
+    (landed items still o before h.2) t
+landed items still o (steps.Complete u ∷ before) h t =
+    let ms = trace_of items o before in
     let x = none_holds (tests_of ms (steps.Complete u)) h.1 in
     let p = accepted_is (stage ms u) x.1.1.0 in
-    landed_complete o before u p.0 (kept o before h.2) (none_is (failed ms) x.1.0) p.1 (landed o before h.2) t
-landed o (steps.Recover ∷ before) h t =
-    let ms = trace o before in
+    landed_complete items o before u p.0 (kept items still o before h.2) (none_is (failed ms) x.1.0) p.1 (landed items still o before h.2) t
+landed items still o (steps.Recover ∷ before) h t =
+    let ms = trace_of items o before in
     let x = none_holds (tests_of ms steps.Recover) h.1 in
     let f = some_is (failed ms) (was_true _ x.1.0) in
-    let y = found ms f.0 (kept o before h.2) f.1 in
+    let y = found ms f.0 (kept items still o before h.2) f.1 in
     landed_by refl refl
     (ap (λ (z : Option Failure). unwrap_or (if is_tag t (failed ms) then recovered_answer z else None) (answer ms t)) y.failing)
     refl
-    (landed_recover (is_tag t (failed ms)) y.found _ _ (answer ms t) (stage ms t) (landed o before h.2 t))
-landed o (steps.Reset client kind ∷ before) h t =
-    landed_reset _ _ _ (stage (trace o before) t) (landed o before h.2 t)
-landed o (steps.Take client u ∷ before) h t = landed_take (u == t) (landed o before h.2 t)
+    (landed_recover (is_tag t (failed ms)) y.found _ _ (answer ms t) (stage ms t) (landed items still o before h.2 t))
+landed items still o (steps.Reset client kind ∷ before) h t =
+    landed_reset _ _ _ (stage (trace_of items o before) t) (landed items still o before h.2 t)
+landed items still o (steps.Take client u ∷ before) h t = landed_take (u == t) (landed items still o before h.2 t)

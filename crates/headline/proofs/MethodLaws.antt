@@ -24,7 +24,8 @@ use Rattle.methods.specs.Listed.{listed}
 use Rattle.methods.proofs.ListLaws.{list_law}
 use Rattle.history.specs.Calls.{Judgement, Refuses, Gives, Activates, Reverts, Standing, table_size, bytes_between, rows_given, gives, listing, makes, unless_open, does_ask, does, judged, asked}
 use Rattle.history.specs.Changes.{Sets}
-use Rattle.history.specs.Decisions.{answers, is_session_com_id, is_trusted, outcome_of}
+use Rattle.history.specs.Decisions.{is_session_com_id, is_trusted}
+use Rattle.history.specs.Tcg.{answers, outcome_of, tcg}
 use Rattle.history.specs.Facts.{Facts, standing}
 use Rattle.history.specs.History.{Act, Accept as AcceptFis, event_by}
 use Rattle.history.specs.MethodLaws.{IsGranted, takes_effect, IsLookedAt, IsSent, IsCall}
@@ -50,6 +51,7 @@ use Rattle.port_history.proofs.Fises.{fis_back, read_as}
 use Rattle.port_history.proofs.Kept.{Kept}
 use Rattle.port_history.proofs.KeptLaw.{kept, accept_is, mended_queue, idle, fit_issued}
 use Rattle.port_history.proofs.Tests.{none_is, none_holds, tests_of}
+use Rattle.history.proofs.QuietProofs.{tcg_quiet}
 use Rattle.headline.specs.Steps.{facts_after, event_after}
 use Rattle.headline.proofs.AuditLaws.{lawful_before}
 use Rattle.headline.specs.Methods.{IsCallStep, IsGrantedAt, comes_to, EffectIs, refused_with, DoesSo, Lists, IsJudged, MethodLaw}
@@ -72,7 +74,7 @@ looked : (o : Origin) (before : List Step) (u : ℕ) (put : Put) (com_id blocks 
     → Kept (trace o before) → failed (trace o before) ≡ None
     → stage (trace o before) u ≡ Issued put → put.command ≡ Send 1 com_id blocks true
     → is_session_com_id com_id ≡ true
-    → IsLookedAt (facts_after o before) (act_at o before u put) (Send 1 com_id blocks true) None
+    → IsLookedAt (facts_after tcg o before) (act_at o before u put) (Send 1 com_id blocks true) None
 looked o before u put com_id blocks lu k mended was sends of_sessions = record {
   fis = command_fis put.command u;
   payload = accept_payload put (payload ms u);
@@ -106,7 +108,7 @@ none_waits x e = ap is_some e
 called : (o : Origin) (before : List Step) (step : Step) (session : Begun) (object method : List ℕ)
     (args : Trees) → IsLawful o (step ∷ before)
     → (c : IsCallStep o before step session object method args)
-    → IsCall (facts_after o before) (act_at o before c.tag c.put) session object method args
+    → IsCall (facts_after tcg o before) (act_at o before c.tag c.put) session object method args
 unfolding looked
 called o before step session object method args h c = record {
   com_id = c.com_id;
@@ -115,8 +117,8 @@ called o before step session object method args h c = record {
     protocol = 1;
     blocks = c.blocks;
     dma = true;
-    looked = looked o before c.tag c.put c.com_id c.blocks low (kept o before at.2) mended c.stands c.sends c.of_sessions;
-    taken = trusted_now c.blocks (is_session_com_id c.com_id) (is_some ((facts_after o before).waiting c.com_id))
+    looked = looked o before c.tag c.put c.com_id c.blocks low (kept tcg tcg_quiet o before at.2) mended c.stands c.sends c.of_sessions;
+    taken = trusted_now c.blocks (is_session_com_id c.com_id) (is_some ((facts_after tcg o before).waiting c.com_id))
         c.some c.of_sessions (none_waits _ c.free);
     framed = ap frame_in data_of ∙ c.framed;
     addressed = eq-eqb c.frame.com_id c.com_id c.addressed;
@@ -145,11 +147,11 @@ called o before step session object method args h c = record {
 -- and its event is the step's
 event_is_here : (o : Origin) (before : List Step) (step : Step) (u : ℕ) (put : Put)
     → step ≡ steps.Accept u → stage (trace o before) u ≡ Issued put
-    → event_after o before step ≡ Some (event_by (facts_after o before) (act_at o before u put))
+    → event_after tcg o before step ≡ Some (event_by (facts_after tcg o before) (act_at o before u put))
 event_is_here o before step u put accepts was =
-    ap (event_after o before) accepts
+    ap (event_after tcg o before) accepts
     ∙ ap (λ (m : Moment). option_map (λ (e : Effect). e.event) m.effect)
-    (accept_is o (trace o before) u put was)
+    (accept_is tcg o (trace o before) u put was)
 
 same_some : {A : Type 0} {x y : A} → Some x ≡ Some y → x ≡ y
 same_some e = cc
@@ -258,7 +260,7 @@ judged_so_far o before step session object method args ask h c shaped = record {
 }
   where
     f : Facts
-    f = facts_after o before
+    f = facts_after tcg o before
 
     act : Act
     act = act_at o before c.tag c.put
@@ -266,7 +268,7 @@ judged_so_far o before step session object method args ask h c shaped = record {
     is_call : IsCall f act session object method args
     is_call = called o before step session object method args h c
 
-    here : event_after o before step ≡ Some (event_by f act)
+    here : event_after tcg o before step ≡ Some (event_by f act)
     here = event_is_here o before step c.tag c.put c.accepts c.stands
 
     judges : Rattle.history.specs.MethodLaws.IsJudgedByAces (standing f session) (uid_of object) (uid_of method) ask

@@ -44,6 +44,7 @@ use Rattle.port_history.specs.declared.step.Step.{Step}
 use Rattle.port_history.specs.declared.step.Step.TheVariants.{Accept}
 use Rattle.port_history.specs.Steps.{trace, audit}
 use Rattle.headline.specs.Steps.{facts_after}
+use Rattle.history.specs.Tcg.{tcg}
 use Rattle.headline.proofs.Scenes.{are_lawful, told, lays, begins, by_admin, deed_of, denied_of}
 
 -- A Set of ReadLocked of range 2, by Admin1.
@@ -55,7 +56,7 @@ set_granted : (are_lawful activated (Accept 2 ∷ set_by_admin) ≡ true)
     × (deed_of activated set_by_admin (Accept 2)
     ≡ Some (Changed Locking (Sets (cells_set (range_uid 2) ((read_locked_column, Number 1) ∷ [])))))
     × (denied_of activated set_by_admin (Accept 2) ≡ None)
-    × ((facts_after activated (Accept 2 ∷ set_by_admin)).rows Locking (range_uid 2) read_locked_column
+    × ((facts_after tcg activated (Accept 2 ∷ set_by_admin)).rows Locking (range_uid 2) read_locked_column
     ≡ Some (Number 1))
     × (audit (trace activated (Accept 2 ∷ set_by_admin)) ≡ [])
 unfolding admin_sps admin_authorities locking_authorities admin_pins locking_pins locking_ranges locking_mbr_controls admin_aces authority_aces pin_aces range_aces mbr_aces this_sp_grants admin_grants authority_grants fixed_ace_gets user_ace_grants read_locked_ace_grants write_locked_ace_grants done_ace_grants pin_grants range_grants mbr_grants first_lexeme expect number_at uid_at values_up_to list_with list_value_with named_with value_of list_at status_at call_at reply_at message_at message_in number_spelling bytes_spelling any_below ranges_in verdict_of is_range listed_among cells_for zeros sectors_from authorities_of_locking any_to
@@ -69,7 +70,7 @@ set_by_anybody =
 
 set_denied : (are_lawful activated (Accept 2 ∷ set_by_anybody) ≡ true)
     × (deed_of activated set_by_anybody (Accept 2) ≡ Some Unchanged)
-    × ((facts_after activated (Accept 2 ∷ set_by_anybody)).rows Locking (range_uid 2) read_locked_column
+    × ((facts_after tcg activated (Accept 2 ∷ set_by_anybody)).rows Locking (range_uid 2) read_locked_column
     ≡ Some (Number 0))
     × (audit (trace activated (Accept 2 ∷ set_by_anybody)) ≡ record {
       step = 9;

@@ -34,6 +34,7 @@ use Rattle.port_history.specs.declared.request.Request.TheVariants.{ReadDma}
 use Rattle.port_history.specs.declared.step.Step.{Step}
 use Rattle.port_history.specs.Steps.{trace, answer, payload}
 use Rattle.headline.specs.Steps.{past_of, facts_after, event_after}
+use Rattle.history.specs.Tcg.{tcg}
 use Rattle.headline.proofs.Scenes.{are_lawful, told, lays, brings, begins, says, by_admin}
 
 -- Range 1 is 100+10, its read lock enabled and not set.
@@ -50,9 +51,9 @@ abbrev within : List Step
 within = brings 1 8 (ReadDma 100 1) ++ locking
 
 set_open : (are_lawful enabled within ≡ true)
-    × (open_on (past_of enabled within) Locking ≡ Some 0x1000)
-    × ((facts_after enabled within).rows_of 0x1000 Locking (range_uid 1) read_locked_column ≡ Some (Number 1))
-    × ((facts_after enabled within).rows Locking (range_uid 1) read_locked_column ≡ Some (Number 0))
+    × (open_on (past_of tcg enabled within) Locking ≡ Some 0x1000)
+    × ((facts_after tcg enabled within).rows_of 0x1000 Locking (range_uid 1) read_locked_column ≡ Some (Number 1))
+    × ((facts_after tcg enabled within).rows Locking (range_uid 1) read_locked_column ≡ Some (Number 0))
     × (answer (trace enabled within) 8 ≡ Some (answers.Done (replicate 512 0)))
 unfolding admin_sps admin_authorities locking_authorities admin_pins locking_pins locking_ranges locking_mbr_controls admin_aces authority_aces pin_aces range_aces mbr_aces this_sp_grants admin_grants authority_grants fixed_ace_gets user_ace_grants read_locked_ace_grants write_locked_ace_grants done_ace_grants pin_grants range_grants mbr_grants first_lexeme expect number_at uid_at values_up_to list_with list_value_with named_with value_of list_at status_at call_at reply_at message_at message_in number_spelling bytes_spelling any_below ranges_in verdict_of is_range listed_among cells_for zeros sectors_from authorities_of_locking any_to
 set_open = (refl, refl, refl, refl, refl)
@@ -62,15 +63,15 @@ abbrev ended : ℕ → List Step
 ended n = brings 1 8 (ReadDma 100 1) ++ says 6 7 (end n) ++ locking
 
 set_aborted : (are_lawful enabled (ended 1) ≡ true)
-    × (open_on (past_of enabled (ended 1)) Locking ≡ None)
-    × ((facts_after enabled (ended 1)).rows Locking (range_uid 1) read_locked_column ≡ Some (Number 0))
+    × (open_on (past_of tcg enabled (ended 1)) Locking ≡ None)
+    × ((facts_after tcg enabled (ended 1)).rows Locking (range_uid 1) read_locked_column ≡ Some (Number 0))
     × (answer (trace enabled (ended 1)) 8 ≡ Some (answers.Done (replicate 512 0)))
 unfolding admin_sps admin_authorities locking_authorities admin_pins locking_pins locking_ranges locking_mbr_controls admin_aces authority_aces pin_aces range_aces mbr_aces this_sp_grants admin_grants authority_grants fixed_ace_gets user_ace_grants read_locked_ace_grants write_locked_ace_grants done_ace_grants pin_grants range_grants mbr_grants first_lexeme expect number_at uid_at values_up_to list_with list_value_with named_with value_of list_at status_at call_at reply_at message_at message_in number_spelling bytes_spelling any_below ranges_in verdict_of is_range listed_among cells_for zeros sectors_from authorities_of_locking any_to
 set_aborted = (refl, refl, refl, refl)
 
 -- It is committed: the lock is set, and the read is denied.
 set_committed : (are_lawful enabled (ended 0) ≡ true)
-    × ((facts_after enabled (ended 0)).rows Locking (range_uid 1) read_locked_column ≡ Some (Number 1))
+    × ((facts_after tcg enabled (ended 0)).rows Locking (range_uid 1) read_locked_column ≡ Some (Number 1))
     × (answer (trace enabled (ended 0)) 8 ≡ Some (answers.Failed 0x51 0x04))
 unfolding admin_sps admin_authorities locking_authorities admin_pins locking_pins locking_ranges locking_mbr_controls admin_aces authority_aces pin_aces range_aces mbr_aces this_sp_grants admin_grants authority_grants fixed_ace_gets user_ace_grants read_locked_ace_grants write_locked_ace_grants done_ace_grants pin_grants range_grants mbr_grants first_lexeme expect number_at uid_at values_up_to list_with list_value_with named_with value_of list_at status_at call_at reply_at message_at message_in number_spelling bytes_spelling any_below ranges_in verdict_of is_range listed_among cells_for zeros sectors_from authorities_of_locking any_to
 set_committed = (refl, refl, refl)
@@ -81,10 +82,10 @@ ending n = lays 2 6 (told 0x1000 1 (end n)) ++ locking
 
 abbrev end_of : ℕ → Event
 end_of n =
-    event_by (facts_after enabled (ending n))
+    event_by (facts_after tcg enabled (ending n))
     (AcceptFis (command_fis (Send 1 0x1000 1 true) 6) (payload (trace enabled (ending n)) 6))
 
-is_abort : (event_after enabled (ending 1) (Accept 6) ≡ Some (end_of 1)) × Aborts Locking (end_of 1)
+is_abort : (event_after tcg enabled (ending 1) (Accept 6) ≡ Some (end_of 1)) × Aborts Locking (end_of 1)
 unfolding admin_sps admin_authorities locking_authorities admin_pins locking_pins locking_ranges locking_mbr_controls admin_aces authority_aces pin_aces range_aces mbr_aces this_sp_grants admin_grants authority_grants fixed_ace_gets user_ace_grants read_locked_ace_grants write_locked_ace_grants done_ace_grants pin_grants range_grants mbr_grants first_lexeme expect number_at uid_at values_up_to list_with list_value_with named_with value_of list_at status_at call_at reply_at message_at message_in number_spelling bytes_spelling any_below ranges_in verdict_of is_range listed_among cells_for zeros sectors_from authorities_of_locking any_to
 is_abort = (refl, record { closes = refl; no_commit = refl })
 

@@ -19,10 +19,11 @@ use Rattle.tcg_tokens.specs.Tree as tree
 use Rattle.locking.specs.declared.range.Op.TheVariants as ops
 use Rattle.trusted_cmds.specs.declared.command.Command.TheVariants as commands
 use Rattle.audit.specs.declared.reason.Why.TheVariants.{ReadLocked}
-use Rattle.drive.specs.declared.reset.ResetKind.TheVariants.{Hardware}
+use Rattle.history.specs.declared.reset.ResetKind.TheVariants.{Hardware}
 use Rattle.history.specs.History.{Act, Accept as AcceptFis, event_by}
 use Rattle.history.proofs.DenialProofs.{denial_law}
 use Rattle.port_history.specs.Requests.{command_fis}
+use Rattle.history.proofs.QuietProofs.{tcg_quiet}
 use Rattle.headline.specs.Denials.{IsDeniedStep, lines_at}
 use Rattle.headline.proofs.AuditLaws.{denied_as}
 use Rattle.history.specs.Opening.{Origin}
@@ -36,6 +37,7 @@ use Rattle.port_history.specs.Steps.{trace, answer, audit}
 use Rattle.headline.specs.Steps.{past_of, facts_after, before_acceptance, before_move, through_move, ranges_after}
 use Rattle.headline.specs.Transfers.{IsAnswered, IsAllowed, transfer_of}
 use Rattle.headline.proofs.Scenes.{are_lawful, lawful, lays, brings, begins, says, by_admin}
+use Rattle.history.specs.Tcg.{tcg}
 use Rattle.headline.proofs.TransferLaws.{transfer_law}
 
 -- Of 1,000 sectors: range 1 is 100+10, its read lock enabled and set.
@@ -66,7 +68,7 @@ unfolding admin_sps admin_authorities locking_authorities admin_pins locking_pin
 read_denied = (refl, refl, refl, refl)
 
 -- The law applies to both: the first is allowed, the second is not.
-read_answered : IsAnswered locked permitted 0 (record { op = ops.Read; lba = 110; count = 1 }) (answers.Done (replicate 512 0))
+read_answered : IsAnswered tcg locked permitted 0 (record { op = ops.Read; lba = 110; count = 1 }) (answers.Done (replicate 512 0))
 unfolding admin_sps admin_authorities locking_authorities admin_pins locking_pins locking_ranges locking_mbr_controls admin_aces authority_aces pin_aces range_aces mbr_aces this_sp_grants admin_grants authority_grants fixed_ace_gets user_ace_grants read_locked_ace_grants write_locked_ace_grants done_ace_grants pin_grants range_grants mbr_grants first_lexeme expect number_at uid_at values_up_to list_with list_value_with named_with value_of list_at status_at call_at reply_at message_at message_in number_spelling bytes_spelling any_below ranges_in verdict_of is_range listed_among cells_for zeros sectors_from authorities_of_locking any_to
 read_answered = record {
   put = record { client = 1; number = 1; command = commands.ReadQueued 110 1 };
@@ -79,10 +81,10 @@ read_answered = record {
     no_reset : answers.Done (replicate 512 0) ≡ answers.Reset → ⊥
     no_reset e = cc
 
-read_allowed : IsAllowed (ranges_after locked (before_acceptance permitted 0)) (record { op = ops.Read; lba = 110; count = 1 })
+read_allowed : IsAllowed (ranges_after tcg locked (before_acceptance permitted 0)) (record { op = ops.Read; lba = 110; count = 1 })
 read_allowed =
     let fits : 110 + 1 ≤ 1000 = omega arith in
-    ((transfer_law locked permitted (lawful locked permitted read_done.0) 0 _ _ read_answered).served fits).0
+    ((transfer_law tcg tcg_quiet locked permitted (lawful locked permitted read_done.0) 0 _ _ read_answered).served fits).0
     (replicate 512 0, refl)
 
 -- Beyond the last sector.
@@ -101,7 +103,7 @@ written = brings 1 1 (ReadDma 105 1) ++ brings 1 0 (WriteDma 105 (replicate 512 
 
 write_done : (are_lawful locked written ≡ true)
     × (answer (trace locked written) 0 ≡ Some (answers.Done []))
-    × (sector (past_of locked written) 105 ≡ replicate 512 0xaa)
+    × (sector (past_of tcg locked written) 105 ≡ replicate 512 0xaa)
     × (answer (trace locked written) 1 ≡ Some (answers.Failed 0x51 0x04))
 unfolding admin_sps admin_authorities locking_authorities admin_pins locking_pins locking_ranges locking_mbr_controls admin_aces authority_aces pin_aces range_aces mbr_aces this_sp_grants admin_grants authority_grants fixed_ace_gets user_ace_grants read_locked_ace_grants write_locked_ace_grants done_ace_grants pin_grants range_grants mbr_grants first_lexeme expect number_at uid_at values_up_to list_with list_value_with named_with value_of list_at status_at call_at reply_at message_at message_in number_spelling bytes_spelling any_below ranges_in verdict_of is_range listed_among cells_for zeros sectors_from authorities_of_locking any_to
 write_done = (refl, refl, refl, refl)
@@ -148,7 +150,7 @@ denied_before = lays 1 0 (Read 109 2)
 denied_act : Act
 denied_act = AcceptFis (command_fis (commands.ReadQueued 109 2) 0) []
 
-denied_by : (event_by (facts_after locked denied_before) denied_act).denied ≡ Some (ReadLocked 109 2 1)
+denied_by : (event_by (facts_after tcg locked denied_before) denied_act).denied ≡ Some (ReadLocked 109 2 1)
 unfolding denied_act admin_sps admin_authorities locking_authorities admin_pins locking_pins locking_ranges locking_mbr_controls admin_aces authority_aces pin_aces range_aces mbr_aces this_sp_grants admin_grants authority_grants fixed_ace_gets user_ace_grants read_locked_ace_grants write_locked_ace_grants done_ace_grants pin_grants range_grants mbr_grants first_lexeme expect number_at uid_at values_up_to list_with list_value_with named_with value_of list_at status_at call_at reply_at message_at message_in number_spelling bytes_spelling any_below ranges_in verdict_of is_range listed_among cells_for zeros sectors_from authorities_of_locking any_to
 denied_by = refl
 
@@ -162,8 +164,8 @@ step_denied = record {
   its_client = refl;
   act = denied_act;
   does = refl;
-  denied = denied_as (facts_after locked denied_before) denied_act (ReadLocked 109 2 1)
-      ((denial_law (facts_after locked denied_before) denied_act (ReadLocked 109 2 1)).0 denied_by);
+  denied = denied_as (facts_after tcg locked denied_before) denied_act (ReadLocked 109 2 1)
+      ((denial_law (facts_after tcg locked denied_before) denied_act (ReadLocked 109 2 1)).0 denied_by);
 }
 
 its_line : (audit (trace locked denied) ≡ record { step = 3; client = 1; why = ReadLocked 109 2 1 } ∷ [])

@@ -17,6 +17,7 @@ use Rattle.port_history.specs.declared.step.Step.{Step}
 use Rattle.port_history.specs.declared.step.Step.TheVariants.{Put, Issue, Accept}
 use Rattle.port_history.specs.Refusals.{IsLawful, refusal, has_slot}
 use Rattle.port_history.specs.Steps.{trace}
+use Rattle.history.specs.Tcg.{tcg}
 use Rattle.headline.specs.Steps.{event_after}
 
 -- Each step of a list is lawful where it stands.
@@ -76,7 +77,7 @@ joined None = None
 joined (Some x) = x
 
 abbrev pub deed_of : Origin → List Step → Step → Option SessionDeed
-deed_of o before step = joined (option_map (λ (e : Event). in_session e.deed) (event_after o before step))
+deed_of o before step = joined (option_map (λ (e : Event). in_session e.deed) (event_after tcg o before step))
 
 abbrev pub denied_of : Origin → List Step → Step → Option Why
-denied_of o before step = joined (option_map (λ (e : Event). e.denied) (event_after o before step))
+denied_of o before step = joined (option_map (λ (e : Event). e.denied) (event_after tcg o before step))

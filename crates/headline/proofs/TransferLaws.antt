@@ -15,6 +15,10 @@ use Rattle.locking.proofs.Verdicts.{verdict_is}
 use Rattle.shadow_mbr.specs.Stored.{sector_size, sectors_from}
 use Rattle.transactions.specs.Bytes.{bytes_from}
 use Rattle.history.specs.Decisions.{on_drive, ranges_in_force}
+use Rattle.history.specs.Items.{Items}
+use Rattle.history.specs.Quiet.{IsQuiet}
+use Rattle.history.specs.Tcg.{tcg}
+use Rattle.history.proofs.QuietProofs.{tcg_quiet}
 use Rattle.history.specs.Facts.{Facts}
 use Rattle.history.specs.Opening.{Origin}
 use Rattle.history.specs.Readers.{held, failure}
@@ -24,7 +28,7 @@ use Rattle.port_history.specs.declared.request.Answer.{Answer}
 use Rattle.port_history.specs.declared.request.Answer.TheVariants as answers
 use Rattle.port_history.specs.declared.stages.Stage.TheVariants.{Answered}
 use Rattle.port_history.specs.declared.step.Step.{Step}
-use Rattle.port_history.specs.Steps.{payload, Moment, trace, events, failed, answer}
+use Rattle.port_history.specs.Steps.{payload, Moment, trace, events, failed, answer, trace_of}
 use Rattle.headline.proofs.Landed.{Lands, Landed, landed_by, landed}
 use Rattle.headline.specs.Steps.{past_of, through_move, facts_after, before_acceptance, before_move}
 use Rattle.headline.specs.Transfers.{Transfer, IsAnswered, IsDone, IsOnDrive, IsAllowed, GivesBytes, HaveData, IsServed, TransferLaw, TakenLaw}
@@ -120,26 +124,26 @@ by_verdict ranges g op lba count =
     }
 
 -- what an answered transfer was answered
-answered_so : (o : Origin) (list : List Step) (tag : ℕ) (x : Transfer) (a : Answer)
-    → Rattle.port_history.specs.Refusals.IsLawful o list → IsAnswered o list tag x a
-    → a ≡ answer_to (facts_after o (before_acceptance list tag)) (facts_after o (before_move list tag)) x
-answered_so o list tag x a lawful is =
+answered_so : (items : Items) (still : IsQuiet items) (o : Origin) (list : List Step) (tag : ℕ) (x : Transfer) (a : Answer)
+    → Rattle.port_history.specs.Refusals.AreLawful items o list → IsAnswered items o list tag x a
+    → a ≡ answer_to (facts_after items o (before_acceptance list tag)) (facts_after items o (before_move list tag)) x
+answered_so items still o list tag x a lawful is =
     by_settled
     (subst (λ (y : Option Transfer). IfSome y (λ z. ◌⊎◌ (answer ms tag ≡ Some answers.Reset) (answer ms tag ≡ Some (answer_to f g z))))
     is.asks here.it.1)
   where
     ms : List Moment
-    ms = trace o list
+    ms = trace_of items o list
 
     f : Facts
-    f = facts_after o (before_acceptance list tag)
+    f = facts_after items o (before_acceptance list tag)
 
     g : Facts
-    g = facts_after o (before_move list tag)
+    g = facts_after items o (before_move list tag)
 
     here : Comes tag (failed ms) (failure (events ms)) (held (events ms) tag) f g (answer ms tag)
         (Answered is.put)
-    here = comes_by refl refl refl refl refl refl (sym is.stands) (comes o list lawful tag)
+    here = comes_by refl refl refl refl refl refl (sym is.stands) (comes items still o list lawful tag)
 
     same : {b : Answer} → Some a ≡ Some b → a ≡ b
     same e = cc
@@ -149,12 +153,12 @@ answered_so o list tag x a lawful is =
     by_settled (inl r) = absurd (is.no_reset (same (sym is.answers ∙ r)))
     by_settled (inr r) = same (sym is.answers ∙ r)
 
-served_so : (o : Origin) (list : List Step) (tag : ℕ) (x : Transfer) (a : Answer)
-    → a ≡ answer_to (facts_after o (before_acceptance list tag)) (facts_after o (before_move list tag)) x
+served_so : (items : Items) (o : Origin) (list : List Step) (tag : ℕ) (x : Transfer) (a : Answer)
+    → a ≡ answer_to (facts_after items o (before_acceptance list tag)) (facts_after items o (before_move list tag)) x
     → (x.op ≡ Write → IsDone a
-    → HaveData (past_of o (through_move list tag)) x (payload (trace o list) tag))
-    → IsServed o list tag x a
-served_so o list tag x a is lands = record {
+    → HaveData (past_of items o (through_move list tag)) x (payload (trace_of items o list) tag))
+    → IsServed items o list tag x a
+served_so items o list tag x a is lands = record {
   served = λ fits. (
     λ d. law.0 (v.served.1 (subst IsDone (within fits) d)),
     λ p. subst IsDone (sym (within fits)) (v.served.0 (law.1 p)),
@@ -166,10 +170,10 @@ served_so o list tag x a is lands = record {
 }
   where
     f : Facts
-    f = facts_after o (before_acceptance list tag)
+    f = facts_after items o (before_acceptance list tag)
 
     g : Facts
-    g = facts_after o (before_move list tag)
+    g = facts_after items o (before_move list tag)
 
     ranges : RangeRows
     ranges = ranges_in_force f
@@ -201,24 +205,24 @@ served_so o list tag x a is lands = record {
         absurd (not_done (sym (is ∙ ap (λ (b : Bool). answer_at g x.op x.lba x.count b verdict) e) ∙ d))
 
 -- and what it wrote has landed
-landed_so : (o : Origin) (list : List Step) (tag : ℕ) (x : Transfer) (a : Answer)
-    → Rattle.port_history.specs.Refusals.IsLawful o list → IsAnswered o list tag x a
+landed_so : (items : Items) (still : IsQuiet items) (o : Origin) (list : List Step) (tag : ℕ) (x : Transfer) (a : Answer)
+    → Rattle.port_history.specs.Refusals.AreLawful items o list → IsAnswered items o list tag x a
     → x.op ≡ Write → IsDone a
-    → HaveData (past_of o (through_move list tag)) x (payload (trace o list) tag)
-landed_so o list tag x a lawful is write done =
-    (subst (λ (y : Option Transfer). IfSome y (λ z. Lands (past_of o (through_move list tag)) z (payload ms tag)
+    → HaveData (past_of items o (through_move list tag)) x (payload (trace_of items o list) tag)
+landed_so items still o list tag x a lawful is write done =
+    (subst (λ (y : Option Transfer). IfSome y (λ z. Lands (past_of items o (through_move list tag)) z (payload ms tag)
     (answer ms tag))) is.asks here.it) write done.0 (is.answers ∙ ap Some done.1)
   where
     ms : List Moment
-    ms = trace o list
+    ms = trace_of items o list
 
-    here : Landed (past_of o (through_move list tag)) (payload ms tag) (answer ms tag) (Answered is.put)
-    here = landed_by refl refl refl (sym is.stands) (landed o list lawful tag)
+    here : Landed (past_of items o (through_move list tag)) (payload ms tag) (answer ms tag) (Answered is.put)
+    here = landed_by refl refl refl (sym is.stands) (landed items still o list lawful tag)
 
 pub transfer_law : TransferLaw
-transfer_law o list lawful tag x a is =
-    served_so o list tag x a (answered_so o list tag x a lawful is)
-    (landed_so o list tag x a lawful is)
+transfer_law items still o list lawful tag x a is =
+    served_so items o list tag x a (answered_so items still o list tag x a lawful is)
+    (landed_so items still o list tag x a lawful is)
 
 -- what a client takes
 there : (x : Option Answer) (d : Answer) → is_some x ≡ true → x ≡ Some (unwrap_or x d)
@@ -227,7 +231,7 @@ there (Some a) d h = refl
 
 pub taken_law : TakenLaw
 taken_law o list tag lawful put x stands asks no_reset =
-    transfer_law o list lawful tag x _
+    transfer_law tcg tcg_quiet o list lawful tag x _
     (record {
       put = put;
       stands = stands;

@@ -7,6 +7,7 @@ use Rattle.call_shapes.specs.Asks.{uid_of}
 use Rattle.methods.specs.Laws.{IsAmong, IsDeniedBy}
 use Rattle.history.specs.Decisions.{ranges_in_force}
 use Rattle.history.specs.DenialLaws.{TransferDenied, MethodDenied, AttemptDenied, StartDenied}
+use Rattle.history.specs.Tcg.{tcg}
 use Rattle.history.specs.Facts.{Facts, standing}
 use Rattle.history.specs.History.{Act}
 use Rattle.history.specs.Opening.{Origin}
@@ -47,7 +48,7 @@ pub record IsDeniedStep (o : Origin) (before : List Step) (step : Step) (client 
   pub its_client : put.client ≡ client
   pub act : Act
   pub does : act_of (trace o before) step ≡ Some act
-  pub denied : IsDeniedAs (facts_after o before) act why
+  pub denied : IsDeniedAs (facts_after tcg o before) act why
 
 -- The lines that carry a number.
 abbrev pub lines_at : ℕ → List AuditLine → List AuditLine

@@ -27,7 +27,8 @@ use Rattle.methods.specs.Effects.{sp_of_row}
 use Rattle.methods.specs.Settings.{Setting}
 use Rattle.history.specs.Changes.{Sets}
 use Rattle.history.specs.Calls.{Judgement, Standing, asked, does, to_set}
-use Rattle.history.specs.Decisions.{answers, is_manager, is_session_com_id, Outcome, outcome_of, says}
+use Rattle.history.specs.Decisions.{is_session_com_id}
+use Rattle.history.specs.Tcg.{answers, is_manager, Outcome, outcome_of, says, tcg}
 use Rattle.history.specs.Events.{Attempt, SessionDeed, Unchanged, Tried, Changed, Activated, Reverted}
 use Rattle.history.specs.Facts.{Facts, session_named, standing}
 use Rattle.history.specs.MethodLaws.{IsGranted, takes_effect}
@@ -53,18 +54,18 @@ pub record IsCallStep (o : Origin) (before : List Step) (step : Step) (session :
   pub sends : put.command ≡ Send 1 com_id blocks true
   pub some : 0 < blocks
   pub of_sessions : is_session_com_id com_id ≡ true
-  pub free : (facts_after o before).waiting com_id ≡ None
+  pub free : (facts_after tcg o before).waiting com_id ≡ None
   pub frame : Frame
   pub framed : frame_in (payload (trace o before) tag) ≡ Ok frame
   pub addressed : frame.com_id ≡ com_id
   pub no_manager : is_manager frame.session ≡ false
-  pub named : session_named (facts_after o before) com_id frame.session ≡ Some session
+  pub named : session_named (facts_after tcg o before) com_id frame.session ≡ Some session
   pub status : List ℕ
   pub calls : message_in frame.payload ≡ Ok (call object method args status)
 
 -- The session's authorities, and what it sees.
 abbrev pub standing_at : Origin → List Step → Begun → Standing
-standing_at o before session = standing (facts_after o before) session
+standing_at o before session = standing (facts_after tcg o before) session
 
 -- Each column that the call names has an access entry that names it and whose expression is the
 -- postorder writing of a tree that is true of the session's authorities; where the call names no
@@ -111,13 +112,13 @@ refused_with why =
 
 -- The step does so, and leaves its response.
 pub record DoesSo (o : Origin) (before : List Step) (step : Step) (session : Begun) (object method : List ℕ) (args : Trees) (c : IsCallStep o before step session object method args) (x : Outcome) : Type 0 where
-  pub event : event_after o before step ≡ Some (answers c.com_id c.frame.session x)
+  pub event : event_after tcg o before step ≡ Some (answers c.com_id c.frame.session x)
 
 -- The columns of a Get: the pairs that it lists are those that have an entry, with the cells that
 -- the session sees.
 pub record Lists (o : Origin) (before : List Step) (step : Step) (session : Begun) (object method : List ℕ) (args : Trees) (c : IsCallStep o before step session object method args) (first last : ℕ) : Type 0 where
   pub cells : List (Column × Cell)
-  pub says : event_after o before step
+  pub says : event_after tcg o before step
       ≡ Some (answers c.com_id c.frame.session
       (says Unchanged (reply_of (list (trees_of (map cell_value cells)) ∷ []) success)))
   pub exactly : (column : Column) (cell : Cell) → IsAmong {A = Column × Cell} cells (column, cell)
@@ -130,11 +131,11 @@ pub record Lists (o : Origin) (before : List Step) (step : Step) (session : Begu
 pub record IsJudged (o : Origin) (before : List Step) (step : Step) (session : Begun) (object method : List ℕ) (args : Trees) (c : IsCallStep o before step session object method args) (ask : Ask) : Type 0 where
   pub granted : takes_effect (comes_to o before session object ask) ≡ true
       → DoesSo o before step session object method args c
-      (outcome_of (facts_after o before) session.sp (comes_to o before session object ask))
+      (outcome_of (facts_after tcg o before) session.sp (comes_to o before session object ask))
       ↔ IsGrantedAt o before session object method ask
   pub effect : takes_effect (comes_to o before session object ask) ≡ true
-      → EffectIs (facts_after o before) session (uid_of object) ask
-      (outcome_of (facts_after o before) session.sp (comes_to o before session object ask)).deed
+      → EffectIs (facts_after tcg o before) session (uid_of object) ask
+      (outcome_of (facts_after tcg o before) session.sp (comes_to o before session object ask)).deed
   pub refused : (IsGrantedAt o before session object method ask → ⊥)
       → (why : Why) × DoesSo o before step session object method args c (refused_with why)
   pub listed : (first last : ℕ) → ask ≡ GetCells first last

@@ -1,31 +1,32 @@
--- Words of a list of steps: what stood before the steps that a law speaks of. Lists have the newest
--- first.
+-- Words of a list of steps: what stood before the steps that a law speaks of, by what items do. Lists
+-- have the newest first.
 use Rattle.std.specs.Prelude.{ℕ, ◌==◌, Bool, false, List, [], ◌∷◌, Option, option_map, if◌then◌else◌}
 use Rattle.locking.specs.Range.{RangeRows}
 use Rattle.history.specs.Decisions.{ranges_in_force}
 use Rattle.history.specs.Events.{Event}
 use Rattle.history.specs.Facts.{Facts, facts}
+use Rattle.history.specs.Items.{Items}
 use Rattle.history.specs.Opening.{Origin}
 use Rattle.port_history.specs.declared.step.Step.{Step}
 use Rattle.port_history.specs.declared.step.Step.TheVariants as steps
-use Rattle.port_history.specs.Steps.{Effect, moment, trace, events}
+use Rattle.port_history.specs.Steps.{Effect, moment_of, trace_of, events}
 
 -- What the drive did in a list of steps, and what that says: rows and bytes in force, sessions,
 -- media.
-abbrev pub past_of : Origin → List Step → List Event
-past_of o list = events (trace o list)
+abbrev pub past_of : Items → Origin → List Step → List Event
+past_of items o list = events (trace_of items o list)
 
-abbrev pub facts_after : Origin → List Step → Facts
-facts_after o list = facts o (past_of o list)
+abbrev pub facts_after : Items → Origin → List Step → Facts
+facts_after items o list = facts o (past_of items o list)
 
 -- What a step did, after those before it.
-abbrev pub event_after : Origin → List Step → Step → Option Event
-event_after o before step =
-    option_map (λ (e : Effect). e.event) (moment o (trace o before) step).effect
+abbrev pub event_after : Items → Origin → List Step → Step → Option Event
+event_after items o before step =
+    option_map (λ (e : Effect). e.event) (moment_of items o (trace_of items o before) step).effect
 
 -- The ranges and the shadow by the rows in force.
-abbrev pub ranges_after : Origin → List Step → RangeRows
-ranges_after o list = ranges_in_force (facts_after o list)
+abbrev pub ranges_after : Items → Origin → List Step → RangeRows
+ranges_after items o list = ranges_in_force (facts_after items o list)
 
 -- The steps before a tag's latest acceptance.
 abbrev pub accepts : ℕ → Step → Bool

@@ -1,5 +1,6 @@
--- Transfers, over every lawful list of steps: one that the drive answers is served exactly where
--- every range that it touches permits it by the rows in force at its last acceptance.
+-- Transfers, over every lawful list of steps and whatever quiet items do: one that the drive answers
+-- is served exactly where every range that it touches permits it by the rows in force at its last
+-- acceptance.
 use Rattle.std.specs.Prelude.{◌≡◌, ◌≢◌, ◌↔◌, ℕ, ◌+◌, ◌*◌, ◌≤◌, ◌<◌, List, [], take, drop, unwrap_or, Option, Some, None}
 use Rattle.locking.specs.Range.{RangeRows}
 use Rattle.locking.specs.Verdict.{AreOpen, AreShadowed}
@@ -11,17 +12,20 @@ use Rattle.trusted_cmds.specs.declared.command.Command.{Command}
 use Rattle.trusted_cmds.specs.declared.command.Command.TheVariants.{ReadQueued, WriteQueued, ReadDma, WriteDma}
 use Rattle.history.specs.Events.{Event}
 use Rattle.history.specs.Facts.{Facts}
+use Rattle.history.specs.Items.{Items}
 use Rattle.history.specs.Opening.{Origin}
+use Rattle.history.specs.Quiet.{IsQuiet}
 use Rattle.history.specs.Readers.{sector}
+use Rattle.history.specs.Tcg.{tcg}
 use Rattle.history.specs.TransferLaws.{IsPermitted}
 use Rattle.port_history.specs.declared.request.Answer.{Answer}
 use Rattle.port_history.specs.declared.request.Answer.TheVariants.{Done, Failed, Reset}
 use Rattle.port_history.specs.declared.stages.Put.{Put}
 use Rattle.port_history.specs.declared.stages.Stage.TheVariants.{Answered}
 use Rattle.port_history.specs.declared.step.Step.{Step}
-use Rattle.port_history.specs.Refusals.{IsLawful}
+use Rattle.port_history.specs.Refusals.{AreLawful, IsLawful}
 use Rattle.port_history.specs.Requests.{no_bytes}
-use Rattle.port_history.specs.Steps.{trace, stage, payload, answer}
+use Rattle.port_history.specs.Steps.{trace_of, trace, stage, payload, answer}
 use Rattle.headline.specs.Steps.{past_of, facts_after, ranges_after, before_acceptance, before_move, through_move}
 
 -- A read or a write of so many sectors, from an address on.
@@ -40,11 +44,11 @@ transfer_of _ = None
 
 -- A client put it under a tag, and the drive answered it so: what a reset stopped is answered Reset,
 -- and the drive answered nothing.
-pub record IsAnswered (o : Origin) (list : List Step) (tag : ℕ) (x : Transfer) (a : Answer) : Type 0 where
+pub record IsAnswered (items : Items) (o : Origin) (list : List Step) (tag : ℕ) (x : Transfer) (a : Answer) : Type 0 where
   pub put : Put
-  pub stands : stage (trace o list) tag ≡ Answered put
+  pub stands : stage (trace_of items o list) tag ≡ Answered put
   pub asks : transfer_of put.command ≡ Some x
-  pub answers : answer (trace o list) tag ≡ Some a
+  pub answers : answer (trace_of items o list) tag ≡ Some a
   pub no_reset : a ≢ Reset
 
 abbrev pub IsDone : Answer → Type 0
@@ -77,31 +81,34 @@ HaveData past x content =
 -- It is done exactly where it is allowed by the rows in force at its last acceptance, with the bytes
 -- of the act that moved its data, by which media have those of a write; 51h 04h where it is not,
 -- 51h 10h where its addresses leave the drive. An earlier acceptance counts for nothing.
-pub record IsServed (o : Origin) (list : List Step) (tag : ℕ) (x : Transfer) (a : Answer) : Type 0 where
+pub record IsServed (items : Items) (o : Origin) (list : List Step) (tag : ℕ) (x : Transfer) (a : Answer) : Type 0 where
   pub served : IsOnDrive o x
-      → IsDone a ↔ IsAllowed (ranges_after o (before_acceptance list tag)) x
+      → IsDone a ↔ IsAllowed (ranges_after items o (before_acceptance list tag)) x
   pub bytes : (bytes : List ℕ) → a ≡ Done bytes
-      → GivesBytes (ranges_after o (before_acceptance list tag))
-      (facts_after o (before_move list tag)) x bytes
+      → GivesBytes (ranges_after items o (before_acceptance list tag))
+      (facts_after items o (before_move list tag)) x bytes
   pub written : x.op ≡ ops.Write → IsDone a
-      → HaveData (past_of o (through_move list tag)) x (payload (trace o list) tag)
+      → HaveData (past_of items o (through_move list tag)) x (payload (trace_of items o list) tag)
   pub denied : IsOnDrive o x
-      → (IsAllowed (ranges_after o (before_acceptance list tag)) x → ⊥) → a ≡ Failed 0x51 0x04
+      → (IsAllowed (ranges_after items o (before_acceptance list tag)) x → ⊥) → a ≡ Failed 0x51 0x04
   pub beyond : (IsOnDrive o x → ⊥) → a ≡ Failed 0x51 0x10
 
 -- All that a list of steps answered.
-abbrev pub AreServed : Origin → List Step → Type 0
-AreServed o list =
-    (tag : ℕ) (x : Transfer) (a : Answer) → IsAnswered o list tag x a → IsServed o list tag x a
+abbrev pub AreServed : Items → Origin → List Step → Type 0
+AreServed items o list =
+    (tag : ℕ) (x : Transfer) (a : Answer) → IsAnswered items o list tag x a
+    → IsServed items o list tag x a
 
 abbrev pub TransferLaw : Type 0
-TransferLaw = (o : Origin) (list : List Step) → IsLawful o list → AreServed o list
+TransferLaw =
+    (items : Items) → IsQuiet items → (o : Origin) (list : List Step) → AreLawful items o list
+    → AreServed items o list
 
--- And so what a client takes: where its command is a transfer, and no reset stopped it.
+-- And so, by the items of this drive, what a client takes: where its command is a transfer, and no reset stopped it.
 abbrev pub IsServedAnswer : Origin → List Step → ℕ → Answer → Type 0
 IsServedAnswer o list tag a =
     (put : Put) (x : Transfer) → stage (trace o list) tag ≡ Answered put
-    → transfer_of put.command ≡ Some x → a ≢ Reset → IsServed o list tag x a
+    → transfer_of put.command ≡ Some x → a ≢ Reset → IsServed tcg o list tag x a
 
 abbrev pub TakenLaw : Type 0
 TakenLaw =

@@ -48,7 +48,7 @@ use Rattle.call_shapes.specs.declared.ask.Ask.TheVariants.{GetCells, GetBytes, S
 use Rattle.history.specs.Events.{SessionDeed, Unchanged, Started, Tried, Changed, Began, Committed, Aborted, Ended, Activated, Reverted, Deed, Nothing, InSession, OfQueue, Wrote, Took, WasReset, Event}
 use Rattle.history.specs.Readers.{living, lives_by, restores, session_on, open_on, is_of, in_force}
 use Rattle.history.specs.Facts.{facts, numbered, live, has_open, standing}
-use Rattle.history.specs.Decisions.{refusal, Outcome, says, tried_in, start_verdict, deed_of_start, start_deed, started, is_method_of_manager, to_manager, outcome_of, judgement_on, begins_on, ended_by, ends_on, in_session}
+use Rattle.history.specs.Tcg.{refusal, Outcome, says, tried_in, start_verdict, deed_of_start, start_deed, started, is_method_of_manager, to_manager, outcome_of, judgement_on, begins_on, ended_by, ends_on, in_session}
 use Rattle.history.specs.Deeds.{IsIn, is_set_in_admin, is_of_row, is_inside, CanDo, DeedLaw}
 use Rattle.history.proofs.Words.{latest-here, latest-skip, sp-is, sp-same}
 use Rattle.history.proofs.Items.{item-from}

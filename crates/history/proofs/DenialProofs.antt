@@ -46,7 +46,8 @@ use Rattle.call_shapes.specs.declared.ask.Ask.{Ask}
 use Rattle.call_shapes.specs.declared.ask.Ask.TheVariants.{GetCells, GetBytes, SetCells, SetBytes, Authenticate, Activate, Revert, Other}
 use Rattle.history.specs.Events.{Unchanged, Nothing, Wrote, Took, HeldCommand, Event, did, WasReset}
 use Rattle.history.specs.Facts.{Facts, session_named, has_open, standing}
-use Rattle.history.specs.Decisions.{refusal, not_found, fails, refuses, aborted, fails_queue, on_drive, verdict_on, queued_by, admitted, unqueued_by, says, answers, tried_in, start_verdict, started_by, started, is_method_of_manager, to_manager, outcome_of, judgement_on, begins_on, ends_on, in_session, is_trusted, is_session_com_id, discovery_com_id, is_manager, to_session, framed, sent, send, received, unqueued, known, while_failed, is_busy, commanded, completed_by, completed, resets}
+use Rattle.history.specs.Decisions.{not_found, fails, refuses, aborted, fails_queue, on_drive, verdict_on, queued_by, admitted, unqueued_by, is_trusted, is_session_com_id, discovery_com_id, received, while_failed, is_busy, completed_by, completed, resets}
+use Rattle.history.specs.Tcg.{refusal, says, answers, tried_in, start_verdict, started_by, started, is_method_of_manager, to_manager, outcome_of, judgement_on, begins_on, ends_on, in_session, is_manager, to_session, framed, sent, send, unqueued, known, commanded, tcg}
 use Rattle.history.specs.History.{Act, Accept, Complete, Reset, event_by}
 use Rattle.history.specs.MethodLaws.{IsLookedAt, IsSent, IsCall}
 use Rattle.history.specs.DenialLaws.{Moves, read_queued, write_queued, read_dma, write_dma, IsFree, TransferDenied, MethodDenied, AttemptDenied, StartDenied, IsDenied, DenialLaw}
@@ -55,7 +56,7 @@ use Rattle.sp_cells.specs.Resets.{programmatic}
 
 -- forward: each of the four is denied for its reason
 
-moved : (f : Facts) (h : RegH2d) (payload : List ℕ) (command : Command) (tag : Option ℕ) (op : Op) (lba count : ℕ) (why : Why) → Moves command tag op lba count → IsFree f tag → on_drive f lba count ≡ true → verdict_on f op lba count ≡ Denied why → (looked_event f h payload command tag).denied ≡ Some why
+moved : (f : Facts) (h : RegH2d) (payload : List ℕ) (command : Command) (tag : Option ℕ) (op : Op) (lba count : ℕ) (why : Why) → Moves command tag op lba count → IsFree f tag → on_drive f lba count ≡ true → verdict_on f op lba count ≡ Denied why → (looked_event tcg f h payload command tag).denied ≡ Some why
 moved f h payload c tag op lba count why (read_queued {lba = l} {count = n} {tag = t}) free drive v =
     ap (λ x. (admitted f h t (ReadQueued l n) (is_some x)).denied) free
     ∙ ap (λ b. (cond b (queued_by h t (ReadQueued l n) (verdict_on f Read l n)) (fails_queue (Some t) not_found h None)).denied) drive
@@ -73,7 +74,7 @@ moved f h payload c tag op lba count why (write_dma {lba = l} {count = n}) free 
 
 transfer-denied : (f : Facts) (act : Act) (why : Why) → TransferDenied f act why → (event_by f act).denied ≡ Some why
 transfer-denied f act why d =
-    ap (λ (e : Event). e.denied) (looked_law f act d.command d.tag d.looked)
+    ap (λ (e : Event). e.denied) (looked_law tcg f act d.command d.tag d.looked)
     ∙ moved f (h2d_at d.looked.fis) d.looked.payload d.command d.tag d.op d.lba d.count why d.moves d.free d.on_drive d.verdict
 
 method-denied : (f : Facts) (act : Act) (why : Why) → MethodDenied f act why → (event_by f act).denied ≡ Some why
@@ -332,7 +333,7 @@ unqueued-is f act why Identify looked h = absurd (nothing h)
 unqueued-is f act why (ReadLog10 d) looked h = absurd (nothing h)
 unqueued-is f act why Flush looked h = absurd (nothing h)
 
-looked-is : (f : Facts) (act : Act) (why : Why) (command : Command) (tag : Option ℕ) (looked : IsLookedAt f act command tag) → (looked_event f (h2d_at looked.fis) looked.payload command tag).denied ≡ Some why → IsDenied f act why
+looked-is : (f : Facts) (act : Act) (why : Why) (command : Command) (tag : Option ℕ) (looked : IsLookedAt f act command tag) → (looked_event tcg f (h2d_at looked.fis) looked.payload command tag).denied ≡ Some why → IsDenied f act why
 looked-is f act why command None looked h = unqueued-is f act why command looked h
 looked-is f act why command (Some tag) looked h = by_held (f.held tag) refl h
   where

@@ -7,10 +7,6 @@ use Rattle.fis.specs.declared.h2d.RegH2d.{RegH2d}
 use Rattle.locking.specs.declared.range.Op.{Op}
 use Rattle.locking.specs.declared.range.Op.TheVariants.{Read, Write}
 use Rattle.trusted_cmds.specs.Commands.{is_queued, tag_of, sector_size}
-use Rattle.compacket.specs.declared.session.Session.{Session}
-use Rattle.compacket.specs.declared.error.FrameError.{FrameError}
-use Rattle.compacket.specs.Frames.{Frame, reading as frame_in}
-use Rattle.tcg_tokens.specs.Reading.{reading as message_in}
 use Rattle.history.specs.Opening.{Origin}
 use Rattle.trusted_cmds.specs.declared.command.Command.{Command}
 use Rattle.trusted_cmds.specs.declared.command.Command.TheVariants.{ReadQueued, WriteQueued, ReadDma, WriteDma, Send, Receive, Identify, ReadLog10, Flush}
@@ -18,18 +14,20 @@ use Rattle.trusted_cmds.specs.declared.command.CommandError.{CommandError}
 use Rattle.trusted_cmds.specs.Commands.{fault_of, read_unless, reading}
 use Rattle.locking.specs.declared.ranges.Verdict.{Verdict}
 use Rattle.locking.specs.declared.ranges.Verdict.TheVariants.{Serve, Shadow, Denied}
-use Rattle.history.specs.Sessions.{Begun}
 use Rattle.device_data.specs.declared.log_page.Failure.{Failure}
 use Rattle.history.specs.Events.{HeldCommand, Held, Completed, CompletedWrite, QueueFailed, QueueMended, Deed, Nothing, InSession, OfQueue, Wrote, Took, WasReset, Event, did}
 use Rattle.history.specs.Readers.{holding, held}
-use Rattle.history.specs.Facts.{Facts, facts, session_named}
-use Rattle.history.specs.Decisions.{not_found, aborted, fails, refuses, fails_queue, on_drive, ranges_in_force, verdict_on, queued_by, admitted, unqueued_by, answers, to_manager, is_trusted, is_session_com_id, discovery_com_id, is_manager, to_session, framed, sent, received, unqueued, known, while_failed, is_busy, commanded, completed_by, completed, resets, send}
+use Rattle.history.specs.Facts.{Facts, facts}
+use Rattle.history.specs.Decisions.{not_found, aborted, fails, refuses, fails_queue, on_drive, ranges_in_force, verdict_on, queued_by, admitted, unqueued_by, is_trusted, is_session_com_id, discovery_com_id, received, while_failed, is_busy, completed_by, completed, resets, unqueued_of, known_of, commanded_of}
+use Rattle.history.specs.Items.{Items}
+use Rattle.history.specs.Quiet.{IsQuiet}
 use Rattle.history.specs.Answers.{is_holding}
-use Rattle.history.specs.History.{Act, Accept, Complete, Reset, event, event_by, log}
+use Rattle.history.specs.History.{Act, Accept, Complete, Reset, event_in, event_of, log_of}
 use Rattle.history.specs.MethodLaws.{IsLookedAt}
 use Rattle.history.specs.DenialLaws.{Moves, read_queued, write_queued}
 use Rattle.history.specs.TransferLaws.{TagLaw, is_denied, WasAccepted, HeldLaw}
 use Rattle.history.proofs.Words.{latest-here, latest-skip}
+use Rattle.history.proofs.QuietProofs.{quiet-none}
 use Rattle.history.proofs.TransferProofs.{verdict_law}
 use Rattle.sp_cells.specs.Resets.{programmatic}
 
@@ -73,29 +71,18 @@ unqueued_by-none d Serve h = h
 unqueued_by-none d Shadow h = h
 unqueued_by-none d (Denied why) h = refl
 
-to_session-none : (f : Facts) (com_id : ℕ) (named : Session) (payload : List ℕ) (x : Option Begun) → is_holding (to_session f com_id named payload x).deed ≡ false
-to_session-none f com_id named payload None = refl
-to_session-none f com_id named payload (Some s) = refl
-
-sent-none : (f : Facts) (com_id : ℕ) (r : Result Frame FrameError) → is_holding (sent f com_id r).deed ≡ false
-sent-none f com_id (Err e) = refl
-sent-none f com_id (Ok frame) =
-    none-if (frame.com_id == com_id) (framed f com_id frame) (did Nothing)
-    (none-if (is_manager frame.session) (answers com_id frame.session (to_manager f com_id (message_in frame.payload))) (to_session f com_id frame.session frame.payload (session_named f com_id frame.session)) refl (to_session-none f com_id frame.session frame.payload (session_named f com_id frame.session)))
-    refl
-
 received-none : (com_id blocks : ℕ) (x : Option (List ℕ)) → is_holding (received com_id blocks x).deed ≡ false
 received-none com_id blocks None = refl
 received-none com_id blocks (Some r) = none-if (nat_le (length r) (sector_size * blocks)) (did (Took com_id)) (did Nothing) refl refl
 
-unqueued-none : (f : Facts) (payload : List ℕ) (c : Command) → is_holding (unqueued f payload c).deed ≡ false
-unqueued-none f payload (ReadDma l n) = none-if (on_drive f l n) (unqueued_by Nothing (verdict_on f Read l n)) (fails not_found None) (unqueued_by-none Nothing (verdict_on f Read l n) refl) refl
-unqueued-none f payload (WriteDma l n) = none-if (on_drive f l n) (unqueued_by (Wrote l payload) (verdict_on f Write l n)) (fails not_found None) (unqueued_by-none (Wrote l payload) (verdict_on f Write l n) refl) refl
-unqueued-none f payload (Send p c b d) =
-    none-if (resets f.rows (Send p c b d)) (did (WasReset programmatic)) (send f p c b payload) refl
-    (none-if (is_trusted p b && is_session_com_id c && not (is_some (f.waiting c))) (sent f c (frame_in payload)) refuses (sent-none f c (frame_in payload)) refl)
-unqueued-none f payload (Receive p c b d) = none-if (is_trusted p b && (is_session_com_id c || c == discovery_com_id)) (received c b (f.waiting c)) refuses (received-none c b (f.waiting c)) refl
-unqueued-none f payload _ = refl
+unqueued-none : (items : Items) (still : IsQuiet items) (f : Facts) (payload : List ℕ) (c : Command) → is_holding (unqueued_of items f payload c).deed ≡ false
+unqueued-none items still f payload (ReadDma l n) = none-if (on_drive f l n) (unqueued_by Nothing (verdict_on f Read l n)) (fails not_found None) (unqueued_by-none Nothing (verdict_on f Read l n) refl) refl
+unqueued-none items still f payload (WriteDma l n) = none-if (on_drive f l n) (unqueued_by (Wrote l payload) (verdict_on f Write l n)) (fails not_found None) (unqueued_by-none (Wrote l payload) (verdict_on f Write l n) refl) refl
+unqueued-none items still f payload (Send p c b d) =
+    none-if (resets f.rows (Send p c b d)) (did (WasReset programmatic)) (items.sends f p c b payload) refl
+    (quiet-none (items.sends f p c b payload).deed (still f p c b payload))
+unqueued-none items still f payload (Receive p c b d) = none-if (is_trusted p b && (is_session_com_id c || c == discovery_com_id)) (received c b (f.waiting c)) refuses (received-none c b (f.waiting c)) refl
+unqueued-none items still f payload _ = refl
 
 -- an act that holds a command
 record HeldBy (f : Facts) (act : Act) (tag : ℕ) (h : HeldCommand) : Type 0 where
@@ -139,31 +126,31 @@ while_failed-none : (r : Result (Command × Option ℕ) CommandError) → is_hol
 while_failed-none (Ok (ReadLog10 dma, tag)) = refl
 while_failed-none _ = refl
 
-accept-is : (f : Facts) (fis payload : List ℕ) (tag : ℕ) (h : HeldCommand) → (event_by f (Accept fis payload)).deed ≡ OfQueue (Held tag h) → HeldBy f (Accept fis payload) tag h
-accept-is f fis payload tag h g = by_kind (slice_index fis 0 == h2d_type) refl g
+accept-is : (items : Items) (still : IsQuiet items) (f : Facts) (fis payload : List ℕ) (tag : ℕ) (h : HeldCommand) → (event_in items f (Accept fis payload)).deed ≡ OfQueue (Held tag h) → HeldBy f (Accept fis payload) tag h
+accept-is items still f fis payload tag h g = by_kind (slice_index fis 0 == h2d_type) refl g
   where
     c : RegH2d
     c = h2d_at fis
 
-    by_reading : (slice_index fis 0 == h2d_type) ≡ true → c.is_command ≡ true → f.failure ≡ None → (is_busy f && not (is_queued c.command)) ≡ false → (r : Result (Command × Option ℕ) CommandError) → reading c ≡ r → (known f c payload r).deed ≡ OfQueue (Held tag h) → HeldBy f (Accept fis payload) tag h
+    by_reading : (slice_index fis 0 == h2d_type) ≡ true → c.is_command ≡ true → f.failure ≡ None → (is_busy f && not (is_queued c.command)) ≡ false → (r : Result (Command × Option ℕ) CommandError) → reading c ≡ r → (known_of items f c payload r).deed ≡ OfQueue (Held tag h) → HeldBy f (Accept fis payload) tag h
     by_reading kind commands mended unmixed (Err e) is k = absurd (not-held (none-if (is_queued c.command) (fails_queue (Some (tag_of c)) aborted c None) refuses refl refl) k)
-    by_reading kind commands mended unmixed (Ok (command, None)) is k = absurd (not-held (unqueued-none f payload command) k)
+    by_reading kind commands mended unmixed (Ok (command, None)) is k = absurd (not-held (unqueued-none items still f payload command) k)
     by_reading kind commands mended unmixed (Ok (command, Some t)) is k =
         admitted-is f (Accept fis payload) tag t h command (record { fis = fis; payload = payload; accepts = refl; kind = eqb-true (slice_index fis 0) h2d_type kind; commands = commands; mended = mended; unmixed = unmixed; reads = is }) (is_some (f.held t)) k
 
-    by_mix : (slice_index fis 0 == h2d_type) ≡ true → c.is_command ≡ true → f.failure ≡ None → (b : Bool) → (is_busy f && not (is_queued c.command)) ≡ b → (cond b (fails_queue None aborted c None) (known f c payload (reading c))).deed ≡ OfQueue (Held tag h) → HeldBy f (Accept fis payload) tag h
+    by_mix : (slice_index fis 0 == h2d_type) ≡ true → c.is_command ≡ true → f.failure ≡ None → (b : Bool) → (is_busy f && not (is_queued c.command)) ≡ b → (cond b (fails_queue None aborted c None) (known_of items f c payload (reading c))).deed ≡ OfQueue (Held tag h) → HeldBy f (Accept fis payload) tag h
     by_mix kind commands mended true is k = absurd (not-held refl k)
     by_mix kind commands mended false is k = by_reading kind commands mended is (reading c) refl k
 
-    by_failure : (slice_index fis 0 == h2d_type) ≡ true → c.is_command ≡ true → (x : Option Failure) → f.failure ≡ x → (cond (is_some x) (while_failed (reading c)) (cond (is_busy f && not (is_queued c.command)) (fails_queue None aborted c None) (known f c payload (reading c)))).deed ≡ OfQueue (Held tag h) → HeldBy f (Accept fis payload) tag h
+    by_failure : (slice_index fis 0 == h2d_type) ≡ true → c.is_command ≡ true → (x : Option Failure) → f.failure ≡ x → (cond (is_some x) (while_failed (reading c)) (cond (is_busy f && not (is_queued c.command)) (fails_queue None aborted c None) (known_of items f c payload (reading c)))).deed ≡ OfQueue (Held tag h) → HeldBy f (Accept fis payload) tag h
     by_failure kind commands (Some x) is k = absurd (not-held (while_failed-none (reading c)) k)
     by_failure kind commands None is k = by_mix kind commands is (is_busy f && not (is_queued c.command)) refl k
 
-    by_command : (slice_index fis 0 == h2d_type) ≡ true → (b : Bool) → c.is_command ≡ b → (cond (not b) refuses (cond (is_some f.failure) (while_failed (reading c)) (cond (is_busy f && not (is_queued c.command)) (fails_queue None aborted c None) (known f c payload (reading c))))).deed ≡ OfQueue (Held tag h) → HeldBy f (Accept fis payload) tag h
+    by_command : (slice_index fis 0 == h2d_type) ≡ true → (b : Bool) → c.is_command ≡ b → (cond (not b) refuses (cond (is_some f.failure) (while_failed (reading c)) (cond (is_busy f && not (is_queued c.command)) (fails_queue None aborted c None) (known_of items f c payload (reading c))))).deed ≡ OfQueue (Held tag h) → HeldBy f (Accept fis payload) tag h
     by_command kind false is k = absurd (not-held refl k)
     by_command kind true is k = by_failure kind is f.failure refl k
 
-    by_kind : (b : Bool) → (slice_index fis 0 == h2d_type) ≡ b → (cond b (commanded f c payload) refuses).deed ≡ OfQueue (Held tag h) → HeldBy f (Accept fis payload) tag h
+    by_kind : (b : Bool) → (slice_index fis 0 == h2d_type) ≡ b → (cond b (commanded_of items f c payload) refuses).deed ≡ OfQueue (Held tag h) → HeldBy f (Accept fis payload) tag h
     by_kind false is k = absurd (not-held refl k)
     by_kind true is k = by_command is c.is_command refl k
 
@@ -175,8 +162,8 @@ completed-none tag payload (Some h) = by_command h.command
     by_command (WriteQueued l n) = refl
     by_command _ = refl
 
-later : (o : Origin) (act : Act) (acts : List Act) (tag : ℕ) (h : HeldCommand) → WasAccepted o acts tag h → WasAccepted o (act ∷ acts) tag h
-later o act acts tag h w = record {
+later : (items : Items) (o : Origin) (act : Act) (acts : List Act) (tag : ℕ) (h : HeldCommand) → WasAccepted items o acts tag h → WasAccepted items o (act ∷ acts) tag h
+later items o act acts tag h w = record {
   before = w.before;
   later = act ∷ w.later;
   fis = w.fis;
@@ -192,11 +179,11 @@ later o act acts tag h w = record {
   permitted = w.permitted;
 }
 
-here : (o : Origin) (act : Act) (acts : List Act) (tag : ℕ) (h : HeldCommand) → (event o (log o acts) act).deed ≡ OfQueue (Held tag h) → WasAccepted o (act ∷ acts) tag h
-here o (Complete t payload) acts tag h g = absurd (not-held (completed-none t payload (held (log o acts) t)) g)
-here o (Reset kind) acts tag h g = absurd (not-held refl g)
-here o (Accept fis payload) acts tag h g =
-    let w = accept-is (facts o (log o acts)) fis payload tag h g in
+here : (items : Items) (still : IsQuiet items) (o : Origin) (act : Act) (acts : List Act) (tag : ℕ) (h : HeldCommand) → (event_of items o (log_of items o acts) act).deed ≡ OfQueue (Held tag h) → WasAccepted items o (act ∷ acts) tag h
+here items still o (Complete t payload) acts tag h g = absurd (not-held (completed-none t payload (held (log_of items o acts) t)) g)
+here items still o (Reset kind) acts tag h g = absurd (not-held refl g)
+here items still o (Accept fis payload) acts tag h g =
+    let w = accept-is items still (facts o (log_of items o acts)) fis payload tag h g in
     record {
       before = acts;
       later = [];
@@ -210,20 +197,20 @@ here o (Accept fis payload) acts tag h g =
       moves = w.moves;
       on_drive = w.on_drive;
       verdict = w.verdict;
-      permitted = (verdict_law (ranges_in_force (facts o (log o acts))) w.op w.lba w.count).served.0 (ap is_denied w.verdict ∙ w.served);
+      permitted = (verdict_law (ranges_in_force (facts o (log_of items o acts))) w.op w.lba w.count).served.0 (ap is_denied w.verdict ∙ w.served);
     }
 
-held-step : (o : Origin) (act : Act) (acts : List Act) (tag : ℕ) (h : HeldCommand) → (x : Option (Option HeldCommand)) → holding tag (event o (log o acts) act).deed ≡ x → held (log o (act ∷ acts)) tag ≡ Some h → (held (log o acts) tag ≡ Some h → WasAccepted o acts tag h) → WasAccepted o (act ∷ acts) tag h
-held-step o act acts tag h None is g before = later o act acts tag h (before (sym (ap (λ y. unwrap_or y None) (latest-skip (holding tag) (event o (log o acts) act) (log o acts) is)) ∙ g))
-held-step o act acts tag h (Some x) is g before =
-    here o act acts tag h (holds-is tag (event o (log o acts) act).deed h (is ∙ ap (λ y. Some y) (sym (ap (λ y. unwrap_or y None) (latest-here (holding tag) (event o (log o acts) act) (log o acts) x is)) ∙ g)))
+held-step : (items : Items) (still : IsQuiet items) (o : Origin) (act : Act) (acts : List Act) (tag : ℕ) (h : HeldCommand) → (x : Option (Option HeldCommand)) → holding tag (event_of items o (log_of items o acts) act).deed ≡ x → held (log_of items o (act ∷ acts)) tag ≡ Some h → (held (log_of items o acts) tag ≡ Some h → WasAccepted items o acts tag h) → WasAccepted items o (act ∷ acts) tag h
+held-step items still o act acts tag h None is g before = later items o act acts tag h (before (sym (ap (λ y. unwrap_or y None) (latest-skip (holding tag) (event_of items o (log_of items o acts) act) (log_of items o acts) is)) ∙ g))
+held-step items still o act acts tag h (Some x) is g before =
+    here items still o act acts tag h (holds-is tag (event_of items o (log_of items o acts) act).deed h (is ∙ ap (λ y. Some y) (sym (ap (λ y. unwrap_or y None) (latest-here (holding tag) (event_of items o (log_of items o acts) act) (log_of items o acts) x is)) ∙ g)))
 
 pub held_law : HeldLaw
-held_law o [] tag h g = absurd (nothing g)
+held_law items still o [] tag h g = absurd (nothing g)
   where
     nothing : {x : HeldCommand} → None ≡ Some x → ⊥
     nothing k = cc
-held_law o (act ∷ acts) tag h g = held-step o act acts tag h (holding tag (event o (log o acts) act).deed) refl g (held_law o acts tag h)
+held_law items still o (act ∷ acts) tag h g = held-step items still o act acts tag h (holding tag (event_of items o (log_of items o acts) act).deed) refl g (held_law items still o acts tag h)
 
 -- the tag of a FIS is below 32
 tag-below : (n tag : ℕ) → n % 32 ≡ tag → tag < 32
@@ -250,4 +237,4 @@ read-tag h c tag None g = by_code (is_queued h.command) (ok-tag g)
     by_code false k = cc
 
 pub tag_law : TagLaw
-tag_law o acts tag h g = let w = held_law o acts tag h g in read-tag (h2d_at w.looked.fis) h.command tag (fault_of (h2d_at w.looked.fis)) w.looked.reads
+tag_law items still o acts tag h g = let w = held_law items still o acts tag h g in read-tag (h2d_at w.looked.fis) h.command tag (fault_of (h2d_at w.looked.fis)) w.looked.reads

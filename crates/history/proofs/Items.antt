@@ -24,7 +24,8 @@ use Rattle.locking.specs.declared.ranges.Verdict.TheVariants.{Serve, Shadow, Den
 use Rattle.history.specs.Sessions.{Begun}
 use Rattle.history.specs.Events.{SessionDeed, Response, HeldCommand, Deed, Nothing, InSession, Wrote, Event, or_else, WasReset, did}
 use Rattle.history.specs.Facts.{Facts, is_named, if_named, session_named}
-use Rattle.history.specs.Decisions.{aborted, not_found, fails, refuses, fails_queue, on_drive, verdict_on, queued_by, queued_transfer, admitted, unqueued_by, unqueued_transfer, answers, to_manager, in_session, is_trusted, is_session_com_id, discovery_com_id, is_manager, to_session, framed, sent, received, unqueued, known, while_failed, is_busy, commanded, completed_by, completed, resets}
+use Rattle.history.specs.Decisions.{aborted, not_found, fails, refuses, fails_queue, on_drive, verdict_on, queued_by, queued_transfer, admitted, unqueued_by, unqueued_transfer, is_trusted, is_session_com_id, discovery_com_id, received, while_failed, is_busy, completed_by, completed, resets}
+use Rattle.history.specs.Tcg.{answers, to_manager, in_session, is_manager, to_session, framed, sent, unqueued, known, commanded}
 use Rattle.history.specs.History.{Act, Accept, Complete, Reset, event_by}
 use Rattle.sp_cells.specs.Resets.{programmatic}
 

@@ -29,7 +29,7 @@ use Rattle.history.specs.Sessions.{Begun}
 use Rattle.history.specs.Events.{Attempt, SessionDeed, Unchanged, Activated, Event, or_else}
 use Rattle.history.specs.Readers.{session_on, authorities}
 use Rattle.history.specs.Facts.{Facts, facts}
-use Rattle.history.specs.Decisions.{gains_of, outcome_of, judgement_on}
+use Rattle.history.specs.Tcg.{gains_of, outcome_of, judgement_on}
 use Rattle.history.specs.History.{log}
 use Rattle.history.specs.KeptStore.{StoresAttempt, StoresAs, StoresSetting}
 use Rattle.history.specs.KeptSessions.{IsKeptAs, if_number, session_numbered, KeepsSessions, GainsAt, LivesAs, id_of}

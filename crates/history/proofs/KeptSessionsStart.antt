@@ -28,7 +28,7 @@ use Rattle.history.specs.Sessions.{Begun}
 use Rattle.history.specs.Events.{Attempt, Event}
 use Rattle.history.specs.Readers.{session_on}
 use Rattle.history.specs.Facts.{Facts, facts, numbered, live}
-use Rattle.history.specs.Decisions.{start_verdict, deed_of_start, start_deed}
+use Rattle.history.specs.Tcg.{start_verdict, deed_of_start, start_deed}
 use Rattle.history.specs.KeptStore.{with_count, StoresAs}
 use Rattle.history.specs.KeptSessions.{session_numbered, KeepsSessions, GainsAt, LivesAs}
 use Rattle.history.specs.KeptCalls.{wipes_by, StartLaw}

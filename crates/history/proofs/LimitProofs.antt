@@ -25,7 +25,7 @@ use Rattle.call_shapes.specs.Named.{values_of}
 use Rattle.sp_cells.specs.Flat.{LookUp}
 use Rattle.history.specs.Events.{SessionDeed, Unchanged, Tried, Activated}
 use Rattle.history.specs.Facts.{live, has_open, Facts}
-use Rattle.history.specs.Decisions.{refusal, Outcome, says, start_verdict, deed_of_start, start_deed, started, is_method_of_manager, to_manager, outcome_of, judgement_on, begins_on, ends_on, in_session}
+use Rattle.history.specs.Tcg.{refusal, Outcome, says, start_verdict, deed_of_start, start_deed, started, is_method_of_manager, to_manager, outcome_of, judgement_on, begins_on, ends_on, in_session}
 use Rattle.history.proofs.Items.{item-from}
 use Rattle.sp_cells.specs.Ranges.{number}
 use Rattle.audit.specs.declared.reason.AttemptFailure.TheVariants.{WrongPin, LockedOut, Disabled, Unknown}

@@ -33,9 +33,11 @@ use Rattle.methods.specs.Laws.{EachHasAce}
 use Rattle.methods.proofs.GrantLaws.{grant_law as grants}
 use Rattle.history.specs.Calls.{Standing, Judgement, Refuses, Gives, Makes, Attempts, Activates, Reverts, denial, does, unless_denied, judged}
 use Rattle.history.specs.Events.{Event, Nothing, did, WasReset}
+use Rattle.history.specs.Items.{Items}
 use Rattle.history.specs.Facts.{Facts, standing, session_named}
-use Rattle.history.specs.Decisions.{outcome_of, tried_in, admitted, unqueued, fails_queue, refuses, aborted, answers, to_manager, to_session, in_session, framed, sent, while_failed, is_busy, known, commanded, resets, send, is_trusted, is_session_com_id}
-use Rattle.history.specs.History.{Act, event_by}
+use Rattle.history.specs.Decisions.{admitted, fails_queue, refuses, aborted, while_failed, is_busy, resets, is_trusted, is_session_com_id, unqueued_of, known_of, commanded_of}
+use Rattle.history.specs.Tcg.{outcome_of, tried_in, unqueued, answers, to_manager, to_session, in_session, framed, sent, known, commanded, send, tcg}
+use Rattle.history.specs.History.{Act, event_by, event_in}
 use Rattle.history.specs.MethodLaws.{EffectLaw, IsGranted, takes_effect, GrantLaw, IsLookedAt, IsSent, CallLaw}
 use Rattle.sp_cells.specs.Resets.{programmatic}
 
@@ -97,24 +99,24 @@ grant_law s object method ask =
     }
 
 -- what is looked at
-abbrev pub looked_event : (f : Facts) (h : RegH2d) (payload : List ℕ) (command : Command) → Option ℕ → Event
-looked_event f h payload command (Some tag) = admitted f h tag command (is_some (f.held tag))
-looked_event f h payload command None = unqueued f payload command
+abbrev pub looked_event : (items : Items) (f : Facts) (h : RegH2d) (payload : List ℕ) (command : Command) → Option ℕ → Event
+looked_event items f h payload command (Some tag) = admitted f h tag command (is_some (f.held tag))
+looked_event items f h payload command None = unqueued_of items f payload command
 
-known-looked : (f : Facts) (h : RegH2d) (payload : List ℕ) (command : Command) (tag : Option ℕ) → known f h payload (Ok (command, tag)) ≡ looked_event f h payload command tag
-known-looked f h payload command (Some tag) = refl
-known-looked f h payload command None = refl
+known-looked : (items : Items) (f : Facts) (h : RegH2d) (payload : List ℕ) (command : Command) (tag : Option ℕ) → known_of items f h payload (Ok (command, tag)) ≡ looked_event items f h payload command tag
+known-looked items f h payload command (Some tag) = refl
+known-looked items f h payload command None = refl
 
-pub looked_law : (f : Facts) (act : Act) (command : Command) (tag : Option ℕ) (c : IsLookedAt f act command tag) → event_by f act ≡ looked_event f (h2d_at c.fis) c.payload command tag
-looked_law f act command tag c =
+pub looked_law : (items : Items) (f : Facts) (act : Act) (command : Command) (tag : Option ℕ) (c : IsLookedAt f act command tag) → event_in items f act ≡ looked_event items f (h2d_at c.fis) c.payload command tag
+looked_law items f act command tag c =
     let h = h2d_at c.fis in
-    ap (event_by f) c.accepts
-    ∙ ap (λ b. cond b (commanded f h c.payload) refuses) (eq-eqb (slice_index c.fis 0) 0x27 c.kind)
-    ∙ ap (λ b. cond (not b) refuses (cond (is_some f.failure) (while_failed (reading h)) (cond (is_busy f && not (is_queued h.command)) (fails_queue None aborted h None) (known f h c.payload (reading h))))) c.commands
-    ∙ ap (λ x. cond (is_some x) (while_failed (reading h)) (cond (is_busy f && not (is_queued h.command)) (fails_queue None aborted h None) (known f h c.payload (reading h)))) c.mended
-    ∙ ap (λ b. cond b (fails_queue None aborted h None) (known f h c.payload (reading h))) c.unmixed
-    ∙ ap (known f h c.payload) c.reads
-    ∙ known-looked f h c.payload command tag
+    ap (event_in items f) c.accepts
+    ∙ ap (λ b. cond b (commanded_of items f h c.payload) refuses) (eq-eqb (slice_index c.fis 0) 0x27 c.kind)
+    ∙ ap (λ b. cond (not b) refuses (cond (is_some f.failure) (while_failed (reading h)) (cond (is_busy f && not (is_queued h.command)) (fails_queue None aborted h None) (known_of items f h c.payload (reading h))))) c.commands
+    ∙ ap (λ x. cond (is_some x) (while_failed (reading h)) (cond (is_busy f && not (is_queued h.command)) (fails_queue None aborted h None) (known_of items f h c.payload (reading h)))) c.mended
+    ∙ ap (λ b. cond b (fails_queue None aborted h None) (known_of items f h c.payload (reading h))) c.unmixed
+    ∙ ap (known_of items f h c.payload) c.reads
+    ∙ known-looked items f h c.payload command tag
 
 -- what is sent by security protocol 01h is no reset
 no-reset : (rows : LookUp) (p c k : ℕ) (d x y : Bool) → (is_trusted p k && x && y) ≡ true → resets rows (Send p c k d) ≡ false
@@ -127,7 +129,7 @@ no-reset rows p c k d x y h = by (p == 1) refl h
 -- a frame that is taken
 pub sent_law : (f : Facts) (act : Act) (com_id : ℕ) (frame : Frame) → IsSent f act com_id frame → event_by f act ≡ framed f com_id frame
 sent_law f act com_id frame c =
-    looked_law f act (Send c.protocol com_id c.blocks c.dma) None c.looked
+    looked_law tcg f act (Send c.protocol com_id c.blocks c.dma) None c.looked
     ∙ ap (λ b. cond b (did (WasReset programmatic)) (send f c.protocol com_id c.blocks c.looked.payload)) (no-reset f.rows c.protocol com_id c.blocks c.dma (is_session_com_id com_id) (not (is_some (f.waiting com_id))) c.taken)
     ∙ ap (λ b. cond b (sent f com_id (frame_in c.looked.payload)) refuses) c.taken
     ∙ ap (sent f com_id) c.framed

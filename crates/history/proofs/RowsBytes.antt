@@ -25,7 +25,7 @@ use Rattle.history.specs.Facts.{facts}
 use Rattle.history.specs.Decisions.{any_below}
 use Rattle.device_data.specs.Identity.{identity}
 use Rattle.device_data.specs.ErrorLog.{sized, error_log}
-use Rattle.history.specs.Answers.{accepted_data}
+use Rattle.history.specs.Tcg.{accepted_data}
 use Rattle.device_data.specs.Discovery.{locking_flags, any_range_below}
 use Rattle.history.specs.History.{Act, Accept, event, log, Reset}
 use Rattle.history.proofs.Scripts.{msid, new_drive, range_row, activated, opened, fis, dread, read_queued, send, receive, tell, call_of, start_as, in_it, set_cells, fails_with, said, start_anybody}

@@ -23,7 +23,7 @@ use Rattle.methods.specs.Settings.{cells_for}
 use Rattle.sp_cells.specs.Names.{session_manager, properties}
 use Rattle.sessions.specs.Starts.{sync_message}
 use Rattle.sessions.specs.Properties.{properties_message}
-use Rattle.history.specs.Decisions.{refusal}
+use Rattle.history.specs.Tcg.{refusal}
 use Rattle.history.specs.Readers.{in_force, sector}
 use Rattle.history.specs.Decisions.{any_below}
 use Rattle.device_data.specs.ErrorLog.{sized}

@@ -28,7 +28,7 @@ use Rattle.methods.specs.Settings.{cells_for}
 use Rattle.sp_cells.specs.Names.{session_manager, start_session, properties}
 use Rattle.sessions.specs.Starts.{sync_message}
 use Rattle.sessions.specs.Properties.{properties_call}
-use Rattle.history.specs.Decisions.{refusal}
+use Rattle.history.specs.Tcg.{refusal}
 use Rattle.call_shapes.specs.CellValues.{element_tree}
 use Rattle.history.specs.Decisions.{any_below}
 use Rattle.history.specs.History.{Act}

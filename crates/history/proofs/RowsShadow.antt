@@ -22,7 +22,7 @@ use Rattle.methods.specs.Settings.{cells_for}
 use Rattle.history.specs.Readers.{byte_in_view}
 use Rattle.history.specs.Facts.{facts}
 use Rattle.history.specs.Decisions.{any_below}
-use Rattle.history.specs.Answers.{accepted_data}
+use Rattle.history.specs.Tcg.{accepted_data}
 use Rattle.history.specs.History.{Act, event, log}
 use Rattle.history.proofs.Scripts.{msid, activated, fis, dread, dwrite, tell, call_of, start_as, in_it, set_cells, whys}
 

@@ -21,7 +21,8 @@ use Rattle.history.specs.Sessions.{Begun}
 use Rattle.history.specs.Opening.{Origin}
 use Rattle.history.specs.Events.{SessionDeed, did, HeldCommand, Deed, Nothing, InSession, Wrote, Event, or_else, OfQueue, Took, WasReset, latest, CompletedWrite, Completed, Held, QueueFailed, QueueMended, Reverted}
 use Rattle.history.specs.Facts.{Facts, facts, session_named}
-use Rattle.history.specs.Decisions.{aborted, not_found, fails, refuses, fails_queue, on_drive, verdict_on, queued_by, queued_transfer, admitted, unqueued_by, unqueued_transfer, answers, to_manager, is_trusted, is_session_com_id, discovery_com_id, is_manager, to_session, framed, sent, received, unqueued, known, while_failed, is_busy, commanded, completed_by, completed, resets}
+use Rattle.history.specs.Decisions.{aborted, not_found, fails, refuses, fails_queue, on_drive, verdict_on, queued_by, queued_transfer, admitted, unqueued_by, unqueued_transfer, is_trusted, is_session_com_id, discovery_com_id, received, while_failed, is_busy, completed_by, completed, resets}
+use Rattle.history.specs.Tcg.{answers, to_manager, is_manager, to_session, framed, sent, unqueued, known, commanded, tcg}
 use Rattle.history.specs.History.{Act, Accept, Complete, Reset, event_by, log}
 use Rattle.history.specs.Readers.{part_of, wipes, writing, sector}
 use Rattle.history.specs.Bounds.{IsFed, SectorLaw}
@@ -30,6 +31,7 @@ use Rattle.shadow_mbr.specs.Stored.{zeros}
 use Rattle.history.specs.Answers.{expected}
 use Rattle.history.specs.DenialLaws.{Moves, read_queued as moves_read_queued, write_queued as moves_write_queued, read_dma as moves_read_dma, write_dma as moves_write_dma}
 use Rattle.history.specs.TransferLaws.{Writes, WasAccepted}
+use Rattle.history.proofs.QuietProofs.{tcg_quiet}
 use Rattle.history.proofs.HeldProofs.{held_law}
 use Rattle.history.proofs.WriteProofs.{write_law}
 use Rattle.sp_cells.specs.Resets.{programmatic}
@@ -188,7 +190,7 @@ write-size h lba count g =
 
 wrote-none : (f : Facts) (act : Act) (place lba : ℕ) (bytes : List ℕ) → IsFed f act → f.sectors ≤ place → (event_by f act).deed ≡ Wrote lba bytes → part_of place lba bytes ≡ None
 wrote-none f act place lba bytes fed le g =
-    let w : Writes f act lba bytes = write_law f act lba bytes g in
+    let w : Writes f act lba bytes = write_law tcg tcg_quiet f act lba bytes g in
     let size : length w.looked.payload ≡ payload_length (h2d_at w.looked.fis) = subst (IsFed f) w.looked.accepts fed in
     no-part place lba w.count f.sectors bytes (ap length w.payload ∙ size ∙ write-size (h2d_at w.looked.fis) lba w.count w.looked.reads) w.on_drive le
 
@@ -205,7 +207,7 @@ moved-same l n c t op lba count (moves_write_dma {lba = x} {count = y}) g = cc
 
 held-fits : (o : Origin) (acts : List Act) (tag l n : ℕ) (h : HeldCommand) → (facts o (log o acts)).held tag ≡ Some h → h.command ≡ WriteQueued l n → nat_le (l + n) o.tables.config.sectors ≡ true
 held-fits o acts tag l n h is command =
-    let w : WasAccepted o acts tag h = held_law o acts tag h is in
+    let w : WasAccepted tcg o acts tag h = held_law tcg tcg_quiet o acts tag h is in
     let same = moved-same l n h.command (Some tag) w.op w.lba w.count w.moves command in
     ap (λ x. nat_le (x + n) o.tables.config.sectors) (sym same.first) ∙ ap (λ x. nat_le (w.lba + x) o.tables.config.sectors) (sym same.size) ∙ w.on_drive
 

@@ -14,9 +14,10 @@ use Rattle.audit.specs.declared.reason.Why.{Why}
 use Rattle.trusted_cmds.specs.declared.command.Command.{Command}
 use Rattle.trusted_cmds.specs.declared.command.Command.TheVariants.{ReadQueued, WriteQueued}
 use Rattle.history.specs.Events.{Deed, Nothing, Wrote, Event}
+use Rattle.history.specs.Items.{Items}
 use Rattle.history.specs.Facts.{Facts}
 use Rattle.history.specs.Decisions.{not_found, aborted, fails, fails_queue, on_drive, ranges_in_force, verdict_on, queued_by, admitted, unqueued_by}
-use Rattle.history.specs.History.{event_by}
+use Rattle.history.specs.History.{event_in}
 use Rattle.history.specs.DenialLaws.{Moves, read_queued, write_queued, read_dma, write_dma, IsFree}
 use Rattle.history.specs.TransferLaws.{is_denied, IsPermitted, IsReason, VerdictLaw, ServiceLaw}
 use Rattle.history.proofs.MethodProofs.{looked_event, looked_law}
@@ -70,18 +71,18 @@ unqueued-failed d Serve = refl
 unqueued-failed d Shadow = refl
 unqueued-failed d (Denied why) = refl
 
-answered : (f : Facts) (h : RegH2d) (payload : List ℕ) (command : Command) (tag : Option ℕ) (op : Op) (lba count : ℕ) → Moves command tag op lba count → IsFree f tag → on_drive f lba count ≡ true → (looked_event f h payload command tag).failed ≡ failed_by (verdict_on f op lba count)
-answered f h payload c tag op lba count (read_queued {lba = l} {count = n} {tag = t}) free drive =
+answered : (items : Items) (f : Facts) (h : RegH2d) (payload : List ℕ) (command : Command) (tag : Option ℕ) (op : Op) (lba count : ℕ) → Moves command tag op lba count → IsFree f tag → on_drive f lba count ≡ true → (looked_event items f h payload command tag).failed ≡ failed_by (verdict_on f op lba count)
+answered items f h payload c tag op lba count (read_queued {lba = l} {count = n} {tag = t}) free drive =
     ap (λ x. (admitted f h t (ReadQueued l n) (is_some x)).failed) free
     ∙ ap (λ b. (cond b (queued_by h t (ReadQueued l n) (verdict_on f Read l n)) (fails_queue (Some t) not_found h None)).failed) drive
     ∙ queued-failed h t (ReadQueued l n) (verdict_on f Read l n)
-answered f h payload c tag op lba count (write_queued {lba = l} {count = n} {tag = t}) free drive =
+answered items f h payload c tag op lba count (write_queued {lba = l} {count = n} {tag = t}) free drive =
     ap (λ x. (admitted f h t (WriteQueued l n) (is_some x)).failed) free
     ∙ ap (λ b. (cond b (queued_by h t (WriteQueued l n) (verdict_on f Write l n)) (fails_queue (Some t) not_found h None)).failed) drive
     ∙ queued-failed h t (WriteQueued l n) (verdict_on f Write l n)
-answered f h payload c tag op lba count (read_dma {lba = l} {count = n}) free drive =
+answered items f h payload c tag op lba count (read_dma {lba = l} {count = n}) free drive =
     ap (λ b. (cond b (unqueued_by Nothing (verdict_on f Read l n)) (fails not_found None)).failed) drive ∙ unqueued-failed Nothing (verdict_on f Read l n)
-answered f h payload c tag op lba count (write_dma {lba = l} {count = n}) free drive =
+answered items f h payload c tag op lba count (write_dma {lba = l} {count = n}) free drive =
     ap (λ b. (cond b (unqueued_by (Wrote l payload) (verdict_on f Write l n)) (fails not_found None)).failed) drive ∙ unqueued-failed (Wrote l payload) (verdict_on f Write l n)
 
 failed-none : (v : Verdict) → failed_by v ≡ None → is_denied v ≡ false
@@ -103,8 +104,8 @@ failed-some Shadow h = absurd (h refl)
 failed-some (Denied why) h = refl
 
 pub service_law : ServiceLaw
-service_law f act command tag op lba count looked moves free drive =
-    let same : (event_by f act).failed ≡ failed_by (verdict_on f op lba count) = ap (λ (e : Event). e.failed) (looked_law f act command tag looked) ∙ answered f (h2d_at looked.fis) looked.payload command tag op lba count moves free drive in
+service_law items f act command tag op lba count looked moves free drive =
+    let same : (event_in items f act).failed ≡ failed_by (verdict_on f op lba count) = ap (λ (e : Event). e.failed) (looked_law items f act command tag looked) ∙ answered items f (h2d_at looked.fis) looked.payload command tag op lba count moves free drive in
     let law = (verdict_law (ranges_in_force f) op lba count).served in
     record {
       served = ((λ h. law.0 (failed-none (verdict_on f op lba count) (sym same ∙ h))), (λ h. same ∙ none-failed (verdict_on f op lba count) (law.1 h)));

@@ -1,14 +1,11 @@
 -- The bytes and FISes that an act gives, by the facts (Serial ATA; ACS-3, IDENTIFY DEVICE and log
--- page 10h; Opal SSC 2.01, section 3.1.1, Level 0 discovery).
-use Rattle.std.specs.Prelude.{ℕ, ◌*◌, ◌^◌, ◌==◌, Bool, true, false, nat_le, List, [], ◌∷◌, length, Option, Some, None, is_some, unwrap_or, Result, Ok, Err, if◌then◌else◌}
-use Rattle.device_data.specs.Discovery.{discovery}
-use Rattle.device_data.specs.Identity.{identity}
-use Rattle.device_data.specs.ErrorLog.{sized, error_log}
+-- page 10h), whatever its items give.
+use Rattle.std.specs.Prelude.{ℕ, ◌*◌, ◌^◌, Bool, true, false, List, [], ◌∷◌, Option, Some, None, is_some, unwrap_or, Result, Ok, Err, if◌then◌else◌}
+use Rattle.device_data.specs.ErrorLog.{error_log}
 use Rattle.fis.specs.H2d.{h2d_at}
 use Rattle.fis.specs.declared.h2d.RegH2d.{RegH2d}
 use Rattle.fis.specs.declared.any.Fis.{Fis}
 use Rattle.fis.specs.declared.any.Fis.TheVariants as fises
-use Rattle.compacket.specs.Spelling.{com_packet_header}
 use Rattle.locking.specs.declared.range.Op.TheVariants.{Read}
 use Rattle.shadow_mbr.specs.Stored.{sector_size, sectors_from}
 use Rattle.trusted_cmds.specs.declared.command.Command.{Command}
@@ -20,7 +17,8 @@ use Rattle.locking.specs.declared.ranges.Verdict.TheVariants.{Serve, Shadow, Den
 use Rattle.transactions.specs.Bytes.{bytes_from}
 use Rattle.history.specs.Events.{HeldCommand, Held, Deed, OfQueue, Event}
 use Rattle.history.specs.Facts.{Facts}
-use Rattle.history.specs.Decisions.{verdict_on, discovery_com_id}
+use Rattle.history.specs.Items.{Items}
+use Rattle.history.specs.Decisions.{verdict_on}
 
 -- What a read gives: the sectors, or the shadow's bytes, as they are then.
 abbrev pub read_by : Facts → ℕ → ℕ → Verdict → List ℕ
@@ -28,37 +26,26 @@ read_by f lba count Serve = sectors_from f.sector lba count
 read_by f lba count Shadow = bytes_from f.byte (sector_size * lba) (sector_size * count)
 read_by f lba count (Denied why) = []
 
--- A receive: the response where it fits, else a header that tells its size, or a header alone where
--- none waits.
-abbrev pub received_bytes : ℕ → ℕ → Option (List ℕ) → List ℕ
-received_bytes com_id room None = com_packet_header com_id 0 0 0
-received_bytes com_id room (Some response) =
-    if nat_le (length response) room
-    then response else com_packet_header com_id (length response) (length response) 0
+-- The data block of an unqueued command that is served, by what its items give.
+abbrev pub block_of : Items → Facts → Command → List ℕ
+block_of items f (ReadDma lba count) = read_by f lba count (verdict_on f Read lba count)
+block_of items f (ReadLog10 dma) = error_log f.failure
+block_of items f (Receive protocol com_id blocks dma) =
+    items.gives f (Receive protocol com_id blocks dma)
+block_of items f Identify = items.gives f Identify
+block_of items f _ = []
 
-abbrev pub receive_data : Facts → ℕ → ℕ → List ℕ
-receive_data f com_id room =
-    if com_id == discovery_com_id
-    then sized room (discovery f.rows) else sized room (received_bytes com_id room (f.waiting com_id))
-
--- The data block of an unqueued command that is served.
-abbrev pub data_of : Facts → Command → List ℕ
-data_of f (ReadDma lba count) = read_by f lba count (verdict_on f Read lba count)
-data_of f (Receive protocol com_id blocks dma) = receive_data f com_id (sector_size * blocks)
-data_of f Identify = identity f.sectors
-data_of f (ReadLog10 dma) = error_log f.failure
-data_of f _ = []
-
-abbrev pub data_read : Facts → Result (Command × Option ℕ) CommandError → List ℕ
-data_read f (Ok (command, None)) = data_of f command
-data_read f _ = []
+abbrev pub data_read_of : Items → Facts → Result (Command × Option ℕ) CommandError → List ℕ
+data_read_of items f (Ok (command, None)) = block_of items f command
+data_read_of items f _ = []
 
 -- Of the FIS of a command, with its event; and of the bytes of an accepted FIS.
-abbrev pub answer_data : Facts → RegH2d → Event → List ℕ
-answer_data f h event = if is_some event.failed then [] else data_read f (reading h)
+abbrev pub answer_data_of : Items → Facts → RegH2d → Event → List ℕ
+answer_data_of items f h event =
+    if is_some event.failed then [] else data_read_of items f (reading h)
 
-abbrev pub accepted_data : Facts → List ℕ → Event → List ℕ
-accepted_data f fis event = answer_data f (h2d_at fis) event
+abbrev pub accepted_data_of : Items → Facts → List ℕ → Event → List ℕ
+accepted_data_of items f fis event = answer_data_of items f (h2d_at fis) event
 
 -- Of a completion.
 abbrev pub held_data : Facts → HeldCommand → List ℕ

@@ -13,7 +13,7 @@ use Rattle.methods.specs.Effects.{seen_by, is_inside}
 use Rattle.methods.specs.Calls.{Called, said_call}
 use Rattle.history.specs.Calls.{Standing, Judgement, Refuses, Gives, Makes, Attempts, Activates, Reverts, judged}
 use Rattle.history.specs.Facts.{Facts}
-use Rattle.history.specs.Decisions.{outcome_of}
+use Rattle.history.specs.Tcg.{outcome_of}
 
 -- What is answered to a judgement, by the rows in force; a Revert tells whether the media become
 -- zeros.

@@ -25,7 +25,8 @@ use Rattle.sessions.specs.declared.opening.Opening.{Opening}
 use Rattle.sessions.specs.declared.opening.StartVerdict.TheVariants.{Attempted}
 use Rattle.sessions.specs.Starts.{opening_of}
 use Rattle.history.specs.Facts.{Facts, standing}
-use Rattle.history.specs.Decisions.{on_drive, verdict_on, is_manager, is_method_of_manager, start_verdict, judgement_on}
+use Rattle.history.specs.Decisions.{on_drive, verdict_on}
+use Rattle.history.specs.Tcg.{is_manager, is_method_of_manager, start_verdict, judgement_on}
 use Rattle.history.specs.History.{Act, event_by}
 use Rattle.history.specs.MethodLaws.{IsLookedAt, IsSent, IsCall}
 

@@ -15,7 +15,7 @@ use Rattle.history.specs.Sessions.{Begun}
 use Rattle.history.specs.Events.{SessionDeed, Reverted, Event}
 use Rattle.history.specs.Readers.{session_on}
 use Rattle.history.specs.Facts.{facts}
-use Rattle.history.specs.Decisions.{Outcome, outcome_of, judgement_on, started}
+use Rattle.history.specs.Tcg.{Outcome, outcome_of, judgement_on, started}
 use Rattle.history.specs.History.{Act, log}
 use Rattle.history.specs.KeptStore.{KeepsStore, StoresAs}
 use Rattle.history.specs.KeptSessions.{KeepsSessions, LivesAs, id_of}

@@ -19,7 +19,8 @@ use Rattle.call_shapes.specs.declared.ask.Ask.{Ask}
 use Rattle.methods.specs.Laws.{IsGranted as IsGrantedBy}
 use Rattle.history.specs.Calls.{Standing, Judgement, Refuses, Gives, Makes, Attempts, Activates, Reverts, asked, does, judged}
 use Rattle.history.specs.Facts.{Facts, session_named, standing}
-use Rattle.history.specs.Decisions.{answers, is_trusted, is_session_com_id, is_manager, is_busy, outcome_of, judgement_on}
+use Rattle.history.specs.Decisions.{is_trusted, is_session_com_id, is_busy}
+use Rattle.history.specs.Tcg.{answers, is_manager, outcome_of, judgement_on}
 use Rattle.history.specs.History.{Act, Accept, event_by}
 
 -- Each column for which a call wants an ACE has one, of those that the standing has.

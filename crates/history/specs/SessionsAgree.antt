@@ -11,7 +11,7 @@ use Rattle.sessions.specs.Live.{Holder}
 use Rattle.sessions.specs.Starts.{begun_by}
 use Rattle.history.specs.Sessions.{holder_of}
 use Rattle.history.specs.Facts.{Facts}
-use Rattle.history.specs.Decisions.{begun}
+use Rattle.history.specs.Tcg.{begun}
 
 -- The session that begins is the one that is kept under the next number.
 abbrev pub BegunLaw : Type 0

@@ -1,5 +1,5 @@
--- Transfers, over every list of acts: the verdict by sectors, what is held, and what comes to the
--- policy.
+-- Transfers, over every list of acts and whatever quiet items do: the verdict by sectors, what is
+-- held, and what comes to the policy.
 use Rattle.std.specs.Prelude.{◌≡◌, ◌⊎◌, ◌↔◌, ℕ, ◌+◌, ◌≤◌, ◌<◌, Bool, true, false, List, ◌∷◌, ◌++◌, Option, Some, None}
 use Rattle.locking.specs.Range.{RangeRows, row_at, is_shadowed}
 use Rattle.locking.specs.Verdict.{AreOpen, ArePermitted, AreShadowed, IsLeastDenied, why_of, shadow_why, verdict_of}
@@ -16,7 +16,9 @@ use Rattle.history.specs.Events.{HeldCommand, Wrote}
 use Rattle.history.specs.Readers.{held}
 use Rattle.history.specs.Facts.{Facts, facts}
 use Rattle.history.specs.Decisions.{aborted, on_drive, ranges_in_force, verdict_on}
-use Rattle.history.specs.History.{Act, Accept, event_by, log}
+use Rattle.history.specs.Items.{Items}
+use Rattle.history.specs.Quiet.{IsQuiet}
+use Rattle.history.specs.History.{Act, Accept, event_in, log_of}
 use Rattle.history.specs.MethodLaws.{IsLookedAt}
 use Rattle.history.specs.DenialLaws.{Moves, IsFree}
 
@@ -62,45 +64,46 @@ VerdictLaw = (ranges : RangeRows) (op : Op) (lba count : ℕ) → IsBySectors ra
 
 -- A held command was accepted at an act of the list, on the drive, with the verdict of the rows in
 -- force there, which permitted it.
-pub record WasAccepted (o : Origin) (acts : List Act) (tag : ℕ) (h : HeldCommand) : Type 0 where
+pub record WasAccepted (items : Items) (o : Origin) (acts : List Act) (tag : ℕ) (h : HeldCommand) : Type 0 where
   pub before : List Act
   pub later : List Act
   pub fis : List ℕ
   pub payload : List ℕ
   pub place : acts ≡ later ++ Accept fis payload ∷ before
-  pub looked : IsLookedAt (facts o (log o before)) (Accept fis payload) h.command (Some tag)
+  pub looked : IsLookedAt (facts o (log_of items o before)) (Accept fis payload) h.command (Some tag)
   pub op : Op
   pub lba : ℕ
   pub count : ℕ
   pub moves : Moves h.command (Some tag) op lba count
-  pub on_drive : on_drive (facts o (log o before)) lba count ≡ true
-  pub verdict : verdict_on (facts o (log o before)) op lba count ≡ h.verdict
-  pub permitted : IsPermitted (ranges_in_force (facts o (log o before))) op lba count
+  pub on_drive : on_drive (facts o (log_of items o before)) lba count ≡ true
+  pub verdict : verdict_on (facts o (log_of items o before)) op lba count ≡ h.verdict
+  pub permitted : IsPermitted (ranges_in_force (facts o (log_of items o before))) op lba count
 
 abbrev pub HeldLaw : Type 0
 HeldLaw =
-    (o : Origin) (acts : List Act) (tag : ℕ) (h : HeldCommand) → held (log o acts) tag ≡ Some h
-    → WasAccepted o acts tag h
+    (items : Items) → IsQuiet items → (o : Origin) (acts : List Act) (tag : ℕ) (h : HeldCommand)
+    → held (log_of items o acts) tag ≡ Some h → WasAccepted items o acts tag h
 
 -- A transfer, queued or not, that comes to the policy is served exactly where it is permitted, and
 -- else aborted.
-pub record IsServed (f : Facts) (act : Act) (op : Op) (lba count : ℕ) : Type 0 where
-  pub served : ((event_by f act).failed ≡ None) ↔ IsPermitted (ranges_in_force f) op lba count
+pub record IsServed (items : Items) (f : Facts) (act : Act) (op : Op) (lba count : ℕ) : Type 0 where
+  pub served : ((event_in items f act).failed ≡ None)
+      ↔ IsPermitted (ranges_in_force f) op lba count
   pub denied : (IsPermitted (ranges_in_force f) op lba count → ⊥)
-      → (event_by f act).failed ≡ Some aborted
+      → (event_in items f act).failed ≡ Some aborted
 
 abbrev pub ServiceLaw : Type 0
 ServiceLaw =
-    (f : Facts) (act : Act) (command : Command) (tag : Option ℕ) (op : Op) (lba count : ℕ)
-    → IsLookedAt f act command tag → Moves command tag op lba count → IsFree f tag
+    (items : Items) (f : Facts) (act : Act) (command : Command) (tag : Option ℕ) (op : Op)
+    (lba count : ℕ) → IsLookedAt f act command tag → Moves command tag op lba count → IsFree f tag
     → on_drive f lba count ≡ true
-    → IsServed f act op lba count
+    → IsServed items f act op lba count
 
 -- Nothing is held under a tag that no slot has.
 abbrev pub TagLaw : Type 0
 TagLaw =
-    (o : Origin) (acts : List Act) (tag : ℕ) (h : HeldCommand) → held (log o acts) tag ≡ Some h
-    → tag < slot_count
+    (items : Items) → IsQuiet items → (o : Origin) (acts : List Act) (tag : ℕ) (h : HeldCommand)
+    → held (log_of items o acts) tag ≡ Some h → tag < slot_count
 
 -- An unqueued write that moved its data: of sectors on the drive, and permitted.
 pub record Writes (f : Facts) (act : Act) (lba : ℕ) (bytes : List ℕ) : Type 0 where
@@ -112,5 +115,5 @@ pub record Writes (f : Facts) (act : Act) (lba : ℕ) (bytes : List ℕ) : Type 
 
 abbrev pub WriteLaw : Type 0
 WriteLaw =
-    (f : Facts) (act : Act) (lba : ℕ) (bytes : List ℕ)
-    → (event_by f act).deed ≡ Wrote lba bytes → Writes f act lba bytes
+    (items : Items) → IsQuiet items → (f : Facts) (act : Act) (lba : ℕ) (bytes : List ℕ)
+    → (event_in items f act).deed ≡ Wrote lba bytes → Writes f act lba bytes

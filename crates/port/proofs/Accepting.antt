@@ -13,7 +13,8 @@ use Rattle.slots.specs.Fetch.{fetched}
 use Rattle.slots.specs.Layout.{buffer_size}
 use Rattle.slots.specs.declared.fetched.Fetched.{Fetched}
 use Rattle.trusted_cmds.specs.Commands.{payload_length}
-use Rattle.history.specs.Answers.{failed as failed_status, status_of, accepted_fises, accepted_data}
+use Rattle.history.specs.Answers.{failed as failed_status, status_of, accepted_fises}
+use Rattle.history.specs.Tcg.{accepted_data}
 use Rattle.history.specs.Events.{Event}
 use Rattle.history.specs.Facts.{Facts, facts}
 use Rattle.history.specs.History.{Act, Accept as AcceptFis, event, log}

@@ -17,6 +17,8 @@ use Rattle.history.specs.Facts.{facts}
 use Rattle.history.specs.History.{Accept as AcceptFis, Complete as CompleteTag}
 use Rattle.history.specs.Opening.{Origin}
 use Rattle.history.specs.Readers.{failure, held}
+use Rattle.history.specs.Tcg.{tcg}
+use Rattle.history.proofs.QuietProofs.{tcg_quiet}
 use Rattle.port_history.specs.declared.stages.Put.{Put}
 use Rattle.port_history.specs.declared.stages.Stage.TheVariants.{Issued, Accepted}
 use Rattle.port_history.specs.declared.step.Step.{Step}
@@ -24,11 +26,11 @@ use Rattle.port_history.specs.Refusals.{IsLawful}
 use Rattle.port_history.specs.Requests.{command_fis, log_fis, bytes_moved, blocks_moved}
 use Rattle.port_history.specs.Stages.{is_queued}
 use Rattle.port_history.specs.Steps.{Effect, Moment, effect_by, accept_payload, trace, events, stage, failed, payload}
-use Rattle.port_history.proofs.Acted.{IsHeldOrFailed, IsHeld, IsFailed, IsExecuted, held_effect, failed_effect, mended_effect, mends}
+use Rattle.port_history.proofs.Acted.{IsHeldOrFailed, IsHeld, IsFailed, IsExecuted, held_effect, failed_effect, mended_effect, executed_bytes, mends}
 use Rattle.port_history.proofs.FedProofs.{accept_fed, expected-brought}
 use Rattle.port_history.proofs.Fises.{brought, fis_back, payload_is}
 use Rattle.port_history.proofs.Kept.{Kept, held_by}
-use Rattle.port_history.proofs.KeptLaw.{kept, fit_issued, fit_accepted, queued_comes, unqueued_comes, accepted_moves, found, IsFound, accepted_effect}
+use Rattle.port_history.proofs.KeptLaw.{kept, fit_issued, fit_accepted, queued_comes, accepted_moves, found, IsFound, accepted_effect}
 use Rattle.port_history.proofs.KeptLaw as laws
 use Rattle.port_history.proofs.Tests.{some_is, was_true}
 use Rattle.port.specs.State.{named_in}
@@ -48,14 +50,14 @@ is_command_fis commands.Flush tag = refl
 pub issued_moves : (o : Origin) (list : List Step) (tag : ℕ) (put : Put) → IsLawful o list
     → stage (trace o list) tag ≡ Issued put → bytes_moved put.command ≤ buffer_size
 issued_moves o list tag put lawful was =
-    omega (arith, (fit_issued (trace o list) tag put (kept o list lawful) was).sized.most)
+    omega (arith, (fit_issued (trace o list) tag put (kept tcg tcg_quiet o list lawful) was).sized.most)
 
 pub issued_length : (o : Origin) (list : List Step) (tag : ℕ) (put : Put) → tag < 32
     → IsLawful o list → stage (trace o list) tag ≡ Issued put
     → payload_length (h2d_at (command_fis put.command tag))
     ≡ length (accept_payload put (payload (trace o list) tag))
 issued_length o list tag put lt lawful was =
-    sym (accept_fed put tag (payload (trace o list) tag) (fit_issued (trace o list) tag put (kept o list lawful) was))
+    sym (accept_fed put tag (payload (trace o list) tag) (fit_issued (trace o list) tag put (kept tcg tcg_quiet o list lawful) was))
 
 brought_small : (c : Command) → blocks_moved c ≤ 256 → brought c ≤ buffer_size
 brought_small (commands.ReadQueued lba count) few = omega arith
@@ -76,7 +78,7 @@ pub issued_small : (o : Origin) (list : List Step) (tag : ℕ) (put : Put) → t
     → IsLawful o list → stage (trace o list) tag ≡ Issued put
     → payload_length (h2d_at (command_fis put.command tag)) ≤ buffer_size
 issued_small o list tag put lt lawful was =
-    let fit = fit_issued (trace o list) tag put (kept o list lawful) was in
+    let fit = fit_issued (trace o list) tag put (kept tcg tcg_quiet o list lawful) was in
     omega (
       arith,
       ap payload_length (fis_back put.command tag),
@@ -97,16 +99,15 @@ held_or_failed_fits tag c e (IsFailed error denied is) =
 accepted_fits_by : (o : Origin) (list : List Step) (tag : ℕ) (put : Put) → tag < 32
     → IsLawful o list → failed (trace o list) ≡ None → stage (trace o list) tag ≡ Issued put
     → (queued : Bool) → is_queued put.command ≡ queued
-    → length (accepted_effect o (trace o list) tag put).bytes ≤ buffer_size
+    → length (accepted_effect tcg o (trace o list) tag put).bytes ≤ buffer_size
 accepted_fits_by o list tag put lt lawful mended was true queued =
-    held_or_failed_fits tag put.command (accepted_effect o (trace o list) tag put)
-    (queued_comes o (trace o list) tag put lt (kept o list lawful) mended was queued)
+    held_or_failed_fits tag put.command (accepted_effect tcg o (trace o list) tag put)
+    (queued_comes tcg o (trace o list) tag put lt (kept tcg tcg_quiet o list lawful) mended was queued)
 accepted_fits_by o list tag put lt lawful mended was false queued =
-    omega (
-      arith,
-      issued_moves o list tag put lawful was,
-      (unqueued_comes o (trace o list) tag put lt (kept o list lawful) mended was queued).bytes,
-    )
+    let le : length (accepted_effect tcg o (trace o list) tag put).bytes ≤ bytes_moved put.command =
+    executed_bytes o (events (trace o list)) put.command tag (accept_payload put (payload (trace o list) tag)) lt
+    (fit_issued (trace o list) tag put (kept tcg tcg_quiet o list lawful) was).sized queued in
+    omega (arith, issued_moves o list tag put lawful was, le)
 
 pub accepted_fits : (o : Origin) (list : List Step) (tag : ℕ) (put : Put) → tag < 32
     → IsLawful o list → failed (trace o list) ≡ None → stage (trace o list) tag ≡ Issued put
@@ -122,14 +123,14 @@ pub accepted_held : (o : Origin) (list : List Step) (tag : ℕ) (put : Put) → 
     → option_map (λ (h : HeldCommand). h.command) (held (events (trace o list)) tag)
     ≡ Some put.command
 accepted_held o list tag put lawful mended was =
-    (kept o list lawful).queue tag
+    (kept tcg tcg_quiet o list lawful).queue tag
     ∙ ap (λ (f : Option ℕ). held_by f (stage (trace o list) tag)) mended ∙ ap (held_by None) was
 
 completed_brings : (o : Origin) (list : List Step) (tag : ℕ) (put : Put) → IsLawful o list
     → failed (trace o list) ≡ None → stage (trace o list) tag ≡ Accepted put
     → expected (held (events (trace o list)) tag) ≡ brought put.command
 completed_brings o list tag put lawful mended was =
-    let k = kept o list lawful in
+    let k = kept tcg tcg_quiet o list lawful in
     let x = laws.accepted_held (trace o list) tag put k mended was in
     let here = fit_accepted (trace o list) tag put k was in
     ap expected x.1 ∙ ap expected_by x.2 ∙ expected-brought put.command here.queued
@@ -139,7 +140,7 @@ pub completed_length : (o : Origin) (list : List Step) (tag : ℕ) (put : Put) �
     → expected (held (events (trace o list)) tag) ≡ length (payload (trace o list) tag)
 completed_length o list tag put lawful mended was =
     completed_brings o list tag put lawful mended was
-    ∙ sym (fit_accepted (trace o list) tag put (kept o list lawful) was).fit.brings
+    ∙ sym (fit_accepted (trace o list) tag put (kept tcg tcg_quiet o list lawful) was).fit.brings
 
 pub completed_small : (o : Origin) (list : List Step) (tag : ℕ) (put : Put) → IsLawful o list
     → failed (trace o list) ≡ None → stage (trace o list) tag ≡ Accepted put
@@ -148,7 +149,7 @@ completed_small o list tag put lawful mended was =
     omega (
       arith,
       completed_brings o list tag put lawful mended was,
-      brought_small put.command (fit_accepted (trace o list) tag put (kept o list lawful) was).fit.sized.most,
+      brought_small put.command (fit_accepted (trace o list) tag put (kept tcg tcg_quiet o list lawful) was).fit.sized.most,
     )
 
 pub completed_fits : (o : Origin) (list : List Step) (tag : ℕ) (put : Put) → IsLawful o list
@@ -158,8 +159,8 @@ pub completed_fits : (o : Origin) (list : List Step) (tag : ℕ) (put : Put) →
 completed_fits o list tag put lawful mended was =
     omega (
       arith,
-      (accepted_moves o (trace o list) tag put (kept o list lawful) mended was).bytes,
-      (fit_accepted (trace o list) tag put (kept o list lawful) was).fit.sized.most,
+      (accepted_moves tcg o (trace o list) tag put (kept tcg tcg_quiet o list lawful) mended was).bytes,
+      (fit_accepted (trace o list) tag put (kept tcg tcg_quiet o list lawful) was).fit.sized.most,
     )
 
 -- what the log page says of a failed port
@@ -189,8 +190,8 @@ pub recovery : (o : Origin) (list : List Step) → IsLawful o list
 recovery o list lawful has_failed =
     let ms = trace o list in
     let t = some_is (failed ms) (was_true (is_some (failed ms)) has_failed) in
-    let x : IsFound ms t.0 = found ms t.0 (kept o list lawful) t.1 in
-    subst (Recovery o list) (sym (mends o (events ms) x.found x.failing)) (record {
+    let x : IsFound ms t.0 = found ms t.0 (kept tcg tcg_quiet o list lawful) t.1 in
+    subst (Recovery o list) (sym (mends tcg o (events ms) x.found x.failing)) (record {
       failure = x.found;
       failing = x.failing;
       named = named_tag x.found t.0 x.names x.low ∙ sym t.1;

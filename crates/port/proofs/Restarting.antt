@@ -8,7 +8,7 @@ use Rattle.fis.specs.H2d.{h2d_at}
 use Rattle.fis.specs.declared.any.Fis.{Fis}
 use Rattle.hba_regs.specs.Registers.{Regs}
 use Rattle.drive.specs.Answers.{IsAnswer}
-use Rattle.drive.specs.declared.reset.ResetKind.{ResetKind}
+use Rattle.history.specs.declared.reset.ResetKind.{ResetKind}
 use Rattle.history.specs.Answers.{status_of}
 use Rattle.history.specs.Events.{Event}
 use Rattle.history.specs.Facts.{facts}

@@ -11,12 +11,13 @@ use Rattle.history.specs.Facts.{facts}
 use Rattle.history.specs.History.{Act, Accept as AcceptFis, Complete as CompleteTag, Reset as ResetDrive, log, event}
 use Rattle.history.specs.Opening.{Origin}
 use Rattle.history.specs.Readers.{held}
-use Rattle.drive.specs.Answers.{IsAnswer, IsCompletion, kind_of}
+use Rattle.drive.specs.Answers.{IsAnswer, IsCompletion}
 use Rattle.drive.specs.Queue.{held_at}
 use Rattle.drive.specs.State.{State as DriveState, Agrees as DriveAgrees}
 use Rattle.drive.specs.declared.answer.Accepted.{Accepted as DriveAccepted}
 use Rattle.drive.specs.declared.answer.Completed.{Completed as DriveCompleted}
-use Rattle.drive.specs.declared.reset.ResetKind.{ResetKind}
+use Rattle.history.specs.Resets.{kind_of}
+use Rattle.history.specs.declared.reset.ResetKind.{ResetKind}
 use Rattle.slots.specs.Layout.{buffer_size}
 use Rattle.port_history.specs.Refusals.{most_steps, refusal_by}
 use Rattle.port_history.specs.Registers.{all_shown, restarted, restarted_if, reset_regs, with_issue}

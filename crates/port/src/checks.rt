@@ -28,7 +28,7 @@ fn has_slot(step: &Step) -> bool
 
 impl Port {
     ghost use Rattle.std.specs.Prelude.{◌≡◌, ◌+◌, ◌⊎◌, ℕ, List, length, is_some, is_none, IfOk, MatchResult, None, Some, true, false};
-    ghost use Rattle.drive.specs.declared.reset.ResetKind.{ResetKind};
+    ghost use Rattle.history.specs.declared.reset.ResetKind.{ResetKind};
     ghost use Rattle.history.specs.Opening.{Origin};
     ghost use Rattle.port_history.specs.declared.step.Step.{Step};
     ghost use Rattle.port_history.specs.declared.step.Step.TheVariants as steps;

@@ -5,6 +5,7 @@ use crate::port::Port;
 impl Port {
     ghost use Rattle.std.specs.Prelude.{◌≡◌, List, reverse};
     ghost use Rattle.history.specs.Opening.{Origin};
+    ghost use Rattle.history.specs.Tcg.{tcg};
     ghost use Rattle.port_history.specs.declared.step.Step.{Step};
     ghost use Rattle.port_history.specs.Steps.{trace, audit};
     ghost use Rattle.headline.specs.Denials.{IsAudited};
@@ -21,10 +22,10 @@ impl Port {
     /// nothing was made from a Set of an open or aborted transaction, but in its session's own view. `audited`: the log
     /// has one line for each denial, in the words of what denied it, and no other line.
     pub fn headline(&self)
-        ensures transfers { (o : Origin) (list : List Step) → PortAgrees self.now o list → AreServed o list }
+        ensures transfers { (o : Origin) (list : List Step) → PortAgrees self.now o list → AreServed tcg o list }
         ensures methods { (o : Origin) (list : List Step) → PortAgrees self.now o list → AreJudged o list }
-        ensures hidden { (o : Origin) (list : List Step) → PortAgrees self.now o list → AreHidden o list }
-        ensures forgotten { (o : Origin) (list : List Step) → PortAgrees self.now o list → AreForgotten o list }
+        ensures hidden { (o : Origin) (list : List Step) → PortAgrees self.now o list → AreHidden tcg o list }
+        ensures forgotten { (o : Origin) (list : List Step) → PortAgrees self.now o list → AreForgotten tcg o list }
         ensures audited { (o : Origin) (list : List Step) → PortAgrees self.now o list → IsAudited o list }
         ensures log { (o : Origin) (list : List Step) → PortAgrees self.now o list
             → self.now.audit ≡ reverse (audit (trace o list)) }

@@ -5,10 +5,6 @@ use Rattle.fis.specs.H2d.{h2d_at}
 use Rattle.fis.specs.declared.any.Fis.{Fis}
 use Rattle.fis.specs.declared.h2d.RegH2d.{RegH2d}
 use Rattle.audit.specs.declared.reason.Why.{Why}
-use Rattle.compacket.specs.declared.session.Session.{Session}
-use Rattle.compacket.specs.declared.error.FrameError.{FrameError}
-use Rattle.compacket.specs.Frames.{Frame, reading as frame_in}
-use Rattle.tcg_tokens.specs.Reading.{reading as message_in}
 use Rattle.device_data.specs.ErrorLog.{error_log}
 use Rattle.device_data.specs.declared.log_page.Failure.{Failure}
 use Rattle.locking.specs.declared.range.Op.{Op}
@@ -19,16 +15,18 @@ use Rattle.trusted_cmds.specs.declared.command.Command.{Command}
 use Rattle.trusted_cmds.specs.declared.command.Command.TheVariants.{ReadQueued, WriteQueued, ReadDma, WriteDma, Send, Receive, Identify, ReadLog10, Flush}
 use Rattle.trusted_cmds.specs.Commands.{reading, fis_of, tag_with, sector_size, IsCounted, is_queued as is_queued_code}
 use Rattle.history.specs.Opening.{Origin}
-use Rattle.history.specs.Sessions.{Begun}
 use Rattle.history.specs.Events.{QueueMended, Deed, Nothing, InSession, OfQueue, Wrote, Took, WasReset, Event, did, or_else, latest}
 use Rattle.history.specs.Readers.{holding, held, failing, failure}
-use Rattle.history.specs.Facts.{Facts, facts, session_named}
-use Rattle.history.specs.Decisions.{not_found, aborted, fails, refuses, fails_queue, on_drive, verdict_on, holds, queued_by, admitted, unqueued_by, answers, to_manager, is_trusted, is_session_com_id, discovery_com_id, is_manager, to_session, framed, sent, received, unqueued, known, is_busy, commanded, accepted, resets, send}
-use Rattle.history.specs.Answers.{answer_fis, pio_fis, ready, failed, is_holding, answer_fises, fises_read, answer_data, data_read}
-use Rattle.history.specs.History.{Accept as AcceptFis, event_by}
+use Rattle.history.specs.Items.{Items}
+use Rattle.history.specs.Quiet.{is_quiet, IsQuiet}
+use Rattle.history.specs.Facts.{Facts, facts}
+use Rattle.history.specs.Decisions.{not_found, aborted, fails, refuses, fails_queue, on_drive, verdict_on, holds, queued_by, admitted, unqueued_by, is_trusted, is_session_com_id, discovery_com_id, received, is_busy, resets, unqueued_of, known_of, commanded_of}
+use Rattle.history.specs.Tcg.{data_read}
+use Rattle.history.specs.Answers.{answer_fis, pio_fis, ready, failed, is_holding, answer_fises, fises_read, answer_data_of, data_read_of}
+use Rattle.history.specs.History.{Accept as AcceptFis, event_by, event_in}
 use Rattle.port_history.specs.Requests.{command_fis, log_fis, blocks_moved, bytes_moved}
 use Rattle.port_history.specs.Stages.{is_queued}
-use Rattle.port_history.specs.Steps.{Effect, effect_by}
+use Rattle.port_history.specs.Steps.{Effect, effect_by, effect_in}
 use Rattle.port_history.proofs.Fises.{fis_back, reads, read_as}
 use Rattle.port_history.proofs.Sizes.{sector_length, data-fits}
 use Rattle.sp_cells.specs.Resets.{programmatic}
@@ -84,53 +82,53 @@ pub reads_bytes : (command : Command) (tag : ℕ) → tag < 32 → IsSized comma
 reads_bytes command tag lt sized =
     ap reading (fis_back command tag) ∙ reads command tag lt sized.counted sized.most
 
-comes-to : (f : Facts) (h : RegH2d) (payload : List ℕ) → h.is_command ≡ true
+comes-to : (items : Items) (f : Facts) (h : RegH2d) (payload : List ℕ) → h.is_command ≡ true
     → f.failure ≡ None → (is_busy f && not (is_queued_code h.command)) ≡ false
-    → commanded f h payload ≡ known f h payload (reading h)
-comes-to f h payload commands mended unmixed =
+    → commanded_of items f h payload ≡ known_of items f h payload (reading h)
+comes-to items f h payload commands mended unmixed =
     ap
     (λ (b : Bool). if not b then refuses
     else (if is_some f.failure then Rattle.history.specs.Decisions.while_failed (reading h)
     else (if is_busy f && not (is_queued_code h.command) then fails_queue None aborted h None
-    else known f h payload (reading h))))
+    else known_of items f h payload (reading h))))
     commands
     ∙ ap
     (λ (x : Option Failure). if is_some x then Rattle.history.specs.Decisions.while_failed
     (reading h) else (if is_busy f && not (is_queued_code h.command)
-    then fails_queue None aborted h None else known f h payload (reading h)))
+    then fails_queue None aborted h None else known_of items f h payload (reading h)))
     mended
     ∙ ap
-    (λ (b : Bool). if b then fails_queue None aborted h None else known f h payload (reading h))
+    (λ (b : Bool). if b then fails_queue None aborted h None else known_of items f h payload (reading h))
     unmixed
 
 -- A FIS of the port comes to its command: past the failure of the queue and the mixing of queues.
-pub event_is : (o : Origin) (past : List Event) (command : Command) (tag : ℕ) (bytes : List ℕ)
+pub event_is : (items : Items) (o : Origin) (past : List Event) (command : Command) (tag : ℕ) (bytes : List ℕ)
     → tag < 32 → IsSized command → failure past ≡ None
     → (is_busy (facts o past) && not (is_queued command)) ≡ false
-    → event_by (facts o past) (AcceptFis (command_fis command tag) bytes)
-    ≡ known (facts o past) (fis_of command tag) bytes
+    → event_in items (facts o past) (AcceptFis (command_fis command tag) bytes)
+    ≡ known_of items (facts o past) (fis_of command tag) bytes
     (Ok (read_as command, tag_with command tag))
-event_is o past command tag bytes lt sized mended unmixed =
+event_is items o past command tag bytes lt sized mended unmixed =
     let f : Facts = facts o past in
-    ap (λ (h : RegH2d). commanded f h bytes) (fis_back command tag)
-    ∙ comes-to f (fis_of command tag) bytes (commands_of command tag) mended
+    ap (λ (h : RegH2d). commanded_of items f h bytes) (fis_back command tag)
+    ∙ comes-to items f (fis_of command tag) bytes (commands_of command tag) mended
     (ap (λ (b : Bool). is_busy f && not b) (code_of command tag) ∙ unmixed)
-    ∙ ap (known f (fis_of command tag) bytes) (reads command tag lt sized.counted sized.most)
+    ∙ ap (known_of items f (fis_of command tag) bytes) (reads command tag lt sized.counted sized.most)
 
-effect-of : (f : Facts) (fis bytes : List ℕ) (e : Event) → event_by f (AcceptFis fis bytes) ≡ e
-    → effect_by f (AcceptFis fis bytes)
+effect-of : (items : Items) (f : Facts) (fis bytes : List ℕ) (e : Event) → event_in items f (AcceptFis fis bytes) ≡ e
+    → effect_in items f (AcceptFis fis bytes)
     ≡ record {
       event = e;
       fises = answer_fises (h2d_at fis) e;
-      bytes = answer_data f
+      bytes = answer_data_of items f
           (h2d_at fis) e;
     }
-effect-of f fis bytes e is =
+effect-of items f fis bytes e is =
     ap
     (λ (x : Event). record {
       event = x;
       fises = answer_fises (h2d_at fis) x;
-      bytes = answer_data f
+      bytes = answer_data_of items f
           (h2d_at fis) x;
     })
     is
@@ -175,45 +173,45 @@ placed-either : (h : RegH2d) (tag : ℕ) (command : Command) (v : Verdict) (on :
 placed-either h tag command v true = queued_by-either h tag command v
 placed-either h tag command v false = EventFailed not_found None refl
 
-known-either : (f : Facts) (h : RegH2d) (bytes : List ℕ) (command : Command) (tag : ℕ)
+known-either : (items : Items) (f : Facts) (h : RegH2d) (bytes : List ℕ) (command : Command) (tag : ℕ)
     → is_queued command ≡ true → f.held tag ≡ None
-    → IsEither tag command h (known f h bytes (Ok (read_as command, tag_with command tag)))
-known-either f h bytes (ReadQueued lba count) tag queued free =
+    → IsEither tag command h (known_of items f h bytes (Ok (read_as command, tag_with command tag)))
+known-either items f h bytes (ReadQueued lba count) tag queued free =
     rw (free) (placed-either h tag (ReadQueued lba count) (verdict_on f Read lba count)
     (on_drive f lba count))
-known-either f h bytes (WriteQueued lba count) tag queued free =
+known-either items f h bytes (WriteQueued lba count) tag queued free =
     rw (free) (placed-either h tag (WriteQueued lba count) (verdict_on f Write lba count)
     (on_drive f lba count))
-known-either f h bytes (ReadDma lba count) tag queued free = absurd cc
-known-either f h bytes (WriteDma lba count) tag queued free = absurd cc
-known-either f h bytes (Send protocol com_id blocks dma) tag queued free = absurd cc
-known-either f h bytes (Receive protocol com_id blocks dma) tag queued free = absurd cc
-known-either f h bytes Identify tag queued free = absurd cc
-known-either f h bytes (ReadLog10 dma) tag queued free = absurd cc
-known-either f h bytes Flush tag queued free = absurd cc
+known-either items f h bytes (ReadDma lba count) tag queued free = absurd cc
+known-either items f h bytes (WriteDma lba count) tag queued free = absurd cc
+known-either items f h bytes (Send protocol com_id blocks dma) tag queued free = absurd cc
+known-either items f h bytes (Receive protocol com_id blocks dma) tag queued free = absurd cc
+known-either items f h bytes Identify tag queued free = absurd cc
+known-either items f h bytes (ReadLog10 dma) tag queued free = absurd cc
+known-either items f h bytes Flush tag queued free = absurd cc
 
 -- no data come with a tag
-no-data : (f : Facts) (command : Command) (tag : ℕ) → is_queued command ≡ true
-    → data_read f (Ok (read_as command, tag_with command tag)) ≡ []
-no-data f (ReadQueued lba count) tag queued = refl
-no-data f (WriteQueued lba count) tag queued = refl
-no-data f (ReadDma lba count) tag queued = absurd cc
-no-data f (WriteDma lba count) tag queued = absurd cc
-no-data f (Send protocol com_id blocks dma) tag queued = absurd cc
-no-data f (Receive protocol com_id blocks dma) tag queued = absurd cc
-no-data f Identify tag queued = absurd cc
-no-data f (ReadLog10 dma) tag queued = absurd cc
-no-data f Flush tag queued = absurd cc
+no-data : (items : Items) (f : Facts) (command : Command) (tag : ℕ) → is_queued command ≡ true
+    → data_read_of items f (Ok (read_as command, tag_with command tag)) ≡ []
+no-data items f (ReadQueued lba count) tag queued = refl
+no-data items f (WriteQueued lba count) tag queued = refl
+no-data items f (ReadDma lba count) tag queued = absurd cc
+no-data items f (WriteDma lba count) tag queued = absurd cc
+no-data items f (Send protocol com_id blocks dma) tag queued = absurd cc
+no-data items f (Receive protocol com_id blocks dma) tag queued = absurd cc
+no-data items f Identify tag queued = absurd cc
+no-data items f (ReadLog10 dma) tag queued = absurd cc
+no-data items f Flush tag queued = absurd cc
 
 -- The FIS of a queued command, on a free tag.
-pub queued_effect : (o : Origin) (past : List Event) (command : Command) (tag : ℕ) (bytes : List ℕ)
+pub queued_effect : (items : Items) (o : Origin) (past : List Event) (command : Command) (tag : ℕ) (bytes : List ℕ)
     → tag < 32 → IsSized command → is_queued command ≡ true → failure past ≡ None
     → held past tag ≡ None
     → IsHeldOrFailed tag command
-    (effect_by (facts o past) (AcceptFis (command_fis command tag) bytes))
-queued_effect o past command tag bytes lt sized queued mended free =
+    (effect_in items (facts o past) (AcceptFis (command_fis command tag) bytes))
+queued_effect items o past command tag bytes lt sized queued mended free =
     by_event _ refl
-    (known-either (facts o past) (fis_of command tag) bytes command tag queued free)
+    (known-either items (facts o past) (fis_of command tag) bytes command tag queued free)
   where
     f : Facts
     f = facts o past
@@ -228,20 +226,20 @@ queued_effect o past command tag bytes lt sized queued mended free =
         and-false true = refl
         and-false false = refl
 
-    is : event_by f (AcceptFis fis bytes) ≡ known f (fis_of command tag) bytes
+    is : event_in items f (AcceptFis fis bytes) ≡ known_of items f (fis_of command tag) bytes
         (Ok (read_as command, tag_with command tag))
-    is = event_is o past command tag bytes lt sized mended unmixed
+    is = event_is items o past command tag bytes lt sized mended unmixed
 
-    none : answer_data f (h2d_at fis) (did Nothing) ≡ []
-    none = ap (data_read f) (reads_bytes command tag lt sized) ∙ no-data f command tag queued
+    none : answer_data_of items f (h2d_at fis) (did Nothing) ≡ []
+    none = ap (data_read_of items f) (reads_bytes command tag lt sized) ∙ no-data items f command tag queued
 
     by_event : (e : Event)
-        → known f (fis_of command tag) bytes (Ok (read_as command, tag_with command tag)) ≡ e
+        → known_of items f (fis_of command tag) bytes (Ok (read_as command, tag_with command tag)) ≡ e
         → IsEither tag command (fis_of command tag) e
-        → IsHeldOrFailed tag command (effect_by f (AcceptFis fis bytes))
+        → IsHeldOrFailed tag command (effect_in items f (AcceptFis fis bytes))
     by_event e same (EventHeld v made) =
         IsHeld v
-        (effect-of f fis bytes (holds tag command v) (is ∙ same ∙ made)
+        (effect-of items f fis bytes (holds tag command v) (is ∙ same ∙ made)
         ∙ ap (λ (xs : List ℕ). record {
           event = holds tag command v;
           fises = answer_fis false ready
@@ -250,7 +248,7 @@ queued_effect o past command tag bytes lt sized queued mended free =
         }) none)
     by_event e same (EventFailed error denied made) =
         IsFailed error denied
-        (effect-of f fis bytes (fails_queue (Some tag) error (fis_of command tag) denied) (is ∙ same
+        (effect-of items f fis bytes (fails_queue (Some tag) error (fis_of command tag) denied) (is ∙ same
         ∙ made))
 
 -- Unqueued commands.
@@ -269,13 +267,12 @@ executed_fis command (Some error) = answer_fis true failed error
 executed_fis Identify None = pio_fis true ready
 executed_fis command None = answer_fis true ready 0
 
--- A command that is not queued is executed whole: it changes nothing of the queue, is answered by
--- one FIS, and gives no more data than it asks for.
+-- A command that is not queued is executed whole: it changes nothing of the queue, and is answered
+-- by one FIS.
 pub record IsExecuted (past : List Event) (command : Command) (e : Effect) : Type 0 where
   pub still_held : (tag : ℕ) → held (e.event ∷ past) tag ≡ held past tag
   pub still_failing : failure (e.event ∷ past) ≡ failure past
   pub fises : e.fises ≡ executed_fis command e.event.failed ∷ []
-  pub bytes : length e.bytes ≤ bytes_moved command
 
 quiet-if : (b : Bool) (x y : Event) → is_of_queue x.deed ≡ false → is_of_queue y.deed ≡ false
     → is_of_queue (cond b x y).deed ≡ false
@@ -295,22 +292,13 @@ transfer-quiet f d op lba count h =
     (fails not_found None)
     (unqueued_by-quiet d (verdict_on f op lba count) h) refl
 
-to_session-quiet : (f : Facts) (com_id : ℕ) (named : Session) (payload : List ℕ)
-    (x : Option Begun) → is_of_queue (to_session f com_id named payload x).deed ≡ false
-to_session-quiet f com_id named payload None = refl
-to_session-quiet f com_id named payload (Some session) = refl
-
-sent-quiet : (f : Facts) (com_id : ℕ) (r : Result Frame FrameError)
-    → is_of_queue (sent f com_id r).deed ≡ false
-sent-quiet f com_id (Err e) = refl
-sent-quiet f com_id (Ok frame) =
-    quiet-if (frame.com_id == com_id) (framed f com_id frame) (did Nothing)
-    (quiet-if (is_manager frame.session)
-    (answers com_id frame.session (to_manager f com_id (message_in frame.payload)))
-    (to_session f com_id frame.session frame.payload (session_named f com_id frame.session)) refl
-    (to_session-quiet f com_id frame.session frame.payload
-    (session_named f com_id frame.session)))
-    refl
+of-items : (d : Deed) → is_quiet d ≡ true → is_of_queue d ≡ false
+of-items Nothing h = refl
+of-items (InSession deed response) h = refl
+of-items (OfQueue deed) h = absurd cc
+of-items (Wrote lba bytes) h = refl
+of-items (Took com_id) h = refl
+of-items (WasReset kind) h = refl
 
 received-quiet : (com_id blocks : ℕ) (x : Option (List ℕ))
     → is_of_queue (received com_id blocks x).deed ≡ false
@@ -319,27 +307,26 @@ received-quiet com_id blocks (Some response) =
     quiet-if (nat_le (length response) (sector_size * blocks)) (did (Took com_id)) (did Nothing)
     refl refl
 
-unqueued-quiet : (f : Facts) (payload : List ℕ) (command : Command)
-    → is_of_queue (unqueued f payload command).deed ≡ false
-unqueued-quiet f payload (ReadDma lba count) = transfer-quiet f Nothing Read lba count refl
-unqueued-quiet f payload (WriteDma lba count) =
+unqueued-quiet : (items : Items) (still : IsQuiet items) (f : Facts) (payload : List ℕ) (command : Command)
+    → is_of_queue (unqueued_of items f payload command).deed ≡ false
+unqueued-quiet items still f payload (ReadDma lba count) = transfer-quiet f Nothing Read lba count refl
+unqueued-quiet items still f payload (WriteDma lba count) =
     transfer-quiet f (Wrote lba payload) Write lba count refl
-unqueued-quiet f payload (Send protocol com_id blocks dma) =
+unqueued-quiet items still f payload (Send protocol com_id blocks dma) =
     quiet-if (resets f.rows (Send protocol com_id blocks dma)) (did (WasReset programmatic))
-    (send f protocol com_id blocks payload) refl
-    (quiet-if
-    (is_trusted protocol blocks && is_session_com_id com_id && not (is_some (f.waiting com_id)))
-    (sent f com_id (frame_in payload)) refuses (sent-quiet f com_id (frame_in payload)) refl)
-unqueued-quiet f payload (Receive protocol com_id blocks dma) =
+    (items.sends f protocol com_id blocks payload) refl
+    (of-items (items.sends f protocol com_id blocks payload).deed
+    (still f protocol com_id blocks payload))
+unqueued-quiet items still f payload (Receive protocol com_id blocks dma) =
     quiet-if
     (is_trusted protocol blocks && (is_session_com_id com_id || com_id == discovery_com_id))
     (received com_id blocks (f.waiting com_id)) refuses
     (received-quiet com_id blocks (f.waiting com_id)) refl
-unqueued-quiet f payload Identify = refl
-unqueued-quiet f payload (ReadLog10 dma) = refl
-unqueued-quiet f payload Flush = refl
-unqueued-quiet f payload (ReadQueued lba count) = refl
-unqueued-quiet f payload (WriteQueued lba count) = refl
+unqueued-quiet items still f payload Identify = refl
+unqueued-quiet items still f payload (ReadLog10 dma) = refl
+unqueued-quiet items still f payload Flush = refl
+unqueued-quiet items still f payload (ReadQueued lba count) = refl
+unqueued-quiet items still f payload (WriteQueued lba count) = refl
 
 -- it holds nothing
 pub holds_nothing : (d : Deed) → is_of_queue d ≡ false → is_holding d ≡ false
@@ -370,19 +357,19 @@ failure_stays (Wrote lba bytes) past quiet none = refl
 failure_stays (Took com_id) past quiet none = refl
 failure_stays (WasReset kind) past quiet none = sym none
 
-known-unqueued : (f : Facts) (h : RegH2d) (bytes : List ℕ) (command : Command) (tag : ℕ)
+known-unqueued : (items : Items) (f : Facts) (h : RegH2d) (bytes : List ℕ) (command : Command) (tag : ℕ)
     → is_queued command ≡ false
-    → known f h bytes (Ok (read_as command, tag_with command tag))
-    ≡ unqueued f bytes (read_as command)
-known-unqueued f h bytes (ReadQueued lba count) tag unqueued = absurd cc
-known-unqueued f h bytes (WriteQueued lba count) tag unqueued = absurd cc
-known-unqueued f h bytes (ReadDma lba count) tag unqueued = refl
-known-unqueued f h bytes (WriteDma lba count) tag unqueued = refl
-known-unqueued f h bytes (Send protocol com_id blocks dma) tag unqueued = refl
-known-unqueued f h bytes (Receive protocol com_id blocks dma) tag unqueued = refl
-known-unqueued f h bytes Identify tag unqueued = refl
-known-unqueued f h bytes (ReadLog10 dma) tag unqueued = refl
-known-unqueued f h bytes Flush tag unqueued = refl
+    → known_of items f h bytes (Ok (read_as command, tag_with command tag))
+    ≡ unqueued_of items f bytes (read_as command)
+known-unqueued items f h bytes (ReadQueued lba count) tag unqueued = absurd cc
+known-unqueued items f h bytes (WriteQueued lba count) tag unqueued = absurd cc
+known-unqueued items f h bytes (ReadDma lba count) tag unqueued = refl
+known-unqueued items f h bytes (WriteDma lba count) tag unqueued = refl
+known-unqueued items f h bytes (Send protocol com_id blocks dma) tag unqueued = refl
+known-unqueued items f h bytes (Receive protocol com_id blocks dma) tag unqueued = refl
+known-unqueued items f h bytes Identify tag unqueued = refl
+known-unqueued items f h bytes (ReadLog10 dma) tag unqueued = refl
+known-unqueued items f h bytes Flush tag unqueued = refl
 
 served-fis : (command : Command) (tag : ℕ) → is_queued command ≡ false → is_asked command ≡ true
     → fises_read (Ok (read_as command, tag_with command tag)) ≡ executed_fis command None ∷ []
@@ -440,25 +427,20 @@ bytes-by read n (Some error) le = omega arith
 bytes-by read n None le = le
 
 -- The FIS of a command that is not queued, while nothing is held.
-pub executed_effect : (o : Origin) (past : List Event) (command : Command) (tag : ℕ)
+pub executed_effect : (items : Items) (still : IsQuiet items) (o : Origin) (past : List Event) (command : Command) (tag : ℕ)
     (bytes : List ℕ) → tag < 32 → IsSized command → is_queued command ≡ false
     → failure past ≡ None → is_busy (facts o past) ≡ false
     → ((t : ℕ) → held past t ≡ None)
-    → IsExecuted past command (effect_by (facts o past) (AcceptFis (command_fis command tag) bytes))
-executed_effect o past command tag bytes lt sized unqueued_is mended idle none = record {
-  still_held = λ t. held_stays (event_by f (AcceptFis fis bytes)).deed past t quiet (none t);
-  still_failing = failure_stays (event_by f (AcceptFis fis bytes)).deed past quiet mended;
+    → IsExecuted past command (effect_in items (facts o past) (AcceptFis (command_fis command tag) bytes))
+executed_effect items still o past command tag bytes lt sized unqueued_is mended idle none = record {
+  still_held = λ t. held_stays (event_in items f (AcceptFis fis bytes)).deed past t quiet (none t);
+  still_failing = failure_stays (event_in items f (AcceptFis fis bytes)).deed past quiet mended;
   fises =
       fises-by command fis (fises_read (reading (h2d_at fis)))
-      (event_by f (AcceptFis fis bytes)).deed (event_by f (AcceptFis fis bytes)).failed
+      (event_in items f (AcceptFis fis bytes)).deed (event_in items f (AcceptFis fis bytes)).failed
       (holds_nothing _ quiet)
       (ap fises_read (reads_bytes command tag lt sized)
       ∙ served-fis command tag unqueued_is sized.asked);
-  bytes =
-      bytes-by (data_read f (reading (h2d_at fis))) (bytes_moved command)
-      (event_by f (AcceptFis fis bytes)).failed
-      (rw (reads_bytes command tag lt sized) (read-data f command tag unqueued_is
-      (sector_length past)));
 }
   where
     f : Facts
@@ -467,14 +449,31 @@ executed_effect o past command tag bytes lt sized unqueued_is mended idle none =
     fis : List ℕ
     fis = command_fis command tag
 
-    is : event_by f (AcceptFis fis bytes) ≡ unqueued f bytes (read_as command)
+    is : event_in items f (AcceptFis fis bytes) ≡ unqueued_of items f bytes (read_as command)
     is =
-        event_is o past command tag bytes lt sized mended
+        event_is items o past command tag bytes lt sized mended
         (ap (λ (b : Bool). b && not (is_queued command)) idle)
-        ∙ known-unqueued f (fis_of command tag) bytes command tag unqueued_is
+        ∙ known-unqueued items f (fis_of command tag) bytes command tag unqueued_is
 
-    quiet : is_of_queue (event_by f (AcceptFis fis bytes)).deed ≡ false
-    quiet = ap (λ (x : Event). is_of_queue x.deed) is ∙ unqueued-quiet f bytes (read_as command)
+    quiet : is_of_queue (event_in items f (AcceptFis fis bytes)).deed ≡ false
+    quiet = ap (λ (x : Event). is_of_queue x.deed) is ∙ unqueued-quiet items still f bytes (read_as command)
+
+-- By the items of this drive it gives no more data than it asks for.
+pub executed_bytes : (o : Origin) (past : List Event) (command : Command) (tag : ℕ)
+    (bytes : List ℕ) → tag < 32 → IsSized command → is_queued command ≡ false
+    → length (effect_by (facts o past) (AcceptFis (command_fis command tag) bytes)).bytes
+    ≤ bytes_moved command
+executed_bytes o past command tag bytes lt sized unqueued_is =
+    bytes-by (data_read f (reading (h2d_at fis))) (bytes_moved command)
+    (event_by f (AcceptFis fis bytes)).failed
+    (rw (reads_bytes command tag lt sized) (read-data f command tag unqueued_is
+    (sector_length past)))
+  where
+    f : Facts
+    f = facts o past
+
+    fis : List ℕ
+    fis = command_fis command tag
 
 -- The read of the log.
 abbrev pub mended_effect : Option Failure → Effect
@@ -484,10 +483,10 @@ mended_effect failing = record {
   bytes = error_log failing;
 }
 
-pub mends : (o : Origin) (past : List Event) (found : Failure) → failure past ≡ Some found
-    → effect_by (facts o past) (AcceptFis log_fis []) ≡ mended_effect (Some found)
-mends o past found is =
+pub mends : (items : Items) (o : Origin) (past : List Event) (found : Failure) → failure past ≡ Some found
+    → effect_in items (facts o past) (AcceptFis log_fis []) ≡ mended_effect (Some found)
+mends items o past found is =
     ap
-    (λ (x : Option Failure). effect_by (record (facts o past) { failure = x })
+    (λ (x : Option Failure). effect_in items (record (facts o past) { failure = x })
     (AcceptFis log_fis []))
     is

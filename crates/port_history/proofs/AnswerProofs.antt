@@ -2,6 +2,8 @@
 use Rattle.std.proofs.Common.{◌≡◌, ◌∙◌, ℕ, ◌==◌, Bool, true, false, List, [], ◌∷◌, if◌then◌else◌, Option, Some, None, refl, sym, ap, subst, eqb-true}
 use Rattle.std.specs.Prelude.{is_some, unwrap_or}
 use Rattle.device_data.specs.declared.log_page.Failure.{Failure}
+use Rattle.history.specs.Tcg.{tcg}
+use Rattle.history.proofs.QuietProofs.{tcg_quiet}
 use Rattle.port_history.specs.declared.request.Answer.{Answer}
 use Rattle.port_history.specs.declared.request.Answer.TheVariants as answers
 use Rattle.port_history.specs.declared.stages.Put.{Put}
@@ -112,8 +114,8 @@ answer_law o (steps.Accept u ∷ before) h tag is =
     let ms = trace o before in
     let t = none_holds (tests_of ms (steps.Accept u)) h.1 in
     let p = issued_is (stage ms u) t.1.1.0 in
-    subst (λ (m : Moment). HasAnswer (m ∷ ms) tag) (sym (accept_is o ms u p.0 p.1))
-    (accepted_other u tag (u == tag) refl p.0 (accepted_effect o ms u p.0) (stage ms tag)
+    subst (λ (m : Moment). HasAnswer (m ∷ ms) tag) (sym (accept_is tcg o ms u p.0 p.1))
+    (accepted_other u tag (u == tag) refl p.0 (accepted_effect tcg o ms u p.0) (stage ms tag)
     (λ same. subst (λ (k : ℕ). stage ms k ≡ Issued p.0) same p.1) (answer ms tag)
     (answer_law o before h.2 tag)) is
 answer_law o (steps.Complete u ∷ before) h tag is =
@@ -123,7 +125,7 @@ answer_law o (steps.Recover ∷ before) h tag is =
     let ms = trace o before in
     let t = none_holds (tests_of ms steps.Recover) h.1 in
     let f = some_is (failed ms) (was_true _ t.1.0) in
-    let x = found ms f.0 (kept o before h.2) f.1 in
+    let x = found ms f.0 (kept tcg tcg_quiet o before h.2) f.1 in
     subst
     (λ (y : Option Failure). is_some (unwrap_or (if is_tag tag (failed ms) then recovered_answer y
     else None) (answer ms tag)) ≡ true)

@@ -12,6 +12,8 @@ use Rattle.history.specs.Facts.{Facts, facts}
 use Rattle.history.specs.Answers.{expected, expected_by}
 use Rattle.history.specs.Bounds.{IsFed, AreFed}
 use Rattle.history.specs.History.{Act, Accept as AcceptFis, Complete as CompleteTag, Reset as ResetDrive, event_by, log}
+use Rattle.history.specs.Tcg.{tcg}
+use Rattle.history.proofs.QuietProofs.{tcg_quiet}
 use Rattle.port_history.specs.declared.stages.Put.{Put}
 use Rattle.port_history.specs.declared.step.Step.{Step}
 use Rattle.port_history.specs.declared.step.Step.TheVariants as steps
@@ -91,12 +93,12 @@ step_fed o (steps.Accept u) before h =
     let p = issued_is (stage ms u) t.1.1.0 in
     subst (λ (x : Option Put). IsFedBy (facts o (events ms)) (acceptance u x (payload ms u)))
     (sym (ap put_in p.1))
-    (accept_fed p.0 u (payload ms u) (fit_issued ms u p.0 (kept o before h.2) p.1))
+    (accept_fed p.0 u (payload ms u) (fit_issued ms u p.0 (kept tcg tcg_quiet o before h.2) p.1))
 step_fed o (steps.Complete u) before h =
     let ms = trace o before in
     let t = none_holds (tests_of ms (steps.Complete u)) h.1 in
     let p = accepted_is (stage ms u) t.1.1.0 in
-    let k = kept o before h.2 in
+    let k = kept tcg tcg_quiet o before h.2 in
     let x = accepted_held ms u p.0 k (none_is (failed ms) t.1.0) p.1 in
     let here = fit_accepted ms u p.0 k p.1 in
     here.fit.brings ∙ sym (expected-brought p.0.command here.queued)

@@ -10,8 +10,8 @@ use Rattle.locking.specs.declared.ranges.Verdict.{Verdict}
 use Rattle.trusted_cmds.specs.declared.command.Command.{Command}
 use Rattle.trusted_cmds.specs.declared.command.Command.TheVariants as commands
 use Rattle.trusted_cmds.specs.Commands.{lba_of}
-use Rattle.drive.specs.Answers.{kind_of}
-use Rattle.drive.specs.declared.reset.ResetKind.{ResetKind}
+use Rattle.history.specs.Resets.{kind_of}
+use Rattle.history.specs.declared.reset.ResetKind.{ResetKind}
 use Rattle.history.specs.Events.{HeldCommand, Event, WasReset, did, or_else, latest}
 use Rattle.history.specs.Decisions.{any_below, completed_by, holds}
 use Rattle.history.specs.Readers.{holding, held, failure}

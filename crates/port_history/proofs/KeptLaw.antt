@@ -8,6 +8,10 @@ use Rattle.trusted_cmds.specs.declared.command.Command.{Command}
 use Rattle.trusted_cmds.specs.Commands.{sector_size}
 use Rattle.history.specs.Opening.{Origin}
 use Rattle.history.specs.Events.{HeldCommand, Event}
+use Rattle.history.specs.Items.{Items}
+use Rattle.history.specs.Quiet.{IsQuiet}
+use Rattle.history.specs.Tcg.{tcg}
+use Rattle.history.proofs.QuietProofs.{tcg_quiet}
 use Rattle.history.specs.Facts.{facts}
 use Rattle.history.specs.Decisions.{is_busy, completed, completed_by}
 use Rattle.history.specs.Answers.{fises_of}
@@ -20,46 +24,46 @@ use Rattle.port_history.specs.declared.step.Step.{Step}
 use Rattle.port_history.specs.declared.step.Step.TheVariants as steps
 use Rattle.port_history.specs.Requests.{command_fis, log_fis, bytes_moved, most_blocks}
 use Rattle.port_history.specs.Stages.{is_queued, is_out, put_in}
-use Rattle.port_history.specs.Steps.{Effect, Moment, effect_by, moment, trace, events, stage, failed, payload, acceptance, accept_payload}
-use Rattle.port_history.specs.Refusals.{IsLawful}
+use Rattle.port_history.specs.Steps.{Effect, Moment, trace, events, stage, failed, payload, acceptance, accept_payload, effect_in, moment_of, trace_of}
+use Rattle.port_history.specs.Refusals.{AreLawful}
 use Rattle.port_history.specs.Laws.{NeverMixes, FailureLaw, IsUnmixed}
 use Rattle.port_history.proofs.Fises.{fis_back, read_as, read_as-queued, read_as-tag}
 use Rattle.port_history.proofs.Sizes.{sector_length, held-fits}
-use Rattle.port_history.proofs.Acted.{IsSized, IsExecuted, IsHeldOrFailed, IsHeld, IsFailed, mended_effect, queued_effect, executed_effect, mends, reads_bytes, commands_of}
+use Rattle.port_history.proofs.Acted.{IsSized, IsExecuted, IsHeldOrFailed, IsHeld, IsFailed, mended_effect, queued_effect, executed_effect, executed_bytes, mends, reads_bytes, commands_of}
 use Rattle.port_history.proofs.Tests.{none_below, none_is, some_is, was_true, none_holds, tests_of, free_is, prepared_is, issued_is, accepted_is, answered_is}
 use Rattle.port_history.proofs.Kept.{Kept, FitsStage, IsFit, IsHere, held_by, is_single, command_held, tag_failed, as_tag, issued_quiet, accept_moment, complete_moment, recover_moment, kept_put, kept_issue, kept_take, kept_held, kept_failed, kept_executed, kept_complete, kept_recover, kept_reset}
 
 -- The moments of the acts.
 
-abbrev pub accepted_effect : Origin → List Moment → ℕ → Put → Effect
-accepted_effect o ms u put =
-    effect_by (facts o (events ms))
+abbrev pub accepted_effect : (items : Items) → Origin → List Moment → ℕ → Put → Effect
+accepted_effect items o ms u put =
+    effect_in items (facts o (events ms))
     (AcceptFis (command_fis put.command u) (accept_payload put (payload ms u)))
 
-abbrev pub completed_effect : Origin → List Moment → ℕ → Effect
-completed_effect o ms u = effect_by (facts o (events ms)) (CompleteTag u (payload ms u))
+abbrev pub completed_effect : (items : Items) → Origin → List Moment → ℕ → Effect
+completed_effect items o ms u = effect_in items (facts o (events ms)) (CompleteTag u (payload ms u))
 
-pub accept_is : (o : Origin) (ms : List Moment) (u : ℕ) (put : Put) → stage ms u ≡ Issued put
-    → moment o ms (steps.Accept u) ≡ accept_moment u put (accepted_effect o ms u put)
-accept_is o ms u put was =
+pub accept_is : (items : Items) (o : Origin) (ms : List Moment) (u : ℕ) (put : Put) → stage ms u ≡ Issued put
+    → moment_of items o ms (steps.Accept u) ≡ accept_moment u put (accepted_effect items o ms u put)
+accept_is items o ms u put was =
     ap
     (λ (p : Option Put). record {
       step = steps.Accept u;
       served = p;
       effect = option_map
-          (effect_by (facts o (events ms))) (acceptance u p (payload ms u));
+          (effect_in items (facts o (events ms))) (acceptance u p (payload ms u));
     })
     (ap put_in was)
 
-pub complete_is : (o : Origin) (ms : List Moment) (u : ℕ) (put : Put) → stage ms u ≡ Accepted put
-    → moment o ms (steps.Complete u) ≡ complete_moment u put (completed_effect o ms u)
-complete_is o ms u put was =
+pub complete_is : (items : Items) (o : Origin) (ms : List Moment) (u : ℕ) (put : Put) → stage ms u ≡ Accepted put
+    → moment_of items o ms (steps.Complete u) ≡ complete_moment u put (completed_effect items o ms u)
+complete_is items o ms u put was =
     ap
     (λ (p : Option Put). record {
       step = steps.Complete u;
       served = p;
       effect = Some
-          (completed_effect o ms u);
+          (completed_effect items o ms u);
     })
     (ap put_in was)
 
@@ -128,26 +132,26 @@ pub fit_accepted : (ms : List Moment) (u : ℕ) (put : Put) → Kept ms → stag
 fit_accepted ms u put k was = subst (λ (s : Stage). FitsStage s (payload ms u)) was (k.fit u)
 
 -- An issued command of the queue is held, or fails the queue by its tag.
-pub queued_comes : (o : Origin) (ms : List Moment) (u : ℕ) (put : Put) → u < 32 → Kept ms
+pub queued_comes : (items : Items) (o : Origin) (ms : List Moment) (u : ℕ) (put : Put) → u < 32 → Kept ms
     → failed ms ≡ None → stage ms u ≡ Issued put → is_queued put.command ≡ true
-    → IsHeldOrFailed u put.command (accepted_effect o ms u put)
-queued_comes o ms u put lu k mended was queued =
-    queued_effect o (events ms) put.command u (accept_payload put (payload ms u)) lu
+    → IsHeldOrFailed u put.command (accepted_effect items o ms u put)
+queued_comes items o ms u put lu k mended was queued =
+    queued_effect items o (events ms) put.command u (accept_payload put (payload ms u)) lu
     (fit_issued ms u put k was).sized queued (mended_queue ms k mended) (free_tag ms u put k was)
 
 -- Another one is executed.
-pub unqueued_comes : (o : Origin) (ms : List Moment) (u : ℕ) (put : Put) → u < 32 → Kept ms
+pub unqueued_comes : (items : Items) (still : IsQuiet items) (o : Origin) (ms : List Moment) (u : ℕ) (put : Put) → u < 32 → Kept ms
     → failed ms ≡ None → stage ms u ≡ Issued put → is_queued put.command ≡ false
-    → IsExecuted (events ms) put.command (accepted_effect o ms u put)
-unqueued_comes o ms u put lu k mended was unqueued =
-    executed_effect o (events ms) put.command u (accept_payload put (payload ms u)) lu
+    → IsExecuted (events ms) put.command (accepted_effect items o ms u put)
+unqueued_comes items still o ms u put lu k mended was unqueued =
+    executed_effect items still o (events ms) put.command u (accept_payload put (payload ms u)) lu
     (fit_issued ms u put k was).sized unqueued (mended_queue ms k mended)
     (idle o ms u put lu k was unqueued) (nothing_held ms u put lu k was unqueued)
 
-kept_accept : (o : Origin) (ms : List Moment) (u : ℕ) (put : Put) → u < 32 → Kept ms
-    → failed ms ≡ None → stage ms u ≡ Issued put → Kept (moment o ms (steps.Accept u) ∷ ms)
-kept_accept o ms u put lu k mended was =
-    rw (accept_is o ms u put was) (by_kind (is_queued put.command) refl)
+kept_accept : (items : Items) (still : IsQuiet items) (o : Origin) (ms : List Moment) (u : ℕ) (put : Put) → u < 32 → Kept ms
+    → failed ms ≡ None → stage ms u ≡ Issued put → Kept (moment_of items o ms (steps.Accept u) ∷ ms)
+kept_accept items still o ms u put lu k mended was =
+    rw (accept_is items o ms u put was) (by_kind (is_queued put.command) refl)
   where
     by_effect : (e : Effect) → is_queued put.command ≡ true → IsHeldOrFailed u put.command e
         → Kept (accept_moment u put e ∷ ms)
@@ -156,13 +160,13 @@ kept_accept o ms u put lu k mended was =
         rw made (kept_failed ms u put error denied lu k was queued)
 
     by_kind : (b : Bool) → is_queued put.command ≡ b
-        → Kept (accept_moment u put (accepted_effect o ms u put) ∷ ms)
+        → Kept (accept_moment u put (accepted_effect items o ms u put) ∷ ms)
     by_kind true queued =
-        by_effect (accepted_effect o ms u put) queued
-        (queued_comes o ms u put lu k mended was queued)
+        by_effect (accepted_effect items o ms u put) queued
+        (queued_comes items o ms u put lu k mended was queued)
     by_kind false unqueued =
-        kept_executed ms u put (accepted_effect o ms u put) lu k was unqueued
-        (unqueued_comes o ms u put lu k mended was unqueued)
+        kept_executed ms u put (accepted_effect items o ms u put) lu k was unqueued
+        (unqueued_comes items still o ms u put lu k mended was unqueued)
 
 -- What is held under a tag that is accepted.
 
@@ -191,10 +195,10 @@ effect_on o past u bytes x = record {
   bytes = Rattle.history.specs.Answers.completed_data (facts o past) x;
 }
 
-pub accepted_moves : (o : Origin) (ms : List Moment) (u : ℕ) (put : Put) → Kept ms
+pub accepted_moves : (items : Items) (o : Origin) (ms : List Moment) (u : ℕ) (put : Put) → Kept ms
     → failed ms ≡ None → stage ms u ≡ Accepted put
-    → IsMoved u put.command (payload ms u) (completed_effect o ms u)
-accepted_moves o ms u put k mended was =
+    → IsMoved u put.command (payload ms u) (completed_effect items o ms u)
+accepted_moves items o ms u put k mended was =
     let h = accepted_held ms u put k mended was in
     rw (h.1) (by_command h.0 put.command h.2)
   where
@@ -226,12 +230,12 @@ found ms tag k was =
     let f = found_is (failure (events ms)) tag (k.failure ∙ ap as_tag was) in
     record { found = f.0; failing = f.1; names = f.2; low = k.low tag was }
 
-pub recover_is : (o : Origin) (ms : List Moment) (f : Failure) → failure (events ms) ≡ Some f
-    → moment o ms steps.Recover ≡ recover_moment (mended_effect (Some f))
-recover_is o ms f is =
+pub recover_is : (items : Items) (o : Origin) (ms : List Moment) (f : Failure) → failure (events ms) ≡ Some f
+    → moment_of items o ms steps.Recover ≡ recover_moment (mended_effect (Some f))
+recover_is items o ms f is =
     ap
     (λ (e : Effect). record { step = steps.Recover; served = None; effect = Some e })
-    (mends o (events ms) f is)
+    (mends items o (events ms) f is)
 
 -- No act gives more than a transfer of the port has.
 most : (command : Command) (n : ℕ) → IsSized command → n ≤ bytes_moved command
@@ -240,7 +244,7 @@ most command n sized le = omega (arith, sized.most, le)
 
 pub accepted_bytes : (o : Origin) (ms : List Moment) (u : ℕ) (put : Put) → u < 32 → Kept ms
     → failed ms ≡ None → stage ms u ≡ Issued put
-    → length (accepted_effect o ms u put).bytes ≤ sector_size * most_blocks
+    → length (accepted_effect tcg o ms u put).bytes ≤ sector_size * most_blocks
 accepted_bytes o ms u put lu k mended was = by_kind (is_queued put.command) refl
   where
     by_effect : (e : Effect) → IsHeldOrFailed u put.command e
@@ -251,25 +255,26 @@ accepted_bytes o ms u put lu k mended was = by_kind (is_queued put.command) refl
         subst (λ (x : Effect). length x.bytes ≤ sector_size * most_blocks) (sym made) (omega arith)
 
     by_kind : (b : Bool) → is_queued put.command ≡ b
-        → length (accepted_effect o ms u put).bytes ≤ sector_size * most_blocks
+        → length (accepted_effect tcg o ms u put).bytes ≤ sector_size * most_blocks
     by_kind true queued =
-        by_effect (accepted_effect o ms u put) (queued_comes o ms u put lu k mended was queued)
+        by_effect (accepted_effect tcg o ms u put) (queued_comes tcg o ms u put lu k mended was queued)
     by_kind false unqueued =
-        most put.command (length (accepted_effect o ms u put).bytes)
+        most put.command (length (accepted_effect tcg o ms u put).bytes)
         (fit_issued ms u put k was).sized
-        (unqueued_comes o ms u put lu k mended was unqueued).bytes
+        (executed_bytes o (events ms) put.command u (accept_payload put (payload ms u)) lu
+        (fit_issued ms u put k was).sized unqueued)
 
 pub completed_bytes : (o : Origin) (ms : List Moment) (u : ℕ) (put : Put) → Kept ms
     → failed ms ≡ None → stage ms u ≡ Accepted put
-    → length (completed_effect o ms u).bytes ≤ sector_size * most_blocks
+    → length (completed_effect tcg o ms u).bytes ≤ sector_size * most_blocks
 completed_bytes o ms u put k mended was =
-    most put.command (length (completed_effect o ms u).bytes)
+    most put.command (length (completed_effect tcg o ms u).bytes)
     (fit_accepted ms u put k was).fit.sized
-    (accepted_moves o ms u put k mended was).bytes
+    (accepted_moves tcg o ms u put k mended was).bytes
 
 -- Every lawful list keeps it.
-pub kept : (o : Origin) (list : List Step) → IsLawful o list → Kept (trace o list)
-kept o [] h = record {
+pub kept : (items : Items) (still : IsQuiet items) (o : Origin) (list : List Step) → AreLawful items o list → Kept (trace_of items o list)
+kept items still o [] h = record {
   queue = λ t. refl;
   failure = refl;
   fit = λ t. tt;
@@ -280,48 +285,48 @@ kept o [] h = record {
   where
     none_some : (t : ℕ) → ◌≡◌ {A = Option ℕ} None (Some t) → ⊥
     none_some t e = cc
-kept o (steps.Put client u request ∷ before) h =
-    let ms = trace o before in
+kept items still o (steps.Put client u request ∷ before) h =
+    let ms = trace_of items o before in
     let t = none_holds (tests_of ms (steps.Put client u request)) h.1 in
-    kept_put ms client u request (ltb-true u 32 h.0) (kept o before h.2)
+    kept_put ms client u request (ltb-true u 32 h.0) (kept items still o before h.2)
     (free_is (stage ms u) t.1.1.0) (was_true _ t.1.0)
-kept o (steps.Issue u ∷ before) h =
-    let ms = trace o before in
+kept items still o (steps.Issue u ∷ before) h =
+    let ms = trace_of items o before in
     let t = none_holds (tests_of ms (steps.Issue u)) h.1 in
     let p = prepared_is (stage ms u) t.1.1.0 in
-    kept_issue ms u p.0 (ltb-true u 32 h.0) (kept o before h.2) p.1 t.1.1.1.0
-kept o (steps.Accept u ∷ before) h =
-    let ms = trace o before in
+    kept_issue ms u p.0 (ltb-true u 32 h.0) (kept items still o before h.2) p.1 t.1.1.1.0
+kept items still o (steps.Accept u ∷ before) h =
+    let ms = trace_of items o before in
     let t = none_holds (tests_of ms (steps.Accept u)) h.1 in
     let p = issued_is (stage ms u) t.1.1.0 in
-    kept_accept o ms u p.0 (ltb-true u 32 h.0) (kept o before h.2) (none_is (failed ms) t.1.0) p.1
-kept o (steps.Complete u ∷ before) h =
-    let ms = trace o before in
+    kept_accept items still o ms u p.0 (ltb-true u 32 h.0) (kept items still o before h.2) (none_is (failed ms) t.1.0) p.1
+kept items still o (steps.Complete u ∷ before) h =
+    let ms = trace_of items o before in
     let t = none_holds (tests_of ms (steps.Complete u)) h.1 in
     let p = accepted_is (stage ms u) t.1.1.0 in
-    let k = kept o before h.2 in
+    let k = kept items still o before h.2 in
     let mended = none_is (failed ms) t.1.0 in
-    rw (complete_is o ms u p.0 p.1)
-    (kept_complete ms u p.0 (completed_effect o ms u) (payload ms u) (ltb-true u 32 h.0) k mended
-    p.1 (accepted_moves o ms u p.0 k mended p.1).event)
-kept o (steps.Recover ∷ before) h =
-    let ms = trace o before in
+    rw (complete_is items o ms u p.0 p.1)
+    (kept_complete ms u p.0 (completed_effect items o ms u) (payload ms u) (ltb-true u 32 h.0) k mended
+    p.1 (accepted_moves items o ms u p.0 k mended p.1).event)
+kept items still o (steps.Recover ∷ before) h =
+    let ms = trace_of items o before in
     let t = none_holds (tests_of ms steps.Recover) h.1 in
-    let k = kept o before h.2 in
+    let k = kept items still o before h.2 in
     let f = some_is (failed ms) (was_true _ t.1.0) in
     let x = found ms f.0 k f.1 in
-    rw (recover_is o ms x.found x.failing) (kept_recover ms f.0 x.found k f.1)
-kept o (steps.Reset client kind ∷ before) h =
-    kept_reset (trace o before) client kind (kept o before h.2)
-kept o (steps.Take client u ∷ before) h =
-    let ms = trace o before in
+    rw (recover_is items o ms x.found x.failing) (kept_recover ms f.0 x.found k f.1)
+kept items still o (steps.Reset client kind ∷ before) h =
+    kept_reset (trace_of items o before) client kind (kept items still o before h.2)
+kept items still o (steps.Take client u ∷ before) h =
+    let ms = trace_of items o before in
     let t = none_holds (tests_of ms (steps.Take client u)) h.1 in
     let p = answered_is (stage ms u) t.1.0 in
-    kept_take ms client u p.0 (ltb-true u 32 h.0) (kept o before h.2) p.1
+    kept_take ms client u p.0 (ltb-true u 32 h.0) (kept items still o before h.2) p.1
 
 -- The drive's failure is the port's.
 pub failure_law : FailureLaw
-failure_law o list h = (kept o list h).failure
+failure_law o list h = (kept tcg tcg_quiet o list h).failure
 
 -- The port never mixes queues.
 
@@ -358,14 +363,14 @@ never_mixes o (steps.Accept u) before h fis bytes e =
     same_fis (command_fis p.0.command u) (accept_payload p.0 (payload ms u)) fis bytes
     (ap (λ (x : Option Put). acceptance u x (payload ms u)) (ap put_in (sym p.1)) ∙ e) in
     inl (subst (λ (xs : List ℕ). IsUnmixed o (events ms) xs) same
-    (unmixed_fis o ms u p.0 (ltb-true u 32 h.0) (kept o before h.2)
+    (unmixed_fis o ms u p.0 (ltb-true u 32 h.0) (kept tcg tcg_quiet o before h.2)
     (none_is (failed ms) t.1.0) p.1))
 never_mixes o (steps.Complete u) before h fis payload e = absurd cc
 never_mixes o steps.Recover before h fis payload e =
     let ms = trace o before in
     let t = none_holds (tests_of ms steps.Recover) h.1 in
     let f = some_is (failed ms) (was_true _ t.1.0) in
-    let x = found ms f.0 (kept o before h.2) f.1 in
+    let x = found ms f.0 (kept tcg tcg_quiet o before h.2) f.1 in
     inr (record { failed = ap is_some x.failing; reads = sym (same_fis log_fis [] fis payload e) })
 never_mixes o (steps.Reset client kind) before h fis payload e = absurd cc
 never_mixes o (steps.Take client u) before h fis payload e = absurd cc

@@ -9,7 +9,7 @@ use Rattle.locking.specs.Verdict.{verdict_of}
 use Rattle.shadow_mbr.specs.Stored.{zeros, sectors_from}
 use Rattle.transactions.specs.Resets.{is_range}
 use Rattle.trusted_cmds.specs.declared.command.Command.TheVariants.{ReadQueued}
-use Rattle.drive.specs.declared.reset.ResetKind.TheVariants.{Power, Hardware}
+use Rattle.history.specs.declared.reset.ResetKind.TheVariants.{Power, Hardware}
 use Rattle.history.specs.Opening.{Origin, with_range}
 use Rattle.history.specs.Decisions.{any_below}
 use Rattle.history.proofs.Scripts.{range_row, opened}

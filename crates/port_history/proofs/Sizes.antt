@@ -19,7 +19,8 @@ use Rattle.history.specs.Events.{SessionDeed, Reverted, CompletedWrite, Deed, In
 use Rattle.history.specs.Readers.{part_of, wipes, writing, sector}
 use Rattle.history.specs.Facts.{Facts}
 use Rattle.history.specs.Decisions.{verdict_on, discovery_com_id}
-use Rattle.history.specs.Answers.{read_by, received_bytes, receive_data, data_of, held_data}
+use Rattle.history.specs.Answers.{read_by, held_data}
+use Rattle.history.specs.Tcg.{received_bytes, receive_data, data_of}
 use Rattle.port_history.specs.Requests.{bytes_moved}
 
 -- sectors

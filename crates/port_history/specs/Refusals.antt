@@ -2,7 +2,9 @@
 -- says, or a port keeps.
 use Rattle.std.specs.Prelude.{◌≡◌, ◌⊎◌, ℕ, Bool, true, not, nat_lt, List, [], ◌∷◌, length, is_some, Option, Some, None, Result, Ok, Err, if◌then◌else◌}
 use Rattle.fis.specs.Tags.{slot_count}
+use Rattle.history.specs.Items.{Items}
 use Rattle.history.specs.Opening.{Origin}
+use Rattle.history.specs.Tcg.{tcg}
 use Rattle.port_history.specs.declared.error.PortError.{PortError}
 use Rattle.port_history.specs.declared.error.PortError.TheVariants.{SlotBusy, NotPrepared, Queue, NotIssued, NotAccepted, NotFailed, Failed, NotAnswered, NotYours, Size, HistoryFull, OutOfMemory}
 use Rattle.port_history.specs.declared.stages.Stage.{Stage}
@@ -10,7 +12,7 @@ use Rattle.port_history.specs.declared.step.Step.{Step}
 use Rattle.port_history.specs.declared.step.Step.TheVariants as steps
 use Rattle.port_history.specs.Requests.{is_sized}
 use Rattle.port_history.specs.Stages.{put_in, is_free, is_prepared, is_issued, is_accepted, is_answered, mixes, is_put_by}
-use Rattle.port_history.specs.Steps.{Moment, trace, stage, failed}
+use Rattle.port_history.specs.Steps.{Moment, trace_of, stage, failed}
 
 -- how many steps a history has room for
 abbrev pub most_steps : ℕ
@@ -56,11 +58,16 @@ has_slot steps.Recover = true
 has_slot (steps.Reset client kind) = true
 has_slot (steps.Take client tag) = nat_lt tag slot_count
 
--- Each step was lawful where it stands.
+-- Each step was lawful where it stands, whatever its items do.
+abbrev pub AreLawful : Items → Origin → List Step → Type 0
+AreLawful items o [] = Unit {0}
+AreLawful items o (step ∷ before) = (has_slot step ≡ true)
+    × (refusal (trace_of items o before) step ≡ None)
+    × AreLawful items o before
+
+-- By the items of this drive.
 abbrev pub IsLawful : Origin → List Step → Type 0
-IsLawful o [] = Unit {0}
-IsLawful o (step ∷ before) = (has_slot step ≡ true) × (refusal (trace o before) step ≡ None)
-    × IsLawful o before
+IsLawful = AreLawful tcg
 
 -- A call is refused, memory apart, exactly where this is something, and with it.
 abbrev pub IsRefusedBy : {A : Type 0} → Option PortError → Result A PortError → Type 0

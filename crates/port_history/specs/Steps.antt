@@ -4,12 +4,14 @@ use Rattle.std.specs.Prelude.{ℕ, ◌+◌, ◌&&◌, ◌==◌, Bool, false, ◌
 use Rattle.audit.specs.declared.reason.AuditLine.{AuditLine}
 use Rattle.device_data.specs.declared.log_page.Failure.{Failure}
 use Rattle.fis.specs.declared.any.Fis.{Fis}
-use Rattle.drive.specs.Answers.{kind_of}
-use Rattle.history.specs.Answers.{status_of, accepted_fises, accepted_data, completed_fises, completed_data}
+use Rattle.history.specs.Resets.{kind_of}
+use Rattle.history.specs.Answers.{status_of, accepted_fises, accepted_data_of, completed_fises, completed_data}
+use Rattle.history.specs.Items.{Items}
+use Rattle.history.specs.Tcg.{tcg}
 use Rattle.history.specs.Audit.{line_for}
 use Rattle.history.specs.Events.{Event}
 use Rattle.history.specs.Facts.{Facts, facts}
-use Rattle.history.specs.History.{Act, Accept as AcceptFis, Complete as CompleteTag, Reset as ResetDrive, event_by}
+use Rattle.history.specs.History.{Act, Accept as AcceptFis, Complete as CompleteTag, Reset as ResetDrive, event_in}
 use Rattle.history.specs.Opening.{Origin}
 use Rattle.history.specs.Readers.{failure}
 use Rattle.port_history.specs.declared.request.Answer.{Answer}
@@ -153,35 +155,47 @@ act_by served payloads (steps.Take client slot) = None
 abbrev pub act_of : List Moment → Step → Option Act
 act_of before step = act_by (served_by (stage before) step) (payload before) step
 
--- What an act gives, by the facts before it.
-abbrev pub effect_by : Facts → Act → Effect
-effect_by f (AcceptFis fis bytes) = record {
-  event = event_by f (AcceptFis fis bytes);
-  fises = accepted_fises fis (event_by f (AcceptFis fis bytes));
-  bytes = accepted_data f fis (event_by f (AcceptFis fis bytes));
+-- What an act gives, by the facts before it, whatever its items do.
+abbrev pub effect_in : Items → Facts → Act → Effect
+effect_in items f (AcceptFis fis bytes) = record {
+  event = event_in items f (AcceptFis fis bytes);
+  fises = accepted_fises fis (event_in items f (AcceptFis fis bytes));
+  bytes = accepted_data_of items f fis (event_in items f (AcceptFis fis bytes));
 }
-effect_by f (CompleteTag tag bytes) = record {
-  event = event_by f (CompleteTag tag bytes);
+effect_in items f (CompleteTag tag bytes) = record {
+  event = event_in items f (CompleteTag tag bytes);
   fises = completed_fises tag (f.held tag);
   bytes = completed_data f (f.held tag);
 }
-effect_by f (ResetDrive kind) = record {
-  event = event_by f (ResetDrive kind);
+effect_in items f (ResetDrive kind) = record {
+  event = event_in items f (ResetDrive kind);
   fises = [];
   bytes = [];
 }
 
 -- What a step did after those before it.
-abbrev pub moment : Origin → List Moment → Step → Moment
-moment o before step = record {
+abbrev pub moment_of : Items → Origin → List Moment → Step → Moment
+moment_of items o before step = record {
   step = step;
   served = served_by (stage before) step;
-  effect = option_map (effect_by (facts o (events before))) (act_of before step);
+  effect = option_map (effect_in items (facts o (events before))) (act_of before step);
 }
 
+abbrev pub trace_of : Items → Origin → List Step → List Moment
+trace_of items o [] = []
+trace_of items o (step ∷ before) =
+    moment_of items o (trace_of items o before) step ∷ trace_of items o before
+
+-- By the items of this drive.
+
+abbrev pub effect_by : Facts → Act → Effect
+effect_by = effect_in tcg
+
+abbrev pub moment : Origin → List Moment → Step → Moment
+moment = moment_of tcg
+
 abbrev pub trace : Origin → List Step → List Moment
-trace o [] = []
-trace o (step ∷ before) = moment o (trace o before) step ∷ trace o before
+trace = trace_of tcg
 
 abbrev pub act_before : Option Act → List Act → List Act
 act_before None acts = acts

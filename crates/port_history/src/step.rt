@@ -1,8 +1,8 @@
 //! The steps of a port.
 
 use crate::request::{Answer, Request};
-use drive::ResetKind;
 use fis::Tag;
+use history::ResetKind;
 
 /// A step of a port.
 #[derive(Drop)]

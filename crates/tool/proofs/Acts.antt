@@ -11,7 +11,8 @@ use Rattle.trusted_cmds.specs.declared.command.Command.{Command}
 use Rattle.history.specs.Opening.{Origin}
 use Rattle.history.specs.Events.{Event}
 use Rattle.history.specs.Facts.{Facts, facts}
-use Rattle.history.specs.Decisions.{accepted, commanded, refuses}
+use Rattle.history.specs.Decisions.{refuses}
+use Rattle.history.specs.Tcg.{accepted, commanded}
 use Rattle.history.specs.History.{Act, Accept, log, event}
 use Rattle.drive.specs.Answers.{IsAnswer}
 use Rattle.drive.specs.State.{State, Keeps, Agrees}

@@ -25,7 +25,8 @@ use Rattle.drive.specs.Answers.{IsAnswer}
 use Rattle.tool.specs.Effects.{Effect, RunsOn, Stands, Has, Accepts, GoesTruly, completed, failed, transferred, served_text, answer_text, told_lines, commanded, Does}
 use Rattle.drive.specs.declared.answer.Accepted.{Accepted}
 use Rattle.script_lines.specs.declared.line.Transfer.{Transfer}
-use Rattle.history.specs.Answers.{failed as failed_status, status_of, is_holding, answer_data}
+use Rattle.history.specs.Answers.{failed as failed_status, status_of, is_holding}
+use Rattle.history.specs.Tcg.{answer_data}
 use Rattle.tool.specs.declared.running.Turn.{Turn}
 use Rattle.tool.specs.declared.running.Turn.TheVariants as turns
 use Rattle.tool.specs.declared.running.RunningPhase.{RunningPhase}

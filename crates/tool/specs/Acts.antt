@@ -8,9 +8,9 @@ use Rattle.history.specs.Answers.{expected}
 use Rattle.history.specs.Events.{Event}
 use Rattle.history.specs.History.{Act, Accept, Complete, Reset as reset_act}
 use Rattle.history.specs.Readers.{held}
-use Rattle.drive.specs.Answers.{kind_of}
-use Rattle.drive.specs.declared.reset.ResetKind.{ResetKind}
-use Rattle.drive.specs.declared.reset.ResetKind.TheVariants.{Power, Hardware}
+use Rattle.history.specs.Resets.{kind_of}
+use Rattle.history.specs.declared.reset.ResetKind.{ResetKind}
+use Rattle.history.specs.declared.reset.ResetKind.TheVariants.{Power, Hardware}
 use Rattle.port_history.specs.Requests.{command_fis}
 use Rattle.script_lines.specs.declared.line.Transfer.{Transfer}
 use Rattle.script_lines.specs.declared.line.DmaTransfer.{DmaTransfer}

@@ -12,7 +12,8 @@ use Rattle.history.specs.Events.{Event}
 use Rattle.history.specs.Facts.{facts}
 use Rattle.history.specs.History.{Act, log, event}
 use Rattle.history.specs.Readers.{held, failure}
-use Rattle.history.specs.Answers.{failed as failed_status, status_of, is_holding, answer_data, completed_data}
+use Rattle.history.specs.Answers.{failed as failed_status, status_of, is_holding, completed_data}
+use Rattle.history.specs.Tcg.{answer_data}
 use Rattle.history.specs.Decisions.{discovery_com_id}
 use Rattle.drive.specs.State.{Agrees}
 use Rattle.drive.specs.Answers.{IsAnswer}

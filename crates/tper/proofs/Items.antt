@@ -24,7 +24,7 @@ use Rattle.methods.specs.Calls.{Called, called_with, call_in, said_call, stored_
 use Rattle.history.specs.Opening.{Origin}
 use Rattle.history.specs.Events.{Event, Unchanged}
 use Rattle.history.specs.Facts.{Facts, facts}
-use Rattle.history.specs.Decisions.{Outcome, says, called_manager, to_manager, in_session, outcome_of, judgement_on, started}
+use Rattle.history.specs.Tcg.{Outcome, says, called_manager, to_manager, in_session, outcome_of, judgement_on, started}
 use Rattle.history.specs.KeptStore.{KeepsStore}
 use Rattle.history.specs.KeptSessions.{KeepsSessions, id_of}
 use Rattle.history.specs.KeptCalls.{Meets}

@@ -14,7 +14,8 @@ use Rattle.history.specs.Opening.{Origin}
 use Rattle.history.specs.Agreement.{HasNoTries}
 use Rattle.history.specs.Events.{Event, Nothing, Took, WasReset, did}
 use Rattle.history.specs.Readers.{waiting, waits}
-use Rattle.history.specs.Decisions.{Outcome, answers, received}
+use Rattle.history.specs.Decisions.{received}
+use Rattle.history.specs.Tcg.{Outcome, answers}
 use Rattle.history.specs.KeptStore.{HasKnownRows, KeepsStore}
 use Rattle.history.specs.KeptSessions.{LeavesAll}
 use Rattle.history.proofs.KeptStoreOpenings.{store_opening_law}

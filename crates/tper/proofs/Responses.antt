@@ -2,7 +2,7 @@
 use Rattle.std.proofs.Common.{◌≡◌, ℕ, ◌≤◌, ◌∙◌, Bool, true, false, List, length, Option, Some, refl, sym, ap, cond, leb-true}
 use Rattle.std.specs.Prelude.{nat_le}
 use Rattle.compacket.specs.Spelling.{com_packet_header}
-use Rattle.history.specs.Answers.{received_bytes}
+use Rattle.history.specs.Tcg.{received_bytes}
 
 -- of a response that is longer than the transfer, a header alone
 pub long-header : (com_id room n : ℕ) (w : Option (List ℕ)) (r header : List ℕ) → w ≡ Some r → (length r ≤ room → ⊥) → n ≡ length r → header ≡ com_packet_header com_id n n 0 → header ≡ received_bytes com_id room w

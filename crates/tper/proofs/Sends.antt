@@ -14,7 +14,7 @@ use Rattle.history.specs.Sessions.{Begun}
 use Rattle.history.specs.Events.{Event, Nothing, did}
 use Rattle.history.specs.Readers.{session_on}
 use Rattle.history.specs.Facts.{Facts, facts, session_named}
-use Rattle.history.specs.Decisions.{is_manager, answers, to_manager, in_session, to_session, framed, sent}
+use Rattle.history.specs.Tcg.{is_manager, answers, to_manager, in_session, to_session, framed, sent}
 use Rattle.history.specs.History.{Act, log}
 use Rattle.history.specs.KeptSessions.{KeepsSessions, id_of}
 use Rattle.history.proofs.Items.{named-lives}

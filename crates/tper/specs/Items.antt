@@ -10,7 +10,7 @@ use Rattle.history.specs.Sessions.{Begun}
 use Rattle.history.specs.Events.{Event}
 use Rattle.history.specs.Readers.{session_on}
 use Rattle.history.specs.Facts.{Facts, facts}
-use Rattle.history.specs.Decisions.{Outcome}
+use Rattle.history.specs.Tcg.{Outcome}
 use Rattle.history.specs.History.{Act, log}
 use Rattle.history.specs.KeptStore.{KeepsStore}
 use Rattle.history.specs.KeptSessions.{KeepsSessions, id_of}

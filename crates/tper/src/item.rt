@@ -12,7 +12,7 @@ ghost use Rattle.tcg_tokens.specs.Tree.{trees};
 ghost use Rattle.methods.specs.Effects.{holder_of};
 ghost use Rattle.sessions.specs.Live.{Live};
 ghost use Rattle.history.specs.Events.{Ended};
-ghost use Rattle.history.specs.Decisions.{says, refusal, to_manager, called_manager, in_session, outcome_of, judgement_on, begins_on, ends_on};
+ghost use Rattle.history.specs.Tcg.{says, refusal, to_manager, called_manager, in_session, outcome_of, judgement_on, begins_on, ends_on};
 ghost use Rattle.history.specs.Facts.{has_open};
 ghost use Rattle.tper.specs.Items.{OfManager, OfSession};
 

@@ -4,7 +4,7 @@ ghost use Rattle.std.specs.Prelude.{◌≡◌, ◌==◌, ◌<◌, ◌≤◌, ◌
 ghost use Rattle.compacket.specs.declared.headers.TheConstants.{MAX_COM_PACKET};
 ghost use Rattle.device_data.specs.ErrorLog.{sized};
 ghost use Rattle.history.specs.Decisions.{is_session_com_id};
-ghost use Rattle.history.specs.Answers.{received_bytes};
+ghost use Rattle.history.specs.Tcg.{received_bytes};
 ghost use Rattle.tper.specs.Tper.{response_at, fits_in};
 
 use compacket::{

@@ -2,7 +2,7 @@ use Rattle.std.proofs.Common.{◌≡◌, ◌*◌, ◌∙◌, ap, sym, subst, ref
 use Rattle.shadow_mbr.specs.Stored.{sector_size}
 use Rattle.trusted_cmds.specs.declared.command.Command.{Command}
 use Rattle.trusted_cmds.specs.declared.command.Command.TheVariants.{Identify}
-use Rattle.history.specs.Answers.{data_of, receive_data}
+use Rattle.history.specs.Tcg.{data_of, receive_data}
 use Rattle.history.specs.Facts.{Facts, facts}
 use Rattle.history.specs.History.{log}
 use Rattle.drive.specs.Decision.{executed}

@@ -2,7 +2,7 @@ use Rattle.std.proofs.Common.{◌≡◌, ◌∙◌, sym, ap, false, Some, None, 
 use Rattle.compacket.specs.Frames.{Frame, reading}
 use Rattle.compacket.specs.declared.session.Opened.{Opened}
 use Rattle.history.specs.Facts.{facts}
-use Rattle.history.specs.Decisions.{is_manager}
+use Rattle.history.specs.Tcg.{is_manager}
 use Rattle.history.specs.History.{log}
 use Rattle.tper.specs.Tper.{Tper}
 use Rattle.tper.proofs.Sends.{IsFor, ByManager, BySession, found_at, on-ok, if-ok, nothing-kept, nothing-sent, no-frame, other-frame, nobody-named, manager-is, no-manager, manager-kept, manager-sent, session-kept, session-sent, found-lives}

@@ -1,0 +1,42 @@
+-- The items of this drive are quiet.
+use Rattle.std.proofs.Common.{◌≡◌, ℕ, ◌==◌, Bool, true, false, ◌&&◌, not, List, Option, Some, None, refl, cond}
+use Rattle.std.specs.Prelude.{is_some, Result, Ok, Err}
+use Rattle.compacket.specs.declared.session.Session.{Session}
+use Rattle.compacket.specs.declared.error.FrameError.{FrameError}
+use Rattle.compacket.specs.Frames.{Frame, reading as frame_in}
+use Rattle.tcg_tokens.specs.Reading.{reading as message_in}
+use Rattle.history.specs.Sessions.{Begun}
+use Rattle.history.specs.Answers.{is_holding}
+use Rattle.history.specs.Events.{Deed, Nothing, InSession, OfQueue, Wrote, Took, WasReset, Event, did}
+use Rattle.history.specs.Facts.{Facts, session_named}
+use Rattle.history.specs.Decisions.{refuses, is_trusted, is_session_com_id}
+use Rattle.history.specs.Tcg.{answers, to_manager, is_manager, to_session, framed, sent, tcg}
+use Rattle.history.specs.Quiet.{is_quiet, IsQuiet}
+
+either : (b : Bool) (x y : Event) → is_quiet x.deed ≡ true → is_quiet y.deed ≡ true → is_quiet (cond b x y).deed ≡ true
+either true x y h g = h
+either false x y h g = g
+
+to_session-quiet : (f : Facts) (com_id : ℕ) (named : Session) (payload : List ℕ) (x : Option Begun) → is_quiet (to_session f com_id named payload x).deed ≡ true
+to_session-quiet f com_id named payload None = refl
+to_session-quiet f com_id named payload (Some s) = refl
+
+sent-quiet : (f : Facts) (com_id : ℕ) (r : Result Frame FrameError) → is_quiet (sent f com_id r).deed ≡ true
+sent-quiet f com_id (Err e) = refl
+sent-quiet f com_id (Ok frame) =
+    either (frame.com_id == com_id) (framed f com_id frame) (did Nothing)
+    (either (is_manager frame.session) (answers com_id frame.session (to_manager f com_id (message_in frame.payload))) (to_session f com_id frame.session frame.payload (session_named f com_id frame.session)) refl (to_session-quiet f com_id frame.session frame.payload (session_named f com_id frame.session)))
+    refl
+
+pub tcg_quiet : IsQuiet tcg
+tcg_quiet f protocol com_id blocks payload =
+    either (is_trusted protocol blocks && is_session_com_id com_id && not (is_some (f.waiting com_id))) (sent f com_id (frame_in payload)) refuses (sent-quiet f com_id (frame_in payload)) refl
+
+-- a quiet deed holds nothing, and is no write
+pub quiet-none : (d : Deed) → is_quiet d ≡ true → is_holding d ≡ false
+quiet-none Nothing h = refl
+quiet-none (InSession deed response) h = refl
+quiet-none (OfQueue deed) h = cc
+quiet-none (Wrote lba bytes) h = refl
+quiet-none (Took com_id) h = refl
+quiet-none (WasReset kind) h = refl

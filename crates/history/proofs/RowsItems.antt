@@ -1,0 +1,54 @@
+-- Items on both sides of what the laws ask of them, beside those of this drive.
+use Rattle.std.proofs.Common.{◌≡◌, ℕ, ◌==◌, Bool, true, false, [], if◌then◌else◌, refl, ap}
+use Rattle.history.specs.Decisions.{refuses}
+use Rattle.history.specs.Events.{Event, did, Nothing, OfQueue, QueueMended}
+use Rattle.history.specs.Facts.{Facts}
+use Rattle.history.specs.Items.{Items}
+use Rattle.history.specs.NoTrace.{IsByOwnView}
+use Rattle.history.specs.Quiet.{is_quiet, IsQuiet}
+
+false_true : false ≡ true → ⊥
+false_true h = cc
+
+-- Items that refuse each send: quiet, and they see no view.
+abbrev refusing : Items
+refusing = record { sends = λ f protocol com_id blocks payload. refuses; gives = λ f command. [] }
+
+refusing_quiet : IsQuiet refusing
+refusing_quiet f protocol com_id blocks payload = refl
+
+refusing_views : IsByOwnView refusing
+refusing_views f rows bytes number same protocol com_id blocks payload apart = refl
+
+-- Items that end the failure of the queue are not quiet.
+abbrev mending : Items
+mending = record { sends = λ f protocol com_id blocks payload. did (OfQueue QueueMended); gives = λ f command. [] }
+
+mending_is_not : Facts → IsQuiet mending → ⊥
+mending_is_not f h = false_true (h f 1 0 1 [])
+
+-- Items that tell each client of a byte in the view of session 5 are quiet, but see another's view.
+abbrev telling : Items
+telling = record { sends = λ f protocol com_id blocks payload. (if f.byte_of 5 0 == 0 then refuses else did Nothing); gives = λ f command. [] }
+
+telling_quiet : IsQuiet telling
+telling_quiet f protocol com_id blocks payload = by_byte (f.byte_of 5 0 == 0)
+  where
+    by_byte : (b : Bool) → is_quiet (if b then refuses else did Nothing).deed ≡ true
+    by_byte true = refl
+    by_byte false = refl
+
+abbrev blank : Facts → Facts
+blank f = record f { byte_of = λ viewer place. 0 }
+
+telling_sees : Facts → IsByOwnView telling → ⊥
+telling_sees f h = told (h (blank f) f.rows_of (λ viewer place. if 5 == viewer then 1 else 0) 5 (λ viewer apart. record {
+  rows_same = refl;
+  bytes_same = ap (λ (b : Bool). λ (place : ℕ). if b then 1 else 0) apart;
+}) 1 0 1 [] refl)
+  where
+    told : did Nothing ≡ refuses → ⊥
+    told e = differ (ap (λ (x : Event). x.failed) e)
+      where
+        differ : ◌≡◌ {A = Rattle.std.specs.Prelude.Option ℕ} Rattle.std.specs.Prelude.None (Rattle.std.specs.Prelude.Some 4) → ⊥
+        differ g = cc

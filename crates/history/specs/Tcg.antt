@@ -1,0 +1,264 @@
+-- What the items of this drive do and give, by the facts: the session manager, sessions, responses
+-- (Core 2.01, chapter 3; Opal SSC 2.01, section 3.1.1, Level 0 discovery).
+use Rattle.std.specs.Prelude.{ℕ, zero, suc, ◌*◌, ◌==◌, Bool, true, false, not, ◌&&◌, nat_le, List, [], length, Option, Some, None, is_some, Result, Ok, Err, if◌then◌else◌}
+use Rattle.fis.specs.declared.h2d.RegH2d.{RegH2d}
+use Rattle.sp_cells.specs.declared.names.Uid.{Uid}
+use Rattle.sp_cells.specs.declared.names.Sp.{Sp}
+use Rattle.sp_cells.specs.declared.names.Sp.TheVariants.{Admin, Locking}
+use Rattle.sp_cells.specs.Names.{c_pin_sid, session_manager, properties, start_session}
+use Rattle.sp_cells.specs.ColumnNames.{pin_column}
+use Rattle.audit.specs.declared.reason.AttemptFailure.{AttemptFailure}
+use Rattle.audit.specs.declared.reason.Why.{Why}
+use Rattle.compacket.specs.declared.session.Session.{Session}
+use Rattle.compacket.specs.declared.error.FrameError.{FrameError}
+use Rattle.compacket.specs.Frames.{Frame, reading as frame_in}
+use Rattle.compacket.specs.Spelling.{frame_bytes, com_packet_header}
+use Rattle.tcg_tokens.specs.declared.error.TokenError.{TokenError}
+use Rattle.tcg_tokens.specs.Message.{Message, call, reply, end_session, begin, end}
+use Rattle.tcg_tokens.specs.Reading.{reading as message_in}
+use Rattle.tcg_tokens.specs.Spelling.{item_spelling_of}
+use Rattle.tcg_tokens.specs.Tree.{Tree, Trees}
+use Rattle.call_shapes.specs.Named.{values_of}
+use Rattle.trusted_cmds.specs.declared.command.Command.{Command}
+use Rattle.trusted_cmds.specs.declared.command.Command.TheVariants.{Receive, Identify}
+use Rattle.trusted_cmds.specs.declared.command.CommandError.{CommandError}
+use Rattle.sessions.specs.Attempts.{failure as failure_of, credential}
+use Rattle.call_shapes.specs.Asks.{uid_of}
+use Rattle.history.specs.Sessions.{Begun}
+use Rattle.call_shapes.specs.Statuses.{success, transaction_failure, fail}
+use Rattle.sessions.specs.declared.opening.Opening.{Opening}
+use Rattle.sessions.specs.declared.opening.StartVerdict.{StartVerdict}
+use Rattle.sessions.specs.declared.opening.StartVerdict.TheVariants.{Refused, Attempted}
+use Rattle.sessions.specs.Gains.{gained, first_held}
+use Rattle.sessions.specs.Starts.{opening_of, is_in_use, verdict, host_of, reply_to, denied_with}
+use Rattle.sessions.specs.Properties.{properties_message}
+use Rattle.methods.specs.Said.{reply_of, said_attempt}
+use Rattle.history.specs.Changes.{Sets}
+use Rattle.history.specs.Calls.{Judgement, Refuses, Gives, Makes, Attempts, Activates, Reverts, asked, judged}
+use Rattle.history.specs.Events.{SessionDeed, Unchanged, Started, Tried, Changed, Began, Committed, Aborted, Ended, Activated, Reverted, Nothing, InSession, Event, did}
+use Rattle.history.specs.Facts.{Facts, live, session_named, has_open, standing}
+use Rattle.device_data.specs.Discovery.{discovery}
+use Rattle.device_data.specs.Identity.{identity}
+use Rattle.device_data.specs.ErrorLog.{sized}
+use Rattle.shadow_mbr.specs.Stored.{sector_size}
+use Rattle.history.specs.Items.{Items}
+use Rattle.history.specs.Decisions.{refuses, is_session_com_id, discovery_com_id, is_trusted, unqueued_of, known_of, commanded_of, accepted_of}
+use Rattle.history.specs.Answers.{block_of, data_read_of, answer_data_of, accepted_data_of}
+
+-- Items. What one does and is answered, and what denied it.
+
+pub record Outcome : Type 0 where
+  pub deed : SessionDeed
+  pub said : Message
+  pub denied : Option Why
+
+abbrev pub says : SessionDeed → Message → Outcome
+says deed said = record { deed = deed; said = said; denied = None }
+
+abbrev pub refusal : ℕ → Message
+refusal status = reply_of [] status
+
+abbrev pub answers : ℕ → Session → Outcome → Event
+answers com_id session outcome = record {
+  failed = None;
+  deed = InSession outcome.deed (record {
+    com_id = com_id;
+    bytes = frame_bytes com_id session (item_spelling_of outcome.said);
+  });
+  denied = outcome.denied;
+}
+
+-- Attempts. They go by the rows in force, never by an open transaction's; a right one gains the
+-- authority and its class.
+
+abbrev pub gains_of : Facts → Sp → Uid → Option AttemptFailure → List Uid
+gains_of f sp authority None = gained f.rows sp authority []
+gains_of f sp authority (Some failure) = []
+
+abbrev pub tried : Facts → Sp → Uid → Option AttemptFailure → List Uid → SessionDeed
+tried f sp authority failure gains =
+    Tried (record {
+      sp = sp;
+      authority = authority;
+      row = credential f.rows sp authority;
+      failure = failure;
+      gained = gains;
+    })
+
+abbrev pub tried_in : Facts → Sp → Uid → Option AttemptFailure → Outcome
+tried_in f sp authority failure = record {
+  deed = tried f sp authority failure (gains_of f sp authority failure);
+  said = (said_attempt sp authority failure).answer;
+  denied = (said_attempt sp authority failure).denied;
+}
+
+-- The session manager.
+
+abbrev pub begun : Facts → ℕ → Opening → Sp → Begun
+begun f com_id opening sp = record {
+  number = f.next_number;
+  host = opening.host;
+  com_id = com_id;
+  sp = sp;
+  authorities = first_held f.rows sp opening.authority;
+}
+
+-- What comes of a StartSession, by the rows in force and the sessions that live.
+abbrev pub start_verdict : Facts → Option Opening → StartVerdict
+start_verdict f opening = verdict f.rows (live f) opening
+
+abbrev pub deed_of_start : Facts → ℕ → Opening → StartVerdict → SessionDeed
+deed_of_start f com_id opening (Refused status) = Unchanged
+deed_of_start f com_id opening (Attempted sp (Some failure)) =
+    tried f sp opening.authority (Some failure) []
+deed_of_start f com_id opening (Attempted sp None) =
+    Started (begun f com_id opening sp) (credential f.rows sp opening.authority)
+
+abbrev pub start_deed : Facts → ℕ → Option Opening → SessionDeed
+start_deed f com_id None = Unchanged
+start_deed f com_id (Some opening) = deed_of_start f com_id opening (start_verdict f (Some opening))
+
+abbrev pub started_by : Facts → ℕ → ℕ → Option Opening → Outcome
+started_by f com_id host opening = record {
+  deed = start_deed f com_id opening;
+  said = reply_to host f.next_number (start_verdict f opening);
+  denied = denied_with opening (start_verdict f opening);
+}
+
+abbrev pub started : Facts → ℕ → List Tree → Outcome
+started f com_id args = started_by f com_id (host_of args) (opening_of args)
+
+abbrev pub is_method_of_manager : Uid → Uid → Uid → Bool
+is_method_of_manager wanted object method = object.0 == session_manager.0 && method.0 == wanted.0
+
+abbrev pub called_manager : Facts → ℕ → Uid → Uid → List Tree → Outcome
+called_manager f com_id object method args =
+    if is_method_of_manager properties object method then says Unchanged (properties_message args)
+    else (if is_method_of_manager start_session object method then started f com_id args
+    else says Unchanged (refusal fail))
+
+abbrev pub to_manager : Facts → ℕ → Result Message TokenError → Outcome
+to_manager f com_id (Ok (call object method args status)) =
+    called_manager f com_id (uid_of object) (uid_of method) (values_of args)
+to_manager f com_id _ = says Unchanged (refusal fail)
+
+-- A session.
+
+abbrev pub done : Message
+done = reply_of [] success
+
+abbrev pub activates : Facts → Outcome
+activates f =
+    says (if is_in_use f.rows Locking then Unchanged else Activated (f.rows Admin c_pin_sid pin_column)) done
+
+-- What a judgement does, and how it is answered. Attempts go by the rows in force.
+abbrev pub outcome_of : Facts → Sp → Judgement → Outcome
+outcome_of f sp (Refuses status denied) =
+    record { deed = Unchanged; said = refusal status; denied = denied }
+outcome_of f sp (Gives results) = says Unchanged (reply_of results success)
+outcome_of f sp (Makes setting) = says (Changed sp (Sets setting)) done
+outcome_of f sp (Attempts authority pin) =
+    tried_in f sp authority (failure_of f.rows sp authority pin)
+outcome_of f sp Activates = activates f
+outcome_of f sp (Reverts reverted) = says (Reverted reverted (is_in_use f.rows Locking)) done
+
+abbrev pub judgement_on : Facts → Begun → Uid → Uid → Trees → Judgement
+judgement_on f session object method args =
+    judged (standing f session) object method (asked session.sp object method args)
+
+-- A transaction on an SP is opened where none is open, and closed where the session has one open.
+abbrev pub begins_on : Sp → ℕ → Option ℕ → Outcome
+begins_on sp number None = says (Began sp number) (begin 0)
+begins_on sp number (Some owner) = says Unchanged (begin transaction_failure)
+
+abbrev pub ended_by : Sp → ℕ → Outcome
+ended_by sp zero = says (Committed sp) (end 0)
+ended_by sp (suc n) = says (Aborted sp) (end 1)
+
+abbrev pub ends_on : Sp → ℕ → Bool → Outcome
+ends_on sp number true = ended_by sp number
+ends_on sp number false = says Unchanged (end transaction_failure)
+
+abbrev pub in_session : Facts → Begun → Result Message TokenError → Outcome
+in_session f session (Ok (call object method args status)) =
+    outcome_of f session.sp (judgement_on f session (uid_of object) (uid_of method) args)
+in_session f session (Ok (begin n)) = begins_on session.sp session.number (f.open_on session.sp)
+in_session f session (Ok (end n)) = ends_on session.sp n (has_open f session)
+in_session f session (Ok end_session) = says (Ended session.sp) end_session
+in_session f session (Ok (reply results status)) = says Unchanged (refusal fail)
+in_session f session (Err e) = says Unchanged (refusal fail)
+
+abbrev pub is_manager : Session → Bool
+is_manager session = session.tsn == 0 && session.hsn == 0
+
+-- An item for no live session is taken, and leaves no response.
+abbrev pub to_session : Facts → ℕ → Session → List ℕ → Option Begun → Event
+to_session f com_id named payload None = did Nothing
+to_session f com_id named payload (Some session) =
+    answers com_id named (in_session f session (message_in payload))
+
+abbrev pub framed : Facts → ℕ → Frame → Event
+framed f com_id frame =
+    if is_manager frame.session
+    then answers com_id frame.session (to_manager f com_id (message_in frame.payload))
+    else to_session f com_id frame.session frame.payload (session_named f com_id frame.session)
+
+-- A frame that is none, or that names another ComID, is taken likewise.
+abbrev pub sent : Facts → ℕ → Result Frame FrameError → Event
+sent f com_id (Err e) = did Nothing
+sent f com_id (Ok frame) = if frame.com_id == com_id then framed f com_id frame else did Nothing
+
+-- A send while a response waits is aborted.
+abbrev pub send : Facts → ℕ → ℕ → ℕ → List ℕ → Event
+send f protocol com_id blocks payload =
+    if is_trusted protocol blocks && is_session_com_id com_id && not (is_some (f.waiting com_id))
+    then sent f com_id (frame_in payload) else refuses
+
+-- A receive: the response where it fits, else a header that tells its size, or a header alone where
+-- none waits.
+abbrev pub received_bytes : ℕ → ℕ → Option (List ℕ) → List ℕ
+received_bytes com_id room None = com_packet_header com_id 0 0 0
+received_bytes com_id room (Some response) =
+    if nat_le (length response) room
+    then response else com_packet_header com_id (length response) (length response) 0
+
+abbrev pub receive_data : Facts → ℕ → ℕ → List ℕ
+receive_data f com_id room =
+    if com_id == discovery_com_id
+    then sized room (discovery f.rows) else sized room (received_bytes com_id room (f.waiting com_id))
+
+-- The data of a receive and of IDENTIFY DEVICE.
+abbrev pub item_data : Facts → Command → List ℕ
+item_data f (Receive protocol com_id blocks dma) = receive_data f com_id (sector_size * blocks)
+item_data f Identify = identity f.sectors
+item_data f _ = []
+
+-- What an item of this drive does and gives.
+abbrev pub tcg : Items
+tcg = record { sends = send; gives = item_data }
+
+-- And so what its acts do and give.
+
+abbrev pub unqueued : Facts → List ℕ → Command → Event
+unqueued = unqueued_of tcg
+
+abbrev pub known : Facts → RegH2d → List ℕ → Result (Command × Option ℕ) CommandError → Event
+known = known_of tcg
+
+abbrev pub commanded : Facts → RegH2d → List ℕ → Event
+commanded = commanded_of tcg
+
+abbrev pub accepted : Facts → List ℕ → List ℕ → Event
+accepted = accepted_of tcg
+
+abbrev pub data_of : Facts → Command → List ℕ
+data_of = block_of tcg
+
+abbrev pub data_read : Facts → Result (Command × Option ℕ) CommandError → List ℕ
+data_read = data_read_of tcg
+
+abbrev pub answer_data : Facts → RegH2d → Event → List ℕ
+answer_data = answer_data_of tcg
+
+abbrev pub accepted_data : Facts → List ℕ → Event → List ℕ
+accepted_data = accepted_data_of tcg
