@@ -1,3 +1,5 @@
+//! A FIS of any kind that a device sends, or a host.
+
 ghost use Rattle.std.specs.Prelude.{◌≡◌, ◌<◌, ◌≤◌, ◌↔◌, IfOk, OnErr, IsErrOf, Ok, Err, Some, None, length, slice_index};
 ghost use Rattle.fis.specs.Fis.{IsWriting, length_of, least_length, IsUnknown, blank};
 ghost use Rattle.fis.specs.declared.any.Fis.{Fis};

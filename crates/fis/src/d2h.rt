@@ -1,3 +1,5 @@
+//! The register FIS from the device to the host.
+
 ghost use Rattle.std.specs.Prelude.{◌≡◌, ◌≤◌, ◌↔◌, IsTrue, length, [], ◌∷◌};
 ghost use Rattle.fis.specs.Bytes.{AreClear};
 ghost use Rattle.fis.specs.Types.{d2h_length};

@@ -1,3 +1,5 @@
+//! The DMA Setup FIS.
+
 ghost use Rattle.std.specs.Prelude.{◌≤◌, ◌↔◌, IsTrue, length, [], ◌∷◌};
 ghost use Rattle.fis.specs.Bytes.{AreClear};
 ghost use Rattle.fis.specs.Types.{dma_setup_length};

@@ -1,3 +1,5 @@
+//! Why bytes are no FIS.
+
 use thiserror::Error;
 
 /// Why bytes are no FIS. `UnknownType` is told first where there is a byte, then `Short`, then

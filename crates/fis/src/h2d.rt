@@ -1,3 +1,5 @@
+//! The register FIS from the host to the device.
+
 use crate::bytes::u16_at;
 use crate::fields::{Lba, PortNumber};
 

@@ -1,3 +1,5 @@
+//! The PIO Setup FIS.
+
 ghost use Rattle.std.specs.Prelude.{◌≡◌, ◌≤◌, ◌↔◌, IsTrue, length, [], ◌∷◌};
 ghost use Rattle.fis.specs.Bytes.{AreClear};
 ghost use Rattle.fis.specs.Types.{pio_setup_length};

@@ -1,3 +1,5 @@
+//! The Set Device Bits FIS.
+
 use crate::bytes::u32_at;
 use crate::error::FisError;
 use crate::fields::{PortNumber, StatusBits};

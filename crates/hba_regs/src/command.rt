@@ -1,3 +1,5 @@
+//! The bits of PxCMD.
+
 ghost use Rattle.std.specs.Prelude.{⊤, ◌≡◌, [], ◌∷◌, codes};
 ghost use Rattle.hba_regs.specs.Registers.{start_bit, receive_bit, receiving_bit, running_bit};
 

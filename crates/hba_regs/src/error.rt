@@ -1,3 +1,5 @@
+//! Why a register is not written.
+
 use thiserror::Error;
 
 /// Why a write of a register was refused. `BadOffset` is told first.

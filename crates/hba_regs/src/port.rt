@@ -1,3 +1,5 @@
+//! The registers of one port, as a host reads and writes them.
+
 use crate::command::PxCmd;
 use crate::error::RegError;
 use crate::interrupt::PxIs;

@@ -1,3 +1,5 @@
+//! Which register stands at which offset.
+
 /// A register of a port (AHCI 1.3.1, 3.3).
 #[derive(Clone, Copy, Debug, PartialEq, Eq)]
 pub enum Register {

@@ -1,3 +1,5 @@
+//! Tests of the program: its words, what it prints, and what it ends with.
+
 use crate::command_line::{Request, request_of};
 use crate::program::ends;
 use std::alloc::{AllocError, Global};

@@ -1,3 +1,5 @@
+//! The command FIS that a slot takes.
+
 ghost use Rattle.std.specs.Prelude.{◌≡◌, ◌≤◌, ◌↔◌, IsTrue, length};
 ghost use Rattle.fis.specs.Types.{h2d_length};
 ghost use Rattle.slots.specs.Table.{is_command};

@@ -1,3 +1,5 @@
+//! Why a slot holds no command.
+
 use thiserror::Error;
 
 /// Why a slot holds no command that the port can take. The first that applies is told.

@@ -1,3 +1,5 @@
+//! What a slot holds.
+
 use fis::H2D_LENGTH;
 
 /// What a slot holds.

@@ -1,3 +1,5 @@
+//! The host's memory, as a port and its host share it.
+
 ghost use Rattle.std.specs.Prelude.{◌≡◌, ℕ, IfOk, length, slice_index};
 
 use crate::command_block::{CommandBlock, is_command};

@@ -1,5 +1,0 @@
-use Rattle.shadow_mbr.proofs.Groups.{none_placed}
-use Rattle.shadow_mbr.proofs.places.Places.clear.Goals as goal
-
-pub returns : goal.returns
-returns c = none_placed _ c.clear.ensures.empty
