@@ -1,3 +1,5 @@
+//! What a transfer does, and the cells of one range.
+
 /// What a transfer does with its sectors.
 #[derive(Clone, Copy, Debug, PartialEq, Eq)]
 pub enum Op {

@@ -148,7 +148,8 @@ impl Ranges {
     pub fn judge(&self, op: Op, lba: u64, count: u32) -> Judgement
         requires some { 0 < count }
         requires room { lba + count ≤ 2 ^ 48 }
-        ensures { verdict_by op lba count result ≡ verdict_of self.now op lba count }
+        ensures by_sectors { IsVerdict self.now op lba count (verdict_by op lba count result) }
+        ensures exact { verdict_by op lba count result ≡ verdict_of self.now op lba count }
     {
         self.judged(op, lba, count)
     }

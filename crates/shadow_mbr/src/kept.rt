@@ -169,13 +169,6 @@ impl Kept {
         }
     }
 
-    pub(crate) fn clear(&mut self)
-        ensures { self.new ≡ [] }
-    {
-        self.places.clear();
-        self.blocks.clear();
-    }
-
     /// Whether the sector is kept.
     pub(crate) fn has(&self, sector: u64) -> bool
         ensures value { result ≡ is_some (block_in self.now sector) }

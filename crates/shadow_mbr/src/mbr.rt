@@ -1,3 +1,5 @@
+//! The bytes of the MBR table.
+
 use crate::sectors::Sectors;
 use std::alloc::{AllocError, Global};
 use std::marker::Model;

@@ -1,3 +1,5 @@
+//! The sectors of a drive.
+
 use crate::kept::Block;
 use crate::piece::SECTOR;
 use crate::sectors::Sectors;

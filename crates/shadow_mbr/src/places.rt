@@ -120,12 +120,6 @@ impl Places {
         }
     }
 
-    pub(crate) fn clear(&mut self)
-        ensures { self.new ≡ [] }
-    {
-        self.groups.clear();
-    }
-
     /// Where the sector stands.
     #[tactic(auto, using(crate::proofs::Groups::sorted_in))]
     pub(crate) fn get(&self, sector: u64) -> Option<usize>

@@ -1,3 +1,5 @@
+//! Sectors of which those that were never written are not kept.
+
 ghost use Rattle.std.specs.Prelude.{◌≡◌, ◌+◌, ◌-◌, ◌%◌, ◌^◌, ◌*◌, ◌<◌, ◌≤◌, ◌++◌, ◌&&◌, ◌||◌, ℕ, nat_eq, nat_le, nat_lt, OnOk, length, replicate};
 ghost use Rattle.std.specs.List.{list_any};
 ghost use Rattle.shadow_mbr.specs.Stored.{sector_size, zeros, has_byte};
@@ -44,11 +46,12 @@ impl Sectors {
         }
     }
 
+    /// Lets all go that is kept, and gives back its memory.
     pub(crate) fn clear(&mut self)
         ensures exact { self.new ≡ record self.old { kept = [] } }
         ensures sound { IsSound self.new }
     {
-        self.kept.clear();
+        self.kept = Kept::new(self.alloc);
     }
 
     pub(crate) fn sectors(&self) -> u64
