@@ -1,12 +1,17 @@
-//! A FIS that is given to a drive without data.
+//! A FIS that is given to a drive, with its data or without.
 
-use drive::{Accepted, Drive};
+use drive::{Accepted, Drive, payload_of};
 use std::test::Fail;
 
-/// Gives the drive a FIS of none of the commands that bring data: WRITE DMA EXT, TRUSTED SEND, TRUSTED SEND DMA.
-pub fn accept(drive: &mut Drive, fis: &[u8; 20]) -> Result<Accepted, Fail> {
-    if fis[2] == 0x35 || fis[2] == 0x5e || fis[2] == 0x5f {
-        return Err("a command without data".into());
+/// Gives the drive a FIS with the data that it brings.
+pub fn accept_with(drive: &mut Drive, fis: &[u8; 20], data: &[u8]) -> Result<Accepted, Fail> {
+    if data.len() != payload_of(fis) {
+        return Err("other data than the FIS brings".into());
     }
-    Ok(drive.accept(fis, &[])?)
+    Ok(drive.accept(fis, data)?)
+}
+
+/// Gives the drive a FIS that brings no data.
+pub fn accept(drive: &mut Drive, fis: &[u8; 20]) -> Result<Accepted, Fail> {
+    accept_with(drive, fis, &[])
 }

@@ -20,6 +20,8 @@ enum Row {
     Write(u8, u64, u8),
     Send(u8, Session, &'static [u8]),
     Receive(u8),
+    /// TPER_RESET: one block of zeros to the ComID 0004h of protocol 02h.
+    TperReset(u8),
     Issue(u8),
     Accept(u8),
     Complete(u8),
@@ -68,7 +70,8 @@ fn plain_step(row: Row) -> Option<Step> {
             client,
             tag: Tag::low_bits(tag),
         }),
-        Row::Read(..) | Row::Write(..) | Row::Send(..) | Row::Receive(_) => None,
+        Row::Read(..) | Row::Write(..) | Row::Send(..) | Row::Receive(_) | Row::TperReset(_) =>
+            None,
     }
 }
 
@@ -85,6 +88,15 @@ fn step(alloc: Global, row: Row) -> Result<Step, Fail> {
                 protocol: 1,
                 com_id: COM_ID,
                 blocks: 1,
+            };
+            Ok(put(2, tag, request))
+        }
+        Row::TperReset(tag) => {
+            let bytes = Bytes::from_vec(vec![in alloc; 0; 512]?);
+            let request = Request::Send {
+                protocol: 2,
+                com_id: 4,
+                bytes,
             };
             Ok(put(2, tag, request))
         }
@@ -508,6 +520,61 @@ fn turns_the_held(alloc: Global, port: &mut Port) -> Result<bool, Fail> {
 #[test]
 fn keeps_a_send_back_by_turns(rt: HostRuntime) -> Result<(), Fail> {
     assert!(rt; on_port(rt.alloc(), &[], turns_the_held)?);
+    Ok(())
+}
+
+/// StartSession to the Admin SP by SID with the MSID.
+const START_SID: &[u8] =
+    b"\xf8\xa8\x00\x00\x00\x00\x00\x00\x00\xff\xa8\x00\x00\x00\x00\x00\x00\xff\x02\xf0\x07\
+    \xa8\x00\x00\x02\x05\x00\x00\x00\x01\x01\xf2\x00\xa8OPALMSID\xf3\xf2\x03\xa8\x00\x00\x00\x09\x00\x00\x00\x06\xf3\xf1\
+    \xf9\xf0\x00\x00\x00\xf1";
+
+/// Set of ProgrammaticResetEnable.
+const LET_RESET: &[u8] =
+    b"\xf8\xa8\x00\x00\x02\x01\x00\x03\x00\x01\xa8\x00\x00\x00\x06\x00\x00\x00\x17\xf0\xf2\x01\xf0\
+    \xf2\x08\x01\xf3\xf1\xf3\xf1\xf9\xf0\x00\x00\x00\xf1";
+
+/// A reset that a command makes leaves a read that is prepared, which is then served.
+const RESET_BY_COMMAND: [Row; 19] = [
+    Row::Send(0, MANAGER, START_SID),
+    Row::Issue(0),
+    Row::Accept(0),
+    Row::Receive(1),
+    Row::Issue(1),
+    Row::Accept(1),
+    Row::Send(2, FIRST, LET_RESET),
+    Row::Issue(2),
+    Row::Accept(2),
+    Row::Read(5, 200),
+    Row::TperReset(3),
+    Row::Issue(3),
+    Row::Accept(3),
+    Row::Take(2, 3),
+    Row::Issue(5),
+    Row::Accept(5),
+    Row::Complete(5),
+    Row::Take(1, 5),
+    Row::Take(2, 2),
+];
+
+/// Whether the reset and the Set are done with no bytes, and the read gave a sector.
+fn is_reset_by_command(port: &Port) -> Result<bool, Fail> {
+    let reset = bytes_of(reply(port, 14)?).ok_or("a send that is done")?;
+    let read = bytes_of(reply(port, 18)?).ok_or("a read that is done")?;
+    let set = bytes_of(reply(port, 19)?).ok_or("a send that is done")?;
+    Ok(reset.is_empty() && set.is_empty() && read == [0; 512].as_slice())
+}
+
+fn plays_a_reset_by_command(alloc: Global, port: &mut Port) -> Result<bool, Fail> {
+    let list = steps(alloc, &RESET_BY_COMMAND)?;
+    play_on(port, &list)?;
+    let done = was_done(alloc, port, &RESET_BY_COMMAND, &[])?;
+    Ok(done && is_reset_by_command(port)?)
+}
+
+#[test]
+fn a_command_resets_beside_a_prepared_read(rt: HostRuntime) -> Result<(), Fail> {
+    assert!(rt; on_port(rt.alloc(), &two_ranges(), plays_a_reset_by_command)?);
     Ok(())
 }
 

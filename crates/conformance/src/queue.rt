@@ -1,7 +1,7 @@
 //! The rules of a drive's queue (ACS-3, NCQ feature set; Opal SSC, Locking table), and the FISes of
 //! its answers (Serial ATA, FISes to the host). What is expected was worked out by hand.
 
-use crate::acceptance::accept;
+use crate::acceptance::{accept, accept_with};
 use arrayvec::ArrayVec;
 use drive::{Completed, Drive, DriveConfig, RangeRow, Why};
 use fis::{Fis, Tag};
@@ -250,6 +250,35 @@ fn mixing_fails_the_queue(rt: HostRuntime) -> Result<(), Fail> {
     Ok(())
 }
 
+/// WRITE DMA EXT of sector 8.
+const WRITE_DMA: [u8; 20] = [
+    0x27, 0x80, 0x35, 0, 8, 0, 0, 0x40, 0, 0, 0, 0, 1, 0, 0, 0, 0, 0, 0, 0,
+];
+
+/// READ LOG EXT of page 10h.
+const READ_LOG: [u8; 20] = [
+    0x27, 0x80, 0x2f, 0, 0x10, 0, 0, 0, 0, 0, 0, 0, 1, 0, 0, 0, 0, 0, 0, 0,
+];
+
+/// A write that is not queued, beside a held read: it fails the queue, and moves nothing.
+fn fails_by_mixing_a_write(alloc: Global, drive: &mut Drive) -> Result<bool, Fail> {
+    let is_read = answers(drive, &queued(READ, 3, 5, 1), &HELD)?;
+    let mixed = accept_with(drive, &WRITE_DMA, &[0xaa; 512])?;
+    let is_aborted = (mixed.status, mixed.error, mixed.denied) == ABORTED;
+    let is_kept = is_held(alloc, drive, 3)?;
+    let is_told = failure(drive) == Some((None, 0x04, 8, 0x40, 1));
+    let is_mended = answers(drive, &READ_LOG, &SERVED)?;
+    let is_read_again = answers(drive, &queued(READ, 3, 8, 1), &HELD)?;
+    let is_unmoved = gives(alloc, drive, 3, 0, &[0; 512])?;
+    Ok(is_read && is_aborted && !is_kept && is_told && is_mended && is_read_again && is_unmoved)
+}
+
+#[test]
+fn mixing_a_write_fails_the_queue(rt: HostRuntime) -> Result<(), Fail> {
+    assert!(rt; on_drive(rt.alloc(), fails_by_mixing_a_write)?);
+    Ok(())
+}
+
 /// A tag is free once its command is completed, and fails the queue while it is held.
 fn fails_by_a_held_tag(alloc: Global, drive: &mut Drive) -> Result<bool, Fail> {
     let is_written = answers(drive, &queued(WRITE, 3, 5, 1), &HELD)?;
@@ -282,7 +311,12 @@ fn a_clear_device_bit_fails_the_queue(rt: HostRuntime) -> Result<(), Fail> {
     Ok(())
 }
 
-/// A FIS with bit C clear and one of another type, beside a held command.
+/// A device's FIS, which carries no command and brings no data, though its Status is the code of WRITE DMA EXT.
+const NO_WRITE: [u8; 20] = [
+    0x34, 0x80, 0x35, 0, 8, 0, 0, 0x40, 0, 0, 0, 0, 1, 0, 0, 0, 0, 0, 0, 0,
+];
+
+/// A FIS with bit C clear and two of another type, beside a held command.
 fn is_left_alone(alloc: Global, drive: &mut Drive) -> Result<bool, Fail> {
     let is_held_first = answers(drive, &queued(WRITE, 0, 5, 1), &HELD)?;
     let mut control = queued(READ, 0, 5, 1);
@@ -291,9 +325,11 @@ fn is_left_alone(alloc: Global, drive: &mut Drive) -> Result<bool, Fail> {
     let mut other = queued(READ, 0, 5, 1);
     other[0] = 0x34;
     let is_other_aborted = answers(drive, &other, &ABORTED)?;
+    let is_write_aborted = answers(drive, &NO_WRITE, &ABORTED)?;
     let is_kept = is_held(alloc, drive, 0)?;
     let is_mended = failure(drive).is_none();
-    Ok(is_held_first && is_control_aborted && is_other_aborted && is_kept && is_mended)
+    let are_aborted = is_control_aborted && is_other_aborted && is_write_aborted;
+    Ok(is_held_first && are_aborted && is_kept && is_mended)
 }
 
 #[test]

@@ -1,12 +1,10 @@
 //! A frame that is cut at each of its bytes (TCG Core 2.01, 3.2.2 and 3.2.3). What is expected was worked out by hand from
 //! the formats.
 
-use drive::{Accepted, Drive, DriveConfig};
-use fis::RegH2d;
+use drive::{Accepted, Drive, DriveConfig, payload_of};
 use std::alloc::Global;
 use std::test::Fail;
 use tcg_tokens::{TokenError, read_item};
-use trusted_cmds::payload_len;
 
 /// A block of a trusted command.
 const BLOCK: usize = 512;
@@ -61,7 +59,7 @@ const PIN: [u8; 80] = [
 
 /// Gives the drive a FIS with its data.
 fn accept(drive: &mut Drive, fis: &[u8; 20], bytes: &[u8]) -> Result<Accepted, Fail> {
-    if fis[0] != 0x27 || bytes.len() != payload_len(&RegH2d::read(fis)) {
+    if bytes.len() != payload_of(fis) {
         return Err("the data of a command".into());
     }
     Ok(drive.accept(fis, bytes)?)

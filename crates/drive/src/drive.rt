@@ -84,7 +84,6 @@ impl Drive {
     ghost use Rattle.fis.specs.H2d.{h2d_at};
     ghost use Rattle.fis.specs.declared.h2d.RegH2d.{RegH2d};
     ghost use Rattle.compacket.specs.Frames.{reading as frame_in};
-    ghost use Rattle.trusted_cmds.specs.Commands.{payload_length};
     ghost use Rattle.shadow_mbr.specs.Stored.{sector_at, sector_size};
     ghost use Rattle.device_data.specs.Discovery.{discovery as discovery_of};
     ghost use Rattle.device_data.specs.ErrorLog.{sized, error_log as log_page};
@@ -93,7 +92,7 @@ impl Drive {
     ghost use Rattle.history.specs.Opening.{Origin, factory_origin, origin_with};
     ghost use Rattle.history.specs.Agreement.{HasNoTries};
     ghost use Rattle.history.specs.KeptStore.{HasKnownRows};
-    ghost use Rattle.history.specs.Answers.{expected};
+    ghost use Rattle.history.specs.Answers.{expected, payload_of};
     ghost use Rattle.history.specs.Tcg.{received_bytes, sent};
     ghost use Rattle.history.specs.Decisions.{any_below, is_session_com_id, resets, received};
     ghost use Rattle.history.specs.Events.{Event, WasReset, did};
@@ -348,7 +347,7 @@ impl Drive {
     // An answer is large: where the caller has the code at hand, it is not moved.
     #[inline(always)]
     pub fn accept(&mut self, fis: &[u8; H2D_LENGTH], payload: &[u8]) -> Result<Accepted, DriveError>
-        requires { length payload.now ≡ payload_length (h2d_at fis.now) }
+        requires { length payload.now ≡ payload_of fis.now }
         ensures agrees { OnOk result ((o : Origin) (acts : List Act) → Agrees self.old o acts
             → Agrees self.new o (Accept fis.now payload.now ∷ acts)) }
         ensures in_order { OnOk result ((o : Origin) (acts : List Act)
@@ -368,7 +367,7 @@ impl Drive {
     /// Decides on a FIS, and does it.
     #[inline(always)]
     fn take(&mut self, fis: &[u8; H2D_LENGTH], payload: &[u8]) -> Result<Accepted, AllocError>
-        requires { length payload.now ≡ payload_length (h2d_at fis.now) }
+        requires { length payload.now ≡ payload_of fis.now }
         ensures done { IfOk result (λ a. (o : Origin) (acts : List Act) → Agrees self.old o acts
             → IsDone (facts o (log o acts)) (h2d_at fis.now)
             (event o (log o acts) (Accept fis.now payload.now)) self.new o (log o acts) a) }
@@ -399,6 +398,8 @@ impl Drive {
         ensures answer { IfOk result (λ done. (o : Origin) (acts : List Act)
             → Agrees self.old o acts
             → IsCompletion (facts o (log o acts)) tag (held_in (log o acts) tag) done) }
+        ensures stands { IsErrOf result DriveError.NotHeld
+            ↔ (slot_at self.old.queue.slots tag ≡ None) }
         ensures not_held { (o : Origin) (acts : List Act) → Agrees self.old o acts
             → (IsErrOf result DriveError.NotHeld ↔ (held_in (log o acts) tag ≡ None)) }
         ensures err { OnErr result (self.new ≡ self.old) }

@@ -34,6 +34,7 @@ use Rattle.history.specs.TransferLaws.{Writes, WasAccepted}
 use Rattle.history.proofs.QuietProofs.{tcg_quiet}
 use Rattle.history.proofs.HeldProofs.{held_law}
 use Rattle.history.proofs.WriteProofs.{write_law}
+use Rattle.history.proofs.Payloads.{payload-of-command}
 use Rattle.sp_cells.specs.Resets.{programmatic}
 
 -- no accepted command completes a write
@@ -191,7 +192,8 @@ write-size h lba count g =
 wrote-none : (f : Facts) (act : Act) (place lba : ℕ) (bytes : List ℕ) → IsFed f act → f.sectors ≤ place → (event_by f act).deed ≡ Wrote lba bytes → part_of place lba bytes ≡ None
 wrote-none f act place lba bytes fed le g =
     let w : Writes f act lba bytes = write_law tcg tcg_quiet f act lba bytes g in
-    let size : length w.looked.payload ≡ payload_length (h2d_at w.looked.fis) = subst (IsFed f) w.looked.accepts fed in
+    let size : length w.looked.payload ≡ payload_length (h2d_at w.looked.fis) =
+    subst (IsFed f) w.looked.accepts fed ∙ payload-of-command w.looked.fis w.looked.kind in
     no-part place lba w.count f.sectors bytes (ap length w.payload ∙ size ∙ write-size (h2d_at w.looked.fis) lba w.count w.looked.reads) w.on_drive le
 
 -- the transfer of a held write

@@ -1,7 +1,8 @@
 -- The bytes and FISes that an act gives, by the facts (Serial ATA; ACS-3, IDENTIFY DEVICE and log
 -- page 10h), whatever its items give.
-use Rattle.std.specs.Prelude.{ℕ, ◌*◌, ◌^◌, Bool, true, false, List, [], ◌∷◌, Option, Some, None, is_some, unwrap_or, Result, Ok, Err, if◌then◌else◌}
+use Rattle.std.specs.Prelude.{ℕ, ◌*◌, ◌^◌, ◌==◌, slice_index, Bool, true, false, List, [], ◌∷◌, Option, Some, None, is_some, unwrap_or, Result, Ok, Err, if◌then◌else◌}
 use Rattle.device_data.specs.ErrorLog.{error_log}
+use Rattle.fis.specs.Types.{h2d_type}
 use Rattle.fis.specs.H2d.{h2d_at}
 use Rattle.fis.specs.declared.h2d.RegH2d.{RegH2d}
 use Rattle.fis.specs.declared.any.Fis.{Fis}
@@ -11,7 +12,7 @@ use Rattle.shadow_mbr.specs.Stored.{sector_size, sectors_from}
 use Rattle.trusted_cmds.specs.declared.command.Command.{Command}
 use Rattle.trusted_cmds.specs.declared.command.Command.TheVariants.{ReadQueued, WriteQueued, ReadDma, Send, Receive, Identify, ReadLog10}
 use Rattle.trusted_cmds.specs.declared.command.CommandError.{CommandError}
-use Rattle.trusted_cmds.specs.Commands.{reading}
+use Rattle.trusted_cmds.specs.Commands.{reading, payload_length}
 use Rattle.locking.specs.declared.ranges.Verdict.{Verdict}
 use Rattle.locking.specs.declared.ranges.Verdict.TheVariants.{Serve, Shadow, Denied}
 use Rattle.transactions.specs.Bytes.{bytes_from}
@@ -54,6 +55,11 @@ held_data f h = held_read h.command
     held_read : Command → List ℕ
     held_read (ReadQueued lba count) = read_by f lba count h.verdict
     held_read _ = []
+
+-- How many bytes come with the 20 bytes of a FIS: none, where their first says that they carry no
+-- command.
+abbrev pub payload_of : List ℕ → ℕ
+payload_of fis = if slice_index fis 0 == h2d_type then payload_length (h2d_at fis) else 0
 
 -- How many bytes a completion brings: the sectors of a held write.
 abbrev pub expected_by : Command → ℕ

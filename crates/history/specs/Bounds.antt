@@ -12,10 +12,8 @@ use Rattle.locking.specs.declared.range.RangeRow.{RangeRow}
 use Rattle.history.specs.Opening.{Origin, factory_origin, origin_with}
 use Rattle.history.specs.Events.{Event}
 use Rattle.history.specs.Readers.{factory_rows, in_force, view, byte_in_force, byte_in_view, sector, waiting}
-use Rattle.fis.specs.H2d.{h2d_at}
-use Rattle.trusted_cmds.specs.Commands.{payload_length}
 use Rattle.history.specs.Facts.{Facts, facts}
-use Rattle.history.specs.Answers.{expected}
+use Rattle.history.specs.Answers.{payload_of, expected}
 use Rattle.history.specs.Decisions.{is_session_com_id}
 use Rattle.history.specs.History.{Act, Accept, Complete, Reset, log}
 
@@ -63,7 +61,7 @@ ResponseLaw =
 
 -- An act brings as many bytes as its command wants.
 abbrev pub IsFed : Facts → Act → Type 0
-IsFed f (Accept fis payload) = length payload ≡ payload_length (h2d_at fis)
+IsFed f (Accept fis payload) = length payload ≡ payload_of fis
 IsFed f (Complete tag payload) = length payload ≡ expected (f.held tag)
 IsFed f (Reset kind) = Unit {0}
 

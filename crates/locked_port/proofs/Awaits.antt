@@ -12,7 +12,7 @@ use Rattle.port_history.specs.Refusals.{refusal, first_refusal, IsRefusedBy}
 use Rattle.port_history.specs.Stages.{put_in, is_free, is_answered, is_put_by}
 use Rattle.port_history.specs.Steps.{Moment, stage}
 use Rattle.locked_port.specs.declared.ticket.Ticket.{Ticket}
-use Rattle.locked_port.specs.Awaits.{is_full, awaited, awaited_at, awaited_put, is_of_submit, is_of_wait, is_of_engine}
+use Rattle.locked_port.specs.Awaits.{is_full, IsWaitRefused, awaited, awaited_at, awaited_put, is_of_submit, is_of_wait, is_of_engine}
 use Rattle.locked_port.specs.Counts.{Stands}
 use Rattle.locked_port.proofs.Counts.{number_in}
 use Rattle.history.specs.Opening.{Origin}
@@ -72,8 +72,8 @@ may_take_at false client ticket (Answered put) h = ap (λ (c : Bool). if not c t
 
 -- what a Take of it comes to: it is refused for memory alone
 pub only_memory : (before : List Moment) (client : ℕ) (ticket : Ticket) (e : PortError) → awaited before client ticket ≡ Ok true
-    → IsRefusedBy {A = ℕ × Answer} (refusal before (steps.Take client ticket.tag)) (Err e) → (e ≡ OutOfMemory) ⊎ (awaited before client ticket ≡ Err e)
-only_memory before client ticket e told (inl memory) = inl memory
+    → IsRefusedBy {A = ℕ × Answer} (refusal before (steps.Take client ticket.tag)) (Err e) → IsWaitRefused (awaited before client ticket) e
+only_memory before client ticket e told (inl memory) = inl (memory.0, told)
 only_memory before client ticket e told (inr refused) = let none = may_take_at (is_full before) client ticket (stage before ticket.tag) told in cc
 
 -- where a port stands, what each list says of an error it is
@@ -91,8 +91,8 @@ put_ends false false = refl
 
 -- a Put of a request that has a size is refused for no other error
 put_only : (before : List Moment) (client tag : ℕ) (request : Request) (e : PortError) → is_sized request ≡ true
-    → (e ≡ OutOfMemory) ⊎ (refusal before (steps.Put client tag request) ≡ Some e) → is_of_submit true e ≡ true
-put_only before client tag request e sized (inl memory) = ap (is_of_submit true) memory
+    → IsRefusedBy {A = ℕ} (refusal before (steps.Put client tag request)) (Err e) → is_of_submit true e ≡ true
+put_only before client tag request e sized (inl memory) = ap (is_of_submit true) memory.0
 put_only before client tag request e sized (inr refused) =
     let full = is_full before in
     let free = is_free (stage before tag) in
@@ -100,7 +100,7 @@ put_only before client tag request e sized (inr refused) =
     sym (ap (is_of (is_of_submit true)) refused) ∙ all
 
 pub submit_ends : (client tag total : ℕ) (request : Request) (port : State) (e : PortError) → is_sized request ≡ true → Stands port total
-    → ((o : Origin) (list : List Step) → PortAgrees port o list → (e ≡ OutOfMemory) ⊎ (refusal (trace o list) (steps.Put client tag request) ≡ Some e)) → is_of_submit true e ≡ true
+    → ((o : Origin) (list : List Step) → PortAgrees port o list → IsRefusedBy {A = ℕ} (refusal (trace o list) (steps.Put client tag request)) (Err e)) → is_of_submit true e ≡ true
 submit_ends client tag total request port e sized s says =
     of_standing (is_of_submit true) e port total s (λ o list h. put_only (trace o list) client tag request e sized (says o list h))
 
@@ -109,7 +109,7 @@ memory_left : (before : List Moment) (client : ℕ) (ticket : Ticket) (e : PortE
     → IsRefusedBy {A = ℕ × Answer} (refusal before (steps.Take client ticket.tag)) (Err e) → e ≡ OutOfMemory
 memory_left before client ticket e told refused =
     elim (only_memory before client ticket e told refused) [
-      | inl memory ↦ memory
+      | inl memory ↦ memory.0
       | inr other ↦ absurd (let clash = sym told ∙ other in cc)
     ]
 

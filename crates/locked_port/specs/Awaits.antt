@@ -1,5 +1,5 @@
 -- Whether the answer of a ticket has come.
-use Rattle.std.specs.Prelude.{◌≡◌, ◌==◌, ◌+◌, ℕ, Bool, true, false, not, nat_lt, List, length, unwrap_or, Option, Some, None, Result, Ok, Err, if◌then◌else◌}
+use Rattle.std.specs.Prelude.{◌≡◌, ◌⊎◌, ◌==◌, ◌+◌, ℕ, Bool, true, false, not, nat_lt, List, length, unwrap_or, Option, Some, None, Result, Ok, Err, if◌then◌else◌}
 use Rattle.port_history.specs.declared.error.PortError.{PortError}
 use Rattle.port_history.specs.declared.error.PortError.TheVariants.{SlotBusy, NotAnswered, NotYours, Size, HistoryFull, OutOfMemory}
 use Rattle.port_history.specs.declared.stages.Put.{Put}
@@ -29,6 +29,11 @@ awaited_at full client ticket stage =
 -- Whether its answer has come, after these steps, or why none is to come.
 abbrev pub awaited : List Moment → ℕ → Ticket → Result Bool PortError
 awaited before client ticket = awaited_at (is_full before) client ticket (stage before ticket.tag)
+
+-- A Take in answer to this is refused with its refusal, and for want of memory only where the answer
+-- has come.
+abbrev pub IsWaitRefused : Result Bool PortError → PortError → Type 0
+IsWaitRefused awaits error = ((error ≡ OutOfMemory) × (awaits ≡ Ok true)) ⊎ (awaits ≡ Err error)
 
 -- The receipt of a Take of the tag, made after these steps: its number is the next one, and the reply
 -- what the tag is answered.

@@ -54,7 +54,7 @@ fn awaited(full: bool, client: u32, ticket: &Ticket, stage: Stage) -> Result<boo
 }
 
 impl<L: PortName> Desk<L> {
-    ghost use Rattle.std.specs.Prelude.{◌≡◌, ◌+◌, ◌<◌, ◌≤◌, ◌⊎◌, List, ◌∷◌, length, Ok, Err, is_some, true, false, IfOk, IfErr, MatchResult, MatchOption};
+    ghost use Rattle.std.specs.Prelude.{◌≡◌, ◌+◌, ◌<◌, ◌≤◌, List, ◌∷◌, length, Ok, Err, is_some, true, false, IfOk, IfErr, MatchResult, MatchOption};
     ghost use Rattle.fis.specs.Tags.{slot_count};
     ghost use Rattle.history.specs.Opening.{Origin};
     ghost use Rattle.port_history.specs.declared.step.Step.{Step};
@@ -65,7 +65,7 @@ impl<L: PortName> Desk<L> {
     ghost use Rattle.port_history.specs.Steps.{trace};
     ghost use Rattle.port.specs.Agreement.{PortAgrees};
     ghost use Rattle.port.specs.Answers.{stage_at};
-    ghost use Rattle.locked_port.specs.Awaits.{is_full, awaited, IsTaken, is_of_submit, is_of_wait, is_of_engine};
+    ghost use Rattle.locked_port.specs.Awaits.{is_full, awaited, IsTaken, IsWaitRefused, is_of_submit, is_of_wait, is_of_engine};
 
     /// A port over the book that counted its client steps.
     pub(crate) fn new(port: Port, book: Book<L>) -> Desk<L>
@@ -158,7 +158,7 @@ impl<L: PortName> Desk<L> {
         ensures told { (o : Origin) (list : List Step) → PortAgrees self.old.port o list
             → MatchResult result
             (λ taken. awaited (trace o list) client ticket.now ≡ Ok (is_some taken))
-            (λ e. (e ≡ PortError.OutOfMemory) ⊎ (awaited (trace o list) client ticket.now ≡ Err e)) }
+            (λ e. IsWaitRefused (awaited (trace o list) client ticket.now) e) }
         ensures errors { IfErr result (λ e. is_of_wait e ≡ true) }
         ensures count { MatchResult result
             (λ o. MatchOption o (mine.new.amount ≡ mine.old.amount)

@@ -45,7 +45,7 @@ impl<L: PortName> Model for Pass<L> {
 }
 
 impl<L: PortName> Pass<L> {
-    ghost use Rattle.std.specs.Prelude.{◌≡◌, ◌+◌, ◌<◌, ◌⊎◌, List, ◌∷◌, length, Ok, Err, is_some, true, IfOk, IfErr, IsOkUnless, MatchResult, MatchOption};
+    ghost use Rattle.std.specs.Prelude.{◌≡◌, ◌+◌, ◌<◌, List, ◌∷◌, length, Ok, Err, is_some, true, IfOk, IfErr, IsOkUnless, MatchResult, MatchOption};
     ghost use Rattle.history.specs.Opening.{Origin};
     ghost use Rattle.port_history.specs.declared.error.PortError.{PortError};
     ghost use Rattle.port_history.specs.declared.step.Step.{Step};
@@ -54,7 +54,7 @@ impl<L: PortName> Pass<L> {
     ghost use Rattle.port_history.specs.Requests.{is_sized};
     ghost use Rattle.port_history.specs.Steps.{trace};
     ghost use Rattle.port.specs.Agreement.{PortAgrees};
-    ghost use Rattle.locked_port.specs.Awaits.{awaited, IsTaken, is_of_submit, is_of_wait};
+    ghost use Rattle.locked_port.specs.Awaits.{awaited, IsTaken, IsWaitRefused, is_of_submit, is_of_wait};
     ghost use Rattle.locked_port.specs.Hands.{hands, counted, Claims, Frees};
 
     /// The client: 1 and up, and the engine's one behind the last client's.
@@ -147,8 +147,7 @@ impl<L: PortName> Pass<L> {
         ensures told { (o : Origin) (list : List Step) → PortAgrees desk.old.port o list
             → MatchResult result
             (λ taken. awaited (trace o list) self.old.client ticket.now ≡ Ok (is_some taken))
-            (λ e. (e ≡ PortError.OutOfMemory)
-            ⊎ (awaited (trace o list) self.old.client ticket.now ≡ Err e)) }
+            (λ e. IsWaitRefused (awaited (trace o list) self.old.client ticket.now) e) }
         ensures errors { IfErr result (λ e. is_of_wait e ≡ true) }
     {
         match desk.take(&mut self.share, self.client, ticket)? {

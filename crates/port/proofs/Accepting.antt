@@ -12,8 +12,7 @@ use Rattle.slots.proofs.Held.{held as held_slot}
 use Rattle.slots.specs.Fetch.{fetched}
 use Rattle.slots.specs.Layout.{buffer_size}
 use Rattle.slots.specs.declared.fetched.Fetched.{Fetched}
-use Rattle.trusted_cmds.specs.Commands.{payload_length}
-use Rattle.history.specs.Answers.{failed as failed_status, status_of, accepted_fises}
+use Rattle.history.specs.Answers.{payload_of, failed as failed_status, status_of, accepted_fises}
 use Rattle.history.specs.Tcg.{accepted_data}
 use Rattle.history.specs.Events.{Event}
 use Rattle.history.specs.Facts.{Facts, facts}
@@ -241,7 +240,7 @@ fetched_is port o list tag put lt h was =
 
 pub fetches : (port : State) (o : Origin) (list : List Step) (tag : ℕ) (put : Put) → tag < 32
     → PortAgrees port o list → stage (trace o list) tag ≡ Issued put
-    → (f : Fetched) × (fetched port.memory tag ≡ Ok f) × (payload_length (h2d_at f.fis) ≤ buffer_size)
+    → (f : Fetched) × (fetched port.memory tag ≡ Ok f) × (payload_of f.fis ≤ buffer_size)
 fetches port o list tag put lt h was =
     (fetched_of put tag, fetched_is port o list tag put lt h was, issued_small o list tag put lt h.lawful was)
 
@@ -262,8 +261,8 @@ accept_agrees old new o list tag lt h lawful made =
     let same : s.put ≡ put = issued_same s.put put (sym s.was ∙ (h.tags tag lt).stands ∙ was) in
     let l : IsLaid old.memory tag put.command (payload ms tag) =
     subst (λ (x : Stage). IsLaidAt old.memory tag x (payload ms tag)) was (h.tags tag lt).laid in
-    let payload_is : front old.memory tag (payload_length (h2d_at fis)) ≡ accept_payload put (payload ms tag) =
-    brought old.memory (payload ms tag) tag put (is_queued put.command) (payload_length (h2d_at fis))
+    let payload_is : front old.memory tag (payload_of fis) ≡ accept_payload put (payload ms tag) =
+    brought old.memory (payload ms tag) tag put (is_queued put.command) (payload_of fis)
     (issued_length o list tag put lt h.lawful was) l.buffer in
     let act : Act = AcceptFis fis (accept_payload put (payload ms tag)) in
     let e : Effect = effect_by (facts o (events ms)) act in

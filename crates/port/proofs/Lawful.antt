@@ -4,13 +4,11 @@ use Rattle.std.specs.Prelude.{is_some, option_map, unwrap_or}
 use Rattle.std.proofs.lemmas.Bool.{lt-ltb}
 use Rattle.audit.specs.declared.reason.Why.{Why}
 use Rattle.device_data.specs.declared.log_page.Failure.{Failure}
-use Rattle.fis.specs.H2d.{h2d_at}
 use Rattle.slots.specs.Layout.{buffer_size}
 use Rattle.slots.specs.Table.{is_command}
 use Rattle.trusted_cmds.specs.declared.command.Command.{Command}
 use Rattle.trusted_cmds.specs.declared.command.Command.TheVariants as commands
-use Rattle.trusted_cmds.specs.Commands.{payload_length}
-use Rattle.history.specs.Answers.{status_of, expected, expected_by}
+use Rattle.history.specs.Answers.{status_of, payload_of, expected, expected_by}
 use Rattle.device_data.specs.ErrorLog.{error_log}
 use Rattle.history.specs.Events.{Event, HeldCommand}
 use Rattle.history.specs.Facts.{facts}
@@ -28,7 +26,7 @@ use Rattle.port_history.specs.Stages.{is_queued}
 use Rattle.port_history.specs.Steps.{Effect, Moment, effect_by, accept_payload, trace, events, stage, failed, payload}
 use Rattle.port_history.proofs.Acted.{IsHeldOrFailed, IsHeld, IsFailed, IsExecuted, held_effect, failed_effect, mended_effect, executed_bytes, mends}
 use Rattle.port_history.proofs.FedProofs.{accept_fed, expected-brought}
-use Rattle.port_history.proofs.Fises.{brought, fis_back, payload_is}
+use Rattle.port_history.proofs.Fises.{brought, fis_brings, payload_is}
 use Rattle.port_history.proofs.Kept.{Kept, held_by}
 use Rattle.port_history.proofs.KeptLaw.{kept, fit_issued, fit_accepted, queued_comes, accepted_moves, found, IsFound, accepted_effect}
 use Rattle.port_history.proofs.KeptLaw as laws
@@ -54,7 +52,7 @@ issued_moves o list tag put lawful was =
 
 pub issued_length : (o : Origin) (list : List Step) (tag : ℕ) (put : Put) → tag < 32
     → IsLawful o list → stage (trace o list) tag ≡ Issued put
-    → payload_length (h2d_at (command_fis put.command tag))
+    → payload_of (command_fis put.command tag)
     ≡ length (accept_payload put (payload (trace o list) tag))
 issued_length o list tag put lt lawful was =
     sym (accept_fed put tag (payload (trace o list) tag) (fit_issued (trace o list) tag put (kept tcg tcg_quiet o list lawful) was))
@@ -76,12 +74,12 @@ unqueued_small false n h = h
 
 pub issued_small : (o : Origin) (list : List Step) (tag : ℕ) (put : Put) → tag < 32
     → IsLawful o list → stage (trace o list) tag ≡ Issued put
-    → payload_length (h2d_at (command_fis put.command tag)) ≤ buffer_size
+    → payload_of (command_fis put.command tag) ≤ buffer_size
 issued_small o list tag put lt lawful was =
     let fit = fit_issued (trace o list) tag put (kept tcg tcg_quiet o list lawful) was in
     omega (
       arith,
-      ap payload_length (fis_back put.command tag),
+      fis_brings put.command tag,
       payload_is put.command tag fit.sized.counted fit.sized.most,
       unqueued_small (is_queued put.command) (brought put.command) (brought_small put.command fit.sized.most),
     )

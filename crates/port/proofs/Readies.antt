@@ -171,5 +171,5 @@ some_chosen choice (x ∷ xs) e = let at = slice_get-get_or (x ∷ xs) (choice %
 pub only_memory : {A : Type 0} (refused : Option PortError) (r : Result A PortError) (e : PortError) → r ≡ Err e → is_none refused ≡ true → IsRefusedBy refused r → e ≡ OutOfMemory
 only_memory None (Ok a) e was free told = absurd cc
 only_memory (Some error) r e was free told = absurd cc
-only_memory None (Err error) e was free (inl memory) = cc
+only_memory None (Err error) e was free (inl memory) = let m = memory.0 in cc
 only_memory None (Err error) e was free (inr other) = absurd cc

@@ -5,8 +5,7 @@ use Rattle.fis.specs.H2d.{h2d_at}
 use Rattle.fis.specs.Tags.{slot_count}
 use Rattle.fis.specs.declared.any.Fis.{Fis}
 use Rattle.hba_regs.specs.Registers.{Regs, fresh}
-use Rattle.trusted_cmds.specs.Commands.{payload_length}
-use Rattle.history.specs.Answers.{failed as failed_status, expected}
+use Rattle.history.specs.Answers.{payload_of as fis_payload, failed as failed_status, expected}
 use Rattle.history.specs.Facts.{facts}
 use Rattle.history.specs.History.{Act, Accept as AcceptFis, Complete as CompleteTag, Reset as ResetDrive, log, event}
 use Rattle.history.specs.Opening.{Origin}
@@ -140,7 +139,7 @@ pub record IsAccepted (old new : State) (tag : ℕ) (fis : List ℕ) : Type 0 wh
   pub answer : DriveAccepted
   pub bytes : List ℕ
   pub took : Took old.drive new.drive fis
-      (front old.memory tag (payload_length (h2d_at fis))) answer
+      (front old.memory tag (fis_payload fis)) answer
   pub memory : IsFilled old.memory new.memory tag (is_queued put.command) answer.bytes.items bytes
   pub received : Receives old.memory new.memory answer.fises.items
   pub slots : new.slots ≡ slice_set old.slots tag (accepted_stage put)

@@ -9,11 +9,10 @@ use crate::port::Port;
 use crate::registers::{show_all, show_answer};
 use crate::stages::{accepted_stage, failed_then};
 use audit::{AuditLine, Why};
-use drive::DriveError;
-use fis::{RegH2d, Tag};
+use drive::{DriveError, payload_of};
+use fis::Tag;
 use port_history::{Answer, Entry, PortError, Put, Request, Stage, Step, is_queued};
 use slots::BUFFER;
-use trusted_cmds::payload_len;
 
 /// Adds the line of a denial, if there was one.
 fn note(audit: &mut Vec<AuditLine>, step: u64, client: u32, denied: Option<Why>)
@@ -27,12 +26,11 @@ fn note(audit: &mut Vec<AuditLine>, step: u64, client: u32, denied: Option<Why>)
 
 impl Port {
     ghost use Rattle.std.specs.Prelude.{◌≡◌, ◌+◌, ◌<◌, ◌≤◌, ℕ, List, ◌∷◌, length, unwrap_or, Ok, OnOk, OnErr, IfOk, None};
-    ghost use Rattle.fis.specs.H2d.{h2d_at};
     ghost use Rattle.fis.specs.Tags.{slot_count};
     ghost use Rattle.slots.specs.Fetch.{fetched};
     ghost use Rattle.slots.specs.Layout.{buffer_size};
     ghost use Rattle.slots.specs.declared.fetched.Fetched.{Fetched};
-    ghost use Rattle.trusted_cmds.specs.Commands.{payload_length};
+    ghost use Rattle.history.specs.Answers.{payload_of};
     ghost use Rattle.history.specs.Opening.{Origin};
     ghost use Rattle.port_history.specs.declared.stages.Put.{Put};
     ghost use Rattle.port_history.specs.declared.step.Step.{Step};
@@ -148,7 +146,7 @@ impl Port {
 
     fn do_accept(&mut self, tag: Tag) -> Result<u64, PortError>
         ensures refused { ((put : Put) → stage_at self.old.slots tag ≡ Stage.Issued put
-            → (f : Fetched) × (fetched self.old.memory tag ≡ Ok f) × (payload_length (h2d_at f.fis) ≤ buffer_size))
+            → (f : Fetched) × (fetched self.old.memory tag ≡ Ok f) × (payload_of f.fis ≤ buffer_size))
             → IsRefusedBy (refusal_on self.old (steps.Accept tag)) result }
         ensures number { IfOk result (λ n. n ≡ 1 + length self.old.history) }
         ensures state { OnOk result ((f : Fetched) → fetched self.old.memory tag ≡ Ok f
@@ -160,7 +158,7 @@ impl Port {
         let Ok(command) = self.memory.fetch(tag) else {
             return Err(PortError::NotIssued);
         };
-        let len = payload_len(&RegH2d::read(&command.fis));
+        let len = payload_of(&command.fis);
         if len > BUFFER {
             return Err(PortError::NotIssued);
         }

@@ -2,14 +2,12 @@
 -- the list.
 use Rattle.std.proofs.Common.{◌≡◌, ◌∙◌, ℕ, Bool, true, false, List, [], ◌∷◌, length, if◌then◌else◌, Option, Some, None, refl, sym, ap, subst}
 use Rattle.std.specs.Prelude.{option_map}
-use Rattle.fis.specs.H2d.{h2d_at}
 use Rattle.trusted_cmds.specs.declared.command.Command.{Command}
 use Rattle.trusted_cmds.specs.declared.command.Command.TheVariants.{ReadQueued, WriteQueued, ReadDma, WriteDma, Send, Receive, Identify, ReadLog10, Flush}
-use Rattle.trusted_cmds.specs.Commands.{payload_length}
 use Rattle.history.specs.Opening.{Origin}
 use Rattle.history.specs.Events.{Event}
 use Rattle.history.specs.Facts.{Facts, facts}
-use Rattle.history.specs.Answers.{expected, expected_by}
+use Rattle.history.specs.Answers.{payload_of, expected, expected_by}
 use Rattle.history.specs.Bounds.{IsFed, AreFed}
 use Rattle.history.specs.History.{Act, Accept as AcceptFis, Complete as CompleteTag, Reset as ResetDrive, event_by, log}
 use Rattle.history.specs.Tcg.{tcg}
@@ -22,7 +20,7 @@ use Rattle.port_history.specs.Stages.{is_queued, put_in}
 use Rattle.port_history.specs.Steps.{effect_by, trace, events, event_before, stage, failed, payload, acceptance, accept_payload, act_of, act_before, acts}
 use Rattle.port_history.specs.Refusals.{IsLawful}
 use Rattle.port_history.specs.Laws.{FedLaw}
-use Rattle.port_history.proofs.Fises.{fis_back, brought, payload_is}
+use Rattle.port_history.proofs.Fises.{fis_brings, brought, payload_is}
 use Rattle.port_history.proofs.Tests.{none_is, none_holds, tests_of, issued_is, accepted_is}
 use Rattle.port_history.proofs.Kept.{IsFit}
 use Rattle.port_history.proofs.KeptLaw.{kept, fit_issued, fit_accepted, accepted_held}
@@ -63,10 +61,10 @@ length-brought true command bytes e = refl
 length-brought false command bytes e = e
 
 pub accept_fed : (put : Put) (u : ℕ) (bytes : List ℕ) → IsFit put.command bytes
-    → length (accept_payload put bytes) ≡ payload_length (h2d_at (command_fis put.command u))
+    → length (accept_payload put bytes) ≡ payload_of (command_fis put.command u)
 accept_fed put u bytes fit =
     length-brought (is_queued put.command) put.command bytes fit.brings
-    ∙ sym (ap payload_length (fis_back put.command u)
+    ∙ sym (fis_brings put.command u
     ∙ payload_is put.command u fit.sized.counted fit.sized.most)
 
 -- what comes with the completion of one

@@ -8,7 +8,9 @@ use Rattle.fis.specs.declared.h2d.RegH2d.{RegH2d}
 use Rattle.trusted_cmds.specs.declared.command.Command.{Command}
 use Rattle.trusted_cmds.specs.declared.command.Command.TheVariants.{ReadQueued, WriteQueued, ReadDma, WriteDma, Send, Receive, Identify, ReadLog10, Flush}
 use Rattle.trusted_cmds.specs.Commands.{reading, fis_with, fis_of, tag_with, payload_length, sectors, sectors_field, most_sectors, sector_size, IsCounted}
-use Rattle.port_history.specs.Requests.{fis_bytes, log_fis, to_device, blocks_moved, bytes_moved}
+use Rattle.history.specs.Answers.{payload_of}
+use Rattle.history.proofs.Payloads.{payload-of-command}
+use Rattle.port_history.specs.Requests.{fis_bytes, command_fis, log_fis, to_device, blocks_moved, bytes_moved}
 use Rattle.port_history.specs.Stages.{is_queued}
 
 -- a list of 20 bytes
@@ -217,6 +219,12 @@ payload_is Identify tag counted most = refl
 payload_is (ReadLog10 true) tag counted most = refl
 payload_is (ReadLog10 false) tag counted most = refl
 payload_is Flush tag counted most = refl
+
+-- and its bytes as many as the FIS itself
+pub fis_brings : (command : Command) (tag : ℕ)
+    → payload_of (command_fis command tag) ≡ payload_length (fis_of command tag)
+fis_brings command tag =
+    payload-of-command (command_fis command tag) refl ∙ ap payload_length (fis_back command tag)
 
 -- The read of the log.
 pub log_reads : reading (h2d_at log_fis) ≡ Ok (ReadLog10 true, None)

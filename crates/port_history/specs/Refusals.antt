@@ -14,6 +14,21 @@ use Rattle.port_history.specs.Requests.{is_sized}
 use Rattle.port_history.specs.Stages.{put_in, is_free, is_prepared, is_issued, is_accepted, is_answered, mixes, is_put_by}
 use Rattle.port_history.specs.Steps.{Moment, trace_of, stage, failed}
 
+-- The number by which a refusal is told.
+abbrev pub refusal_number : PortError → ℕ
+refusal_number SlotBusy = 1
+refusal_number NotPrepared = 2
+refusal_number Queue = 3
+refusal_number NotIssued = 4
+refusal_number NotAccepted = 5
+refusal_number NotFailed = 6
+refusal_number Failed = 7
+refusal_number NotAnswered = 8
+refusal_number NotYours = 9
+refusal_number Size = 10
+refusal_number HistoryFull = 11
+refusal_number OutOfMemory = 12
+
 -- how many steps a history has room for
 abbrev pub most_steps : ℕ
 most_steps = 1048576
@@ -69,10 +84,12 @@ AreLawful items o (step ∷ before) = (has_slot step ≡ true)
 abbrev pub IsLawful : Origin → List Step → Type 0
 IsLawful = AreLawful tcg
 
--- A call is refused, memory apart, exactly where this is something, and with it.
+-- A call is refused exactly where this is something, and with it; want of memory, the last of the
+-- refusals, is told only where no other applies.
 abbrev pub IsRefusedBy : {A : Type 0} → Option PortError → Result A PortError → Type 0
 IsRefusedBy refused (Ok a) = refused ≡ None
-IsRefusedBy refused (Err error) = (error ≡ OutOfMemory) ⊎ (refused ≡ Some error)
+IsRefusedBy refused (Err error) =
+    ((error ≡ OutOfMemory) × (refused ≡ None)) ⊎ (refused ≡ Some error)
 
 -- A test says just this.
 abbrev pub IsTold : {A : Type 0} → Option PortError → Result A PortError → Type 0

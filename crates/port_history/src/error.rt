@@ -44,6 +44,31 @@ pub enum PortError {
     OutOfMemory,
 }
 
+impl PortError {
+    ghost use Rattle.std.specs.Prelude.{◌≡◌};
+    ghost use Rattle.port_history.specs.Refusals.{refusal_number};
+
+    /// The number of the refusal, 1 to 12, in the order of the variants.
+    pub fn number(self) -> u8
+        ensures { result ≡ refusal_number self }
+    {
+        match self {
+            PortError::SlotBusy => 1,
+            PortError::NotPrepared => 2,
+            PortError::Queue => 3,
+            PortError::NotIssued => 4,
+            PortError::NotAccepted => 5,
+            PortError::NotFailed => 6,
+            PortError::Failed => 7,
+            PortError::NotAnswered => 8,
+            PortError::NotYours => 9,
+            PortError::Size => 10,
+            PortError::HistoryFull => 11,
+            PortError::OutOfMemory => 12,
+        }
+    }
+}
+
 /// Where a list of steps was stopped, and why. The steps before it are done.
 #[derive(Clone, Copy, Debug, PartialEq, Eq, Error)]
 #[error("the step at {at} is refused: {error}")]

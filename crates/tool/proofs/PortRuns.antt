@@ -24,7 +24,7 @@ use Rattle.port_history.specs.declared.step.Step.{Step}
 use Rattle.port_history.specs.declared.step.Step.TheVariants as steps
 use Rattle.script_lines.specs.Texts.{Prints, printed, last_of, done_text, denial_lines}
 use Rattle.script_lines.specs.declared.report.Report.{Report}
-use Rattle.tool.specs.PortEffects.{PortHas, PortRunsOn, PrintsError, PrintsStep, number_of, refused_lines, step_lines, stepped, step_effect, audit_lines, accepted_lines, taken_text}
+use Rattle.tool.specs.PortEffects.{PortHas, PortRunsOn, PrintsError, PrintsStep, refused_lines, step_lines, stepped, step_effect, audit_lines, accepted_lines, taken_text}
 use Rattle.tool.specs.declared.port_phase.PortPhase.{PortPhase}
 
 -- a line, and lines behind it
@@ -62,7 +62,7 @@ stepped-so A (Ok a) refused old new o list step before after told runs does kept
     (sym told) does
 stepped-so A (Err error) refused old new o list step before after (inl memory) runs does kept
     prints =
-    absurd (prints.told memory)
+    absurd (prints.told memory.0)
 stepped-so A (Err error) refused old new o list step before after (inr is) runs does kept prints =
     subst (λ (r : Option PortError). PortHas new o before after (stepped o list step r))
     (sym is) (record {
@@ -174,7 +174,7 @@ accept-so (Err error) old new o list tag before mid after refused agrees kept pr
     (refused o list runs) runs agrees kept
     (record {
       told = prints.told;
-      prints = prints-none before mid after (refused_lines (number_of error)) prints.prints
+      prints = prints-none before mid after (refused_lines error) prints.prints
           (subst (λ (lines : List (List ℕ)). Prints mid after lines)
           (ap (λ (port : State). audit_lines (slice_get port.audit (length old.port.audit))) kept
           ∙ ap audit_lines

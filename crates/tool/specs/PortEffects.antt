@@ -7,7 +7,7 @@ use Rattle.trusted_cmds.specs.declared.command.Command.{Command}
 use Rattle.trusted_cmds.specs.declared.command.Command.TheVariants as commands
 use Rattle.compacket.specs.Spelling.{frame_bytes}
 use Rattle.history.specs.Opening.{Origin}
-use Rattle.port_history.specs.Refusals.{refusal}
+use Rattle.port_history.specs.Refusals.{refusal, refusal_number}
 use Rattle.port_history.specs.Requests.{no_bytes}
 use Rattle.port_history.specs.Stages.{put_in}
 use Rattle.port_history.specs.Steps.{Effect as ActEffect, Moment, moment, trace, stage, answer, client_of}
@@ -55,24 +55,9 @@ request_of (asked.Call com_id session tokens) =
 request_of (asked.Send com_id packet) = requests.Send com_id_protocol com_id (in_blocks packet)
 request_of (asked.Receive com_id blocks) = requests.Receive com_id_protocol com_id blocks
 
--- The number of a refusal. Want of memory has none: it is the program's own.
-abbrev pub number_of : PortError → Option ℕ
-number_of errors.SlotBusy = Some 1
-number_of errors.NotPrepared = Some 2
-number_of errors.Queue = Some 3
-number_of errors.NotIssued = Some 4
-number_of errors.NotAccepted = Some 5
-number_of errors.NotFailed = Some 6
-number_of errors.Failed = Some 7
-number_of errors.NotAnswered = Some 8
-number_of errors.NotYours = Some 9
-number_of errors.Size = Some 10
-number_of errors.HistoryFull = Some 11
-number_of errors.OutOfMemory = None
-
-abbrev pub refused_lines : Option ℕ → List (List ℕ)
-refused_lines None = []
-refused_lines (Some number) = refused_text number ∷ []
+-- A refusal is told by its number.
+abbrev pub refused_lines : PortError → List (List ℕ)
+refused_lines error = refused_text (refusal_number error) ∷ []
 
 -- What is printed of the data of a command; of a slot without one, that it is done.
 abbrev pub command_text : Command → List ℕ → List ℕ
@@ -112,7 +97,7 @@ step_lines before (steps.Reset client kind) m = done_text ∷ []
 abbrev pub stepped : Origin → List Step → Step → Option PortError → PortEffect
 stepped o list step (Some error) = record {
   steps = list;
-  lines = refused_lines (number_of error);
+  lines = refused_lines error;
 }
 stepped o list step None = record {
   steps = step ∷ list;
@@ -143,7 +128,7 @@ PortRunsOn phase o list = PortAgrees phase.port o list
 -- A refusal is printed by its number, unless it is want of memory.
 pub record PrintsError (error : PortError) (before after : Report) : Type 0 where
   pub told : error ≡ errors.OutOfMemory → ⊥
-  pub prints : Prints before after (refused_lines (number_of error))
+  pub prints : Prints before after (refused_lines error)
 
 -- The line of the audit log that came, if one did.
 abbrev pub audit_lines : Option AuditLine → List (List ℕ)

@@ -8,7 +8,7 @@ ghost use Rattle.script_lines.specs.Fields.{most_call_bytes, most_send_bytes};
 ghost use Rattle.script_lines.specs.PortLines.{FitsPut};
 ghost use Rattle.script_lines.specs.Texts.{Prints, done_text};
 ghost use Rattle.tool.specs.Acts.{in_blocks, com_id_protocol};
-ghost use Rattle.tool.specs.PortEffects.{number_of, same_bytes, request_of, PrintsError, PrintsStep, bytes_text, taken_text, audit_lines};
+ghost use Rattle.tool.specs.PortEffects.{same_bytes, request_of, PrintsError, PrintsStep, bytes_text, taken_text, audit_lines};
 
 use crate::commands::{COM_ID_PROTOCOL, kind_named};
 use crate::ending::Fault;
@@ -124,35 +124,17 @@ fn send_of(com_id: ComId, bytes: Bytes) -> Request
     }
 }
 
-/// The number of a refusal; want of memory is none, but the program's own.
-fn refusal_number(error: PortError) -> Option<u8>
-    ensures { result ≡ number_of error }
-{
-    match error {
-        PortError::SlotBusy => Some(1),
-        PortError::NotPrepared => Some(2),
-        PortError::Queue => Some(3),
-        PortError::NotIssued => Some(4),
-        PortError::NotAccepted => Some(5),
-        PortError::NotFailed => Some(6),
-        PortError::Failed => Some(7),
-        PortError::NotAnswered => Some(8),
-        PortError::NotYours => Some(9),
-        PortError::Size => Some(10),
-        PortError::HistoryFull => Some(11),
-        PortError::OutOfMemory => None,
-    }
-}
-
 /// Prints a refusal. Want of memory stays an error.
 fn print_error(error: PortError, report: &mut Report) -> Result<(), AllocError>
     ensures { OnOk result (PrintsError error report.old report.new) }
 {
-    let Some(number) = refusal_number(error) else {
-        return Err(AllocError);
-    };
-    report.print_refused(number)?;
-    Ok(())
+    match error {
+        PortError::OutOfMemory => Err(AllocError),
+        _ => {
+            report.print_refused(error.number())?;
+            Ok(())
+        }
+    }
 }
 
 /// Prints that a step is done, or refused.

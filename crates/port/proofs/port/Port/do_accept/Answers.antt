@@ -3,7 +3,7 @@ use Rattle.std.specs.Prelude.{length, ◌+◌}
 use Rattle.audit.specs.declared.reason.AuditLine.{AuditLine}
 use Rattle.fis.specs.H2d.{h2d_at}
 use Rattle.slots.specs.declared.fetched.Fetched.{Fetched}
-use Rattle.trusted_cmds.specs.Commands.{payload_length}
+use Rattle.history.specs.Answers.{payload_of}
 use Rattle.history.specs.Facts.{facts}
 use Rattle.history.specs.History.{Accept as AcceptFis, log, event}
 use Rattle.drive.specs.Answers.{IsAnswer}
@@ -22,9 +22,9 @@ returns-clause-state c = rw (← c.self.view_is) (λ f e.
     let answer = c.in-Ok-accept.answer in
     let filled = c.take_in-len.ensures.filled in
     let same : c.in-Ok.command ≡ f = ok_same c.in-Ok.command f (c.in-Ok.ensures.exact ∙ e) in
-    let payload : c.front-payload.result.now ≡ front memory tag (payload_length (h2d_at c.in-Ok.command.fis)) =
+    let payload : c.front-payload.result.now ≡ front memory tag (payload_of c.in-Ok.command.fis) =
     c.front-payload.ensures.value
-    ∙ ap (front memory tag) (c.payload_len-len.ensures ∙ ap payload_length c.read.ensures.exact) in
+    ∙ ap (front memory tag) c.payload_of-len.ensures in
     record {
       put = c.in_ok-put.put;
       was = rw (← c.self.view_is) at c.in_ok-put.ensures.put;
@@ -32,10 +32,10 @@ returns-clause-state c = rw (← c.self.view_is) (λ f e.
       bytes = filled.0;
       took = record {
         drive = λ o acts h.
-            subst (λ (g : Fetched). DriveAgrees c.accept.new.self o (AcceptFis g.fis (front memory tag (payload_length (h2d_at g.fis))) ∷ acts)) same
+            subst (λ (g : Fetched). DriveAgrees c.accept.new.self o (AcceptFis g.fis (front memory tag (payload_of g.fis)) ∷ acts)) same
             (subst (λ (xs : List ℕ). DriveAgrees c.accept.new.self o (AcceptFis c.in-Ok.command.fis xs ∷ acts)) payload (c.in-Ok-accept.ensures.agrees o acts h));
         answers = λ o acts h.
-            subst (λ (g : Fetched). IsAnswer (facts o (log o acts)) (h2d_at g.fis) (event o (log o acts) (AcceptFis g.fis (front memory tag (payload_length (h2d_at g.fis))))) answer) same
+            subst (λ (g : Fetched). IsAnswer (facts o (log o acts)) (h2d_at g.fis) (event o (log o acts) (AcceptFis g.fis (front memory tag (payload_of g.fis)))) answer) same
             (subst (λ (xs : List ℕ). IsAnswer (facts o (log o acts)) (h2d_at c.in-Ok.command.fis) (event o (log o acts) (AcceptFis c.in-Ok.command.fis xs)) answer) payload (c.in-Ok-accept.ensures.answer o acts h));
       };
       memory =

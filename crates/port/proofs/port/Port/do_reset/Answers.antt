@@ -17,3 +17,6 @@ returns-clause-state c = rw (← c.self.view_is) (record {
   history = search rules;
   audit = refl;
 })
+
+pub returns-in_err-reserve-clause-refused : goal.returns-in_err-reserve-clause-refused
+returns-in_err-reserve-clause-refused c = let h = c.in_ok-may_reset.ensures c.args.client c.args.kind in let r = c.from_residual-in_err-reserve.ensures in search (rules, h, r)
