@@ -3,8 +3,8 @@
 use std::alloc::{AllocError, Global};
 use std::test::Fail;
 use tcg_tokens::{
-    Bytes, Call, Item, Reply, TokenError, Value, fault_text, item_len, item_text, read_item,
-    value_text, writable, write_item, write_item_into,
+    Bytes, Call, Item, TokenError, Value, fault_text, item_len, item_text, read_item, value_text,
+    writable, write_item, write_item_into,
 };
 
 /// The Get of columns 3 and 4 of C_PIN_MSID, in hex.
@@ -112,10 +112,10 @@ fn nested(alloc: Global, value: Value, lists: u8) -> Result<Item, AllocError> {
         value = Value::List(vec![in alloc; value]?);
     }
     let results = vec![in alloc; value]?;
-    Ok(Item::Reply(Reply {
+    Ok(Item::Reply {
         results,
         status: [0, 0, 0],
-    }))
+    })
 }
 
 /// A list is no name, and nine lists in one another are too deep.

@@ -9,7 +9,7 @@ use audit::Why;
 use call_shapes::limits::MOST_RESPONSE;
 use call_shapes::status;
 use std::alloc::{AllocError, AllocFailed, Global};
-use tcg_tokens::{Item, Reply, Value, item_len, writable};
+use tcg_tokens::{Item, Value, item_len, writable};
 
 /// What comes of a call: the reply, why it was denied, whether all media become zeros, and whether
 /// rows or bytes may have changed.
@@ -57,10 +57,10 @@ impl<T: Drop> From<AllocFailed<T>> for MethodFault {
 fn reply(results: Vec<Value>, status: u64) -> Item
     ensures { message result ≡ reply_of (map tree results.items) status }
 {
-    Item::Reply(Reply {
+    Item::Reply {
         results,
         status: [status, 0, 0],
-    })
+    }
 }
 
 /// These results of a call that may change something, and what was denied beside them.

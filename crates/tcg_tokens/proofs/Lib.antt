@@ -8,3 +8,6 @@ pub mod Writings
 pub mod Short
 pub mod Shortest
 pub mod Settled
+pub mod Skips
+pub mod Faults
+pub mod LeftmostProofs

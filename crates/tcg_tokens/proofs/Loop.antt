@@ -24,6 +24,18 @@ Fails-along Extra r s f h = f Extra h
 Fails-along Deep r s f h = f Deep h
 Fails-along OutOfMemory r s f h = tt
 
+-- a fault that is the reading's
+pub told : {Y : Type 0} (e : TokenError) (r : Result Y TokenError) → r ≡ Err e → Fails e r
+told Truncated r h = h
+told Reserved r h = h
+told Signed r h = h
+told Continued r h = h
+told TooBig r h = h
+told Unbalanced r h = h
+told Extra r h = h
+told Deep r h = h
+told OutOfMemory r h = tt
+
 -- what was read before, and what is still read
 abbrev pub with_front : Trees → Result (Trees × List ℕ) TokenError → Result (Trees × List ℕ) TokenError
 with_front front read = read >>= λ x. Ok (front +++ x.0, x.1)

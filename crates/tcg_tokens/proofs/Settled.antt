@@ -266,7 +266,7 @@ module _ (more : List ℕ) where
   whole_settled (Err Deep) s h e is_fault not_cut = rw h is_fault
   whole_settled (Err OutOfMemory) s h e is_fault not_cut = rw h is_fault
 
-  settled : (text : List ℕ) (e : TokenError) → reading text ≡ Err e → e ≢ Truncated → reading (text ++ more) ≡ Err e
+  pub settled : (text : List ℕ) (e : TokenError) → reading text ≡ Err e → e ≢ Truncated → reading (text ++ more) ≡ Err e
   unfolding reading
   settled text e is_fault not_cut = whole_settled (message_at text) (message_at (text ++ more)) (item_keeps text) e is_fault not_cut
 

@@ -8,6 +8,7 @@ pub mod Grammar
 pub mod Lex
 pub mod Gives
 pub mod Reading
+pub mod Leftmost
 pub mod Spelling
 pub mod Text
 pub mod Writable

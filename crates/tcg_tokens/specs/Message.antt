@@ -17,7 +17,7 @@ pub data Message : Type 0 where
 
 abbrev pub message : Item → Message
 message (Call c) = call c.object c.method (trees c.args.items) c.status
-message (Reply r) = reply (trees r.results.items) r.status
+message (Reply results status) = reply (trees results.items) status
 message EndSession = end_session
 message (Begin n) = begin n
 message (End n) = end n

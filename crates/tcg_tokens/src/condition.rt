@@ -3,12 +3,12 @@
 ghost use Rattle.std.specs.Prelude.{◌≡◌, ◌↔◌, IsTrue, ℕ, List};
 ghost use Rattle.std.specs.List.{list_all};
 ghost use Rattle.tcg_tokens.specs.Grammar.{Spells};
-ghost use Rattle.tcg_tokens.specs.Message.{message};
+ghost use Rattle.tcg_tokens.specs.Message.{message, reply};
 ghost use Rattle.tcg_tokens.specs.Tree.{tree, trees};
 ghost use Rattle.tcg_tokens.specs.Writable.{fits_number, fits_atom, is_name, is_writable_value, are_writable_values, is_writable, IsShaped};
 
 use crate::limits::{LENGTH_BITS, NESTING_LIMIT, NUMBER_BITS};
-use crate::value::{Call, Item, Reply, Value};
+use crate::value::{Call, Item, Value};
 
 /// Whether an item can be written: names are numbers or bytes, atoms of bytes are shorter than 2^24, and
 /// nothing is nested deeper than the limit.
@@ -27,7 +27,7 @@ fn is_writable_item(item: &Item) -> bool
 {
     match item {
         Item::Call(call) => is_writable_call(call),
-        Item::Reply(reply) => is_writable_reply(reply),
+        Item::Reply { results, status } => is_writable_reply(results, status),
         Item::EndSession => true,
         Item::Begin(number) => is_number(*number),
         Item::End(number) => is_number(*number),
@@ -41,11 +41,11 @@ fn is_writable_call(call: &Call) -> bool
     are_writable(&call.args, NESTING_LIMIT - 1) && are_numbers(&call.status)
 }
 
-fn is_writable_reply(reply: &Reply) -> bool
-    ensures exact { result ≡ is_writable (message (Item.Reply reply.now)) }
-    ensures shaped { IsShaped (message (Item.Reply reply.now)) }
+fn is_writable_reply(results: &Vec<Value>, status: &[u64; 3]) -> bool
+    ensures exact { result ≡ is_writable (reply (trees results.now.items) status.now) }
+    ensures shaped { IsShaped (reply (trees results.now.items) status.now) }
 {
-    are_writable(&reply.results, NESTING_LIMIT - 1) && are_numbers(&reply.status)
+    are_writable(results, NESTING_LIMIT - 1) && are_numbers(status)
 }
 
 /// Whether it is a number of at most the bits of the limit.

@@ -2,12 +2,12 @@
 
 ghost use Rattle.std.specs.Prelude.{◌≡◌, ◌≤◌, length};
 ghost use Rattle.tcg_tokens.specs.Length.{capped, len_of};
-ghost use Rattle.tcg_tokens.specs.Message.{message};
+ghost use Rattle.tcg_tokens.specs.Message.{message, reply};
 ghost use Rattle.tcg_tokens.specs.Spelling.{number_spelling, bytes_spelling, spelling_of, status_spelling};
 ghost use Rattle.tcg_tokens.specs.Tree.{tree, trees, list};
 
 use crate::form::{Form, TINY_LIMIT};
-use crate::value::{Call, Item, Reply, Value};
+use crate::value::{Call, Item, Value};
 use crate::write::without_zeros;
 
 /// The number of bytes that [`write_item`](crate::write_item) gives for an item that can be written, or
@@ -17,7 +17,7 @@ pub fn item_len(item: &Item) -> usize
 {
     match item {
         Item::Call(call) => call_len(call),
-        Item::Reply(reply) => reply_len(reply),
+        Item::Reply { results, status } => reply_len(results, status),
         Item::EndSession => 1,
         Item::Begin(number) => 1 + number_len(*number),
         Item::End(number) => 1 + number_len(*number),
@@ -34,11 +34,11 @@ fn call_len(call: &Call) -> usize
 }
 
 /// The bytes of a reply: its results, the mark behind them, its status.
-fn reply_len(reply: &Reply) -> usize
-    ensures { result ≡ len_of (message (Item.Reply reply.now)) }
+fn reply_len(results: &Vec<Value>, status: &[u64; 3]) -> usize
+    ensures { result ≡ len_of (reply (trees results.now.items) status.now) }
 {
-    list_len(&reply.results)
-        .saturating_add(status_len(&reply.status))
+    list_len(results)
+        .saturating_add(status_len(status))
         .saturating_add(1)
 }
 

@@ -1,9 +1,9 @@
 //! Items from bytes.
 
-ghost use Rattle.std.specs.Prelude.{◌≡◌, ◌≢◌, ◌++◌, ◌==◌, List, ℕ, Err, length, Some, None, Ok, IfOk, if◌then◌else◌};
+ghost use Rattle.std.specs.Prelude.{◌≡◌, ◌≢◌, ◌++◌, ◌==◌, false, List, ℕ, Err, length, Some, None, Ok, IfOk, if◌then◌else◌};
 ghost use Rattle.tcg_tokens.specs.declared.error.TokenError.{TokenError};
 ghost use Rattle.tcg_tokens.specs.declared.error.TokenError.TheVariants.{Truncated, OutOfMemory};
-ghost use Rattle.tcg_tokens.specs.Gives.{Gives};
+ghost use Rattle.tcg_tokens.specs.Gives.{Fails, Gives, Tells, is_fault};
 ghost use Rattle.tcg_tokens.specs.Grammar.{Spells};
 ghost use Rattle.tcg_tokens.specs.Lexeme.{seen};
 ghost use Rattle.tcg_tokens.specs.Tree.{tree, trees};
@@ -12,16 +12,17 @@ ghost use Rattle.tcg_tokens.specs.Reading.{expect, number_at, uid_at, list_with,
 
 use crate::error::TokenError;
 use crate::limits::NESTING_LIMIT;
+use crate::skip::skip_whole;
 use crate::token::{Mark, Token, next_token, skipped};
-use crate::value::{Call, Item, Reply, Value};
+use crate::value::{Call, Item, Value};
 use basics::Bytes;
 use std::alloc::Global;
 
 /// What is behind that mark.
 #[tactic(auto, unfolding(crate::specs::Reading::expect))]
 #[inline(always)]
-fn after_mark(mark: Mark, bytes: &[u8]) -> Result<&[u8], TokenError>
-    ensures { Gives (λ x. x.now) result (expect mark bytes.now) }
+pub(crate) fn after_mark(mark: Mark, bytes: &[u8]) -> Result<&[u8], TokenError>
+    ensures { Tells (λ x. x.now) result (expect mark bytes.now) }
 {
     let (token, rest) = next_token(bytes)?;
     match token {
@@ -40,8 +41,8 @@ fn after_mark(mark: Mark, bytes: &[u8]) -> Result<&[u8], TokenError>
 /// A number, and what is behind it.
 #[tactic(auto, unfolding(crate::specs::Reading::number_at))]
 #[inline(always)]
-fn number(bytes: &[u8]) -> Result<(u64, &[u8]), TokenError>
-    ensures { Gives (λ x. (x.0, x.1.now)) result (number_at bytes.now) }
+pub(crate) fn number(bytes: &[u8]) -> Result<(u64, &[u8]), TokenError>
+    ensures { Tells (λ x. (x.0, x.1.now)) result (number_at bytes.now) }
 {
     let (token, rest) = next_token(bytes)?;
     match token {
@@ -64,8 +65,8 @@ fn uid_from(content: &[u8]) -> Option<[u8; 8]>
 /// A UID, and what is behind it.
 #[tactic(auto, unfolding(crate::specs::Reading::uid_at))]
 #[inline(always)]
-fn uid(bytes: &[u8]) -> Result<([u8; 8], &[u8]), TokenError>
-    ensures { Gives (λ x. (x.0, x.1.now)) result (uid_at bytes.now) }
+pub(crate) fn uid(bytes: &[u8]) -> Result<([u8; 8], &[u8]), TokenError>
+    ensures { Tells (λ x. (x.0, x.1.now)) result (uid_at bytes.now) }
 {
     let (token, rest) = next_token(bytes)?;
     match token {
@@ -81,8 +82,8 @@ fn uid(bytes: &[u8]) -> Result<([u8; 8], &[u8]), TokenError>
 /// The three numbers of a status, and what is behind it.
 #[tactic(auto, unfolding(crate::specs::Reading::status_at))]
 #[inline(always)]
-fn status(bytes: &[u8]) -> Result<([u64; 3], &[u8]), TokenError>
-    ensures { Gives (λ x. (x.0, x.1.now)) result (status_at bytes.now) }
+pub(crate) fn status(bytes: &[u8]) -> Result<([u64; 3], &[u8]), TokenError>
+    ensures { Tells (λ x. (x.0, x.1.now)) result (status_at bytes.now) }
 {
     let rest = after_mark(Mark::StartList, bytes)?;
     let (a, rest) = number(rest)?;
@@ -232,7 +233,7 @@ fn reply(alloc: Global, bytes: &[u8]) -> Result<(Item, &[u8]), TokenError>
     let (results, rest) = outermost(alloc, bytes)?;
     let rest = after_mark(Mark::EndOfData, rest)?;
     let (status, rest) = status(rest)?;
-    Ok((Item::Reply(Reply { results, status }), rest))
+    Ok((Item::Reply { results, status }, rest))
 }
 
 /// An item behind its first token, a mark.
@@ -272,10 +273,11 @@ fn item(alloc: Global, bytes: &[u8]) -> Result<(Item, &[u8]), TokenError>
     }
 }
 
-/// The item that the bytes spell, all of the bytes but for FF behind it.
+/// The item that the bytes spell, all of the bytes but for FF behind it; where memory runs out, no fault of the
+/// bytes behind is seen.
 #[tactic(auto, unfolding(crate::specs::Reading::reading))]
 #[inline(always)]
-fn read_whole(alloc: Global, bytes: &[u8]) -> Result<Item, TokenError>
+fn read_once(alloc: Global, bytes: &[u8]) -> Result<Item, TokenError>
     ensures { Gives message result (reading bytes.now) }
 {
     let (item, rest) = item(alloc, bytes)?;
@@ -286,20 +288,45 @@ fn read_whole(alloc: Global, bytes: &[u8]) -> Result<Item, TokenError>
     }
 }
 
+/// The item that the bytes spell, all of the bytes but for FF behind it. Want of memory is told only where the bytes
+/// have no fault.
+fn read_whole(alloc: Global, bytes: &[u8]) -> Result<Item, TokenError>
+    ensures given { Gives message result (reading bytes.now) }
+    ensures memory { result ≡ Err OutOfMemory → is_fault (reading bytes.now) ≡ false }
+{
+    match read_once(alloc, bytes) {
+        Err(TokenError::OutOfMemory) => Err(fault_or_memory(bytes)),
+        read => read,
+    }
+}
+
+/// The fault of bytes; want of memory where they have none.
+fn fault_or_memory(bytes: &[u8]) -> TokenError
+    ensures given { Fails result (reading bytes.now) }
+    ensures memory { result ≡ OutOfMemory → is_fault (reading bytes.now) ≡ false }
+{
+    match skip_whole(bytes) {
+        Ok(()) => TokenError::OutOfMemory,
+        Err(fault) => fault,
+    }
+}
+
 /// The item that the bytes spell, all of the bytes but for FF behind it.
 ///
 /// FF is skipped before, between and behind tokens, and an atom may have any of its forms. The bytes are
-/// looked at once, from left to right; no call is nested deeper than the values are.
+/// looked at once, from left to right, and once more where memory ran out; no call is nested deeper than the values are.
 ///
 /// # Errors
 ///
 /// The fault of the leftmost token that earns one, as [`TokenError`] says; `OutOfMemory` only where an
-/// allocation was refused.
+/// allocation was refused and the bytes have no fault.
 pub fn read_item(alloc: Global, bytes: &[u8]) -> Result<Item, TokenError>
     // What is read is spelled so.
     ensures found { IfOk result (λ i. Spells bytes.now (message i)) }
     // What is spelled so is read, unless memory runs out: so an error says that there is no item.
     ensures only { (m : Message) → Spells bytes.now m → Gives message result (Ok m) }
+    // Want of memory is told only of bytes that spell an item.
+    ensures memory { result ≡ Err OutOfMemory → (m : Message) × Spells bytes.now m }
     // Which error it is: the one that is met first from the left.
     ensures exact { Gives message result (reading bytes.now) }
     // A fault is decided where it stands: whatever bytes follow, it stays. Truncated alone is due to their end.

@@ -2,12 +2,12 @@
 
 ghost use Rattle.std.specs.Prelude.{◌≡◌, ◌++◌, string_bytes, OnOk, IfOk, codes, decimal, if◌then◌else◌};
 ghost use Rattle.hex.specs.Hex.{encode_lower};
-ghost use Rattle.tcg_tokens.specs.Message.{message};
+ghost use Rattle.tcg_tokens.specs.Message.{message, reply};
 ghost use Rattle.tcg_tokens.specs.Text.{text_of, status_text, item_text_of, fault_text_of};
 ghost use Rattle.tcg_tokens.specs.Tree.{tree, trees, list};
 
 use crate::error::TokenError;
-use crate::value::{Call, Item, Reply, Value};
+use crate::value::{Call, Item, Value};
 use std::alloc::{AllocError, Global};
 
 /// A value's text: a number in decimal, bytes as `x` and lower-case hex, a list as `[a b]`, a named value
@@ -36,7 +36,7 @@ pub fn item_text(alloc: Global, item: &Item) -> Result<String, AllocError>
     let mut text = String::new(alloc);
     match item {
         Item::Call(call) => show_call(alloc, call, &mut text)?,
-        Item::Reply(reply) => show_reply(alloc, reply, &mut text)?,
+        Item::Reply { results, status } => show_reply(alloc, results, status, &mut text)?,
         Item::EndSession => text.push_str("end-session")?,
         Item::Begin(number) => write!(text, "begin {number}")?,
         Item::End(number) => write!(text, "end {number}")?,
@@ -149,11 +149,17 @@ fn show_call(alloc: Global, call: &Call, text: &mut String) -> Result<(), AllocE
 }
 
 /// A reply behind the text.
-fn show_reply(alloc: Global, reply: &Reply, text: &mut String) -> Result<(), AllocError>
-    ensures { OnOk result (string_bytes text.new ≡ string_bytes text.old ++ item_text_of (message (Item.Reply reply.now))) }
+fn show_reply(
+    alloc: Global,
+    results: &Vec<Value>,
+    status: &[u64; 3],
+    text: &mut String,
+) -> Result<(), AllocError>
+    ensures { OnOk result (string_bytes text.new ≡ string_bytes text.old
+        ++ item_text_of (reply (trees results.now.items) status.now)) }
 {
     text.push_str("reply ")?;
-    show_list(alloc, &reply.results, text)?;
-    show_status(&reply.status, text)?;
+    show_list(alloc, results, text)?;
+    show_status(status, text)?;
     Ok(())
 }

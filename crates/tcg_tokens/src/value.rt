@@ -27,19 +27,15 @@ pub struct Call {
     pub status: [u64; 3],
 }
 
-/// The reply to a call.
-#[derive(Debug, Drop)]
-pub struct Reply {
-    pub results: Vec<Value>,
-    /// The status code of the method, and two numbers that are zero.
-    pub status: [u64; 3],
-}
-
 /// What one stream of tokens says.
 #[derive(Debug, Drop)]
 pub enum Item {
     Call(Call),
-    Reply(Reply),
+    /// The reply to a call: its results, and the status code of the method with two numbers that are zero.
+    Reply {
+        results: Vec<Value>,
+        status: [u64; 3],
+    },
     /// The session ends.
     EndSession,
     /// A transaction begins, with its status.

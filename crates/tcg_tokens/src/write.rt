@@ -6,7 +6,7 @@ ghost use Rattle.tcg_tokens.specs.declared.limits.TheConstants.{LENGTH_BITS};
 ghost use Rattle.tcg_tokens.specs.Grammar.{IsFill, Spells};
 ghost use Rattle.tcg_tokens.specs.Length.{len_of};
 ghost use Rattle.tcg_tokens.specs.Lexeme.{AreBytes, code_of};
-ghost use Rattle.tcg_tokens.specs.Message.{message};
+ghost use Rattle.tcg_tokens.specs.Message.{message, reply};
 ghost use Rattle.tcg_tokens.specs.Reading.{reading};
 ghost use Rattle.tcg_tokens.specs.Spelling.{header, significant, number_spelling, bytes_spelling, spelling_of, spellings_of, status_spelling, item_spelling_of};
 ghost use Rattle.tcg_tokens.specs.Tree.{tree, trees, list};
@@ -15,7 +15,7 @@ ghost use Rattle.tcg_tokens.specs.Writable.{has_short_atoms, have_short_atoms, i
 use crate::form::{Form, TINY_LIMIT};
 use crate::length::item_len;
 use crate::token::Mark;
-use crate::value::{Call, Item, Reply, Value};
+use crate::value::{Call, Item, Value};
 use std::alloc::{AllocError, Global};
 
 /// The one spelling of an item: the shortest atoms, and no FF.
@@ -239,17 +239,20 @@ fn put_call(out: &mut Vec<u8>, call: &Call)
 }
 
 /// A reply.
-fn put_reply(out: &mut Vec<u8>, reply: &Reply)
-    requires short { have_short_atoms (trees reply.now.results.items) ≡ true }
-    requires room { vec_len out.old + length (item_spelling_of (message (Item.Reply reply.now))) ≤ vec_capacity out.old }
-    ensures items { out.new.items ≡ out.old.items ++ item_spelling_of (message (Item.Reply reply.now)) }
-    ensures len { vec_len out.new ≡ vec_len out.old + length (item_spelling_of (message (Item.Reply reply.now))) }
+fn put_reply(out: &mut Vec<u8>, results: &Vec<Value>, status: &[u64; 3])
+    requires short { have_short_atoms (trees results.now.items) ≡ true }
+    requires room { vec_len out.old
+        + length (item_spelling_of (reply (trees results.now.items) status.now)) ≤ vec_capacity out.old }
+    ensures items { out.new.items ≡ out.old.items
+        ++ item_spelling_of (reply (trees results.now.items) status.now) }
+    ensures len { vec_len out.new ≡ vec_len out.old
+        + length (item_spelling_of (reply (trees results.now.items) status.now)) }
     ensures kept { vec_capacity out.old ≤ vec_capacity out.new }
-    ensures shaped { IsShaped (message (Item.Reply reply.now)) }
+    ensures shaped { IsShaped (reply (trees results.now.items) status.now) }
 {
-    put_list(out, &reply.results);
+    put_list(out, results);
     put_mark(out, Mark::EndOfData);
-    put_status(out, &reply.status);
+    put_status(out, status);
 }
 
 /// An item.
@@ -264,7 +267,7 @@ fn put_item(out: &mut Vec<u8>, item: &Item)
 {
     match item {
         Item::Call(call) => put_call(out, call),
-        Item::Reply(reply) => put_reply(out, reply),
+        Item::Reply { results, status } => put_reply(out, results, status),
         Item::EndSession => put_mark(out, Mark::EndOfSession),
         Item::Begin(number) => {
             put_mark(out, Mark::StartTransaction);

@@ -22,7 +22,7 @@ use methods::{MethodFault, Outcome, invoke};
 use sessions::Sessions;
 use sp_cells::Uid;
 use std::alloc::{AllocError, Global};
-use tcg_tokens::{Call, Item, Reply, TokenError, read_item};
+use tcg_tokens::{Call, Item, TokenError, read_item};
 use transactions::{SessionId, Store};
 
 /// An answer that nothing denied, and whether rows or bytes may have changed.
@@ -47,10 +47,10 @@ fn failed(alloc: Global) -> Outcome
     ensures wipe { result.wipe ≡ false }
     ensures carried { is_carried (message result.reply) ≡ true }
 {
-    let reply = Item::Reply(Reply {
+    let reply = Item::Reply {
         results: Vec::new(alloc),
         status: [status::FAIL, 0, 0],
-    });
+    };
     answer(reply, false)
 }
 
@@ -119,7 +119,7 @@ pub(crate) fn to_manager(
 {
     match read_item(alloc, tokens) {
         Ok(Item::Call(call)) => call_manager(alloc, store, sessions, com_id, &call),
-        Ok(Item::Reply(_)) => Ok(failed(alloc)),
+        Ok(Item::Reply { .. }) => Ok(failed(alloc)),
         Ok(Item::EndSession) => Ok(failed(alloc)),
         Ok(Item::Begin(_)) => Ok(failed(alloc)),
         Ok(Item::End(_)) => Ok(failed(alloc)),
@@ -229,7 +229,7 @@ pub(crate) fn in_session(
         Ok(Item::Begin(_)) => Ok(begin(store, session)),
         Ok(Item::End(number)) => Ok(end(store, session, number)),
         Ok(Item::EndSession) => Ok(end_session(store, sessions, session)),
-        Ok(Item::Reply(_)) => Ok(failed(alloc)),
+        Ok(Item::Reply { .. }) => Ok(failed(alloc)),
         Err(fault) => no_item(alloc, fault),
     }
 }

@@ -1,16 +1,17 @@
 use Rattle.std.proofs.Common.{◌≡◌, sym, ◌∙◌, length}
 use Rattle.std.proofs.lemmas.Result.{err_from_is_err_and}
-use Rattle.tcg_tokens.proofs.Loop.{goes_on, token_fails, value_fails, ends, runs_out}
+use Rattle.tcg_tokens.proofs.Loop.{told, goes_on, token_fails, value_fails, ends, runs_out}
 use Rattle.tcg_tokens.proofs.Trees.{◌+++◌, trees_push}
 use Rattle.tcg_tokens.specs.Tree.{tree, trees, more, empty}
 use Rattle.tcg_tokens.specs.Reading.{value_of, list_with}
+use Rattle.tcg_tokens.specs.Lex.{token_at}
 use Rattle.tcg_tokens.specs.Lexeme.{seen}
 use Rattle.tcg_tokens.proofs.read.+value.Goals as goal
 
 pub values-returns-in_err-token : goal.values-returns-in_err-token
 values-returns-in_err-token t c =
     let p = err_from_is_err_and c.from_residual.result c.from_residual.ensures.1 in
-    rw (p.1, p.2) (token_fails (value_of c.args.room) (trees c.loop.items.items) (length c.args.bytes.now) c.loop.counter c.loop.rest.now (list_with (value_of c.args.room) c.args.bytes.now) c.in_err-token.field-0.0 c.loop-test.true c.in_err-token.ensures c.loop.invariant)
+    rw (p.1, p.2) (token_fails (value_of c.args.room) (trees c.loop.items.items) (length c.args.bytes.now) c.loop.counter c.loop.rest.now (list_with (value_of c.args.room) c.args.bytes.now) c.in_err-token.field-0.0 c.loop-test.true (told c.in_err-token.field-0.0 (token_at c.loop.rest.now) c.in_err-token.ensures) c.loop.invariant)
 
 pub values-returns-then-is_end : goal.values-returns-then-is_end
 values-returns-then-is_end t c =
