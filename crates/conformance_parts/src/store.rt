@@ -7,7 +7,7 @@ use shadow_mbr::Mbr;
 use sp_tables::{Cell, Column, Rows, SetError, Sp, Tables, Uid, number_at};
 use std::alloc::Global;
 use std::test::Fail;
-use transactions::{AlreadyOpen, Change, NotOpen, SessionId, Store};
+use transactions::{Change, SessionId, Store, TransactionError};
 
 const MSID: &[u8] = b"OPALMSID";
 
@@ -78,19 +78,19 @@ fn attempts(store: &Store) -> [u64; 2] {
 
 fn shows_changes_to_their_session(alloc: Global, store: &mut Store) -> Result<bool, Fail> {
     let mut held = store.begin(ADMIN1) == Ok(());
-    held = held && store.begin(ADMIN1) == Err(AlreadyOpen);
+    held = held && store.begin(ADMIN1) == Err(TransactionError::AlreadyOpen);
     held = held && store.open_on(Sp::Locking) == Some(ADMIN1);
     set_start(alloc, store, 100)?;
     set_start(alloc, store, 200)?;
     held = held && starts(store) == [0, 200, 0];
-    held = held && store.abort(SID) == Err(NotOpen);
+    held = held && store.abort(SID) == Err(TransactionError::NotOpen);
     held = held && store.abort(ADMIN1) == Ok(());
     held = held && starts(store) == [0, 0, 0];
     held = held && store.begin(ADMIN1) == Ok(());
     set_start(alloc, store, 300)?;
     held = held && store.commit(ADMIN1) == Ok(());
     held = held && starts(store) == [300, 300, 300];
-    held = held && store.commit(ADMIN1) == Err(NotOpen);
+    held = held && store.commit(ADMIN1) == Err(TransactionError::NotOpen);
     Ok(held)
 }
 

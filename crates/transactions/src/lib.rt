@@ -10,7 +10,7 @@ mod store;
 mod undo;
 mod view;
 
-pub use change::{AlreadyOpen, Change, NotOpen, SessionId};
+pub use change::{Change, SessionId, TransactionError};
 pub use laws::laws_of_transactions;
 pub use store::Store;
 pub use view::View;

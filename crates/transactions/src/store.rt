@@ -1,6 +1,6 @@
 //! The store: rows and bytes in force, and the open transaction of each SP.
 
-ghost use Rattle.std.specs.Prelude.{IfOk, ◌≡◌, ◌≤◌, ◌==◌, ◌+◌, ◌*◌, ◌↔◌, ℕ, Bool, [], length, None, Some, OnOk, OnErr, IsErr, is_some, true, false, option_map};
+ghost use Rattle.std.specs.Prelude.{IfOk, ◌≡◌, ◌≤◌, ◌==◌, ◌+◌, ◌*◌, ◌↔◌, ℕ, Bool, [], length, None, Some, OnOk, OnErr, IfErr, IsErr, is_some, true, false, option_map};
 ghost use Rattle.sp_cells.specs.declared.names.Sp.TheVariants.{Admin, Locking};
 ghost use Rattle.sp_cells.specs.Names.{c_pin_sid};
 ghost use Rattle.sp_cells.specs.ColumnNames.{pin_column};
@@ -13,9 +13,10 @@ ghost use Rattle.shadow_mbr.specs.Stored.{sector_size};
 ghost use Rattle.transactions.specs.Bytes.{written, blank};
 ghost use Rattle.transactions.specs.Stored.{part, at_part, is_open as is_open_in, part_begin, part_change, part_set, part_commit, part_close, part_tries, part_put, part_of, new_store, reverted, after_reset};
 ghost use Rattle.transactions.specs.Sights.{committed_sight, sight_of, look_up, is_manufactured as is_manufactured_in, activated};
+ghost use Rattle.transactions.specs.declared.change.TransactionError.TheVariants as errors;
 ghost use Rattle.transactions.specs.Changes.{IsInside, fault_of_cells, fault_of_change};
 
-use crate::change::{AlreadyOpen, Change, NotOpen, SessionId};
+use crate::change::{Change, SessionId, TransactionError};
 use crate::log::Pending;
 use crate::part::{
     begin, byte_log, byte_log_of_others, change_bytes, change_row, row_log, row_log_of_others,
@@ -93,9 +94,10 @@ impl Store {
     }
 
     /// Opens a transaction, where none is open on the SP. It takes no memory.
-    pub fn begin(&mut self, session: SessionId) -> Result<(), AlreadyOpen>
+    pub fn begin(&mut self, session: SessionId) -> Result<(), TransactionError>
         ensures ok { OnOk result (self.new ≡ at_part session.sp (part_begin session.tsn) self.old) }
         ensures already { IsErr result ↔ (is_some (part self.old session.sp).pending ≡ true) }
+        ensures error { IfErr result (λ e. e ≡ errors.AlreadyOpen) }
         ensures err { OnErr result (self.new ≡ self.old) }
     {
         match session.sp {
@@ -141,14 +143,15 @@ impl Store {
     }
 
     /// Makes what the session sees the rows and bytes in force. It takes no memory.
-    pub fn commit(&mut self, session: SessionId) -> Result<(), NotOpen>
+    pub fn commit(&mut self, session: SessionId) -> Result<(), TransactionError>
         ensures ok { OnOk result (self.new
             ≡ at_part session.sp (part_commit session.tsn) self.old) }
         ensures not_open { IsErr result ↔ (is_open_in (part self.old session.sp).pending session.tsn ≡ false) }
+        ensures error { IfErr result (λ e. e ≡ errors.NotOpen) }
         ensures err { OnErr result (self.new ≡ self.old) }
     {
         if !self.is_open(session) {
-            return Err(NotOpen);
+            return Err(TransactionError::NotOpen);
         }
         match session.sp {
             Sp::Admin => self.admin = None,
@@ -158,13 +161,14 @@ impl Store {
     }
 
     /// Drops the session's transaction: what is in force stays. It takes no memory.
-    pub fn abort(&mut self, session: SessionId) -> Result<(), NotOpen>
+    pub fn abort(&mut self, session: SessionId) -> Result<(), TransactionError>
         ensures ok { OnOk result (self.new ≡ at_part session.sp part_close self.old) }
         ensures not_open { IsErr result ↔ (is_open_in (part self.old session.sp).pending session.tsn ≡ false) }
+        ensures error { IfErr result (λ e. e ≡ errors.NotOpen) }
         ensures err { OnErr result (self.new ≡ self.old) }
     {
         if !self.is_open(session) {
-            return Err(NotOpen);
+            return Err(TransactionError::NotOpen);
         }
         self.close(session.sp);
         Ok(())
