@@ -9,7 +9,7 @@ use audit::AttemptFailure;
 use sp_cells::{Cell, Column, Rows, Sp, Uid, is_locking_authority, number_at};
 
 /// Whether an authority, or a class, is one of the SP.
-pub fn is_known(sp: Sp, authority: Uid) -> bool
+pub(crate) fn is_known(sp: Sp, authority: Uid) -> bool
     ensures { result ≡ is_known_to sp authority }
 {
     match sp {
@@ -29,7 +29,7 @@ pub(crate) fn uid_at<R: Rows>(rows: &R, sp: Sp, object: Uid, column: Column) -> 
 }
 
 /// The PIN row of an authority.
-pub fn credential<R: Rows>(rows: &R, sp: Sp, authority: Uid) -> Uid
+pub(crate) fn credential<R: Rows>(rows: &R, sp: Sp, authority: Uid) -> Uid
     ensures { result ≡ credential_of (R.look_up rows.now) sp authority }
 {
     uid_at(rows, sp, authority, Column::CREDENTIAL)
@@ -68,7 +68,12 @@ fn pin_failure<R: Rows>(rows: &R, sp: Sp, pin: Uid, proof: &[u8]) -> Option<Atte
 }
 
 /// How an attempt on an authority fails by these rows; None where it is right. Anybody needs no PIN.
-pub fn failure<R: Rows>(rows: &R, sp: Sp, authority: Uid, proof: &[u8]) -> Option<AttemptFailure>
+pub(crate) fn failure<R: Rows>(
+    rows: &R,
+    sp: Sp,
+    authority: Uid,
+    proof: &[u8],
+) -> Option<AttemptFailure>
     ensures { result ≡ failure_of (R.look_up rows.now) sp authority proof.now }
 {
     if !is_known(sp, authority) || number_at(rows, sp, authority, Column::IS_CLASS) == 1 {

@@ -86,10 +86,10 @@ fn call_manager(
     ensures config { store.new.config ≡ store.old.config }
 {
     if uid_of(&call.object) == Uid::SESSION_MANAGER && uid_of(&call.method) == Uid::PROPERTIES {
-        return Ok(answer(Sessions::properties(alloc, call)?, false));
+        return Ok(answer(sessions.properties(call)?, false));
     }
     if uid_of(&call.object) == Uid::SESSION_MANAGER && uid_of(&call.method) == Uid::START_SESSION {
-        let started = sessions.start(alloc, store, com_id, call)?;
+        let started = sessions.start(store, com_id, call)?;
         return Ok(Outcome {
             reply: started.reply,
             denied: started.denied,
