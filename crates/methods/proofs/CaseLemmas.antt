@@ -1,15 +1,236 @@
--- Each method of the access list has a case.
-use Rattle.std.proofs.Common.{◌≡◌, ◌==◌, ◌&&◌, Bool, true, false, List, [], ◌∷◌, Some, is_some, refl, ap, sym, ◌∙◌, if◌then◌else◌, inl, inr}
-use Rattle.sp_cells.specs.Names.{uid}
-use Rattle.std.specs.List.{list_all}
+-- Each method of the access list has a case, and each cell of a new drive stands in a column of its kind.
+use Rattle.std.proofs.Common.{◌≡◌, ◌==◌, ◌&&◌, ◌||◌, ◌-◌, ◌^◌, ℕ, Bool, true, false, List, [], ◌∷◌, Option, None, Some, is_some, option_map, refl, ap, sym, subst, ◌∙◌, if◌then◌else◌, inl, inr}
+use Rattle.sp_cells.specs.Names.{uid, col, get, set, authenticate, activate, revert}
+use Rattle.std.specs.List.{list_all, list_any}
 use Rattle.std.proofs.lemmas.Bool.Decides.{eqb_tells}
 use Rattle.sp_cells.specs.declared.names.Uid.{Uid}
 use Rattle.sp_cells.specs.declared.names.Sp.{Sp}
 use Rattle.sp_cells.specs.declared.names.Sp.TheVariants.{Admin, Locking}
+use Rattle.sp_cells.specs.declared.names.Column.{Column}
 use Rattle.sp_cells.specs.Authorities.{authorities_of_locking}
+use Rattle.sp_cells.specs.ColumnNames.{uid_column}
+use Rattle.sp_cells.specs.Config.{Config}
 use Rattle.sp_cells.specs.Flat.{sp_eq}
+use Rattle.sp_rows.specs.Items.{Item, is_here, item_at}
+use Rattle.sp_factory.specs.Factory.{admin_sps, admin_authorities, locking_authorities, admin_pins, locking_pins, locking_ranges, locking_mbr_controls, admin_aces, authority_aces, pin_aces, range_aces, mbr_aces}
 use Rattle.access_list.specs.Access.{Grant, acl_in, this_sp_grants, admin_grants, authority_grants, fixed_ace_gets, user_ace_grants, read_locked_ace_grants, write_locked_ace_grants, done_ace_grants, pin_grants, range_grants, mbr_grants, access_list}
-use Rattle.methods.specs.Cases.{has_case, EachHasCase}
+use Rattle.tcg_tokens.specs.Tree.{Tree, number, bytes, list, named}
+use Rattle.call_shapes.specs.declared.ask.Ask.{Ask}
+use Rattle.call_shapes.specs.declared.ask.Ask.TheVariants.{GetCells, GetBytes, SetCells, SetBytes, Authenticate, Activate, Revert, Other}
+use Rattle.call_shapes.specs.Named.{list_in, value_of, options, number_or, number_if_any, bytes_or_empty, assignments}
+use Rattle.call_shapes.specs.Parameters.{start_row_parameter, end_row_parameter, start_column_parameter, end_column_parameter, where_parameter, values_parameter, proof_parameter}
+use Rattle.call_shapes.specs.Asks.{uid_of, is_mbr_table, cellblock, columns_between, columns_in, is_ordered, rows_between, rows_in, cells_of, cells_to_set, cells_in, bytes_to_set, bytes_in, proof_of, proof_in, attempt_in, without_arguments, get_of, set_of, ask_of}
+use Rattle.methods.specs.declared.kinds.Kind.{Kind}
+use Rattle.methods.specs.declared.kinds.Kind.TheVariants as kinds
+use Rattle.methods.specs.Kinds.{kind_of}
+use Rattle.methods.specs.Columns.{columns_of}
+use Rattle.methods.specs.Effects.{has_ask}
+use Rattle.methods.specs.Laws.{IsAmong}
+use Rattle.methods.specs.Cases.{CaseLaw, ColumnLaw, HasCell, HasColumnsOfKind, new_cells}
+
+-- ---- what is asked, by its shape alone
+
+-- one for each shape
+abbrev some_uid : Uid
+some_uid = uid 0
+
+abbrev sketch : Ask → Ask
+sketch (GetCells first last) = GetCells 0 0
+sketch (GetBytes first last) = GetBytes 0 None
+sketch (SetCells ps) = SetCells []
+sketch (SetBytes at bs) = SetBytes 0 []
+sketch (Authenticate authority proof) = Authenticate some_uid []
+sketch Activate = Activate
+sketch Revert = Revert
+sketch Other = Other
+
+abbrev sketch_of : Sp → Uid → Uid → Ask
+sketch_of sp object method =
+    if method.0 == get.0 then (if is_mbr_table sp object then GetBytes 0 None else GetCells 0 0) else
+    if method.0 == set.0 then (if is_mbr_table sp object then SetBytes 0 [] else SetCells []) else
+    if method.0 == authenticate.0 then Authenticate some_uid [] else
+    if method.0 == activate.0 then Activate else
+    if method.0 == revert.0 then Revert else
+    Other
+
+-- a kind has what is asked by its shape
+same_shape : (kind : Option Kind) (ask : Ask) → has_ask kind ask ≡ has_ask kind (sketch ask)
+same_shape None ask = refl
+same_shape (Some kinds.ThisSp) (Authenticate a p) = refl
+same_shape (Some kinds.ThisSp) (GetCells f l) = refl
+same_shape (Some kinds.ThisSp) (GetBytes f l) = refl
+same_shape (Some kinds.ThisSp) (SetCells ps) = refl
+same_shape (Some kinds.ThisSp) (SetBytes a b) = refl
+same_shape (Some kinds.ThisSp) Activate = refl
+same_shape (Some kinds.ThisSp) Revert = refl
+same_shape (Some kinds.ThisSp) Other = refl
+same_shape (Some kinds.Sp) (GetCells f l) = refl
+same_shape (Some kinds.Sp) (GetBytes f l) = refl
+same_shape (Some kinds.Sp) (SetCells ps) = refl
+same_shape (Some kinds.Sp) (SetBytes a b) = refl
+same_shape (Some kinds.Sp) (Authenticate a p) = refl
+same_shape (Some kinds.Sp) Activate = refl
+same_shape (Some kinds.Sp) Revert = refl
+same_shape (Some kinds.Sp) Other = refl
+same_shape (Some kinds.Authority) (GetCells f l) = refl
+same_shape (Some kinds.Authority) (GetBytes f l) = refl
+same_shape (Some kinds.Authority) (SetCells ps) = refl
+same_shape (Some kinds.Authority) (SetBytes a b) = refl
+same_shape (Some kinds.Authority) (Authenticate a p) = refl
+same_shape (Some kinds.Authority) Activate = refl
+same_shape (Some kinds.Authority) Revert = refl
+same_shape (Some kinds.Authority) Other = refl
+same_shape (Some kinds.CPin) (GetCells f l) = refl
+same_shape (Some kinds.CPin) (GetBytes f l) = refl
+same_shape (Some kinds.CPin) (SetCells ps) = refl
+same_shape (Some kinds.CPin) (SetBytes a b) = refl
+same_shape (Some kinds.CPin) (Authenticate a p) = refl
+same_shape (Some kinds.CPin) Activate = refl
+same_shape (Some kinds.CPin) Revert = refl
+same_shape (Some kinds.CPin) Other = refl
+same_shape (Some kinds.Ace) (GetCells f l) = refl
+same_shape (Some kinds.Ace) (GetBytes f l) = refl
+same_shape (Some kinds.Ace) (SetCells ps) = refl
+same_shape (Some kinds.Ace) (SetBytes a b) = refl
+same_shape (Some kinds.Ace) (Authenticate a p) = refl
+same_shape (Some kinds.Ace) Activate = refl
+same_shape (Some kinds.Ace) Revert = refl
+same_shape (Some kinds.Ace) Other = refl
+same_shape (Some kinds.Locking) (GetCells f l) = refl
+same_shape (Some kinds.Locking) (GetBytes f l) = refl
+same_shape (Some kinds.Locking) (SetCells ps) = refl
+same_shape (Some kinds.Locking) (SetBytes a b) = refl
+same_shape (Some kinds.Locking) (Authenticate a p) = refl
+same_shape (Some kinds.Locking) Activate = refl
+same_shape (Some kinds.Locking) Revert = refl
+same_shape (Some kinds.Locking) Other = refl
+same_shape (Some kinds.MbrControl) (GetCells f l) = refl
+same_shape (Some kinds.MbrControl) (GetBytes f l) = refl
+same_shape (Some kinds.MbrControl) (SetCells ps) = refl
+same_shape (Some kinds.MbrControl) (SetBytes a b) = refl
+same_shape (Some kinds.MbrControl) (Authenticate a p) = refl
+same_shape (Some kinds.MbrControl) Activate = refl
+same_shape (Some kinds.MbrControl) Revert = refl
+same_shape (Some kinds.MbrControl) Other = refl
+same_shape (Some kinds.TperInfo) (GetCells f l) = refl
+same_shape (Some kinds.TperInfo) (GetBytes f l) = refl
+same_shape (Some kinds.TperInfo) (SetCells ps) = refl
+same_shape (Some kinds.TperInfo) (SetBytes a b) = refl
+same_shape (Some kinds.TperInfo) (Authenticate a p) = refl
+same_shape (Some kinds.TperInfo) Activate = refl
+same_shape (Some kinds.TperInfo) Revert = refl
+same_shape (Some kinds.TperInfo) Other = refl
+same_shape (Some kinds.MbrTable) (GetCells f l) = refl
+same_shape (Some kinds.MbrTable) (GetBytes f l) = refl
+same_shape (Some kinds.MbrTable) (SetCells ps) = refl
+same_shape (Some kinds.MbrTable) (SetBytes a b) = refl
+same_shape (Some kinds.MbrTable) (Authenticate a p) = refl
+same_shape (Some kinds.MbrTable) Activate = refl
+same_shape (Some kinds.MbrTable) Revert = refl
+same_shape (Some kinds.MbrTable) Other = refl
+
+-- what a call asks has the shape that its method wants
+abbrev Fits : Option Ask → Ask → Type 0
+Fits None s = Unit {0}
+Fits (Some ask) s = sketch ask ≡ s
+
+either : (b : Bool) (o p : Option Ask) (s t : Ask) → Fits o s → Fits p t → Fits (if b then o else p) (if b then s else t)
+either true o p s t h k = h
+either false o p s t h k = k
+
+only_if : (b : Bool) (o : Option Ask) (s : Ask) → Fits o s → Fits (if b then o else None) s
+only_if true o s h = h
+only_if false o s h = tt
+
+columns_between_fit : (first last : Option ℕ) → Fits (columns_between first last) (GetCells 0 0)
+columns_between_fit None last = tt
+columns_between_fit (Some first) None = tt
+columns_between_fit (Some first) (Some last) = only_if _ (Some (GetCells first last)) (GetCells 0 0) refl
+
+columns_fit : (o : Option (List (ℕ × Tree))) → Fits (columns_in o) (GetCells 0 0)
+columns_fit None = tt
+columns_fit (Some ps) = columns_between_fit (number_or 0 (value_of start_column_parameter ps)) (number_or (2 ^ 64 - 1) (value_of end_column_parameter ps))
+
+rows_between_fit : (first : Option ℕ) (last : Option (Option ℕ)) → Fits (rows_between first last) (GetBytes 0 None)
+rows_between_fit None last = tt
+rows_between_fit (Some first) None = tt
+rows_between_fit (Some first) (Some last) = only_if (is_ordered first last) (Some (GetBytes first last)) (GetBytes 0 None) refl
+
+rows_fit : (o : Option (List (ℕ × Tree))) → Fits (rows_in o) (GetBytes 0 None)
+rows_fit None = tt
+rows_fit (Some ps) = rows_between_fit (number_or 0 (value_of start_row_parameter ps)) (number_if_any (value_of end_row_parameter ps))
+
+get_fits : (b : Bool) (args : List Tree) → Fits (get_of b args) (if b then GetBytes 0 None else GetCells 0 0)
+get_fits true args = rows_fit (cellblock start_row_parameter end_row_parameter args)
+get_fits false args = columns_fit (cellblock start_column_parameter end_column_parameter args)
+
+assigned_fit : (o : Option (List (ℕ × Tree))) → Fits (option_map SetCells o) (SetCells [])
+assigned_fit None = tt
+assigned_fit (Some ps) = refl
+
+cells_of_fit : (o : Option (List Tree)) → Fits (cells_of o) (SetCells [])
+cells_of_fit None = tt
+cells_of_fit (Some ts) = assigned_fit (assignments ts)
+
+cells_to_set_fit : (o : Option Tree) → Fits (cells_to_set o) (SetCells [])
+cells_to_set_fit None = tt
+cells_to_set_fit (Some t) = cells_of_fit (list_in t)
+
+cells_fit : (o : Option (List (ℕ × Tree))) → Fits (cells_in o) (SetCells [])
+cells_fit None = tt
+cells_fit (Some ps) = cells_to_set_fit (value_of values_parameter ps)
+
+bytes_to_set_fit : (at : Option ℕ) (o : Option Tree) → Fits (bytes_to_set at o) (SetBytes 0 [])
+bytes_to_set_fit None o = tt
+bytes_to_set_fit (Some at) None = tt
+bytes_to_set_fit (Some at) (Some (bytes b)) = refl
+bytes_to_set_fit (Some at) (Some (number n)) = tt
+bytes_to_set_fit (Some at) (Some (list ts)) = tt
+bytes_to_set_fit (Some at) (Some (named n v)) = tt
+
+bytes_fit : (o : Option (List (ℕ × Tree))) → Fits (bytes_in o) (SetBytes 0 [])
+bytes_fit None = tt
+bytes_fit (Some ps) = bytes_to_set_fit (number_or 0 (value_of where_parameter ps)) (value_of values_parameter ps)
+
+set_fits : (b : Bool) (args : List Tree) → Fits (set_of b args) (if b then SetBytes 0 [] else SetCells [])
+set_fits true args = bytes_fit (options (where_parameter ∷ values_parameter ∷ []) args)
+set_fits false args = cells_fit (options (values_parameter ∷ []) args)
+
+proof_of_fits : (authority : Uid) (o : Option (List ℕ)) → Fits (proof_of authority o) (Authenticate some_uid [])
+proof_of_fits authority None = tt
+proof_of_fits authority (Some proof) = refl
+
+proof_fits : (authority : Uid) (o : Option (List (ℕ × Tree))) → Fits (proof_in authority o) (Authenticate some_uid [])
+proof_fits authority None = tt
+proof_fits authority (Some ps) = proof_of_fits authority (bytes_or_empty (value_of proof_parameter ps))
+
+attempt_fits : (args : List Tree) → Fits (attempt_in args) (Authenticate some_uid [])
+attempt_fits [] = tt
+attempt_fits (bytes b ∷ rest) = only_if _ (proof_in (uid_of b) (options (proof_parameter ∷ []) rest)) (Authenticate some_uid []) (proof_fits (uid_of b) (options (proof_parameter ∷ []) rest))
+attempt_fits (number n ∷ rest) = tt
+attempt_fits (list ts ∷ rest) = tt
+attempt_fits (named n v ∷ rest) = tt
+
+without_fits : (ask : Ask) (args : List Tree) → Fits (without_arguments ask args) (sketch ask)
+without_fits ask [] = refl
+without_fits ask (t ∷ ts) = tt
+
+asked_fits : (sp : Sp) (object method : Uid) (args : List Tree) → Fits (ask_of sp object method args) (sketch_of sp object method)
+asked_fits sp object method args =
+    either (method.0 == get.0) _ _ _ _ (get_fits (is_mbr_table sp object) args)
+    (either (method.0 == set.0) _ _ _ _ (set_fits (is_mbr_table sp object) args)
+    (either (method.0 == authenticate.0) _ _ _ _ (attempt_fits args)
+    (either (method.0 == activate.0) _ _ _ _ (without_fits Activate args)
+    (either (method.0 == revert.0) _ _ _ _ (without_fits Revert args) refl))))
+
+fitting : (o : Option Ask) (s ask : Ask) → Fits o s → o ≡ Some ask → sketch ask ≡ s
+fitting None s ask h e = absurd (let k : None ≡ Some ask = e in cc)
+fitting (Some a) s ask h e = let same : a ≡ ask = cc in sym (ap sketch same) ∙ h
+
+-- ---- each grant has a case
+
+abbrev has_case : Sp → Uid → Uid → Bool
+has_case sp object method = has_ask (kind_of sp object) (sketch_of sp object method)
 
 covered : Grant → Bool
 covered g = has_case g.sp g.object g.method
@@ -58,5 +279,98 @@ found_covered : (gs : List Grant) (sp : Sp) (object method : Uid) → list_all c
 found_covered [] sp object method all some = cc
 found_covered (g ∷ gs) sp object method all some = found_step g gs sp object method (sp_eq g.sp sp && (g.object.0 == object.0) && (g.method.0 == method.0)) refl all some (found_covered gs sp object method)
 
-pub cases_of_grants : EachHasCase
-cases_of_grants sp object method some = found_covered access_list sp object method all_covered some
+pub cases_of_grants : CaseLaw
+cases_of_grants sp object method args ask some shaped =
+    same_shape (kind_of sp object) ask
+    ∙ ap (has_ask (kind_of sp object)) (fitting (ask_of sp object method args) (sketch_of sp object method) ask (asked_fits sp object method args) shaped)
+    ∙ found_covered access_list sp object method all_covered some
+
+-- ---- columns
+
+-- the cells stand in columns of their kinds
+abbrev stands : Sp → Item → Bool
+stands sp i = list_any (λ k. k.0 == i.column.0) (columns_of (kind_of sp i.object))
+
+-- behind the first cell of a row follow those of its other columns
+abbrev is_whole : Sp → Item → List Item → Bool
+is_whole sp i is = list_all (λ k. is_some (item_at (i ∷ is) i.object k)) (columns_of (kind_of sp i.object))
+
+abbrev are_whole : Sp → List Item → Bool
+are_whole sp [] = true
+are_whole sp (i ∷ is) = (if i.column.0 == uid_column.0 then is_whole sp i is else true) && are_whole sp is
+
+-- of each SP
+all_stand : (config : Config) (sp : Sp) → list_all (stands sp) (new_cells config sp) ≡ true
+unfolding admin_sps admin_authorities locking_authorities admin_pins locking_pins locking_ranges locking_mbr_controls admin_aces authority_aces pin_aces range_aces mbr_aces
+all_stand config Admin = refl
+all_stand config Locking = refl
+
+all_whole : (config : Config) (sp : Sp) → are_whole sp (new_cells config sp) ≡ true
+unfolding admin_sps admin_authorities locking_authorities admin_pins locking_pins locking_ranges locking_mbr_controls admin_aces authority_aces pin_aces range_aces mbr_aces
+all_whole config Admin = refl
+all_whole config Locking = refl
+
+same_column : (k l : Column) → (k.0 == l.0) ≡ true → k ≡ l
+same_column k l h = elim (eqb_tells k.0 l.0) [
+  | inl same ↦ ap col same.1
+  | inr apart ↦ absurd (clash (sym apart.0 ∙ h))
+]
+
+among_step : (l : Column) (ks : List Column) (k : Column) (b : Bool) → (l.0 == k.0) ≡ b → (b || list_any (λ m. m.0 == k.0) ks) ≡ true → (list_any (λ m. m.0 == k.0) ks ≡ true → IsAmong ks k) → IsAmong (l ∷ ks) k
+among_step l ks k true e h rest = inl (same_column l k e)
+among_step l ks k false e h rest = inr (rest h)
+
+among_any : (ks : List Column) (k : Column) → list_any (λ l. l.0 == k.0) ks ≡ true → IsAmong ks k
+among_any [] k h = clash h
+among_any (l ∷ ks) k h = among_step l ks k (l.0 == k.0) refl h (among_any ks k)
+
+all_among : (p : Column → Bool) (ks : List Column) (k : Column) → list_all p ks ≡ true → IsAmong ks k → p k ≡ true
+all_among p [] k h at = absurd at
+all_among p (l ∷ ks) k h (inl same) = ap p (sym same) ∙ (both (p l) (list_all p ks) h).0
+all_among p (l ∷ ks) k h (inr at) = all_among p ks k (both (p l) (list_all p ks) h).1 at
+
+two : (a b : Bool) → (a && b) ≡ true → (a ≡ true) × (b ≡ true)
+two a b h = both a b h
+
+alone_step : (sp : Sp) (i : Item) (is : List Item) (object : Uid) (k : Column) (b : Bool) → is_here object k i ≡ b → list_all (stands sp) (i ∷ is) ≡ true → is_some (if b then Some i.value else item_at is object k) ≡ true
+    → (list_all (stands sp) is ≡ true → is_some (item_at is object k) ≡ true → IsAmong (columns_of (kind_of sp object)) k) → IsAmong (columns_of (kind_of sp object)) k
+alone_step sp i is object k false e all some rest = rest (both (stands sp i) (list_all (stands sp) is) all).1 some
+alone_step sp i is object k true e all some rest =
+    let at = two (i.object.0 == object.0) (i.column.0 == k.0) e in
+    let here : IsAmong (columns_of (kind_of sp i.object)) i.column = among_any (columns_of (kind_of sp i.object)) i.column (both (stands sp i) (list_all (stands sp) is) all).0 in
+    subst (λ (o : Uid). IsAmong (columns_of (kind_of sp o)) k) (same_uid i.object object at.0) (subst (λ (l : Column). IsAmong (columns_of (kind_of sp i.object)) l) (same_column i.column k at.1) here)
+
+alone : (sp : Sp) (is : List Item) (object : Uid) (k : Column) → list_all (stands sp) is ≡ true → HasCell is object k → IsAmong (columns_of (kind_of sp object)) k
+alone sp [] object k all some = absurd (clash some)
+alone sp (i ∷ is) object k all some = alone_step sp i is object k (is_here object k i) refl all some (alone sp is object k)
+
+-- a cell that the rest has the whole has
+kept : (i : Item) (is : List Item) (object : Uid) (k : Column) (b : Bool) → HasCell is object k → is_some (if b then Some i.value else item_at is object k) ≡ true
+kept i is object k true h = refl
+kept i is object k false h = h
+
+whole_here : (b w : Bool) → b ≡ true → (if b then w else true) ≡ true → w ≡ true
+whole_here true w e h = h
+whole_here false w e h = absurd (clash e)
+
+each_step : (sp : Sp) (i : Item) (is : List Item) (object : Uid) (k : Column) (b : Bool) → is_here object uid_column i ≡ b → are_whole sp (i ∷ is) ≡ true → is_some (if b then Some i.value else item_at is object uid_column) ≡ true
+    → IsAmong (columns_of (kind_of sp object)) k → (are_whole sp is ≡ true → HasCell is object uid_column → HasCell is object k) → HasCell (i ∷ is) object k
+each_step sp i is object k false e all some at rest = kept i is object k (is_here object k i) (rest (both (if i.column.0 == uid_column.0 then is_whole sp i is else true) (are_whole sp is) all).1 some)
+each_step sp i is object k true e all some at rest =
+    let here = two (i.object.0 == object.0) (i.column.0 == uid_column.0) e in
+    let same : i.object ≡ object = same_uid i.object object here.0 in
+    let whole : is_whole sp i is ≡ true = whole_here (i.column.0 == uid_column.0) (is_whole sp i is) here.1 (both (if i.column.0 == uid_column.0 then is_whole sp i is else true) (are_whole sp is) all).0 in
+    let found : is_some (item_at (i ∷ is) i.object k) ≡ true = all_among (λ l. is_some (item_at (i ∷ is) i.object l)) (columns_of (kind_of sp i.object)) k whole (subst (λ (o : Uid). IsAmong (columns_of (kind_of sp o)) k) (sym same) at) in
+    subst (λ (o : Uid). is_some (item_at (i ∷ is) o k) ≡ true) same found
+
+each : (sp : Sp) (is : List Item) (object : Uid) (k : Column) → are_whole sp is ≡ true → HasCell is object uid_column → IsAmong (columns_of (kind_of sp object)) k → HasCell is object k
+each sp [] object k all some at = absurd (clash some)
+each sp (i ∷ is) object k all some at = each_step sp i is object k (is_here object uid_column i) refl all some at (λ all' some'. each sp is object k all' some' at)
+
+pub columns_of_rows : ColumnLaw
+columns_of_rows config sp object k = record {
+  alone = alone sp (new_cells config sp) object k (all_stand config sp);
+  each = each sp (new_cells config sp) object k (all_whole config sp);
+}
+
+pub ruleset of_cases = (cases_of_grants, columns_of_rows)

@@ -5,15 +5,13 @@ use Rattle.sp_cells.specs.declared.names.Uid.{Uid}
 use Rattle.sp_cells.specs.declared.names.Sp.{Sp}
 use Rattle.sp_cells.specs.declared.names.Sp.TheVariants.{Admin, Locking}
 use Rattle.sp_cells.specs.declared.error.SetError.{SetError}
-use Rattle.sp_cells.specs.Names.{set}
 use Rattle.transactions.specs.declared.change.Change.{Change}
 use Rattle.transactions.specs.declared.change.Change.TheVariants.{Cells, Mbr}
 use Rattle.transactions.specs.Stored.{Stored, Part, Transaction, part_set, at_part}
 use Rattle.transactions.specs.Changes.{fault_of_change}
 use Rattle.methods.specs.Settings.{Setting, setting}
 use Rattle.methods.specs.Changes.{setting_seen, object_of}
-use Rattle.methods.specs.Cases.{has_case}
-use Rattle.methods.specs.Effects.{fault_of_setting, fault_of_set, part_with, is_told, stored_after, unless_fault, valid_setting, set_stored, set_said, to_set, held_of, bytes_from}
+use Rattle.methods.specs.Effects.{fault_of_setting, fault_of_set, has_set, part_with, is_told, stored_after, unless_fault, valid_setting, set_stored, set_said, to_set, held_of, bytes_from}
 use Rattle.call_shapes.specs.Statuses.{invalid_parameter}
 use Rattle.methods.specs.Said.{says, refuses, said_attempt}
 use Rattle.tcg_tokens.specs.Tree.{number}
@@ -22,12 +20,17 @@ use Rattle.audit.specs.declared.reason.AttemptFailure.{AttemptFailure}
 use Rattle.audit.specs.declared.reason.AttemptFailure.TheVariants.{WrongPin, LockedOut, Disabled, Unknown}
 use Rattle.sessions.specs.declared.answers.AuthAnswer.TheVariants.{Wrong}
 use Rattle.sessions.specs.Answers.{answer_to}
-use Rattle.transactions.specs.Sights.{Sight, sight_on, sight_of}
+use Rattle.transactions.specs.Sights.{Sight, sight_on, sight_of, latest_look}
 use Rattle.methods.specs.Kinds.{kind_of}
 use Rattle.call_shapes.specs.declared.ask.Ask.{Ask}
 use Rattle.sessions.specs.Live.{Holder}
 use Rattle.transactions.specs.declared.change.SessionId.{SessionId}
-use Rattle.sp_tables.specs.Faults.{IsFault}
+use Rattle.sp_cells.specs.declared.error.SetError.TheVariants as faults
+use Rattle.sp_cells.specs.declared.names.Column.{Column}
+use Rattle.sp_cells.specs.declared.cells.Cell.{Cell}
+use Rattle.sp_tables.specs.Faults.{IsFault, first_of}
+use Rattle.sp_tables.specs.Looks.{fault_seen}
+use Rattle.sp_tables.specs.Tries.{names_tries}
 use Rattle.methods.proofs.ObjectLemmas.{set_there}
 
 -- a change does what its setting says
@@ -46,10 +49,10 @@ fault_made (Cells object cells) sp s = refl
 fault_made (Mbr at bytes) sp s = refl
 
 -- where the object's kind has Set, it is the change that may have a fault
-fault_here : (s : Stored) (session : SessionId) (change : Change) → has_case session.sp (object_of change) set ≡ true → fault_of_set s session change ≡ fault_of_change s session.sp change
+fault_here : (s : Stored) (session : SessionId) (change : Change) → has_set (kind_of session.sp (object_of change)) ≡ true → fault_of_set s session change ≡ fault_of_change s session.sp change
 fault_here s session change e = rw e refl
 
-fault_as : (s : Stored) (session : SessionId) (object : Uid) (ask : Ask) (change : Change) → has_case session.sp object set ≡ true → Some (setting_seen change) ≡ setting session.sp s.config.mbr_sectors object (kind_of session.sp object) ask → fault_of_set s session change ≡ fault_of_setting s session.sp (setting_seen change)
+fault_as : (s : Stored) (session : SessionId) (object : Uid) (ask : Ask) (change : Change) → has_set (kind_of session.sp object) ≡ true → Some (setting_seen change) ≡ setting session.sp s.config.mbr_sectors object (kind_of session.sp object) ask → fault_of_set s session change ≡ fault_of_setting s session.sp (setting_seen change)
 fault_as s session object ask change h e = fault_here s session change (set_there session.sp s.config.mbr_sectors object ask change e h) ∙ fault_made change session.sp s
 
 -- what a session holds
@@ -89,6 +92,36 @@ pub told : (o : Option SetError) (e : SetError) → IsFault o e → is_told e �
 told None e f t = absurd (clash (sym (ap is_told f) ∙ t))
 told (Some x) e f t = refl
 
+-- a fault of a change is one that is told, and so is none where want of memory is told
+abbrev chain : (a b c d e : Bool) → Option SetError
+chain a b c d e = first_of ((a, faults.NoCell) ∷ (b, faults.WrongType) ∷ (c, faults.Overlap) ∷ (d, faults.Beyond) ∷ (e, faults.Expr) ∷ [])
+
+told_as : (f g : SetError) → Some f ≡ Some g → is_told f ≡ true → is_told g ≡ true
+told_as f g h t = let same : f ≡ g = cc in sym (ap is_told same) ∙ t
+
+chain_told : (a b c d e : Bool) (f : SetError) → chain a b c d e ≡ Some f → is_told f ≡ true
+chain_told true b c d e f h = told_as faults.NoCell f h refl
+chain_told false true c d e f h = told_as faults.WrongType f h refl
+chain_told false false true d e f h = told_as faults.Overlap f h refl
+chain_told false false false true e f h = told_as faults.Beyond f h refl
+chain_told false false false false true f h = told_as faults.Expr f h refl
+chain_told false false false false false f h = absurd (let k : None ≡ Some f = h in cc)
+
+cells_told : (s : Stored) (sp : Sp) (object : Uid) (cells : List (Column × Cell)) (b : Bool) (f : SetError) → (if b then Some faults.NoCell else fault_seen s.config.sectors (latest_look s) sp object cells) ≡ Some f → is_told f ≡ true
+cells_told s sp object cells true f h = told_as faults.NoCell f h refl
+cells_told s sp object cells false f h = chain_told _ _ _ _ _ f h
+
+change_told : (s : Stored) (sp : Sp) (change : Change) (f : SetError) → fault_of_change s sp change ≡ Some f → is_told f ≡ true
+change_told s sp (Cells object cells) f h = cells_told s sp object cells.items (names_tries object cells.items) f h
+change_told s sp (Mbr at bytes) f h = absurd (let k : None ≡ Some f = h in cc)
+
+none_of : (o : Option SetError) (e : SetError) → ((f : SetError) → o ≡ Some f → is_told f ≡ true) → IsFault o e → is_told e ≡ false → o ≡ None
+none_of None e h f t = refl
+none_of (Some fault) e h f t = absurd (clash (sym t ∙ ap is_told f ∙ h fault refl))
+
+pub no_fault : (s : Stored) (sp : Sp) (change : Change) (e : SetError) → IsFault (fault_of_change s sp change) e → is_told e ≡ false → fault_of_change s sp change ≡ None
+no_fault s sp change e f t = none_of (fault_of_change s sp change) e (change_told s sp change) f t
+
 pub stored_told : (o : Option SetError) (sp : Sp) (change : Change) (s : Stored) → is_some o ≡ true → stored_after o sp change s ≡ s
 stored_told None sp change s e = cc
 stored_told (Some x) sp change s e = refl
@@ -110,15 +143,15 @@ said_by (Some x) st true e = cc
 said_by (Some x) st false e = refl
 
 -- the store, and the answer, of a Set whose values are read
-pub stored_set : (s : Stored) (session : SessionId) (object : Uid) (ask : Ask) (change : Change) → has_case session.sp object set ≡ true → Some (setting_seen change) ≡ setting session.sp s.config.mbr_sectors object (kind_of session.sp object) ask → stored_after (fault_of_set s session change) session.sp change s ≡ set_stored s session.sp (to_set s session object ask)
+pub stored_set : (s : Stored) (session : SessionId) (object : Uid) (ask : Ask) (change : Change) → has_set (kind_of session.sp object) ≡ true → Some (setting_seen change) ≡ setting session.sp s.config.mbr_sectors object (kind_of session.sp object) ask → stored_after (fault_of_set s session change) session.sp change s ≡ set_stored s session.sp (to_set s session object ask)
 stored_set s session object ask change h e = ap (λ o. stored_after o session.sp change s) (fault_as s session object ask change h e) ∙ set_by (fault_of_setting s session.sp (setting_seen change)) session.sp change s ∙ ap (λ o. set_stored s session.sp (valid_setting s session.sp o)) e
 
-pub said_set : (s : Stored) (session : SessionId) (object : Uid) (ask : Ask) (change : Change) (b : Bool) → has_case session.sp object set ≡ true → Some (setting_seen change) ≡ setting session.sp s.config.mbr_sectors object (kind_of session.sp object) ask → b ≡ not (is_some (fault_of_set s session change)) → (if b then says [] None false else refuses invalid_parameter None) ≡ set_said (to_set s session object ask)
+pub said_set : (s : Stored) (session : SessionId) (object : Uid) (ask : Ask) (change : Change) (b : Bool) → has_set (kind_of session.sp object) ≡ true → Some (setting_seen change) ≡ setting session.sp s.config.mbr_sectors object (kind_of session.sp object) ask → b ≡ not (is_some (fault_of_set s session change)) → (if b then says [] None false else refuses invalid_parameter None) ≡ set_said (to_set s session object ask)
 said_set s session object ask change b h e made = sym (said_by (fault_of_set s session change) (setting_seen change) b made) ∙ ap (λ o. set_said (unless_fault o (setting_seen change))) (fault_as s session object ask change h e) ∙ ap (λ o. set_said (valid_setting s session.sp o)) e
 
 pub ruleset setting_done = (stored_set, said_set)
 
-pub ruleset telling = (told, stored_told)
+pub ruleset telling = (told, stored_told, no_fault)
 
 -- bytes that are told one by one
 pub bytes_told : (bs xs : List ℕ) (first n : ℕ) → length xs ≡ n → ((k : ℕ) → k < length xs → slice_index xs k ≡ slice_index bs (first + k)) → xs ≡ bytes_from bs first n

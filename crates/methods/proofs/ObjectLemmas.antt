@@ -6,7 +6,6 @@ use Rattle.sp_cells.specs.declared.names.Sp.{Sp}
 use Rattle.sp_cells.specs.declared.names.Sp.TheVariants.{Admin, Locking}
 use Rattle.sp_cells.specs.declared.cells.Cell.{Cell}
 use Rattle.sp_cells.specs.declared.values.ColumnType.{ColumnType}
-use Rattle.sp_cells.specs.Names.{set}
 use Rattle.transactions.specs.declared.change.Change.{Change}
 use Rattle.transactions.specs.declared.change.Change.TheVariants.{Cells, Mbr}
 use Rattle.call_shapes.specs.declared.ask.Ask.{Ask}
@@ -15,7 +14,7 @@ use Rattle.methods.specs.declared.kinds.Kind.{Kind}
 use Rattle.methods.specs.declared.kinds.Kind.TheVariants as kinds
 use Rattle.methods.specs.Kinds.{kind_of}
 use Rattle.methods.specs.Columns.{set_types_of}
-use Rattle.methods.specs.Cases.{has_case}
+use Rattle.methods.specs.Effects.{has_set}
 use Rattle.methods.specs.Settings.{cells_set, bytes_set, setting, setting_of_cells, cells_of_ask, cells_for, bytes_of_ask, is_within}
 use Rattle.methods.specs.Changes.{setting_seen, object_of}
 
@@ -91,7 +90,7 @@ bytes_of_locking n object at bs (Some kinds.TperInfo) ask e = no_bytes object at
 bytes_of_locking n object at bs None ask e = no_bytes object at bs (set_types_of None) ask e
 
 -- where the object that a call names has Set, the object of what it sets has it
-pub set_there : (sp : Sp) (n : ℕ) (object : Uid) (ask : Ask) (change : Change) → Some (setting_seen change) ≡ setting sp n object (kind_of sp object) ask → has_case sp object set ≡ true → has_case sp (object_of change) set ≡ true
-set_there sp n object ask (Cells o cells) e h = ap (λ u. has_case sp u set) (sym (cells_of_object sp n object o cells.items (kind_of sp object) ask (sym e))) ∙ h
+pub set_there : (sp : Sp) (n : ℕ) (object : Uid) (ask : Ask) (change : Change) → Some (setting_seen change) ≡ setting sp n object (kind_of sp object) ask → has_set (kind_of sp object) ≡ true → has_set (kind_of sp (object_of change)) ≡ true
+set_there sp n object ask (Cells o cells) e h = ap (λ u. has_set (kind_of sp u)) (sym (cells_of_object sp n object o cells.items (kind_of sp object) ask (sym e))) ∙ h
 set_there Admin n object ask (Mbr at bs) e h = absurd (bytes_of_locking n object at bs.items (kind_of Admin object) ask (sym e))
 set_there Locking n object ask (Mbr at bs) e h = refl

@@ -1,30 +1,39 @@
--- Which methods a kind of object has (Core 2.01, section 5.3; Opal SSC 2.01, section 5.1).
-use Rattle.std.specs.Prelude.{◌≡◌, Bool, true, List, [], ◌∷◌, Option, None, Some, is_some}
+-- Each method that the access list offers has a case, and each column of a row stands in the table of columns (Core
+-- 2.01, section 5.3; Opal SSC 2.01, section 5.1).
+use Rattle.std.specs.Prelude.{◌≡◌, true, List, Some, is_some}
 use Rattle.sp_cells.specs.declared.names.Uid.{Uid}
 use Rattle.sp_cells.specs.declared.names.Sp.{Sp}
-use Rattle.sp_cells.specs.Names.{get, set, authenticate, activate, revert}
-use Rattle.ace_eval.specs.Truth.{has}
+use Rattle.sp_cells.specs.declared.names.Column.{Column}
+use Rattle.sp_cells.specs.ColumnNames.{uid_column}
+use Rattle.sp_cells.specs.Config.{Config}
+use Rattle.sp_rows.specs.Items.{Item, item_at}
+use Rattle.sp_tables.specs.Contents.{items_of, factory_contents}
+use Rattle.tcg_tokens.specs.Tree.{Tree}
 use Rattle.ace_eval.specs.Aces.{acl_at}
-use Rattle.methods.specs.declared.kinds.Kind.{Kind}
-use Rattle.methods.specs.declared.kinds.Kind.TheVariants as kinds
+use Rattle.call_shapes.specs.declared.ask.Ask.{Ask}
+use Rattle.call_shapes.specs.Asks.{ask_of}
 use Rattle.methods.specs.Kinds.{kind_of}
+use Rattle.methods.specs.Columns.{columns_of}
+use Rattle.methods.specs.Effects.{has_ask}
+use Rattle.methods.specs.Laws.{IsAmong}
 
-abbrev pub methods_of : Option Kind → List Uid
-methods_of None = []
-methods_of (Some kinds.ThisSp) = authenticate ∷ []
-methods_of (Some kinds.Sp) = get ∷ activate ∷ revert ∷ []
-methods_of (Some kinds.Authority) = get ∷ set ∷ []
-methods_of (Some kinds.CPin) = get ∷ set ∷ []
-methods_of (Some kinds.Ace) = get ∷ set ∷ []
-methods_of (Some kinds.Locking) = get ∷ set ∷ []
-methods_of (Some kinds.MbrControl) = get ∷ set ∷ []
-methods_of (Some kinds.TperInfo) = get ∷ set ∷ []
-methods_of (Some kinds.MbrTable) = get ∷ set ∷ []
+-- where a method is offered, and its arguments have the shape that it wants, the object's kind has what is asked
+abbrev pub CaseLaw : Type 0
+CaseLaw = (sp : Sp) (object method : Uid) (args : List Tree) (ask : Ask) → is_some (acl_at sp object method) ≡ true → ask_of sp object method args ≡ Some ask → has_ask (kind_of sp object) ask ≡ true
 
--- the object is of a kind that has the method
-abbrev pub has_case : Sp → Uid → Uid → Bool
-has_case sp object method = has (methods_of (kind_of sp object)) method
+-- the cells of a new drive's SP
+abbrev pub new_cells : Config → Sp → List Item
+new_cells config sp = items_of (factory_contents config) sp
 
--- each method that the access list offers has a case
-abbrev pub EachHasCase : Type 0
-EachHasCase = (sp : Sp) (object method : Uid) → is_some (acl_at sp object method) ≡ true → has_case sp object method ≡ true
+-- an object has a cell in a column
+abbrev pub HasCell : List Item → Uid → Column → Type 0
+HasCell items object k = is_some (item_at items object k) ≡ true
+
+-- an object has cells in columns of its kind alone; one that has a cell in the first has one in each of them
+pub record HasColumnsOfKind (sp : Sp) (items : List Item) (object : Uid) (k : Column) : Type 0 where
+  pub alone : HasCell items object k → IsAmong (columns_of (kind_of sp object)) k
+  pub each : HasCell items object uid_column → IsAmong (columns_of (kind_of sp object)) k → HasCell items object k
+
+-- so it is of a new drive
+abbrev pub ColumnLaw : Type 0
+ColumnLaw = (config : Config) (sp : Sp) (object : Uid) (k : Column) → HasColumnsOfKind sp (new_cells config sp) object k

@@ -6,7 +6,7 @@ use Rattle.sp_cells.specs.declared.names.Sp.{Sp}
 use Rattle.sp_cells.specs.declared.names.Sp.TheVariants.{Admin, Locking}
 use Rattle.sp_cells.specs.declared.error.SetError.{SetError}
 use Rattle.sp_cells.specs.declared.error.SetError.TheVariants as faults
-use Rattle.sp_cells.specs.Names.{admin_sp, set}
+use Rattle.sp_cells.specs.Names.{admin_sp}
 use Rattle.sp_cells.specs.Flat.{LookUp}
 use Rattle.sp_rows.specs.Items.{Item, with_items}
 use Rattle.shadow_mbr.specs.Stored.{sector_size}
@@ -26,7 +26,6 @@ use Rattle.methods.specs.declared.kinds.Kind.TheVariants as kinds
 use Rattle.methods.specs.declared.kinds.Handler.{Handler}
 use Rattle.methods.specs.declared.kinds.Handler.TheVariants as handlers
 use Rattle.methods.specs.Kinds.{kind_of}
-use Rattle.methods.specs.Cases.{has_case}
 use Rattle.methods.specs.Listed.{listed, cell_value}
 use Rattle.methods.specs.Changes.{object_of}
 use Rattle.methods.specs.Settings.{Setting, cells_set, bytes_set, setting}
@@ -55,6 +54,10 @@ has_ask (Some kinds.TperInfo) (SetCells ps) = true
 has_ask (Some kinds.MbrTable) (GetBytes first last) = true
 has_ask (Some kinds.MbrTable) (SetBytes at bytes) = true
 has_ask _ _ = false
+
+-- a kind of object has a Set, of columns or of bytes
+abbrev pub has_set : Option Kind → Bool
+has_set kind = has_ask kind (SetCells []) || has_ask kind (SetBytes 0 [])
 
 -- a handler does what is asked in this shape
 abbrev pub handles : Handler → Ask → Bool
@@ -125,7 +128,7 @@ fault_of_setting s sp (bytes_set at bytes) = None
 
 -- why a Set does not make a change: the object's kind has no Set, or the change has a fault
 abbrev pub fault_of_set : Stored → SessionId → Change → Option SetError
-fault_of_set s session change = if has_case session.sp (object_of change) set then fault_of_change s session.sp change else Some faults.NoCell
+fault_of_set s session change = if has_set (kind_of session.sp (object_of change)) then fault_of_change s session.sp change else Some faults.NoCell
 
 -- the store after a change that has this fault, or none
 abbrev pub stored_after : Option SetError → Sp → Change → Stored → Stored

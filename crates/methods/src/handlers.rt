@@ -7,10 +7,8 @@ ghost use Rattle.methods.specs.Kinds.{kind_of as kind_of_object};
 ghost use Rattle.methods.specs.Said.{said_seen, said_attempt};
 ghost use Rattle.methods.specs.Settings.{setting};
 ghost use Rattle.methods.specs.Changes.{setting_seen};
-ghost use Rattle.methods.specs.Effects.{columns_said, bytes_said, bytes_from, seen_by, holder_of, held_in, gaining, to_set, valid_setting, set_said, set_stored, is_inside, unless_inside, stored_unless, ended_unless, sp_of_row as sp_of};
-ghost use Rattle.methods.specs.Cases.{has_case};
+ghost use Rattle.methods.specs.Effects.{columns_said, bytes_said, bytes_from, seen_by, holder_of, held_in, gaining, to_set, valid_setting, set_said, set_stored, is_inside, unless_inside, has_set, stored_unless, ended_unless, sp_of_row as sp_of};
 ghost use Rattle.methods.specs.Said.{says};
-ghost use Rattle.sp_cells.specs.Names.{set};
 ghost use Rattle.transactions.specs.Stored.{reverted};
 ghost use Rattle.transactions.specs.Sights.{sight_of, activated, is_manufactured};
 ghost use Rattle.sessions.specs.Answers.{attempt, after_attempt};
@@ -158,7 +156,7 @@ pub(crate) fn write(
     object: Uid,
     ask: &Ask,
 ) -> Result<Outcome, MethodFault>
-    requires { has_case session.sp object set ≡ true }
+    requires { has_set (kind_of_object session.sp object) ≡ true }
     ensures outcome { IfOk result (λ out. said_seen out
         ≡ set_said (to_set store.old session object ask.now)) }
     ensures store { OnOk result (store.new
@@ -170,7 +168,7 @@ pub(crate) fn write(
     let Some(change) = check_set(alloc, &store.view(session), session.sp, object, ask)? else {
         return Ok(refused(alloc, status::INVALID_PARAMETER, None));
     };
-    if apply_set(store, session, &change)? {
+    if apply_set(alloc, store, session, &change)? {
         Ok(said(Vec::new(alloc), None, false))
     } else {
         Ok(refused(alloc, status::INVALID_PARAMETER, None))

@@ -10,6 +10,7 @@ use call_shapes::limits::MOST_RESPONSE;
 use call_shapes::status;
 use std::alloc::{AllocError, AllocFailed, Global};
 use tcg_tokens::{Item, Value, item_len, writable};
+use thiserror::Error;
 
 /// What comes of a call: the reply, why it was denied, whether all media become zeros, and whether
 /// rows or bytes may have changed.
@@ -22,12 +23,14 @@ pub struct Outcome {
 }
 
 /// Why a call was not made.
-#[derive(Clone, Copy, Debug, PartialEq, Eq)]
+#[derive(Clone, Copy, Debug, PartialEq, Eq, Error)]
 pub enum MethodFault {
     /// The session does not live.
+    #[error("the session does not live")]
     NoSession,
 
     /// A growth was refused.
+    #[error("out of memory")]
     OutOfMemory,
 }
 
