@@ -1,6 +1,11 @@
 -- Transactions on both sides of their law, computed from the definitions.
 use Rattle.std.proofs.Common.{◌≡◌, ℕ, true, false, List, [], ◌∷◌, ◌++◌, replicate, Some, None, refl}
 use Rattle.sp_cells.specs.declared.cells.Cell.TheVariants.{Number}
+use Rattle.audit.specs.declared.reason.Why.TheVariants.{ReadLocked}
+use Rattle.locking.specs.declared.range.Op.{Op}
+use Rattle.locking.specs.declared.range.Op.TheVariants as ops
+use Rattle.locking.specs.declared.ranges.Verdict.TheVariants.{Serve, Denied}
+use Rattle.sp_cells.specs.declared.names.Sp.{Sp}
 use Rattle.sp_cells.specs.declared.names.Sp.TheVariants.{Locking}
 use Rattle.sp_cells.specs.ColumnNames.{read_locked_column}
 use Rattle.sp_cells.specs.Names.{range_uid}
@@ -17,18 +22,21 @@ use Rattle.tcg_tokens.specs.Spelling.{number_spelling, bytes_spelling}
 use Rattle.transactions.specs.Resets.{is_range}
 use Rattle.methods.specs.Listed.{listed_among}
 use Rattle.methods.specs.Settings.{cells_for}
-use Rattle.history.specs.Decisions.{any_below}
+use Rattle.history.specs.Decisions.{any_below, verdict_on}
+use Rattle.history.specs.Facts.{facts}
+use Rattle.history.specs.Items.{Items}
+use Rattle.headline.specs.NoTrace.{HaveSameVerdicts, IsHidden}
 use Rattle.tcg_tokens.specs.Message.{begin, end}
 use Rattle.tcg_tokens.specs.Tree as tree
 use Rattle.history.specs.Readers.{open_on}
 use Rattle.trusted_cmds.specs.declared.command.Command.TheVariants.{Send}
 use Rattle.history.specs.Events.{Event}
 use Rattle.history.specs.History.{Accept as AcceptFis, event_by}
-use Rattle.history.specs.NoTrace.{Aborts, is_commit}
+use Rattle.history.specs.NoTrace.{Aborts, emptied, is_commit, is_for}
 use Rattle.port_history.specs.Requests.{command_fis}
 use Rattle.port_history.specs.declared.step.Step.TheVariants.{Accept}
 use Rattle.history.specs.Opening.{Origin}
-use Rattle.history.proofs.Scripts.{range_row, opened, set_cells}
+use Rattle.history.proofs.Scripts.{range_row, opened, send, set_cells}
 use Rattle.port_history.specs.declared.request.Answer.TheVariants as answers
 use Rattle.port_history.specs.declared.request.Request.TheVariants.{ReadDma}
 use Rattle.port_history.specs.declared.step.Step.{Step}
@@ -92,3 +100,28 @@ is_abort = (refl, record { closes = refl; no_commit = refl })
 is_no_abort : is_commit (end_of 0).deed ≡ true
 unfolding admin_sps admin_authorities locking_authorities admin_pins locking_pins locking_ranges locking_mbr_controls admin_aces authority_aces pin_aces range_aces mbr_aces this_sp_grants admin_grants authority_grants fixed_ace_gets user_ace_grants read_locked_ace_grants write_locked_ace_grants done_ace_grants pin_grants range_grants mbr_grants first_lexeme expect number_at uid_at values_up_to list_with list_value_with named_with value_of list_at status_at call_at reply_at message_at message_in number_spelling bytes_spelling any_below ranges_in verdict_of is_range listed_among cells_for zeros sectors_from authorities_of_locking any_to
 is_no_abort = refl
+
+-- A frame is for the session that its ComID, TSN and HSN name, and for no other.
+it_names : (is_for (facts_after tcg enabled locking) 0x1000 (send 0x1000 0x1000 1 (end 0)) ≡ true)
+    × (is_for (facts_after tcg enabled locking) 0x1000 (send 0x1001 0x1000 1 (end 0)) ≡ false)
+    × (is_for (facts_after tcg enabled locking) 0x1000 (send 0x1000 0x1001 1 (end 0)) ≡ false)
+    × (is_for (facts_after tcg enabled locking) 0x1000 (send 0x1000 0x1000 2 (end 0)) ≡ false)
+unfolding admin_sps admin_authorities locking_authorities admin_pins locking_pins locking_ranges locking_mbr_controls admin_aces authority_aces pin_aces range_aces mbr_aces this_sp_grants admin_grants authority_grants fixed_ace_gets user_ace_grants read_locked_ace_grants write_locked_ace_grants done_ace_grants pin_grants range_grants mbr_grants first_lexeme expect number_at uid_at values_up_to list_with list_value_with named_with value_of list_at status_at call_at reply_at message_at message_in number_spelling bytes_spelling any_below ranges_in verdict_of is_range listed_among cells_for zeros sectors_from authorities_of_locking any_to
+it_names = (refl, refl, refl, refl)
+
+-- A committed lock: without its Sets the verdict is another one.
+verdicts_differ : HaveSameVerdicts (facts enabled (emptied Locking (past_of tcg enabled (ended 0))))
+    (facts_after tcg enabled (ended 0))
+    → ⊥
+unfolding admin_sps admin_authorities locking_authorities admin_pins locking_pins locking_ranges locking_mbr_controls admin_aces authority_aces pin_aces range_aces mbr_aces this_sp_grants admin_grants authority_grants fixed_ace_gets user_ace_grants read_locked_ace_grants write_locked_ace_grants done_ace_grants pin_grants range_grants mbr_grants first_lexeme expect number_at uid_at values_up_to list_with list_value_with named_with value_of list_at status_at call_at reply_at message_at message_in number_spelling bytes_spelling any_below ranges_in verdict_of is_range listed_among cells_for zeros sectors_from authorities_of_locking any_to
+verdicts_differ same = other (same ops.Read 100 1)
+  where
+    other : Serve ≡ Denied (ReadLocked 100 1 1) → ⊥
+    other e = cc
+
+-- What the law says of verdicts while a transaction is open.
+hidden_says : (items : Items) (o : Origin) (list : List Step) (sp : Sp) (number : ℕ)
+    → IsHidden items o list sp number → (op : Op) (lba count : ℕ)
+    → verdict_on (facts o (emptied sp (past_of items o list))) op lba count
+    ≡ verdict_on (facts o (past_of items o list)) op lba count
+hidden_says items o list sp number hidden = hidden.verdicts

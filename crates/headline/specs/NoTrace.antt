@@ -1,6 +1,6 @@
--- No trace, over every lawful list of steps and whatever items do: nothing is made from a Set of an open or aborted
--- transaction, but in that session's own view while it is open. Said by the past in which none of
--- its Sets changed anything: all that is read is the same there.
+-- No trace, over every lawful list of steps and whatever items do: nothing is made from a Set of an
+-- open or aborted transaction, but in that session's own view while it is open. Said by the past in
+-- which none of its Sets changed anything: all that is read is the same there.
 use Rattle.std.specs.Prelude.{◌≡◌, ℕ, false, List, [], ◌∷◌, ◌++◌, Some}
 use Rattle.locking.specs.declared.range.Op.{Op}
 use Rattle.sp_cells.specs.declared.names.Sp.{Sp}
@@ -23,12 +23,13 @@ HaveSameVerdicts f g = (op : Op) (lba count : ℕ) → verdict_on f op lba count
 
 -- While the transaction of a session is open on an SP: rows, Tries and MBR bytes in force, the views
 -- of all other sessions, and the verdicts are what they were if none of its Sets had changed
--- anything; and so is what every step does next whose act is not a frame for that session.
+-- anything; and so is what every step does next whose act is not a frame for that session:
+-- one that its ComID, TSN and HSN name.
 pub record IsHidden (items : Items) (o : Origin) (list : List Step) (sp : Sp) (number : ℕ) : Type 0 where
   pub unseen : IsUnseen o number (past_of items o list) (emptied sp (past_of items o list))
   pub verdicts : HaveSameVerdicts (facts o (emptied sp (past_of items o list))) (facts_after items o list)
   pub elsewhere : (step : Step) (act : Act) → act_of (trace_of items o list) step ≡ Some act
-      → is_for number act ≡ false
+      → is_for (facts_after items o list) number act ≡ false
       → event_after items o list step ≡ Some (event_of items o (emptied sp (past_of items o list)) act)
 
 -- Each transaction that is open.

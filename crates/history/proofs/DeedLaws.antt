@@ -1,5 +1,5 @@
 -- Which deed an item can do, and what follows for open transactions.
-use Rattle.std.proofs.Common.{◌≡◌, ℕ, ◌==◌, ◌+◌, Bool, true, false, not, ◌||◌, map, List, [], ◌∷◌, ◌++◌, Option, Some, None, refl, sym, ◌∙◌, ap, cond, inl, inr, eqb-true, eq-eqb}
+use Rattle.std.proofs.Common.{◌≡◌, ℕ, ◌==◌, ◌+◌, Bool, true, false, not, ◌||◌, map, List, [], ◌∷◌, ◌++◌, Option, Some, None, refl, sym, ◌∙◌, ap, cond, inl, inr}
 use Rattle.std.specs.Prelude.{◌-◌, nat_le, nat_lt, zero, suc, unwrap_or, Result, Ok, Err}
 use Rattle.std.specs.List.{list_any}
 use Rattle.sp_cells.specs.declared.names.Uid.{Uid}
@@ -16,7 +16,7 @@ use Rattle.tcg_tokens.specs.declared.error.TokenError.{TokenError}
 use Rattle.tcg_tokens.specs.Message.{Message, call, reply, end_session, begin, end}
 use Rattle.tcg_tokens.specs.Tree.{Tree, Trees}
 use Rattle.history.specs.Opening.{Origin}
-use Rattle.history.specs.Changes.{Change, Sets}
+use Rattle.history.specs.Changes.{Sets}
 use Rattle.sp_cells.specs.ColumnNames.{pin_column}
 use Rattle.sessions.specs.Attempts.{failure as failure_of}
 use Rattle.call_shapes.specs.Asks.{uid_of}

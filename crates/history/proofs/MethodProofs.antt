@@ -36,7 +36,7 @@ use Rattle.history.specs.Events.{Event, Nothing, did, WasReset}
 use Rattle.history.specs.Items.{Items}
 use Rattle.history.specs.Facts.{Facts, standing, session_named}
 use Rattle.history.specs.Decisions.{admitted, fails_queue, refuses, aborted, while_failed, is_busy, resets, is_trusted, is_session_com_id, unqueued_of, known_of, commanded_of}
-use Rattle.history.specs.Tcg.{outcome_of, tried_in, unqueued, answers, to_manager, to_session, in_session, framed, sent, known, commanded, send, tcg}
+use Rattle.history.specs.Tcg.{outcome_of, tried_in, answers, to_manager, to_session, in_session, framed, sent, send, tcg}
 use Rattle.history.specs.History.{Act, event_by, event_in}
 use Rattle.history.specs.MethodLaws.{EffectLaw, IsGranted, takes_effect, GrantLaw, IsLookedAt, IsSent, CallLaw}
 use Rattle.sp_cells.specs.Resets.{programmatic}
