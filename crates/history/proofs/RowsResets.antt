@@ -46,6 +46,14 @@ by_force : fails_with new_drive (owner ++ in_it (begin 0) ++ enabling ++ reset �
 unfolding admin_sps admin_authorities locking_authorities admin_pins locking_pins locking_ranges locking_mbr_controls admin_aces authority_aces pin_aces range_aces mbr_aces this_sp_grants admin_grants authority_grants fixed_ace_gets user_ace_grants read_locked_ace_grants write_locked_ace_grants done_ace_grants pin_grants range_grants mbr_grants first_lexeme expect number_at uid_at values_up_to list_with list_value_with named_with value_of list_at status_at call_at reply_at message_at message_in number_spelling bytes_spelling any_below ranges_in verdict_of is_range listed_among cells_for zeros sectors_from authorities_of_locking any_to
 by_force = refl
 
+-- Nor does one of no block, where the cell lets commands reset.
+abbrev of_no_block : Act
+of_no_block = Accept (fis 0x5f 2 (256 * 4) 0) []
+
+no_block : fails_with new_drive (owner ++ enabling ++ of_no_block ∷ reset ∷ []) ≡ 4 ∷ []
+unfolding admin_sps admin_authorities locking_authorities admin_pins locking_pins locking_ranges locking_mbr_controls admin_aces authority_aces pin_aces range_aces mbr_aces this_sp_grants admin_grants authority_grants fixed_ace_gets user_ace_grants read_locked_ace_grants write_locked_ace_grants done_ace_grants pin_grants range_grants mbr_grants first_lexeme expect number_at uid_at values_up_to list_with list_value_with named_with value_of list_at status_at call_at reply_at message_at message_in number_spelling bytes_spelling any_below ranges_in verdict_of is_range listed_among cells_for zeros sectors_from authorities_of_locking any_to
+no_block = refl
+
 -- A range is locked where its LockOnReset names the kind 3, and stays as it is where it does not.
 abbrev enabled : Origin
 enabled = opened (range_row 1 100 10 true true false false)

@@ -1,6 +1,10 @@
-//! What follows from the definitions alone.
+//! What follows from the definitions alone, and their limits.
 
+ghost use Rattle.std.specs.Prelude.{◌≡◌};
 ghost use Rattle.port_history.specs.Laws.{NeverMixes, FailureLaw, RegisterLaw, AnswerLaw, TakeLaw, OwnLaw, FedLaw, FullLaw};
+ghost use Rattle.port_history.specs.Refusals.{most_steps};
+ghost use Rattle.port_history.specs.Requests.{most_blocks};
+ghost use Rattle.port_history.specs.declared.request.TheConstants as requests;
 
 /// Laws of the definitions, over every origin and every lawful list of steps.
 ///
@@ -22,4 +26,10 @@ pub fn laws_of_steps()
     ensures own { OwnLaw }
     ensures fed { FedLaw }
     ensures full { FullLaw }
+{}
+
+/// The limits of a port are these numbers: a history has room for 1,048,576 steps, a transfer moves 256 blocks at most.
+pub fn laws_of_limits()
+    ensures steps { most_steps ≡ 1048576 }
+    ensures blocks { (requests.MOST_BLOCKS ≡ most_blocks) × (most_blocks ≡ 256) }
 {}
