@@ -303,6 +303,62 @@ line_is o (step ∷ before) line h g =
       denied = w.denied;
     }
 
+-- Lines fall by their numbers, the newest first.
+not_beyond : (o : Origin) (list : List Step) (line : AuditLine) → IsLawful o list
+    → IsAmong (audit (trace o list)) line → line.step < 1 + length list
+not_beyond o list line h g =
+    let w = line_is o list line h g in
+    let it : length w.before < length (w.later ++ w.step ∷ w.before) = longer w.later w.step w.before in
+    let low : length w.before < length list = subst (λ (xs : List Step). length w.before < length xs) (sym w.place) it in
+    let e : line.step ≡ 1 + length w.before = w.number in
+    omega (arith, low, e)
+
+-- behind the lines of another list
+behind : (xs ys newer older : List AuditLine) (line : AuditLine) → xs ≡ [] → xs ++ ys ≡ newer ++ line ∷ older
+    → ys ≡ newer ++ line ∷ older
+behind [] ys newer older line e is = is
+behind (x ∷ xs) ys newer older line e is = absurd cc
+
+heads : {A : Type 0} {x y : A} {xs ys : List A} → x ∷ xs ≡ y ∷ ys → (x ≡ y) × (xs ≡ ys)
+heads e = (cc, cc)
+
+falls_here : (first : AuditLine) (rest newer older : List AuditLine) (line other : AuditLine)
+    → ((l : AuditLine) → IsAmong rest l → l.step < first.step)
+    → ((newer older : List AuditLine) (line other : AuditLine) → rest ≡ newer ++ line ∷ older
+    → IsAmong older other → other.step < line.step)
+    → first ∷ rest ≡ newer ++ line ∷ older → IsAmong older other → other.step < line.step
+falls_here first rest [] older line other low k is g =
+    let e = heads is in
+    subst (λ (l : AuditLine). other.step < l.step) e.0
+    (low other (subst (λ (xs : List AuditLine). IsAmong xs other) (sym e.1) g))
+falls_here first rest (x ∷ newer) older line other low k is g = k newer older line other (heads is).1 g
+
+falls_after : (o : Origin) (step : Step) (before : List Step) (newer older : List AuditLine) (line other : AuditLine)
+    → IsLawful o (step ∷ before) → Adds o before step
+    → ((newer older : List AuditLine) (line other : AuditLine) → audit (trace o before) ≡ newer ++ line ∷ older
+    → IsAmong older other → other.step < line.step)
+    → line_by o before step (1 + length (trace o before)) ++ audit (trace o before) ≡ newer ++ line ∷ older
+    → IsAmong older other → other.step < line.step
+falls_after o step before newer older line other h (AddsNothing none) k is g =
+    k newer older line other
+    (behind (line_by o before step (1 + length (trace o before))) (audit (trace o before)) newer older line
+    (none (1 + length (trace o before))) is) g
+falls_after o step before newer older line other h (AddsLine client why it) k is g =
+    falls_here (record { step = 1 + length (trace o before); client = client; why = why })
+    (audit (trace o before)) newer older line other
+    (λ l among. let low : l.step < 1 + length before = not_beyond o before l h.2 among in
+    let same : length (trace o before) ≡ length before = as_many o before in omega (arith, low, same))
+    k
+    (ap (λ (xs : List AuditLine). xs ++ audit (trace o before))
+    (sym (one_line o before step client why (1 + length (trace o before)) it)) ∙ is) g
+
+falls : (o : Origin) (list : List Step) → IsLawful o list → (newer older : List AuditLine) (line other : AuditLine)
+    → audit (trace o list) ≡ newer ++ line ∷ older → IsAmong older other → other.step < line.step
+falls o [] h [] older line other is g = absurd cc
+falls o [] h (x ∷ newer) older line other is g = absurd cc
+falls o (step ∷ before) h newer older line other is g =
+    falls_after o step before newer older line other h (adds o step before h) (falls o before h.2) is g
+
 pub audit_law : AuditLaw
 audit_law o list h = record {
   denied = λ later before step client why place it.
@@ -314,4 +370,5 @@ audit_law o list h = record {
       ∙ no_line o before step (1 + length before)
       (adds o step before (lawful_before o later (step ∷ before) (subst (IsLawful o) place h))) no;
   lines = λ line g. line_is o list line h g;
+  rises = falls o list h;
 }

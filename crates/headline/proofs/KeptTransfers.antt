@@ -106,7 +106,7 @@ and_false true = refl
 and_false false = refl
 
 -- the event of a queued command
-queued_event : (items : Items) (o : Origin) (ms : List Moment) (u : ℕ) (put : Put) → u < 32 → Kept ms
+pub queued_event : (items : Items) (o : Origin) (ms : List Moment) (u : ℕ) (put : Put) → u < 32 → Kept ms
     → failed ms ≡ None → stage ms u ≡ Issued put → is_queued put.command ≡ true
     → IsTakenTransfer u put.command (facts o (events ms)) (fis_of put.command u)
     (accepted_effect items o ms u put).event

@@ -54,6 +54,7 @@ use Rattle.port_history.proofs.Tests.{none_is, none_holds, tests_of}
 use Rattle.history.proofs.QuietProofs.{tcg_quiet}
 use Rattle.headline.specs.Steps.{facts_after, event_after}
 use Rattle.headline.proofs.AuditLaws.{lawful_before}
+use Rattle.headline.proofs.Rising.{listed_rises}
 use Rattle.headline.specs.Methods.{IsCallStep, IsGrantedAt, comes_to, EffectIs, refused_with, DoesSo, Lists, IsJudged, MethodLaw}
 
 -- a ComID of sessions has 16 bits
@@ -314,6 +315,8 @@ judged_so_far o before step session object method args ask h c shaped = record {
           (subst (λ (a : Ask). takes_effect (does (standing f session) (uid_of object) a) ≡ true) is valid));
       exactly = λ column cell. list_law (standing f session).rows session.sp (uid_of object) first last
           (standing f session).held column cell;
+      rises = listed_rises (standing f session).rows session.sp (uid_of object) first last
+          (standing f session).held;
     }
 
 pub method_law : MethodLaw

@@ -1,5 +1,6 @@
 -- Calls on both sides of their law, computed from the definitions.
-use Rattle.std.proofs.Common.{List, None, Some, [], arith, refl, true, ℕ, ◌++◌, ◌∷◌, ◌≡◌}
+use Rattle.std.proofs.Common.{List, None, Some, [], arith, refl, Bool, true, false, ◌&&◌, nat_lt, ℕ, ◌++◌, ◌∷◌, ◌≡◌}
+use Rattle.std.proofs.lemmas.Bool.Decides.{nat_tests}
 use Rattle.sp_cells.specs.declared.cells.Cell.TheVariants.{Number}
 use Rattle.sp_cells.specs.declared.names.Sp.TheVariants.{Locking}
 use Rattle.sp_cells.specs.ColumnNames.{read_locked_column}
@@ -14,12 +15,13 @@ use Rattle.tcg_tokens.specs.Spelling.{item_spelling_of}
 use Rattle.tcg_tokens.specs.Tree.{Trees, trees_of}
 use Rattle.trusted_cmds.specs.declared.command.Command.TheVariants.{Send}
 use Rattle.call_shapes.specs.Asks.{uid_of}
-use Rattle.call_shapes.specs.declared.ask.Ask.TheVariants.{SetCells}
+use Rattle.call_shapes.specs.declared.ask.Ask.TheVariants.{SetCells, Revert}
+use Rattle.methods.specs.Laws.{are_rising}
 use Rattle.methods.specs.Listed.{listed}
 use Rattle.history.specs.Calls.{asked}
 use Rattle.history.specs.MethodLaws.{takes_effect}
 use Rattle.history.specs.Sessions.{Begun}
-use Rattle.headline.specs.Methods.{IsCallStep, standing_at, comes_to}
+use Rattle.headline.specs.Methods.{IsCallStep, EffectIs, standing_at, comes_to}
 use Rattle.sp_cells.specs.Authorities.{authorities_of_locking}
 use Rattle.sp_tables.specs.Faults.{any_to}
 use Rattle.sp_factory.specs.Factory.{admin_sps, admin_authorities, locking_authorities, admin_pins, locking_pins, locking_ranges, locking_mbr_controls, admin_aces, authority_aces, pin_aces, range_aces, mbr_aces}
@@ -37,9 +39,9 @@ use Rattle.history.specs.Decisions.{any_below}
 use Rattle.tcg_tokens.specs.Tree as tree
 use Rattle.audit.specs.declared.reason.Why.TheVariants.{NoEntryHolds}
 use Rattle.history.specs.Changes.{Sets}
-use Rattle.history.specs.Events.{Unchanged, Changed}
+use Rattle.history.specs.Events.{SessionDeed, Unchanged, Changed, Reverted}
 use Rattle.methods.specs.Settings.{cells_set}
-use Rattle.history.proofs.Scripts.{activated, start_anybody, set_cells}
+use Rattle.history.proofs.Scripts.{new_drive, activated, start_anybody, set_cells}
 use Rattle.port_history.specs.declared.step.Step.{Step}
 use Rattle.port_history.specs.declared.step.Step.TheVariants.{Accept}
 use Rattle.port_history.specs.Steps.{trace, audit}
@@ -163,3 +165,25 @@ get_listed : (columns_listed set_by_anybody (anybody ∷ []) ≡ 0 ∷ 2 ∷ [])
     ≡ 0 ∷ 2 ∷ 3 ∷ 4 ∷ 5 ∷ 6 ∷ 7 ∷ 8 ∷ 9 ∷ [])
 unfolding admin_sps admin_authorities locking_authorities admin_pins locking_pins locking_ranges locking_mbr_controls admin_aces authority_aces pin_aces range_aces mbr_aces this_sp_grants admin_grants authority_grants fixed_ace_gets user_ace_grants read_locked_ace_grants write_locked_ace_grants done_ace_grants pin_grants range_grants mbr_grants first_lexeme expect number_at uid_at values_up_to list_with list_value_with named_with value_of list_at status_at call_at reply_at message_at message_in number_spelling bytes_spelling any_below ranges_in verdict_of is_range listed_among cells_for zeros sectors_from authorities_of_locking any_to
 get_listed = (refl, refl)
+
+-- A Revert of the Locking SP: what the law says that it does where the SP is in use, and where not.
+revert_says : (deed : SessionDeed)
+    → EffectIs (facts_after tcg activated (begins by_admin)) (session_of (anybody ∷ [])) locking_sp Revert deed
+    → deed ≡ Reverted Locking true
+unfolding admin_sps admin_authorities locking_authorities admin_pins locking_pins locking_ranges locking_mbr_controls admin_aces authority_aces pin_aces range_aces mbr_aces this_sp_grants admin_grants authority_grants fixed_ace_gets user_ace_grants read_locked_ace_grants write_locked_ace_grants done_ace_grants pin_grants range_grants mbr_grants first_lexeme expect number_at uid_at values_up_to list_with list_value_with named_with value_of list_at status_at call_at reply_at message_at message_in number_spelling bytes_spelling any_below ranges_in verdict_of is_range listed_among cells_for zeros sectors_from authorities_of_locking any_to
+revert_says deed effect = effect
+
+revert_of_a_new_drive : (deed : SessionDeed)
+    → EffectIs (facts_after tcg new_drive []) (session_of (anybody ∷ [])) locking_sp Revert deed
+    → deed ≡ Reverted Locking false
+unfolding admin_sps admin_authorities locking_authorities admin_pins locking_pins locking_ranges locking_mbr_controls admin_aces authority_aces pin_aces range_aces mbr_aces this_sp_grants admin_grants authority_grants fixed_ace_gets user_ace_grants read_locked_ace_grants write_locked_ace_grants done_ace_grants pin_grants range_grants mbr_grants first_lexeme expect number_at uid_at values_up_to list_with list_value_with named_with value_of list_at status_at call_at reply_at message_at message_in number_spelling bytes_spelling any_below ranges_in verdict_of is_range listed_among cells_for zeros sectors_from authorities_of_locking any_to
+revert_of_a_new_drive deed effect = effect
+
+-- A list with a column twice does not rise.
+not_twice : (k : Column) (v w : Cell) (rest : List (Column × Cell))
+    → are_rising (map (λ (p : Column × Cell). p.0) ((k, v) ∷ (k, w) ∷ rest)) ≡ true → ⊥
+not_twice k v w rest rising = by_test (nat_lt k.0 k.0) rising (grind (arith, nat_tests))
+  where
+    by_test : (b : Bool) → (b && are_rising (k ∷ map (λ (p : Column × Cell). p.0) rest)) ≡ true → b ≡ false → ⊥
+    by_test true h e = absurd (cc)
+    by_test false h e = absurd (cc)

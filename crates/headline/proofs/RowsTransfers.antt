@@ -1,5 +1,6 @@
 -- Transfers on both sides of their law, computed from the definitions.
-use Rattle.std.proofs.Common.{◌≡◌, ◌+◌, ◌≤◌, arith, true, false, List, [], ◌∷◌, ◌++◌, replicate, Some, refl}
+use Rattle.std.proofs.Common.{◌≡◌, ◌∙◌, ℕ, ◌+◌, ◌≤◌, ◌<◌, arith, true, false, List, [], ◌∷◌, ◌++◌, map, replicate, Some, None, refl, sym, ap, subst, inl}
+use Rattle.std.specs.Prelude.{slice_index}
 use Rattle.sp_cells.specs.Names.{mbr_control, mbr_table, set}
 use Rattle.sp_cells.specs.Authorities.{authorities_of_locking}
 use Rattle.sp_tables.specs.Faults.{any_to}
@@ -24,18 +25,24 @@ use Rattle.history.specs.History.{Act, Accept as AcceptFis, event_by}
 use Rattle.history.proofs.DenialProofs.{denial_law}
 use Rattle.port_history.specs.Requests.{command_fis}
 use Rattle.history.proofs.QuietProofs.{tcg_quiet}
-use Rattle.headline.specs.Denials.{IsDeniedStep, lines_at}
+use Rattle.headline.specs.Denials.{IsDeniedStep, IsAudited, lines_at}
 use Rattle.headline.proofs.AuditLaws.{denied_as}
 use Rattle.history.specs.Opening.{Origin}
-use Rattle.history.specs.Readers.{sector}
+use Rattle.history.specs.Events.{WasReset, OfQueue, Held, did, latest}
+use Rattle.history.specs.Readers.{sector, writing}
+use Rattle.audit.specs.declared.reason.AuditLine.{AuditLine}
+use Rattle.locking.specs.Range.{is_shadowed}
+use Rattle.locking.specs.Verdict.{AreShadowed}
+use Rattle.locking.specs.declared.ranges.Verdict.TheVariants.{Serve}
+use Rattle.transactions.specs.Bytes.{bytes_from}
 use Rattle.history.proofs.Scripts.{range_row, activated, opened, set_cells, call_of}
 use Rattle.port_history.specs.declared.request.Answer.TheVariants as answers
-use Rattle.port_history.specs.declared.request.Request.TheVariants.{Read, ReadDma, WriteDma}
+use Rattle.port_history.specs.declared.request.Request.TheVariants.{Read, ReadDma, Write, WriteDma}
 use Rattle.port_history.specs.declared.step.Step.{Step}
-use Rattle.port_history.specs.declared.step.Step.TheVariants.{Accept, Complete, Recover, Reset, Take}
+use Rattle.port_history.specs.declared.step.Step.TheVariants.{Put, Accept, Complete, Recover, Reset, Take}
 use Rattle.port_history.specs.Steps.{trace, answer, audit}
-use Rattle.headline.specs.Steps.{past_of, facts_after, before_acceptance, before_move, through_move, ranges_after}
-use Rattle.headline.specs.Transfers.{IsAnswered, IsAllowed, transfer_of}
+use Rattle.headline.specs.Steps.{past_of, facts_after, before_acceptance, before_move, through_move, ranges_after, own_past}
+use Rattle.headline.specs.Transfers.{Transfer, IsAnswered, IsAllowed, GivesBytes, MoveNothing, transfer_of}
 use Rattle.headline.proofs.Scenes.{are_lawful, lawful, lays, brings, begins, says, by_admin}
 use Rattle.history.specs.Tcg.{tcg}
 use Rattle.headline.proofs.TransferLaws.{transfer_law}
@@ -75,17 +82,16 @@ read_answered = record {
   stands = refl;
   asks = refl;
   answers = refl;
-  no_reset = λ e. absurd (no_reset e);
 }
-  where
-    no_reset : answers.Done (replicate 512 0) ≡ answers.Reset → ⊥
-    no_reset e = cc
 
 read_allowed : IsAllowed (ranges_after tcg locked (before_acceptance permitted 0)) (record { op = ops.Read; lba = 110; count = 1 })
 read_allowed =
     let fits : 110 + 1 ≤ 1000 = omega arith in
-    ((transfer_law tcg tcg_quiet locked permitted (lawful locked permitted read_done.0) 0 _ _ read_answered).served fits).0
+    (((transfer_law tcg tcg_quiet locked permitted (lawful locked permitted read_done.0)).served 0 _ _ read_answered no_reset).served fits).0
     (replicate 512 0, refl)
+  where
+    no_reset : answers.Done (replicate 512 0) ≡ answers.Reset → ⊥
+    no_reset e = cc
 
 -- Beyond the last sector.
 abbrev beyond : List Step
@@ -174,3 +180,82 @@ its_line : (audit (trace locked denied) ≡ record { step = 3; client = 1; why =
     × (audit (trace locked permitted) ≡ [])
 unfolding admin_sps admin_authorities locking_authorities admin_pins locking_pins locking_ranges locking_mbr_controls admin_aces authority_aces pin_aces range_aces mbr_aces this_sp_grants admin_grants authority_grants fixed_ace_gets user_ace_grants read_locked_ace_grants write_locked_ace_grants done_ace_grants pin_grants range_grants mbr_grants first_lexeme expect number_at uid_at values_up_to list_with list_value_with named_with value_of list_at status_at call_at reply_at message_at message_in number_spelling bytes_spelling any_below ranges_in verdict_of is_range listed_among cells_for zeros sectors_from authorities_of_locking any_to
 its_line = (refl, refl, refl, refl)
+
+-- A write is held, and a reset stops it: its own acts wrote nothing, and so says the law.
+abbrev stopped : List Step
+stopped = Reset 1 Hardware ∷ brings 1 0 (Write 110 (replicate 512 0xaa))
+
+write_stopped : (are_lawful locked stopped ≡ true)
+    × (own_past tcg locked stopped 0
+    ≡ did (WasReset 1) ∷ did (OfQueue (Held 0 (record { command = commands.WriteQueued 110 1; verdict = Serve }))) ∷ [])
+unfolding admin_sps admin_authorities locking_authorities admin_pins locking_pins locking_ranges locking_mbr_controls admin_aces authority_aces pin_aces range_aces mbr_aces this_sp_grants admin_grants authority_grants fixed_ace_gets user_ace_grants read_locked_ace_grants write_locked_ace_grants done_ace_grants pin_grants range_grants mbr_grants first_lexeme expect number_at uid_at values_up_to list_with list_value_with named_with value_of list_at status_at call_at reply_at message_at message_in number_spelling bytes_spelling any_below ranges_in verdict_of is_range listed_among cells_for zeros sectors_from authorities_of_locking any_to
+write_stopped = (refl, refl)
+
+stopped_answered : IsAnswered tcg locked stopped 0 (record { op = ops.Write; lba = 110; count = 1 }) answers.Reset
+unfolding admin_sps admin_authorities locking_authorities admin_pins locking_pins locking_ranges locking_mbr_controls admin_aces authority_aces pin_aces range_aces mbr_aces this_sp_grants admin_grants authority_grants fixed_ace_gets user_ace_grants read_locked_ace_grants write_locked_ace_grants done_ace_grants pin_grants range_grants mbr_grants first_lexeme expect number_at uid_at values_up_to list_with list_value_with named_with value_of list_at status_at call_at reply_at message_at message_in number_spelling bytes_spelling any_below ranges_in verdict_of is_range listed_among cells_for zeros sectors_from authorities_of_locking any_to
+stopped_answered = record {
+  put = record { client = 1; number = 1; command = commands.WriteQueued 110 1 };
+  stands = refl;
+  asks = refl;
+  answers = refl;
+}
+
+stopped_moves : MoveNothing (own_past tcg locked stopped 0)
+stopped_moves =
+    (transfer_law tcg tcg_quiet locked stopped (lawful locked stopped write_stopped.0)).unmoved 0 _ _ stopped_answered
+    (λ done. no_bytes done.1.1)
+  where
+    no_bytes : {bytes : List ℕ} → answers.Reset ≡ answers.Done bytes → ⊥
+    no_bytes e = cc
+
+-- One that is done wrote its data, which is no act of another tag that was put before it.
+abbrev between : List Step
+between = brings 1 0 (WriteDma 105 (replicate 512 0xaa)) ++ Put 1 1 (ReadDma 110 1) ∷ []
+
+own_acts : (are_lawful locked between ≡ true)
+    × (latest (writing 105) (own_past tcg locked between 0) ≡ Some (replicate 512 0xaa))
+    × (own_past tcg locked between 1 ≡ [])
+unfolding admin_sps admin_authorities locking_authorities admin_pins locking_pins locking_ranges locking_mbr_controls admin_aces authority_aces pin_aces range_aces mbr_aces this_sp_grants admin_grants authority_grants fixed_ace_gets user_ace_grants read_locked_ace_grants write_locked_ace_grants done_ace_grants pin_grants range_grants mbr_grants first_lexeme expect number_at uid_at values_up_to list_with list_value_with named_with value_of list_at status_at call_at reply_at message_at message_in number_spelling bytes_spelling any_below ranges_in verdict_of is_range listed_among cells_for zeros sectors_from authorities_of_locking any_to
+own_acts = (refl, refl, refl)
+
+it_moves : MoveNothing (own_past tcg locked between 0) → ⊥
+it_moves none = some_none (sym own_acts.1 ∙ none 105)
+  where
+    some_none : {bytes : List ℕ} → Some bytes ≡ None → ⊥
+    some_none e = cc
+
+-- What the law says of the shadowed read: its first byte is 5Ah.
+abbrev shadowed_read : Transfer
+shadowed_read = record { op = ops.Read; lba = 0; count = 1 }
+
+first_shadowed : is_shadowed (ranges_after tcg activated (before_acceptance shadowed 7)) 0 ≡ true
+unfolding admin_sps admin_authorities locking_authorities admin_pins locking_pins locking_ranges locking_mbr_controls admin_aces authority_aces pin_aces range_aces mbr_aces this_sp_grants admin_grants authority_grants fixed_ace_gets user_ace_grants read_locked_ace_grants write_locked_ace_grants done_ace_grants pin_grants range_grants mbr_grants first_lexeme expect number_at uid_at values_up_to list_with list_value_with named_with value_of list_at status_at call_at reply_at message_at message_in number_spelling bytes_spelling any_below ranges_in verdict_of is_range listed_among cells_for zeros sectors_from authorities_of_locking any_to
+first_shadowed = refl
+
+all_shadowed : AreShadowed (ranges_after tcg activated (before_acceptance shadowed 7)) 0 1
+all_shadowed k from to =
+    let e : 0 ≡ k = omega (arith, to) in
+    subst (λ (n : ℕ). is_shadowed (ranges_after tcg activated (before_acceptance shadowed 7)) n ≡ true) e first_shadowed
+
+first_byte : slice_index (bytes_from (facts_after tcg activated (before_move shadowed 7)).byte 0 512) 0 ≡ 0x5a
+unfolding admin_sps admin_authorities locking_authorities admin_pins locking_pins locking_ranges locking_mbr_controls admin_aces authority_aces pin_aces range_aces mbr_aces this_sp_grants admin_grants authority_grants fixed_ace_gets user_ace_grants read_locked_ace_grants write_locked_ace_grants done_ace_grants pin_grants range_grants mbr_grants first_lexeme expect number_at uid_at values_up_to list_with list_value_with named_with value_of list_at status_at call_at reply_at message_at message_in number_spelling bytes_spelling any_below ranges_in verdict_of is_range listed_among cells_for zeros sectors_from authorities_of_locking any_to
+first_byte = refl
+
+shadow_says : (bytes : List ℕ)
+    → GivesBytes (ranges_after tcg activated (before_acceptance shadowed 7))
+    (facts_after tcg activated (before_move shadowed 7)) shadowed_read bytes
+    → slice_index bytes 0 ≡ 0x5a
+shadow_says bytes gives = ap (λ (b : List ℕ). slice_index b 0) (gives.shadow refl all_shadowed) ∙ first_byte
+
+-- Two denials, the newer line first; and so says the law of any two.
+abbrev twice : List Step
+twice = brings 1 1 (ReadDma 109 1) ++ brings 1 0 (ReadDma 109 2)
+
+two_lines : (are_lawful locked twice ≡ true)
+    × (map (λ (l : AuditLine). l.step) (audit (trace locked twice)) ≡ 6 ∷ 3 ∷ [])
+unfolding admin_sps admin_authorities locking_authorities admin_pins locking_pins locking_ranges locking_mbr_controls admin_aces authority_aces pin_aces range_aces mbr_aces this_sp_grants admin_grants authority_grants fixed_ace_gets user_ace_grants read_locked_ace_grants write_locked_ace_grants done_ace_grants pin_grants range_grants mbr_grants first_lexeme expect number_at uid_at values_up_to list_with list_value_with named_with value_of list_at status_at call_at reply_at message_at message_in number_spelling bytes_spelling any_below ranges_in verdict_of is_range listed_among cells_for zeros sectors_from authorities_of_locking any_to
+two_lines = (refl, refl)
+
+second_is_older : (o : Origin) (list : List Step) (newer older : AuditLine) → IsAudited o list
+    → audit (trace o list) ≡ newer ∷ older ∷ [] → older.step < newer.step
+second_is_older o list newer older h two = h.rises [] (older ∷ []) newer older two (inl refl)

@@ -3,7 +3,7 @@ use Rattle.std.proofs.Common.{None, ◌≡◌, ◌∙◌, ◌⊎◌, ℕ, zero, 
 use Rattle.port_history.proofs.AnswerProofs.{answer_law}
 use Rattle.port_history.specs.Requests.{no_bytes}
 use Rattle.port_history.specs.Stages.{is_answered}
-use Rattle.std.specs.Prelude.{is_some, unwrap_or, IfSome}
+use Rattle.std.specs.Prelude.{◌≢◌, is_some, unwrap_or, IfSome}
 use Rattle.std.proofs.lemmas.Bool.{le-leb, leb-true}
 use Rattle.locking.specs.Range.{RangeRows}
 use Rattle.locking.specs.Verdict.{AreOpen, AreShadowed, IsVerdict, verdict_of}
@@ -30,8 +30,9 @@ use Rattle.port_history.specs.declared.stages.Stage.TheVariants.{Answered}
 use Rattle.port_history.specs.declared.step.Step.{Step}
 use Rattle.port_history.specs.Steps.{payload, Moment, trace, events, failed, answer, trace_of}
 use Rattle.headline.proofs.Landed.{Lands, Landed, landed_by, landed}
-use Rattle.headline.specs.Steps.{past_of, through_move, facts_after, before_acceptance, before_move}
-use Rattle.headline.specs.Transfers.{Transfer, IsAnswered, IsDone, IsOnDrive, IsAllowed, GivesBytes, HaveData, IsServed, TransferLaw, TakenLaw}
+use Rattle.headline.specs.Steps.{past_of, through_move, facts_after, before_acceptance, before_move, own_past}
+use Rattle.headline.proofs.Unmoved.{IsWritten, Unmoved, unmoved_by, unmoved}
+use Rattle.headline.specs.Transfers.{Transfer, IsAnswered, IsDone, IsOnDrive, IsAllowed, GivesBytes, HaveData, IsDoneWrite, MoveNothing, IsServed, AreServed, TransferLaw, TakenLaw}
 use Rattle.headline.proofs.Came.{moved_by, answer_by, answer_at, answer_to}
 use Rattle.headline.proofs.Waits.{Comes}
 use Rattle.headline.proofs.KeptTransfers.{comes_by, comes}
@@ -126,8 +127,9 @@ by_verdict ranges g op lba count =
 -- what an answered transfer was answered
 answered_so : (items : Items) (still : IsQuiet items) (o : Origin) (list : List Step) (tag : ℕ) (x : Transfer) (a : Answer)
     → Rattle.port_history.specs.Refusals.AreLawful items o list → IsAnswered items o list tag x a
+    → a ≢ answers.Reset
     → a ≡ answer_to (facts_after items o (before_acceptance list tag)) (facts_after items o (before_move list tag)) x
-answered_so items still o list tag x a lawful is =
+answered_so items still o list tag x a lawful is no_reset =
     by_settled
     (subst (λ (y : Option Transfer). IfSome y (λ z. ◌⊎◌ (answer ms tag ≡ Some answers.Reset) (answer ms tag ≡ Some (answer_to f g z))))
     is.asks here.it.1)
@@ -150,7 +152,7 @@ answered_so items still o list tag x a lawful is =
 
     by_settled : ◌⊎◌ (answer ms tag ≡ Some answers.Reset) (answer ms tag ≡ Some (answer_to f g x))
         → a ≡ answer_to f g x
-    by_settled (inl r) = absurd (is.no_reset (same (sym is.answers ∙ r)))
+    by_settled (inl r) = absurd (no_reset (same (sym is.answers ∙ r)))
     by_settled (inr r) = same (sym is.answers ∙ r)
 
 served_so : (items : Items) (o : Origin) (list : List Step) (tag : ℕ) (x : Transfer) (a : Answer)
@@ -219,10 +221,30 @@ landed_so items still o list tag x a lawful is write done =
     here : Landed (past_of items o (through_move list tag)) (payload ms tag) (answer ms tag) (Answered is.put)
     here = landed_by refl refl refl (sym is.stands) (landed items still o list lawful tag)
 
+-- and but for a write that was done nothing moved
+unmoved_so : (items : Items) (still : IsQuiet items) (o : Origin) (list : List Step) (tag : ℕ) (x : Transfer) (a : Answer)
+    → Rattle.port_history.specs.Refusals.AreLawful items o list → IsAnswered items o list tag x a
+    → (IsDoneWrite x a → ⊥) → MoveNothing (own_past items o list tag)
+unmoved_so items still o list tag x a lawful is undone =
+    subst (λ (y : Option Transfer). IfSome y (λ z. (IsWritten z (answer ms tag) → ⊥) → MoveNothing (own_past items o list tag)))
+    is.asks here.it (λ w. undone (w.0, (w.1.0, same (sym is.answers ∙ w.1.1))))
+  where
+    ms : List Moment
+    ms = trace_of items o list
+
+    same : {b : Answer} → Some a ≡ Some b → a ≡ b
+    same e = cc
+
+    here : Unmoved (own_past items o list tag) (answer ms tag) (Answered is.put)
+    here = unmoved_by refl refl (sym is.stands) (unmoved items still o list lawful tag)
+
 pub transfer_law : TransferLaw
-transfer_law items still o list lawful tag x a is =
-    served_so items o list tag x a (answered_so items still o list tag x a lawful is)
-    (landed_so items still o list tag x a lawful is)
+transfer_law items still o list lawful = record {
+  served = λ tag x a is no_reset. served_so items o list tag x a
+      (answered_so items still o list tag x a lawful is no_reset)
+      (landed_so items still o list tag x a lawful is);
+  unmoved = λ tag x a is. unmoved_so items still o list tag x a lawful is;
+}
 
 -- what a client takes
 there : (x : Option Answer) (d : Answer) → is_some x ≡ true → x ≡ Some (unwrap_or x d)
@@ -230,13 +252,19 @@ there None d h = absurd (cc)
 there (Some a) d h = refl
 
 pub taken_law : TakenLaw
-taken_law o list tag lawful put x stands asks no_reset =
-    transfer_law tcg tcg_quiet o list lawful tag x _
-    (record {
+taken_law o list tag lawful put x stands asks = (
+  λ no_reset. law.served tag x _ is no_reset,
+  λ undone. law.unmoved tag x _ is undone,
+)
+  where
+    law : AreServed tcg o list
+    law = transfer_law tcg tcg_quiet o list lawful
+
+    is : IsAnswered tcg o list tag x (unwrap_or (answer (trace o list) tag) no_bytes)
+    is = record {
       put = put;
       stands = stands;
       asks = asks;
       answers = there (answer (trace o list) tag) no_bytes
           (answer_law o list lawful tag (ap is_answered stands));
-      no_reset = no_reset;
-    })
+    }

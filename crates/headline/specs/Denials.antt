@@ -1,6 +1,6 @@
 -- The audit, over every lawful list of steps: each act that was denied has exactly one line, at its
 -- step, with its client, in the words of what denied it; no other act has one.
-use Rattle.std.specs.Prelude.{◌≡◌, ℕ, ◌+◌, ◌==◌, ◌⊎◌, List, [], ◌∷◌, ◌++◌, length, Some, if◌then◌else◌}
+use Rattle.std.specs.Prelude.{◌≡◌, ℕ, ◌+◌, ◌<◌, ◌==◌, ◌⊎◌, List, [], ◌∷◌, ◌++◌, length, Some, if◌then◌else◌}
 use Rattle.audit.specs.declared.reason.AuditLine.{AuditLine}
 use Rattle.audit.specs.declared.reason.Why.{Why}
 use Rattle.call_shapes.specs.Asks.{uid_of}
@@ -66,7 +66,7 @@ pub record IsLineOf (o : Origin) (list : List Step) (line : AuditLine) : Type 0 
   pub denied : IsDeniedStep o before step line.client line.why
 
 -- The log of a list of steps. A denied step has its line and no second one, any other step none; and
--- there are no further lines.
+-- there are no further lines. They stand in the order of the steps: the newest line comes first.
 pub record IsAudited (o : Origin) (list : List Step) : Type 0 where
   pub denied : (later before : List Step) (step : Step) (client : ℕ) (why : Why)
       → list ≡ later ++ step ∷ before → IsDeniedStep o before step client why
@@ -76,6 +76,8 @@ pub record IsAudited (o : Origin) (list : List Step) : Type 0 where
       → ((client : ℕ) (why : Why) → IsDeniedStep o before step client why → ⊥)
       → lines_at (1 + length before) (audit (trace o list)) ≡ []
   pub lines : (line : AuditLine) → IsAmong (audit (trace o list)) line → IsLineOf o list line
+  pub rises : (newer older : List AuditLine) (line other : AuditLine)
+      → audit (trace o list) ≡ newer ++ line ∷ older → IsAmong older other → other.step < line.step
 
 abbrev pub AuditLaw : Type 0
 AuditLaw = (o : Origin) (list : List Step) → IsLawful o list → IsAudited o list

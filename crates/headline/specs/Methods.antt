@@ -18,7 +18,7 @@ use Rattle.call_shapes.specs.Asks.{uid_of}
 use Rattle.call_shapes.specs.Statuses.{success, not_authorized}
 use Rattle.call_shapes.specs.declared.ask.Ask.{Ask}
 use Rattle.call_shapes.specs.declared.ask.Ask.TheVariants.{GetCells, GetBytes, SetCells, SetBytes, Authenticate, Activate, Revert, Other}
-use Rattle.methods.specs.Laws.{IsAmong, IsListed}
+use Rattle.methods.specs.Laws.{IsAmong, IsListed, are_rising}
 use Rattle.methods.specs.Listed.{cell_value}
 use Rattle.methods.specs.Said.{reply_of}
 use Rattle.sessions.specs.Attempts.{failure as failure_of, credential}
@@ -115,7 +115,7 @@ pub record DoesSo (o : Origin) (before : List Step) (step : Step) (session : Beg
   pub event : event_after tcg o before step ≡ Some (answers c.com_id c.frame.session x)
 
 -- The columns of a Get: the pairs that it lists are those that have an entry, with the cells that
--- the session sees.
+-- the session sees; they rise by their columns, and so none is there twice.
 pub record Lists (o : Origin) (before : List Step) (step : Step) (session : Begun) (object method : List ℕ) (args : Trees) (c : IsCallStep o before step session object method args) (first last : ℕ) : Type 0 where
   pub cells : List (Column × Cell)
   pub says : event_after tcg o before step
@@ -124,6 +124,7 @@ pub record Lists (o : Origin) (before : List Step) (step : Step) (session : Begu
   pub exactly : (column : Column) (cell : Cell) → IsAmong {A = Column × Cell} cells (column, cell)
       ↔ IsListed (standing_at o before session).rows session.sp (uid_of object) first last
       (standing_at o before session).held column cell
+  pub rises : are_rising (map (λ (pair : Column × Cell). pair.0) cells) ≡ true
 
 -- Of a call of the right shape: with valid values it takes effect exactly where it is granted, and
 -- then does what its method says; where it is not granted it is refused; and a Get that takes effect

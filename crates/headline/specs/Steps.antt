@@ -1,6 +1,6 @@
 -- Words of a list of steps: what stood before the steps that a law speaks of, by what items do. Lists
 -- have the newest first.
-use Rattle.std.specs.Prelude.{ℕ, ◌==◌, Bool, false, List, [], ◌∷◌, Option, option_map, if◌then◌else◌}
+use Rattle.std.specs.Prelude.{ℕ, ◌==◌, Bool, false, not, List, [], ◌∷◌, Option, option_map, if◌then◌else◌}
 use Rattle.locking.specs.Range.{RangeRows}
 use Rattle.history.specs.Decisions.{ranges_in_force}
 use Rattle.history.specs.Events.{Event}
@@ -9,7 +9,7 @@ use Rattle.history.specs.Items.{Items}
 use Rattle.history.specs.Opening.{Origin}
 use Rattle.port_history.specs.declared.step.Step.{Step}
 use Rattle.port_history.specs.declared.step.Step.TheVariants as steps
-use Rattle.port_history.specs.Steps.{Effect, moment_of, trace_of, events}
+use Rattle.port_history.specs.Steps.{Effect, moment_of, trace_of, event_before, events}
 
 -- What the drive did in a list of steps, and what that says: rows and bytes in force, sessions,
 -- media.
@@ -54,3 +54,22 @@ abbrev pub through_move : List Step → ℕ → List Step
 through_move [] tag = []
 through_move (step ∷ before) tag =
     if moves tag step then step ∷ before else through_move before tag
+
+-- The step puts a command under a tag; it serves the command of another tag.
+abbrev pub puts : ℕ → Step → Bool
+puts tag (steps.Put client slot request) = slot == tag
+puts tag _ = false
+
+abbrev pub serves_other : ℕ → Step → Bool
+serves_other tag (steps.Accept slot) = not (slot == tag)
+serves_other tag (steps.Complete slot) = not (slot == tag)
+serves_other tag _ = false
+
+-- What the drive did since a tag's latest Put, but in the steps that serve other tags.
+abbrev pub own_past : Items → Origin → List Step → ℕ → List Event
+own_past items o [] tag = []
+own_past items o (step ∷ before) tag =
+    if puts tag step then []
+    else (if serves_other tag step then own_past items o before tag
+    else event_before (moment_of items o (trace_of items o before) step).effect
+    (own_past items o before tag))

@@ -1,6 +1,6 @@
 -- Transfers, over every lawful list of steps and whatever quiet items do: one that the drive answers
 -- is served exactly where every range that it touches permits it by the rows in force at its last
--- acceptance.
+-- acceptance; and one that is no write that was done, as one that a reset stopped, moves nothing.
 use Rattle.std.specs.Prelude.{◌≡◌, ◌≢◌, ◌↔◌, ℕ, ◌+◌, ◌*◌, ◌≤◌, ◌<◌, List, [], take, drop, unwrap_or, Option, Some, None}
 use Rattle.locking.specs.Range.{RangeRows}
 use Rattle.locking.specs.Verdict.{AreOpen, AreShadowed}
@@ -10,12 +10,12 @@ use Rattle.shadow_mbr.specs.Stored.{sector_size, sectors_from}
 use Rattle.transactions.specs.Bytes.{bytes_from}
 use Rattle.trusted_cmds.specs.declared.command.Command.{Command}
 use Rattle.trusted_cmds.specs.declared.command.Command.TheVariants.{ReadQueued, WriteQueued, ReadDma, WriteDma}
-use Rattle.history.specs.Events.{Event}
+use Rattle.history.specs.Events.{Event, latest}
 use Rattle.history.specs.Facts.{Facts}
 use Rattle.history.specs.Items.{Items}
 use Rattle.history.specs.Opening.{Origin}
 use Rattle.history.specs.Quiet.{IsQuiet}
-use Rattle.history.specs.Readers.{sector}
+use Rattle.history.specs.Readers.{sector, writing}
 use Rattle.history.specs.Tcg.{tcg}
 use Rattle.history.specs.TransferLaws.{IsPermitted}
 use Rattle.port_history.specs.declared.request.Answer.{Answer}
@@ -26,7 +26,7 @@ use Rattle.port_history.specs.declared.step.Step.{Step}
 use Rattle.port_history.specs.Refusals.{AreLawful, IsLawful}
 use Rattle.port_history.specs.Requests.{no_bytes}
 use Rattle.port_history.specs.Steps.{trace_of, trace, stage, payload, answer}
-use Rattle.headline.specs.Steps.{past_of, facts_after, ranges_after, before_acceptance, before_move, through_move}
+use Rattle.headline.specs.Steps.{past_of, facts_after, ranges_after, before_acceptance, before_move, through_move, own_past}
 
 -- A read or a write of so many sectors, from an address on.
 pub record Transfer : Type 0 where
@@ -42,14 +42,12 @@ transfer_of (ReadDma lba count) = Some (record { op = ops.Read; lba = lba; count
 transfer_of (WriteDma lba count) = Some (record { op = ops.Write; lba = lba; count = count })
 transfer_of _ = None
 
--- A client put it under a tag, and the drive answered it so: what a reset stopped is answered Reset,
--- and the drive answered nothing.
+-- A client put it under a tag, and it is answered so.
 pub record IsAnswered (items : Items) (o : Origin) (list : List Step) (tag : ℕ) (x : Transfer) (a : Answer) : Type 0 where
   pub put : Put
   pub stands : stage (trace_of items o list) tag ≡ Answered put
   pub asks : transfer_of put.command ≡ Some x
   pub answers : answer (trace_of items o list) tag ≡ Some a
-  pub no_reset : a ≢ Reset
 
 abbrev pub IsDone : Answer → Type 0
 IsDone a = (bytes : List ℕ) × (a ≡ Done bytes)
@@ -93,22 +91,34 @@ pub record IsServed (items : Items) (o : Origin) (list : List Step) (tag : ℕ) 
       → (IsAllowed (ranges_after items o (before_acceptance list tag)) x → ⊥) → a ≡ Failed 0x51 0x04
   pub beyond : (IsOnDrive o x → ⊥) → a ≡ Failed 0x51 0x10
 
--- All that a list of steps answered.
-abbrev pub AreServed : Items → Origin → List Step → Type 0
-AreServed items o list =
-    (tag : ℕ) (x : Transfer) (a : Answer) → IsAnswered items o list tag x a
-    → IsServed items o list tag x a
+-- It is a write, and was done.
+abbrev pub IsDoneWrite : Transfer → Answer → Type 0
+IsDoneWrite x a = (x.op ≡ ops.Write) × IsDone a
+
+-- None of the events writes a sector.
+abbrev pub MoveNothing : List Event → Type 0
+MoveNothing past = (place : ℕ) → latest (writing place) past ≡ None
+
+-- What the drive answered, it served so: what a reset stopped is answered Reset, and the drive
+-- answered nothing. And but for a write that was done, nothing since its Put moved its data.
+pub record AreServed (items : Items) (o : Origin) (list : List Step) : Type 0 where
+  pub served : (tag : ℕ) (x : Transfer) (a : Answer) → IsAnswered items o list tag x a
+      → a ≢ Reset → IsServed items o list tag x a
+  pub unmoved : (tag : ℕ) (x : Transfer) (a : Answer) → IsAnswered items o list tag x a
+      → (IsDoneWrite x a → ⊥) → MoveNothing (own_past items o list tag)
 
 abbrev pub TransferLaw : Type 0
 TransferLaw =
     (items : Items) → IsQuiet items → (o : Origin) (list : List Step) → AreLawful items o list
     → AreServed items o list
 
--- And so, by the items of this drive, what a client takes: where its command is a transfer, and no reset stopped it.
+-- And so, by the items of this drive, what a client takes, where its command is a transfer.
 abbrev pub IsServedAnswer : Origin → List Step → ℕ → Answer → Type 0
 IsServedAnswer o list tag a =
     (put : Put) (x : Transfer) → stage (trace o list) tag ≡ Answered put
-    → transfer_of put.command ≡ Some x → a ≢ Reset → IsServed tcg o list tag x a
+    → transfer_of put.command ≡ Some x
+    → (a ≢ Reset → IsServed tcg o list tag x a)
+    × ((IsDoneWrite x a → ⊥) → MoveNothing (own_past tcg o list tag))
 
 abbrev pub TakenLaw : Type 0
 TakenLaw =

@@ -7,16 +7,16 @@ ghost use Rattle.headline.specs.NoTrace.{OpenLaw, AbortLaw};
 ghost use Rattle.headline.specs.Transfers.{TransferLaw, TakenLaw};
 
 /// A read or write that the drive answers is served exactly where every range that it touches permits it by the rows
-/// in force at its last acceptance.
+/// in force at its last acceptance; and what is no write that was done, as one that a reset stopped, moves nothing.
 ///
-/// Not said: that a transfer is ever answered; what a reset stopped, which is answered `Reset`.
+/// Not said: that a transfer is ever answered.
 pub fn law_of_transfers()
     ensures served { TransferLaw }
     ensures taken { TakenLaw }
 {}
 
 /// Each act that was denied has exactly one line in the audit, at its step, with its client, in the words of what
-/// denied it; no other act has one.
+/// denied it; no other act has one. The lines stand in the order of the steps.
 ///
 /// Not said: anything of faults that are no denials, as addresses beyond the drive, calls of a wrong shape, invalid
 /// values. They leave no line.
@@ -25,7 +25,7 @@ pub fn law_of_denials()
 {}
 
 /// A call of a right shape with valid values takes effect, and a column is listed, exactly where an access entry that
-/// names it holds of the session's authorities in its view.
+/// names it holds of the session's authorities in its view. Listed columns rise.
 ///
 /// Not said: what shapes and values are right, which the definitions of the calls say.
 pub fn law_of_methods()

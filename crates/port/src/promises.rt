@@ -17,10 +17,11 @@ impl Port {
     /// The headline, of the steps so far. It does nothing: what it is for is its contract.
     ///
     /// `transfers`: each transfer that the drive answered was served exactly where every range that it touches permits
-    /// it by the rows in force at its last acceptance. `methods`: each call of a right shape with valid values took
-    /// effect, and each column was listed, exactly where an access entry that names it holds. `hidden`, `forgotten`:
-    /// nothing was made from a Set of an open or aborted transaction, but in its session's own view. `audited`: the log
-    /// has one line for each denial, in the words of what denied it, and no other line.
+    /// it by the rows in force at its last acceptance, and what a reset stopped moved nothing. `methods`: each call of
+    /// a right shape with valid values took effect, and each column was listed, exactly where an access entry that
+    /// names it holds. `hidden`, `forgotten`: nothing was made from a Set of an open or aborted transaction, but in its
+    /// session's own view. `audited`: the log has one line for each denial, in the words of what denied it, and no
+    /// other line.
     pub fn headline(&self)
         ensures transfers { (o : Origin) (list : List Step) → PortAgrees self.now o list → AreServed tcg o list }
         ensures methods { (o : Origin) (list : List Step) → PortAgrees self.now o list → AreJudged o list }
