@@ -1,6 +1,6 @@
 -- Each method of the access list has a case, and each cell of a new drive stands in a column of its kind.
 use Rattle.std.proofs.Common.{◌≡◌, ◌==◌, ◌&&◌, ◌||◌, ◌-◌, ◌^◌, ℕ, Bool, true, false, List, [], ◌∷◌, Option, None, Some, is_some, option_map, refl, ap, sym, subst, ◌∙◌, if◌then◌else◌, inl, inr}
-use Rattle.sp_cells.specs.Names.{uid, col, get, set, authenticate, activate, revert}
+use Rattle.sp_cells.specs.Names.{uid, none, col, get, set, authenticate, activate, revert}
 use Rattle.std.specs.List.{list_all, list_any}
 use Rattle.std.proofs.lemmas.Bool.Decides.{eqb_tells}
 use Rattle.sp_cells.specs.declared.names.Uid.{Uid}
@@ -32,7 +32,7 @@ use Rattle.methods.specs.Cases.{CaseLaw, ColumnLaw, HasCell, HasColumnsOfKind, n
 
 -- one for each shape
 abbrev some_uid : Uid
-some_uid = uid 0
+some_uid = none
 
 abbrev sketch : Ask → Ask
 sketch (GetCells first last) = GetCells 0 0
