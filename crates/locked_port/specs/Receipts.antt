@@ -1,5 +1,5 @@
 -- Receipts for the steps of a history.
-use Rattle.std.specs.Prelude.{◌≡◌, ◌≢◌, ℕ, ◌+◌, ◌-◌, ◌<◌, List, true, Some, slice_get, slice_index_or, Any, AllPairs}
+use Rattle.std.specs.Prelude.{◌≡◌, ◌≢◌, ℕ, ◌+◌, ◌-◌, ◌<◌, ◌≤◌, List, length, Bool, true, false, Some, slice_get, slice_index_or, Any, AllPairs}
 use Rattle.port_history.specs.declared.step.Entry.{Entry}
 use Rattle.locked_port.specs.Counts.{is_client}
 use Rattle.locked_port.specs.declared.ticket.Receipt.{Receipt}
@@ -26,3 +26,29 @@ IsNamed number receipts = Any (λ r. r.number ≡ number) receipts
 abbrev pub AreNamed : List Entry → List Receipt → Type 0
 AreNamed history receipts = (k : ℕ) (e : Entry) → slice_get history k ≡ Some e
     → is_client e.step ≡ true → IsNamed (k + 1) receipts
+
+-- In a window of so many steps behind a place: no receipt has the number of an earlier one,
+abbrev pub AreApartIn : ℕ → ℕ → List Receipt → Type 0
+AreApartIn first size receipts = (j : ℕ) (d : Receipt) → j < length receipts
+    → first < (slice_index_or receipts j d).number → (slice_index_or receipts j d).number ≤ first + size
+    → IsNew receipts j
+
+-- and each client step has a receipt.
+abbrev pub AreNamedIn : ℕ → ℕ → List Entry → List Receipt → Type 0
+AreNamedIn first size history receipts = (k : ℕ) (e : Entry) → k < size → slice_get history (first + k) ≡ Some e
+    → is_client e.step ≡ true → IsNamed (first + k + 1) receipts
+
+-- The marks of a window are those of the numbers that the first so many receipts have: none is missing,
+abbrev pub AreThere : ℕ → List Receipt → ℕ → List Bool → Type 0
+AreThere first receipts many marks = (i p : ℕ) (d : Receipt) → i < many → p < length marks
+    → (slice_index_or receipts i d).number ≡ first + p + 1 → slice_index_or marks p false ≡ true
+
+-- and none is too much.
+abbrev pub AreOnly : ℕ → List Receipt → ℕ → List Bool → Type 0
+AreOnly first receipts many marks = (p : ℕ) → slice_index_or marks p false ≡ true
+    → (i : ℕ) × (r : Receipt) × (i < many) × (slice_index_or receipts i r ≡ r) × (r.number ≡ first + p + 1)
+
+-- Each client step is marked that stands at one of the first so many places of a window.
+abbrev pub AreMarked : List Entry → ℕ → List Bool → ℕ → Type 0
+AreMarked history first marks many = (k : ℕ) (e : Entry) → k < many → slice_get history (first + k) ≡ Some e
+    → is_client e.step ≡ true → slice_index_or marks k false ≡ true

@@ -1,26 +1,24 @@
 //! Whether receipts are those of a history.
 
-ghost use Rattle.std.specs.Prelude.{◌≡◌, ◌<◌, ◌↔◌, length, IsTrue, All};
+ghost use Rattle.std.specs.Prelude.{◌≡◌, ◌+◌, ◌^◌, ◌<◌, ◌≤◌, ◌⊎◌, ◌↔◌, length, true, false, IsTrue, All, MatchOption};
 ghost use Rattle.locked_port.specs.Counts.{is_client};
-ghost use Rattle.locked_port.specs.Receipts.{AreApart, IsNew, IsShown, IsNamed, AreNamed};
+ghost use Rattle.locked_port.specs.Receipts.{AreApart, IsShown, AreNamed, AreApartIn, AreNamedIn, AreThere, AreOnly, AreMarked};
 
 use crate::same::{is_same_answer, is_same_step};
 use crate::ticket::Receipt;
 use port::{Entry, Step};
 
-/// Whether receipts are for distinct steps of a history, each as the history has it, and for every client step of it.
+/// How many steps of a history are looked at in one go: for each so many of them the receipts are gone over once.
+const WINDOW: usize = 65_536;
+
+/// Whether receipts are for distinct steps of a history, each as the history has it, and for every client step of it. It
+/// takes no memory, and goes over the receipts once for each window of the history, which has 17 at most in a port.
+#[tactic(auto, using(crate::proofs::Windows::apart_of_shown))]
 pub fn check_receipts(history: &[Entry], receipts: &[Receipt]) -> bool
     ensures { IsTrue result ↔ (AreApart receipts.now × All (IsShown history.now) receipts.now
         × AreNamed history.now receipts.now) }
 {
-    are_apart(receipts) && are_shown(history, receipts) && are_named(history, receipts)
-}
-
-/// Whether a receipt has the number.
-fn is_named(number: u64, receipts: &[Receipt]) -> bool
-    ensures { IsTrue result ↔ IsNamed number receipts.now }
-{
-    receipts.iter().any(|r| r.number == number)
+    are_shown(history, receipts) && are_matched(history, receipts)
 }
 
 /// Whether an entry is what a receipt says.
@@ -50,31 +48,6 @@ fn are_shown(history: &[Entry], receipts: &[Receipt]) -> bool
     receipts.iter().all(|r| is_shown(history, r))
 }
 
-/// Whether no earlier receipt has the number of this one.
-fn is_new(receipts: &[Receipt], at: usize) -> bool
-    requires { at < length receipts.now }
-    ensures { IsTrue result ↔ IsNew receipts.now at }
-{
-    for i in 0..at {
-        if receipts[i].number == receipts[at].number {
-            return false;
-        }
-    }
-    true
-}
-
-/// Whether the numbers differ from one another.
-fn are_apart(receipts: &[Receipt]) -> bool
-    ensures { IsTrue result ↔ AreApart receipts.now }
-{
-    for i in 0..receipts.len() {
-        if !is_new(receipts, i) {
-            return false;
-        }
-    }
-    true
-}
-
 /// Whether a step is a client's Put or Take.
 pub(crate) fn is_client(step: &Step) -> bool
     ensures { result ≡ is_client step.now }
@@ -89,12 +62,79 @@ pub(crate) fn is_client(step: &Step) -> bool
     }
 }
 
-/// Whether each client step has a receipt.
-fn are_named(history: &[Entry], receipts: &[Receipt]) -> bool
-    ensures { IsTrue result ↔ AreNamed history.now receipts.now }
+/// The place of a number in a window of so many numbers, the least of which is behind the first place.
+fn place_in(number: u64, first: usize, size: usize) -> Option<usize>
+    ensures { MatchOption result ((number ≤ first) ⊎ (first + size < number))
+        (λ place. (place < size) × (number ≡ first + place + 1)) }
 {
-    for i in 0..history.len() {
-        if is_client(&history[i].step) && !is_named(i as u64 + 1, receipts) {
+    if number <= first as u64 {
+        return None;
+    }
+    let place = number - first as u64 - 1;
+    if place < size as u64 {
+        Some(place as usize)
+    } else {
+        None
+    }
+}
+
+/// Marks the numbers of a window that receipts have, and tells whether each is that of one receipt alone.
+fn mark(receipts: &[Receipt], first: usize, marks: &mut [bool]) -> bool
+    requires { All (λ is_marked. is_marked ≡ false) marks.old }
+    ensures size { length marks.new ≡ length marks.old }
+    ensures apart { IsTrue result ↔ AreApartIn first (length marks.old) receipts.now }
+    ensures there { result ≡ true → AreThere first receipts.now (length receipts.now) marks.new }
+    ensures only { result ≡ true → AreOnly first receipts.now (length receipts.now) marks.new }
+{
+    for at in 0..receipts.len() {
+        match place_in(receipts[at].number, first, marks.len()) {
+            None => {}
+            Some(place) => {
+                if marks[place] {
+                    return false;
+                }
+                marks[place] = true;
+            }
+        }
+    }
+    true
+}
+
+/// Whether each client step of a window is marked.
+fn are_marked(history: &[Entry], first: usize, marks: &[bool]) -> bool
+    requires { first ≤ length history.now }
+    ensures { IsTrue result ↔ AreMarked history.now first marks.now (length marks.now) }
+{
+    let (_, rest) = history.split_at(first);
+    for k in 0..marks.len().min(rest.len()) {
+        if is_client(&rest[k].step) && !marks[k] {
+            return false;
+        }
+    }
+    true
+}
+
+/// Whether in a window of a history no two receipts have one number, and each client step has one.
+fn is_matched<const SIZE: usize>(history: &[Entry], receipts: &[Receipt], first: usize) -> bool
+    requires size { SIZE < 2 ^ 32 }
+    requires first { first ≤ length history.now }
+    ensures apart { IsTrue result → AreApartIn first SIZE receipts.now }
+    ensures named { IsTrue result → AreNamedIn first SIZE history.now receipts.now }
+    ensures only { AreApartIn first SIZE receipts.now → AreNamedIn first SIZE history.now receipts.now
+        → IsTrue result }
+{
+    let mut marks = [false; SIZE];
+    mark(receipts, first, &mut marks) && are_marked(history, first, &marks)
+}
+
+/// Whether no two receipts have one number, and each client step has one, window by window.
+fn are_matched(history: &[Entry], receipts: &[Receipt]) -> bool
+    ensures apart { IsTrue result → AreApartIn 0 (length history.now) receipts.now }
+    ensures named { IsTrue result → AreNamed history.now receipts.now }
+    ensures only { AreApart receipts.now → AreNamed history.now receipts.now → IsTrue result }
+{
+    for window in 0..history.len() / WINDOW + 1 {
+        if !is_matched::<WINDOW>(history, receipts, WINDOW * window) {
             return false;
         }
     }
