@@ -13,12 +13,13 @@ use fis::{SLOT_COUNT, Tag};
 use port::{Built, EngineStep, Port, PortError, Put, Stage, Step};
 use std::sync::ledger::{Book, Share};
 
-/// The port, and the book of its client steps. The port agrees with an origin of its drive and the list of steps that
-/// its history stores, and the book has as many as are clients' among them.
+/// The port, the book of its client steps, and whether no engine is to come. The port agrees with an origin of its drive and the list of steps that its history stores, and the book has as
+/// many as are clients' among them.
 #[derive(Drop)]
 pub(crate) struct Desk<L: PortName> {
     pub(crate) port: Port,
     pub(crate) book: Book<L>,
+    pub(crate) is_given_up: bool,
     ghost stands: { Stands port book.total },
 }
 
@@ -71,7 +72,18 @@ impl<L: PortName> Desk<L> {
     pub(crate) fn new(port: Port, book: Book<L>) -> Desk<L>
         requires { Stands port book.total }
     {
-        Desk { port, book }
+        Desk {
+            port,
+            book,
+            is_given_up: false,
+        }
+    }
+
+    /// Says whether no engine is to come.
+    pub(crate) fn set_given_up(&mut self, is_given_up: bool)
+        ensures { (self.new.port ≡ self.old.port) × (self.new.is_given_up ≡ is_given_up) }
+    {
+        self.is_given_up = is_given_up;
     }
 
     /// The port, and the book that counted its client steps.
@@ -79,7 +91,11 @@ impl<L: PortName> Desk<L> {
         ensures stands { Stands result.0 result.1.total }
         ensures counted { client_steps result.0.history ≡ result.1.total }
     {
-        let Desk { port, book } = self;
+        let Desk {
+            port,
+            book,
+            is_given_up: _,
+        } = self;
         (port, book)
     }
 
@@ -123,7 +139,11 @@ impl<L: PortName> Desk<L> {
         ensures parts { mine.new.parts ≡ mine.old.parts }
     {
         let tag = built.tag();
-        let Desk { port, book } = self;
+        let Desk {
+            port,
+            book,
+            is_given_up: _,
+        } = self;
         match port.put_built(client, built) {
             Ok(number) => {
                 book.add(mine, 1);
@@ -169,7 +189,11 @@ impl<L: PortName> Desk<L> {
         if !self.is_answered(client, ticket)? {
             return Ok(None);
         }
-        let Desk { port, book } = self;
+        let Desk {
+            port,
+            book,
+            is_given_up: _,
+        } = self;
         let (number, reply) = port.take(client, ticket.tag)?;
         book.add(mine, 1);
         Ok(Some(Receipt {
@@ -236,7 +260,11 @@ impl<L: PortName> Desk<L> {
             → PortAgrees self.old.port o list → e ≡ PortError.OutOfMemory) }
         ensures errors { IfErr result (λ e. is_of_engine e ≡ true) }
     {
-        let Desk { port, book: _ } = self;
+        let Desk {
+            port,
+            book: _,
+            is_given_up: _,
+        } = self;
         port.turn(choice)?;
         Ok(())
     }

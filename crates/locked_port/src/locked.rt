@@ -1,6 +1,7 @@
 //! The lock, and the calls of clients and of the engine.
 
-ghost use Rattle.std.specs.Prelude.{◌≡◌, ◌+◌};
+ghost use Rattle.std.specs.Prelude.{◌≡◌, ◌+◌, true, IfOk, IsOkUnless};
+ghost use Rattle.port_history.specs.Requests.{is_sized};
 ghost use Rattle.locked_port.specs.Counts.{client_steps};
 
 use crate::desk::Desk;
@@ -95,9 +96,9 @@ impl<L: PortName> LockedPort<L> {
         let Some(tag) = pass.claim() else {
             return Err(PortError::SlotBusy);
         };
-        let put = match Built::new(request, tag) {
+        let put = match build(request, tag) {
             Ok(built) => pass.submit(&mut self.desk.lock(rt), built),
-            Err(_) => Err(PortError::OutOfMemory),
+            Err(error) => Err(error),
         };
         match put {
             Ok(ticket) => {
@@ -116,8 +117,8 @@ impl<L: PortName> LockedPort<L> {
     /// # Errors
     ///
     /// Before it waits, in this order: `HistoryFull`; `NotAnswered`, where the slot is free or has another Put than the
-    /// ticket's; `NotYours`. A history that becomes full ends the wait. `OutOfMemory`. The ticket is then as good as
-    /// before.
+    /// ticket's; `NotYours`. A history that becomes full ends the wait, and `NotAnswered` ends it where the answer is
+    /// still to come and no engine is to give it (`give_up`). `OutOfMemory`. The ticket is then as good as before.
     pub fn await_answer<R: Wait>(
         &self,
         rt: &R,
@@ -152,6 +153,7 @@ impl<L: PortName> LockedPort<L> {
         let mut desk = self.desk.lock(rt);
         for _ in rt.forever() {
             match pass.take(&mut desk, ticket) {
+                Ok(None) if desk.is_given_up => return Err(PortError::NotAnswered),
                 Ok(None) => desk = self.moved.wait(rt, desk),
                 Ok(Some(receipt)) => return Ok(receipt),
                 Err(error) => return Err(error),
@@ -161,7 +163,7 @@ impl<L: PortName> LockedPort<L> {
     }
 
     /// Does steps as the gate chooses, one in a turn, and gives the turns that are left. Where nothing is ready it waits
-    /// for a client's step, and counts no turn.
+    /// for a client's step, or until it is woken, and counts no turn. Where it ends by an error it gives up.
     ///
     /// # Errors
     ///
@@ -178,6 +180,19 @@ impl<L: PortName> LockedPort<L> {
         ensures pass { pass.new ≡ pass.old }
     {
         let _engine = pass.client();
+        self.desk.lock(rt).set_given_up(false);
+        let left = self.serve(rt, gate, turns);
+        if left.is_err() {
+            self.give_up(rt);
+        }
+        left
+    }
+
+    /// Does steps as the gate chooses, until it says so, the turns are used or a step is refused.
+    fn serve<G: Gate, R: Wait>(&self, rt: &R, gate: &G, turns: u64) -> Result<u64, PortError>
+        ensures turns { IfOk result (λ left. left ≤ turns) }
+        ensures errors { IfErr result (λ e. is_of_engine e ≡ true) }
+    {
         let mut left = turns;
         for _ in rt.forever() {
             if left == 0 {
@@ -200,6 +215,20 @@ impl<L: PortName> LockedPort<L> {
             }
         }
         Ok(left)
+    }
+
+    /// Says that no engine is to come. It ends the waits of clients for answers that are still to come, those that
+    /// begin later too, until an engine begins.
+    pub fn give_up<R: Wait>(&self, rt: &R) {
+        self.desk.lock(rt).set_given_up(true);
+        self.moved.notify_all();
+    }
+
+    /// Wakes all that wait. An engine that waits asks its gate again: so a gate that is to stop it can be heard where
+    /// nothing is ready.
+    pub fn wake<R: Wait>(&self, rt: &R) {
+        let _desk = self.desk.lock(rt);
+        self.moved.notify_all();
     }
 
     /// Takes the port out of its lock. Where a pass is missing, all comes back.
@@ -227,6 +256,18 @@ impl<L: PortName> LockedPort<L> {
         book.audit(&mut all);
         let client_steps = count_client_steps(port.history());
         Ok(Closed { port, client_steps })
+    }
+}
+
+/// Builds the command of a request. Nothing but memory is refused.
+fn build(request: &Request, tag: Tag) -> Result<Built, PortError>
+    requires { is_sized request.now ≡ true }
+    ensures built { IfOk result (λ built. (built.request ≡ request.now) × (built.tag ≡ tag)) }
+    ensures memory { IsOkUnless result PortError.OutOfMemory }
+{
+    match Built::new(request, tag) {
+        Ok(built) => Ok(built),
+        Err(_) => Err(PortError::OutOfMemory),
     }
 }
 
