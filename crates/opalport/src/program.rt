@@ -6,7 +6,7 @@ ghost use Rattle.opalport.specs.Program.{Told, RunEnds, Level0Ends, ThreadsEnd, 
 
 use crate::command_line::{DriveTexts, LoadTexts, Request, request_of};
 use clap::error::ErrorKind;
-use port_threads::{Load, run_threads};
+use port_threads::{Load, run_load};
 use std::alloc::Global;
 use std::io::{Read, Write};
 use std::sync::Wait;
@@ -80,7 +80,7 @@ fn threads<R: Threads + Wait + Sync, W: Write, E: Write>(
         status (W.contents output.old) (W.contents output.new)) }
 {
     match Load::parse(load.clients.as_bytes(), load.rounds.as_bytes()) {
-        Ok(load) => run_threads(rt, alloc, load.blank(), output, &load),
+        Ok(load) => run_load(rt, alloc, load.blank(), output, &load),
         Err(fault) => {
             writeln!(faults, "error: {fault}").map_err(|_| RunError::Write)?;
             Ok(2)

@@ -11,6 +11,13 @@ most_clients = 32
 abbrev pub most_rounds : ℕ
 most_rounds = 1000
 
+-- the load that stands where none is given
+abbrev pub default_clients : ℕ
+default_clients = 2
+
+abbrev pub default_rounds : ℕ
+default_rounds = 100
+
 -- a number that is not 0
 abbrev pub but_zero : Option ℕ → Option ℕ
 but_zero None = None

@@ -8,4 +8,4 @@ mod run;
 mod work;
 
 pub use load::{Load, LoadFault};
-pub use run::run_threads;
+pub use run::{run_load, run_threads};

@@ -1,7 +1,7 @@
 //! How many clients there are, and how many rounds each makes.
 
 ghost use Rattle.std.specs.Prelude.{◌≡◌, ◌≤◌, ◌<◌, IfSome};
-ghost use Rattle.port_threads.specs.Loads.{most_clients, most_rounds, from_1_to};
+ghost use Rattle.port_threads.specs.Loads.{most_clients, most_rounds, default_clients, default_rounds, from_1_to};
 
 use script_lines::number_up_to;
 use std::sync::ledger::Blank;
@@ -13,10 +13,18 @@ const MOST_CLIENTS: u16 = 32;
 /// The most rounds of a client.
 const MOST_ROUNDS: u32 = 1_000;
 
+/// The clients of the load that stands where none is given.
+const DEFAULT_CLIENTS: u16 = 2;
+
+/// The rounds of each of its clients.
+const DEFAULT_ROUNDS: u32 = 100;
+
 /// The limits are those of the definitions.
 pub fn laws_of_loads()
     ensures clients { MOST_CLIENTS ≡ most_clients }
     ensures rounds { MOST_ROUNDS ≡ most_rounds }
+    ensures default_clients { DEFAULT_CLIENTS ≡ default_clients }
+    ensures default_rounds { DEFAULT_ROUNDS ≡ default_rounds }
 {}
 
 /// What is wrong with the words that say a load.
@@ -48,7 +56,18 @@ fn from_1_to(most: u64, text: &[u8]) -> Option<u64>
 
 impl Load {
     ghost use Rattle.std.specs.Prelude.{◌≡◌, ◌+◌, IfOk, IfErr};
-    ghost use Rattle.port_threads.specs.Loads.{WritesLoad, IsFirstFault};
+    ghost use Rattle.port_threads.specs.Loads.{default_clients, default_rounds, WritesLoad, IsFirstFault};
+
+    /// The load that stands where none is given.
+    pub(crate) fn usual() -> Load
+        ensures clients { result.clients ≡ default_clients }
+        ensures rounds { result.rounds ≡ default_rounds }
+    {
+        Load {
+            clients: DEFAULT_CLIENTS,
+            rounds: DEFAULT_ROUNDS,
+        }
+    }
 
     /// Reads both numbers as they are written on the command line. The first fault is told: `Clients`, `Rounds`.
     pub fn parse(clients: &[u8], rounds: &[u8]) -> Result<Load, LoadFault>

@@ -11,10 +11,11 @@ use std::alloc::{AllocError, Global};
 use std::sync::Wait;
 use trusted_cmds::SECTOR_SIZE;
 
-/// The receipts of a client, the oldest first.
+/// The receipts of a client, the oldest first, and the error that ended it, if one did.
 #[derive(Drop)]
 pub(crate) struct Log {
     pub(crate) receipts: Vec<Receipt>,
+    pub(crate) refusal: Option<PortError>,
 }
 
 /// The receipt of a Put: its step is the request that was put, and it replies no bytes.
@@ -47,6 +48,7 @@ impl Log {
     {
         Log {
             receipts: Vec::new(alloc),
+            refusal: None,
         }
     }
 
@@ -165,7 +167,7 @@ impl Log {
         Ok(is_written && is_read)
     }
 
-    /// Makes a round, and tells whether it was made and is right.
+    /// Makes a round, and tells whether it was made and is right. Keeps the error that it ends with.
     pub(crate) fn makes<L: PortName, R: Wait>(
         &mut self,
         rt: &R,
@@ -186,7 +188,10 @@ impl Log {
     {
         match self.round(rt, alloc, port, pass, byte) {
             Ok(is_right) => is_right,
-            Err(_) => false,
+            Err(error) => {
+                self.refusal = Some(error);
+                false
+            }
         }
     }
 }

@@ -3,6 +3,7 @@
 ghost use Rattle.std.specs.Prelude.{◌≡◌, ◌+◌, ◌*◌, ◌≤◌, ◌<◌, ℕ, map, vec_len, slice_index_or, OnOk, IfOk, IfErr, ◌⊎◌};
 ghost use Rattle.locked_port.specs.Counts.{Stands};
 ghost use Rattle.tool.specs.declared.ending.RunError.{RunError};
+ghost use Rattle.port_threads.specs.Loads.{default_clients, default_rounds};
 ghost use Rattle.port_threads.specs.Rounds.{steps_of_round, Made, AreOf, rounds_of, receipts_of};
 ghost use Rattle.port_threads.specs.Works.{IsTold, Ran, is_right};
 
@@ -11,14 +12,15 @@ use crate::load::Load;
 use crate::work::{Work, make_rounds};
 use drive::{Drive, DriveConfig};
 use locked_port::{Closed, Gate, LockedPort, Pass, Pick, PortName, Receipt};
-use port::{EngineStep, Port};
+use port::{EngineStep, Port, PortError};
 use std::alloc::{AllocError, Global};
 use std::io::Write;
 use std::marker::Brand;
 use std::sync::Wait;
+use std::sync::atomic::{AtomicBool, Ordering};
 use std::sync::ledger::Blank;
 use std::thread;
-use std::thread::{Threads, join};
+use std::thread::Threads;
 use tool::RunError;
 
 /// The engine does three steps for a transfer: Issue, Accept and Complete; a round has two transfers.
@@ -27,12 +29,27 @@ const ENGINE_STEPS: u64 = 6;
 /// A round is a write and a read, each of them a Put and a Take.
 const STEPS_OF_ROUND: u64 = 4;
 
-/// The first of the steps that are ready.
-struct First;
+/// The first of the steps that are ready, until the clients have ended.
+#[derive(Drop)]
+struct WhileServed {
+    has_ended: AtomicBool,
+}
 
-impl Gate for First {
+impl WhileServed {
+    fn new() -> WhileServed {
+        WhileServed {
+            has_ended: AtomicBool::new(false),
+        }
+    }
+}
+
+impl Gate for WhileServed {
     fn pick(&self, _ready: &[EngineStep]) -> Pick {
-        Pick::Do(0)
+        if self.has_ended.load(Ordering::SeqCst) {
+            Pick::Stop
+        } else {
+            Pick::Do(0)
+        }
     }
 }
 
@@ -59,7 +76,7 @@ impl<L: PortName> Works<L> {
     }
 }
 
-/// What all clients did, in one.
+/// What all clients did, in one. A client that was refused memory makes it an error.
 #[tactic(auto, using(crate::proofs::Logs::rounds_more, crate::proofs::Logs::receipts_more))]
 fn gather<L: PortName>(alloc: Global, works: Vec<Work<L>>) -> Result<Works<L>, AllocError>
     ensures rounds { IfOk result (λ all. all.rounds
@@ -76,7 +93,11 @@ fn gather<L: PortName>(alloc: Global, works: Vec<Work<L>>) -> Result<Works<L>, A
             pass,
             receipts: mut more,
             rounds: made,
+            refusal,
         } = work;
+        if matches!(refusal, Some(PortError::OutOfMemory)) {
+            return Err(AllocError);
+        }
         receipts.append(&mut more)?;
         if passes.push(pass).is_err() {
             return Err(AllocError);
@@ -105,11 +126,12 @@ fn default_port(alloc: Global) -> Result<Port, RunError>
     Ok(port)
 }
 
-/// Runs each client in a thread of its own.
+/// Runs each client in a thread of its own, and lets the engine end when all have ended.
 fn run_clients<L: PortName + Send + Sync, R: Threads + Wait + Sync>(
     rt: &R,
     port: &LockedPort<L>,
     alloc: Global,
+    gate: &WhileServed,
     passes: Vec<Pass<L>>,
     rounds: u32,
 ) -> Result<Vec<Work<L>>, AllocError>
@@ -118,10 +140,61 @@ fn run_clients<L: PortName + Send + Sync, R: Threads + Wait + Sync>(
         (slice_index_or works.items i d).rounds (slice_index_or works.items i d).receipts.items) }
     ensures clients { IfOk result (λ works. vec_len works ≡ vec_len passes) }
 {
-    thread::map_vec(
+    let works = thread::map_vec(
         rt,
         passes,
         &|pass| make_rounds(rt, alloc, port, pass, rounds),
+    );
+    gate.has_ended.store(true, Ordering::SeqCst);
+    port.wake(rt);
+    works
+}
+
+/// Runs the engine, and gives its pass back. No engine comes behind it, so no client waits for one then.
+fn serve<L: PortName, R: Wait>(
+    rt: &R,
+    port: &LockedPort<L>,
+    gate: &WhileServed,
+    mut engine: Pass<L>,
+    turns: u64,
+) -> (Pass<L>, Result<u64, PortError>) {
+    let left = port.engine(rt, &mut engine, gate, turns);
+    port.give_up(rt);
+    (engine, left)
+}
+
+/// Runs the engine in a thread of its own, and beside it the clients.
+fn run_beside<L: PortName + Send + Sync, R: Threads + Wait + Sync>(
+    rt: &R,
+    port: &LockedPort<L>,
+    alloc: Global,
+    passes: Vec<Pass<L>>,
+    engine: Pass<L>,
+    load: &Load,
+) -> Result<(Vec<Work<L>>, Pass<L>), RunError>
+    ensures made { IfOk result (λ both. (i : ℕ) (d : _) (p : _) → i < vec_len both.0
+        → Made (slice_index_or passes.items i p).client load.now.rounds
+        (slice_index_or both.0.items i d).rounds (slice_index_or both.0.items i d).receipts.items) }
+    ensures clients { IfOk result (λ both. vec_len both.0 ≡ vec_len passes) }
+    ensures memory { IfErr result (λ error. error ≡ RunError.Memory) }
+{
+    let rounds = load.rounds;
+    let turns = ENGINE_STEPS * u64::from(load.clients) * u64::from(rounds);
+    let gate = &WhileServed::new();
+    thread::scope(
+        thread::scope_env(),
+        rt,
+        |scope| {
+            let Ok(serving) = scope.spawn(move || serve(rt, port, gate, engine, turns)) else {
+                return Err(RunError::Memory);
+            };
+            let works = run_clients(rt, port, alloc, gate, passes, rounds);
+            let (engine, left) = serving.join(rt);
+            if left.is_err() {
+                return Err(RunError::Memory);
+            }
+            Ok((works?, engine))
+        },
     )
 }
 
@@ -137,20 +210,11 @@ fn run_all<L: PortName + Send + Sync, R: Threads + Wait + Sync>(
     ensures passes { IfOk result (λ all. vec_len all.passes ≡ vec_len passes) }
     ensures memory { IfErr result (λ error. error ≡ RunError.Memory) }
 {
-    let Some(mut engine) = passes.pop() else {
+    let Some(engine) = passes.pop() else {
         return Err(RunError::Memory);
     };
-    let rounds = load.rounds;
-    let turns = ENGINE_STEPS * u64::from(load.clients) * u64::from(rounds);
-    let (left, works) = join(
-        rt,
-        || port.engine(rt, &mut engine, &First, turns),
-        || run_clients(rt, port, alloc, passes, rounds),
-    );
-    if left.is_err() {
-        return Err(RunError::Memory);
-    }
-    let mut works = gather(alloc, works?)?;
+    let (works, engine) = run_beside(rt, port, alloc, passes, engine, load)?;
+    let mut works = gather(alloc, works)?;
     works.add_engine(engine)?;
     Ok(works)
 }
@@ -195,13 +259,13 @@ fn is_right(load: &Load, facts: &Facts) -> bool
 /// Runs the clients of a load and an engine, each in a thread of its own, at a port with a new drive behind it: each
 /// client fills its own sector and reads it back, round by round. Prints how many rounds were made, how many steps of
 /// the port's history are clients', and whether the clients' receipts are those of the history; gives status 0 where
-/// all is as the load says, else 1. The engine waits for the clients, so where memory is refused in one of them the
-/// call may never return; nor may it where the system starts no thread.
+/// all is as the load says, else 1.
 ///
 /// # Errors
 ///
-/// Want of memory; a call of the writer that fails.
-pub fn run_threads<R: Threads + Wait + Sync, W: Write>(
+/// Want of memory, also of a client or of the engine, or where the system starts no thread; a call of the writer that
+/// fails.
+pub fn run_load<R: Threads + Wait + Sync, W: Write>(
     rt: &R,
     alloc: Global,
     blank: Blank,
@@ -220,4 +284,24 @@ pub fn run_threads<R: Threads + Wait + Sync, W: Write>(
         .map_err(|_| RunError::Write)?;
     output.flush().map_err(|_| RunError::Write)?;
     Ok(u8::from(!is_right(load, &facts)))
+}
+
+/// Runs two clients, each of which makes 100 rounds, and an engine, as `run_load` does.
+///
+/// # Errors
+///
+/// Those of `run_load`.
+pub fn run_threads<R: Threads + Wait + Sync, W: Write>(
+    rt: &R,
+    alloc: Global,
+    blank: Blank,
+    output: &mut W,
+) -> Result<u8, RunError>
+    requires { blank.parts ≡ default_clients + 1 }
+    ensures ran { IfOk result (λ status.
+        Ran default_clients default_rounds status (W.contents output.old) (W.contents output.new)) }
+    ensures errors { IfErr result (λ error. (error ≡ RunError.Memory) ⊎ (error ≡ RunError.Write)) }
+{
+    let status = run_load(rt, alloc, blank, output, &Load::usual())?;
+    Ok(status)
 }

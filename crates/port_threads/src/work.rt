@@ -5,16 +5,19 @@ ghost use Rattle.port_threads.specs.Rounds.{steps_of_round, Made};
 
 use crate::log::Log;
 use locked_port::{LockedPort, Pass, PortName, Receipt};
+use port::PortError;
 use std::alloc::Global;
 use std::sync::Wait;
 
-/// The pass of a client that has ended, its receipts, and how many rounds it made. That the receipts are enough for the
+/// The pass of a client that has ended, its receipts, how many rounds it made, and the error that ended it, if one did.
+/// That the receipts are enough for the
 /// rounds bounds these by memory, so that the rounds of all clients can be added.
 #[derive(Drop)]
 pub(crate) struct Work<L: PortName> {
     pub(crate) pass: Pass<L>,
     pub(crate) receipts: Vec<Receipt>,
     pub(crate) rounds: u64,
+    pub(crate) refusal: Option<PortError>,
     ghost told: { steps_of_round * rounds ≤ vec_len receipts },
 }
 
@@ -24,11 +27,12 @@ fn work_of<L: PortName>(pass: Pass<L>, log: Log, rounds: u32) -> Work<L>
     ensures receipts { result.receipts ≡ log.receipts }
     ensures rounds { result.rounds ≡ rounds }
 {
-    let Log { receipts } = log;
+    let Log { receipts, refusal } = log;
     Work {
         pass,
         receipts,
         rounds: u64::from(rounds),
+        refusal,
     }
 }
 

@@ -1,4 +1,4 @@
-use Rattle.port_threads.proofs.run.run_threads.Given as goal
+use Rattle.port_threads.proofs.run.run_load.Given as goal
 
 abbrev pub ghosts-facts_of-L-Ledger : goal.ghosts-facts_of-L-Ledger
 ghosts-facts_of-L-Ledger g a = record { name = a.blank.name; parts = a.blank.parts }
