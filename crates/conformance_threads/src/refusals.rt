@@ -114,6 +114,17 @@ fn is_full<L: PortName, R: Wait>(
         && withholds(rt, port, one, &other, PortError::NotAnswered)
 }
 
+/// Whether no client waits for an answer where no engine is to give it.
+fn is_not_awaited<L: PortName, R: Wait>(
+    rt: &R,
+    port: &LockedPort<L>,
+    one: &mut Pass<L>,
+    last: &Ticket,
+) -> bool {
+    port.give_up(rt);
+    withholds(rt, port, one, last, PortError::NotAnswered)
+}
+
 /// Whether an answer that is there is its client's alone, and taken once; the other client then claims its tag.
 fn is_given_once<L: PortName, R: Wait>(
     rt: &R,
@@ -141,6 +152,7 @@ fn is_refusing<L: PortName, R: Wait>(
         return false;
     };
     is_full(rt, port, one, two, &last)
+        && is_not_awaited(rt, port, one, &last)
         && matches!(port.engine(rt, engine, &Never, 3), Ok(0))
         && matches!(port.engine(rt, engine, &First, TURNS), Ok(0))
         && is_given_once(rt, port, one, two, &last)

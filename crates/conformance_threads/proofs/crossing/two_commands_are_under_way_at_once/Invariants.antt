@@ -1,7 +1,7 @@
 use Rattle.conformance_threads.proofs.crossing.two_commands_are_under_way_at_once.Given as goal
 
-abbrev pub ghosts-run-L-Ledger : goal.ghosts-run-L-Ledger
-ghosts-run-L-Ledger g a = record { name = a.blank.name; parts = a.blank.parts }
+abbrev pub ghosts-cross-L-Ledger : goal.ghosts-cross-L-Ledger
+ghosts-cross-L-Ledger g a = record { name = a.blank.name; parts = a.blank.parts }
 
-abbrev pub ghosts-run-L-PortName : goal.ghosts-run-L-PortName
-ghosts-run-L-PortName g a = record { passes = a.blank.parts }
+abbrev pub ghosts-cross-L-PortName : goal.ghosts-cross-L-PortName
+ghosts-cross-L-PortName g a = record { passes = a.blank.parts }
