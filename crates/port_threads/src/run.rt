@@ -193,7 +193,10 @@ fn run_beside<L: PortName + Send + Sync, R: Threads + Wait + Sync>(
             if left.is_err() {
                 return Err(RunError::Memory);
             }
-            Ok((works?, engine))
+            match works {
+                Ok(works) => Ok((works, engine)),
+                Err(_) => Err(RunError::Memory),
+            }
         },
     )
 }
