@@ -6,8 +6,6 @@ mod clients;
 #[cfg(test)]
 mod crossing;
 #[cfg(test)]
-mod full;
-#[cfg(test)]
 mod receipts;
 #[cfg(test)]
 mod refusals;

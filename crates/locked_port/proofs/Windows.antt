@@ -1,8 +1,8 @@
 -- The windows of a history, one after another.
-use Rattle.std.proofs.Common.{◌≡◌, ℕ, ◌<◌, ◌≤◌, ◌+◌, ◌-◌, ◌*◌, ◌⊎◌, inl, inr, length, true, List, Some, slice_get, slice_index_or, All, sym, subst, arith}
+use Rattle.std.proofs.Common.{◌≡◌, ℕ, Bool, ◌<◌, ◌≤◌, ◌+◌, ◌-◌, ◌*◌, ◌⊎◌, inl, inr, length, true, List, Some, slice_get, slice_index_or, All, sym, subst, arith}
 use Rattle.std.proofs.lemmas.Bool.{cases_lt}
 use Rattle.std.proofs.lemmas.Option.{slice_get_within}
-use Rattle.locked_port.specs.Receipts.{IsNew, IsNamed, IsShown, AreApart, AreNamed, AreApartIn, AreNamedIn}
+use Rattle.locked_port.specs.Receipts.{IsNew, IsNamed, IsShown, AreApart, AreNamed, AreApartIn, AreNamedIn, AreOnly, AreMarked}
 use Rattle.locked_port.specs.Counts.{is_client}
 use Rattle.port_history.specs.declared.step.Entry.{Entry}
 use Rattle.locked_port.specs.declared.ticket.Receipt.{Receipt}
@@ -44,3 +44,9 @@ apart_of_shown history receipts shown apart i j d before within =
     let above : 0 < (slice_index_or receipts j d).number = here.0 in
     let least = slice_get_within history ((slice_index_or receipts j d).number - 1) _ here.1 in
     apart j d within above (omega (arith, above, least)) i d before
+
+-- where each client step of a window is marked, and no mark is too much, each has a receipt
+pub named_of_marked : (first size : ℕ) (history : List Entry) (receipts : List Receipt) (marks : List Bool) → length marks ≡ size
+    → AreOnly first receipts (length receipts) marks → AreMarked history first marks (length marks) → AreNamedIn first size history receipts
+named_of_marked first size history receipts marks is only marked k e lt there client =
+    only k (marked k e (omega (arith, lt, is)) there client)

@@ -181,24 +181,20 @@ fn run_beside<L: PortName + Send + Sync, R: Threads + Wait + Sync>(
     let rounds = load.rounds;
     let turns = ENGINE_STEPS * u64::from(load.clients) * u64::from(rounds);
     let gate = &WhileServed::new();
-    thread::scope(
-        thread::scope_env(),
-        rt,
-        |scope| {
-            let Ok(serving) = scope.spawn(move || serve(rt, port, gate, engine, turns)) else {
-                return Err(RunError::Memory);
-            };
-            let works = run_clients(rt, port, alloc, gate, passes, rounds);
-            let (engine, left) = serving.join(rt);
-            if left.is_err() {
-                return Err(RunError::Memory);
-            }
-            match works {
-                Ok(works) => Ok((works, engine)),
-                Err(_) => Err(RunError::Memory),
-            }
-        },
-    )
+    thread::scope(thread::scope_env(), rt, |scope| {
+        let Ok(serving) = scope.spawn(move || serve(rt, port, gate, engine, turns)) else {
+            return Err(RunError::Memory);
+        };
+        let works = run_clients(rt, port, alloc, gate, passes, rounds);
+        let (engine, left) = serving.join(rt);
+        if left.is_err() {
+            return Err(RunError::Memory);
+        }
+        match works {
+            Ok(works) => Ok((works, engine)),
+            Err(_) => Err(RunError::Memory),
+        }
+    })
 }
 
 /// Runs the engine and all clients at once.
