@@ -20,7 +20,7 @@ use std::sync::Wait;
 use std::sync::atomic::{AtomicBool, Ordering};
 use std::sync::ledger::Blank;
 use std::thread;
-use std::thread::Threads;
+use std::thread::{Threads, join};
 use tool::RunError;
 
 /// The engine does three steps for a transfer: Issue, Accept and Complete; a round has two transfers.
@@ -150,51 +150,19 @@ fn run_clients<L: PortName + Send + Sync, R: Threads + Wait + Sync>(
     works
 }
 
-/// Runs the engine, and gives its pass back. No engine comes behind it, so no client waits for one then.
+/// Runs the engine. No engine comes behind it, so no client waits for one then.
 fn serve<L: PortName, R: Wait>(
     rt: &R,
     port: &LockedPort<L>,
+    engine: &mut Pass<L>,
     gate: &WhileServed,
-    mut engine: Pass<L>,
     turns: u64,
-) -> (Pass<L>, Result<u64, PortError>) {
-    let left = port.engine(rt, &mut engine, gate, turns);
-    port.give_up(rt);
-    (engine, left)
-}
-
-/// Runs the engine in a thread of its own, and beside it the clients.
-fn run_beside<L: PortName + Send + Sync, R: Threads + Wait + Sync>(
-    rt: &R,
-    port: &LockedPort<L>,
-    alloc: Global,
-    passes: Vec<Pass<L>>,
-    engine: Pass<L>,
-    load: &Load,
-) -> Result<(Vec<Work<L>>, Pass<L>), RunError>
-    ensures made { IfOk result (λ both. (i : ℕ) (d : _) (p : _) → i < vec_len both.0
-        → Made (slice_index_or passes.items i p).client load.now.rounds
-        (slice_index_or both.0.items i d).rounds (slice_index_or both.0.items i d).receipts.items) }
-    ensures clients { IfOk result (λ both. vec_len both.0 ≡ vec_len passes) }
-    ensures memory { IfErr result (λ error. error ≡ RunError.Memory) }
+) -> Result<u64, PortError>
+    ensures { engine.new ≡ engine.old }
 {
-    let rounds = load.rounds;
-    let turns = ENGINE_STEPS * u64::from(load.clients) * u64::from(rounds);
-    let gate = &WhileServed::new();
-    thread::scope(thread::scope_env(), rt, |scope| {
-        let Ok(serving) = scope.spawn(move || serve(rt, port, gate, engine, turns)) else {
-            return Err(RunError::Memory);
-        };
-        let works = run_clients(rt, port, alloc, gate, passes, rounds);
-        let (engine, left) = serving.join(rt);
-        if left.is_err() {
-            return Err(RunError::Memory);
-        }
-        match works {
-            Ok(works) => Ok((works, engine)),
-            Err(_) => Err(RunError::Memory),
-        }
-    })
+    let left = port.engine(rt, engine, gate, turns);
+    port.give_up(rt);
+    left
 }
 
 /// Runs the engine and all clients at once.
@@ -209,11 +177,21 @@ fn run_all<L: PortName + Send + Sync, R: Threads + Wait + Sync>(
     ensures passes { IfOk result (λ all. vec_len all.passes ≡ vec_len passes) }
     ensures memory { IfErr result (λ error. error ≡ RunError.Memory) }
 {
-    let Some(engine) = passes.pop() else {
+    let Some(mut engine) = passes.pop() else {
         return Err(RunError::Memory);
     };
-    let (works, engine) = run_beside(rt, port, alloc, passes, engine, load)?;
-    let mut works = gather(alloc, works)?;
+    let rounds = load.rounds;
+    let turns = ENGINE_STEPS * u64::from(load.clients) * u64::from(rounds);
+    let gate = WhileServed::new();
+    let (left, works) = join(
+        rt,
+        || serve(rt, port, &mut engine, &gate, turns),
+        || run_clients(rt, port, alloc, &gate, passes, rounds),
+    );
+    if left.is_err() {
+        return Err(RunError::Memory);
+    }
+    let mut works = gather(alloc, works?)?;
     works.add_engine(engine)?;
     Ok(works)
 }
@@ -262,8 +240,8 @@ fn is_right(load: &Load, facts: &Facts) -> bool
 ///
 /// # Errors
 ///
-/// Want of memory, also of a client or of the engine, or where the system starts no thread; a call of the writer that
-/// fails.
+/// Want of memory, also of a client or of the engine; a call of the writer that fails. Where the system starts no
+/// thread the engine and the clients run one after the other, and the call may never return.
 pub fn run_load<R: Threads + Wait + Sync, W: Write>(
     rt: &R,
     alloc: Global,
