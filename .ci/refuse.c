@@ -1,0 +1,86 @@
+/* A library to load before a program: the REFUSE_ATth allocation that the program itself asks for is refused, and the file
+ * that REFUSE_TOLD names is made then. What other libraries ask for is not counted. */
+#define _GNU_SOURCE
+#include <errno.h>
+#include <fcntl.h>
+#include <link.h>
+#include <stdatomic.h>
+#include <stdint.h>
+#include <stdlib.h>
+#include <unistd.h>
+
+void *__libc_malloc(size_t size);
+void *__libc_calloc(size_t count, size_t size);
+void *__libc_realloc(void *old, size_t size);
+void *__libc_memalign(size_t alignment, size_t size);
+
+static uintptr_t first, behind;
+static long refused_at;
+static atomic_long asked;
+
+/* The first object is the program. */
+static int note_program(struct dl_phdr_info *info, size_t size, void *unused)
+{
+    (void)size;
+    (void)unused;
+    for (int i = 0; i < info->dlpi_phnum; i++) {
+        const ElfW(Phdr) *part = &info->dlpi_phdr[i];
+        if (part->p_type == PT_LOAD && (part->p_flags & PF_X)) {
+            first = info->dlpi_addr + part->p_vaddr;
+            behind = first + part->p_memsz;
+        }
+    }
+    return 1;
+}
+
+__attribute__((constructor)) static void begin(void)
+{
+    const char *at = getenv("REFUSE_AT");
+    refused_at = at ? atol(at) : 0;
+    dl_iterate_phdr(note_program, NULL);
+}
+
+static int is_refused(const void *caller)
+{
+    if ((uintptr_t)caller < first || (uintptr_t)caller >= behind)
+        return 0;
+    if (atomic_fetch_add(&asked, 1) + 1 != refused_at)
+        return 0;
+    const char *told = getenv("REFUSE_TOLD");
+    int file = told ? open(told, O_CREAT | O_WRONLY, 0600) : -1;
+    if (file >= 0)
+        close(file);
+    errno = ENOMEM;
+    return 1;
+}
+
+void *malloc(size_t size)
+{
+    return is_refused(__builtin_return_address(0)) ? NULL : __libc_malloc(size);
+}
+
+void *calloc(size_t count, size_t size)
+{
+    return is_refused(__builtin_return_address(0)) ? NULL : __libc_calloc(count, size);
+}
+
+void *realloc(void *old, size_t size)
+{
+    return is_refused(__builtin_return_address(0)) ? NULL : __libc_realloc(old, size);
+}
+
+void *aligned_alloc(size_t alignment, size_t size)
+{
+    return is_refused(__builtin_return_address(0)) ? NULL : __libc_memalign(alignment, size);
+}
+
+int posix_memalign(void **to, size_t alignment, size_t size)
+{
+    if (is_refused(__builtin_return_address(0)))
+        return ENOMEM;
+    void *got = __libc_memalign(alignment, size);
+    if (!got)
+        return ENOMEM;
+    *to = got;
+    return 0;
+}
