@@ -25,12 +25,15 @@ grants sp objects method acl = map (λ object. grant sp object method acl) objec
 
 -- the SPs themselves
 unfoldable pub this_sp_grants : List Grant
-this_sp_grants = grant Admin this_sp authenticate (ace_anybody ∷ []) ∷ grant Locking this_sp authenticate (ace_anybody ∷ []) ∷ []
+this_sp_grants = grant Admin this_sp authenticate (ace_anybody ∷ [])
+    ∷ grant Locking this_sp authenticate (ace_anybody ∷ []) ∷ []
 
 -- the Admin SP
 unfoldable pub admin_grants : List Grant
 admin_grants =
-    grants Admin (admin_sp ∷ locking_sp ∷ anybody ∷ sid ∷ ace_anybody ∷ ace_c_pin_sid_get_nopin ∷ ace_c_pin_sid_set_pin ∷ ace_c_pin_msid_get_pin ∷ ace_sp_sid ∷ ace_tper_info_set_programmatic_reset_enable ∷ tper_info ∷ []) get (ace_anybody ∷ [])
+    grants Admin (admin_sp ∷ locking_sp ∷ anybody ∷ sid ∷ ace_anybody ∷ ace_c_pin_sid_get_nopin
+    ∷ ace_c_pin_sid_set_pin ∷ ace_c_pin_msid_get_pin ∷ ace_sp_sid
+    ∷ ace_tper_info_set_programmatic_reset_enable ∷ tper_info ∷ []) get (ace_anybody ∷ [])
     ++ grant Admin c_pin_sid get (ace_c_pin_sid_get_nopin ∷ [])
     ∷ grant Admin c_pin_sid set (ace_c_pin_sid_set_pin ∷ [])
     ∷ grant Admin c_pin_msid get (ace_c_pin_msid_get_pin ∷ [])
@@ -48,11 +51,15 @@ authority_grants =
 
 -- ACEs whose expression can be set
 abbrev pub settable : List Uid → List Grant
-settable aces = grants Locking aces get (ace_admins ∷ ace_anybody_get_common_name ∷ []) ++ grants Locking aces set (ace_ace_set_boolean_expression ∷ [])
+settable aces = grants Locking aces get (ace_admins ∷ ace_anybody_get_common_name ∷ [])
+    ++ grants Locking aces set (ace_ace_set_boolean_expression ∷ [])
 
 -- the ACEs of the Locking SP whose expression stays
 abbrev pub fixed_aces : List Uid
-fixed_aces = ace_anybody ∷ ace_admins ∷ ace_anybody_get_common_name ∷ ace_ace_set_boolean_expression ∷ ace_authority_set_enabled ∷ ace_c_pin_admins_get_all_nopin ∷ ace_c_pin_admins_set_pin ∷ ace_locking_get_all ∷ ace_locking_global_range_admins_set ∷ ace_locking_admins_set ∷ ace_mbr_control_admins_set ∷ []
+fixed_aces = ace_anybody ∷ ace_admins ∷ ace_anybody_get_common_name ∷ ace_ace_set_boolean_expression
+    ∷ ace_authority_set_enabled ∷ ace_c_pin_admins_get_all_nopin ∷ ace_c_pin_admins_set_pin
+    ∷ ace_locking_get_all ∷ ace_locking_global_range_admins_set ∷ ace_locking_admins_set
+    ∷ ace_mbr_control_admins_set ∷ []
 
 unfoldable pub fixed_ace_gets : List Grant
 fixed_ace_gets = grants Locking fixed_aces get (ace_admins ∷ ace_anybody_get_common_name ∷ [])
@@ -72,29 +79,37 @@ done_ace_grants = settable (ace_mbr_control_set_done_to_dor ∷ [])
 -- its C_PIN rows
 unfoldable pub pin_grants : List Grant
 pin_grants =
-    grants Locking (map admin_pin_uid admins ++ map user_pin_uid users) get (ace_c_pin_admins_get_all_nopin ∷ [])
+    grants Locking (map admin_pin_uid admins ++ map user_pin_uid users) get
+    (ace_c_pin_admins_get_all_nopin ∷ [])
     ++ grants Locking (map admin_pin_uid admins) set (ace_c_pin_admins_set_pin ∷ [])
     ++ map (λ n. grant Locking (user_pin_uid n) set (ace_c_pin_user_set_pin n ∷ [])) users
 
 -- its ranges
 unfoldable pub range_grants : List Grant
 range_grants =
-    grants Locking (map range_uid all_ranges) get (ace_locking_get_all ∷ ace_anybody_get_common_name ∷ [])
-    ++ grant Locking global_range set (ace_locking_global_range_admins_set ∷ ace_range_set_read_locked 0 ∷ ace_range_set_write_locked 0 ∷ [])
-    ∷ map (λ n. grant Locking (range_uid n) set (ace_locking_admins_set ∷ ace_range_set_read_locked n ∷ ace_range_set_write_locked n ∷ [])) numbered_ranges
+    grants Locking (map range_uid all_ranges) get
+    (ace_locking_get_all ∷ ace_anybody_get_common_name ∷ [])
+    ++ grant Locking global_range set
+    (ace_locking_global_range_admins_set ∷ ace_range_set_read_locked 0
+    ∷ ace_range_set_write_locked 0 ∷ [])
+    ∷ map (λ n. grant Locking (range_uid n) set
+    (ace_locking_admins_set ∷ ace_range_set_read_locked n ∷ ace_range_set_write_locked n
+    ∷ [])) numbered_ranges
 
 -- the shadow MBR
 unfoldable pub mbr_grants : List Grant
 mbr_grants =
     grant Locking mbr_control get (ace_anybody ∷ [])
-    ∷ grant Locking mbr_control set (ace_mbr_control_admins_set ∷ ace_mbr_control_set_done_to_dor ∷ [])
+    ∷ grant Locking mbr_control set
+    (ace_mbr_control_admins_set ∷ ace_mbr_control_set_done_to_dor ∷ [])
     ∷ grant Locking mbr_table get (ace_anybody ∷ [])
     ∷ grant Locking mbr_table set (ace_admins ∷ [])
     ∷ []
 
 -- the Locking SP
 abbrev pub locking_grants : List Grant
-locking_grants = authority_grants ++ fixed_ace_gets ++ user_ace_grants ++ read_locked_ace_grants ++ write_locked_ace_grants ++ done_ace_grants ++ pin_grants ++ range_grants ++ mbr_grants
+locking_grants = authority_grants ++ fixed_ace_gets ++ user_ace_grants ++ read_locked_ace_grants
+    ++ write_locked_ace_grants ++ done_ace_grants ++ pin_grants ++ range_grants ++ mbr_grants
 
 -- the whole list
 abbrev pub access_list : List Grant
@@ -103,7 +118,9 @@ access_list = this_sp_grants ++ admin_grants ++ locking_grants
 -- the ACL that a list has for a method of an object
 abbrev pub acl_in : List Grant → Sp → Uid → Uid → Option (List Uid)
 acl_in [] sp object method = None
-acl_in (g ∷ gs) sp object method = if sp_eq g.sp sp && (g.object.0 == object.0) && (g.method.0 == method.0) then Some g.acl else acl_in gs sp object method
+acl_in (g ∷ gs) sp object method =
+    if sp_eq g.sp sp && (g.object.0 == object.0) && (g.method.0 == method.0) then Some g.acl else
+    acl_in gs sp object method
 
 -- the answer is what these grants have
 abbrev pub Answers : List Grant → Sp → Uid → Uid → Option (ArrayVec Uid) → Type 0

@@ -47,7 +47,8 @@ naming look sp k row = filter (names look sp k) (unwrap_or row [])
 -- the first of these ACEs that holds
 abbrev pub first_holding : LookUp → Sp → List Uid → List Uid → Option Uid
 first_holding look sp held [] = None
-first_holding look sp held (e ∷ es) = if holds_at look sp held e then Some e else first_holding look sp held es
+first_holding look sp held (e ∷ es) =
+    if holds_at look sp held e then Some e else first_holding look sp held es
 
 -- the ACL of a method of an object
 abbrev pub acl_at : Sp → Uid → Uid → Option (List Uid)
@@ -55,10 +56,12 @@ acl_at sp object method = acl_in access_list sp object method
 
 -- the ACE that allows the column: the first of the ACL that names it and holds
 abbrev pub ace_of : LookUp → Sp → Uid → Uid → Option Column → List Uid → Option Uid
-ace_of look sp object method k held = first_holding look sp held (naming look sp k (acl_at sp object method))
+ace_of look sp object method k held =
+    first_holding look sp held (naming look sp k (acl_at sp object method))
 
 -- what is answered: the ACE that allows the column, or else whether the method is offered and the ACEs that name it
-abbrev pub Answers : LookUp → Sp → Uid → Uid → Option Column → List Uid → Result Uid Missing → Type 0
+abbrev pub Answers : LookUp → Sp → Uid → Uid → Option Column → List Uid → Result Uid Missing
+    → Type 0
 Answers look sp object method k held result = MatchResult result
     (λ ace. ace_of look sp object method k held ≡ Some ace)
     (λ missing. (ace_of look sp object method k held ≡ None)
@@ -66,7 +69,8 @@ Answers look sp object method k held result = MatchResult result
     × (missing.need.items ≡ naming look sp k (acl_at sp object method)))
 
 -- the column has an ACE: some ACE of the ACL names it, and its expression holds
-pub record HasAce (look : LookUp) (sp : Sp) (object method : Uid) (k : Option Column) (held : List Uid) : Type 0 where
+pub record HasAce (look : LookUp) (sp : Sp) (object method : Uid) (k : Option Column)
+    (held : List Uid) : Type 0 where
   pub ace : Uid
   pub in_row : has (unwrap_or (acl_at sp object method) []) ace ≡ true
   pub named : names look sp k ace ≡ true

@@ -58,8 +58,10 @@ impl Authorities {
     /// Puts an authority into the set.
     pub fn insert(&mut self, authority: Uid)
         requires { (length self.old < MOST_AUTHORITIES) ⊎ IsTrue (has self.old authority) }
-        ensures set { (other : UidValue) → has self.new other ≡ (has self.old other || (authority.0 == other.0)) }
-        ensures exact { self.new ≡ (if has self.old authority then self.old else self.old ++ authority ∷ []) }
+        ensures set { (other : UidValue)
+            → has self.new other ≡ (has self.old other || (authority.0 == other.0)) }
+        ensures exact { self.new
+            ≡ (if has self.old authority then self.old else self.old ++ authority ∷ []) }
     {
         if !self.contains(authority) {
             self.uids.push(authority);

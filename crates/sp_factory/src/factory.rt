@@ -61,7 +61,8 @@ fn push_run<R: Row + Drop>(
     first: Uid,
     rows: Vec<R>,
 ) -> Result<(), AllocError>
-    ensures { OnOk result (AddsRows R.held runs.old.items runs.new.items (rows_from R.held first.0 rows.items)) }
+    ensures { OnOk result
+        (AddsRows R.held runs.old.items runs.new.items (rows_from R.held first.0 rows.items)) }
 {
     push_row(runs, Run { first, rows })?;
     Ok(())
@@ -75,7 +76,8 @@ fn push_one<R: Row + Drop>(
     object: Uid,
     row: R,
 ) -> Result<(), AllocError>
-    ensures { OnOk result (AddsRows R.held runs.old.items runs.new.items (row_items object (R.held row))) }
+    ensures { OnOk result
+        (AddsRows R.held runs.old.items runs.new.items (row_items object (R.held row))) }
 {
     let mut rows = Vec::with_capacity(alloc, 1)?;
     push_row(&mut rows, row)?;
@@ -234,22 +236,15 @@ fn tper_infos_made(alloc: Global) -> Result<Vec<Run<TperInfoRow>>, AllocError>
     Ok(runs)
 }
 
-#[tactic(auto, unfolding(crate::specs::Factory::admin_aces))]
-fn admin_aces_made(alloc: Global) -> Result<Vec<Run<AceRow>>, AllocError>
-    ensures { IfOk result (λ runs. HasRows ace_columns runs.items admin_aces) }
+/// Adds the ACEs of the Admin SP.
+#[tactic(auto, using(crate::proofs::FamilyLemmas::pushing), unfolding(crate::specs::Factory::admin_aces))]
+fn push_admin_aces(alloc: Global, runs: &mut Vec<Run<AceRow>>) -> Result<(), AllocError>
+    ensures { OnOk result (AddsRows ace_columns runs.old.items runs.new.items admin_aces) }
 {
-    let mut runs = Vec::new(alloc);
+    push_ace(alloc, runs, Uid::ACE_ANYBODY, "Anybody", Uid::ANYBODY, &[])?;
     push_ace(
         alloc,
-        &mut runs,
-        Uid::ACE_ANYBODY,
-        "Anybody",
-        Uid::ANYBODY,
-        &[],
-    )?;
-    push_ace(
-        alloc,
-        &mut runs,
+        runs,
         Uid::ACE_C_PIN_SID_GET_NOPIN,
         "C_PIN_SID_Get_NOPIN",
         Uid::SID,
@@ -257,7 +252,7 @@ fn admin_aces_made(alloc: Global) -> Result<Vec<Run<AceRow>>, AllocError>
     )?;
     push_ace(
         alloc,
-        &mut runs,
+        runs,
         Uid::ACE_C_PIN_SID_SET_PIN,
         "C_PIN_SID_Set_PIN",
         Uid::SID,
@@ -265,21 +260,29 @@ fn admin_aces_made(alloc: Global) -> Result<Vec<Run<AceRow>>, AllocError>
     )?;
     push_ace(
         alloc,
-        &mut runs,
+        runs,
         Uid::ACE_C_PIN_MSID_GET_PIN,
         "C_PIN_MSID_Get_PIN",
         Uid::ANYBODY,
         &[Column::UID, Column::PIN],
     )?;
-    push_ace(alloc, &mut runs, Uid::ACE_SP_SID, "SP_SID", Uid::SID, &[])?;
+    push_ace(alloc, runs, Uid::ACE_SP_SID, "SP_SID", Uid::SID, &[])?;
     push_ace(
         alloc,
-        &mut runs,
+        runs,
         Uid::ACE_TPER_INFO_SET_PROGRAMMATIC_RESET_ENABLE,
         "TPerInfo_Set_ProgrammaticResetEnable",
         Uid::SID,
         &[Column::PROGRAMMATIC_RESET_ENABLE],
     )?;
+    Ok(())
+}
+
+fn admin_aces_made(alloc: Global) -> Result<Vec<Run<AceRow>>, AllocError>
+    ensures { IfOk result (λ runs. HasRows ace_columns runs.items admin_aces) }
+{
+    let mut runs = Vec::new(alloc);
+    push_admin_aces(alloc, &mut runs)?;
     Ok(runs)
 }
 
@@ -319,7 +322,8 @@ fn push_authority_aces(alloc: Global, runs: &mut Vec<Run<AceRow>>) -> Result<(),
 
 /// Adds the ACEs on the Users' PINs.
 fn push_user_aces(alloc: Global, runs: &mut Vec<Run<AceRow>>) -> Result<(), AllocError>
-    ensures { OnOk result (AddsRows ace_columns runs.old.items runs.new.items (family user_ace_base user_ace USERS)) }
+    ensures { OnOk result
+        (AddsRows ace_columns runs.old.items runs.new.items (family user_ace_base user_ace USERS)) }
 {
     push_run(runs, Uid::ace_c_pin_user_set_pin(1), user_ace_rows(alloc)?)?;
     Ok(())
@@ -449,7 +453,9 @@ fn push_mbr_aces(alloc: Global, runs: &mut Vec<Run<AceRow>>) -> Result<(), Alloc
 }
 
 fn locking_aces_made(alloc: Global) -> Result<Vec<Run<AceRow>>, AllocError>
-    ensures { IfOk result (λ runs. HasRows ace_columns runs.items (authority_aces ++ pin_aces ++ range_aces ++ mbr_aces)) }
+    ensures { IfOk result
+        (λ runs. HasRows ace_columns runs.items
+        (authority_aces ++ pin_aces ++ range_aces ++ mbr_aces)) }
 {
     let mut runs = Vec::new(alloc);
     push_authority_aces(alloc, &mut runs)?;

@@ -16,7 +16,8 @@ RowLook = Uid → Column → Option Cell
 
 -- the rows with another value in a cell, where there is one
 abbrev pub put_in : Uid → Column → Cell → RowLook → RowLook
-put_in object column v rows o c = if (object.0 == o.0) && (column.0 == c.0) then option_map (λ _. v) (rows o c) else rows o c
+put_in object column v rows o c =
+    if (object.0 == o.0) && (column.0 == c.0) then option_map (λ _. v) (rows o c) else rows o c
 
 -- the rows with these cells of one object changed, one after another
 abbrev pub puts_in : Uid → List (Column × Cell) → RowLook → RowLook
@@ -33,6 +34,10 @@ fault_seen sectors look sp object changes = first_of (
     (not (has_each look sp object changes), faults.NoCell)
     ∷ (not (takes_each object changes), faults.WrongType)
     ∷ (is_overlap (changed look sp object changes) (range_row_number sp object), faults.Overlap)
-    ∷ (is_beyond sectors (changed look sp object changes) (range_row_number sp object), faults.Beyond)
+    ∷ (
+      is_beyond sectors (changed look sp object changes)
+          (range_row_number sp object),
+      faults.Beyond,
+    )
     ∷ (not (are_fit changes), faults.Expr)
     ∷ [])

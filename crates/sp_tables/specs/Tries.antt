@@ -25,7 +25,8 @@ names_tries object changes = list_any (λ p. is_tries object p.0) changes
 -- the cells that are no Tries
 abbrev pub without_tries : List Item → List Item
 without_tries [] = []
-without_tries (i ∷ is) = if is_tries i.object i.column then without_tries is else i ∷ without_tries is
+without_tries (i ∷ is) =
+    if is_tries i.object i.column then without_tries is else i ∷ without_tries is
 
 -- the Tries alone
 abbrev pub tries_among : List Item → List Item
@@ -39,11 +40,13 @@ tries_put pin n is = if is_pin pin then with_item is pin tries_column (Number n)
 -- no wrong attempts in the first n rows of a family
 unfoldable pub family_cleared : (ℕ → Uid) → ℕ → List Item → List Item
 family_cleared name zero is = is
-family_cleared name (suc n) is = with_item (family_cleared name n is) (name (suc n)) tries_column (Number 0)
+family_cleared name (suc n) is =
+    with_item (family_cleared name n is) (name (suc n)) tries_column (Number 0)
 
 -- nor in any C_PIN row of the Admin SP
 abbrev pub admin_cleared : List Item → List Item
-admin_cleared is = with_item (with_item is c_pin_sid tries_column (Number 0)) c_pin_msid tries_column (Number 0)
+admin_cleared is = with_item
+    (with_item is c_pin_sid tries_column (Number 0)) c_pin_msid tries_column (Number 0)
 
 -- nor in any of the Locking SP
 abbrev pub locking_cleared : List Item → List Item

@@ -8,7 +8,6 @@ mod resets;
 mod undo;
 pub mod whole;
 
-pub use access_list::access_row;
 pub use halves::is_pin;
 pub use sp_cells::{
     ADMINS, Bytes, Cell, Column, Columns, DriveConfig, Element, Expr, RANGES, ResetTypes, Rows,

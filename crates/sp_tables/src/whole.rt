@@ -31,9 +31,18 @@ impl Model for Tables {
 
     ghost use Rattle.sp_rows.specs.Halves.{half_items};
 
-    ghost view = { λ t. record { admin = half_items t.admin; locking = half_items t.locking; config = t.config } };
+    ghost view = { λ t. record {
+      admin = half_items t.admin;
+      locking = half_items t.locking;
+      config = t.config;
+    } };
 
-    ghost invariant = { λ t. AreApart (look_up (record { admin = half_items t.admin; locking = half_items t.locking; config = t.config })) };
+    ghost invariant = { λ t. AreApart
+        (look_up (record {
+          admin = half_items t.admin;
+          locking = half_items t.locking;
+          config = t.config;
+        })) };
 }
 
 impl Tables {
@@ -81,8 +90,10 @@ impl Tables {
         changes: &[(Column, Cell)],
     ) -> Result<Vec<Cell>, SetError>
         ensures ok { OnOk result (self.new ≡ with_row sp object changes.now self.old) }
-        ensures flat { OnOk result (flat_list self.new ≡ with_cells (flat_list self.old) sp object changes.now) }
-        ensures old { IfOk result (λ cells. cells.items ≡ replaced (items_of self.old sp) object changes.now) }
+        ensures flat { OnOk result
+            (flat_list self.new ≡ with_cells (flat_list self.old) sp object changes.now) }
+        ensures old { IfOk result
+            (λ cells. cells.items ≡ replaced (items_of self.old sp) object changes.now) }
         ensures fault { TellsFault (fault_of self.old sp object changes.now) result }
         ensures err { OnErr result (self.new ≡ self.old) }
     {
@@ -98,7 +109,8 @@ impl Tables {
         changes: &[(Column, Cell)],
     ) -> Result<Vec<Cell>, SetError>
         ensures ok { OnOk result (self.new ≡ with_row sp object changes.now self.old) }
-        ensures old { IfOk result (λ cells. cells.items ≡ replaced (items_of self.old sp) object changes.now) }
+        ensures old { IfOk result
+            (λ cells. cells.items ≡ replaced (items_of self.old sp) object changes.now) }
         ensures fault { TellsFault (fault_of self.old sp object changes.now) result }
         ensures err { OnErr result (self.new ≡ self.old) }
     {
@@ -122,7 +134,8 @@ impl Tables {
         cell: Cell,
     ) -> Result<Cell, SetError>
         ensures ok { OnOk result (self.new ≡ with_row sp object ((column, cell) ∷ []) self.old) }
-        ensures old { IfOk result (λ old. old ≡ unwrap_or (look_up_in self.old sp object column) cell) }
+        ensures old { IfOk result
+            (λ old. old ≡ unwrap_or (look_up_in self.old sp object column) cell) }
         ensures fault { TellsFault (fault_of self.old sp object ((column, cell) ∷ [])) result }
         ensures err { OnErr result (self.new ≡ self.old) }
     {
