@@ -58,17 +58,22 @@ failure_text Unknown = codes "unknown"
 -- `auth SP AUTH pin`, and likewise for the other failures
 abbrev pub attempt_text : Sp → Uid → AttemptFailure → List ℕ
 attempt_text sp authority failure =
-    codes "auth " ++ sp_text sp ++ codes " " ++ uid_text authority ++ codes " " ++ failure_text failure
+    codes "auth " ++ sp_text sp ++ codes " " ++ uid_text authority ++ codes " "
+    ++ failure_text failure
 
 -- what stands after `deny`
 abbrev pub why_text : Why → List ℕ
-why_text (ReadLocked lba count range) = transfer_text (codes "read") lba count ++ lock_text range (codes "ReadLocked")
-why_text (WriteLocked lba count range) = transfer_text (codes "write") lba count ++ lock_text range (codes "WriteLocked")
+why_text (ReadLocked lba count range) =
+    transfer_text (codes "read") lba count ++ lock_text range (codes "ReadLocked")
+why_text (WriteLocked lba count range) =
+    transfer_text (codes "write") lba count ++ lock_text range (codes "WriteLocked")
 why_text (ReadShadow lba count) = shadow_text (codes "read") lba count
 why_text (WriteShadow lba count) = shadow_text (codes "write") lba count
-why_text (NoEntryHolds sp object method column need) = call_text sp object method ++ need_text column need.items
+why_text (NoEntryHolds sp object method column need) =
+    call_text sp object method ++ need_text column need.items
 why_text (NoAccessRow sp object method) = call_text sp object method ++ codes " no row"
 why_text (AttemptFailed sp authority failure) = attempt_text sp authority failure
 
 abbrev pub line_text : AuditLine → List ℕ
-line_text line = decimal line.step ++ codes " " ++ decimal line.client ++ codes " deny " ++ why_text line.why
+line_text line = decimal line.step ++ codes " " ++ decimal line.client ++ codes " deny "
+    ++ why_text line.why

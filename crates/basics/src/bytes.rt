@@ -19,6 +19,31 @@ impl Model for Bytes {
     ghost view = { λ a. a.items.items };
 }
 
+impl PartialEq for Bytes {
+    ghost use Rattle.std.specs.Prelude.{◌≡◌, ◌==◌, ◌↔◌, IsTrue};
+    ghost use Rattle.std.proofs.Common.{rules};
+    ghost use Rattle.std.specs.Cmp.Rules.{comparing};
+    ghost use lib.Pointwise.{pointwise};
+
+    ghost eq = { pointwise ◌==◌ };
+
+    ghost laws = { Prim.search (comparing, rules) };
+
+    fn eq(&self, other: &Bytes) -> bool
+        ensures value { result ≡ pointwise ◌==◌ self.now other.now }
+        ensures same { IsTrue result ↔ (self.now ≡ other.now) }
+    {
+        self.items.as_slice() == other.items.as_slice()
+    }
+}
+
+impl Eq for Bytes {
+    ghost use Rattle.std.proofs.Common.{rules};
+    ghost use Rattle.std.specs.Cmp.Rules.{comparing};
+
+    ghost laws = { Prim.search (comparing, rules) };
+}
+
 impl Bytes {
     /// These bytes, kept as they are.
     pub fn from_vec(items: Vec<u8>) -> Bytes

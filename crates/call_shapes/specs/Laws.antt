@@ -29,4 +29,5 @@ is_short_cell (Numbers r) = true
 is_short_cell (Columns cs) = true
 
 abbrev pub RoundTrip : Type 0
-RoundTrip = (kind : ColumnType) (cell : Cell) → is_of kind cell ≡ true → is_short_cell cell ≡ true → cell_in kind (cell_tree cell) ≡ Some cell
+RoundTrip = (kind : ColumnType) (cell : Cell) → is_of kind cell ≡ true → is_short_cell cell ≡ true
+    → cell_in kind (cell_tree cell) ≡ Some cell

@@ -103,7 +103,8 @@ fn read_cellblock<'a>(first: u64, last: u64, args: &'a [Value]) -> Option<Pair<'
 
 /// Get of columns.
 fn columns_asked<'a>(args: &'a [Value]) -> Option<Ask<'a>>
-    ensures { result ≡ columns_in (cellblock start_column_parameter end_column_parameter (map tree args.now)) }
+    ensures { result ≡ columns_in
+        (cellblock start_column_parameter end_column_parameter (map tree args.now)) }
 {
     let block = read_cellblock(parameter::START_COLUMN, parameter::END_COLUMN, args)?;
     let first = number_or(0, block.first)?;
@@ -116,7 +117,8 @@ fn columns_asked<'a>(args: &'a [Value]) -> Option<Ask<'a>>
 
 /// Get of bytes.
 fn rows_asked<'a>(args: &'a [Value]) -> Option<Ask<'a>>
-    ensures { result ≡ rows_in (cellblock start_row_parameter end_row_parameter (map tree args.now)) }
+    ensures { result ≡ rows_in
+        (cellblock start_row_parameter end_row_parameter (map tree args.now)) }
 {
     let block = read_cellblock(parameter::START_ROW, parameter::END_ROW, args)?;
     let first = number_or(0, block.first)?;

@@ -14,16 +14,19 @@ pub fn laws_of_numbers()
     ensures sp_busy { (statuses.SP_BUSY ≡ sp_busy) × (sp_busy ≡ 0x03) }
     ensures no_sessions { (statuses.NO_SESSIONS_AVAILABLE ≡ no_sessions_available)
         × (no_sessions_available ≡ 0x07) }
-    ensures invalid { (statuses.INVALID_PARAMETER ≡ invalid_parameter) × (invalid_parameter ≡ 0x0c) }
+    ensures invalid { (statuses.INVALID_PARAMETER ≡ invalid_parameter)
+        × (invalid_parameter ≡ 0x0c) }
     ensures transaction { (statuses.TRANSACTION_FAILURE ≡ transaction_failure)
         × (transaction_failure ≡ 0x10) }
-    ensures overflow { (statuses.RESPONSE_OVERFLOW ≡ response_overflow) × (response_overflow ≡ 0x11) }
+    ensures overflow { (statuses.RESPONSE_OVERFLOW ≡ response_overflow)
+        × (response_overflow ≡ 0x11) }
     ensures locked_out { (statuses.AUTHORITY_LOCKED_OUT ≡ authority_locked_out)
         × (authority_locked_out ≡ 0x12) }
     ensures fail { (statuses.FAIL ≡ fail) × (fail ≡ 0x3f) }
     ensures rows { (parameters.START_ROW ≡ start_row_parameter) × (start_row_parameter ≡ 1)
         × (parameters.END_ROW ≡ end_row_parameter) × (end_row_parameter ≡ 2) }
-    ensures columns { (parameters.START_COLUMN ≡ start_column_parameter) × (start_column_parameter ≡ 3)
+    ensures columns { (parameters.START_COLUMN ≡ start_column_parameter)
+        × (start_column_parameter ≡ 3)
         × (parameters.END_COLUMN ≡ end_column_parameter) × (end_column_parameter ≡ 4) }
     ensures set { (parameters.WHERE ≡ where_parameter) × (where_parameter ≡ 0)
         × (parameters.VALUES ≡ values_parameter) × (values_parameter ≡ 1) }

@@ -21,9 +21,14 @@ fn length_at(bytes: &[u8], place: usize) -> usize
 
 /// What a ComPacket carries.
 fn com_packet(bytes: &[u8]) -> Result<&[u8], FrameError>
-    ensures found { IfOk result (λ content. IsComPacket bytes.now (com_id_of bytes.now) content.now) }
-    ensures exact { MatchResult result (λ content. (com_packet_fault bytes.now ≡ None) × (content.now ≡ com_packet_content bytes.now)) (λ e. com_packet_fault bytes.now ≡ Some e) }
-    ensures room { IfOk result (λ content. (com_packet_header_size ≤ length bytes.now) × (packet_header_size ≤ length content.now)) }
+    ensures found { IfOk result
+        (λ content. IsComPacket bytes.now (com_id_of bytes.now) content.now) }
+    ensures exact { MatchResult result
+        (λ content. (com_packet_fault bytes.now ≡ None)
+        × (content.now ≡ com_packet_content bytes.now)) (λ e. com_packet_fault bytes.now ≡ Some e) }
+    ensures room { IfOk result
+        (λ content. (com_packet_header_size ≤ length bytes.now)
+        × (packet_header_size ≤ length content.now)) }
 {
     if bytes.len() < COM_PACKET_HEADER {
         return Err(FrameError::Short);
@@ -48,7 +53,9 @@ fn com_packet(bytes: &[u8]) -> Result<&[u8], FrameError>
 fn packet(bytes: &[u8]) -> Result<&[u8], FrameError>
     requires { packet_header_size ≤ length bytes.now }
     ensures found { IfOk result (λ content. IsPacket bytes.now (session_of bytes.now) content.now) }
-    ensures exact { MatchResult result (λ content. (packet_fault bytes.now ≡ None) × (content.now ≡ packet_content bytes.now)) (λ e. packet_fault bytes.now ≡ Some e) }
+    ensures exact { MatchResult result
+        (λ content. (packet_fault bytes.now ≡ None) × (content.now ≡ packet_content bytes.now))
+        (λ e. packet_fault bytes.now ≡ Some e) }
     ensures room { IfOk result (λ content. subpacket_header_size ≤ length content.now) }
 {
     let len = length_at(bytes, 20);
@@ -71,7 +78,9 @@ fn packet(bytes: &[u8]) -> Result<&[u8], FrameError>
 fn subpacket(bytes: &[u8]) -> Result<&[u8], FrameError>
     requires { subpacket_header_size ≤ length bytes.now }
     ensures found { IfOk result (λ payload. IsDataSubpacket bytes.now payload.now) }
-    ensures exact { MatchResult result (λ content. (subpacket_fault bytes.now ≡ None) × (content.now ≡ subpacket_content bytes.now)) (λ e. subpacket_fault bytes.now ≡ Some e) }
+    ensures exact { MatchResult result
+        (λ content. (subpacket_fault bytes.now ≡ None)
+        × (content.now ≡ subpacket_content bytes.now)) (λ e. subpacket_fault bytes.now ≡ Some e) }
 {
     if BigEndian::read_u16(&bytes[6..]) != DATA_KIND {
         return Err(FrameError::Kind);
@@ -120,17 +129,30 @@ fn com_id_of(com_packet: &[u8]) -> ComId
 /// it has none, `Length` or `Many` where it ends, padding included, behind or before the packet.
 pub fn open(bytes: &[u8]) -> Result<Opened<'_>, FrameError>
     // What it gives is a frame that the bytes begin with, and a frame that they begin with is given.
-    ensures found { IfOk result (λ o. IsFrame bytes.now (record { com_id = o.com_id; session = o.session; payload = o.payload.now })) }
-    ensures only { (frame : Frame) → IsFrame bytes.now frame → IsOkAnd result (λ o. record { com_id = o.com_id; session = o.session; payload = o.payload.now } ≡ frame) }
+    ensures found { IfOk result
+        (λ o. IsFrame bytes.now
+        (record { com_id = o.com_id; session = o.session; payload = o.payload.now })) }
+    ensures only { (frame : Frame) → IsFrame bytes.now frame
+        → IsOkAnd result (λ o. record {
+          com_id = o.com_id;
+          session = o.session;
+          payload = o.payload.now;
+        } ≡ frame) }
 
     // An error is the first fault in the order of the checks.
-    ensures fault { MatchResult result (λ _. fault_of bytes.now ≡ None) (λ e. fault_of bytes.now ≡ Some e) }
+    ensures fault { MatchResult result (λ _. fault_of bytes.now ≡ None)
+        (λ e. fault_of bytes.now ≡ Some e) }
 
     // The payload is the part of the bytes behind the three headers.
-    ensures place { IfOk result (λ o. o.payload.now ≡ slice_range bytes.now headers_size (headers_size + length o.payload.now)) }
+    ensures place { IfOk result
+        (λ o. o.payload.now ≡ slice_range bytes.now headers_size
+        (headers_size + length o.payload.now)) }
 
     // The same as one function of the bytes, for the crates above.
-    ensures exact { MatchResult result (λ o. reading bytes.now ≡ Ok (record { com_id = o.com_id; session = o.session; payload = o.payload.now })) (λ e. reading bytes.now ≡ Err e) }
+    ensures exact { MatchResult result
+        (λ o. reading bytes.now
+        ≡ Ok (record { com_id = o.com_id; session = o.session; payload = o.payload.now }))
+        (λ e. reading bytes.now ≡ Err e) }
 {
     let content = com_packet(bytes)?;
     let data = packet(content)?;

@@ -92,8 +92,12 @@ pub fn frame_into(com_id: ComId, session: Session, payload: &[u8], out: &mut Vec
     ensures room_stays { vec_capacity out.old ≤ vec_capacity out.new }
 
     // `open` gives back what was framed, whatever follows.
-    ensures is_frame { (rest : List ℕ) → IsFrame (frame_bytes com_id session payload.now ++ rest) (record { com_id = com_id; session = session; payload = payload.now }) }
-    ensures opens { (rest : List ℕ) → reading (frame_bytes com_id session payload.now ++ rest) ≡ Ok (record { com_id = com_id; session = session; payload = payload.now }) }
+    ensures is_frame { (rest : List ℕ)
+        → IsFrame (frame_bytes com_id session payload.now ++ rest)
+        (record { com_id = com_id; session = session; payload = payload.now }) }
+    ensures opens { (rest : List ℕ)
+        → reading (frame_bytes com_id session payload.now ++ rest)
+        ≡ Ok (record { com_id = com_id; session = session; payload = payload.now }) }
 {
     headers_into(com_id, session, payload.len(), out);
     append(out, payload);
@@ -113,8 +117,14 @@ pub fn frame(
     ensures exact { IfOk result (λ v. v.items ≡ frame_bytes com_id session payload.now) }
 
     // `open` gives back what was framed, whatever follows.
-    ensures is_frame { IfOk result (λ v. (rest : List ℕ) → IsFrame (v.items ++ rest) (record { com_id = com_id; session = session; payload = payload.now })) }
-    ensures opens { IfOk result (λ v. (rest : List ℕ) → reading (v.items ++ rest) ≡ Ok (record { com_id = com_id; session = session; payload = payload.now })) }
+    ensures is_frame { IfOk result
+        (λ v. (rest : List ℕ)
+        → IsFrame (v.items ++ rest)
+        (record { com_id = com_id; session = session; payload = payload.now })) }
+    ensures opens { IfOk result
+        (λ v. (rest : List ℕ)
+        → reading (v.items ++ rest)
+        ≡ Ok (record { com_id = com_id; session = session; payload = payload.now })) }
 {
     let mut out = Vec::with_capacity(alloc, frame_len(payload.len()))?;
     frame_into(com_id, session, payload, &mut out);

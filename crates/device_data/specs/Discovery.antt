@@ -40,7 +40,8 @@ is_shadow_flag look column = number look Locking mbr_control column == 1
 abbrev pub locking_flags : LookUp → ℕ
 locking_flags look =
     1 + 2 * bit (is_manufactured look) + 4 * bit (is_locked look)
-    + 16 * bit (is_shadow_flag look mbr_enable_column) + 32 * bit (is_shadow_flag look mbr_done_column)
+    + 16 * bit (is_shadow_flag look mbr_enable_column)
+    + 32 * bit (is_shadow_flag look mbr_done_column)
 
 -- A feature: its code, its version 1 in the upper half of a byte, the length of what follows.
 abbrev pub feature : ℕ → List ℕ → List ℕ
@@ -68,7 +69,8 @@ com_ids = 4
 -- Opal SSC 2: its ComIDs, the Locking SP's Admins and Users; SID's first PIN is the MSID.
 abbrev pub opal_feature : List ℕ
 opal_feature =
-    feature 0x0203 (to_be_bytes w16 first_com_id ++ to_be_bytes w16 com_ids ++ 0 ∷ to_be_bytes w16 ADMINS
+    feature 0x0203 (to_be_bytes w16 first_com_id ++ to_be_bytes w16 com_ids
+    ++ 0 ∷ to_be_bytes w16 ADMINS
     ++ to_be_bytes w16 USERS ++ 0 ∷ 0 ∷ replicate 5 0)
 
 abbrev pub features : LookUp → List ℕ
@@ -77,4 +79,5 @@ features look = tper_feature ++ locking_feature look ++ geometry_feature ++ opal
 -- The header has the length of all that follows its first four bytes, and version 1.
 abbrev pub discovery : LookUp → List ℕ
 discovery look =
-    to_be_bytes w32 (44 + length (features look)) ++ to_be_bytes w32 1 ++ replicate 40 0 ++ features look
+    to_be_bytes w32 (44 + length (features look)) ++ to_be_bytes w32 1 ++ replicate 40 0
+    ++ features look

@@ -24,7 +24,8 @@ pub record IsAnswer (f : Facts) (h : RegH2d) (event : Event) (answer : Accepted)
   pub denied : answer.denied ≡ event.denied
 
 -- What the completion of what is held under a tag gives.
-pub record IsCompletion (f : Facts) (tag : ℕ) (held : Option HeldCommand) (done : Completed) : Type 0 where
+pub record IsCompletion (f : Facts) (tag : ℕ) (held : Option HeldCommand)
+    (done : Completed) : Type 0 where
   pub fises : done.fises.items ≡ completed_fises tag held
   pub bytes : done.bytes.items ≡ completed_data f held
 
@@ -34,7 +35,8 @@ IsDone f h event d o past answer = Keeps d o (event ∷ past) × IsAnswer f h ev
 
 -- What a completion of what is in a slot changes and gives: its slot is free, and a write has moved
 -- its bytes.
-pub record Finishes (tag : ℕ) (payload : List ℕ) (held : Held) (old new : State) (done : Completed) : Type 0 where
+pub record Finishes (tag : ℕ) (payload : List ℕ) (held : Held) (old new : State)
+    (done : Completed) : Type 0 where
   pub tper : new.tper ≡ old.tper
   pub queue : new.queue ≡ with_slot tag None old.queue
   pub media : (s : ℕ) → sector_at new.media s

@@ -41,7 +41,8 @@ fn wipe_where(wipes: bool, media: &mut Media)
 
 /// Makes these the ranges that the rows describe, where they may be others.
 fn refresh_where(changes: bool, ranges: &mut Ranges, rows: &View<'_>)
-    requires { changes ≡ false → ranges.old ≡ ranges_in rows.now.config.mbr_sectors (look_up rows.now) }
+    requires { changes ≡ false → ranges.old
+        ≡ ranges_in rows.now.config.mbr_sectors (look_up rows.now) }
     ensures { ranges.new ≡ ranges_in rows.now.config.mbr_sectors (look_up rows.now) }
 {
     if changes {
@@ -228,7 +229,8 @@ impl Drive {
 
     /// Holds a transfer under the tag.
     pub(crate) fn hold(&mut self, tag: Tag, held: Held)
-        requires { Fits self.old.tper.store.config.sectors self.old.tper.store.config.mbr_sectors held }
+        requires { Fits self.old.tper.store.config.sectors self.old.tper.store.config.mbr_sectors
+            held }
         ensures { self.new ≡ record self.old { queue = with_slot tag (Some held) self.old.queue } }
     {
         self.queue.hold(tag, held);
@@ -244,8 +246,10 @@ impl Drive {
     /// Moves the data of a transfer, and gives the bytes that were read.
     pub(crate) fn carry_out(&mut self, held: &Held, payload: &[u8]) -> Result<Vec<u8>, AllocError>
         requires length { length payload.now ≡ payload_size_of held.now.transfer }
-        requires fits { Fits self.old.tper.store.config.sectors self.old.tper.store.config.mbr_sectors held.now }
-        ensures data { IfOk result (λ v. (f : Facts) → v.items ≡ bytes_of (seen self.old f) held.now) }
+        requires fits { Fits self.old.tper.store.config.sectors
+            self.old.tper.store.config.mbr_sectors held.now }
+        ensures data { IfOk result (λ v. (f : Facts)
+            → v.items ≡ bytes_of (seen self.old f) held.now) }
         ensures tper { self.new.tper ≡ self.old.tper }
         ensures queue { self.new.queue ≡ self.old.queue }
         ensures media { OnOk result ((s : ℕ) → sector_at self.new.media s
@@ -272,7 +276,8 @@ impl Drive {
     pub(crate) fn send(&mut self, com_id: u16, payload: &[u8]) -> Result<Option<Why>, AllocError>
         requires { is_session_com_id com_id ≡ true }
         ensures kept { OnOk result ((o : Origin) (acts : List Act) → Agrees self.old o acts
-            → Keeps self.new o (sent (facts o (log o acts)) com_id (frame_in payload.now) ∷ log o acts)) }
+            → Keeps self.new o (sent (facts o (log o acts)) com_id (frame_in payload.now)
+            ∷ log o acts)) }
         ensures denied { IfOk result (λ why. (o : Origin) (acts : List Act) → Agrees self.old o acts
             → why ≡ (sent (facts o (log o acts)) com_id (frame_in payload.now)).denied) }
         ensures err { OnErr result (self.new ≡ self.old) }
@@ -316,7 +321,8 @@ impl Drive {
     /// The data of log page 10h, which ends a failure.
     pub(crate) fn read_log(&mut self) -> Result<Vec<u8>, AllocError>
         ensures data { IfOk result (λ v. v.items ≡ log_page self.old.queue.failure) }
-        ensures mended { OnOk result (self.new ≡ record self.old { queue = mended_queue self.old.queue }) }
+        ensures mended { OnOk result (self.new
+            ≡ record self.old { queue = mended_queue self.old.queue }) }
         ensures err { OnErr result (self.new ≡ self.old) }
     {
         let page = error_log(self.alloc, &self.queue.failure)?;
@@ -410,7 +416,8 @@ impl Drive {
     fn finish(&mut self, tag: Tag, payload: &[u8]) -> Result<Completed, DriveError>
         requires { length payload.now ≡ expected (held_at self.old.queue tag) }
         ensures slot { tag < slot_count }
-        ensures done { IfOk result (λ done. IsFinished tag payload.now (slot_at self.old.queue.slots tag) self.old self.new done) }
+        ensures done { IfOk result (λ done. IsFinished tag payload.now
+            (slot_at self.old.queue.slots tag) self.old self.new done) }
         ensures not_held { IsErrOf result DriveError.NotHeld
             ↔ (slot_at self.old.queue.slots tag ≡ None) }
         ensures err { OnErr result (self.new ≡ self.old) }

@@ -80,7 +80,8 @@ impl Drive {
     ) -> Result<(Vec<u8>, Option<Why>), AllocError>
         requires { CanExecute command.now }
         ensures kept { OnOk result ((o : Origin) (acts : List Act) → Agrees self.old o acts
-            → Keeps self.new o (executed (facts o (log o acts)) payload.now command.now ∷ log o acts)) }
+            → Keeps self.new o (executed (facts o (log o acts)) payload.now command.now
+            ∷ log o acts)) }
         ensures data { IfOk result (λ r. (o : Origin) (acts : List Act) → Agrees self.old o acts
             → r.0.items ≡ data_of (facts o (log o acts)) command.now) }
         ensures denied { IfOk result (λ r. (o : Origin) (acts : List Act) → Agrees self.old o acts

@@ -21,7 +21,8 @@ IsWriting bytes (fises.PioSetup f) = IsPioSetup bytes f
 abbrev pub IsSpelling : List ℕ → Fis → Type 0
 IsSpelling bytes (fises.H2d f) = IsH2dSpelling bytes f × (length bytes ≡ h2d_length)
 IsSpelling bytes (fises.D2h f) = IsD2h bytes f × (length bytes ≡ d2h_length)
-IsSpelling bytes (fises.SetDeviceBits f) = IsSetDeviceBits bytes f × (length bytes ≡ set_device_bits_length)
+IsSpelling bytes (fises.SetDeviceBits f) =
+    IsSetDeviceBits bytes f × (length bytes ≡ set_device_bits_length)
 IsSpelling bytes (fises.DmaSetup f) = IsDmaSetup bytes f × (length bytes ≡ dma_setup_length)
 IsSpelling bytes (fises.PioSetup f) = IsPioSetup bytes f × (length bytes ≡ pio_setup_length)
 

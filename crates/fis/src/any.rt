@@ -104,9 +104,11 @@ impl Fis {
     pub fn read(bytes: &[u8]) -> Result<Fis, FisError>
         ensures found { IfOk result (λ f. IsWriting bytes.now f) }
         ensures only { (f : Fis) → IsWriting bytes.now f → result ≡ Ok f }
-        ensures followed { (f : Fis) (written rest : List ℕ) → IsWriting written f → bytes.now ≡ written ++ rest → result ≡ Ok f }
+        ensures followed { (f : Fis) (written rest : List ℕ) → IsWriting written f
+            → bytes.now ≡ written ++ rest → result ≡ Ok f }
         ensures unknown { IsErrOf result FisError.UnknownType ↔ IsUnknown bytes.now }
-        ensures short { IsErrOf result FisError.Short ↔ (length bytes.now < least_length bytes.now) }
+        ensures short { IsErrOf result FisError.Short
+            ↔ (length bytes.now < least_length bytes.now) }
     {
         read_front(bytes)
     }

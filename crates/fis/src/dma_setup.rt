@@ -36,7 +36,8 @@ pub struct DmaSetup {
 /// Whether the bytes of no field are zeros.
 fn reserved_clear(bytes: &[u8]) -> bool
     requires { dma_setup_length ≤ length bytes.now }
-    ensures { IsTrue result ↔ AreClear bytes.now (2 ∷ 3 ∷ 12 ∷ 13 ∷ 14 ∷ 15 ∷ 24 ∷ 25 ∷ 26 ∷ 27 ∷ []) }
+    ensures { IsTrue result
+        ↔ AreClear bytes.now (2 ∷ 3 ∷ 12 ∷ 13 ∷ 14 ∷ 15 ∷ 24 ∷ 25 ∷ 26 ∷ 27 ∷ []) }
 {
     bytes[2] == 0
         && bytes[3] == 0

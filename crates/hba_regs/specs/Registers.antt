@@ -96,7 +96,9 @@ fresh = record {
 
 -- PxCMD (3.3.7): CR follows ST, and FR follows FRE.
 abbrev pub command_word : Bool → Bool → ℕ
-command_word running receiving = (if running then running_bit + start_bit else 0) + (if receiving then receiving_bit + receive_bit else 0)
+command_word running receiving =
+    (if running then running_bit + start_bit else 0)
+    + (if receiving then receiving_bit + receive_bit else 0)
 
 -- The word that a register gives.
 abbrev pub word : Regs → Register → ℕ
@@ -152,14 +154,17 @@ written regs FisBase value = record regs { fis_base = bit_and value fis_base_bit
 written regs FisBaseUpper value = regs
 written regs InterruptStatus value = record regs { interrupts = without regs.interrupts value }
 written regs InterruptEnable value = record regs { enabled = value }
-written regs Command value = run (has value start_bit) (record regs { receiving = has value receive_bit })
+written regs Command value =
+    run (has value start_bit) (record regs { receiving = has value receive_bit })
 written regs TaskFile value = regs
 written regs Signature value = regs
 written regs SataStatus value = regs
 written regs SataControl value = record regs { control = value }
 written regs SataError value = record regs { link_errors = without regs.link_errors value }
-written regs Active value = if regs.running then record regs { active = bit_or regs.active value } else regs
-written regs Issue value = if regs.running then record regs { issued = bit_or regs.issued value } else regs
+written regs Active value =
+    if regs.running then record regs { active = bit_or regs.active value } else regs
+written regs Issue value =
+    if regs.running then record regs { issued = bit_or regs.issued value } else regs
 
 -- whether the host can't write it
 abbrev pub is_read_only : Register → Bool

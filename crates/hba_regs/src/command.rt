@@ -27,7 +27,8 @@ impl Flags for PxCmd {
 
     ghost exact = { ⊤ };
 
-    ghost table = { (codes "ST", start_bit) ∷ (codes "FRE", receive_bit) ∷ (codes "FR", receiving_bit) ∷ (codes "CR", running_bit) ∷ [] };
+    ghost table = { (codes "ST", start_bit) ∷ (codes "FRE", receive_bit)
+        ∷ (codes "FR", receiving_bit) ∷ (codes "CR", running_bit) ∷ [] };
 
     ghost set_of = { λ p. p.0 };
 

@@ -28,7 +28,8 @@ impl Flags for PxIs {
 
     ghost exact = { ⊤ };
 
-    ghost table = { (codes "DHRS", 1) ∷ (codes "PSS", 2) ∷ (codes "DSS", 4) ∷ (codes "SDBS", 8) ∷ (codes "TFES", 0x40000000) ∷ [] };
+    ghost table = { (codes "DHRS", 1) ∷ (codes "PSS", 2) ∷ (codes "DSS", 4) ∷ (codes "SDBS", 8)
+        ∷ (codes "TFES", 0x40000000) ∷ [] };
 
     ghost set_of = { λ p. p.0 };
 

@@ -143,7 +143,8 @@ impl PortRegs {
     /// The errors come in this order: `BadOffset`, `ReadOnly`.
     pub fn write(&mut self, offset: u32, value: u32) -> Result<(), RegError>
         ensures exact { self.new ≡ written_at self.old offset value }
-        ensures fault { MatchResult result (λ _. fault_of (register_at offset) ≡ None) (λ e. fault_of (register_at offset) ≡ Some e) }
+        ensures fault { MatchResult result (λ _. fault_of (register_at offset) ≡ None)
+            (λ e. fault_of (register_at offset) ≡ Some e) }
         ensures bad { IsErrOf result RegError.BadOffset ↔ (word_at self.old offset ≡ None) }
         ensures err { OnErr result (self.new ≡ self.old) }
     {
@@ -176,7 +177,12 @@ impl PortRegs {
 
     /// Marks the command of a tag as issued, and as active too where it is queued.
     pub fn set_issue(&mut self, tag: Tag, queued: bool)
-        ensures { self.new ≡ record self.old { active = (if queued then bit_or self.old.active (2 ^ tag) else self.old.active); issued = bit_or self.old.issued (2 ^ tag) } }
+        ensures { self.new ≡ record self.old {
+          active =
+              (if queued then bit_or self.old.active (2 ^ tag) else self.old.active);
+          issued =
+              bit_or self.old.issued (2 ^ tag);
+        } }
     {
         let bit = 1 << tag.number();
         if queued {
@@ -204,6 +210,13 @@ impl PortRegs {
         ensures { result ≡ self.now.status }
     {
         self.status
+    }
+
+    /// The Error field of PxTFD.
+    pub fn error(&self) -> u8
+        ensures { result ≡ self.now.error }
+    {
+        self.error
     }
 
     /// Sets status and error of the device (PxTFD).

@@ -40,7 +40,8 @@ IsDeniedAs f act why =
     ⊎ StartDenied f act why
 
 -- A step at which the drive denied the command that a client put.
-pub record IsDeniedStep (o : Origin) (before : List Step) (step : Step) (client : ℕ) (why : Why) : Type 0 where
+pub record IsDeniedStep (o : Origin) (before : List Step) (step : Step) (client : ℕ)
+    (why : Why) : Type 0 where
   pub tag : ℕ
   pub put : Put
   pub accepts : step ≡ steps.Accept tag

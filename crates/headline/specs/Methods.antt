@@ -44,7 +44,8 @@ use Rattle.headline.specs.Steps.{facts_after, event_after}
 
 -- A step at which the drive takes a call that a client sent: by security protocol 01h, on a ComID of
 -- sessions on which no response waits, in a frame that names a live session.
-pub record IsCallStep (o : Origin) (before : List Step) (step : Step) (session : Begun) (object method : List ℕ) (args : Trees) : Type 0 where
+pub record IsCallStep (o : Origin) (before : List Step) (step : Step) (session : Begun)
+    (object method : List ℕ) (args : Trees) : Type 0 where
   pub tag : ℕ
   pub put : Put
   pub accepts : step ≡ steps.Accept tag
@@ -111,12 +112,16 @@ refused_with why =
     record { deed = Unchanged; said = reply_of [] not_authorized; denied = Some why }
 
 -- The step does so, and leaves its response.
-pub record DoesSo (o : Origin) (before : List Step) (step : Step) (session : Begun) (object method : List ℕ) (args : Trees) (c : IsCallStep o before step session object method args) (x : Outcome) : Type 0 where
+pub record DoesSo (o : Origin) (before : List Step) (step : Step) (session : Begun)
+    (object method : List ℕ) (args : Trees)
+    (c : IsCallStep o before step session object method args) (x : Outcome) : Type 0 where
   pub event : event_after tcg o before step ≡ Some (answers c.com_id c.frame.session x)
 
 -- The columns of a Get: the pairs that it lists are those that have an entry, with the cells that
 -- the session sees; they rise by their columns, and so none is there twice.
-pub record Lists (o : Origin) (before : List Step) (step : Step) (session : Begun) (object method : List ℕ) (args : Trees) (c : IsCallStep o before step session object method args) (first last : ℕ) : Type 0 where
+pub record Lists (o : Origin) (before : List Step) (step : Step) (session : Begun)
+    (object method : List ℕ) (args : Trees)
+    (c : IsCallStep o before step session object method args) (first last : ℕ) : Type 0 where
   pub cells : List (Column × Cell)
   pub says : event_after tcg o before step
       ≡ Some (answers c.com_id c.frame.session
@@ -129,7 +134,9 @@ pub record Lists (o : Origin) (before : List Step) (step : Step) (session : Begu
 -- Of a call of the right shape: with valid values it takes effect exactly where it is granted, and
 -- then does what its method says; where it is not granted it is refused; and a Get that takes effect
 -- lists exactly what has an entry.
-pub record IsJudged (o : Origin) (before : List Step) (step : Step) (session : Begun) (object method : List ℕ) (args : Trees) (c : IsCallStep o before step session object method args) (ask : Ask) : Type 0 where
+pub record IsJudged (o : Origin) (before : List Step) (step : Step) (session : Begun)
+    (object method : List ℕ) (args : Trees)
+    (c : IsCallStep o before step session object method args) (ask : Ask) : Type 0 where
   pub granted : takes_effect (comes_to o before session object ask) ≡ true
       → DoesSo o before step session object method args c
       (outcome_of (facts_after tcg o before) session.sp (comes_to o before session object ask))

@@ -43,7 +43,8 @@ transfer_of (WriteDma lba count) = Some (record { op = ops.Write; lba = lba; cou
 transfer_of _ = None
 
 -- A client put it under a tag, and it is answered so.
-pub record IsAnswered (items : Items) (o : Origin) (list : List Step) (tag : ℕ) (x : Transfer) (a : Answer) : Type 0 where
+pub record IsAnswered (items : Items) (o : Origin) (list : List Step) (tag : ℕ) (x : Transfer)
+    (a : Answer) : Type 0 where
   pub put : Put
   pub stands : stage (trace_of items o list) tag ≡ Answered put
   pub asks : transfer_of put.command ≡ Some x
@@ -63,7 +64,8 @@ IsAllowed ranges x = IsPermitted ranges x.op x.lba x.count
 
 -- What a served transfer gives: a read the sectors of media, or the shadow's bytes where its sectors
 -- are shadowed; a write none.
-pub record GivesBytes (ranges : RangeRows) (f : Facts) (x : Transfer) (bytes : List ℕ) : Type 0 where
+pub record GivesBytes (ranges : RangeRows) (f : Facts) (x : Transfer)
+    (bytes : List ℕ) : Type 0 where
   pub media : x.op ≡ ops.Read → AreOpen ranges x.lba (x.lba + x.count)
       → bytes ≡ sectors_from f.sector x.lba x.count
   pub shadow : x.op ≡ ops.Read → AreShadowed ranges x.lba (x.lba + x.count)
@@ -79,7 +81,8 @@ HaveData past x content =
 -- It is done exactly where it is allowed by the rows in force at its last acceptance, with the bytes
 -- of the act that moved its data, by which media have those of a write; 51h 04h where it is not,
 -- 51h 10h where its addresses leave the drive. An earlier acceptance counts for nothing.
-pub record IsServed (items : Items) (o : Origin) (list : List Step) (tag : ℕ) (x : Transfer) (a : Answer) : Type 0 where
+pub record IsServed (items : Items) (o : Origin) (list : List Step) (tag : ℕ) (x : Transfer)
+    (a : Answer) : Type 0 where
   pub served : IsOnDrive o x
       → IsDone a ↔ IsAllowed (ranges_after items o (before_acceptance list tag)) x
   pub bytes : (bytes : List ℕ) → a ≡ Done bytes

@@ -23,7 +23,8 @@ pub record IsNowhere (o : Origin) (sp : Sp) (object : Uid) (column : Column) : T
   pub opened : look_up o.tables sp object column ≡ None
   pub factory : factory_rows o sp object column ≡ None
 
-pub record HasNone (o : Origin) (past : List Event) (sp : Sp) (object : Uid) (column : Column) : Type 0 where
+pub record HasNone (o : Origin) (past : List Event) (sp : Sp) (object : Uid)
+    (column : Column) : Type 0 where
   pub rows : in_force o past sp object column ≡ None
   pub views : (number : ℕ) → view o past number sp object column ≡ None
 

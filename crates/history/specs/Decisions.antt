@@ -135,7 +135,8 @@ receive f protocol com_id blocks =
 
 abbrev pub unqueued_of : Items → Facts → List ℕ → Command → Event
 unqueued_of items f payload (ReadDma lba count) = unqueued_transfer f Nothing Read lba count
-unqueued_of items f payload (WriteDma lba count) = unqueued_transfer f (Wrote lba payload) Write lba count
+unqueued_of items f payload (WriteDma lba count) =
+    unqueued_transfer f (Wrote lba payload) Write lba count
 unqueued_of items f payload (Send protocol com_id blocks dma) =
     if resets f.rows (Send protocol com_id blocks dma) then did (WasReset programmatic)
     else items.sends f protocol com_id blocks payload
@@ -148,10 +149,12 @@ unqueued_of items f payload (WriteQueued lba count) = refuses
 
 -- A command that the mixing of queues does not refuse. A queued one whose FIS has a fault fails the
 -- queue.
-abbrev pub known_of : Items → Facts → RegH2d → List ℕ → Result (Command × Option ℕ) CommandError → Event
+abbrev pub known_of : Items → Facts → RegH2d → List ℕ → Result (Command × Option ℕ) CommandError
+    → Event
 known_of items f h payload (Err e) =
     if is_queued h.command then fails_queue (Some (tag_of h)) aborted h None else refuses
-known_of items f h payload (Ok (command, Some tag)) = admitted f h tag command (is_some (f.held tag))
+known_of items f h payload (Ok (command, Some tag)) =
+    admitted f h tag command (is_some (f.held tag))
 known_of items f h payload (Ok (command, None)) = unqueued_of items f payload command
 
 -- While the queue has failed: log page 10h is read, which ends it.

@@ -75,7 +75,8 @@ pub record AttemptDenied (f : Facts) (act : Act) (why : Why) : Type 0 where
   pub called : IsCall f act session object method args
   pub authority : Uid
   pub pin : List ℕ
-  pub attempts : judgement_on f session (uid_of object) (uid_of method) args ≡ Attempts authority pin
+  pub attempts : judgement_on f session (uid_of object) (uid_of method) args
+      ≡ Attempts authority pin
   pub failure : AttemptFailure
   pub fails : failure_of f.rows session.sp authority pin ≡ Some failure
   pub why_is : why ≡ AttemptFailed session.sp authority failure
@@ -102,7 +103,8 @@ pub record StartDenied (f : Facts) (act : Act) (why : Why) : Type 0 where
 
 abbrev pub IsDenied : Facts → Act → Why → Type 0
 IsDenied f act why =
-    TransferDenied f act why ⊎ MethodDenied f act why ⊎ AttemptDenied f act why ⊎ StartDenied f act why
+    TransferDenied f act why ⊎ MethodDenied f act why ⊎ AttemptDenied f act why
+    ⊎ StartDenied f act why
 
 -- Exactly where it was denied for this reason; the left side has one reason at most.
 abbrev pub DenialLaw : Type 0

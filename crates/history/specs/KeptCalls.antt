@@ -26,7 +26,8 @@ wipes_by (Reverted sp wipes) = wipes
 wipes_by _ = false
 
 -- What is answered, and what is made of the store and of the sessions, is what an outcome says.
-pub record Meets (out : Outcome) (said : Message) (why : Option Why) (wiped : Bool) (s t : Stored) (l m : Live) : Type 0 where
+pub record Meets (out : Outcome) (said : Message) (why : Option Why) (wiped : Bool) (s t : Stored)
+    (l m : Live) : Type 0 where
   pub answer : said ≡ out.said
   pub denied : why ≡ out.denied
   pub wipe : wiped ≡ wipes_by out.deed
@@ -42,7 +43,8 @@ CallLaw =
     → session_on (log o acts) session.sp ≡ Some session
     → m.next ≡ l.next
     → ((n : ℕ) → session_at m n
-    ≡ holder_call s (called_with l (id_of session) object method (values_of args)) n (session_at l n))
+    ≡ holder_call s (called_with l (id_of session) object method (values_of args)) n
+    (session_at l n))
     → Meets
     (outcome_of (facts o (log o acts)) session.sp
     (judgement_on (facts o (log o acts)) session object method args))

@@ -66,12 +66,14 @@ pub record IsSent (f : Facts) (act : Act) (com_id : ℕ) (frame : Frame) : Type 
   pub blocks : ℕ
   pub dma : Bool
   pub looked : IsLookedAt f act (Send protocol com_id blocks dma) None
-  pub taken : (is_trusted protocol blocks && is_session_com_id com_id && not (is_some (f.waiting com_id))) ≡ true
+  pub taken : (is_trusted protocol blocks && is_session_com_id com_id
+      && not (is_some (f.waiting com_id))) ≡ true
   pub framed : frame_in looked.payload ≡ Ok frame
   pub addressed : (frame.com_id == com_id) ≡ true
 
 -- And it has a call to a live session.
-pub record IsCall (f : Facts) (act : Act) (session : Begun) (object method : List ℕ) (args : Trees) : Type 0 where
+pub record IsCall (f : Facts) (act : Act) (session : Begun) (object method : List ℕ)
+    (args : Trees) : Type 0 where
   pub com_id : ℕ
   pub frame : Frame
   pub sent : IsSent f act com_id frame

@@ -149,7 +149,8 @@ done = reply_of [] success
 
 abbrev pub activates : Facts → Outcome
 activates f =
-    says (if is_in_use f.rows Locking then Unchanged else Activated (f.rows Admin c_pin_sid pin_column)) done
+    says (if is_in_use f.rows Locking then Unchanged
+    else Activated (f.rows Admin c_pin_sid pin_column)) done
 
 -- What a judgement does, and how it is answered. Attempts go by the rows in force.
 abbrev pub outcome_of : Facts → Sp → Judgement → Outcome
@@ -225,7 +226,8 @@ received_bytes com_id room (Some response) =
 abbrev pub receive_data : Facts → ℕ → ℕ → List ℕ
 receive_data f com_id room =
     if com_id == discovery_com_id
-    then sized room (discovery f.rows) else sized room (received_bytes com_id room (f.waiting com_id))
+    then sized room (discovery f.rows)
+    else sized room (received_bytes com_id room (f.waiting com_id))
 
 -- The data of a receive and of IDENTIFY DEVICE.
 abbrev pub item_data : Facts → Command → List ℕ

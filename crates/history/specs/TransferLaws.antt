@@ -55,7 +55,8 @@ IsReason ranges op lba count why =
 
 -- The verdict serves exactly what is permitted, and a denial has its reason.
 pub record IsBySectors (ranges : RangeRows) (op : Op) (lba count : ℕ) : Type 0 where
-  pub served : (is_denied (verdict_of ranges op lba count) ≡ false) ↔ IsPermitted ranges op lba count
+  pub served : (is_denied (verdict_of ranges op lba count) ≡ false)
+      ↔ IsPermitted ranges op lba count
   pub reason : (why : Why) → verdict_of ranges op lba count ≡ Denied why
       → IsReason ranges op lba count why
 
@@ -64,13 +65,15 @@ VerdictLaw = (ranges : RangeRows) (op : Op) (lba count : ℕ) → IsBySectors ra
 
 -- A held command was accepted at an act of the list, on the drive, with the verdict of the rows in
 -- force there, which permitted it.
-pub record WasAccepted (items : Items) (o : Origin) (acts : List Act) (tag : ℕ) (h : HeldCommand) : Type 0 where
+pub record WasAccepted (items : Items) (o : Origin) (acts : List Act) (tag : ℕ)
+    (h : HeldCommand) : Type 0 where
   pub before : List Act
   pub later : List Act
   pub fis : List ℕ
   pub payload : List ℕ
   pub place : acts ≡ later ++ Accept fis payload ∷ before
-  pub looked : IsLookedAt (facts o (log_of items o before)) (Accept fis payload) h.command (Some tag)
+  pub looked : IsLookedAt (facts o (log_of items o before)) (Accept fis payload) h.command
+      (Some tag)
   pub op : Op
   pub lba : ℕ
   pub count : ℕ

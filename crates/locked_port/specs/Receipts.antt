@@ -30,12 +30,14 @@ AreNamed history receipts = (k : ℕ) (e : Entry) → slice_get history k ≡ So
 -- In a window of so many steps behind a place: no receipt has the number of an earlier one,
 abbrev pub AreApartIn : ℕ → ℕ → List Receipt → Type 0
 AreApartIn first size receipts = (j : ℕ) (d : Receipt) → j < length receipts
-    → first < (slice_index_or receipts j d).number → (slice_index_or receipts j d).number ≤ first + size
+    → first < (slice_index_or receipts j d).number
+    → (slice_index_or receipts j d).number ≤ first + size
     → IsNew receipts j
 
 -- and each client step has a receipt.
 abbrev pub AreNamedIn : ℕ → ℕ → List Entry → List Receipt → Type 0
-AreNamedIn first size history receipts = (k : ℕ) (e : Entry) → k < size → slice_get history (first + k) ≡ Some e
+AreNamedIn first size history receipts = (k : ℕ) (e : Entry) → k < size
+    → slice_get history (first + k) ≡ Some e
     → is_client e.step ≡ true → IsNamed (first + k + 1) receipts
 
 -- The marks of a window are those of the numbers that the first so many receipts have: none is missing,
@@ -46,9 +48,11 @@ AreThere first receipts many marks = (i p : ℕ) (d : Receipt) → i < many → 
 -- and none is too much.
 abbrev pub AreOnly : ℕ → List Receipt → ℕ → List Bool → Type 0
 AreOnly first receipts many marks = (p : ℕ) → slice_index_or marks p false ≡ true
-    → (i : ℕ) × (r : Receipt) × (i < many) × (slice_index_or receipts i r ≡ r) × (r.number ≡ first + p + 1)
+    → (i : ℕ) × (r : Receipt) × (i < many) × (slice_index_or receipts i r ≡ r)
+    × (r.number ≡ first + p + 1)
 
 -- Each client step is marked that stands at one of the first so many places of a window.
 abbrev pub AreMarked : List Entry → ℕ → List Bool → ℕ → Type 0
-AreMarked history first marks many = (k : ℕ) (e : Entry) → k < many → slice_get history (first + k) ≡ Some e
+AreMarked history first marks many = (k : ℕ) (e : Entry) → k < many
+    → slice_get history (first + k) ≡ Some e
     → is_client e.step ≡ true → slice_index_or marks k false ≡ true

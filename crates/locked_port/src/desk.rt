@@ -173,7 +173,8 @@ impl<L: PortName> Desk<L> {
             (λ o. MatchOption o (self.new.port ≡ self.old.port)
             (λ r. (r.step ≡ steps.Take client ticket.now.tag) × (ticket.now.number < r.number)
             × ((o : Origin) (list : List Step) → PortAgrees self.old.port o list
-            → IsTaken (trace o list) ticket.now.tag r × PortAgrees self.new.port o (r.step ∷ list))))
+            → IsTaken (trace o list) ticket.now.tag r
+            × PortAgrees self.new.port o (r.step ∷ list))))
             (λ _. self.new.port ≡ self.old.port) }
         ensures told { (o : Origin) (list : List Step) → PortAgrees self.old.port o list
             → MatchResult result

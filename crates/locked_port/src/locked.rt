@@ -54,7 +54,8 @@ impl<L: PortName> LockedPort<L> {
         clients: u16,
     ) -> Result<(LockedPort<L>, Vec<Pass<L>>), PortError>
         requires name { blank.name ≡ L.name }
-        requires parts { (blank.parts ≡ L.parts) × (blank.parts ≡ clients + 1) × (L.passes ≡ L.parts) }
+        requires parts { (blank.parts ≡ L.parts) × (blank.parts ≡ clients + 1)
+            × (L.passes ≡ L.parts) }
         requires fresh { Stands port 0 }
         ensures passes { IfOk result (λ made. made.1.items ≡ hands (clients + 1)) }
         ensures memory { IsOkUnless result PortError.OutOfMemory }
@@ -145,7 +146,8 @@ impl<L: PortName> LockedPort<L> {
         ticket: &Ticket,
     ) -> Result<Receipt, PortError>
         ensures hand { MatchResult result
-            (λ r. (r.step ≡ steps.Take pass.old.client ticket.now.tag) × (ticket.now.number < r.number)
+            (λ r. (r.step ≡ steps.Take pass.old.client ticket.now.tag)
+            × (ticket.now.number < r.number)
             × (pass.new ≡ counted pass.old))
             (λ _. pass.new ≡ pass.old) }
         ensures errors { IfErr result (λ e. is_of_wait e ≡ true) }

@@ -112,7 +112,8 @@ impl<L: PortName> Pass<L> {
     pub(crate) fn submit(&mut self, desk: &mut Desk<L>, built: Built) -> Result<Ticket, PortError>
         requires { is_sized built.request ≡ true }
         ensures hand { MatchResult result
-            (λ t. (t.client ≡ self.old.client) × (t.tag ≡ built.tag) × (self.new ≡ counted self.old))
+            (λ t. (t.client ≡ self.old.client) × (t.tag ≡ built.tag)
+            × (self.new ≡ counted self.old))
             (λ _. self.new ≡ self.old) }
         ensures step { MatchResult result
             (λ t. (o : Origin) (list : List Step) → PortAgrees desk.old.port o list
@@ -136,7 +137,8 @@ impl<L: PortName> Pass<L> {
     ) -> Result<Option<Receipt>, PortError>
         ensures hand { MatchResult result
             (λ o. MatchOption o (self.new ≡ self.old)
-            (λ r. (r.step ≡ steps.Take self.old.client ticket.now.tag) × (ticket.now.number < r.number)
+            (λ r. (r.step ≡ steps.Take self.old.client ticket.now.tag)
+            × (ticket.now.number < r.number)
             × (self.new ≡ counted self.old)))
             (λ _. self.new ≡ self.old) }
         ensures step { MatchResult result

@@ -23,7 +23,8 @@ pub fn check_receipts(history: &[Entry], receipts: &[Receipt]) -> bool
 
 /// Whether an entry is what a receipt says.
 fn is_same(entry: &Entry, receipt: &Receipt) -> bool
-    ensures { IsTrue result ↔ (entry.now ≡ record { step = receipt.now.step; reply = receipt.now.reply }) }
+    ensures { IsTrue result
+        ↔ (entry.now ≡ record { step = receipt.now.step; reply = receipt.now.reply }) }
 {
     is_same_step(&entry.step, &receipt.step) && is_same_answer(&entry.reply, &receipt.reply)
 }
@@ -120,7 +121,8 @@ fn is_matched<const SIZE: usize>(history: &[Entry], receipts: &[Receipt], first:
     requires first { first ≤ length history.now }
     ensures apart { IsTrue result → AreApartIn first SIZE receipts.now }
     ensures named { IsTrue result → AreNamedIn first SIZE history.now receipts.now }
-    ensures only { AreApartIn first SIZE receipts.now → AreNamedIn first SIZE history.now receipts.now
+    ensures only { AreApartIn first SIZE receipts.now
+        → AreNamedIn first SIZE history.now receipts.now
         → IsTrue result }
 {
     let mut marks = [false; SIZE];

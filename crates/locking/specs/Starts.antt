@@ -18,7 +18,8 @@ pub record IsStartOf (rows : List RangeRow) (start : Start) : Type 0 where
 -- Its row's sectors end before those that start at `later`.
 abbrev pub EndsBefore : List RangeRow → Start → Start → Type 0
 EndsBefore rows start later =
-    (other : RangeRow) → (row_from rows other start).start + (row_from rows other start).length ≤ later.sector
+    (other : RangeRow) → (row_from rows other start).start + (row_from rows other start).length
+    ≤ later.sector
 
 -- Each is a start, and they rise; a search in their rows finds what a search in all rows finds.
 pub record AreStarts (rows : List RangeRow) (starts : List Start) : Type 0 where
@@ -33,5 +34,6 @@ pub record AddsStart (old new : List Start) (start : Start) : Type 0 where
   pub index : ℕ
   pub within : index ≤ length old
   pub before : (k : ℕ) (d : Start) → k < index → (slice_index_or old k d).sector ≤ start.sector
-  pub behind : (k : ℕ) (d : Start) → index ≤ k → k < length old → start.sector < (slice_index_or old k d).sector
+  pub behind : (k : ℕ) (d : Start) → index ≤ k → k < length old
+      → start.sector < (slice_index_or old k d).sector
   pub added : new ≡ insert old index start

@@ -76,7 +76,8 @@ IsVerdict rows op lba count Shadow = (op ≡ Read) × AreShadowed rows lba (lba 
 IsVerdict rows op lba count (Denied why) =
     (IsShadowDenied rows op lba count × (why ≡ shadow_why op lba count))
     ⊎ (AreOpen rows lba (lba + count)
-    × ((sector : ℕ) × IsLeastDenied rows op lba count sector × (why ≡ why_of op lba count (row_at rows sector).range)))
+    × ((sector : ℕ) × IsLeastDenied rows op lba count sector
+    × (why ≡ why_of op lba count (row_at rows sector).range)))
 
 -- Some of so many sectors from the first on is shadowed; each of them is.
 abbrev pub some_shadowed : RangeRows → ℕ → ℕ → Bool

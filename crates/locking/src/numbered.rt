@@ -42,15 +42,18 @@ impl Model for NumberedRanges {
 
     ghost view = { λ a. a.rows.items };
 
-    ghost invariant = { λ a. AreStarts a.rows.items a.starts.items × (RANGES ≤ vec_capacity a.rows) × (RANGES ≤ vec_capacity a.starts) };
+    ghost invariant = { λ a. AreStarts a.rows.items a.starts.items × (RANGES ≤ vec_capacity a.rows)
+        × (RANGES ≤ vec_capacity a.starts) };
 }
 
 /// How many of the starts stand at or before a sector.
 fn begun_by(starts: &[Start], sector: u64) -> usize
     requires { IsNonDecreasingBy (λ s. s.sector) starts.now }
     ensures bound { result ≤ length starts.now }
-    ensures before { (k : ℕ) (d : Start) → k < result → (slice_index_or starts.now k d).sector ≤ sector }
-    ensures behind { (k : ℕ) (d : Start) → result ≤ k → k < length starts.now → sector < (slice_index_or starts.now k d).sector }
+    ensures before { (k : ℕ) (d : Start) → k < result
+        → (slice_index_or starts.now k d).sector ≤ sector }
+    ensures behind { (k : ℕ) (d : Start) → result ≤ k → k < length starts.now
+        → sector < (slice_index_or starts.now k d).sector }
 {
     starts.partition_point(|start| start.sector <= sector)
 }
@@ -104,7 +107,8 @@ impl NumberedRanges {
     /// Adds a range, which takes no memory: there is room for all.
     pub(crate) fn push(&mut self, row: RangeRow)
         requires room { length self.old < RANGES }
-        requires apart { All (λ other. meets other.start other.length row.start row.length ≡ false) self.old }
+        requires apart { All
+            (λ other. meets other.start other.length row.start row.length ≡ false) self.old }
         ensures { self.new ≡ self.old ++ row ∷ [] }
     {
         let place = add_row(&mut self.rows, row);
@@ -118,7 +122,8 @@ impl NumberedRanges {
     pub(crate) fn piece_at(&self, global: RangeRow, sector: u64) -> Piece
         ensures row { result.row ≡ row_in self.now global sector }
         ensures some { sector < 2 ^ 64 - 1 → sector < result.end }
-        ensures same { (s : ℕ) → sector ≤ s → s < result.end → row_in self.now global s ≡ result.row }
+        ensures same { (s : ℕ) → sector ≤ s → s < result.end
+            → row_in self.now global s ≡ result.row }
     {
         let begun = begun_by(&self.starts, sector);
         if begun > 0 {

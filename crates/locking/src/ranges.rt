@@ -80,7 +80,11 @@ impl Model for Ranges {
 
     ghost Value = { RangeRows };
 
-    ghost view = { λ a. record { global = a.global; numbered = a.numbered; shadowed = a.shadowed } };
+    ghost view = { λ a. record {
+      global = a.global;
+      numbered = a.numbered;
+      shadowed = a.shadowed;
+    } };
 }
 
 impl Ranges {
@@ -92,7 +96,8 @@ impl Ranges {
 
     /// The ranges that the rows describe. It takes room for all of them.
     pub fn of<R: Rows>(alloc: Global, rows: &R) -> Result<Ranges, AllocError>
-        ensures { IfOk result (λ ranges. ranges ≡ ranges_in (R.shadow_sectors rows.now) (R.look_up rows.now)) }
+        ensures { IfOk result
+            (λ ranges. ranges ≡ ranges_in (R.shadow_sectors rows.now) (R.look_up rows.now)) }
     {
         let mut ranges = Ranges {
             global: row_of(rows, 0),
@@ -211,7 +216,8 @@ fn shadow_why(op: Op, lba: u64, count: u32) -> Why
 
 /// A transfer that touches the shadow, by whether it is wholly inside.
 fn judged_inside(op: Op, wholly: bool) -> Judgement
-    ensures { (lba count : ℕ) → verdict_by op lba count result ≡ verdict_inside op lba count wholly }
+    ensures { (lba count : ℕ)
+        → verdict_by op lba count result ≡ verdict_inside op lba count wholly }
 {
     match op {
         Op::Read if wholly => Judgement::GivesShadow,

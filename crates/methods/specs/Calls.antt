@@ -24,15 +24,25 @@ pub record Called : Type 0 where
   pub ask : Option Ask
 
 abbrev pub called : Live → SessionId → Uid → Uid → Option Ask → Called
-called live session object method ask = record { session = session; object = object; method = method; held = held_in live session; ask = ask }
+called live session object method ask =
+    record {
+      session = session;
+      object = object;
+      method = method;
+      held = held_in live session;
+      ask =
+          ask;
+    }
 
 -- the call with these arguments
 abbrev pub called_with : Live → SessionId → Uid → Uid → List Tree → Called
-called_with live session object method args = called live session object method (ask_of session.sp object method args)
+called_with live session object method args =
+    called live session object method (ask_of session.sp object method args)
 
 -- the call that a session sends
 abbrev pub call_in : Live → SessionId → Call → Called
-call_in live session call = called_with live session (uid_of call.object) (uid_of call.method) (map tree call.args.items)
+call_in live session call = called_with live session (uid_of call.object) (uid_of call.method)
+    (map tree call.args.items)
 
 -- why it is denied, and what it does where it is not
 abbrev pub denied_call : Stored → Called → Ask → Option Why
@@ -45,7 +55,8 @@ said_unless (Some why) said = refuses not_authorized (Some why)
 
 abbrev pub said_shaped : Stored → Called → Option Ask → Said
 said_shaped s c None = refuses invalid_parameter None
-said_shaped s c (Some ask) = said_unless (denied_call s c ask) (said_ask s c.session c.object c.held (ask_at c.session.sp c.object ask))
+said_shaped s c (Some ask) = said_unless (denied_call s c ask)
+    (said_ask s c.session c.object c.held (ask_at c.session.sp c.object ask))
 
 abbrev pub said_call : Stored → Called → Said
 said_call s c = said_shaped s c c.ask
@@ -57,7 +68,8 @@ stored_unless_denied (Some why) s t = s
 
 abbrev pub stored_shaped : Stored → Called → Option Ask → Stored
 stored_shaped s c None = s
-stored_shaped s c (Some ask) = stored_unless_denied (denied_call s c ask) s (stored_ask s c.session c.object (ask_at c.session.sp c.object ask))
+stored_shaped s c (Some ask) = stored_unless_denied (denied_call s c ask) s
+    (stored_ask s c.session c.object (ask_at c.session.sp c.object ask))
 
 abbrev pub stored_call : Stored → Called → Stored
 stored_call s c = stored_shaped s c c.ask
@@ -69,7 +81,9 @@ holder_unless (Some why) o p = o
 
 abbrev pub holder_shaped : Stored → Called → Option Ask → ℕ → Option Holder → Option Holder
 holder_shaped s c None n o = o
-holder_shaped s c (Some ask) n o = holder_unless (denied_call s c ask) o (holder_ask s c.session c.object (ask_at c.session.sp c.object ask) n o)
+holder_shaped s c (Some ask) n o =
+    holder_unless (denied_call s c ask) o
+    (holder_ask s c.session c.object (ask_at c.session.sp c.object ask) n o)
 
 abbrev pub holder_call : Stored → Called → ℕ → Option Holder → Option Holder
 holder_call s c n o = holder_shaped s c c.ask n o

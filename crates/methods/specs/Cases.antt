@@ -19,7 +19,9 @@ use Rattle.methods.specs.Laws.{IsAmong}
 
 -- where a method is offered, and its arguments have the shape that it wants, the object's kind has what is asked
 abbrev pub CaseLaw : Type 0
-CaseLaw = (sp : Sp) (object method : Uid) (args : List Tree) (ask : Ask) → is_some (acl_at sp object method) ≡ true → ask_of sp object method args ≡ Some ask → has_ask (kind_of sp object) ask ≡ true
+CaseLaw = (sp : Sp) (object method : Uid) (args : List Tree) (ask : Ask)
+    → is_some (acl_at sp object method) ≡ true → ask_of sp object method args ≡ Some ask
+    → has_ask (kind_of sp object) ask ≡ true
 
 -- the cells of a new drive's SP
 abbrev pub new_cells : Config → Sp → List Item
@@ -32,8 +34,10 @@ HasCell items object k = is_some (item_at items object k) ≡ true
 -- an object has cells in columns of its kind alone; one that has a cell in the first has one in each of them
 pub record HasColumnsOfKind (sp : Sp) (items : List Item) (object : Uid) (k : Column) : Type 0 where
   pub alone : HasCell items object k → IsAmong (columns_of (kind_of sp object)) k
-  pub each : HasCell items object uid_column → IsAmong (columns_of (kind_of sp object)) k → HasCell items object k
+  pub each : HasCell items object uid_column → IsAmong (columns_of (kind_of sp object)) k
+      → HasCell items object k
 
 -- so it is of a new drive
 abbrev pub ColumnLaw : Type 0
-ColumnLaw = (config : Config) (sp : Sp) (object : Uid) (k : Column) → HasColumnsOfKind sp (new_cells config sp) object k
+ColumnLaw = (config : Config) (sp : Sp) (object : Uid) (k : Column)
+    → HasColumnsOfKind sp (new_cells config sp) object k

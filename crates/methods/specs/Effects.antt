@@ -99,7 +99,8 @@ is_inside s session = is_open (part s session.sp).pending session.tsn
 
 -- Get of columns: one list
 abbrev pub columns_said : LookUp → Sp → Uid → ℕ → ℕ → List Uid → Said
-columns_said look sp object first last held = fits (list (trees_of (map cell_value (listed look sp object first last held))) ∷ [])
+columns_said look sp object first last held =
+    fits (list (trees_of (map cell_value (listed look sp object first last held))) ∷ [])
 
 -- so many bytes from a place on
 abbrev pub bytes_from : List ℕ → ℕ → ℕ → List ℕ
@@ -113,13 +114,15 @@ last_row size (Some last) = last
 -- the rows lie within the table, and are not too many for a response
 abbrev pub rows_said : List ℕ → ℕ → ℕ → ℕ → Said
 rows_said bs size first last =
-    if (size == 0) || (nat_le size last || nat_lt last first) then refuses invalid_parameter None else
+    if (size == 0) || (nat_le size last || nat_lt last first)
+    then refuses invalid_parameter None else
     if nat_lt most_response (last + 1 - first) then refuses response_overflow None else
     fits (octets_tree (bytes_from bs first (last + 1 - first)) ∷ [])
 
 -- Get of bytes
 abbrev pub bytes_said : Sight → ℕ → Option ℕ → Said
-bytes_said v first last = rows_said v.bytes (sector_size * v.config.mbr_sectors) first (last_row (sector_size * v.config.mbr_sectors) last)
+bytes_said v first last = rows_said v.bytes (sector_size * v.config.mbr_sectors) first
+    (last_row (sector_size * v.config.mbr_sectors) last)
 
 -- why a setting is refused
 abbrev pub fault_of_setting : Stored → Sp → Setting → Option SetError
@@ -128,7 +131,8 @@ fault_of_setting s sp (bytes_set at bytes) = None
 
 -- why a Set does not make a change: the object's kind has no Set, or the change has a fault
 abbrev pub fault_of_set : Stored → SessionId → Change → Option SetError
-fault_of_set s session change = if has_set (kind_of session.sp (object_of change)) then fault_of_change s session.sp change else Some faults.NoCell
+fault_of_set s session change = if has_set (kind_of session.sp (object_of change))
+    then fault_of_change s session.sp change else Some faults.NoCell
 
 -- the store after a change that has this fault, or none
 abbrev pub stored_after : Option SetError → Sp → Change → Stored → Stored
@@ -154,7 +158,9 @@ valid_setting s sp None = None
 valid_setting s sp (Some st) = unless_fault (fault_of_setting s sp st) st
 
 abbrev pub to_set : Stored → SessionId → Uid → Ask → Option Setting
-to_set s session object ask = valid_setting s session.sp (setting session.sp s.config.mbr_sectors object (kind_of session.sp object) ask)
+to_set s session object ask =
+    valid_setting s session.sp (setting session.sp s.config.mbr_sectors object
+    (kind_of session.sp object) ask)
 
 abbrev pub set_said : Option Setting → Said
 set_said None = refuses invalid_parameter None
@@ -171,7 +177,10 @@ bytes_with (bytes_set at bytes) old = written at bytes old
 
 abbrev pub part_with : Setting → Part → Option Transaction → Part
 part_with st p None = record p { rows = rows_with st p.rows; bytes = bytes_with st p.bytes }
-part_with st p (Some t) = record p { pending = Some (record t { rows = rows_with st t.rows; bytes = bytes_with st t.bytes }) }
+part_with st p (Some t) = record p {
+  pending =
+      Some (record t { rows = rows_with st t.rows; bytes = bytes_with st t.bytes });
+}
 
 abbrev pub set_stored : Stored → Sp → Option Setting → Stored
 set_stored s sp None = s
@@ -192,22 +201,30 @@ sp_of_row object = if object.0 == admin_sp.0 then Admin else Locking
 
 -- the answer
 abbrev pub said_ask : Stored → SessionId → Uid → List Uid → Ask → Said
-said_ask s session object held (GetCells first last) = columns_said (seen_by s session) session.sp object first last held
+said_ask s session object held (GetCells first last) =
+    columns_said (seen_by s session) session.sp object first last held
 said_ask s session object held (GetBytes first last) = bytes_said (sight_of s session) first last
 said_ask s session object held (SetCells ps) = set_said (to_set s session object (SetCells ps))
-said_ask s session object held (SetBytes at bytes) = set_said (to_set s session object (SetBytes at bytes))
-said_ask s session object held (Authenticate authority proof) = said_attempt session.sp authority (attempt s session.sp authority proof)
+said_ask s session object held (SetBytes at bytes) =
+    set_said (to_set s session object (SetBytes at bytes))
+said_ask s session object held (Authenticate authority proof) =
+    said_attempt session.sp authority (attempt s session.sp authority proof)
 said_ask s session object held Activate = unless_inside (is_inside s session) (says [] None false)
-said_ask s session object held Revert = unless_inside (is_inside s session) (says [] None (is_manufactured s))
+said_ask s session object held Revert =
+    unless_inside (is_inside s session) (says [] None (is_manufactured s))
 said_ask s session object held Other = refuses fail None
 
 -- the store
 abbrev pub stored_ask : Stored → SessionId → Uid → Ask → Stored
-stored_ask s session object (SetCells ps) = set_stored s session.sp (to_set s session object (SetCells ps))
-stored_ask s session object (SetBytes at bytes) = set_stored s session.sp (to_set s session object (SetBytes at bytes))
-stored_ask s session object (Authenticate authority proof) = after_attempt session.sp authority (attempt s session.sp authority proof) s
+stored_ask s session object (SetCells ps) =
+    set_stored s session.sp (to_set s session object (SetCells ps))
+stored_ask s session object (SetBytes at bytes) =
+    set_stored s session.sp (to_set s session object (SetBytes at bytes))
+stored_ask s session object (Authenticate authority proof) =
+    after_attempt session.sp authority (attempt s session.sp authority proof) s
 stored_ask s session object Activate = stored_unless (is_inside s session) s (activated s)
-stored_ask s session object Revert = stored_unless (is_inside s session) s (reverted (sp_of_row object) s)
+stored_ask s session object Revert =
+    stored_unless (is_inside s session) s (reverted (sp_of_row object) s)
 stored_ask s session object _ = s
 
 -- the session of each number: a Revert of the Admin SP ends all, one of the Locking SP those on it
@@ -220,9 +237,12 @@ ended_unless true sp o = o
 ended_unless false sp o = ended_by sp o
 
 abbrev pub gaining : Stored → SessionId → Uid → List ℕ → ℕ → Option Holder → Option Holder
-gaining s session authority proof n o = if session.tsn == n then gaining_if (in_force s) authority (attempt s session.sp authority proof) o else o
+gaining s session authority proof n o =
+    if session.tsn == n then gaining_if (in_force s) authority
+    (attempt s session.sp authority proof) o else o
 
 abbrev pub holder_ask : Stored → SessionId → Uid → Ask → ℕ → Option Holder → Option Holder
-holder_ask s session object (Authenticate authority proof) n o = gaining s session authority proof n o
+holder_ask s session object (Authenticate authority proof) n o =
+    gaining s session authority proof n o
 holder_ask s session object Revert n o = ended_unless (is_inside s session) (sp_of_row object) o
 holder_ask s session object _ n o = o

@@ -15,7 +15,8 @@ use Rattle.call_shapes.specs.declared.ask.Ask.TheVariants.{SetCells}
 -- why no ACE allows a method: it is not offered, or none of the ACEs that name the column holds
 abbrev pub why_denied : LookUp → Sp → Uid → Uid → Option Column → Option (List Uid) → Why
 why_denied look sp object method k None = NoAccessRow sp object method
-why_denied look sp object method k (Some row) = NoEntryHolds sp object method k (record { items = naming look sp k (Some row) })
+why_denied look sp object method k (Some row) =
+    NoEntryHolds sp object method k (record { items = naming look sp k (Some row) })
 
 abbrev pub unless_allowed : Option Uid → Why → Option Why
 unless_allowed (Some ace) why = None
@@ -23,7 +24,9 @@ unless_allowed None why = Some why
 
 -- why a method is denied for a column, or for no column in particular; None where an ACE allows it
 abbrev pub denial : LookUp → Sp → Uid → Uid → List Uid → Option Column → Option Why
-denial look sp object method held k = unless_allowed (ace_of look sp object method k held) (why_denied look sp object method k (acl_at sp object method))
+denial look sp object method held k =
+    unless_allowed (ace_of look sp object method k held)
+    (why_denied look sp object method k (acl_at sp object method))
 
 -- the columns for each of which an ACE is wanted: those that Set names; without any, and for all else, any ACE of the
 -- method will do
@@ -38,4 +41,5 @@ first_some (o ∷ os) = option_or o (first_some os)
 
 -- why a call is denied: by the first column, in the call's order, that has no ACE; None where it is granted
 abbrev pub denied : LookUp → Sp → Uid → Uid → List Uid → Ask → Option Why
-denied look sp object method held ask = first_some (map (denial look sp object method held) (wanted ask))
+denied look sp object method held ask =
+    first_some (map (denial look sp object method held) (wanted ask))

@@ -30,17 +30,20 @@ use Rattle.methods.specs.Calls.{Called, said_call, stored_call, holder_call}
 -- true of the authorities held
 abbrev pub EachHasAce : LookUp → Sp → Uid → Uid → List Uid → List (Option Column) → Type 0
 EachHasAce look sp object method held [] = Unit {0}
-EachHasAce look sp object method held (k ∷ ks) = HasAce look sp object method k held × EachHasAce look sp object method held ks
+EachHasAce look sp object method held (k ∷ ks) = HasAce look sp object method k held
+    × EachHasAce look sp object method held ks
 
 -- each column for which a call wants an ACE has one
 abbrev pub IsGranted : LookUp → Sp → Uid → Uid → List Uid → Ask → Type 0
 IsGranted look sp object method held ask = EachHasAce look sp object method held (wanted ask)
 
 abbrev pub GrantLaw : Type 0
-GrantLaw = (look : LookUp) (sp : Sp) (object method : Uid) (held : List Uid) (ask : Ask) → (denied look sp object method held ask ≡ None) ↔ IsGranted look sp object method held ask
+GrantLaw = (look : LookUp) (sp : Sp) (object method : Uid) (held : List Uid) (ask : Ask)
+    → (denied look sp object method held ask ≡ None) ↔ IsGranted look sp object method held ask
 
 -- the reason is that of the first column, in the call's order, that has no ACE
-pub record IsDeniedBy (look : LookUp) (sp : Sp) (object method : Uid) (held : List Uid) (ask : Ask) (why : Why) : Type 0 where
+pub record IsDeniedBy (look : LookUp) (sp : Sp) (object method : Uid) (held : List Uid) (ask : Ask)
+    (why : Why) : Type 0 where
   pub before : List (Option Column)
   pub column : Option Column
   pub after : List (Option Column)
@@ -50,13 +53,17 @@ pub record IsDeniedBy (look : LookUp) (sp : Sp) (object method : Uid) (held : Li
   pub reason : why ≡ why_denied look sp object method column (acl_at sp object method)
 
 abbrev pub DenyLaw : Type 0
-DenyLaw = (look : LookUp) (sp : Sp) (object method : Uid) (held : List Uid) (ask : Ask) (why : Why) → denied look sp object method held ask ≡ Some why → IsDeniedBy look sp object method held ask why
+DenyLaw = (look : LookUp) (sp : Sp) (object method : Uid) (held : List Uid) (ask : Ask) (why : Why)
+    → denied look sp object method held ask ≡ Some why
+    → IsDeniedBy look sp object method held ask why
 
 -- a call takes effect: the answer, the store and the sessions are those of what it asks
 pub record TakesEffect (s : Stored) (c : Called) (ask : Ask) : Type 0 where
-  pub answer : said_call s c ≡ said_ask s c.session c.object c.held (ask_at c.session.sp c.object ask)
+  pub answer : said_call s c ≡ said_ask s c.session c.object c.held
+      (ask_at c.session.sp c.object ask)
   pub store : stored_call s c ≡ stored_ask s c.session c.object (ask_at c.session.sp c.object ask)
-  pub sessions : (n : ℕ) (o : Option Holder) → holder_call s c n o ≡ holder_ask s c.session c.object (ask_at c.session.sp c.object ask) n o
+  pub sessions : (n : ℕ) (o : Option Holder)
+      → holder_call s c n o ≡ holder_ask s c.session c.object (ask_at c.session.sp c.object ask) n o
 
 -- a call is refused for want of an ACE, and changes nothing
 pub record IsRefused (s : Stored) (c : Called) : Type 0 where
@@ -83,7 +90,8 @@ IsAmong (x ∷ xs) y = (x ≡ y) ⊎ IsAmong xs y
 
 -- a column is listed with its cell: the object's kind has the column, it is asked for, it has an ACE, and the cell is
 -- what the session sees there
-pub record IsListed (look : LookUp) (sp : Sp) (object : Uid) (first last : ℕ) (held : List Uid) (k : Column) (cell : Cell) : Type 0 where
+pub record IsListed (look : LookUp) (sp : Sp) (object : Uid) (first last : ℕ) (held : List Uid)
+    (k : Column) (cell : Cell) : Type 0 where
   pub known : IsAmong (columns_of (kind_of sp object)) k
   pub from : first ≤ k.0
   pub to : k.0 ≤ last
@@ -91,7 +99,9 @@ pub record IsListed (look : LookUp) (sp : Sp) (object : Uid) (first last : ℕ) 
   pub in_view : look sp object k ≡ Some cell
 
 abbrev pub ListLaw : Type 0
-ListLaw = (look : LookUp) (sp : Sp) (object : Uid) (first last : ℕ) (held : List Uid) (k : Column) (cell : Cell) → IsAmong {A = Column × Cell} (listed look sp object first last held) (k, cell) ↔ IsListed look sp object first last held k cell
+ListLaw = (look : LookUp) (sp : Sp) (object : Uid) (first last : ℕ) (held : List Uid) (k : Column)
+    (cell : Cell) → IsAmong {A = Column × Cell} (listed look sp object first last held) (k, cell)
+    ↔ IsListed look sp object first last held k cell
 
 -- each number is above those before it
 abbrev pub is_below : ℕ → List Column → Bool
@@ -111,18 +121,28 @@ abbrev pub set_columns_of : Option Kind → List Column
 set_columns_of kind = columns_in (set_types_of kind)
 
 -- the cells are of this object, and each stands in one of these columns
-pub record SetsOnly (object : Uid) (columns : List Column) (target : Uid) (cells : List (Column × Cell)) : Type 0 where
+pub record SetsOnly (object : Uid) (columns : List Column) (target : Uid)
+    (cells : List (Column × Cell)) : Type 0 where
   pub object_is : target ≡ object
-  pub column_is : (k : Column) (cell : Cell) → IsAmong {A = Column × Cell} cells (k, cell) → IsAmong columns k
+  pub column_is : (k : Column) (cell : Cell) → IsAmong {A = Column × Cell} cells (k, cell)
+      → IsAmong columns k
 
 -- a call sets cells of its own object alone, and in columns that Set takes of the object's kind
 abbrev pub SetLaw : Type 0
-SetLaw = (sp : Sp) (mbr_sectors : ℕ) (object target : Uid) (ask : Ask) (cells : List (Column × Cell)) → setting sp mbr_sectors object (kind_of sp object) ask ≡ Some (cells_set target cells) → SetsOnly object (set_columns_of (kind_of sp object)) target cells
+SetLaw = (sp : Sp) (mbr_sectors : ℕ) (object target : Uid) (ask : Ask)
+    (cells : List (Column × Cell)) → setting sp mbr_sectors object (kind_of sp object) ask
+    ≡ Some (cells_set target cells)
+    → SetsOnly object (set_columns_of (kind_of sp object)) target cells
 
 -- of a C_PIN row it sets the PIN alone: no Set changes a TryLimit, a Tries or a UID
 abbrev pub PinLaw : Type 0
-PinLaw = (sp : Sp) (mbr_sectors : ℕ) (object target : Uid) (ask : Ask) (cells : List (Column × Cell)) → kind_of sp object ≡ Some kinds.CPin → setting sp mbr_sectors object (kind_of sp object) ask ≡ Some (cells_set target cells) → SetsOnly object (pin_column ∷ []) target cells
+PinLaw = (sp : Sp) (mbr_sectors : ℕ) (object target : Uid) (ask : Ask)
+    (cells : List (Column × Cell)) → kind_of sp object ≡ Some kinds.CPin
+    → setting sp mbr_sectors object (kind_of sp object) ask ≡ Some (cells_set target cells)
+    → SetsOnly object (pin_column ∷ []) target cells
 
 -- what is stored is what the call sets
 abbrev pub StoreLaw : Type 0
-StoreLaw = (s : Stored) (session : SessionId) (object : Uid) (ask : Ask) (set : Setting) → to_set s session object ask ≡ Some set → setting session.sp s.config.mbr_sectors object (kind_of session.sp object) ask ≡ Some set
+StoreLaw = (s : Stored) (session : SessionId) (object : Uid) (ask : Ask) (set : Setting)
+    → to_set s session object ask ≡ Some set
+    → setting session.sp s.config.mbr_sectors object (kind_of session.sp object) ask ≡ Some set

@@ -19,7 +19,8 @@ is_asked first last k = nat_le first k.0 && nat_le k.0 last
 
 -- the column is asked for, and has an ACE: one that names it and whose expression holds
 abbrev pub is_listed : LookUp → Sp → Uid → (first last : ℕ) → List Uid → Column → Bool
-is_listed look sp object first last held k = is_asked first last k && is_some (ace_of look sp object get (Some k) held)
+is_listed look sp object first last held k =
+    is_asked first last k && is_some (ace_of look sp object get (Some k) held)
 
 -- a column with its value, where there is one
 abbrev pub shown : Column → Option Cell → List (Column × Cell)
@@ -27,12 +28,16 @@ shown k None = []
 shown k (Some value) = (k, value) ∷ []
 
 -- those of these columns that are listed and exist, each with its value
-unfoldable pub listed_among : LookUp → Sp → Uid → (first last : ℕ) → List Uid → List Column → List (Column × Cell)
-listed_among look sp object first last held columns = flat_map (λ k. shown k (look sp object k)) (filter (is_listed look sp object first last held) columns)
+unfoldable pub listed_among : LookUp → Sp → Uid → (first last : ℕ) → List Uid → List Column
+    → List (Column × Cell)
+listed_among look sp object first last held columns =
+    flat_map (λ k. shown k (look sp object k))
+    (filter (is_listed look sp object first last held) columns)
 
 -- the columns of the object that Get lists, rising, each with its value
 abbrev pub listed : LookUp → Sp → Uid → (first last : ℕ) → List Uid → List (Column × Cell)
-listed look sp object first last held = listed_among look sp object first last held (columns_of (kind_of sp object))
+listed look sp object first last held =
+    listed_among look sp object first last held (columns_of (kind_of sp object))
 
 -- how Get writes one
 abbrev pub cell_value : Column × Cell → Tree

@@ -32,12 +32,17 @@ refuses status why = record { answer = reply_of [] status; denied = why; wipe = 
 
 -- these results, where a response can carry them
 unfoldable pub fits : List Tree → Said
-fits results = if is_carried (reply_of results success) then says results None false else refuses response_overflow None
+fits results = if is_carried (reply_of results success) then says results None false
+    else refuses response_overflow None
 
 -- the answer to an attempt that fails so, or is right
 abbrev pub said_attempt : Sp → Uid → Option AttemptFailure → Said
 said_attempt sp authority None = says (number 1 ∷ []) None false
-said_attempt sp authority (Some LockedOut) = refuses authority_locked_out (Some (AttemptFailed sp authority LockedOut))
-said_attempt sp authority (Some WrongPin) = says (number 0 ∷ []) (Some (AttemptFailed sp authority WrongPin)) false
-said_attempt sp authority (Some Disabled) = says (number 0 ∷ []) (Some (AttemptFailed sp authority Disabled)) false
-said_attempt sp authority (Some Unknown) = says (number 0 ∷ []) (Some (AttemptFailed sp authority Unknown)) false
+said_attempt sp authority (Some LockedOut) =
+    refuses authority_locked_out (Some (AttemptFailed sp authority LockedOut))
+said_attempt sp authority (Some WrongPin) =
+    says (number 0 ∷ []) (Some (AttemptFailed sp authority WrongPin)) false
+said_attempt sp authority (Some Disabled) =
+    says (number 0 ∷ []) (Some (AttemptFailed sp authority Disabled)) false
+said_attempt sp authority (Some Unknown) =
+    says (number 0 ∷ []) (Some (AttemptFailed sp authority Unknown)) false

@@ -32,8 +32,10 @@ abbrev pub cell_for : List (Column × ColumnType) → ℕ × Tree → Option (Co
 cell_for types p = with_column (col p.0) (cell_as (type_at types (col p.0)) p.1)
 
 -- the cells that are assigned, in their order, where each column takes its value
-unfoldable pub cells_for : List (Column × ColumnType) → List (ℕ × Tree) → Option (List (Column × Cell))
-cells_for types ps = if list_all (λ p. is_some (cell_for types p)) ps then Some (filter_map (cell_for types) ps) else None
+unfoldable pub cells_for : List (Column × ColumnType) → List (ℕ × Tree)
+    → Option (List (Column × Cell))
+cells_for types ps = if list_all (λ p. is_some (cell_for types p)) ps
+    then Some (filter_map (cell_for types) ps) else None
 
 -- the bytes stand within the byte table
 abbrev pub is_within : ℕ → ℕ → List ℕ → Bool
@@ -56,7 +58,8 @@ cells_of_ask object types _ = None
 -- Set of bytes, within the table, which is of the Locking SP
 abbrev pub bytes_of_ask : Sp → ℕ → Ask → Option Setting
 bytes_of_ask Admin mbr_sectors ask = None
-bytes_of_ask Locking mbr_sectors (SetBytes at bytes) = if is_within mbr_sectors at bytes then Some (bytes_set at bytes) else None
+bytes_of_ask Locking mbr_sectors (SetBytes at bytes) =
+    if is_within mbr_sectors at bytes then Some (bytes_set at bytes) else None
 bytes_of_ask Locking mbr_sectors _ = None
 
 -- what a call sets, by the kind of its object; None where a value is none that its place takes

@@ -187,7 +187,8 @@ pub(crate) fn authenticate(
     ensures outcome { IfOk result (λ out. said_seen out
         ≡ said_attempt session.sp authority (attempt store.old session.sp authority proof.now)) }
     ensures store { OnOk result (store.new
-        ≡ after_attempt session.sp authority (attempt store.old session.sp authority proof.now) store.old) }
+        ≡ after_attempt session.sp authority (attempt store.old session.sp authority proof.now)
+        store.old) }
     ensures unchanged { IfOk result (λ out. out.changes ≡ false → store.new ≡ store.old) }
     ensures points { OnOk result ((n : ℕ) → session_at sessions.new n
         ≡ gaining store.old session authority proof.now n (session_at sessions.old n)) }

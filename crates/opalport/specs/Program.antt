@@ -19,13 +19,16 @@ use Rattle.opalport.specs.CommandLine.{Asked, run, level0, threads, tokens, aske
 -- the texts write a configuration within the limits
 abbrev pub Opens : Text → Text → Text → Type 0
 Opens sectors shadow msid =
-    (config : Config) × WritesConfig sectors shadow msid config × IsWithinLimits config.sectors config.mbr_sectors config.msid
+    (config : Config) × WritesConfig sectors shadow msid config
+    × IsWithinLimits config.sectors config.mbr_sectors config.msid
 
 -- the script prints what it comes to on the drive of the options; where the options open no
 -- drive, the status is 2, and nothing is printed
-abbrev pub RunEnds : Text → Text → Text → Option (List ℕ) → ℕ → Option (List ℕ) → Option (List ℕ) → Type 0
+abbrev pub RunEnds : Text → Text → Text → Option (List ℕ) → ℕ → Option (List ℕ) → Option (List ℕ)
+    → Type 0
 RunEnds sectors shadow msid input status old new =
-    ((config : Config) × WritesConfig sectors shadow msid config × IsWithinLimits config.sectors config.mbr_sectors config.msid
+    ((config : Config) × WritesConfig sectors shadow msid config
+    × IsWithinLimits config.sectors config.mbr_sectors config.msid
     × ScriptYields config input status old new)
     ⊎ ((Opens sectors shadow msid → ⊥) × (status ≡ 2) × (new ≡ old))
 
@@ -33,20 +36,24 @@ RunEnds sectors shadow msid input status old new =
 -- is printed
 abbrev pub Level0Ends : Text → Text → Text → ℕ → Option (List ℕ) → Option (List ℕ) → Type 0
 Level0Ends sectors shadow msid status old new =
-    ((config : Config) × WritesConfig sectors shadow msid config × IsWithinLimits config.sectors config.mbr_sectors config.msid
+    ((config : Config) × WritesConfig sectors shadow msid config
+    × IsWithinLimits config.sectors config.mbr_sectors config.msid
     × (status ≡ 0) × Appends old new (level0_text config))
     ⊎ ((Opens sectors shadow msid → ⊥) × (status ≡ 2) × (new ≡ old))
 
 -- the clients ran, and what they tell is printed; where the texts write no load, the status is 2, and nothing is printed
 abbrev pub ThreadsEnd : Text → Text → ℕ → Option (List ℕ) → Option (List ℕ) → Type 0
 ThreadsEnd clients_text rounds_text status old new =
-    ((clients : ℕ) × (rounds : ℕ) × WritesLoad clients_text rounds_text clients rounds × Ran clients rounds status old new)
-    ⊎ ((fault : LoadFault) × IsFirstFault clients_text rounds_text fault × (status ≡ 2) × (new ≡ old))
+    ((clients : ℕ) × (rounds : ℕ) × WritesLoad clients_text rounds_text clients rounds
+    × Ran clients rounds status old new)
+    ⊎ ((fault : LoadFault) × IsFirstFault clients_text rounds_text fault × (status ≡ 2)
+    × (new ≡ old))
 
 -- the item is printed with status 0; where the text is no hex, the status is 2, and nothing is printed
 abbrev pub TokensEnd : Text → ℕ → Option (List ℕ) → Option (List ℕ) → Type 0
 TokensEnd hex status old new =
-    ((bytes : List ℕ) × (decode_of hex ≡ Ok bytes) × (status ≡ 0) × Appends old new (token_text bytes ++ 10 ∷ []))
+    ((bytes : List ℕ) × (decode_of hex ≡ Ok bytes) × (status ≡ 0)
+    × Appends old new (token_text bytes ++ 10 ∷ []))
     ⊎ ((e : FromHexError) × (decode_of hex ≡ Err e) × (status ≡ 2) × (new ≡ old))
 
 -- help and the version have status 0; any other fault of the words has status 2, and nothing is printed
@@ -58,9 +65,12 @@ pub record Told (kind : ErrorKind) (status : ℕ) (old new : Option (List ℕ)) 
 -- the words ask for something, and this is how it ends
 abbrev pub Serves : Option Asked → Option (List ℕ) → ℕ → Option (List ℕ) → Option (List ℕ) → Type 0
 Serves None input status old new = status ≡ 2
-Serves (Some (run sectors shadow msid)) input status old new = RunEnds sectors shadow msid input status old new
-Serves (Some (level0 sectors shadow msid)) input status old new = Level0Ends sectors shadow msid status old new
-Serves (Some (threads clients rounds)) input status old new = ThreadsEnd clients rounds status old new
+Serves (Some (run sectors shadow msid)) input status old new =
+    RunEnds sectors shadow msid input status old new
+Serves (Some (level0 sectors shadow msid)) input status old new =
+    Level0Ends sectors shadow msid status old new
+Serves (Some (threads clients rounds)) input status old new =
+    ThreadsEnd clients rounds status old new
 Serves (Some (tokens hex)) input status old new = TokensEnd hex status old new
 
 -- the words are no command line, and one of their faults is told

@@ -182,7 +182,8 @@ fn text_of<'a>(matches: &ArgMatches<'a>, id: &str) -> &'a str
 
 /// The options that say which drive.
 fn drive_texts<'a>(matches: &ArgMatches<'a>) -> DriveTexts<'a>
-    ensures sectors { result.sectors.now ≡ text_of (codes "sectors") (rows_of (found_of matches.now)) }
+    ensures sectors { result.sectors.now
+        ≡ text_of (codes "sectors") (rows_of (found_of matches.now)) }
     ensures shadow { result.shadow.now ≡ text_of (codes "shadow") (rows_of (found_of matches.now)) }
     ensures msid { result.msid.now ≡ text_of (codes "msid") (rows_of (found_of matches.now)) }
 {
@@ -195,7 +196,8 @@ fn drive_texts<'a>(matches: &ArgMatches<'a>) -> DriveTexts<'a>
 
 /// The options that say how many clients make how many rounds.
 fn load_texts<'a>(matches: &ArgMatches<'a>) -> LoadTexts<'a>
-    ensures clients { result.clients.now ≡ text_of (codes "clients") (rows_of (found_of matches.now)) }
+    ensures clients { result.clients.now
+        ≡ text_of (codes "clients") (rows_of (found_of matches.now)) }
     ensures rounds { result.rounds.now ≡ text_of (codes "rounds") (rows_of (found_of matches.now)) }
 {
     LoadTexts {
@@ -224,7 +226,8 @@ fn request_in<'a>(matches: &ArgMatches<'a>) -> Option<Request<'a>>
 ///
 /// The words ask for help, are no command line, or an allocation was refused.
 pub fn request_of<'a>(alloc: Global, words: &'a [String]) -> Result<Option<Request<'a>>, Error>
-    ensures asks { IfOk result (λ request. option_map asked request ≡ asked_by (map string_bytes words.now)) }
+    ensures asks { IfOk result (λ request. option_map asked request
+        ≡ asked_by (map string_bytes words.now)) }
     ensures fails { FailsBy (fault_of opalport_line (map string_bytes words.now)) result }
 {
     let matches = command(alloc)?.try_get_matches_from(words)?;

@@ -24,7 +24,9 @@ fn run<R: Read + Drop, W: Write, E: Write>(
     faults: &mut E,
 ) -> Result<u8, RunError>
     ensures most { IfOk result (λ status. status ≤ 2) }
-    ensures ends { IfOk result (λ status. RunEnds drive.now.sectors.now drive.now.shadow.now drive.now.msid.now (R.remaining input) status (W.contents output.old) (W.contents output.new)) }
+    ensures ends { IfOk result (λ status. RunEnds drive.now.sectors.now drive.now.shadow.now
+        drive.now.msid.now (R.remaining input) status (W.contents output.old)
+        (W.contents output.new)) }
 {
     match Options::parse(
         alloc,
@@ -49,7 +51,8 @@ fn level0<W: Write, E: Write>(
     faults: &mut E,
 ) -> Result<u8, RunError>
     ensures most { IfOk result (λ status. status ≤ 2) }
-    ensures ends { IfOk result (λ status. Level0Ends drive.now.sectors.now drive.now.shadow.now drive.now.msid.now
+    ensures ends { IfOk result (λ status. Level0Ends drive.now.sectors.now drive.now.shadow.now
+        drive.now.msid.now
         status (W.contents output.old) (W.contents output.new)) }
 {
     match Options::parse(
@@ -95,7 +98,8 @@ fn tokens<W: Write, E: Write>(
     output: &mut W,
     faults: &mut E,
 ) -> Result<u8, RunError>
-    ensures { IfOk result (λ status. TokensEnd hex.now status (W.contents output.old) (W.contents output.new)) }
+    ensures { IfOk result (λ status. TokensEnd hex.now status (W.contents output.old)
+        (W.contents output.new)) }
 {
     let status = run_tokens_with_faults(alloc, hex, output, faults)?;
     Ok(status)
@@ -107,7 +111,8 @@ fn tell<W: Write, E: Write>(
     output: &mut W,
     faults: &mut E,
 ) -> Result<u8, RunError>
-    ensures told { IfOk result (λ status. Told (kind_of error.now) status (W.contents output.old) (W.contents output.new)) }
+    ensures told { IfOk result (λ status. Told (kind_of error.now) status (W.contents output.old)
+        (W.contents output.new)) }
     ensures memory { IfOk result (λ _. kind_of error.now ≢ ErrorKind.OutOfMemory) }
 {
     match error.kind() {
@@ -142,7 +147,8 @@ pub fn ends<T: Threads + Wait + Sync, R: Read + Drop, W: Write, E: Write>(
     faults: &mut E,
 ) -> Result<u8, RunError>
     ensures most { IfOk result (λ status. status ≤ 2) }
-    ensures ends { IfOk result (λ status. Ends (map string_bytes words.now) (R.remaining input) status (W.contents output.old) (W.contents output.new)) }
+    ensures ends { IfOk result (λ status. Ends (map string_bytes words.now) (R.remaining input)
+        status (W.contents output.old) (W.contents output.new)) }
 {
     match request_of(alloc, words) {
         Ok(Some(Request::Run(drive))) => run(alloc, &drive, input, output, faults),

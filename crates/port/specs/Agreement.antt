@@ -24,7 +24,8 @@ IsLaidAt memory tag (Accepted put) bytes = IsLaid memory tag put.command bytes
 IsLaidAt memory tag (Answered put) bytes = Unit {0}
 
 -- What a port has of a tag: its slot, its answer, and what the host's memory holds for it.
-pub record TagStands (tag : ℕ) (memory : List ℕ) (slot : Stage) (outcome : Option Outcome) (its_stage : Stage) (its_answer : Option Answer) (bytes : List ℕ) : Type 0 where
+pub record TagStands (tag : ℕ) (memory : List ℕ) (slot : Stage) (outcome : Option Outcome)
+    (its_stage : Stage) (its_answer : Option Answer) (bytes : List ℕ) : Type 0 where
   pub stands : slot ≡ its_stage
   pub answers : answer_in memory tag outcome ≡ its_answer
   pub laid : IsLaidAt memory tag its_stage bytes
@@ -48,8 +49,10 @@ pub record PortAgrees (port : State) (o : Origin) (steps : List Step) : Type 0 w
   pub log : port.audit ≡ reverse (audit (trace o steps))
 
 -- Of steps, the oldest first, those before a place are done, and the one there is refused.
-pub record IsStopped (port : State) (o : Origin) (steps : List Step) (at : ℕ) (error : PortError) (list : List Step) : Type 0 where
+pub record IsStopped (port : State) (o : Origin) (steps : List Step) (at : ℕ) (error : PortError)
+    (list : List Step) : Type 0 where
   pub within : at < length steps
   pub before : PortAgrees port o (reverse (take at steps) ++ list)
   pub refused : (step : Step) → slice_get steps at ≡ Some step
-      → IsRefusedBy {A = Unit {0}} (refusal (trace o (reverse (take at steps) ++ list)) step) (Err error)
+      → IsRefusedBy {A = Unit {0}} (refusal (trace o (reverse (take at steps) ++ list)) step)
+      (Err error)

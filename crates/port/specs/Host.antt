@@ -53,7 +53,8 @@ fetched_of put tag = record {
 -- The first of a list that stands at a place among the received FISes.
 abbrev pub first_at : ℕ → List Fis → Option Fis
 first_at place [] = None
-first_at place (fis ∷ later) = if received_place fis == place then Some fis else first_at place later
+first_at place (fis ∷ later) = if received_place fis == place then Some fis
+    else first_at place later
 
 -- Among the received FISes each place has the latest that belongs there, where the newest comes first.
 abbrev pub IsReceived : List ℕ → List Fis → Type 0

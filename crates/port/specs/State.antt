@@ -102,7 +102,8 @@ pub record IsIssued (old new : State) (tag : ℕ) : Type 0 where
   pub audit : new.audit ≡ old.audit
 
 -- The drive did an act, and said this of it.
-pub record Took (old new : DriveState) (fis payload : List ℕ) (answer : DriveAccepted) : Type 0 where
+pub record Took (old new : DriveState) (fis payload : List ℕ)
+    (answer : DriveAccepted) : Type 0 where
   pub drive : (o : Origin) (acts : List Act) → DriveAgrees old o acts
       → DriveAgrees new o (AcceptFis fis payload ∷ acts)
   pub answers : (o : Origin) (acts : List Act) → DriveAgrees old o acts
@@ -123,7 +124,8 @@ executed_outcome fails status error n =
     if fails then outcomes.Failed status error else outcomes.Done n
 
 -- The data of what is executed whole stand in the slot's buffer; a queued command's buffer stays.
-pub record IsFilled (old new : List ℕ) (tag : ℕ) (queued : Bool) (given bytes : List ℕ) : Type 0 where
+pub record IsFilled (old new : List ℕ) (tag : ℕ) (queued : Bool)
+    (given bytes : List ℕ) : Type 0 where
   pub whole : length given ≤ buffer_size → bytes ≡ given
   pub filled : queued ≡ false → front new tag (length bytes) ≡ bytes
   pub kept : queued ≡ true → AreSameButReceived old new

@@ -51,7 +51,8 @@ impl Port {
     pub fn put(&mut self, client: u32, tag: Tag, request: &Request) -> Result<u64, PortError>
         ensures agrees { OnOk result ((o : Origin) (list : List Step) → PortAgrees self.old o list
             → PortAgrees self.new o (steps.Put client tag request.now ∷ list)) }
-        ensures number { IfOk result (λ n. (o : Origin) (list : List Step) → PortAgrees self.old o list
+        ensures number { IfOk result (λ n. (o : Origin) (list : List Step)
+            → PortAgrees self.old o list
             → n ≡ 1 + length (trace o list)) }
         ensures refused { (o : Origin) (list : List Step) → PortAgrees self.old o list
             → IsRefusedBy (refusal (trace o list) (steps.Put client tag request.now)) result }
@@ -61,7 +62,8 @@ impl Port {
     }
 
     fn do_put(&mut self, client: u32, tag: Tag, request: &Request) -> Result<u64, PortError>
-        ensures refused { IsRefusedBy (refusal_on self.old (steps.Put client tag request.now)) result }
+        ensures refused { IsRefusedBy (refusal_on self.old (steps.Put client tag request.now))
+            result }
         ensures number { IfOk result (λ n. n ≡ 1 + length self.old.history) }
         ensures state { OnOk result (IsPut self.old self.new client tag request.now) }
         ensures slot { tag < slot_count }
@@ -97,7 +99,8 @@ impl Port {
     pub fn issue(&mut self, tag: Tag) -> Result<u64, PortError>
         ensures agrees { OnOk result ((o : Origin) (list : List Step) → PortAgrees self.old o list
             → PortAgrees self.new o (steps.Issue tag ∷ list)) }
-        ensures number { IfOk result (λ n. (o : Origin) (list : List Step) → PortAgrees self.old o list
+        ensures number { IfOk result (λ n. (o : Origin) (list : List Step)
+            → PortAgrees self.old o list
             → n ≡ 1 + length (trace o list)) }
         ensures refused { (o : Origin) (list : List Step) → PortAgrees self.old o list
             → IsRefusedBy (refusal (trace o list) (steps.Issue tag)) result }
@@ -135,7 +138,8 @@ impl Port {
     pub fn accept(&mut self, tag: Tag) -> Result<u64, PortError>
         ensures agrees { OnOk result ((o : Origin) (list : List Step) → PortAgrees self.old o list
             → PortAgrees self.new o (steps.Accept tag ∷ list)) }
-        ensures number { IfOk result (λ n. (o : Origin) (list : List Step) → PortAgrees self.old o list
+        ensures number { IfOk result (λ n. (o : Origin) (list : List Step)
+            → PortAgrees self.old o list
             → n ≡ 1 + length (trace o list)) }
         ensures refused { (o : Origin) (list : List Step) → PortAgrees self.old o list
             → IsRefusedBy (refusal (trace o list) (steps.Accept tag)) result }
@@ -146,7 +150,8 @@ impl Port {
 
     fn do_accept(&mut self, tag: Tag) -> Result<u64, PortError>
         ensures refused { ((put : Put) → stage_at self.old.slots tag ≡ Stage.Issued put
-            → (f : Fetched) × (fetched self.old.memory tag ≡ Ok f) × (payload_of f.fis ≤ buffer_size))
+            → (f : Fetched) × (fetched self.old.memory tag ≡ Ok f)
+            × (payload_of f.fis ≤ buffer_size))
             → IsRefusedBy (refusal_on self.old (steps.Accept tag)) result }
         ensures number { IfOk result (λ n. n ≡ 1 + length self.old.history) }
         ensures state { OnOk result ((f : Fetched) → fetched self.old.memory tag ≡ Ok f
@@ -194,7 +199,8 @@ impl Port {
     pub fn complete(&mut self, tag: Tag) -> Result<u64, PortError>
         ensures agrees { OnOk result ((o : Origin) (list : List Step) → PortAgrees self.old o list
             → PortAgrees self.new o (steps.Complete tag ∷ list)) }
-        ensures number { IfOk result (λ n. (o : Origin) (list : List Step) → PortAgrees self.old o list
+        ensures number { IfOk result (λ n. (o : Origin) (list : List Step)
+            → PortAgrees self.old o list
             → n ≡ 1 + length (trace o list)) }
         ensures refused { (o : Origin) (list : List Step) → PortAgrees self.old o list
             → IsRefusedBy (refusal (trace o list) (steps.Complete tag)) result }
@@ -251,9 +257,12 @@ impl Port {
     pub fn take(&mut self, client: u32, tag: Tag) -> Result<(u64, Answer), PortError>
         ensures agrees { OnOk result ((o : Origin) (list : List Step) → PortAgrees self.old o list
             → PortAgrees self.new o (steps.Take client tag ∷ list)) }
-        ensures answer { IfOk result (λ r. (o : Origin) (list : List Step) → PortAgrees self.old o list
-            → (r.0 ≡ 1 + length (trace o list)) × (r.1 ≡ unwrap_or (answer (trace o list) tag) no_bytes)) }
-        ensures served { IfOk result (λ r. (o : Origin) (list : List Step) → PortAgrees self.old o list
+        ensures answer { IfOk result (λ r. (o : Origin) (list : List Step)
+            → PortAgrees self.old o list
+            → (r.0 ≡ 1 + length (trace o list))
+            × (r.1 ≡ unwrap_or (answer (trace o list) tag) no_bytes)) }
+        ensures served { IfOk result (λ r. (o : Origin) (list : List Step)
+            → PortAgrees self.old o list
             → IsServedAnswer o list tag r.1) }
         ensures refused { (o : Origin) (list : List Step) → PortAgrees self.old o list
             → IsRefusedBy (refusal (trace o list) (steps.Take client tag)) result }

@@ -82,17 +82,20 @@ impl Port {
     pub fn put_built(&mut self, client: u32, built: Built) -> Result<u64, (PortError, Built)>
         ensures agrees { OnOk result ((o : Origin) (list : List Step) → PortAgrees self.old o list
             → PortAgrees self.new o (steps.Put client built.tag built.request ∷ list)) }
-        ensures number { IfOk result (λ n. (o : Origin) (list : List Step) → PortAgrees self.old o list
+        ensures number { IfOk result (λ n. (o : Origin) (list : List Step)
+            → PortAgrees self.old o list
             → n ≡ 1 + length (trace o list)) }
         ensures refused { (o : Origin) (list : List Step) → PortAgrees self.old o list
-            → IsGivenBack (refusal (trace o list) (steps.Put client built.tag built.request)) built result }
+            → IsGivenBack (refusal (trace o list) (steps.Put client built.tag built.request)) built
+            result }
         ensures err { OnErr result (self.new ≡ self.old) }
     {
         self.do_put_built(client, built)
     }
 
     fn do_put_built(&mut self, client: u32, built: Built) -> Result<u64, (PortError, Built)>
-        ensures refused { IsGivenBack (refusal_on self.old (steps.Put client built.tag built.request)) built result }
+        ensures refused { IsGivenBack
+            (refusal_on self.old (steps.Put client built.tag built.request)) built result }
         ensures number { IfOk result (λ n. n ≡ 1 + length self.old.history) }
         ensures state { OnOk result (IsPut self.old self.new client built.tag built.request) }
         ensures slot { built.tag < slot_count }

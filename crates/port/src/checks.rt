@@ -80,7 +80,8 @@ impl Port {
     fn running(&self) -> Result<(), PortError>
         ensures { MatchResult result (λ _. (is_full self.now ≡ false) × (self.now.failed ≡ None))
             (λ e. ((is_full self.now ≡ true) × (e ≡ PortError.HistoryFull))
-            ⊎ ((is_full self.now ≡ false) × (is_some self.now.failed ≡ true) × (e ≡ PortError.Failed))) }
+            ⊎ ((is_full self.now ≡ false) × (is_some self.now.failed ≡ true)
+            × (e ≡ PortError.Failed))) }
     {
         self.room()?;
         if self.failed.is_some() {
@@ -98,7 +99,8 @@ impl Port {
 
     /// A request may be put in the slot.
     pub(crate) fn may_put(&self, tag: Tag, request: &Request) -> Result<(), PortError>
-        ensures order { (client : ℕ) → IsTold (refusal_on self.now (steps.Put client tag request.now)) result }
+        ensures order { (client : ℕ)
+            → IsTold (refusal_on self.now (steps.Put client tag request.now)) result }
         ensures sized { IfOk result (λ _. is_sized request.now ≡ true) }
     {
         self.room()?;
@@ -175,7 +177,8 @@ impl Port {
 
     /// The port may be reset.
     pub(crate) fn may_reset(&self) -> Result<(), PortError>
-        ensures { (client : ℕ) (kind : ResetKind) → IsTold (refusal_on self.now (steps.Reset client kind)) result }
+        ensures { (client : ℕ) (kind : ResetKind)
+            → IsTold (refusal_on self.now (steps.Reset client kind)) result }
     {
         self.room()
     }

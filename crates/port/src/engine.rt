@@ -68,7 +68,8 @@ impl Port {
     pub fn play(&mut self, steps: &[Step]) -> Result<(), PlayError>
         ensures done { OnOk result ((o : Origin) (list : List Step) → PortAgrees self.old o list
             → PortAgrees self.new o (reverse steps.now ++ list)) }
-        ensures stops { IfErr result (λ e. (o : Origin) (list : List Step) → PortAgrees self.old o list
+        ensures stops { IfErr result (λ e. (o : Origin) (list : List Step)
+            → PortAgrees self.old o list
             → IsStopped self.new o steps.now e.at e.error list) }
     {
         let mut at = 0;
@@ -90,13 +91,17 @@ impl Port {
     pub fn turn(&mut self, choice: usize) -> Result<Option<u64>, PortError>
         ensures agrees { OnOk result ((o : Origin) (list : List Step) → PortAgrees self.old o list
             → PortAgrees self.new o (with_step (chosen choice (ready o list)) list)) }
-        ensures number { IfOk result (λ n. (o : Origin) (list : List Step) → PortAgrees self.old o list
+        ensures number { IfOk result (λ n. (o : Origin) (list : List Step)
+            → PortAgrees self.old o list
             → n ≡ option_map (λ _. 1 + length (trace o list)) (chosen choice (ready o list))) }
-        ensures idle { (o : Origin) (list : List Step) → PortAgrees self.old o list → ready o list ≡ []
+        ensures idle { (o : Origin) (list : List Step) → PortAgrees self.old o list
+            → ready o list ≡ []
             → (result ≡ Ok None) × (self.new ≡ self.old) }
-        ensures none { (o : Origin) (list : List Step) → PortAgrees self.old o list → result ≡ Ok None
+        ensures none { (o : Origin) (list : List Step) → PortAgrees self.old o list
+            → result ≡ Ok None
             → ready o list ≡ [] }
-        ensures memory { IfErr result (λ e. (o : Origin) (list : List Step) → PortAgrees self.old o list
+        ensures memory { IfErr result (λ e. (o : Origin) (list : List Step)
+            → PortAgrees self.old o list
             → e ≡ PortError.OutOfMemory) }
         ensures err { OnErr result (self.new ≡ self.old) }
     {
@@ -124,7 +129,8 @@ impl Port {
     fn engine_step(&mut self, step: EngineStep) -> Result<u64, PortError>
         ensures agrees { OnOk result ((o : Origin) (list : List Step) → PortAgrees self.old o list
             → PortAgrees self.new o (as_step step ∷ list)) }
-        ensures number { IfOk result (λ n. (o : Origin) (list : List Step) → PortAgrees self.old o list
+        ensures number { IfOk result (λ n. (o : Origin) (list : List Step)
+            → PortAgrees self.old o list
             → n ≡ 1 + length (trace o list)) }
         ensures refused { (o : Origin) (list : List Step) → PortAgrees self.old o list
             → IsRefusedBy (refusal (trace o list) (as_step step)) result }
@@ -140,7 +146,8 @@ impl Port {
 
     /// The steps that the engine may do now: Issue, Accept, Complete and Recover, each by tag.
     pub fn ready(&self) -> ArrayVec<EngineStep, SLOT_COUNT>
-        ensures { (o : Origin) (list : List Step) → PortAgrees self.now o list → result.items ≡ ready o list }
+        ensures { (o : Origin) (list : List Step) → PortAgrees self.now o list
+            → result.items ≡ ready o list }
     {
         self.engine_steps()
     }
@@ -177,7 +184,8 @@ impl Port {
         requires { length ready.old.items
             ≡ count (λ t. is_none (refusal_on self.now (steps.Issue t))) slot_count }
         ensures { ready.new.items ≡ ready.old.items
-            ++ those engine.Accept (λ t. is_none (refusal_on self.now (steps.Accept t))) slot_count }
+            ++ those engine.Accept (λ t. is_none (refusal_on self.now (steps.Accept t)))
+            slot_count }
     {
         for number in 0..SLOT_COUNT as u8 {
             let tag = Tag::low_bits(number);
@@ -193,7 +201,8 @@ impl Port {
             ≡ count (λ t. is_none (refusal_on self.now (steps.Issue t))) slot_count
             + count (λ t. is_none (refusal_on self.now (steps.Accept t))) slot_count }
         ensures { ready.new.items ≡ ready.old.items
-            ++ those engine.Complete (λ t. is_none (refusal_on self.now (steps.Complete t))) slot_count }
+            ++ those engine.Complete (λ t. is_none (refusal_on self.now (steps.Complete t)))
+            slot_count }
     {
         for number in 0..SLOT_COUNT as u8 {
             let tag = Tag::low_bits(number);

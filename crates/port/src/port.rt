@@ -66,7 +66,8 @@ impl Port {
     ///
     /// `OutOfMemory`.
     pub fn new(alloc: Global, drive: Drive) -> Result<Port, PortError>
-        ensures agrees { IfOk result (λ port. (o : Origin) → DriveAgrees drive o [] → PortAgrees port o []) }
+        ensures agrees { IfOk result (λ port. (o : Origin) → DriveAgrees drive o []
+            → PortAgrees port o []) }
         ensures memory { IsOkUnless result PortError.OutOfMemory }
     {
         let port = Port::over(alloc, drive)?;

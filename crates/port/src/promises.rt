@@ -23,11 +23,16 @@ impl Port {
     /// session's own view. `audited`: the log has one line for each denial, in the words of what denied it, and no
     /// other line.
     pub fn headline(&self)
-        ensures transfers { (o : Origin) (list : List Step) → PortAgrees self.now o list → AreServed tcg o list }
-        ensures methods { (o : Origin) (list : List Step) → PortAgrees self.now o list → AreJudged o list }
-        ensures hidden { (o : Origin) (list : List Step) → PortAgrees self.now o list → AreHidden tcg o list }
-        ensures forgotten { (o : Origin) (list : List Step) → PortAgrees self.now o list → AreForgotten tcg o list }
-        ensures audited { (o : Origin) (list : List Step) → PortAgrees self.now o list → IsAudited o list }
+        ensures transfers { (o : Origin) (list : List Step) → PortAgrees self.now o list
+            → AreServed tcg o list }
+        ensures methods { (o : Origin) (list : List Step) → PortAgrees self.now o list
+            → AreJudged o list }
+        ensures hidden { (o : Origin) (list : List Step) → PortAgrees self.now o list
+            → AreHidden tcg o list }
+        ensures forgotten { (o : Origin) (list : List Step) → PortAgrees self.now o list
+            → AreForgotten tcg o list }
+        ensures audited { (o : Origin) (list : List Step) → PortAgrees self.now o list
+            → IsAudited o list }
         ensures log { (o : Origin) (list : List Step) → PortAgrees self.now o list
             → self.now.audit ≡ reverse (audit (trace o list)) }
     {}

@@ -27,7 +27,8 @@ impl Port {
     pub fn recover(&mut self) -> Result<u64, PortError>
         ensures agrees { OnOk result ((o : Origin) (list : List Step) → PortAgrees self.old o list
             → PortAgrees self.new o (steps.Recover ∷ list)) }
-        ensures number { IfOk result (λ n. (o : Origin) (list : List Step) → PortAgrees self.old o list
+        ensures number { IfOk result (λ n. (o : Origin) (list : List Step)
+            → PortAgrees self.old o list
             → n ≡ 1 + length (trace o list)) }
         ensures refused { (o : Origin) (list : List Step) → PortAgrees self.old o list
             → IsRefusedBy (refusal (trace o list) steps.Recover) result }
@@ -70,7 +71,8 @@ impl Port {
     pub fn reset(&mut self, client: u32, kind: ResetKind) -> Result<u64, PortError>
         ensures agrees { OnOk result ((o : Origin) (list : List Step) → PortAgrees self.old o list
             → PortAgrees self.new o (steps.Reset client kind ∷ list)) }
-        ensures number { IfOk result (λ n. (o : Origin) (list : List Step) → PortAgrees self.old o list
+        ensures number { IfOk result (λ n. (o : Origin) (list : List Step)
+            → PortAgrees self.old o list
             → n ≡ 1 + length (trace o list)) }
         ensures refused { (o : Origin) (list : List Step) → PortAgrees self.old o list
             → IsRefusedBy (refusal (trace o list) (steps.Reset client kind)) result }

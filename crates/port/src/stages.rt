@@ -191,7 +191,8 @@ pub(crate) fn recover_slots(
         ≡ recovered (is_tag tag log.now.tag) (stage_at slots.old tag) }
     ensures len { (length slots.new ≡ slot_count) × (length outcomes.new ≡ slot_count) }
     ensures outcomes { (tag : ℕ) → tag < slot_count → outcome_at outcomes.new tag
-        ≡ outcome_recovered (is_tag tag log.now.tag) log.now.status log.now.error (outcome_at outcomes.old tag) }
+        ≡ outcome_recovered (is_tag tag log.now.tag) log.now.status log.now.error
+        (outcome_at outcomes.old tag) }
 {
     let (status, error) = (log.status, log.error);
     for slot in 0..SLOT_COUNT {

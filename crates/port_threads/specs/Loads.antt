@@ -30,10 +30,12 @@ from_1_to most text = but_zero (number_up_to most text)
 -- the texts write both numbers
 abbrev pub WritesLoad : List ℕ → List ℕ → ℕ → ℕ → Type 0
 WritesLoad clients_text rounds_text clients rounds =
-    (from_1_to most_clients clients_text ≡ Some clients) × (from_1_to most_rounds rounds_text ≡ Some rounds)
+    (from_1_to most_clients clients_text ≡ Some clients)
+    × (from_1_to most_rounds rounds_text ≡ Some rounds)
 
 -- the fault is the first one of the texts
 abbrev pub IsFirstFault : List ℕ → List ℕ → LoadFault → Type 0
 IsFirstFault clients_text rounds_text Clients = from_1_to most_clients clients_text ≡ None
 IsFirstFault clients_text rounds_text Rounds =
-    (is_some (from_1_to most_clients clients_text) ≡ true) × (from_1_to most_rounds rounds_text ≡ None)
+    (is_some (from_1_to most_clients clients_text) ≡ true)
+    × (from_1_to most_rounds rounds_text ≡ None)

@@ -19,7 +19,8 @@ abbrev pub filled : ℕ → List ℕ
 filled byte = replicate sector_size byte
 
 -- A transfer: the Put of a request, which answers nothing, and later the Take of its answer under the same tag.
-pub record IsTransfer (client : ℕ) (request : Request) (answer : Answer) (put take : Receipt) : Type 0 where
+pub record IsTransfer (client : ℕ) (request : Request) (answer : Answer)
+    (put take : Receipt) : Type 0 where
   pub tag : ℕ
   pub asked : put.step ≡ steps.Put client tag request
   pub nothing : put.reply ≡ no_bytes
@@ -60,7 +61,8 @@ AreRounds client (suc n) receipts =
 abbrev pub IsRest : ℕ → ℕ → ℕ → List Receipt → Type 0
 IsRest client asked made rest =
     ((made ≡ asked) × (rest ≡ []))
-    ⊎ ((made < asked) × ((length rest < steps_of_round) ⊎ TellsRound client (made % 256) false rest))
+    ⊎ ((made < asked) × ((length rest < steps_of_round)
+    ⊎ TellsRound client (made % 256) false rest))
 
 -- A client that is asked for so many rounds made this many, and has these receipts.
 pub record Made (client asked made : ℕ) (receipts : List Receipt) : Type 0 where
@@ -89,7 +91,8 @@ AreMade (h ∷ next ∷ hs) asked (l ∷ ls) = Made h.client asked l.0 l.1 × Ar
 AreMade _ asked _ = ⊥
 
 -- The rounds and receipts are those of the clients of these passes, which were asked for so many rounds each.
-pub record AreOf (asked : ℕ) (passes : List Hand) (rounds : ℕ) (receipts : List Receipt) : Type 0 where
+pub record AreOf (asked : ℕ) (passes : List Hand) (rounds : ℕ)
+    (receipts : List Receipt) : Type 0 where
   pub logs : List ClientLog
   pub made : AreMade passes asked logs
   pub rounds_are : rounds ≡ rounds_of logs

@@ -12,7 +12,8 @@ use Rattle.port_threads.specs.declared.facts.Facts.{Facts}
 
 -- The receipts are for all client steps of the history, each once and as the history has it.
 abbrev pub AreWhole : List Entry → List Receipt → Type 0
-AreWhole history receipts = AreApart receipts × All (IsShown history) receipts × AreNamed history receipts
+AreWhole history receipts = AreApart receipts × All (IsShown history) receipts
+    × AreNamed history receipts
 
 -- The lines of what a run tells.
 abbrev pub rounds_line : ℕ → List ℕ
@@ -25,12 +26,14 @@ abbrev pub receipts_line : Bool → List ℕ
 receipts_line is_whole = if is_whole then codes "receipts ok\n" else codes "receipts wrong\n"
 
 abbrev pub facts_text : Facts → List ℕ
-facts_text facts = (rounds_line facts.rounds ++ steps_line facts.client_steps) ++ receipts_line facts.receipts
+facts_text facts = (rounds_line facts.rounds ++ steps_line facts.client_steps)
+    ++ receipts_line facts.receipts
 
 -- All rounds were made, no client step is beside them, and the receipts are whole.
 abbrev pub is_right : ℕ → ℕ → Facts → Bool
 is_right clients rounds facts =
-    (facts.rounds == clients * rounds) && (facts.client_steps == steps_of_round * (clients * rounds)) && facts.receipts
+    (facts.rounds == clients * rounds)
+    && (facts.client_steps == steps_of_round * (clients * rounds)) && facts.receipts
 
 -- The facts are those of a port that stands, and of so many clients that were asked for so many rounds each: of what each
 -- made with a pass of its own, and of the receipts of all.

@@ -71,7 +71,8 @@ impl Load {
 
     /// Reads both numbers as they are written on the command line. The first fault is told: `Clients`, `Rounds`.
     pub fn parse(clients: &[u8], rounds: &[u8]) -> Result<Load, LoadFault>
-        ensures read { IfOk result (λ load. WritesLoad clients.now rounds.now load.clients load.rounds) }
+        ensures read { IfOk result (λ load. WritesLoad clients.now rounds.now load.clients
+            load.rounds) }
         ensures fault { IfErr result (λ fault. IsFirstFault clients.now rounds.now fault) }
     {
         let Some(clients) = from_1_to(u64::from(MOST_CLIENTS), clients) else {

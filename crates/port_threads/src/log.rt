@@ -65,7 +65,8 @@ impl Log {
         request: Request,
     ) -> Result<Ticket, PortError>
         ensures steps { MatchResult result
-            (λ ticket. (self.new.receipts.items ≡ self.old.receipts.items ++ put_receipt ticket request ∷ [])
+            (λ ticket. (self.new.receipts.items
+            ≡ self.old.receipts.items ++ put_receipt ticket request ∷ [])
             × (ticket.client ≡ pass.old.client) × Claims ticket.tag (counted pass.old) pass.new)
             (λ _. (self.new.receipts.items ≡ self.old.receipts.items) × (pass.new ≡ pass.old)) }
         ensures one { OnOk result (vec_len self.new.receipts ≡ vec_len self.old.receipts + 1) }
@@ -92,7 +93,8 @@ impl Log {
         bytes: &[u8],
     ) -> Result<bool, PortError>
         ensures steps { MatchResult result
-            (λ is_so. (taken : Receipt) × (self.new.receipts.items ≡ self.old.receipts.items ++ taken ∷ [])
+            (λ is_so. (taken : Receipt)
+            × (self.new.receipts.items ≡ self.old.receipts.items ++ taken ∷ [])
             × (taken.step ≡ steps.Take pass.old.client ticket.tag) × (ticket.number < taken.number)
             × ((is_so ≡ true) ↔ (taken.reply ≡ Done bytes.now))
             × Frees ticket.tag (counted pass.old) pass.new)
@@ -125,7 +127,8 @@ impl Log {
             × (self.new.receipts.items ≡ self.old.receipts.items ++ put ∷ taken ∷ [])
             × IsTransfer pass.old.client request taken.reply put taken
             × ((is_so ≡ true) ↔ (taken.reply ≡ Done bytes.now)))
-            (λ _. (made : List Receipt) × (self.new.receipts.items ≡ self.old.receipts.items ++ made)
+            (λ _. (made : List Receipt)
+            × (self.new.receipts.items ≡ self.old.receipts.items ++ made)
             × (length made < 2)) }
         ensures client { pass.new.client ≡ pass.old.client }
         ensures both { OnOk result (vec_len self.new.receipts ≡ vec_len self.old.receipts + 2) }
@@ -150,12 +153,15 @@ impl Log {
         byte: u8,
     ) -> Result<bool, PortError>
         ensures steps { MatchResult result
-            (λ is_right. (made : List Receipt) × (self.new.receipts.items ≡ self.old.receipts.items ++ made)
+            (λ is_right. (made : List Receipt)
+            × (self.new.receipts.items ≡ self.old.receipts.items ++ made)
             × TellsRound pass.old.client byte is_right made)
-            (λ _. (made : List Receipt) × (self.new.receipts.items ≡ self.old.receipts.items ++ made)
+            (λ _. (made : List Receipt)
+            × (self.new.receipts.items ≡ self.old.receipts.items ++ made)
             × (length made < steps_of_round)) }
         ensures client { pass.new.client ≡ pass.old.client }
-        ensures all { OnOk result (vec_len self.new.receipts ≡ vec_len self.old.receipts + steps_of_round) }
+        ensures all { OnOk result (vec_len self.new.receipts
+            ≡ vec_len self.old.receipts + steps_of_round) }
         ensures least { vec_len self.old.receipts ≤ vec_len self.new.receipts }
     {
         let lba = u64::from(pass.client());
@@ -183,7 +189,8 @@ impl Log {
             × (self.new.receipts.items ≡ self.old.receipts.items ++ rest)
             × ((length rest < steps_of_round) ⊎ TellsRound pass.old.client byte false rest) }
         ensures client { pass.new.client ≡ pass.old.client }
-        ensures all { result ≡ true → vec_len self.new.receipts ≡ vec_len self.old.receipts + steps_of_round }
+        ensures all { result ≡ true → vec_len self.new.receipts
+            ≡ vec_len self.old.receipts + steps_of_round }
         ensures least { vec_len self.old.receipts ≤ vec_len self.new.receipts }
     {
         match self.round(rt, alloc, port, pass, byte) {

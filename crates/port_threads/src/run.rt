@@ -173,7 +173,8 @@ fn run_all<L: PortName + Send + Sync, R: Threads + Wait + Sync>(
     mut passes: Vec<Pass<L>>,
     load: &Load,
 ) -> Result<Works<L>, RunError>
-    ensures made { IfOk result (λ all. AreOf load.now.rounds passes.items all.rounds all.receipts.items) }
+    ensures made { IfOk result (λ all. AreOf load.now.rounds passes.items all.rounds
+        all.receipts.items) }
     ensures passes { IfOk result (λ all. vec_len all.passes ≡ vec_len passes) }
     ensures memory { IfErr result (λ error. error ≡ RunError.Memory) }
 {
@@ -204,7 +205,8 @@ fn facts_of<L: PortName + Send + Sync, R: Threads + Wait + Sync>(
     load: &Load,
 ) -> Result<Facts, RunError>
     requires name { blank.name ≡ L.name }
-    requires parts { (blank.parts ≡ L.parts) × (blank.parts ≡ load.now.clients + 1) × (L.passes ≡ L.parts) }
+    requires parts { (blank.parts ≡ L.parts) × (blank.parts ≡ load.now.clients + 1)
+        × (L.passes ≡ L.parts) }
     ensures told { IfOk result (λ facts. IsTold load.now.clients load.now.rounds facts) }
     ensures memory { IfErr result (λ error. error ≡ RunError.Memory) }
 {
@@ -251,7 +253,8 @@ pub fn run_load<R: Threads + Wait + Sync, W: Write>(
 ) -> Result<u8, RunError>
     requires { blank.parts ≡ load.now.clients + 1 }
     ensures ran { IfOk result (λ status.
-        Ran load.now.clients load.now.rounds status (W.contents output.old) (W.contents output.new)) }
+        Ran load.now.clients load.now.rounds status (W.contents output.old)
+        (W.contents output.new)) }
     ensures errors { IfErr result (λ error. (error ≡ RunError.Memory) ⊎ (error ≡ RunError.Write)) }
 {
     let facts = facts_of::<Brand, R>(rt, alloc, blank, load)?;

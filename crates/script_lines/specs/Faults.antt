@@ -28,7 +28,8 @@ takes fields.PutComPacket word = is_hex_up_to most_send_bytes word
 takes field word = is_numeral word && nat_le (digits_value 10 word) (most_of field)
 
 -- what is wrong with words that stand for these fields, and with those behind them
-abbrev pub in_fields : List Field → (List (List ℕ) → Option LineFault) → List (List ℕ) → Option LineFault
+abbrev pub in_fields : List Field → (List (List ℕ) → Option LineFault) → List (List ℕ)
+    → Option LineFault
 in_fields [] behind words = behind words
 in_fields (field ∷ others) behind [] = Some (Missing field)
 in_fields (field ∷ others) behind (word ∷ words) =
@@ -62,7 +63,8 @@ reset_fields = fields.Client ∷ fields.ResetKind ∷ []
 abbrev pub fields_of : Verb → List Field
 fields_of verbs.Range = range_fields
 fields_of verbs.Read = fields.Client ∷ fields.Tag ∷ fields.Address ∷ fields.Count ∷ []
-fields_of verbs.Write = fields.Client ∷ fields.Tag ∷ fields.Address ∷ fields.Count ∷ fields.Byte ∷ []
+fields_of verbs.Write =
+    fields.Client ∷ fields.Tag ∷ fields.Address ∷ fields.Count ∷ fields.Byte ∷ []
 fields_of verbs.ReadDma = fields.Client ∷ fields.DmaAddress ∷ fields.DmaCount ∷ []
 fields_of verbs.WriteDma = fields.Client ∷ fields.DmaAddress ∷ fields.DmaCount ∷ fields.DmaByte ∷ []
 fields_of verbs.Call =

@@ -64,13 +64,15 @@ if_present field word says = if length word == 0 then Err (Missing field) else s
 
 -- the second step, if the first gave a value
 infixl 10 ◌>>=◌
-abbrev pub ◌>>=◌ : {A B : Type 0} → Result A LineFault → (A → Result B LineFault) → Result B LineFault
+abbrev pub ◌>>=◌ : {A B : Type 0} → Result A LineFault → (A → Result B LineFault)
+    → Result B LineFault
 Ok x >>= f = f x
 Err e >>= f = Err e
 
 -- a word as the number of a field
 abbrev pub number_in : Field → List ℕ → Result ℕ LineFault
-number_in field word = if_present field word (or_fault (Wrong field) (number_up_to (most_of field) word))
+number_in field word =
+    if_present field word (or_fault (Wrong field) (number_up_to (most_of field) word))
 
 abbrev pub flag_of : Result ℕ LineFault → Result Bool LineFault
 flag_of (Ok number) = Ok (number == 1)
@@ -89,4 +91,5 @@ byte_in field word = if_present field word (byte_or_fault field (decode_sized wo
 
 -- bytes written in hex text, at most as many as the field holds
 abbrev pub hex_in : Field → List ℕ → Result (List ℕ) LineFault
-hex_in field word = if_present field word (or_fault (Wrong field) (bytes_up_to (most_of field) word))
+hex_in field word = if_present field word
+    (or_fault (Wrong field) (bytes_up_to (most_of field) word))

@@ -15,4 +15,5 @@ bytes_up_to most text = at_most most (decode_of text)
 
 -- a text is digits alone, two for each of at most so many bytes
 abbrev pub is_hex_up_to : ℕ → List ℕ → Bool
-is_hex_up_to most text = (length text % 2 == 0) && (nat_le (length text / 2) most && list_all is_hex_digit text)
+is_hex_up_to most text =
+    (length text % 2 == 0) && (nat_le (length text / 2) most && list_all is_hex_digit text)

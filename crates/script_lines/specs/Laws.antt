@@ -16,11 +16,13 @@ SomeWordsLaw = (text : List ℕ) → (words : List (List ℕ)) × Spells words t
 
 -- and no others
 abbrev pub OneSpellingLaw : Type 0
-OneSpellingLaw = (text : List ℕ) (words others : List (List ℕ)) → Spells words text → Spells others text → words ≡ others
+OneSpellingLaw = (text : List ℕ) (words others : List (List ℕ)) → Spells words text
+    → Spells others text → words ≡ others
 
 -- the word that the reader finds at a number is the one that the text spells there, and empty behind the last
 abbrev pub WordLaw : Type 0
-WordLaw = (text : List ℕ) (words : List (List ℕ)) → Spells words text → (k : ℕ) → word k text ≡ slice_index_or words k []
+WordLaw = (text : List ℕ) (words : List (List ℕ)) → Spells words text → (k : ℕ)
+    → word k text ≡ slice_index_or words k []
 
 -- two texts that spell the same words
 abbrev pub SpellTheSame : List ℕ → List ℕ → Type 0
@@ -40,17 +42,21 @@ PortHeadLaw = (a b : List ℕ) → SpellTheSame a b → is_port_line a ≡ is_po
 
 -- a text says a line exactly where the words that it spells are those of the line
 abbrev pub GoodLineLaw : Type 0
-GoodLineLaw = (text : List ℕ) (words : List (List ℕ)) (line : Line) → Spells words text → (line_of text ≡ Ok line) ↔ Says line words
+GoodLineLaw = (text : List ℕ) (words : List (List ℕ)) (line : Line) → Spells words text
+    → (line_of text ≡ Ok line) ↔ Says line words
 
 -- in a port script too
 abbrev pub GoodPortLineLaw : Type 0
-GoodPortLineLaw = (text : List ℕ) (words : List (List ℕ)) (line : PortLine) → Spells words text → (port_line_of text ≡ Ok line) ↔ PortSays line words
+GoodPortLineLaw = (text : List ℕ) (words : List (List ℕ)) (line : PortLine) → Spells words text
+    → (port_line_of text ≡ Ok line) ↔ PortSays line words
 
 -- what is wrong with a text is what is wrong with the words that it spells, and nothing is where it says a line
 abbrev pub BadLineLaw : Type 0
-BadLineLaw = (text : List ℕ) (words : List (List ℕ)) → Spells words text → fault_in (line_of text) ≡ wrong_in words
+BadLineLaw = (text : List ℕ) (words : List (List ℕ)) → Spells words text
+    → fault_in (line_of text) ≡ wrong_in words
 
 -- in a port script too
 abbrev pub BadPortLineLaw : Type 0
 BadPortLineLaw =
-    (text : List ℕ) (words : List (List ℕ)) → Spells words text → fault_in (port_line_of text) ≡ wrong_in_port words
+    (text : List ℕ) (words : List (List ℕ)) → Spells words text
+    → fault_in (port_line_of text) ≡ wrong_in_port words

@@ -75,7 +75,8 @@ receive_line rest = do
   ended (after_words 3 rest) (lines.Receive client com_id blocks)
 
 abbrev pub log_line : List ℕ → Result Line LineFault
-log_line rest = number_in fields.Client (word 0 rest) >>= λ client. ended (after_words 1 rest) (lines.Log client)
+log_line rest = number_in fields.Client (word 0 rest) >>= λ client. ended (after_words 1 rest)
+    (lines.Log client)
 
 abbrev pub reset_line : List ℕ → Result Line LineFault
 reset_line rest = do
@@ -85,7 +86,8 @@ reset_line rest = do
 
 abbrev pub tper_reset_line : List ℕ → Result Line LineFault
 tper_reset_line rest =
-    number_in fields.Client (word 0 rest) >>= λ client. ended (after_words 1 rest) (lines.TperReset client)
+    number_in fields.Client (word 0 rest) >>= λ client. ended (after_words 1 rest)
+    (lines.TperReset client)
 
 abbrev pub verb_line : Verb → List ℕ → Result Line LineFault
 verb_line verbs.Range rest = range_line rest
@@ -103,11 +105,13 @@ verb_line verbs.Expect rest = Ok lines.Expect
 
 -- what a line says, or what is wrong with it
 abbrev pub line_of : List ℕ → Result Line LineFault
-line_of text = or_fault UnknownWord (verb_of (first_word text)) >>= λ verb. verb_line verb (after_word text)
+line_of text = or_fault UnknownWord (verb_of (first_word text)) >>= λ verb. verb_line verb
+    (after_word text)
 
 -- the bytes of a line, of which there is one at least, are not too many
 abbrev pub Fits : Line → Type 0
-Fits (lines.Call client com_id session tokens) = (0 < length tokens) × (length tokens ≤ most_call_bytes)
+Fits (lines.Call client com_id session tokens) =
+    (0 < length tokens) × (length tokens ≤ most_call_bytes)
 Fits (lines.Send client com_id packet) = (0 < length packet) × (length packet ≤ most_send_bytes)
 Fits _ = ⊤
 

@@ -198,7 +198,8 @@ port_verb_of word = port_verb_among port_words word
 -- what a line of a port script says, or what is wrong with it
 abbrev pub port_line_of : List ℕ → Result PortLine LineFault
 port_line_of text =
-    or_fault UnknownStep (port_verb_of (first_word text)) >>= λ verb. port_verb_words verb (after_word text)
+    or_fault UnknownStep (port_verb_of (first_word text)) >>= λ verb. port_verb_words verb
+    (after_word text)
 
 -- the word `port` alone
 abbrev pub is_port_line : List ℕ → Bool
@@ -207,7 +208,8 @@ is_port_line text =
 
 -- the bytes of a line, of which there is one at least, are not too many
 abbrev pub FitsPut : PutRequest → Type 0
-FitsPut (requests.Call com_id session tokens) = (0 < length tokens) × (length tokens ≤ most_call_bytes)
+FitsPut (requests.Call com_id session tokens) =
+    (0 < length tokens) × (length tokens ≤ most_call_bytes)
 FitsPut (requests.Send com_id packet) = (0 < length packet) × (length packet ≤ most_send_bytes)
 FitsPut _ = ⊤
 

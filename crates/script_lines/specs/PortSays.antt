@@ -26,21 +26,26 @@ sector_items lba count more = Number fields.PutAddress lba ∷ Number fields.Put
 -- and what is said of it
 abbrev pub request_items : PutRequest → List Item
 request_items (requests.Read lba count) = sector_items lba count []
-request_items (requests.Write lba count byte) = sector_items lba count (Byte fields.PutByte byte ∷ [])
+request_items (requests.Write lba count byte) =
+    sector_items lba count (Byte fields.PutByte byte ∷ [])
 request_items (requests.ReadDma lba count) = sector_items lba count []
-request_items (requests.WriteDma lba count byte) = sector_items lba count (Byte fields.PutByte byte ∷ [])
+request_items (requests.WriteDma lba count byte) =
+    sector_items lba count (Byte fields.PutByte byte ∷ [])
 request_items (requests.Call com_id session tokens) =
     Number fields.PutComId com_id
     ∷ Number fields.PutTperSession session.tsn
     ∷ Number fields.PutHostSession session.hsn
     ∷ Bytes fields.PutTokens tokens
     ∷ []
-request_items (requests.Send com_id packet) = Number fields.PutComId com_id ∷ Bytes fields.PutComPacket packet ∷ []
-request_items (requests.Receive com_id blocks) = Number fields.PutComId com_id ∷ Number fields.PutBlocks blocks ∷ []
+request_items (requests.Send com_id packet) =
+    Number fields.PutComId com_id ∷ Bytes fields.PutComPacket packet ∷ []
+request_items (requests.Receive com_id blocks) =
+    Number fields.PutComId com_id ∷ Number fields.PutBlocks blocks ∷ []
 
 abbrev pub put_items : ℕ → ℕ → PutRequest → List Item
 put_items client tag request =
-    Number fields.Client client ∷ Number fields.Tag tag ∷ Name (request_verb request) ∷ request_items request
+    Number fields.Client client ∷ Number fields.Tag tag ∷ Name (request_verb request)
+    ∷ request_items request
 
 abbrev pub slot_items : ℕ → List Item
 slot_items tag = Number fields.Slot tag ∷ []
@@ -48,13 +53,15 @@ slot_items tag = Number fields.Slot tag ∷ []
 -- these words say a line; behind `expect` any words may stand
 abbrev pub PortSays : PortLine → List (List ℕ) → Type 0
 PortSays (lines.Range row) words = Are (codes "range") (range_items row) words
-PortSays (lines.Put client tag request) words = Are (codes "put") (put_items client tag request) words
+PortSays (lines.Put client tag request) words =
+    Are (codes "put") (put_items client tag request) words
 PortSays (lines.Issue tag) words = Are (codes "issue") (slot_items tag) words
 PortSays (lines.Accept tag) words = Are (codes "accept") (slot_items tag) words
 PortSays (lines.Complete tag) words = Are (codes "complete") (slot_items tag) words
 PortSays lines.Recover words = Are (codes "recover") [] words
 PortSays (lines.Reset client kind) words =
-    Are (codes "reset") (Number fields.Client client ∷ Number fields.ResetKind (reset_number kind) ∷ []) words
+    Are (codes "reset") (Number fields.Client client ∷ Number fields.ResetKind (reset_number kind)
+    ∷ []) words
 PortSays (lines.Take client tag) words =
     Are (codes "take") (Number fields.Client client ∷ Number fields.Tag tag ∷ []) words
 PortSays lines.Expect words = (others : List (List ℕ)) × (words ≡ codes "expect" ∷ others)

@@ -28,7 +28,8 @@ pub record WritesByte (byte high low : ℕ) : Type 0 where
 abbrev pub WritesBytes : List ℕ → List ℕ → Type 0
 WritesBytes [] word = word ≡ []
 WritesBytes (byte ∷ bytes) word =
-    (high low : ℕ) × (rest : List ℕ) × (word ≡ high ∷ low ∷ rest) × WritesByte byte high low × WritesBytes bytes rest
+    (high low : ℕ) × (rest : List ℕ) × (word ≡ high ∷ low ∷ rest) × WritesByte byte high low
+    × WritesBytes bytes rest
 
 -- the name that stands for a verb
 abbrev pub verb_name : Verb → List ℕ
@@ -57,7 +58,8 @@ abbrev pub Writes : Item → List ℕ → Type 0
 Writes (Name verb) word = word ≡ verb_name verb
 Writes (Number field number) word = WritesNumber number word × (number ≤ most_of field)
 Writes (Byte field byte) word = WritesBytes (byte ∷ []) word
-Writes (Bytes field bytes) word = WritesBytes bytes word × (0 < length bytes) × (length bytes ≤ most_of field)
+Writes (Bytes field bytes) word =
+    WritesBytes bytes word × (0 < length bytes) × (length bytes ≤ most_of field)
 
 -- as many words as items, and each writes its item
 abbrev pub WriteEach : List Item → List (List ℕ) → Type 0
@@ -85,11 +87,13 @@ range_items row =
 -- client, tag, first sector and count, and what else
 abbrev pub transfer_items : Transfer → List Item → List Item
 transfer_items t more =
-    Number fields.Client t.client ∷ Number fields.Tag t.tag ∷ Number fields.Address t.lba ∷ Number fields.Count t.count ∷ more
+    Number fields.Client t.client ∷ Number fields.Tag t.tag ∷ Number fields.Address t.lba
+    ∷ Number fields.Count t.count ∷ more
 
 abbrev pub dma_items : DmaTransfer → List Item → List Item
 dma_items t more =
-    Number fields.Client t.client ∷ Number fields.DmaAddress t.lba ∷ Number fields.DmaCount t.count ∷ more
+    Number fields.Client t.client ∷ Number fields.DmaAddress t.lba ∷ Number fields.DmaCount t.count
+    ∷ more
 
 -- a client and a ComID, and what else
 abbrev pub com_items : ℕ → ℕ → List Item → List Item
@@ -97,7 +101,8 @@ com_items client com_id more = Number fields.Client client ∷ Number fields.Com
 
 abbrev pub call_items : Session → List ℕ → List Item
 call_items session tokens =
-    Number fields.TperSession session.tsn ∷ Number fields.HostSession session.hsn ∷ Bytes fields.Tokens tokens ∷ []
+    Number fields.TperSession session.tsn ∷ Number fields.HostSession session.hsn
+    ∷ Bytes fields.Tokens tokens ∷ []
 
 abbrev pub reset_number : Reset → ℕ
 reset_number resets.Power = 0
@@ -111,9 +116,11 @@ Are name items words = (others : List (List ℕ)) × (words ≡ name ∷ others)
 abbrev pub Says : Line → List (List ℕ) → Type 0
 Says (lines.Range row) words = Are (codes "range") (range_items row) words
 Says (lines.Read t) words = Are (codes "read") (transfer_items t []) words
-Says (lines.Write t byte) words = Are (codes "write") (transfer_items t (Byte fields.Byte byte ∷ [])) words
+Says (lines.Write t byte) words =
+    Are (codes "write") (transfer_items t (Byte fields.Byte byte ∷ [])) words
 Says (lines.ReadDma t) words = Are (codes "dread") (dma_items t []) words
-Says (lines.WriteDma t byte) words = Are (codes "dwrite") (dma_items t (Byte fields.DmaByte byte ∷ [])) words
+Says (lines.WriteDma t byte) words =
+    Are (codes "dwrite") (dma_items t (Byte fields.DmaByte byte ∷ [])) words
 Says (lines.Call client com_id session tokens) words =
     Are (codes "call") (com_items client com_id (call_items session tokens)) words
 Says (lines.Send client com_id packet) words =
@@ -122,6 +129,7 @@ Says (lines.Receive client com_id blocks) words =
     Are (codes "recv") (com_items client com_id (Number fields.Blocks blocks ∷ [])) words
 Says (lines.Log client) words = Are (codes "log") (Number fields.Client client ∷ []) words
 Says (lines.Reset client kind) words =
-    Are (codes "reset") (Number fields.Client client ∷ Number fields.ResetKind (reset_number kind) ∷ []) words
+    Are (codes "reset") (Number fields.Client client ∷ Number fields.ResetKind (reset_number kind)
+    ∷ []) words
 Says (lines.TperReset client) words = Are (codes "tper") (Number fields.Client client ∷ []) words
 Says lines.Expect words = (others : List (List ℕ)) × (words ≡ codes "expect" ∷ others)

@@ -12,7 +12,8 @@ use Rattle.script_lines.specs.declared.report.Report.{Report}
 abbrev pub first_bytes : ℕ → ℕ → List ℕ → List ℕ
 first_bytes zero sector bytes = []
 first_bytes (suc sectors) sector bytes =
-    32 ∷ (encode_lower (slice_range bytes (sector_size * sector) (sector_size * sector + 4)) ++ first_bytes sectors (suc sector) bytes)
+    32 ∷ (encode_lower (slice_range bytes (sector_size * sector) (sector_size * sector + 4))
+    ++ first_bytes sectors (suc sector) bytes)
 
 abbrev pub sectors_text : List ℕ → List ℕ
 sectors_text bytes = first_bytes (length bytes / sector_size) 0 bytes
@@ -29,7 +30,8 @@ abbrev pub hex_text : List ℕ → List ℕ
 hex_text bytes = codes "data " ++ encode_lower bytes
 
 abbrev pub failure_text : ℕ → ℕ → List ℕ
-failure_text status error = codes "fail " ++ encode_lower (status ∷ []) ++ codes " " ++ encode_lower (error ∷ [])
+failure_text status error =
+    codes "fail " ++ encode_lower (status ∷ []) ++ codes " " ++ encode_lower (error ∷ [])
 
 abbrev pub audit_text : AuditLine → List ℕ
 audit_text line = codes "audit " ++ line_text line
@@ -59,8 +61,10 @@ pub record Prints (old new : Report) (lines : List (List ℕ)) : Type 0 where
 -- the audit line of a denial
 abbrev pub denial_lines : ℕ → ℕ → Option Why → List (List ℕ)
 denial_lines step client None = []
-denial_lines step client (Some why) = audit_text (record { step = step; client = client; why = why }) ∷ []
+denial_lines step client (Some why) =
+    audit_text (record { step = step; client = client; why = why }) ∷ []
 
 -- what a command that failed prints
 abbrev pub refusal_lines : ℕ → ℕ → ℕ → ℕ → Option Why → List (List ℕ)
-refusal_lines step client status error denied = failure_text status error ∷ denial_lines step client denied
+refusal_lines step client status error denied =
+    failure_text status error ∷ denial_lines step client denied

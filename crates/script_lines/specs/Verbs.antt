@@ -24,7 +24,8 @@ words =
 -- the verb of the first of these that is the same bytes
 abbrev pub verb_among : List (List ℕ × Verb) → List ℕ → Option Verb
 verb_among [] word = None
-verb_among (named ∷ others) word = if bytes_eq word named.0 then Some named.1 else verb_among others word
+verb_among (named ∷ others) word =
+    if bytes_eq word named.0 then Some named.1 else verb_among others word
 
 abbrev pub verb_of : List ℕ → Option Verb
 verb_of word = verb_among words word

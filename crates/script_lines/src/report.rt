@@ -39,7 +39,8 @@ impl Report {
     /// Adds the last line to what is pending.
     fn print_last(&mut self) -> Result<(), AllocError>
         ensures last { self.new.last.items ≡ self.old.last.items }
-        ensures pending { OnOk result (self.new.pending.items ≡ self.old.pending.items ++ self.old.last.items ++ 10 ∷ []) }
+        ensures pending { OnOk result
+            (self.new.pending.items ≡ self.old.pending.items ++ self.old.last.items ++ 10 ∷ []) }
     {
         self.pending.extend_from_slice(&self.last)?;
         self.pending.push(b'\n')?;
@@ -136,7 +137,8 @@ impl Report {
         error: u8,
         denied: Option<Why>,
     ) -> Result<(), AllocError>
-        ensures { OnOk result (Prints self.old self.new (refusal_lines step client status error denied)) }
+        ensures { OnOk result
+            (Prints self.old self.new (refusal_lines step client status error denied)) }
     {
         self.print_failure(status, error)?;
         if let Some(why) = denied {
@@ -181,7 +183,8 @@ impl Report {
     ///
     /// What the writer answers.
     pub fn hand_on<W: Write>(&mut self, output: &mut W) -> io::Result<()>
-        ensures written { OnOk result (Appends (W.contents output.old) (W.contents output.new) self.old.pending.items) }
+        ensures written { OnOk result
+            (Appends (W.contents output.old) (W.contents output.new) self.old.pending.items) }
         ensures cleared { self.new.pending.items ≡ [] }
         ensures last { self.new.last ≡ self.old.last }
     {

@@ -41,7 +41,9 @@ with_tries sp authority n s = at_part sp (part_tries (credential (in_force s) sp
 -- a wrong PIN counts one more, a right one starts anew; an authority with no C_PIN row counts nothing
 abbrev pub after_attempt : Sp → Uid → Option AttemptFailure → Stored → Stored
 after_attempt sp authority None s = with_tries sp authority 0 s
-after_attempt sp authority (Some WrongPin) s = with_tries sp authority (up (number (in_force s) sp (credential (in_force s) sp authority) tries_column)) s
+after_attempt sp authority (Some WrongPin) s =
+    with_tries sp authority
+    (up (number (in_force s) sp (credential (in_force s) sp authority) tries_column)) s
 after_attempt sp authority (Some LockedOut) s = s
 after_attempt sp authority (Some Disabled) s = s
 after_attempt sp authority (Some Unknown) s = s

@@ -34,13 +34,15 @@ is_used_up limit tries = not (limit == 0) && nat_le limit tries
 
 abbrev pub pin_failure : LookUp → Sp → UidType → List ℕ → Option AttemptFailure
 pin_failure look sp pin proof =
-    if is_used_up (number look sp pin try_limit_column) (number look sp pin tries_column) then Some LockedOut else
+    if is_used_up (number look sp pin try_limit_column) (number look sp pin tries_column)
+    then Some LockedOut else
     if is_pin proof (look sp pin pin_column) then None else Some WrongPin
 
 -- how an attempt fails; None where it is right. Anybody needs no PIN
 abbrev pub failure : LookUp → Sp → UidType → List ℕ → Option AttemptFailure
 failure look sp authority proof =
-    if not (is_known sp authority) || (number look sp authority is_class_column == 1) then Some Unknown else
+    if not (is_known sp authority) || (number look sp authority is_class_column == 1)
+    then Some Unknown else
     if not (number look sp authority enabled_column == 1) then Some Disabled else
     if authority.0 == anybody.0 then None else
     pin_failure look sp (credential look sp authority) proof

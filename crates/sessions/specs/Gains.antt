@@ -11,11 +11,13 @@ use Rattle.sessions.specs.Attempts.{uid_in}
 
 -- one more, where it is an authority of the SP and not held yet
 abbrev pub with_authority : Sp → Uid → List Uid → List Uid
-with_authority sp authority held = if is_known sp authority then (if has held authority then held else held ++ authority ∷ []) else held
+with_authority sp authority held = if is_known sp authority
+    then (if has held authority then held else held ++ authority ∷ []) else held
 
 -- an authority and the class that its row names
 abbrev pub gained : LookUp → Sp → Uid → List Uid → List Uid
-gained look sp authority held = with_authority sp (uid_in (look sp authority class_column)) (with_authority sp authority held)
+gained look sp authority held = with_authority sp (uid_in (look sp authority class_column))
+    (with_authority sp authority held)
 
 -- those of a new session: everyone's, and what signed it
 abbrev pub first_held : LookUp → Sp → Uid → List Uid

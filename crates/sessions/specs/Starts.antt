@@ -36,18 +36,24 @@ signing challenged (Some t) = uid_in t
 abbrev pub opening_by : ℕ → Uid → Option Uid → Option (List ℕ) → Option Opening
 opening_by host spid None proof = None
 opening_by host spid (Some authority) None = None
-opening_by host spid (Some authority) (Some proof) = Some (record { host = host; spid = spid; authority = authority; proof = proof })
+opening_by host spid (Some authority) (Some proof) =
+    Some (record { host = host; spid = spid; authority = authority; proof = proof })
 
 abbrev pub opening_named : ℕ → Uid → Option (List (ℕ × Tree)) → Option Opening
 opening_named host spid None = None
-opening_named host spid (Some ps) = opening_by host spid (signing (is_some (value_of host_challenge_parameter ps)) (value_of host_signing_authority_parameter ps)) (bytes_or_empty (value_of host_challenge_parameter ps))
+opening_named host spid (Some ps) =
+    opening_by host spid (signing (is_some (value_of host_challenge_parameter ps))
+    (value_of host_signing_authority_parameter ps))
+    (bytes_or_empty (value_of host_challenge_parameter ps))
 
 -- the number that a host gives its session: 32 bits
 abbrev pub is_host : ℕ → Bool
 is_host n = nat_lt n (2 ^ 32)
 
-abbrev pub opening_from : Option ℕ → Option Uid → Option ℕ → Option (List (ℕ × Tree)) → Option Opening
-opening_from (Some host) (Some spid) (Some writes) named = if is_host host && (writes == 1) then opening_named host spid named else None
+abbrev pub opening_from : Option ℕ → Option Uid → Option ℕ → Option (List (ℕ × Tree))
+    → Option Opening
+opening_from (Some host) (Some spid) (Some writes) named =
+    if is_host host && (writes == 1) then opening_named host spid named else None
 opening_from _ _ _ named = None
 
 -- what a StartSession asks: the host's number, the SP, Write, and at most a challenge and a signing authority
@@ -55,11 +61,14 @@ abbrev pub opening_of : List Tree → Option Opening
 opening_of [] = None
 opening_of (h ∷ []) = None
 opening_of (h ∷ p ∷ []) = None
-opening_of (h ∷ p ∷ w ∷ rest) = opening_from (number_in h) (uid_in p) (number_in w) (options (host_challenge_parameter ∷ host_signing_authority_parameter ∷ []) rest)
+opening_of (h ∷ p ∷ w ∷ rest) =
+    opening_from (number_in h) (uid_in p) (number_in w)
+    (options (host_challenge_parameter ∷ host_signing_authority_parameter ∷ []) rest)
 
 -- the SP that a name names
 abbrev pub sp_named : Uid → Option Sp
-sp_named u = if u.0 == admin_sp.0 then Some Admin else if u.0 == locking_sp.0 then Some Locking else None
+sp_named u = if u.0 == admin_sp.0 then Some Admin else if u.0 == locking_sp.0 then Some Locking
+    else None
 
 abbrev pub row_of_sp : Sp → Uid
 row_of_sp Admin = admin_sp
@@ -97,7 +106,9 @@ host_of (t ∷ ts) = host_among (number_in t)
 
 -- SyncSession of the session manager
 abbrev pub sync_message : ℕ → ℕ → ℕ → Message
-sync_message host tsn status = call (to_be_bytes w64 session_manager.0) (to_be_bytes w64 sync_session.0) (trees_of (number host ∷ number tsn ∷ [])) (status ∷ 0 ∷ 0 ∷ [])
+sync_message host tsn status =
+    call (to_be_bytes w64 session_manager.0) (to_be_bytes w64 sync_session.0)
+    (trees_of (number host ∷ number tsn ∷ [])) (status ∷ 0 ∷ 0 ∷ [])
 
 -- the status of an attempt that fails so
 abbrev pub status_of : AttemptFailure → ℕ
@@ -125,7 +136,14 @@ stored_by authority (Attempted sp f) s = after_attempt sp authority f s
 abbrev pub begun_by : LookUp → ℕ → Opening → StartVerdict → Bool → Option Holder → Option Holder
 begun_by look com_id o (Refused status) is_next before = before
 begun_by look com_id o (Attempted sp (Some f)) is_next before = before
-begun_by look com_id o (Attempted sp None) is_next before = if is_next then Some (record { sp = sp; com_id = com_id; host = o.host; held = first_held look sp o.authority }) else before
+begun_by look com_id o (Attempted sp None) is_next before =
+    if is_next then Some (record {
+      sp = sp;
+      com_id = com_id;
+      host = o.host;
+      held =
+          first_held look sp o.authority;
+    }) else before
 
 abbrev pub next_by : StartVerdict → ℕ → ℕ
 next_by (Refused status) next = next
@@ -141,7 +159,8 @@ abbrev pub stored_with : Option Opening → StartVerdict → Stored → Stored
 stored_with None v s = s
 stored_with (Some o) v s = stored_by o.authority v s
 
-abbrev pub begun_with : LookUp → ℕ → Option Opening → StartVerdict → Bool → Option Holder → Option Holder
+abbrev pub begun_with : LookUp → ℕ → Option Opening → StartVerdict → Bool → Option Holder
+    → Option Holder
 begun_with look com_id None v is_next before = before
 begun_with look com_id (Some o) v is_next before = begun_by look com_id o v is_next before
 
@@ -164,7 +183,8 @@ abbrev pub start_stored : Stored → Live → List Tree → Stored
 start_stored s l args = stored_with (opening_of args) (start_verdict s l args) s
 
 abbrev pub start_at : Stored → Live → ℕ → List Tree → ℕ → Option Holder
-start_at s l com_id args n = begun_with (in_force s) com_id (opening_of args) (start_verdict s l args) (l.next == n) (session_at l n)
+start_at s l com_id args n = begun_with (in_force s) com_id (opening_of args)
+    (start_verdict s l args) (l.next == n) (session_at l n)
 
 abbrev pub start_next : Stored → Live → List Tree → ℕ
 start_next s l args = next_by (start_verdict s l args) l.next

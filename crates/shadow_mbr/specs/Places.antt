@@ -45,10 +45,13 @@ blocks_of places blocks = map (λ e. (e.0, block_at blocks e.1)) places
 pub record AreOwn (places : List (ℕ × ℕ)) (blocks : List (List ℕ)) : Type 0 where
   pub sorted : IsStrictlySortedBy nat_cmp (keys_of places)
   pub below : (sector place : ℕ) → place_at places sector ≡ Some place → place < length blocks
-  pub apart : (s t place : ℕ) → place_at places s ≡ Some place → place_at places t ≡ Some place → s ≡ t
+  pub apart : (s t place : ℕ) → place_at places s ≡ Some place → place_at places t ≡ Some place
+      → s ≡ t
   pub whole : (place : ℕ) → place < length blocks → length (block_at blocks place) ≡ sector_size
 
 -- The listed sectors stand behind one another, from a place on.
 pub record AddsPlaces (old new : List (ℕ × ℕ)) (sectors : List ℕ) (from : ℕ) : Type 0 where
-  pub each : (s : ℕ) → list_any (nat_eq s) sectors ≡ true → (i : ℕ) × (i < length sectors) × (slice_index sectors i ≡ s) × (place_at new s ≡ Some (from + i))
+  pub each : (s : ℕ) → list_any (nat_eq s) sectors ≡ true
+      → (i : ℕ) × (i < length sectors) × (slice_index sectors i ≡ s)
+      × (place_at new s ≡ Some (from + i))
   pub stays : (s : ℕ) → list_any (nat_eq s) sectors ≡ false → place_at new s ≡ place_at old s

@@ -49,7 +49,9 @@ byte_after at bytes before place =
 -- What a sector holds after whole sectors were written from `lba` on, where it held `before`.
 abbrev pub sector_after : ℕ → List ℕ → List ℕ → ℕ → List ℕ
 sector_after lba bytes before sector =
-    if nat_le lba sector && nat_lt sector (lba + length bytes / sector_size) then take sector_size (drop (sector_size * (sector - lba)) bytes)
+    if nat_le lba sector
+    && nat_lt sector (lba + length bytes / sector_size) then take sector_size
+    (drop (sector_size * (sector - lba)) bytes)
     else before
 
 -- The bytes of so many sectors from `lba` on.
@@ -60,7 +62,8 @@ sectors_from holds lba (suc n) = holds lba ++ sectors_from holds (lba + 1) n
 -- The sector of each of so many bytes from `at` on is kept.
 abbrev pub AreKept : Stored → ℕ → ℕ → Type 0
 AreKept stored at len =
-    (place : ℕ) → at ≤ place → place < at + len → is_some (kept_at stored (place / sector_size)) ≡ true
+    (place : ℕ) → at ≤ place → place < at + len
+    → is_some (kept_at stored (place / sector_size)) ≡ true
 
 -- The sector of each of so many bytes from `at` on is among these.
 abbrev pub HaveBlocks : List (ℕ × List ℕ) → ℕ → ℕ → Type 0
@@ -71,7 +74,8 @@ HaveBlocks kept at len =
 -- Whether a sector has one of so many bytes from `at` on.
 abbrev pub has_byte : ℕ → ℕ → ℕ → Bool
 has_byte at len sector =
-    nat_lt 0 len && nat_lt (sector_size * sector) (at + len) && nat_lt at (sector_size * sector + sector_size)
+    nat_lt 0 len && nat_lt (sector_size * sector) (at + len)
+    && nat_lt at (sector_size * sector + sector_size)
 
 -- The sectors from the first to before the end that are not kept are listed.
 abbrev pub ListsMissing : Stored → ℕ → ℕ → List ℕ → Type 0

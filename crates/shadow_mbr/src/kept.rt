@@ -89,7 +89,8 @@ fn write_block(blocks: &mut Vec<Block>, place: usize, from: usize, bytes: &[u8])
 fn write_piece(blocks: &mut Vec<Block>, place: Option<usize>, from: usize, bytes: &[u8])
     requires there { IfSome place (λ p. p < vec_len blocks.old) }
     requires fits { from + length bytes.now ≤ sector_size }
-    ensures { IfSome place (λ p. blocks.new.items ≡ blocks_after blocks.old.items p from bytes.now) }
+    ensures { IfSome place
+        (λ p. blocks.new.items ≡ blocks_after blocks.old.items p from bytes.now) }
 {
     if let Some(place) = place {
         write_block(blocks, place, from, bytes);
@@ -195,7 +196,8 @@ impl Kept {
     ) -> Result<(), AllocError>
         requires { first ≤ end }
         ensures { OnOk result (bytes.new.items
-            ≡ bytes.old.items ++ sectors_from (λ s. unwrap_or (block_in self.now s) zeros) first (end - first)) }
+            ≡ bytes.old.items ++ sectors_from (λ s. unwrap_or (block_in self.now s) zeros) first
+            (end - first)) }
     {
         // Each place has a block: the fields say so once they are used.
         let _ = &self.blocks;

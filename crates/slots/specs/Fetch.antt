@@ -17,11 +17,13 @@ placed memory tag command write len =
 
 -- How many bytes descriptors name, where each is sound: a slot moves no more than a buffer has.
 abbrev pub transfer : List (List ℕ) → Option ℕ
-transfer regions = if list_all is_sound regions && nat_le (bytes_of regions) buffer_size then Some (bytes_of regions) else None
+transfer regions = if list_all is_sound regions
+    && nat_le (bytes_of regions) buffer_size then Some (bytes_of regions) else None
 
 -- The FIS in a table.
 abbrev pub command_fis : List ℕ → ℕ → Option (List ℕ)
-command_fis memory table = if is_command (part memory table h2d_length) then Some (part memory table h2d_length) else None
+command_fis memory table =
+    if is_command (part memory table h2d_length) then Some (part memory table h2d_length) else None
 
 abbrev pub fis_fetched : Option (List ℕ) → Bool → ℕ → Result Fetched FetchError
 fis_fetched None write len = Err BadFis
@@ -36,15 +38,18 @@ abbrev pub header_fetched : List ℕ → List ℕ → Result Fetched FetchError
 header_fetched memory header =
     if not (fis_words header == command_words) then Err BadLength
     else (if not (has_table header) then Err BadAddress
-    else table_fetched (transfer (descriptors memory (table_at header) (entries header))) (command_fis memory (table_at header)) (is_write header))
+    else table_fetched (transfer (descriptors memory (table_at header) (entries header)))
+    (command_fis memory (table_at header)) (is_write header))
 
 -- What a slot holds.
 abbrev pub fetched : List ℕ → ℕ → Result Fetched FetchError
 fetched memory tag = header_fetched memory (part memory (header_place tag) header_size)
 
 -- A slot holds a command: its header and its table are as they are written.
-pub record Holds (memory : List ℕ) (tag : ℕ) (command : List ℕ) (write : Bool) (len : ℕ) : Type 0 where
-  pub header : part memory (header_place tag) header_size ≡ header_bytes write (entries_for len) (table_place tag)
+pub record Holds (memory : List ℕ) (tag : ℕ) (command : List ℕ) (write : Bool)
+    (len : ℕ) : Type 0 where
+  pub header : part memory (header_place tag) header_size
+      ≡ header_bytes write (entries_for len) (table_place tag)
   pub table : part memory (table_place tag) table_size ≡ table_bytes (buffer_place tag) command len
 
 -- a part of so many bytes has none of the others

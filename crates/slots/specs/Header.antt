@@ -25,7 +25,8 @@ write_bit = 64
 -- the place of the command table, and zeros.
 abbrev pub header_bytes : Bool → ℕ → ℕ → List ℕ
 header_bytes write entries table =
-    little_bytes 2 (command_words + write_bit * bit write) ++ little_bytes 2 entries ++ little_bytes 4 0
+    little_bytes 2 (command_words + write_bit * bit write) ++ little_bytes 2 entries
+    ++ little_bytes 4 0
     ++ little_bytes 4 table ++ little_bytes 4 0 ++ little_bytes 16 0
 
 -- Data in one piece have one entry, no data have none.
@@ -54,4 +55,5 @@ table_upper header = number_at 4 header 12
 -- The table stands at a multiple of the alignment and in the memory, its entries included.
 abbrev pub has_table : List ℕ → Bool
 has_table header =
-    table_at header % table_alignment == 0 && table_upper header == 0 && nat_le (table_at header + descriptors_at + descriptor_size * entries header) memory_size
+    table_at header % table_alignment == 0 && table_upper header == 0
+    && nat_le (table_at header + descriptors_at + descriptor_size * entries header) memory_size

@@ -10,7 +10,8 @@ use Rattle.slots.specs.Header.{number_at}
 -- The writing of a descriptor: the address and its upper half, a reserved word, and the count of
 -- bytes less one, with I 0.
 abbrev pub entry_bytes : ℕ → ℕ → List ℕ
-entry_bytes address len = little_bytes 4 address ++ little_bytes 4 0 ++ little_bytes 4 0 ++ little_bytes 4 (len - 1)
+entry_bytes address len =
+    little_bytes 4 address ++ little_bytes 4 0 ++ little_bytes 4 0 ++ little_bytes 4 (len - 1)
 
 -- The writing of a table: the FIS, the descriptor of the data where there are any, else zeros.
 abbrev pub table_bytes : ℕ → List ℕ → ℕ → List ℕ
@@ -40,7 +41,8 @@ count entry = number_at 4 entry 12 % descriptor_range + 1
 -- The data stand at an even place, are an even count, and stand in the memory.
 abbrev pub is_sound : List ℕ → Bool
 is_sound entry =
-    address entry % 2 == 0 && upper entry == 0 && count entry % 2 == 0 && nat_le (address entry + count entry) memory_size
+    address entry % 2 == 0 && upper entry == 0 && count entry % 2 == 0
+    && nat_le (address entry + count entry) memory_size
 
 -- a descriptor of a table
 abbrev pub entry_at : List ℕ → ℕ → ℕ → List ℕ

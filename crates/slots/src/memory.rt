@@ -83,8 +83,11 @@ impl PortMemory {
         ensures* writes_back { sem 𝓛 (LendsPart self.entry at result) }
         ensures value { result.now ≡ part self.old at len }
         ensures len { length result.now ≡ len }
-        ensures whole { (bytes : List ℕ) → length bytes ≡ len → with_part self.old at bytes ≡ laid self.old at bytes }
-        ensures inside { (i : ℕ) (bytes : List ℕ) → i + length bytes ≤ len → with_part self.old at (laid (part self.old at len) i bytes) ≡ laid self.old (at + i) bytes }
+        ensures whole { (bytes : List ℕ) → length bytes ≡ len
+            → with_part self.old at bytes ≡ laid self.old at bytes }
+        ensures inside { (i : ℕ) (bytes : List ℕ) → i + length bytes ≤ len
+            → with_part self.old at (laid (part self.old at len) i bytes)
+            ≡ laid self.old (at + i) bytes }
     {
         self.bytes.slice_mut(at..at + len)
     }
@@ -104,7 +107,9 @@ impl PortMemory {
 
         // The slot holds the command then, and no other byte changes.
         ensures holds { Holds self.new tag command.now write len }
-        ensures elsewhere { (place n : ℕ) → AreApart place n (header_place tag) header_size → AreApart place n (table_place tag) table_size → part self.new place n ≡ part self.old place n }
+        ensures elsewhere { (place n : ℕ) → AreApart place n (header_place tag) header_size
+            → AreApart place n (table_place tag) table_size
+            → part self.new place n ≡ part self.old place n }
     {
         self.lay_command(tag, command, write, len);
     }
@@ -168,7 +173,10 @@ impl PortMemory {
         ensures exact { result ≡ fetched self.now tag }
 
         // What was placed is fetched, as long as the slot holds it.
-        ensures held { (command : List ℕ) (write : Bool) (len : ℕ) → length command ≡ h2d_length → is_command command ≡ true → len % 2 ≡ 0 → len ≤ buffer_size → Holds self.now tag command write len → result ≡ Ok (record { fis = command; write = write; len = len }) }
+        ensures held { (command : List ℕ) (write : Bool) (len : ℕ) → length command ≡ h2d_length
+            → is_command command ≡ true → len % 2 ≡ 0 → len ≤ buffer_size
+            → Holds self.now tag command write len
+            → result ≡ Ok (record { fis = command; write = write; len = len }) }
     {
         self.read_slot(tag)
     }
@@ -198,20 +206,26 @@ impl PortMemory {
 
     /// Stores a FIS of the device where the port receives one of its type.
     pub fn post(&mut self, fis: &Fis)
-        ensures exact { (bytes : List ℕ) × IsSpelling bytes fis.now × (self.new ≡ laid self.old (received_place fis.now) bytes) }
+        ensures exact { (bytes : List ℕ) × IsSpelling bytes fis.now
+            × (self.new ≡ laid self.old (received_place fis.now) bytes) }
 
         // No byte outside the received FISes changes.
-        ensures elsewhere { (place n : ℕ) → AreApart place n received_at received_size → part self.new place n ≡ part self.old place n }
+        ensures elsewhere { (place n : ℕ) → AreApart place n received_at received_size
+            → part self.new place n ≡ part self.old place n }
 
         // The FIS stands at its place, and the others stay.
-        ensures stands { IsSpelling (part self.new (received_place fis.now) (fis_length fis.now)) fis.now }
-        ensures beside { (place n : ℕ) → AreApart place n (received_place fis.now) (fis_length fis.now) → part self.new place n ≡ part self.old place n }
+        ensures stands { IsSpelling
+            (part self.new (received_place fis.now) (fis_length fis.now)) fis.now }
+        ensures beside { (place n : ℕ)
+            → AreApart place n (received_place fis.now) (fis_length fis.now)
+            → part self.new place n ≡ part self.old place n }
     {
         self.store(fis);
     }
 
     fn store(&mut self, fis: &Fis)
-        ensures exact { (bytes : List ℕ) × IsSpelling bytes fis.now × (self.new ≡ laid self.old (received_place fis.now) bytes) }
+        ensures exact { (bytes : List ℕ) × IsSpelling bytes fis.now
+            × (self.new ≡ laid self.old (received_place fis.now) bytes) }
         ensures memory_len { length self.old ≡ memory_size }
     {
         // There are as many bytes as a memory has: the field says so once it is used.
@@ -235,8 +249,12 @@ impl PortMemory {
 
         // The slice keeps its length, so that no byte outside the buffer changes. What is written
         // into the slice from a place on stands in the memory.
-        ensures whole { (bytes : List ℕ) → length bytes ≡ buffer_size → with_part self.old (buffer_place tag) bytes ≡ laid self.old (buffer_place tag) bytes }
-        ensures inside { (i : ℕ) (bytes : List ℕ) → i + length bytes ≤ buffer_size → with_part self.old (buffer_place tag) (laid (part self.old (buffer_place tag) buffer_size) i bytes) ≡ laid self.old (buffer_place tag + i) bytes }
+        ensures whole { (bytes : List ℕ) → length bytes ≡ buffer_size
+            → with_part self.old (buffer_place tag) bytes ≡ laid self.old (buffer_place tag) bytes }
+        ensures inside { (i : ℕ) (bytes : List ℕ) → i + length bytes ≤ buffer_size
+            → with_part self.old (buffer_place tag)
+            (laid (part self.old (buffer_place tag) buffer_size) i bytes)
+            ≡ laid self.old (buffer_place tag + i) bytes }
     {
         self.part_mut(buffer_place(tag), BUFFER)
     }

@@ -24,4 +24,5 @@ all_ranges = 0 ∷ numbered_ranges
 
 -- the authorities of the Locking SP: Anybody, the Admins and their class, the Users and theirs
 unfoldable pub authorities_of_locking : List Uid
-authorities_of_locking = anybody ∷ admins_class ∷ map admin_uid admins ++ users_class ∷ map user_uid users
+authorities_of_locking =
+    anybody ∷ admins_class ∷ map admin_uid admins ++ users_class ∷ map user_uid users

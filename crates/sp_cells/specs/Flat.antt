@@ -31,12 +31,15 @@ is_at sp object column e = sp_eq e.sp sp && (e.object.0 == object.0) && (e.colum
 -- the cell at a place: the first that stands there
 abbrev pub cell_at : List PlacedCell → LookUp
 cell_at [] sp object column = None
-cell_at (e ∷ es) sp object column = if is_at sp object column e then Some e.value else cell_at es sp object column
+cell_at (e ∷ es) sp object column =
+    if is_at sp object column e then Some e.value else cell_at es sp object column
 
 -- the list with that cell replaced, and nothing else
 abbrev pub with_cell : List PlacedCell → Sp → Uid → Column → Cell → List PlacedCell
 with_cell [] sp object column v = []
-with_cell (e ∷ es) sp object column v = if is_at sp object column e then record e { value = v } ∷ es else e ∷ with_cell es sp object column v
+with_cell (e ∷ es) sp object column v =
+    if is_at sp object column e then record e { value = v } ∷ es else
+    e ∷ with_cell es sp object column v
 
 -- the list with these cells of one object replaced, one after another
 abbrev pub with_cells : List PlacedCell → Sp → Uid → List (Column × Cell) → List PlacedCell

@@ -6,11 +6,13 @@ use Rattle.sp_cells.specs.Names.{admin_base, user_base, admin_pin_base, user_pin
 
 -- the number of an object, where it is one of the first rows behind a base
 abbrev pub number_behind : (base count : ℕ) → Uid → Option ℕ
-number_behind base count object = if nat_lt base object.0 && nat_le object.0 (base + count) then Some (object.0 - base) else None
+number_behind base count object =
+    if nat_lt base object.0 && nat_le object.0 (base + count) then Some (object.0 - base) else None
 
 -- the same with a row of number 0, which has a name of its own
 abbrev pub number_from : (zeroth base count : ℕ) → Uid → Option ℕ
-number_from zeroth base count object = if object.0 == zeroth then Some 0 else number_behind base count object
+number_from zeroth base count object =
+    if object.0 == zeroth then Some 0 else number_behind base count object
 
 -- an Admin and a User, and their C_PIN rows
 abbrev pub admin_number : Uid → Option ℕ

@@ -44,11 +44,13 @@ write_locked look n = of_range look n write_locked_column
 
 -- these two runs of sectors have one in common
 abbrev pub meets : ℕ → ℕ → ℕ → ℕ → Bool
-meets start len start' len' = nat_lt 0 len && nat_lt 0 len' && nat_lt start (start' + len') && nat_lt start' (start + len)
+meets start len start' len' =
+    nat_lt 0 len && nat_lt 0 len' && nat_lt start (start' + len') && nat_lt start' (start + len)
 
 -- ranges i and j have a sector in common
 abbrev pub ranges_meet : LookUp → ℕ → ℕ → Bool
-ranges_meet look i j = meets (range_start look i) (range_length look i) (range_start look j) (range_length look j)
+ranges_meet look i j =
+    meets (range_start look i) (range_length look i) (range_start look j) (range_length look j)
 
 -- no two numbered ranges have a sector in common
 pub record AreApart (look : LookUp) : Type 0 where

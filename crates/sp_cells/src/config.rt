@@ -23,7 +23,11 @@ impl Model for DriveConfig {
 
     ghost Value = { Config };
 
-    ghost view = { λ c. record { sectors = c.sectors; mbr_sectors = c.mbr_sectors; msid = c.msid.items } };
+    ghost view = { λ c. record {
+      sectors = c.sectors;
+      mbr_sectors = c.mbr_sectors;
+      msid = c.msid.items;
+    } };
 
     ghost invariant = { λ c. IsWithinLimits c.sectors c.mbr_sectors c.msid.items };
 }
@@ -32,7 +36,8 @@ impl DriveConfig {
     /// A drive of 1 to 2^48 sectors of 512 bytes, of which at most 262,144, and at most all, can be shadowed; the
     /// MSID has 1 to 32 bytes. None exactly where a number is outside these limits.
     pub fn new(sectors: u64, mbr_sectors: u64, msid: &[u8]) -> Option<DriveConfig>
-        ensures { SomeIff result (IsWithinLimits sectors mbr_sectors msid.now) (record { sectors = sectors; mbr_sectors = mbr_sectors; msid = msid.now }) }
+        ensures { SomeIff result (IsWithinLimits sectors mbr_sectors msid.now)
+            (record { sectors = sectors; mbr_sectors = mbr_sectors; msid = msid.now }) }
     {
         if sectors == 0 || sectors > ADDRESS_LIMIT {
             return None;

@@ -29,13 +29,15 @@ pub fn laws_of_names()
     ensures mbr { (uids.MBR_CONTROL ≡ mbr_control) × (uids.MBR_TABLE ≡ mbr_table) }
     ensures methods { (uids.GET ≡ get) × (uids.SET ≡ set) × (uids.AUTHENTICATE ≡ authenticate)
         × (uids.REVERT ≡ revert) × (uids.ACTIVATE ≡ activate) }
-    ensures session_manager { (uids.SESSION_MANAGER ≡ session_manager) × (uids.PROPERTIES ≡ properties)
+    ensures session_manager { (uids.SESSION_MANAGER ≡ session_manager)
+        × (uids.PROPERTIES ≡ properties)
         × (uids.START_SESSION ≡ start_session) × (uids.SYNC_SESSION ≡ sync_session) }
     ensures admin_sp_aces { (uids.ACE_C_PIN_SID_GET_NOPIN ≡ ace_c_pin_sid_get_nopin)
         × (uids.ACE_C_PIN_SID_SET_PIN ≡ ace_c_pin_sid_set_pin)
         × (uids.ACE_C_PIN_MSID_GET_PIN ≡ ace_c_pin_msid_get_pin)
         × (uids.ACE_SP_SID ≡ ace_sp_sid)
-        × (uids.ACE_TPER_INFO_SET_PROGRAMMATIC_RESET_ENABLE ≡ ace_tper_info_set_programmatic_reset_enable) }
+        × (uids.ACE_TPER_INFO_SET_PROGRAMMATIC_RESET_ENABLE
+        ≡ ace_tper_info_set_programmatic_reset_enable) }
     ensures aces { (uids.ACE_ANYBODY ≡ ace_anybody) × (uids.ACE_ADMINS ≡ ace_admins)
         × (uids.ACE_ANYBODY_GET_COMMON_NAME ≡ ace_anybody_get_common_name)
         × (uids.ACE_ACE_SET_BOOLEAN_EXPRESSION ≡ ace_ace_set_boolean_expression)
@@ -61,7 +63,8 @@ pub fn laws_of_names()
     ensures authority_row { (columns.IS_CLASS ≡ is_class_column) × (columns.CLASS ≡ class_column)
         × (columns.ENABLED ≡ enabled_column) × (columns.OPERATION ≡ operation_column)
         × (columns.CREDENTIAL ≡ credential_column) }
-    ensures ace_row { (columns.BOOLEAN_EXPR ≡ boolean_expr_column) × (columns.COLUMNS ≡ columns_column) }
+    ensures ace_row { (columns.BOOLEAN_EXPR ≡ boolean_expr_column)
+        × (columns.COLUMNS ≡ columns_column) }
     ensures range_bounds { (columns.RANGE_START ≡ range_start_column)
         × (columns.RANGE_LENGTH ≡ range_length_column) }
     ensures range_locks { (columns.READ_LOCK_ENABLED ≡ read_lock_enabled_column)
@@ -69,7 +72,8 @@ pub fn laws_of_names()
         × (columns.READ_LOCKED ≡ read_locked_column)
         × (columns.WRITE_LOCKED ≡ write_locked_column)
         × (columns.LOCK_ON_RESET ≡ lock_on_reset_column) }
-    ensures mbr_control_row { (columns.MBR_ENABLE ≡ mbr_enable_column) × (columns.MBR_DONE ≡ mbr_done_column)
+    ensures mbr_control_row { (columns.MBR_ENABLE ≡ mbr_enable_column)
+        × (columns.MBR_DONE ≡ mbr_done_column)
         × (columns.MBR_DONE_ON_RESET ≡ mbr_done_on_reset_column) }
 {}
 
@@ -81,6 +85,7 @@ pub fn laws_of_limits()
     ensures expression { (limits.MOST_ELEMENTS ≡ most_elements) × (most_elements ≡ 31) }
     ensures tries { (limits.NEW_TRY_LIMIT ≡ new_try_limit) × (new_try_limit ≡ 5) }
     ensures any_tries { (limits.NO_TRY_LIMIT ≡ no_try_limit) × (no_try_limit ≡ 0) }
-    ensures inactive { (limits.MANUFACTURED_INACTIVE ≡ manufactured_inactive) × (manufactured_inactive ≡ 8) }
+    ensures inactive { (limits.MANUFACTURED_INACTIVE ≡ manufactured_inactive)
+        × (manufactured_inactive ≡ 8) }
     ensures active { (limits.MANUFACTURED ≡ manufactured) × (manufactured ≡ 9) }
 {}

@@ -46,7 +46,8 @@ new_group object name is_class = new_authority object name is_class none 1 0 non
 
 -- who has one signs in with it
 abbrev pub new_member : Uid → List ℕ → Uid → ℕ → Uid → List (Column × Cell)
-new_member object name class enabled credential = new_authority object name 0 class enabled 1 credential
+new_member object name class enabled credential =
+    new_authority object name 0 class enabled 1 credential
 
 abbrev pub new_pin : Uid → List ℕ → List ℕ → ℕ → List (Column × Cell)
 new_pin object name secret limit =
@@ -103,7 +104,8 @@ new_ace object name expr columns =
 
 -- an ACE that one authority, or one class, fulfils
 abbrev pub ace_row : Uid → List ℕ → Uid → List Column → List Item
-ace_row ace name authority columns = row_items ace (new_ace ace name (Authority authority ∷ []) columns)
+ace_row ace name authority columns =
+    row_items ace (new_ace ace name (Authority authority ∷ []) columns)
 
 -- the columns of a C_PIN row but for its names and the PIN
 abbrev pub but_pin : List Column
@@ -114,14 +116,16 @@ abbrev pub bounds : List Column
 bounds = range_start_column ∷ range_length_column ∷ []
 
 abbrev pub locks : List Column
-locks = read_lock_enabled_column ∷ write_lock_enabled_column ∷ read_locked_column ∷ write_locked_column ∷ lock_on_reset_column ∷ []
+locks = read_lock_enabled_column ∷ write_lock_enabled_column ∷ read_locked_column
+    ∷ write_locked_column ∷ lock_on_reset_column ∷ []
 
 -- these runs of rows have these cells
 abbrev pub HasRows : {R : Type 0} → (R → List (Column × Cell)) → List (Run R) → List Item → Type 0
 HasRows columns runs items = flat_map (run_items columns) runs ≡ items
 
 -- these cells are added behind those of the runs
-abbrev pub AddsRows : {R : Type 0} → (R → List (Column × Cell)) → (old new : List (Run R)) → List Item → Type 0
+abbrev pub AddsRows : {R : Type 0} → (R → List (Column × Cell)) → (old new : List (Run R))
+    → List Item → Type 0
 AddsRows columns old new items = HasRows columns new (flat_map (run_items columns) old ++ items)
 
 -- the rows of the numbers 1 to n, each named by its base and its number
@@ -130,26 +134,36 @@ family base values zero = []
 family base values (suc n) = family base values n ++ row_items (uid (base + suc n)) (values (suc n))
 
 -- these rows are a family wherever P says what the row of each number is
-abbrev pub IsFamilyOf : {R : Type 0} → (R → List (Column × Cell)) → (ℕ → R → Type 0) → ℕ → List R → Type 0
-IsFamilyOf columns P count rows = (base : ℕ) (values : ℕ → List (Column × Cell)) → ((n : ℕ) (r : _) → n ≤ count → P n r → columns r ≡ values n) → rows_from columns (base + 1) rows ≡ family base values count
+abbrev pub IsFamilyOf : {R : Type 0} → (R → List (Column × Cell)) → (ℕ → R → Type 0) → ℕ → List R
+    → Type 0
+IsFamilyOf columns P count rows =
+    (base : ℕ) (values : ℕ → List (Column × Cell))
+    → ((n : ℕ) (r : _) → n ≤ count → P n r → columns r ≡ values n)
+    → rows_from columns (base + 1) rows ≡ family base values count
 
 -- these rows are those of the numbers 1 to n
-abbrev pub IsFamily : {R : Type 0} → (R → List (Column × Cell)) → ℕ → (ℕ → List (Column × Cell)) → ℕ → List R → Type 0
-IsFamily columns base values count rows = rows_from columns (base + 1) rows ≡ family base values count
+abbrev pub IsFamily : {R : Type 0} → (R → List (Column × Cell)) → ℕ → (ℕ → List (Column × Cell)) → ℕ
+    → List R → Type 0
+IsFamily columns base values count rows =
+    rows_from columns (base + 1) rows ≡ family base values count
 
 -- SPs: the Admin SP is Manufactured, the Locking SP Manufactured-Inactive
 unfoldable pub admin_sps : List Item
-admin_sps = row_items admin_sp (new_sp admin_sp (codes "Admin") manufactured) ++ row_items locking_sp (new_sp locking_sp (codes "Locking") manufactured_inactive)
+admin_sps = row_items admin_sp (new_sp admin_sp (codes "Admin") manufactured)
+    ++ row_items locking_sp (new_sp locking_sp (codes "Locking") manufactured_inactive)
 
 -- authorities
 unfoldable pub admin_authorities : List Item
-admin_authorities = row_items anybody (new_group anybody (codes "Anybody") 0) ++ row_items sid (new_member sid (codes "SID") none 1 c_pin_sid)
+admin_authorities = row_items anybody (new_group anybody (codes "Anybody") 0)
+    ++ row_items sid (new_member sid (codes "SID") none 1 c_pin_sid)
 
 abbrev pub admin_authority : ℕ → List (Column × Cell)
-admin_authority n = new_member (admin_uid n) (codes "Admin" ++ decimal n) admins_class (if n == 1 then 1 else 0) (admin_pin_uid n)
+admin_authority n = new_member (admin_uid n) (codes "Admin" ++ decimal n) admins_class
+    (if n == 1 then 1 else 0) (admin_pin_uid n)
 
 abbrev pub user_authority : ℕ → List (Column × Cell)
-user_authority n = new_member (user_uid n) (codes "User" ++ decimal n) users_class 0 (user_pin_uid n)
+user_authority n = new_member (user_uid n) (codes "User" ++ decimal n) users_class 0
+    (user_pin_uid n)
 
 unfoldable pub locking_authorities : List Item
 locking_authorities =
@@ -161,7 +175,8 @@ locking_authorities =
 
 -- C_PIN rows
 unfoldable pub admin_pins : List ℕ → List Item
-admin_pins msid = row_items c_pin_sid (new_pin c_pin_sid (codes "C_PIN_SID") msid new_try_limit) ++ row_items c_pin_msid (new_pin c_pin_msid (codes "C_PIN_MSID") msid no_try_limit)
+admin_pins msid = row_items c_pin_sid (new_pin c_pin_sid (codes "C_PIN_SID") msid new_try_limit)
+    ++ row_items c_pin_msid (new_pin c_pin_msid (codes "C_PIN_MSID") msid no_try_limit)
 
 abbrev pub admin_pin : ℕ → List (Column × Cell)
 admin_pin n = new_pin (admin_pin_uid n) (codes "C_PIN_Admin" ++ decimal n) [] new_try_limit
@@ -177,7 +192,8 @@ abbrev pub numbered_range : ℕ → List (Column × Cell)
 numbered_range n = new_range (range_uid n) (codes "Locking_Range" ++ decimal n)
 
 unfoldable pub locking_ranges : List Item
-locking_ranges = row_items global_range (new_range global_range (codes "Locking_GlobalRange")) ++ family range_base numbered_range RANGES
+locking_ranges = row_items global_range (new_range global_range (codes "Locking_GlobalRange"))
+    ++ family range_base numbered_range RANGES
 
 -- the shadow MBR
 unfoldable pub locking_mbr_controls : List Item
@@ -193,39 +209,53 @@ admin_aces =
     ace_row ace_anybody (codes "Anybody") anybody []
     ++ ace_row ace_c_pin_sid_get_nopin (codes "C_PIN_SID_Get_NOPIN") sid but_pin
     ++ ace_row ace_c_pin_sid_set_pin (codes "C_PIN_SID_Set_PIN") sid (pin_column ∷ [])
-    ++ ace_row ace_c_pin_msid_get_pin (codes "C_PIN_MSID_Get_PIN") anybody (uid_column ∷ pin_column ∷ [])
+    ++ ace_row ace_c_pin_msid_get_pin (codes "C_PIN_MSID_Get_PIN") anybody
+    (uid_column ∷ pin_column ∷ [])
     ++ ace_row ace_sp_sid (codes "SP_SID") sid []
-    ++ ace_row ace_tper_info_set_programmatic_reset_enable (codes "TPerInfo_Set_ProgrammaticResetEnable") sid (programmatic_reset_enable_column ∷ [])
+    ++ ace_row ace_tper_info_set_programmatic_reset_enable
+    (codes "TPerInfo_Set_ProgrammaticResetEnable") sid (programmatic_reset_enable_column ∷ [])
 
 unfoldable pub authority_aces : List Item
 authority_aces =
     ace_row ace_anybody (codes "Anybody") anybody []
     ++ ace_row ace_admins (codes "Admins") admins_class []
-    ++ ace_row ace_anybody_get_common_name (codes "Anybody_Get_CommonName") anybody (uid_column ∷ common_name_column ∷ [])
-    ++ ace_row ace_ace_set_boolean_expression (codes "ACE_Set_BooleanExpr") admins_class (boolean_expr_column ∷ [])
-    ++ ace_row ace_authority_set_enabled (codes "Authority_Set_Enabled") admins_class (enabled_column ∷ [])
+    ++ ace_row ace_anybody_get_common_name (codes "Anybody_Get_CommonName") anybody
+    (uid_column ∷ common_name_column ∷ [])
+    ++ ace_row ace_ace_set_boolean_expression (codes "ACE_Set_BooleanExpr") admins_class
+    (boolean_expr_column ∷ [])
+    ++ ace_row ace_authority_set_enabled (codes "Authority_Set_Enabled") admins_class
+    (enabled_column ∷ [])
 
 abbrev pub user_ace : ℕ → List (Column × Cell)
-user_ace n = new_ace (ace_c_pin_user_set_pin n) (codes "C_PIN_User" ++ decimal n ++ codes "_Set_PIN") (Authority admins_class ∷ Authority (user_uid n) ∷ Or ∷ []) (pin_column ∷ [])
+user_ace n = new_ace (ace_c_pin_user_set_pin n)
+    (codes "C_PIN_User" ++ decimal n ++ codes "_Set_PIN")
+    (Authority admins_class ∷ Authority (user_uid n) ∷ Or ∷ []) (pin_column ∷ [])
 
 unfoldable pub pin_aces : List Item
 pin_aces =
     ace_row ace_c_pin_admins_get_all_nopin (codes "C_PIN_Get_NOPIN") admins_class but_pin
-    ++ ace_row ace_c_pin_admins_set_pin (codes "C_PIN_Admins_Set_PIN") admins_class (pin_column ∷ [])
+    ++ ace_row ace_c_pin_admins_set_pin (codes "C_PIN_Admins_Set_PIN") admins_class
+    (pin_column ∷ [])
     ++ family user_ace_base user_ace USERS
 
 abbrev pub read_locked_ace : ℕ → List (Column × Cell)
-read_locked_ace n = new_ace (ace_range_set_read_locked n) (codes "Range_" ++ decimal n ++ codes "_Set_RdLocked") (Authority admins_class ∷ []) (read_locked_column ∷ [])
+read_locked_ace n = new_ace (ace_range_set_read_locked n)
+    (codes "Range_" ++ decimal n ++ codes "_Set_RdLocked") (Authority admins_class ∷ [])
+    (read_locked_column ∷ [])
 
 abbrev pub write_locked_ace : ℕ → List (Column × Cell)
-write_locked_ace n = new_ace (ace_range_set_write_locked n) (codes "Range_" ++ decimal n ++ codes "_Set_WrLocked") (Authority admins_class ∷ []) (write_locked_column ∷ [])
+write_locked_ace n =
+    new_ace (ace_range_set_write_locked n) (codes "Range_" ++ decimal n ++ codes "_Set_WrLocked")
+    (Authority admins_class ∷ []) (write_locked_column ∷ [])
 
 -- those of the two flags, the global range first
 abbrev pub read_locked_aces : List Item
-read_locked_aces = row_items (ace_range_set_read_locked 0) (read_locked_ace 0) ++ family read_locked_ace_base read_locked_ace RANGES
+read_locked_aces = row_items (ace_range_set_read_locked 0) (read_locked_ace 0)
+    ++ family read_locked_ace_base read_locked_ace RANGES
 
 abbrev pub write_locked_aces : List Item
-write_locked_aces = row_items (ace_range_set_write_locked 0) (write_locked_ace 0) ++ family write_locked_ace_base write_locked_ace RANGES
+write_locked_aces = row_items (ace_range_set_write_locked 0) (write_locked_ace 0)
+    ++ family write_locked_ace_base write_locked_ace RANGES
 
 unfoldable pub range_aces : List Item
 range_aces =
@@ -237,13 +267,18 @@ range_aces =
 
 unfoldable pub mbr_aces : List Item
 mbr_aces =
-    ace_row ace_mbr_control_admins_set (codes "MBRControl_Set") admins_class (mbr_enable_column ∷ mbr_done_column ∷ mbr_done_on_reset_column ∷ [])
-    ++ ace_row ace_mbr_control_set_done_to_dor (codes "MBRControl_Set_DoneToDOR") admins_class (mbr_done_column ∷ mbr_done_on_reset_column ∷ [])
+    ace_row ace_mbr_control_admins_set (codes "MBRControl_Set") admins_class
+    (mbr_enable_column ∷ mbr_done_column ∷ mbr_done_on_reset_column ∷ [])
+    ++ ace_row ace_mbr_control_set_done_to_dor (codes "MBRControl_Set_DoneToDOR") admins_class
+    (mbr_done_column ∷ mbr_done_on_reset_column ∷ [])
 
 -- the Admin SP of a drive with this MSID
 abbrev pub admin_factory : List ℕ → List Item
-admin_factory msid = admin_sps ++ (admin_authorities ++ (admin_pins msid ++ (admin_tper_infos ++ admin_aces)))
+admin_factory msid =
+    admin_sps ++ (admin_authorities ++ (admin_pins msid ++ (admin_tper_infos ++ admin_aces)))
 
 -- the Locking SP
 abbrev pub locking_factory : List Item
-locking_factory = locking_authorities ++ (locking_pins ++ (locking_ranges ++ (locking_mbr_controls ++ (authority_aces ++ pin_aces ++ range_aces ++ mbr_aces))))
+locking_factory = locking_authorities
+    ++ (locking_pins ++ (locking_ranges
+    ++ (locking_mbr_controls ++ (authority_aces ++ pin_aces ++ range_aces ++ mbr_aces))))

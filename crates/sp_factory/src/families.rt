@@ -19,7 +19,8 @@ fn numbered<R: Row + Drop, F: Fn(Global, u8) -> Result<R, AllocError>>(
     row: F,
 ) -> Result<Vec<R>, AllocError>
     requires { F.IsAlwaysCallable row }
-    ensures { IfOk result (λ rows. IsFamilyOf R.held (λ n r. F.post row alloc n (Ok r)) count rows.items) }
+    ensures { IfOk result
+        (λ rows. IsFamilyOf R.held (λ n r. F.post row alloc n (Ok r)) count rows.items) }
 {
     let mut rows = Vec::with_capacity(alloc, usize::from(count))?;
     for i in 0..count {
@@ -46,7 +47,8 @@ fn admin_row(alloc: Global, n: u8) -> Result<AuthorityRow, AllocError>
 
 /// All of them, by number.
 pub fn admin_rows(alloc: Global) -> Result<Vec<AuthorityRow>, AllocError>
-    ensures { IfOk result (λ rows. IsFamily authority_columns admin_base admin_authority ADMINS rows.items) }
+    ensures { IfOk result
+        (λ rows. IsFamily authority_columns admin_base admin_authority ADMINS rows.items) }
 {
     let rows = numbered(alloc, ADMINS, admin_row)?;
     Ok(rows)
@@ -69,7 +71,8 @@ fn user_row(alloc: Global, n: u8) -> Result<AuthorityRow, AllocError>
 
 /// All of them, by number.
 pub fn user_rows(alloc: Global) -> Result<Vec<AuthorityRow>, AllocError>
-    ensures { IfOk result (λ rows. IsFamily authority_columns user_base user_authority USERS rows.items) }
+    ensures { IfOk result
+        (λ rows. IsFamily authority_columns user_base user_authority USERS rows.items) }
 {
     let rows = numbered(alloc, USERS, user_row)?;
     Ok(rows)
@@ -86,7 +89,8 @@ fn admin_pin_row(alloc: Global, n: u8) -> Result<CPinRow, AllocError>
 
 /// All of them, by number.
 pub fn admin_pin_rows(alloc: Global) -> Result<Vec<CPinRow>, AllocError>
-    ensures { IfOk result (λ rows. IsFamily c_pin_columns admin_pin_base admin_pin ADMINS rows.items) }
+    ensures { IfOk result
+        (λ rows. IsFamily c_pin_columns admin_pin_base admin_pin ADMINS rows.items) }
 {
     let rows = numbered(alloc, ADMINS, admin_pin_row)?;
     Ok(rows)
@@ -119,7 +123,8 @@ fn range_row(alloc: Global, n: u8) -> Result<LockingRow, AllocError>
 
 /// All of them, by number.
 pub fn range_rows(alloc: Global) -> Result<Vec<LockingRow>, AllocError>
-    ensures { IfOk result (λ rows. IsFamily locking_columns range_base numbered_range RANGES rows.items) }
+    ensures { IfOk result
+        (λ rows. IsFamily locking_columns range_base numbered_range RANGES rows.items) }
 {
     let rows = numbered(alloc, RANGES, range_row)?;
     Ok(rows)
@@ -167,7 +172,8 @@ pub fn read_locked_ace_row(alloc: Global, n: u8) -> Result<AceRow, AllocError>
 
 /// All of them, by number.
 pub fn read_locked_ace_rows(alloc: Global) -> Result<Vec<AceRow>, AllocError>
-    ensures { IfOk result (λ rows. IsFamily ace_columns read_locked_ace_base read_locked_ace RANGES rows.items) }
+    ensures { IfOk result
+        (λ rows. IsFamily ace_columns read_locked_ace_base read_locked_ace RANGES rows.items) }
 {
     let rows = numbered(alloc, RANGES, read_locked_ace_row)?;
     Ok(rows)
@@ -191,7 +197,8 @@ pub fn write_locked_ace_row(alloc: Global, n: u8) -> Result<AceRow, AllocError>
 
 /// All of them, by number.
 pub fn write_locked_ace_rows(alloc: Global) -> Result<Vec<AceRow>, AllocError>
-    ensures { IfOk result (λ rows. IsFamily ace_columns write_locked_ace_base write_locked_ace RANGES rows.items) }
+    ensures { IfOk result
+        (λ rows. IsFamily ace_columns write_locked_ace_base write_locked_ace RANGES rows.items) }
 {
     let rows = numbered(alloc, RANGES, write_locked_ace_row)?;
     Ok(rows)

@@ -67,7 +67,8 @@ pub fn member(
     enabled: u64,
     credential: Uid,
 ) -> AuthorityRow
-    ensures { authority_columns result ≡ new_member object (string_bytes name) class enabled credential }
+    ensures { authority_columns result
+        ≡ new_member object (string_bytes name) class enabled credential }
 {
     AuthorityRow {
         uid: Cell::Uid(object),
@@ -89,7 +90,8 @@ pub fn pin(
     secret: &[u8],
     limit: u64,
 ) -> Result<CPinRow, AllocError>
-    ensures { IfOk result (λ r. c_pin_columns r ≡ new_pin object (string_bytes name) secret.now limit) }
+    ensures { IfOk result
+        (λ r. c_pin_columns r ≡ new_pin object (string_bytes name) secret.now limit) }
 {
     let secret = secret.to_vec(alloc)?;
     Ok(CPinRow {
@@ -106,7 +108,8 @@ pub fn pin(
 
 /// The set that has the power cycle alone.
 fn power_cycle_alone() -> Cell
-    ensures { result ≡ cells.Numbers (record { power_cycle = true; hardware = false; programmatic = false }) }
+    ensures { result ≡ cells.Numbers
+        (record { power_cycle = true; hardware = false; programmatic = false }) }
 {
     Cell::Numbers(ResetTypes {
         power_cycle: true,
@@ -163,7 +166,8 @@ pub fn ace(
     expr: Expr,
     columns: &[Column],
 ) -> Result<AceRow, AllocError>
-    ensures { IfOk result (λ r. ace_columns r ≡ new_ace object (string_bytes name) expr columns.now) }
+    ensures { IfOk result
+        (λ r. ace_columns r ≡ new_ace object (string_bytes name) expr columns.now) }
 {
     let columns = columns.to_vec(alloc)?;
     Ok(AceRow {
@@ -186,7 +190,8 @@ pub fn only(alloc: Global, authority: Uid) -> Result<Expr, AllocError>
 
 /// The expression that either of two authorities fulfils.
 pub fn either(alloc: Global, authority: Uid, other: Uid) -> Result<Expr, AllocError>
-    ensures { IfOk result (λ e. e ≡ elements.Authority authority ∷ elements.Authority other ∷ elements.Or ∷ []) }
+    ensures { IfOk result
+        (λ e. e ≡ elements.Authority authority ∷ elements.Authority other ∷ elements.Or ∷ []) }
 {
     let mut elements = ArrayVec::new();
     elements.push(Element::Authority(authority));

@@ -15,7 +15,12 @@ pub record Item : Type 0 where
 
 -- the cells with their SP
 abbrev pub on : Sp → List Item → List PlacedCell
-on sp items = map (λ i. record { sp = sp; object = i.object; column = i.column; value = i.value }) items
+on sp items = map (λ i. record {
+  sp = sp;
+  object = i.object;
+  column = i.column;
+  value = i.value;
+}) items
 
 -- the cell stands at this place
 abbrev pub is_here : Uid → Column → Item → Bool
@@ -24,12 +29,15 @@ is_here object column i = (i.object.0 == object.0) && (i.column.0 == column.0)
 -- the first cell at a place
 abbrev pub item_at : List Item → Uid → Column → Option Cell
 item_at [] object column = None
-item_at (i ∷ is) object column = if is_here object column i then Some i.value else item_at is object column
+item_at (i ∷ is) object column =
+    if is_here object column i then Some i.value else item_at is object column
 
 -- the list with that cell replaced, and nothing else
 abbrev pub with_item : List Item → Uid → Column → Cell → List Item
 with_item [] object column v = []
-with_item (i ∷ is) object column v = if is_here object column i then record i { value = v } ∷ is else i ∷ with_item is object column v
+with_item (i ∷ is) object column v =
+    if is_here object column i then record i { value = v } ∷ is else
+    i ∷ with_item is object column v
 
 -- the list with these cells of one object replaced, one after another
 abbrev pub with_items : List Item → Uid → List (Column × Cell) → List Item
@@ -39,7 +47,8 @@ with_items is object (p ∷ ps) = with_items (with_item is object p.0 p.1) objec
 -- what each of these changes finds in its place
 abbrev pub replaced : List Item → Uid → List (Column × Cell) → List Cell
 replaced is object [] = []
-replaced is object (p ∷ ps) = unwrap_or (item_at is object p.0) p.1 ∷ replaced (with_item is object p.0 p.1) object ps
+replaced is object (p ∷ ps) =
+    unwrap_or (item_at is object p.0) p.1 ∷ replaced (with_item is object p.0 p.1) object ps
 
 -- the columns of one row
 abbrev pub column_at : List (Column × Cell) → Column → Option Cell
@@ -48,7 +57,8 @@ column_at (p ∷ ps) column = if p.0.0 == column.0 then Some p.1 else column_at 
 
 abbrev pub with_column : List (Column × Cell) → Column → Cell → List (Column × Cell)
 with_column [] column v = []
-with_column (p ∷ ps) column v = if p.0.0 == column.0 then (p.0, v) ∷ ps else p ∷ with_column ps column v
+with_column (p ∷ ps) column v =
+    if p.0.0 == column.0 then (p.0, v) ∷ ps else p ∷ with_column ps column v
 
 -- the cells of one row
 abbrev pub row_items : Uid → List (Column × Cell) → List Item
@@ -57,4 +67,5 @@ row_items object ps = map (λ p. record { object = object; column = p.0; value =
 -- the cells of rows whose names follow one another
 abbrev pub rows_from : {R : Type 0} → (R → List (Column × Cell)) → ℕ → List R → List Item
 rows_from columns first [] = []
-rows_from columns first (r ∷ rs) = row_items (uid first) (columns r) ++ rows_from columns (suc first) rs
+rows_from columns first (r ∷ rs) =
+    row_items (uid first) (columns r) ++ rows_from columns (suc first) rs

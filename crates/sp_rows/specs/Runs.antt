@@ -12,7 +12,8 @@ abbrev pub run_items : {R : Type 0} → (R → List (Column × Cell)) → Run R 
 run_items columns run = rows_from columns run.first.0 run.rows.items
 
 -- list i has this cell, and no list before it
-pub record FindsRun {R : Type 0} (items : R → List Item) (lists : List R) (object : Uid) (column : Column) (i : ℕ) : Type 0 where
+pub record FindsRun {R : Type 0} (items : R → List Item) (lists : List R) (object : Uid)
+    (column : Column) (i : ℕ) : Type 0 where
   pub within : i < length lists
   pub has : (r : R) → is_some (item_at (items (slice_index_or lists i r)) object column) ≡ true
   pub before : item_at (flat_map items (take i lists)) object column ≡ None

@@ -37,8 +37,10 @@ pub fn exchange_all(
 
 fn exchange_one(half: &mut SpTables, object: Uid, change: &(Column, Cell), cell: &mut Cell)
     requires { cell.old ≡ change.now.1 }
-    ensures changed { half_items half.new ≡ with_item (half_items half.old) object change.now.0 change.now.1 }
-    ensures old { cell.new ≡ unwrap_or (item_at (half_items half.old) object change.now.0) change.now.1 }
+    ensures changed { half_items half.new
+        ≡ with_item (half_items half.old) object change.now.0 change.now.1 }
+    ensures old { cell.new
+        ≡ unwrap_or (item_at (half_items half.old) object change.now.0) change.now.1 }
 {
     half.swap(object, change.0, cell);
 }

@@ -54,7 +54,8 @@ impl SpTables {
         ensures found { result ≡ is_some (item_at (half_items self.old) object column) }
         ensures old { OnTrue result (item_at (half_items self.old) object column ≡ Some cell.new) }
         ensures unchanged { OnFalse result (cell.new ≡ cell.old) }
-        ensures changed { half_items self.new ≡ with_item (half_items self.old) object column cell.old }
+        ensures changed { half_items self.new
+            ≡ with_item (half_items self.old) object column cell.old }
     {
         swap_in(&mut self.sps, object, column, cell)
             || swap_in(&mut self.authorities, object, column, cell)

@@ -22,7 +22,8 @@ impl<R: Row> Run<R> {
     /// The place of an object among the rows.
     fn place(&self, object: Uid) -> Option<usize>
         ensures { MatchOption result
-            (((self.now.first.0 ≤ object.0) × (object.0 - self.now.first.0 < length self.now.rows.items)) → ⊥)
+            (((self.now.first.0 ≤ object.0)
+            × (object.0 - self.now.first.0 < length self.now.rows.items)) → ⊥)
             (λ i. (object.0 ≡ self.now.first.0 + i) × (i < length self.now.rows.items)) }
     {
         if object.0 < self.first.0 || object.0 - self.first.0 >= self.rows.len() as u64 {
@@ -46,9 +47,11 @@ impl<R: Row> Run<R> {
     #[tactic(auto, using(crate::proofs::RunLemmas::placed))]
     fn swap(&mut self, object: Uid, column: Column, cell: &mut Cell) -> bool
         ensures found { result ≡ is_some (item_at (run_items R.held self.old) object column) }
-        ensures old { OnTrue result (item_at (run_items R.held self.old) object column ≡ Some cell.new) }
+        ensures old { OnTrue result
+            (item_at (run_items R.held self.old) object column ≡ Some cell.new) }
         ensures unchanged { OnFalse result (cell.new ≡ cell.old) }
-        ensures changed { run_items R.held self.new ≡ with_item (run_items R.held self.old) object column cell.old }
+        ensures changed { run_items R.held self.new
+            ≡ with_item (run_items R.held self.old) object column cell.old }
     {
         match self.place(object) {
             Some(i) => self.rows[i].swap(column, cell),
@@ -88,10 +91,13 @@ pub fn find_cell<R: Row>(runs: &[Run<R>], object: Uid, column: Column) -> Option
 /// Exchanges the cell, where one of the rows of a table has it.
 #[tactic(auto, using(crate::proofs::RunLemmas::searching))]
 pub fn swap_in<R: Row>(runs: &mut Vec<Run<R>>, object: Uid, column: Column, cell: &mut Cell) -> bool
-    ensures found { result ≡ is_some (item_at (flat_map (run_items R.held) runs.old.items) object column) }
-    ensures old { OnTrue result (item_at (flat_map (run_items R.held) runs.old.items) object column ≡ Some cell.new) }
+    ensures found { result
+        ≡ is_some (item_at (flat_map (run_items R.held) runs.old.items) object column) }
+    ensures old { OnTrue result
+        (item_at (flat_map (run_items R.held) runs.old.items) object column ≡ Some cell.new) }
     ensures unchanged { OnFalse result (cell.new ≡ cell.old) }
-    ensures changed { flat_map (run_items R.held) runs.new.items ≡ with_item (flat_map (run_items R.held) runs.old.items) object column cell.old }
+    ensures changed { flat_map (run_items R.held) runs.new.items
+        ≡ with_item (flat_map (run_items R.held) runs.old.items) object column cell.old }
 {
     match index_of(runs, object, column) {
         Some(i) => runs[i].swap(object, column, cell),

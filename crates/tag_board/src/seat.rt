@@ -35,7 +35,11 @@ impl Model for TagSeat {
 
     ghost coded = { seated_code };
 
-    ghost view = { λ s. record { board = s.place.table_id; held = s.held; tried = s.place.me.0.tried } };
+    ghost view = { λ s. record {
+      board = s.place.table_id;
+      held = s.held;
+      tried = s.place.me.0.tried;
+    } };
 
     ghost invariant = { λ s. (s.place.table_id ≡ (arc_value s.word).shared.table_id)
         × (s.place.table_id.words ≡ 1) × (s.place.table_id.slots ≡ 0)

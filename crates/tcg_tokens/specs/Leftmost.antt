@@ -21,7 +21,8 @@ pub record IsLeftmost (text : List ℕ) (e : TokenError) : Type 0 where
 
 -- a fault other than that the bytes end is the leftmost
 abbrev pub LeftmostLaw : Type 0
-LeftmostLaw = (text : List ℕ) (e : TokenError) → reading text ≡ Err e → e ≢ Truncated → IsLeftmost text e
+LeftmostLaw = (text : List ℕ) (e : TokenError) → reading text ≡ Err e → e ≢ Truncated
+    → IsLeftmost text e
 
 -- where the bytes end too early, nothing is wrong with any front of them
 abbrev pub CutLaw : Type 0

@@ -12,23 +12,30 @@ use Rattle.tcg_tokens.specs.Lexeme.{Lexeme, number, bytes, mark, marks, code_of,
 
 -- what is read, and the bytes behind it; or the first fault
 infixl 10 ◌>>=◌
-abbrev pub ◌>>=◌ : {A B : Type 0} → Result A TokenError → (A → Result B TokenError) → Result B TokenError
+abbrev pub ◌>>=◌ : {A B : Type 0} → Result A TokenError → (A → Result B TokenError)
+    → Result B TokenError
 (Ok x) >>= f = f x
 (Err e) >>= f = Err e
 
 -- the content of a number atom
 abbrev pub number_lexeme : List ℕ → List ℕ → Result (Lexeme × List ℕ) TokenError
-number_lexeme content rest = if nat_lt (number_from 0 content) (2 ^ NUMBER_BITS) then Ok (number (number_from 0 content), rest) else Err TooBig
+number_lexeme content rest =
+    if nat_lt (number_from 0 content) (2 ^ NUMBER_BITS) then Ok
+    (number (number_from 0 content), rest) else Err TooBig
 
 abbrev pub content_lexeme : Bool → List ℕ → List ℕ → Result (Lexeme × List ℕ) TokenError
-content_lexeme is_bytes content rest = if is_bytes then Ok (bytes content, rest) else number_lexeme content rest
+content_lexeme is_bytes content rest =
+    if is_bytes then Ok (bytes content, rest) else number_lexeme content rest
 
 -- len bytes of content
 abbrev pub content_at : Bool → ℕ → List ℕ → Result (Lexeme × List ℕ) TokenError
-content_at is_bytes len rest = if nat_lt (length rest) len then Err Truncated else content_lexeme is_bytes (take len rest) (drop len rest)
+content_at is_bytes len rest =
+    if nat_lt (length rest) len then Err Truncated else
+    content_lexeme is_bytes (take len rest) (drop len rest)
 
 -- an atom behind its first byte, which holds the upper bits of the length; width bytes of length follow
-abbrev pub atom_at : (is_bytes is_signed : Bool) (upper width : ℕ) → List ℕ → Result (Lexeme × List ℕ) TokenError
+abbrev pub atom_at : (is_bytes is_signed : Bool) (upper width : ℕ) → List ℕ
+    → Result (Lexeme × List ℕ) TokenError
 atom_at is_bytes is_signed upper width rest =
     if is_signed then (if is_bytes then Err Continued else Err Signed)
     else (if nat_lt (length rest) width then Err Truncated
@@ -36,7 +43,9 @@ atom_at is_bytes is_signed upper width rest =
 
 -- an atom of a form, from its first byte on
 abbrev pub form_at : Form → ℕ → List ℕ → Result (Lexeme × List ℕ) TokenError
-form_at form b rest = atom_at (has_bit (kind_bit form) b) (has_bit (sign_bit form) b) (b % upper_range form) (length_bytes form) rest
+form_at form b rest =
+    atom_at (has_bit (kind_bit form) b) (has_bit (sign_bit form) b) (b % upper_range form)
+    (length_bytes form) rest
 
 -- the mark that a byte is
 abbrev pub mark_of : ℕ → Option Mark

@@ -25,7 +25,8 @@ code_of EndTransaction = 0xfc
 
 -- all of them
 abbrev pub marks : List Mark
-marks = StartList ∷ EndList ∷ StartName ∷ EndName ∷ Call ∷ EndOfData ∷ EndOfSession ∷ StartTransaction ∷ EndTransaction ∷ []
+marks = StartList ∷ EndList ∷ StartName ∷ EndName ∷ Call ∷ EndOfData ∷ EndOfSession
+    ∷ StartTransaction ∷ EndTransaction ∷ []
 
 -- the bytes as one number, the highest first, behind what stands before them
 abbrev pub number_from : ℕ → List ℕ → ℕ

@@ -13,7 +13,8 @@ use Rattle.tcg_tokens.specs.Message.{Message, call, reply, end_session, begin, e
 abbrev pub header : Bool → ℕ → List ℕ
 header is_bytes len =
     if nat_lt len (upper_range Short) then (first_byte Short is_bytes + len) ∷ []
-    else (if nat_lt len (256 * upper_range Medium) then (first_byte Medium is_bytes + len / 256) ∷ len % 256 ∷ []
+    else (if nat_lt len (256 * upper_range Medium) then (first_byte Medium is_bytes + len / 256)
+    ∷ len % 256 ∷ []
     else first_byte Long is_bytes ∷ len / 65536 ∷ len / 256 % 256 ∷ len % 256 ∷ [])
 
 -- bytes without the zeros in front
@@ -35,7 +36,8 @@ abbrev mutual
   spelling_of (number n) = number_spelling n
   spelling_of (bytes b) = bytes_spelling b
   spelling_of (list vs) = code_of StartList ∷ (spellings_of vs ++ code_of EndList ∷ [])
-  spelling_of (named n v) = code_of StartName ∷ (spelling_of n ++ (spelling_of v ++ code_of EndName ∷ []))
+  spelling_of (named n v) =
+      code_of StartName ∷ (spelling_of n ++ (spelling_of v ++ code_of EndName ∷ []))
 
   pub spellings_of : Trees → List ℕ
   spellings_of empty = []
@@ -43,12 +45,16 @@ abbrev mutual
 
 -- the status: a list of its numbers
 abbrev pub status_spelling : List ℕ → List ℕ
-status_spelling status = code_of StartList ∷ (flat_map number_spelling status ++ code_of EndList ∷ [])
+status_spelling status =
+    code_of StartList ∷ (flat_map number_spelling status ++ code_of EndList ∷ [])
 
 abbrev pub item_spelling_of : Message → List ℕ
 item_spelling_of (call object method args status) =
-    code_of Call ∷ (bytes_spelling object ++ (bytes_spelling method ++ (spelling_of (list args) ++ (code_of EndOfData ∷ status_spelling status))))
-item_spelling_of (reply results status) = spelling_of (list results) ++ (code_of EndOfData ∷ status_spelling status)
+    code_of Call ∷ (bytes_spelling object
+    ++ (bytes_spelling method
+    ++ (spelling_of (list args) ++ (code_of EndOfData ∷ status_spelling status))))
+item_spelling_of (reply results status) =
+    spelling_of (list results) ++ (code_of EndOfData ∷ status_spelling status)
 item_spelling_of end_session = code_of EndOfSession ∷ []
 item_spelling_of (begin n) = code_of StartTransaction ∷ number_spelling n
 item_spelling_of (end n) = code_of EndTransaction ∷ number_spelling n

@@ -31,7 +31,8 @@ status_text status = flat_map (λ n. codes " " ++ decimal n) status
 -- `call OBJECT METHOD ARGS s s s`, `reply RESULTS s s s`, `end-session`, `begin N`, `end N`
 abbrev pub item_text_of : Message → List ℕ
 item_text_of (call object method args status) =
-    codes "call " ++ encode_lower object ++ codes " " ++ encode_lower method ++ codes " " ++ text_of (list args) ++ status_text status
+    codes "call " ++ encode_lower object ++ codes " " ++ encode_lower method ++ codes " "
+    ++ text_of (list args) ++ status_text status
 item_text_of (reply results status) = codes "reply " ++ text_of (list results) ++ status_text status
 item_text_of end_session = codes "end-session"
 item_text_of (begin n) = codes "begin " ++ decimal n
@@ -39,4 +40,5 @@ item_text_of (end n) = codes "end " ++ decimal n
 
 -- `malformed N NAME`
 abbrev pub fault_text_of : TokenError → List ℕ
-fault_text_of fault = codes "malformed " ++ decimal (code_of_fault fault) ++ codes " " ++ name_of_fault fault
+fault_text_of fault =
+    codes "malformed " ++ decimal (code_of_fault fault) ++ codes " " ++ name_of_fault fault

@@ -36,15 +36,18 @@ abbrev mutual
   are_writable_values room (more v vs) = is_writable_value room v && are_writable_values room vs
 
 abbrev pub is_writable : Message → Bool
-is_writable (call object method args status) = are_writable_values room_inside args && list_all fits_number status
-is_writable (reply results status) = are_writable_values room_inside results && list_all fits_number status
+is_writable (call object method args status) =
+    are_writable_values room_inside args && list_all fits_number status
+is_writable (reply results status) =
+    are_writable_values room_inside results && list_all fits_number status
 is_writable end_session = true
 is_writable (begin n) = fits_number n
 is_writable (end n) = fits_number n
 
 -- The shape that an item has by its type: UIDs, and a status of three numbers.
 abbrev pub IsShaped : Message → Type 0
-IsShaped (call object method args status) = (length object ≡ uid_size) × (length method ≡ uid_size) × (length status ≡ 3)
+IsShaped (call object method args status) =
+    (length object ≡ uid_size) × (length method ≡ uid_size) × (length status ≡ 3)
 IsShaped (reply results status) = length status ≡ 3
 IsShaped end_session = Unit {0}
 IsShaped (begin n) = Unit {0}

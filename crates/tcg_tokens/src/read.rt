@@ -330,7 +330,8 @@ pub fn read_item(alloc: Global, bytes: &[u8]) -> Result<Item, TokenError>
     // Which error it is: the one that is met first from the left.
     ensures exact { Gives message result (reading bytes.now) }
     // A fault is decided where it stands: whatever bytes follow, it stays. Truncated alone is due to their end.
-    ensures settled { (e : TokenError) → result ≡ Err e → e ≢ Truncated → e ≢ OutOfMemory → (more : List ℕ) → reading (bytes.now ++ more) ≡ Err e }
+    ensures settled { (e : TokenError) → result ≡ Err e → e ≢ Truncated → e ≢ OutOfMemory
+        → (more : List ℕ) → reading (bytes.now ++ more) ≡ Err e }
 {
     read_whole(alloc, bytes)
 }

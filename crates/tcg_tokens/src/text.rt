@@ -61,7 +61,8 @@ pub fn fault_text(alloc: Global, fault: TokenError) -> Result<String, AllocError
 
 /// Bytes as hex, behind the text.
 fn show_hex(alloc: Global, content: &[u8], text: &mut String) -> Result<(), AllocError>
-    ensures { OnOk result (string_bytes text.new ≡ string_bytes text.old ++ encode_lower content.now) }
+    ensures { OnOk result
+        (string_bytes text.new ≡ string_bytes text.old ++ encode_lower content.now) }
 {
     let digits = hex::encode(alloc, content)?;
     text.push_str(digits.as_str())?;
@@ -72,7 +73,8 @@ fn show_hex(alloc: Global, content: &[u8], text: &mut String) -> Result<(), Allo
 #[cycle(show)]
 #[tactic(auto, using(crate::proofs::Trees::trees_drop))]
 fn show_value(alloc: Global, value: &Value, text: &mut String) -> Result<(), AllocError>
-    ensures { OnOk result (string_bytes text.new ≡ string_bytes text.old ++ text_of (tree value.now)) }
+    ensures { OnOk result
+        (string_bytes text.new ≡ string_bytes text.old ++ text_of (tree value.now)) }
 {
     match value {
         Value::Number(number) => {
@@ -111,7 +113,8 @@ fn gap(is_first: bool) -> &'static str
 #[cycle(show)]
 #[tactic(auto, using(crate::proofs::Trees::trees_drop))]
 fn show_list(alloc: Global, items: &Vec<Value>, text: &mut String) -> Result<(), AllocError>
-    ensures { OnOk result (string_bytes text.new ≡ string_bytes text.old ++ text_of (list (trees items.now.items))) }
+    ensures { OnOk result
+        (string_bytes text.new ≡ string_bytes text.old ++ text_of (list (trees items.now.items))) }
 {
     text.push_str("[")?;
     let mut is_first = true;
@@ -126,7 +129,8 @@ fn show_list(alloc: Global, items: &Vec<Value>, text: &mut String) -> Result<(),
 
 /// The numbers of a status behind the text.
 fn show_status(status: &[u64], text: &mut String) -> Result<(), AllocError>
-    ensures { OnOk result (string_bytes text.new ≡ string_bytes text.old ++ status_text status.now) }
+    ensures { OnOk result
+        (string_bytes text.new ≡ string_bytes text.old ++ status_text status.now) }
 {
     for number in status {
         write!(text, " {number}")?;
@@ -136,7 +140,9 @@ fn show_status(status: &[u64], text: &mut String) -> Result<(), AllocError>
 
 /// A call behind the text.
 fn show_call(alloc: Global, call: &Call, text: &mut String) -> Result<(), AllocError>
-    ensures { OnOk result (string_bytes text.new ≡ string_bytes text.old ++ item_text_of (message (Item.Call call.now))) }
+    ensures { OnOk result
+        (string_bytes text.new
+        ≡ string_bytes text.old ++ item_text_of (message (Item.Call call.now))) }
 {
     text.push_str("call ")?;
     show_hex(alloc, &call.object, text)?;

@@ -34,7 +34,8 @@ pub(crate) enum Token<'a> {
 
 /// The number that the bytes spell, the highest first, where it fits.
 fn number_of(content: &[u8]) -> Option<u64>
-    ensures { result ≡ (if nat_lt (number_from 0 content.now) (2 ^ NUMBER_BITS) then Some (number_from 0 content.now) else None) }
+    ensures { result ≡ (if nat_lt (number_from 0 content.now) (2 ^ NUMBER_BITS) then Some
+        (number_from 0 content.now) else None) }
 {
     let mut number: u64 = 0;
     for byte in content {
@@ -94,7 +95,8 @@ fn atom(
 ) -> Result<(Token<'_>, &[u8]), TokenError>
     requires upper { upper < 16 }
     requires width { width ≤ 3 }
-    ensures { Tells (λ x. (seen x.0, x.1.now)) result (atom_at is_bytes is_signed upper width rest.now) }
+    ensures { Tells (λ x. (seen x.0, x.1.now)) result
+        (atom_at is_bytes is_signed upper width rest.now) }
 {
     if is_signed {
         return Err(if is_bytes {

@@ -30,9 +30,13 @@ pub fn write_item(alloc: Global, item: &Item) -> Result<Vec<u8>, AllocError>
     requires { IsTrue (is_writable (message item.now)) }
     ensures spelling { IfOk result (λ bytes. bytes.items ≡ item_spelling_of (message item.now)) }
     // No bytes that spell the item are fewer.
-    ensures shortest { IfOk result (λ bytes. (text : List ℕ) → AreBytes text → Spells text (message item.now) → length bytes.items ≤ length text) }
+    ensures shortest { IfOk result
+        (λ bytes. (text : List ℕ) → AreBytes text → Spells text (message item.now)
+        → length bytes.items ≤ length text) }
     // What is written is read again as the item, also with FF behind it.
-    ensures read_again { IfOk result (λ bytes. (fill : List ℕ) → IsFill fill → reading (bytes.items ++ fill) ≡ Ok (message item.now)) }
+    ensures read_again { IfOk result
+        (λ bytes. (fill : List ℕ) → IsFill fill
+        → reading (bytes.items ++ fill) ≡ Ok (message item.now)) }
 {
     let mut out = Vec::with_capacity(alloc, item_len(item))?;
     put_item(&mut out, item);
@@ -193,9 +197,11 @@ fn put_value(out: &mut Vec<u8>, value: &Value)
 #[tactic(auto, using(crate::proofs::Trees::trees_drop))]
 fn put_list(out: &mut Vec<u8>, items: &Vec<Value>)
     requires short { have_short_atoms (trees items.now.items) ≡ true }
-    requires room { vec_len out.old + length (spelling_of (list (trees items.now.items))) ≤ vec_capacity out.old }
+    requires room { vec_len out.old + length (spelling_of (list (trees items.now.items)))
+        ≤ vec_capacity out.old }
     ensures items { out.new.items ≡ out.old.items ++ spelling_of (list (trees items.now.items)) }
-    ensures len { vec_len out.new ≡ vec_len out.old + length (spelling_of (list (trees items.now.items))) }
+    ensures len { vec_len out.new
+        ≡ vec_len out.old + length (spelling_of (list (trees items.now.items))) }
     ensures kept { vec_capacity out.old ≤ vec_capacity out.new }
 {
     put_mark(out, Mark::StartList);
@@ -224,9 +230,12 @@ fn put_status(out: &mut Vec<u8>, status: &[u64; 3])
 /// A call.
 fn put_call(out: &mut Vec<u8>, call: &Call)
     requires short { have_short_atoms (trees call.now.args.items) ≡ true }
-    requires room { vec_len out.old + length (item_spelling_of (message (Item.Call call.now))) ≤ vec_capacity out.old }
-    ensures items { out.new.items ≡ out.old.items ++ item_spelling_of (message (Item.Call call.now)) }
-    ensures len { vec_len out.new ≡ vec_len out.old + length (item_spelling_of (message (Item.Call call.now))) }
+    requires room { vec_len out.old + length (item_spelling_of (message (Item.Call call.now)))
+        ≤ vec_capacity out.old }
+    ensures items { out.new.items
+        ≡ out.old.items ++ item_spelling_of (message (Item.Call call.now)) }
+    ensures len { vec_len out.new
+        ≡ vec_len out.old + length (item_spelling_of (message (Item.Call call.now))) }
     ensures kept { vec_capacity out.old ≤ vec_capacity out.new }
     ensures shaped { IsShaped (message (Item.Call call.now)) }
 {
@@ -242,7 +251,8 @@ fn put_call(out: &mut Vec<u8>, call: &Call)
 fn put_reply(out: &mut Vec<u8>, results: &Vec<Value>, status: &[u64; 3])
     requires short { have_short_atoms (trees results.now.items) ≡ true }
     requires room { vec_len out.old
-        + length (item_spelling_of (reply (trees results.now.items) status.now)) ≤ vec_capacity out.old }
+        + length (item_spelling_of (reply (trees results.now.items) status.now))
+        ≤ vec_capacity out.old }
     ensures items { out.new.items ≡ out.old.items
         ++ item_spelling_of (reply (trees results.now.items) status.now) }
     ensures len { vec_len out.new ≡ vec_len out.old
@@ -259,7 +269,8 @@ fn put_reply(out: &mut Vec<u8>, results: &Vec<Value>, status: &[u64; 3])
 #[tactic(auto, using(crate::proofs::Short::short_args))]
 fn put_item(out: &mut Vec<u8>, item: &Item)
     requires writable { is_writable (message item.now) ≡ true }
-    requires room { vec_len out.old + length (item_spelling_of (message item.now)) ≤ vec_capacity out.old }
+    requires room { vec_len out.old + length (item_spelling_of (message item.now))
+        ≤ vec_capacity out.old }
     ensures items { out.new.items ≡ out.old.items ++ item_spelling_of (message item.now) }
     ensures len { vec_len out.new ≡ vec_len out.old + length (item_spelling_of (message item.now)) }
     ensures kept { vec_capacity out.old ≤ vec_capacity out.new }

@@ -40,7 +40,8 @@ abbrev pub port_step_by : Origin → List Step → List ℕ → List ℕ → tol
     → Result PortEffect ℕ
 port_step_by o list last text (port_lines.Range row) = Err 2
 port_step_by o list last text port_lines.Expect =
-    if bytes_eq last (expected_text text) then Ok (port_effect_of o list port_lines.Expect) else Err 1
+    if bytes_eq last (expected_text text) then Ok (port_effect_of o list port_lines.Expect)
+    else Err 1
 port_step_by o list last text line = Ok (port_effect_of o list line)
 
 abbrev pub port_step : Origin → List Step → List ℕ → List ℕ
@@ -87,7 +88,8 @@ abbrev pub PhaseStands : Phase → Type 0
 PhaseStands phase = (o : Origin) × (course : Course) × PhaseRunsOn phase o course
 
 -- it has made the advance, and the lines are printed
-pub record Advances (new : Phase) (o : Origin) (before after : Report) (made : Advance) : Type 0 where
+pub record Advances (new : Phase) (o : Origin) (before after : Report)
+    (made : Advance) : Type 0 where
   pub runs : PhaseRunsOn new o made.course
   pub prints : Prints before after made.lines
 

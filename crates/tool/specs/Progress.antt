@@ -72,11 +72,13 @@ abbrev pub LinesOpenTo : Bool → Opened → OpeningPhase → List ℕ → Optio
     → Option (List ℕ) → Type 0
 LinesOpenTo on_port opened phase first before line left =
     IfSome before
-    (λ text. OpensTo on_port opened (outcome_from on_port phase (bare first ∷ script_lines text)) line left)
+    (λ text. OpensTo on_port opened (outcome_from on_port phase (bare first ∷ script_lines text))
+    line left)
 
 -- the first line is none, or the line at hand is the first of a script on a drive or of a port script
 abbrev pub FirstLine : Option Bool → List ℕ → List ℕ → Option (List ℕ) → Type 0
 FirstLine None text line left = (config : Config) → outcome_of config text ≡ ends 0
 FirstLine (Some on_port) text line left =
     (rest : List ℕ) × (left ≡ Some rest)
-    × ((config : Config) → outcome_of config text ≡ outcome_from on_port (Factory config) (bare line ∷ script_lines rest))
+    × ((config : Config) → outcome_of config text
+    ≡ outcome_from on_port (Factory config) (bare line ∷ script_lines rest))

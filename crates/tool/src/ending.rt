@@ -38,16 +38,19 @@ impl From<AllocError> for RunError {
 
 impl RunError {
     ghost use Rattle.std.specs.Prelude.{◌≡◌, ◌⊎◌};
+    ghost use Rattle.std.specs.IoError.{error_kind};
+    ghost use Rattle.std.specs.declared.io.ErrorKind.TheVariants.{OutOfMemory};
     ghost use Rattle.tool.specs.declared.ending.RunError.TheVariants.{Memory, Read};
 
-    /// The error of a call that reads.
+    /// The error of a call that reads: its kind decides.
     pub(crate) fn reading(error: io::Error) -> RunError
-        ensures { (result ≡ Memory) ⊎ (result ≡ Read) }
+        ensures either { (result ≡ Memory) ⊎ (result ≡ Read) }
+        ensures memory { error_kind error ≡ OutOfMemory → result ≡ Memory }
+        ensures read { (error_kind error ≡ OutOfMemory → ⊥) → result ≡ Read }
     {
-        if error.kind() == ErrorKind::OutOfMemory {
-            RunError::Memory
-        } else {
-            RunError::Read
+        match error.kind() {
+            ErrorKind::OutOfMemory => RunError::Memory,
+            _ => RunError::Read,
         }
     }
 }

@@ -130,7 +130,8 @@ impl OpeningPhase {
     /// Does what one line says, where it gives the cells of a range; any other line ends the phase.
     pub fn turn(self, alloc: Global, on_port: bool, text: &[u8]) -> Result<OpeningTurn, AllocError>
         ensures stands { IfOk result TurnStands }
-        ensures does { (row : Option RangeRow) → row_said on_port text.now ≡ Ok row → IfOk result (OpensBy on_port self row) }
+        ensures does { (row : Option RangeRow) → row_said on_port text.now ≡ Ok row
+            → IfOk result (OpensBy on_port self row) }
         ensures bad_line { (fault : LineFault) → row_said on_port text.now ≡ Err fault
             → result ≡ Ok (OpeningTurn.Bad (Fault.Line fault)) }
     {

@@ -87,7 +87,12 @@ impl Model for Options {
 
     ghost Value = { Config };
 
-    ghost view = { λ o. record { sectors = o.sectors; mbr_sectors = o.shadow; msid = o.msid.items } };
+    ghost view = { λ o. record {
+      sectors = o.sectors;
+      mbr_sectors = o.shadow;
+      msid =
+          o.msid.items;
+    } };
 
     ghost invariant = { λ o. IsWithinLimits o.sectors o.shadow o.msid.items };
 }
@@ -104,7 +109,8 @@ impl Options {
         shadow: &[u8],
         msid: &[u8],
     ) -> Result<Options, OptionsFault>
-        ensures read { IfOk result (λ options. WritesConfig sectors.now shadow.now msid.now options) }
+        ensures read { IfOk result (λ options. WritesConfig sectors.now shadow.now msid.now
+            options) }
         ensures fault { IfErr result (λ fault. IsFirstFault sectors.now shadow.now msid.now fault) }
     {
         let sectors = number_up_to(u64::MAX, sectors).ok_or(OptionsFault::Sectors)?;

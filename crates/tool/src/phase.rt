@@ -21,8 +21,10 @@ impl Phase {
     /// Does what one line says.
     pub fn turn(&mut self, text: &[u8], report: &mut Report) -> Result<Turn, AllocError>
         requires { PhaseStands self.old }
-        ensures steps { IfOk result (λ turn. (o : Origin) (course : Course) → PhaseRunsOn self.old o course
-            → Steps turn (course_step o course report.old.last.items text.now) self.new o report.old report.new) }
+        ensures steps { IfOk result (λ turn. (o : Origin) (course : Course)
+            → PhaseRunsOn self.old o course
+            → Steps turn (course_step o course report.old.last.items text.now) self.new o report.old
+            report.new) }
     {
         match self {
             Phase::Drive(run) => run.turn(text, report),

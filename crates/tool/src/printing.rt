@@ -61,7 +61,8 @@ pub fn print_answer(
     command: &Command,
     accepted: Accepted,
 ) -> Result<Vec<u8>, AllocError>
-    ensures { OnOk result (Prints report.old report.new (told_lines step client command.now accepted)) }
+    ensures { OnOk result (Prints report.old report.new
+        (told_lines step client command.now accepted)) }
 {
     let failed = accepted.has_failed();
     let Accepted {

@@ -30,7 +30,8 @@ pub fn without_end(line: &[u8]) -> &[u8]
 ///
 /// `Memory`.
 pub fn lines_of<R: Read + Drop>(alloc: Global, input: R) -> Result<BufReader<R>, RunError>
-    ensures reader { IfOk result (λ reader. reader_remaining R.remaining reader ≡ R.remaining input) }
+    ensures reader { IfOk result (λ reader. reader_remaining R.remaining reader
+        ≡ R.remaining input) }
     ensures memory { IfErr result (λ error. error ≡ RunError.Memory) }
 {
     BufReader::with_capacity(alloc, 65_536, input).map_err(|_| RunError::Memory)
@@ -67,9 +68,11 @@ pub fn answer<R: Read + Drop, W: Write>(
     output: &mut W,
 ) -> Result<Option<usize>, RunError>
     ensures at_hand { IfOk result (IsAtHand (reader_buffer reader.now)) }
-    ensures answered { OnOk result (IsAnswered (reader_buffer reader.now) report.new.pending.items) }
+    ensures answered { OnOk result (IsAnswered (reader_buffer reader.now)
+        report.new.pending.items) }
     ensures written { OnOk result
-        (HandsOn (W.contents output.old) (W.contents output.new) report.old.pending.items report.new.pending.items) }
+        (HandsOn (W.contents output.old) (W.contents output.new) report.old.pending.items
+        report.new.pending.items) }
     ensures last { report.new.last ≡ report.old.last }
     ensures errors { IfErr result (λ error. error ≡ RunError.Write) }
 {
@@ -111,7 +114,8 @@ pub fn read_line<R: Read + Drop>(
     requires at_hand { IsAtHand (reader_buffer reader.old) at_hand }
     requires answered { IsAnswered (reader_buffer reader.old) _report.now.pending.items }
     ensures line { IfSome (reader_remaining R.remaining reader.old)
-        (λ text. IfOk result (λ is_line. TakesLine is_line line.new.items text (reader_remaining R.remaining reader.new))) }
+        (λ text. IfOk result (λ is_line. TakesLine is_line line.new.items text
+        (reader_remaining R.remaining reader.new))) }
     ensures errors { IfErr result (λ error. (error ≡ RunError.Memory) ⊎ (error ≡ RunError.Read)) }
 {
     line.clear();

@@ -69,14 +69,18 @@ impl RunningPhase {
     pub fn turn(&mut self, text: &[u8], report: &mut Report) -> Result<Turn, AllocError>
         requires { Stands self.old }
         ensures stands { OnOk result (Stands self.new) }
-        ensures bad_line { (fault : LineFault) → line_of text.now ≡ Err fault → result ≡ Ok (Turn.Bad (Fault.Line fault)) }
-        ensures nothing_acts { (fault : LineFault) → line_of text.now ≡ Err fault → self.new ≡ self.old }
-        ensures nothing_prints { (fault : LineFault) → line_of text.now ≡ Err fault → report.new ≡ report.old }
+        ensures bad_line { (fault : LineFault) → line_of text.now ≡ Err fault
+            → result ≡ Ok (Turn.Bad (Fault.Line fault)) }
+        ensures nothing_acts { (fault : LineFault) → line_of text.now ≡ Err fault
+            → self.new ≡ self.old }
+        ensures nothing_prints { (fault : LineFault) → line_of text.now ≡ Err fault
+            → report.new ≡ report.old }
         ensures does { (line : Line) → line_of text.now ≡ Ok line → IfOk result
             (λ turn. (o : Origin) (acts : List Act) → RunsOn self.old o acts
             → Does line text.now turn self.old self.new o acts report.old report.new) }
         ensures steps { IfOk result (λ turn. (o : Origin) (acts : List Act) → RunsOn self.old o acts
-            → DriveSteps turn (step o acts report.old.last.items text.now (line_of text.now)) self.new o report.old report.new) }
+            → DriveSteps turn (step o acts report.old.last.items text.now (line_of text.now))
+            self.new o report.old report.new) }
     {
         match &Line::parse(text) {
             Ok(line) => self.act(line, text, report),
@@ -146,7 +150,8 @@ impl RunningPhase {
     /// queue has failed, and had not before the command before it.
     fn is_first_abort(&mut self, has_failed: bool) -> bool
         ensures told { result ≡ true → has_failed ≡ true }
-        ensures runs { (o : Origin) (acts : List Act) → RunsOn self.old o acts → RunsOn self.new o acts }
+        ensures runs { (o : Origin) (acts : List Act) → RunsOn self.old o acts
+            → RunsOn self.new o acts }
         ensures payload { self.new.payload ≡ self.old.payload }
     {
         let had_failed = replace(&mut self.had_failed, has_failed);
@@ -182,7 +187,8 @@ impl RunningPhase {
         requires address { IfSome (lba_of command.now) (λ lba. lba < 2 ^ 48) }
         requires counted { IsCounted command.now }
         requires payload { payload_length (fis_of command.now transfer.now.tag) ≡ 0 }
-        ensures { IfOk result (λ aborted. Makes (λ o acts. transferred o acts command.now transfer.now byte)
+        ensures { IfOk result (λ aborted. Makes
+            (λ o acts. transferred o acts command.now transfer.now byte)
             self.old self.new report.old report.new (Turn.Goes aborted)) }
     {
         let has_failed = self.drive.failure().is_some();
@@ -316,7 +322,8 @@ impl RunningPhase {
         report: &mut Report,
     ) -> Result<Turn, AllocError>
         requires { length packet.now ≤ most_send_bytes }
-        ensures { IfOk result (Makes (λ o acts. effect_of o acts (Line.Send client com_id packet.now))
+        ensures { IfOk result
+            (Makes (λ o acts. effect_of o acts (Line.Send client com_id packet.now))
             self.old self.new report.old report.new) }
     {
         self.payload.clear();

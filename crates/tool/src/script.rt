@@ -71,7 +71,8 @@ fn opening_lines<R: Read + Drop>(
     requires { report.now.pending.items ≡ [] }
     ensures stands { IfOk result OpenedStands }
     ensures leads { IfOk result (λ opened.
-        LinesOpenTo on_port opened (opens_with options.now) line.old.items (reader_remaining R.remaining reader.old)
+        LinesOpenTo on_port opened (opens_with options.now) line.old.items
+        (reader_remaining R.remaining reader.old)
         line.new.items (reader_remaining R.remaining reader.new)) }
 {
     let mut phase = OpeningPhase::Factory(options.config());

@@ -33,10 +33,13 @@ pub fn run_tokens_with_faults<W: Write, E: Write>(
     output: &mut W,
     faults: &mut E,
 ) -> Result<u8, RunError>
-    ensures printed { (bytes : List ℕ) → decode_of hex.now ≡ Ok bytes → IfOk result (λ status. (status ≡ 0) × Appends (W.contents output.old) (W.contents output.new) (token_text bytes ++ 10 ∷ [])) }
+    ensures printed { (bytes : List ℕ) → decode_of hex.now ≡ Ok bytes
+        → IfOk result (λ status. (status ≡ 0)
+        × Appends (W.contents output.old) (W.contents output.new) (token_text bytes ++ 10 ∷ [])) }
     ensures memory { result ≡ Err RunError.Memory → W.contents output.new ≡ W.contents output.old }
     ensures errors { IfErr result (λ error. (error ≡ RunError.Memory) ⊎ (error ≡ RunError.Write)) }
-    ensures no_hex { (e : FromHexError) → decode_of hex.now ≡ Err e → IfOk result (λ status. (status ≡ 2) × (W.contents output.new ≡ W.contents output.old)) }
+    ensures no_hex { (e : FromHexError) → decode_of hex.now ≡ Err e
+        → IfOk result (λ status. (status ≡ 2) × (W.contents output.new ≡ W.contents output.old)) }
 {
     let bytes = match hex::decode(alloc, hex.as_bytes()) {
         Ok(bytes) => bytes,
@@ -59,10 +62,13 @@ pub fn run_tokens_with_faults<W: Write, E: Write>(
 
 /// Prints what hex digits spell, as `run_tokens_with_faults` does, and drops the text of the fault.
 pub fn run_tokens<W: Write>(alloc: Global, hex: &str, output: &mut W) -> Result<u8, RunError>
-    ensures printed { (bytes : List ℕ) → decode_of hex.now ≡ Ok bytes → IfOk result (λ status. (status ≡ 0) × Appends (W.contents output.old) (W.contents output.new) (token_text bytes ++ 10 ∷ [])) }
+    ensures printed { (bytes : List ℕ) → decode_of hex.now ≡ Ok bytes
+        → IfOk result (λ status. (status ≡ 0)
+        × Appends (W.contents output.old) (W.contents output.new) (token_text bytes ++ 10 ∷ [])) }
     ensures memory { result ≡ Err RunError.Memory → W.contents output.new ≡ W.contents output.old }
     ensures errors { IfErr result (λ error. (error ≡ RunError.Memory) ⊎ (error ≡ RunError.Write)) }
-    ensures no_hex { (e : FromHexError) → decode_of hex.now ≡ Err e → IfOk result (λ status. (status ≡ 2) × (W.contents output.new ≡ W.contents output.old)) }
+    ensures no_hex { (e : FromHexError) → decode_of hex.now ≡ Err e
+        → IfOk result (λ status. (status ≡ 2) × (W.contents output.new ≡ W.contents output.old)) }
 {
     run_tokens_with_faults(alloc, hex, output, &mut io::sink())
 }

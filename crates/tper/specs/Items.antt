@@ -27,7 +27,8 @@ OfManager outcome said s t l m =
     → Answers (outcome (facts o past)) said s t l m
 
 -- What an outcome in a live session comes to.
-abbrev pub OfSession : (Facts → Begun → Outcome) → SessionId → Answered → Stored → Stored → Live → Live → Type 0
+abbrev pub OfSession : (Facts → Begun → Outcome) → SessionId → Answered → Stored → Stored → Live
+    → Live → Type 0
 OfSession outcome session said s t l m =
     (o : Origin) (acts : List Act) (its : Begun)
     → KeepsStore s o (log o acts) → KeepsSessions l (log o acts)

@@ -57,7 +57,8 @@ abbrev pub Responds : ℕ → Session → Message → Tper → Tper → Type 0
 Responds com_id session said old new =
     (other : ℕ) → response_at new.waiting other
     ≡ (if com_id == other
-    then Some (frame_bytes com_id session (item_spelling_of said)) else response_at old.waiting other)
+    then Some (frame_bytes com_id session (item_spelling_of said))
+    else response_at old.waiting other)
 
 -- A response that has room in a transfer is taken.
 abbrev pub Takes : ℕ → ℕ → Tper → Tper → Type 0
@@ -67,7 +68,8 @@ Takes com_id room old new =
     then None else response_at old.waiting other)
 
 -- An item was handled: what came of it, its answer, and what is told of it.
-pub record Handles (Met : Outcome → Type 0) (com_id : ℕ) (session : Session) (s : Sent) (old new : Tper) : Type 0 where
+pub record Handles (Met : Outcome → Type 0) (com_id : ℕ) (session : Session) (s : Sent)
+    (old new : Tper) : Type 0 where
   pub said : Outcome
   pub met : Met said
   pub denied : s.denied ≡ said.denied

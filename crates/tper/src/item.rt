@@ -78,7 +78,8 @@ fn call_manager(
 ) -> Result<Outcome, AllocError>
     ensures met { IfOk result (λ said. OfManager
         (λ f. called_manager f com_id (uid_in call.now.object) (uid_in call.now.method)
-        (values_of (trees call.now.args.items))) said store.old store.new sessions.old sessions.new) }
+        (values_of (trees call.now.args.items))) said store.old store.new sessions.old
+        sessions.new) }
     ensures carried { IfOk result (λ said. is_carried (message said.reply) ≡ true) }
     ensures unchanged { IfOk result (λ said. said.changes ≡ false → store.new ≡ store.old) }
     ensures err_store { OnErr result (store.new ≡ store.old) }

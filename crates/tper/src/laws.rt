@@ -17,7 +17,8 @@ ghost use Rattle.methods.specs.Calls.{Called, said_call};
 /// Properties.
 pub fn laws_of_answers()
     ensures call { (s : Stored) (c : Called) → is_carried (said_call s c).answer ≡ true }
-    ensures start { (s : Stored) (l : Live) (args : List Tree) → is_carried (start_reply s l args) ≡ true }
+    ensures start { (s : Stored) (l : Live) (args : List Tree)
+        → is_carried (start_reply s l args) ≡ true }
     ensures properties { (args : List Tree) → is_carried (properties_message args) ≡ true }
 {}
 

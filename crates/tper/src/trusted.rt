@@ -64,7 +64,12 @@ impl Model for Tper {
 
     ghost Value = { Tper };
 
-    ghost view = { λ t. record { store = t.store; live = t.sessions; waiting = t.responses.waiting } };
+    ghost view = { λ t. record {
+      store = t.store;
+      live = t.sessions;
+      waiting =
+          t.responses.waiting;
+    } };
 
     ghost use Rattle.std.specs.Prelude.{◌≤◌};
     ghost use Rattle.sp_cells.specs.Limits.{most_mbr_sectors};
@@ -87,7 +92,8 @@ fn nothing() -> Sent
 impl Tper {
     /// No session lives, and nothing was done with the tables.
     pub fn new(alloc: Global, tables: Tables) -> Tper
-        ensures kept { HasNoTries (record { tables = tables }) → HasKnownRows (record { tables = tables })
+        ensures kept { HasNoTries (record { tables = tables })
+            → HasKnownRows (record { tables = tables })
             → Keeps result (record { tables = tables }) [] }
         ensures config { result.store.config ≡ tables.config }
     {
@@ -129,7 +135,8 @@ impl Tper {
     #[tactic(auto, using(transactions::proofs::ByteLemmas::reading))]
     fn fill(&self, place: u64, buffer: &mut [u8])
         requires { place + length buffer.old ≤ sector_size * self.now.store.config.mbr_sectors }
-        ensures { buffer.new ≡ bytes_from (slice_index self.now.store.locking.bytes) place (length buffer.old) }
+        ensures { buffer.new ≡ bytes_from (slice_index self.now.store.locking.bytes) place
+            (length buffer.old) }
     {
         self.in_force().read_mbr(place, buffer);
     }
@@ -160,7 +167,8 @@ impl Tper {
     ) -> Result<Sent, AllocError>
         requires { is_session_com_id com_id ≡ true }
         ensures kept { OnOk result ((o : Origin) (acts : List Act) → Keeps self.old o (log o acts)
-            → Keeps self.new o (sent (facts o (log o acts)) com_id (frame_in payload.now) ∷ log o acts)) }
+            → Keeps self.new o (sent (facts o (log o acts)) com_id (frame_in payload.now)
+            ∷ log o acts)) }
         ensures answer { IfOk result (λ s. (o : Origin) (acts : List Act)
             → Keeps self.old o (log o acts)
             → IsSent (sent (facts o (log o acts)) com_id (frame_in payload.now)) s) }
@@ -193,8 +201,10 @@ impl Tper {
         spare: &mut Vec<u8>,
     ) -> Result<Sent, AllocError>
         requires { is_session_com_id com_id ≡ true }
-        ensures handled { IfOk result (λ s. Handles (λ said. OfManager (λ f. to_manager f com_id (message_in tokens.now)) said
-            self.old.store self.new.store self.old.live self.new.live) com_id session s self.old self.new) }
+        ensures handled { IfOk result
+            (λ s. Handles (λ said. OfManager (λ f. to_manager f com_id (message_in tokens.now)) said
+            self.old.store self.new.store self.old.live self.new.live) com_id session s self.old
+            self.new) }
         ensures unchanged { IfOk result (λ s. s.changes ≡ false → self.new.store ≡ self.old.store) }
         ensures err { OnErr result (self.new ≡ self.old) }
         ensures config { self.new.store.config ≡ self.old.store.config }
@@ -221,8 +231,11 @@ impl Tper {
     ) -> Result<Sent, AllocError>
         requires com_id { is_session_com_id com_id ≡ true }
         requires lives { holder_of self.old.live id ≢ None }
-        ensures handled { IfOk result (λ s. Handles (λ said. OfSession (λ f its. in_session f its (message_in tokens.now)) id said
-            self.old.store self.new.store self.old.live self.new.live) com_id session s self.old self.new) }
+        ensures handled { IfOk result
+            (λ s. Handles (λ said. OfSession (λ f its. in_session f its (message_in tokens.now)) id
+            said
+            self.old.store self.new.store self.old.live self.new.live) com_id session s self.old
+            self.new) }
         ensures unchanged { IfOk result (λ s. s.changes ≡ false → self.new.store ≡ self.old.store) }
         ensures err { OnErr result (self.new ≡ self.old) }
         ensures config { self.new.store.config ≡ self.old.store.config }

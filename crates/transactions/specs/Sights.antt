@@ -29,7 +29,8 @@ pub record Sight : Type 0 where
   pub config : Config
 
 abbrev pub side_at : Side → Uid → Column → Option Cell
-side_at side object column = option_or (item_at side.tries object column) (item_at side.rows object column)
+side_at side object column =
+    option_or (item_at side.tries object column) (item_at side.rows object column)
 
 abbrev pub look_up : Sight → LookUp
 look_up s Admin = side_at s.admin
@@ -52,12 +53,29 @@ latest_side p = record { rows = latest p.pending; tries = p.tries } where
 
 -- what is in force
 abbrev pub committed_sight : Stored → Sight
-committed_sight s = record { admin = side_of s.admin; locking = side_of s.locking; bytes = s.locking.bytes; config = s.config }
+committed_sight s = record {
+  admin = side_of s.admin;
+  locking = side_of s.locking;
+  bytes = s.locking.bytes;
+  config = s.config;
+}
 
 -- what a session sees: its own changes, on its own SP
 abbrev pub sight_on : Sp → ℕ → Stored → Sight
-sight_on Admin tsn s = record { admin = side_for s.admin tsn; locking = side_of s.locking; bytes = s.locking.bytes; config = s.config }
-sight_on Locking tsn s = record { admin = side_of s.admin; locking = side_for s.locking tsn; bytes = bytes_seen s.locking tsn; config = s.config }
+sight_on Admin tsn s =
+    record {
+      admin = side_for s.admin tsn;
+      locking = side_of s.locking;
+      bytes = s.locking.bytes;
+      config = s.config;
+    }
+sight_on Locking tsn s =
+    record {
+      admin = side_of s.admin;
+      locking = side_for s.locking tsn;
+      bytes = bytes_seen s.locking tsn;
+      config = s.config;
+    }
 
 abbrev pub sight_of : Stored → SessionId → Sight
 sight_of s session = sight_on session.sp session.tsn s
@@ -70,14 +88,21 @@ latest_look s Locking = side_at (latest_side s.locking)
 -- Activate (Opal SSC 2.01, section 5.1.1): the Locking SP is Manufactured, and its first Admin has SID's PIN; where it
 -- is so already, nothing changes
 abbrev pub is_manufactured : Stored → Bool
-is_manufactured s = number (look_up (committed_sight s)) Admin locking_sp life_cycle_state_column == manufactured
+is_manufactured s = number (look_up (committed_sight s)) Admin locking_sp life_cycle_state_column
+    == manufactured
 
 abbrev pub with_pin : Option Cell → Part → Part
 with_pin None p = part_close p
 with_pin (Some pin) p = part_put (admin_pin_uid 1) pin_column pin p
 
 abbrev pub activated_with : Option Cell → Stored → Stored
-activated_with pin s = record { admin = part_put locking_sp life_cycle_state_column (Number manufactured) s.admin; locking = with_pin pin s.locking; config = s.config }
+activated_with pin s =
+    record {
+      admin = part_put locking_sp life_cycle_state_column (Number manufactured) s.admin;
+      locking = with_pin pin s.locking;
+      config = s.config;
+    }
 
 abbrev pub activated : Stored → Stored
-activated s = if is_manufactured s then s else activated_with (look_up (committed_sight s) Admin c_pin_sid pin_column) s
+activated s = if is_manufactured s then s else
+    activated_with (look_up (committed_sight s) Admin c_pin_sid pin_column) s

@@ -50,7 +50,8 @@ impl Model for Store {
 
     ghost view = { λ s. stored s.tables s.mbr s.admin s.locking };
 
-    ghost invariant = { λ s. CanUndo s.tables s.mbr (row_log s.admin) (row_log s.locking) (byte_log s.locking) };
+    ghost invariant = { λ s. CanUndo s.tables s.mbr (row_log s.admin) (row_log s.locking)
+        (byte_log s.locking) };
 }
 
 impl Store {
@@ -146,7 +147,8 @@ impl Store {
     pub fn commit(&mut self, session: SessionId) -> Result<(), TransactionError>
         ensures ok { OnOk result (self.new
             ≡ at_part session.sp (part_commit session.tsn) self.old) }
-        ensures not_open { IsErr result ↔ (is_open_in (part self.old session.sp).pending session.tsn ≡ false) }
+        ensures not_open { IsErr result
+            ↔ (is_open_in (part self.old session.sp).pending session.tsn ≡ false) }
         ensures error { IfErr result (λ e. e ≡ errors.NotOpen) }
         ensures err { OnErr result (self.new ≡ self.old) }
     {
@@ -163,7 +165,8 @@ impl Store {
     /// Drops the session's transaction: what is in force stays. It takes no memory.
     pub fn abort(&mut self, session: SessionId) -> Result<(), TransactionError>
         ensures ok { OnOk result (self.new ≡ at_part session.sp part_close self.old) }
-        ensures not_open { IsErr result ↔ (is_open_in (part self.old session.sp).pending session.tsn ≡ false) }
+        ensures not_open { IsErr result
+            ↔ (is_open_in (part self.old session.sp).pending session.tsn ≡ false) }
         ensures error { IfErr result (λ e. e ≡ errors.NotOpen) }
         ensures err { OnErr result (self.new ≡ self.old) }
     {
@@ -240,7 +243,8 @@ impl Store {
         cells: &Vec<(Column, Cell)>,
     ) -> Result<(), SetError>
         ensures ok { OnOk result (self.new
-            ≡ at_part sp (part_change (λ rows. with_items rows object cells.now.items) (λ bytes. bytes)) self.old) }
+            ≡ at_part sp (part_change (λ rows. with_items rows object cells.now.items)
+            (λ bytes. bytes)) self.old) }
         ensures fault { TellsFault (fault_of_cells self.old sp object cells.now.items) result }
         ensures err { OnErr result (self.new ≡ self.old) }
     {
@@ -260,7 +264,8 @@ impl Store {
     ) -> Result<(), AllocError>
         requires { fault_of_cells self.old sp object cells.now.items ≡ None }
         ensures ok { OnOk result (self.new
-            ≡ at_part sp (part_change (λ rows. with_items rows object cells.now.items) (λ bytes. bytes)) self.old) }
+            ≡ at_part sp (part_change (λ rows. with_items rows object cells.now.items)
+            (λ bytes. bytes)) self.old) }
         ensures err { OnErr result (self.new ≡ self.old) }
     {
         let copies = copied(self.alloc, cells)?;
