@@ -25,6 +25,27 @@ pub trait Row {
         ensures changed { held self.new ≡ with_column (held self.old) column cell.old };
 }
 
+/// The match of `cell`: which field has the cell of a column.
+macro_rules! cell_of {
+    ($row:ident, $column:ident; $($name:ident: $field:ident),+) => {
+        match $column {
+            $(Column::$name => Some(&$row.$field),)+
+            _ => None,
+        }
+    };
+}
+
+/// The match of `swap`: the field that has the cell of a column exchanges it.
+macro_rules! swap_of {
+    ($row:ident, $column:ident, $cell:ident; $($name:ident: $field:ident),+) => {{
+        match $column {
+            $(Column::$name => mem::swap(&mut $row.$field, $cell),)+
+            _ => return false,
+        }
+        true
+    }};
+}
+
 /// A row of the SP table.
 #[derive(Drop)]
 pub struct SpRow {
@@ -33,28 +54,29 @@ pub struct SpRow {
     pub life_cycle_state: Cell,
 }
 
+/// The columns of the table, and the field of each, for one of the two matches.
+macro_rules! sp_columns {
+    ($matched:ident $($given:ident),+) => {
+        $matched!(
+            $($given),+;
+            UID: uid,
+            NAME: name,
+            LIFE_CYCLE_STATE: life_cycle_state
+        )
+    };
+}
+
 impl Row for SpRow {
     ghost use Rattle.sp_rows.specs.Columns.{sp_columns};
 
     ghost held = { sp_columns };
 
     fn cell(&self, column: Column) -> Option<&Cell> {
-        match column {
-            Column::UID => Some(&self.uid),
-            Column::NAME => Some(&self.name),
-            Column::LIFE_CYCLE_STATE => Some(&self.life_cycle_state),
-            _ => None,
-        }
+        sp_columns!(cell_of self, column)
     }
 
     fn swap(&mut self, column: Column, cell: &mut Cell) -> bool {
-        match column {
-            Column::UID => mem::swap(&mut self.uid, cell),
-            Column::NAME => mem::swap(&mut self.name, cell),
-            Column::LIFE_CYCLE_STATE => mem::swap(&mut self.life_cycle_state, cell),
-            _ => return false,
-        }
-        true
+        sp_columns!(swap_of self, column, cell)
     }
 }
 
@@ -71,38 +93,34 @@ pub struct AuthorityRow {
     pub credential: Cell,
 }
 
+/// The columns of the table, and the field of each, for one of the two matches.
+macro_rules! authority_columns {
+    ($matched:ident $($given:ident),+) => {
+        $matched!(
+            $($given),+;
+            UID: uid,
+            NAME: name,
+            COMMON_NAME: common_name,
+            IS_CLASS: is_class,
+            CLASS: class,
+            ENABLED: enabled,
+            OPERATION: operation,
+            CREDENTIAL: credential
+        )
+    };
+}
+
 impl Row for AuthorityRow {
     ghost use Rattle.sp_rows.specs.Columns.{authority_columns};
 
     ghost held = { authority_columns };
 
     fn cell(&self, column: Column) -> Option<&Cell> {
-        match column {
-            Column::UID => Some(&self.uid),
-            Column::NAME => Some(&self.name),
-            Column::COMMON_NAME => Some(&self.common_name),
-            Column::IS_CLASS => Some(&self.is_class),
-            Column::CLASS => Some(&self.class),
-            Column::ENABLED => Some(&self.enabled),
-            Column::OPERATION => Some(&self.operation),
-            Column::CREDENTIAL => Some(&self.credential),
-            _ => None,
-        }
+        authority_columns!(cell_of self, column)
     }
 
     fn swap(&mut self, column: Column, cell: &mut Cell) -> bool {
-        match column {
-            Column::UID => mem::swap(&mut self.uid, cell),
-            Column::NAME => mem::swap(&mut self.name, cell),
-            Column::COMMON_NAME => mem::swap(&mut self.common_name, cell),
-            Column::IS_CLASS => mem::swap(&mut self.is_class, cell),
-            Column::CLASS => mem::swap(&mut self.class, cell),
-            Column::ENABLED => mem::swap(&mut self.enabled, cell),
-            Column::OPERATION => mem::swap(&mut self.operation, cell),
-            Column::CREDENTIAL => mem::swap(&mut self.credential, cell),
-            _ => return false,
-        }
-        true
+        authority_columns!(swap_of self, column, cell)
     }
 }
 
@@ -119,38 +137,34 @@ pub struct CPinRow {
     pub persistence: Cell,
 }
 
+/// The columns of the table, and the field of each, for one of the two matches.
+macro_rules! c_pin_columns {
+    ($matched:ident $($given:ident),+) => {
+        $matched!(
+            $($given),+;
+            UID: uid,
+            NAME: name,
+            COMMON_NAME: common_name,
+            PIN: pin,
+            CHAR_SET: char_set,
+            TRY_LIMIT: try_limit,
+            TRIES: tries,
+            PERSISTENCE: persistence
+        )
+    };
+}
+
 impl Row for CPinRow {
     ghost use Rattle.sp_rows.specs.Columns.{c_pin_columns};
 
     ghost held = { c_pin_columns };
 
     fn cell(&self, column: Column) -> Option<&Cell> {
-        match column {
-            Column::UID => Some(&self.uid),
-            Column::NAME => Some(&self.name),
-            Column::COMMON_NAME => Some(&self.common_name),
-            Column::PIN => Some(&self.pin),
-            Column::CHAR_SET => Some(&self.char_set),
-            Column::TRY_LIMIT => Some(&self.try_limit),
-            Column::TRIES => Some(&self.tries),
-            Column::PERSISTENCE => Some(&self.persistence),
-            _ => None,
-        }
+        c_pin_columns!(cell_of self, column)
     }
 
     fn swap(&mut self, column: Column, cell: &mut Cell) -> bool {
-        match column {
-            Column::UID => mem::swap(&mut self.uid, cell),
-            Column::NAME => mem::swap(&mut self.name, cell),
-            Column::COMMON_NAME => mem::swap(&mut self.common_name, cell),
-            Column::PIN => mem::swap(&mut self.pin, cell),
-            Column::CHAR_SET => mem::swap(&mut self.char_set, cell),
-            Column::TRY_LIMIT => mem::swap(&mut self.try_limit, cell),
-            Column::TRIES => mem::swap(&mut self.tries, cell),
-            Column::PERSISTENCE => mem::swap(&mut self.persistence, cell),
-            _ => return false,
-        }
-        true
+        c_pin_columns!(swap_of self, column, cell)
     }
 }
 
@@ -169,42 +183,36 @@ pub struct LockingRow {
     pub lock_on_reset: Cell,
 }
 
+/// The columns of the table, and the field of each, for one of the two matches.
+macro_rules! locking_columns {
+    ($matched:ident $($given:ident),+) => {
+        $matched!(
+            $($given),+;
+            UID: uid,
+            NAME: name,
+            COMMON_NAME: common_name,
+            RANGE_START: start,
+            RANGE_LENGTH: len,
+            READ_LOCK_ENABLED: read_lock_enabled,
+            WRITE_LOCK_ENABLED: write_lock_enabled,
+            READ_LOCKED: read_locked,
+            WRITE_LOCKED: write_locked,
+            LOCK_ON_RESET: lock_on_reset
+        )
+    };
+}
+
 impl Row for LockingRow {
     ghost use Rattle.sp_rows.specs.Columns.{locking_columns};
 
     ghost held = { locking_columns };
 
     fn cell(&self, column: Column) -> Option<&Cell> {
-        match column {
-            Column::UID => Some(&self.uid),
-            Column::NAME => Some(&self.name),
-            Column::COMMON_NAME => Some(&self.common_name),
-            Column::RANGE_START => Some(&self.start),
-            Column::RANGE_LENGTH => Some(&self.len),
-            Column::READ_LOCK_ENABLED => Some(&self.read_lock_enabled),
-            Column::WRITE_LOCK_ENABLED => Some(&self.write_lock_enabled),
-            Column::READ_LOCKED => Some(&self.read_locked),
-            Column::WRITE_LOCKED => Some(&self.write_locked),
-            Column::LOCK_ON_RESET => Some(&self.lock_on_reset),
-            _ => None,
-        }
+        locking_columns!(cell_of self, column)
     }
 
     fn swap(&mut self, column: Column, cell: &mut Cell) -> bool {
-        match column {
-            Column::UID => mem::swap(&mut self.uid, cell),
-            Column::NAME => mem::swap(&mut self.name, cell),
-            Column::COMMON_NAME => mem::swap(&mut self.common_name, cell),
-            Column::RANGE_START => mem::swap(&mut self.start, cell),
-            Column::RANGE_LENGTH => mem::swap(&mut self.len, cell),
-            Column::READ_LOCK_ENABLED => mem::swap(&mut self.read_lock_enabled, cell),
-            Column::WRITE_LOCK_ENABLED => mem::swap(&mut self.write_lock_enabled, cell),
-            Column::READ_LOCKED => mem::swap(&mut self.read_locked, cell),
-            Column::WRITE_LOCKED => mem::swap(&mut self.write_locked, cell),
-            Column::LOCK_ON_RESET => mem::swap(&mut self.lock_on_reset, cell),
-            _ => return false,
-        }
-        true
+        locking_columns!(swap_of self, column, cell)
     }
 }
 
@@ -217,30 +225,30 @@ pub struct MbrControlRow {
     pub done_on_reset: Cell,
 }
 
+/// The columns of the table, and the field of each, for one of the two matches.
+macro_rules! mbr_control_columns {
+    ($matched:ident $($given:ident),+) => {
+        $matched!(
+            $($given),+;
+            UID: uid,
+            MBR_ENABLE: enable,
+            MBR_DONE: done,
+            MBR_DONE_ON_RESET: done_on_reset
+        )
+    };
+}
+
 impl Row for MbrControlRow {
     ghost use Rattle.sp_rows.specs.Columns.{mbr_control_columns};
 
     ghost held = { mbr_control_columns };
 
     fn cell(&self, column: Column) -> Option<&Cell> {
-        match column {
-            Column::UID => Some(&self.uid),
-            Column::MBR_ENABLE => Some(&self.enable),
-            Column::MBR_DONE => Some(&self.done),
-            Column::MBR_DONE_ON_RESET => Some(&self.done_on_reset),
-            _ => None,
-        }
+        mbr_control_columns!(cell_of self, column)
     }
 
     fn swap(&mut self, column: Column, cell: &mut Cell) -> bool {
-        match column {
-            Column::UID => mem::swap(&mut self.uid, cell),
-            Column::MBR_ENABLE => mem::swap(&mut self.enable, cell),
-            Column::MBR_DONE => mem::swap(&mut self.done, cell),
-            Column::MBR_DONE_ON_RESET => mem::swap(&mut self.done_on_reset, cell),
-            _ => return false,
-        }
-        true
+        mbr_control_columns!(swap_of self, column, cell)
     }
 }
 
@@ -251,28 +259,28 @@ pub struct TperInfoRow {
     pub programmatic_reset_enable: Cell,
 }
 
+/// The columns of the table, and the field of each, for one of the two matches.
+macro_rules! tper_info_columns {
+    ($matched:ident $($given:ident),+) => {
+        $matched!(
+            $($given),+;
+            UID: uid,
+            PROGRAMMATIC_RESET_ENABLE: programmatic_reset_enable
+        )
+    };
+}
+
 impl Row for TperInfoRow {
     ghost use Rattle.sp_rows.specs.Columns.{tper_info_columns};
 
     ghost held = { tper_info_columns };
 
     fn cell(&self, column: Column) -> Option<&Cell> {
-        match column {
-            Column::UID => Some(&self.uid),
-            Column::PROGRAMMATIC_RESET_ENABLE => Some(&self.programmatic_reset_enable),
-            _ => None,
-        }
+        tper_info_columns!(cell_of self, column)
     }
 
     fn swap(&mut self, column: Column, cell: &mut Cell) -> bool {
-        match column {
-            Column::UID => mem::swap(&mut self.uid, cell),
-            Column::PROGRAMMATIC_RESET_ENABLE => {
-                mem::swap(&mut self.programmatic_reset_enable, cell)
-            }
-            _ => return false,
-        }
-        true
+        tper_info_columns!(swap_of self, column, cell)
     }
 }
 
@@ -286,31 +294,30 @@ pub struct AceRow {
     pub columns: Cell,
 }
 
+/// The columns of the table, and the field of each, for one of the two matches.
+macro_rules! ace_columns {
+    ($matched:ident $($given:ident),+) => {
+        $matched!(
+            $($given),+;
+            UID: uid,
+            NAME: name,
+            COMMON_NAME: common_name,
+            BOOLEAN_EXPR: boolean_expr,
+            COLUMNS: columns
+        )
+    };
+}
+
 impl Row for AceRow {
     ghost use Rattle.sp_rows.specs.Columns.{ace_columns};
 
     ghost held = { ace_columns };
 
     fn cell(&self, column: Column) -> Option<&Cell> {
-        match column {
-            Column::UID => Some(&self.uid),
-            Column::NAME => Some(&self.name),
-            Column::COMMON_NAME => Some(&self.common_name),
-            Column::BOOLEAN_EXPR => Some(&self.boolean_expr),
-            Column::COLUMNS => Some(&self.columns),
-            _ => None,
-        }
+        ace_columns!(cell_of self, column)
     }
 
     fn swap(&mut self, column: Column, cell: &mut Cell) -> bool {
-        match column {
-            Column::UID => mem::swap(&mut self.uid, cell),
-            Column::NAME => mem::swap(&mut self.name, cell),
-            Column::COMMON_NAME => mem::swap(&mut self.common_name, cell),
-            Column::BOOLEAN_EXPR => mem::swap(&mut self.boolean_expr, cell),
-            Column::COLUMNS => mem::swap(&mut self.columns, cell),
-            _ => return false,
-        }
-        true
+        ace_columns!(swap_of self, column, cell)
     }
 }
