@@ -199,11 +199,10 @@ impl Kept {
             ≡ bytes.old.items ++ sectors_from (λ s. unwrap_or (block_in self.now s) zeros) first
             (end - first)) }
     {
-        // Each place has a block: the fields say so once they are used.
-        let _ = &self.blocks;
+        let blocks = &self.blocks;
         let mut finder = self.places.finder(first);
         for sector in first..end {
-            append_block(bytes, &self.blocks, finder.at(sector))?;
+            append_block(bytes, blocks, finder.at(sector))?;
         }
         Ok(())
     }

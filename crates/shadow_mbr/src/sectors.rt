@@ -54,6 +54,13 @@ impl Sectors {
         self.kept = Kept::new(self.alloc);
     }
 
+    /// The sectors are few and whole: the type promises it, and says so where a field is used.
+    fn is_sound(&self)
+        ensures { IsSound self.now }
+    {
+        let _ = &self.kept;
+    }
+
     pub(crate) fn sectors(&self) -> u64
         ensures { result ≡ self.now.sectors }
     {
@@ -93,8 +100,7 @@ impl Sectors {
             → slice_index buffer.new k ≡ byte_at self.now (at + k) }
         ensures sound { IsSound self.now }
     {
-        // The sectors are whole: the fields say so once they are used.
-        let _ = &self.kept;
+        self.is_sound();
         let mut done = 0;
         while done < buffer.len() {
             let place = at + done as u64;
@@ -124,8 +130,7 @@ impl Sectors {
         ensures { IfOk result (λ bytes. bytes.items
             ≡ sectors_from (sector_at self.now) first count) }
     {
-        // The sectors are few and whole: the fields say so once they are used.
-        let _ = &self.kept;
+        self.is_sound();
         let end = first + u64::from(count);
         let mut bytes = buffer;
         bytes.clear();
@@ -144,8 +149,7 @@ impl Sectors {
             ≡ byte_after at bytes.now (byte_at self.old p) p }
         ensures sound { IsSound self.new }
     {
-        // The sectors are whole: the fields say so once they are used.
-        let _ = &self.kept;
+        self.is_sound();
         self.kept.overwrite(at, bytes);
     }
 
@@ -160,8 +164,7 @@ impl Sectors {
         ensures misses { result ≡ false → self.new ≡ self.old }
         ensures sound { IsSound self.new }
     {
-        // The sectors are few and whole: the fields say so once they are used.
-        let _ = &self.kept;
+        self.is_sound();
         self.kept.overwrites(at, bytes)
     }
 
@@ -170,8 +173,7 @@ impl Sectors {
         requires { at + len ≤ sector_size * self.now.sectors }
         ensures { IsTrue result ↔ AreKept self.now at len }
     {
-        // The sectors are whole: the fields say so once they are used.
-        let _ = &self.kept;
+        self.is_sound();
         let mut done = 0;
         while done < len {
             let place = at + done as u64;
@@ -190,8 +192,7 @@ impl Sectors {
         ensures lists { IfOk result (λ v. ListsMissing self.now first end v.items) }
         ensures sound { IsSound self.now }
     {
-        // The sectors are few and whole: the fields say so once they are used.
-        let _ = &self.kept;
+        self.is_sound();
         let mut missing = Vec::new(self.alloc);
         self.kept.list_missing(&mut missing, first, end)?;
         Ok(missing)
@@ -207,8 +208,7 @@ impl Sectors {
         ensures err { OnErr result (self.new ≡ self.old) }
         ensures sound { IsSound self.new }
     {
-        // The sectors are few and whole: the fields say so once they are used.
-        let _ = &self.kept;
+        self.is_sound();
         let (first, end) = sectors_of(at, len);
         let missing = self.missing(first, end)?;
         self.kept.add_all(&missing)?;

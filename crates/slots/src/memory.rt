@@ -114,6 +114,13 @@ impl PortMemory {
         self.lay_command(tag, command, write, len);
     }
 
+    /// There are as many bytes as a memory has: the type promises it, and says so where the field is used.
+    fn is_whole(&self)
+        ensures { length self.now ≡ memory_size }
+    {
+        let _ = &self.bytes;
+    }
+
     fn lay_command(&mut self, tag: Tag, command: &CommandBlock, write: bool, len: u32)
         requires { len ≤ buffer_size }
         ensures exact { self.new ≡ placed self.old tag command.now write len }
@@ -121,8 +128,7 @@ impl PortMemory {
         ensures command_len { length command.now ≡ h2d_length }
         ensures tag { tag < slot_count }
     {
-        // There are as many bytes as a memory has: the field says so once it is used.
-        let _ = &self.bytes;
+        self.is_whole();
         let bytes = command.bytes();
         let header = parts::header(tag, write, len);
         let table = parts::table(tag, bytes, len);
@@ -228,8 +234,7 @@ impl PortMemory {
             × (self.new ≡ laid self.old (received_place fis.now) bytes) }
         ensures memory_len { length self.old ≡ memory_size }
     {
-        // There are as many bytes as a memory has: the field says so once it is used.
-        let _ = &self.bytes;
+        self.is_whole();
         self.lay(received_place(fis), &fis.to_bytes());
     }
 

@@ -66,6 +66,13 @@ impl Tables {
         &self.config
     }
 
+    /// No two numbered ranges meet: the type promises it, and says so where a field is used.
+    pub(crate) fn are_apart(&self)
+        ensures { AreApart (look_up_in self.now) }
+    {
+        let _ = &self.config;
+    }
+
     /// The cell at a place, where there is one.
     #[tactic(auto, using(crate::proofs::ContentLemmas::halves))]
     pub fn get_cell(&self, sp: Sp, object: Uid, column: Column) -> Option<&Cell>
