@@ -10,7 +10,7 @@ use Rattle.sp_cells.specs.Names.{range_uid}
 use Rattle.sp_tables.specs.Contents.{Contents, with_row}
 use Rattle.sp_tables.specs.Faults.{fault_of}
 use Rattle.locking.specs.declared.range.RangeRow.{RangeRow}
-use Rattle.history.specs.Opening.{Origin, activated_origin, changes_of, row_fault, with_range, unless}
+use Rattle.history.specs.Opening.{Origin, origin_on, activated_contents, changes_of, row_fault, with_range, unless}
 use Rattle.history.specs.Agreement.{HasNoTries}
 use Rattle.history.specs.KeptStore.{HasKnownRows}
 use Rattle.history.proofs.Openings.{opening_law}
@@ -18,8 +18,8 @@ use Rattle.history.proofs.KeptStoreOpenings.{known_rows_law}
 use Rattle.drive.specs.Openings.{IsOpening}
 use Rattle.drive.proofs.Openings.{row_law}
 
-pub activated-opens : (config : Config) (o : Origin) → o ≡ activated_origin config → IsOpening o
-activated-opens config o is = record { config = config; rows = []; made = ap (λ (x : Origin). Ok x) (sym is) }
+pub activated-opens : (config : Config) (tables : Contents) → tables ≡ activated_contents config → IsOpening (origin_on tables)
+activated-opens config tables is = record { config = config; rows = []; made = ap (λ (t : Contents). Ok (origin_on t)) (sym is) }
 
 ranged : (o : Origin) (row : RangeRow) → IsOpening o → row_fault o row ≡ None → IsOpening (with_range row o)
 ranged o row i none = record {
@@ -29,13 +29,13 @@ ranged o row i none = record {
 }
 
 -- a row more
-pub range-opens : (o : Origin) (row : RangeRow) (object : Uid) (changes : List (Column × Cell)) (new : Contents) → object ≡ range_uid row.range → changes ≡ changes_of row
-    → new ≡ with_row Locking object changes o.tables → fault_of o.tables Locking object changes ≡ None → IsOpening o → IsOpening (record { tables = new })
-range-opens o row object changes new at is to none i =
-    subst (λ (t : Contents). IsOpening (record { tables = t }))
-    (sym (to ∙ ap (λ (u : Uid). with_row Locking u changes o.tables) at ∙ ap (λ (cs : List (Column × Cell)). with_row Locking (range_uid row.range) cs o.tables) is))
-    (ranged o row i
-    (ap (λ (cs : List (Column × Cell)). fault_of o.tables Locking (range_uid row.range) cs) (sym is) ∙ ap (λ (u : Uid). fault_of o.tables Locking u changes) (sym at) ∙ none))
+pub range-opens : (tables : Contents) (row : RangeRow) (object : Uid) (changes : List (Column × Cell)) (new : Contents) → object ≡ range_uid row.range → changes ≡ changes_of row
+    → new ≡ with_row Locking object changes tables → fault_of tables Locking object changes ≡ None → IsOpening (origin_on tables) → IsOpening (origin_on new)
+range-opens tables row object changes new at is to none i =
+    subst (λ (t : Contents). IsOpening (origin_on t))
+    (sym (to ∙ ap (λ (u : Uid). with_row Locking u changes tables) at ∙ ap (λ (cs : List (Column × Cell)). with_row Locking (range_uid row.range) cs tables) is))
+    (ranged (origin_on tables) row i
+    (ap (λ (cs : List (Column × Cell)). fault_of tables Locking (range_uid row.range) cs) (sym is) ∙ ap (λ (u : Uid). fault_of tables Locking u changes) (sym at) ∙ none))
 
 pub opening-no-tries : (o : Origin) → IsOpening o → HasNoTries o
 opening-no-tries o i = opening_law i.config i.rows o i.made

@@ -90,7 +90,7 @@ impl Drive {
     ghost use Rattle.device_data.specs.ErrorLog.{sized, error_log as log_page};
     ghost use Rattle.device_data.specs.Identity.{identity as identity_of};
     ghost use Rattle.transactions.specs.Sights.{look_up, committed_sight};
-    ghost use Rattle.history.specs.Opening.{Origin, factory_origin, origin_with};
+    ghost use Rattle.history.specs.Opening.{Origin, origin_on, factory_origin, origin_with};
     ghost use Rattle.history.specs.Agreement.{HasNoTries};
     ghost use Rattle.history.specs.KeptStore.{HasKnownRows};
     ghost use Rattle.history.specs.Answers.{expected, payload_of};
@@ -144,9 +144,8 @@ impl Drive {
 
     /// A drive over its tables.
     pub(crate) fn over(alloc: Global, tables: Tables) -> Result<Drive, AllocError>
-        ensures { IfOk result (λ drive. HasNoTries (record { tables = tables })
-            → HasKnownRows (record { tables = tables })
-            → Agrees drive (record { tables = tables }) []) }
+        ensures { IfOk result (λ drive. HasNoTries (origin_on tables)
+            → HasKnownRows (origin_on tables) → Agrees drive (origin_on tables) []) }
     {
         let sectors = tables.config().sectors();
         let tper = Tper::new(alloc, tables);

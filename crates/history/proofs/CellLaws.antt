@@ -19,7 +19,7 @@ use Rattle.sp_cells.specs.Flat.{PlacedCell, sp_eq, cell_at}
 use Rattle.sp_rows.specs.Items.{Item, on, with_item, with_items}
 use Rattle.sp_factory.specs.Factory.{admin_factory, locking_factory, admin_sps, admin_authorities, locking_authorities, admin_pins, locking_pins, locking_ranges, locking_mbr_controls, admin_aces, authority_aces, pin_aces, range_aces, mbr_aces}
 use Rattle.sp_tables.specs.AtReset.{has_kind}
-use Rattle.sp_tables.specs.Contents.{Contents, look_up, flat}
+use Rattle.sp_tables.specs.Contents.{Contents, factory_contents, look_up, flat}
 use Rattle.sp_tables.specs.Looks.{RowLook, put_in, puts_in}
 use Rattle.sp_tables.specs.Tries.{is_tries}
 use Rattle.locking.specs.declared.range.RangeRow.{RangeRow}
@@ -171,11 +171,29 @@ rows-few (row ∷ rows) o made few h = by_fault (row_fault o row) h (rows-few ro
         refused : {e : SetError} {x : Origin} → Err e ≡ Ok x → ⊥
         refused k = cc
 
-nowhere : (o : Origin) → AreFew o.tables → (column : Column) → credential_column.0 < column.0 → HasNoColumn o column
-nowhere o h column lt sp object = record {
+-- the tables that a Revert brings back are the same after ranges are set
+abbrev pub IsOfFactory : Origin → Type 0
+IsOfFactory o = o.factory ≡ factory_contents o.tables.config
+
+pub rows-new : (rows : List RangeRow) (o made : Origin) → IsOfFactory o → origin_after rows o ≡ Ok made → IsOfFactory made
+rows-new [] o made new h = let same : o ≡ made = ok-same h in rw (← same) new
+rows-new (row ∷ rows) o made new h = by_fault (row_fault o row) h (rows-new rows (with_range row o) made new)
+  where
+    by_fault : (x : Option SetError) → unless x (origin_after rows (with_range row o)) ≡ Ok made → (origin_after rows (with_range row o) ≡ Ok made → IsOfFactory made) → IsOfFactory made
+    by_fault None g rest = rest g
+    by_fault (Some fault) g rest = absurd (refused g)
+      where
+        refused : {e : SetError} {x : Origin} → Err e ≡ Ok x → ⊥
+        refused k = cc
+
+nowhere : (o : Origin) → IsOfFactory o → AreFew o.tables → (column : Column) → credential_column.0 < column.0 → HasNoColumn o column
+nowhere o new h column lt sp object = record {
   opened = tables-lack o.tables h sp object column lt;
-  factory = tables-lack (factory_origin o.tables.config).tables (factory-few o.tables.config) sp object column lt;
+  factory = ap (λ (t : Contents). look_up t sp object column) new ∙ tables-lack (factory_contents o.tables.config) (factory-few o.tables.config) sp object column lt;
 }
 
 pub column_law : ColumnLaw
-column_law config column lt = (nowhere (factory_origin config) (factory-few config) column lt, λ rows o h. nowhere o (rows-few rows (activated_origin config) o (activated-few config) h) column lt)
+column_law config column lt = (
+  nowhere (factory_origin config) refl (factory-few config) column lt,
+  λ rows o h. nowhere o (rows-new rows (activated_origin config) o refl h) (rows-few rows (activated_origin config) o (activated-few config) h) column lt,
+)

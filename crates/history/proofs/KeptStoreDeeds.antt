@@ -16,7 +16,7 @@ use Rattle.sp_cells.specs.Limits.{manufactured, manufactured_inactive}
 use Rattle.sp_cells.specs.Ranges.{number}
 use Rattle.sp_rows.specs.Items.{item_at, with_item}
 use Rattle.sp_factory.specs.Factory.{admin_factory, locking_factory}
-use Rattle.sp_tables.specs.Contents.{items_of, factory_contents}
+use Rattle.sp_tables.specs.Contents.{Contents, items_of, factory_contents, look_up}
 use Rattle.sp_tables.specs.Looks.{put_in}
 use Rattle.sp_tables.specs.AtReset.{locking_tries_after}
 use Rattle.sp_tables.specs.Tries.{is_tries}
@@ -35,8 +35,8 @@ use Rattle.history.specs.Opening.{Origin, factory_origin}
 use Rattle.history.specs.Changes.{Sets, Restores, Resets, byte_in, reset_rows}
 use Rattle.history.specs.Sessions.{Begun}
 use Rattle.history.specs.Events.{Attempt, Unchanged, Started, Tried, Changed, Began, Committed, Aborted, Ended, Activated, Reverted, Response, Deed, Nothing, InSession, OfQueue, Wrote, Took, WasReset, Event}
-use Rattle.history.specs.Readers.{turns, brought, changes, open_on, rows_after, tries, one_more, same_row}
-use Rattle.history.specs.KeptStore.{KeepsPart, KeepsBytes, KeepsStore, with_count, StoresSetting, StoresBy, StoreLaw}
+use Rattle.history.specs.Readers.{turns, brought, changes, factory_rows, open_on, rows_after, tries, one_more, same_row}
+use Rattle.history.specs.KeptStore.{HasKnownRows, KeepsPart, KeepsBytes, KeepsStore, with_count, StoresSetting, StoresBy, StoreLaw}
 use Rattle.history.proofs.Steps.{rows-by, turned}
 use Rattle.history.proofs.Openings.{factory_law}
 use Rattle.history.proofs.KeptStoreRows.{ShowTries, shows-places, put-places, item-shows, reset-shows, reset-same, count-shows, counts-same}
@@ -248,9 +248,12 @@ activated-kept s o past x w pin r h = record {
 factory-clean : (config : Config) (sp : Sp) (object : Uid) (column : Column) → is_tries object column ≡ true → item_at (items_of (factory_contents config) sp) object column ≡ option_map (λ _. Number 0) (item_at (items_of (factory_contents config) sp) object column)
 factory-clean config sp = no-tries-in (factory_origin config) (factory_law config) sp
 
+new-rows : (o : Origin) → HasKnownRows o → (sp : Sp) → factory_rows o sp ≡ item_at (items_of (factory_contents o.tables.config) sp)
+new-rows o known sp = ap (λ (t : Contents). look_up t sp) known.factory ∙ look_up-sp (factory_contents o.tables.config) sp
+
 locking-part : (s : Stored) (o : Origin) (e : Event) (past : List Event) → KeepsStore s o past → turns Locking e.deed ≡ Some None → brought past Locking e.deed ≡ Restores ∷ [] → ((u : Uid) → tries (e ∷ past) Locking u ≡ 0) → KeepsPart (part_of locking_factory (blank s.locking.bytes)) o (e ∷ past) Locking
 locking-part s o e past h turn bring zeros =
-    restored-part locking_factory (blank s.locking.bytes) o (e ∷ past) Locking (turned Locking e past None turn) (rows-by o e past Locking (Restores ∷ []) bring ∙ look_up-sp (factory_contents o.tables.config) Locking) zeros (factory-clean s.config Locking)
+    restored-part locking_factory (blank s.locking.bytes) o (e ∷ past) Locking (turned Locking e past None turn) (rows-by o e past Locking (Restores ∷ []) bring ∙ new-rows o h.known Locking) zeros (factory-clean s.config Locking)
 
 locking-bytes : (s : Stored) (o : Origin) (e : Event) (past : List Event) → KeepsStore s o past → brought past Locking e.deed ≡ Restores ∷ [] → KeepsBytes (part_of locking_factory (blank s.locking.bytes)) o (e ∷ past)
 locking-bytes s o e past h bring =
@@ -265,7 +268,7 @@ reverted-kept s o past x w Admin wipes r h = record { config = h.config; known =
     parts : (sp : Sp) → KeepsPart (part (reverted Admin s) sp) o (e ∷ past) sp
     parts Admin =
         restored-part (admin_factory s.config.msid) [] o (e ∷ past) Admin (turned Admin e past None refl)
-        (rows-by o e past Admin (Restores ∷ []) refl ∙ look_up-sp (factory_contents o.tables.config) Admin ∙ ap (λ (c : Config). item_at (admin_factory c.msid)) (sym h.config))
+        (rows-by o e past Admin (Restores ∷ []) refl ∙ new-rows o h.known Admin ∙ ap (λ (c : Config). item_at (admin_factory c.msid)) (sym h.config))
         (λ u. refl) (factory-clean s.config Admin)
     parts Locking = locking-part s o e past h refl refl (λ u. refl)
 reverted-kept s o past x w Locking wipes r h = record { config = h.config; known = h.known; parts = parts; bytes = locking-bytes s o e past h refl }

@@ -22,12 +22,12 @@ use Rattle.shadow_mbr.specs.Stored.{sector_size}
 use Rattle.transactions.specs.Resets.{is_range}
 use Rattle.transactions.specs.Bytes.{bytes_in}
 use Rattle.transactions.specs.Stored.{part_of, part, new_store}
-use Rattle.history.specs.Opening.{Origin, factory_origin, life_cycle, pin, activated_origin, changes_of, row_fault, with_range, unless, origin_after}
+use Rattle.history.specs.Opening.{Origin, origin_on, factory_origin, life_cycle, pin, activated_origin, changes_of, row_fault, with_range, unless, origin_after}
 use Rattle.history.specs.Readers.{open_on, tries, rows_after}
 use Rattle.history.specs.Events.{Event}
 use Rattle.history.specs.Agreement.{HasNoTries}
 use Rattle.history.specs.KeptStore.{in_family, is_cleared, has_locks, HasKnownRows, KeepsPart, StoreOpeningLaw, KnownRowsLaw}
-use Rattle.history.proofs.CellLaws.{puts-none}
+use Rattle.history.proofs.CellLaws.{IsOfFactory, puts-none, rows-new}
 use Rattle.history.proofs.KeptStoreRows.{without-shows, among-shows}
 use Rattle.history.proofs.KeptStoreParts.{closed-part}
 use Rattle.history.proofs.KeptStoreBytes.{closed-bytes, in-length, in-zeros}
@@ -53,7 +53,7 @@ store_opening_law tables mbr clean known size zeros = record {
 }
   where
     o : Origin
-    o = record { tables = tables }
+    o = origin_on tables
 
     parts : (sp : Sp) → KeepsPart (part (new_store tables mbr) sp) o [] sp
     parts Admin = restored-part tables.admin [] o [] Admin refl (look_up-sp tables Admin) (λ object. refl) (no-tries-in o clean Admin)
@@ -120,8 +120,9 @@ record Known (tables : Contents) : Type 0 where
   locking : (object : Uid) (column : Column) → is_tries object column ≡ true → is_cleared Locking object ≡ false → item_at tables.locking object column ≡ None
   locks : (object : Uid) (column : Column) → has_locks object ≡ true → item_at tables.admin object column ≡ None
 
-known-rows : (o : Origin) → Known o.tables → HasKnownRows o
-known-rows o h = record {
+known-rows : (o : Origin) → IsOfFactory o → Known o.tables → HasKnownRows o
+known-rows o new h = record {
+  factory = new;
   tries = by_sp;
   locks = λ object column is. ap (λ (r : RowLook). r object column) (look_up-sp o.tables Admin) ∙ h.locks object column is;
 }
@@ -171,7 +172,10 @@ rows-known (row ∷ rows) o made known h = by_fault (row_fault o row) h (rows-kn
         refused k = cc
 
 pub factory-has-known : (config : Config) → HasKnownRows (factory_origin config)
-factory-has-known config = known-rows (factory_origin config) (factory-known config)
+factory-has-known config = known-rows (factory_origin config) refl (factory-known config)
 
 pub known_rows_law : KnownRowsLaw
-known_rows_law config = (factory-has-known config, λ rows o h. known-rows o (rows-known rows (activated_origin config) o (activated-known config) h))
+known_rows_law config = (
+  factory-has-known config,
+  λ rows o h. known-rows o (rows-new rows (activated_origin config) o refl h) (rows-known rows (activated_origin config) o (activated-known config) h),
+)

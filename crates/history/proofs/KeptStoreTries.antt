@@ -15,6 +15,7 @@ use Rattle.sp_cells.specs.Names.{uid, c_pin_sid, c_pin_msid, admin_pin_uid, user
 use Rattle.sp_cells.specs.ColumnNames.{tries_column, lock_on_reset_column, mbr_done_column, mbr_done_on_reset_column}
 use Rattle.sp_cells.specs.Ranges.{number, number_in}
 use Rattle.sp_rows.specs.Items.{Item, item_at, with_item}
+use Rattle.sp_tables.specs.Contents.{Contents, factory_contents, look_up}
 use Rattle.sp_tables.specs.AtReset.{has_kind, admin_tries_after, locking_tries_after}
 use Rattle.sp_tables.specs.Looks.{RowLook}
 use Rattle.sp_tables.specs.Tries.{is_tries, family_cleared, admin_cleared, locking_cleared}
@@ -34,10 +35,15 @@ use Rattle.history.proofs.KeptStoreRows.{ShowTries, column-is, twice, counts-sam
 use Rattle.history.proofs.KeptStoreReads.{in_force-read}
 use Rattle.history.proofs.KeptStoreOpenings.{factory-has-known}
 
+-- the rows that a Revert brings back
+new-rows : (o : Origin) → HasKnownRows o → (sp : Sp) (object : Uid) (column : Column) → factory_rows o sp object column ≡ look_up (factory_contents o.tables.config) sp object column
+new-rows o known sp object column = ap (λ (t : Contents). look_up t sp object column) known.factory
+
 -- no row but those that a power cycle clears counts, after any acts
 pub unknown-none : (o : Origin) (past : List Event) (sp : Sp) (object : Uid) (column : Column) → HasKnownRows o → is_tries object column ≡ true → is_cleared sp object ≡ false → rows_after o past sp object column ≡ None
 unknown-none o past sp object column known is apart =
-    changes-none (factory_rows o sp) _ (changes past sp) object column ((factory-has-known o.tables.config).tries sp object column is apart) (known.tries sp object column is apart)
+    changes-none (factory_rows o sp) _ (changes past sp) object column (new-rows o known sp object column ∙ (factory-has-known o.tables.config).tries sp object column is apart)
+    (known.tries sp object column is apart)
 
 -- one more as a store counts it
 up-same : (n : ℕ) (b : Bool) → n ≤ most_tries → (n == most_tries) ≡ b → cond b n (n + 1) ≡ up n
@@ -165,7 +171,7 @@ reset-tries sp kind is counted new rows h unknown same o c = ap (λ items. item_
 -- no lock of the Admin SP is there
 pub no-locks : (o : Origin) (past : List Event) (object : Uid) (column : Column) → HasKnownRows o → has_locks object ≡ true → rows_after o past Admin object column ≡ None
 no-locks o past object column known is =
-    changes-none (factory_rows o Admin) _ (changes past Admin) object column ((factory-has-known o.tables.config).locks object column is) (known.locks object column is)
+    changes-none (factory_rows o Admin) _ (changes past Admin) object column (new-rows o known Admin object column ∙ (factory-has-known o.tables.config).locks object column is) (known.locks object column is)
 
 -- so a reset changes none of its rows
 unlocked : (kind : ℕ) (b l : Bool) (x y : Option Cell) → (b ≡ true → x ≡ None) → cond (b && l && has_kind kind x) (option_map (λ _. Number 1) y) y ≡ y

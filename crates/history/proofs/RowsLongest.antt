@@ -1,10 +1,8 @@
 -- The longest response, and one that is too long.
 use Rattle.std.proofs.Common.{◌≡◌, ℕ, List, [], ◌∷◌, ◌++◌, reverse, Option, Some, None, refl}
 use Rattle.std.specs.Prelude.{length}
-use Rattle.sp_cells.specs.declared.names.Sp.TheVariants.{Admin, Locking}
 use Rattle.sp_cells.specs.Authorities.{authorities_of_locking}
-use Rattle.sp_cells.specs.Names.{locking_sp, admin_uid, admin_pin_uid, mbr_table, get}
-use Rattle.sp_tables.specs.Contents.{factory_contents, with_row}
+use Rattle.sp_cells.specs.Names.{locking_sp, admin_uid, mbr_table, get}
 use Rattle.sp_tables.specs.Faults.{any_to}
 use Rattle.sp_factory.specs.Factory.{admin_sps, admin_authorities, locking_authorities, admin_pins, locking_pins, locking_ranges, locking_mbr_controls, admin_aces, authority_aces, pin_aces, range_aces, mbr_aces}
 use Rattle.access_list.specs.Access.{this_sp_grants, admin_grants, authority_grants, fixed_ace_gets, user_ace_grants, read_locked_ace_grants, write_locked_ace_grants, done_ace_grants, pin_grants, range_grants, mbr_grants}
@@ -20,7 +18,7 @@ use Rattle.tcg_tokens.specs.Tree as tree
 use Rattle.transactions.specs.Resets.{is_range}
 use Rattle.methods.specs.Listed.{listed_among}
 use Rattle.methods.specs.Settings.{cells_for}
-use Rattle.history.specs.Opening.{Origin, life_cycle, pin}
+use Rattle.history.specs.Opening.{Origin, activated_origin}
 use Rattle.sessions.specs.Starts.{sync_message}
 use Rattle.history.specs.Tcg.{refusal}
 use Rattle.history.specs.Readers.{waiting}
@@ -29,7 +27,7 @@ use Rattle.history.specs.History.{Act, log}
 use Rattle.history.proofs.Scripts.{msid, send, tell, call_of, start_as, in_it, replies, said}
 
 wide : Origin
-wide = record { tables = with_row Locking (admin_pin_uid 1) (pin msid) (with_row Admin locking_sp life_cycle (factory_contents (record { sectors = 1000; mbr_sectors = 128; msid = msid }))) }
+wide = activated_origin (record { sectors = 1000; mbr_sectors = 128; msid = msid })
 
 get_up_to : ℕ → Message
 get_up_to last = call_of mbr_table get (tree.list (trees_of (tree.named (tree.number 2) (tree.number last) ∷ [])) ∷ [])

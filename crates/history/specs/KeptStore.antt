@@ -12,7 +12,7 @@ use Rattle.sp_cells.specs.ColumnNames.{tries_column}
 use Rattle.sp_cells.specs.Names.{c_pin_sid, c_pin_msid, admin_pin_uid, user_pin_uid, mbr_control}
 use Rattle.sp_cells.specs.Ranges.{number}
 use Rattle.sp_rows.specs.Items.{item_at}
-use Rattle.sp_tables.specs.Contents.{Contents, look_up as cells_of}
+use Rattle.sp_tables.specs.Contents.{Contents, factory_contents, look_up as cells_of}
 use Rattle.sp_tables.specs.Looks.{RowLook}
 use Rattle.sp_tables.specs.Tries.{is_tries, names_tries}
 use Rattle.shadow_mbr.specs.Stored.{Stored as Bytes, sector_size, byte_at}
@@ -25,7 +25,7 @@ use Rattle.sessions.specs.Answers.{in_force as rows_in_force, up}
 use Rattle.methods.specs.Settings.{Setting, cells_set, bytes_set, is_within}
 use Rattle.methods.specs.Effects.{set_stored}
 use Rattle.locking.specs.declared.range.RangeRow.{RangeRow}
-use Rattle.history.specs.Opening.{Origin, factory_origin, origin_with}
+use Rattle.history.specs.Opening.{Origin, origin_on, factory_origin, origin_with}
 use Rattle.history.specs.Changes.{Change, Sets, Restores, Resets, byte_in}
 use Rattle.history.specs.Events.{SessionDeed, Unchanged, Started, Tried, Changed, Began, Committed, Aborted, Ended, Activated, Reverted, Deed, Nothing, InSession, OfQueue, Wrote, Took, WasReset, Event}
 use Rattle.history.specs.Readers.{changes, open_changes, open_on, rows_after, rows_within, tries, in_force, view, byte_in_force, byte_in_view}
@@ -78,9 +78,10 @@ is_cleared Locking object =
 abbrev pub has_locks : Uid → Bool
 has_locks object = is_range (RANGES + 1) object || (mbr_control.0 == object.0)
 
--- A reset finds all that it changes in what a drive starts from: no other row counts attempts, and
--- the Admin SP has no ranges and no shadow.
+-- A Revert brings back the tables of the factory. A reset finds all that it changes in what a drive
+-- starts from: no other row counts attempts, and the Admin SP has no ranges and no shadow.
 pub record HasKnownRows (o : Origin) : Type 0 where
+  pub factory : o.factory ≡ factory_contents o.tables.config
   pub tries : (sp : Sp) (object : Uid) (column : Column) → is_tries object column ≡ true
       → is_cleared sp object ≡ false → cells_of o.tables sp object column ≡ None
   pub locks : (object : Uid) (column : Column) → has_locks object ≡ true
@@ -153,10 +154,10 @@ StoresBy (WasReset kind) s t = t ≡ after_reset kind s
 -- A store over the tables and the zeros that a drive starts from keeps what no acts say.
 abbrev pub StoreOpeningLaw : Type 0
 StoreOpeningLaw =
-    (tables : Contents) (mbr : Bytes) → HasNoTries (record { tables = tables })
-    → HasKnownRows (record { tables = tables })
+    (tables : Contents) (mbr : Bytes) → HasNoTries (origin_on tables)
+    → HasKnownRows (origin_on tables)
     → mbr.sectors ≡ tables.config.mbr_sectors → ((place : ℕ) → byte_at mbr place ≡ 0)
-    → KeepsStore (new_store tables mbr) (record { tables = tables }) []
+    → KeepsStore (new_store tables mbr) (origin_on tables) []
 
 -- The tables of a new drive are so, and those of each opening.
 abbrev pub KnownRowsLaw : Type 0

@@ -1,4 +1,5 @@
--- What a drive starts from: the tables of its SPs. Its media are zeros, and nothing is held.
+-- What a drive starts from: the tables of its SPs, and those that a Revert brings back. Its media are
+-- zeros, and nothing is held.
 use Rattle.std.specs.Prelude.{◌≡◌, ℕ, Bool, true, false, List, [], ◌∷◌, ◌++◌, Option, Some, None, Result, Ok, Err}
 use Rattle.sp_cells.specs.Config.{Config, IsWithinLimits}
 use Rattle.sp_tables.specs.Contents.{Contents, factory_contents, with_row}
@@ -13,13 +14,19 @@ use Rattle.sp_cells.specs.declared.cells.Cell.TheVariants.{Number, Bytes}
 use Rattle.sp_cells.specs.declared.error.SetError.{SetError}
 use Rattle.locking.specs.declared.range.RangeRow.{RangeRow}
 
--- What a drive starts from.
+-- What a drive starts from, and the tables of a new drive.
 pub record Origin : Type 0 where
   pub tables : Contents
+  pub factory : Contents
+
+-- A new drive has the tables of the factory for the same config.
+abbrev pub origin_on : Contents → Origin
+origin_on tables =
+    record { tables = tables; factory = factory_contents tables.config }
 
 -- The tables as they leave the factory.
 abbrev pub factory_origin : Config → Origin
-factory_origin config = record { tables = factory_contents config }
+factory_origin config = origin_on (factory_contents config)
 
 -- After an Activate the Locking SP is Manufactured, and the PIN of its Admin1 is the MSID (Opal
 -- SSC, Activate).
@@ -37,7 +44,7 @@ activated_contents config =
     with_row Locking (admin_pin_uid 1) (pin config.msid) (manufactured_contents config)
 
 abbrev pub activated_origin : Config → Origin
-activated_origin config = record { tables = activated_contents config }
+activated_origin config = origin_on (activated_contents config)
 
 abbrev pub flag : Bool → Cell
 flag true = Number 1
@@ -59,7 +66,7 @@ row_fault o row = fault_of o.tables Locking (range_uid row.range) (changes_of ro
 -- What a drive starts from once they are set.
 abbrev pub with_range : RangeRow → Origin → Origin
 with_range row o =
-    record { tables = with_row Locking (range_uid row.range) (changes_of row) o.tables }
+    record o { tables = with_row Locking (range_uid row.range) (changes_of row) o.tables }
 
 -- The fault, or else what follows.
 abbrev pub unless : {A : Type 0} → Option SetError → Result A SetError → Result A SetError

@@ -12,7 +12,7 @@ use Rattle.sp_cells.specs.Limits.{manufactured, manufactured_inactive}
 use Rattle.sp_cells.specs.Names.{locking_sp, admin_pin_uid}
 use Rattle.sp_cells.specs.Flat.{LookUp, sp_eq}
 use Rattle.sp_cells.specs.ColumnNames.{life_cycle_state_column, pin_column}
-use Rattle.sp_tables.specs.Contents.{look_up, factory_contents}
+use Rattle.sp_tables.specs.Contents.{look_up}
 use Rattle.sp_tables.specs.AtReset.{is_power_cycle}
 use Rattle.audit.specs.declared.reason.AttemptFailure.{AttemptFailure}
 use Rattle.audit.specs.declared.reason.AttemptFailure.TheVariants.{WrongPin, LockedOut, Disabled, Unknown}
@@ -225,7 +225,7 @@ tries (event ∷ before) sp row = tries_then sp row event.deed (tries before sp 
 -- Rows and the shadow's bytes, in force and in a session's view.
 
 abbrev pub factory_rows : Origin → LookUp
-factory_rows o = look_up (factory_contents o.tables.config)
+factory_rows o = look_up o.factory
 
 abbrev pub rows_after : Origin → List Event → Sp → RowLook
 rows_after o past sp = apply_all (factory_rows o sp) (changes past sp) (look_up o.tables sp)

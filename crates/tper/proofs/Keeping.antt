@@ -10,7 +10,7 @@ use Rattle.shadow_mbr.specs.Stored.{Stored as Bytes, sector_size, byte_at}
 use Rattle.transactions.specs.Stored.{Stored, new_store, after_reset}
 use Rattle.sessions.specs.Live.{Live, session_at}
 use Rattle.methods.specs.declared.outcome.Outcome.{Outcome as Answered}
-use Rattle.history.specs.Opening.{Origin}
+use Rattle.history.specs.Opening.{Origin, origin_on}
 use Rattle.history.specs.Agreement.{HasNoTries}
 use Rattle.history.specs.Events.{Event, Nothing, Took, WasReset, did}
 use Rattle.history.specs.Readers.{waiting, waits}
@@ -86,9 +86,9 @@ reset-kept t u o past kind store none next waits k =
     kept_after t u o past (did (WasReset kind)) store (record { next = next; at = none }) waits k
 
 pub opening-kept : (t : Tper) (tables : Contents) (mbr : Bytes) → t.store ≡ new_store tables mbr → mbr.sectors ≡ tables.config.mbr_sectors → ((place : ℕ) → byte_at mbr place ≡ 0) → ((n : ℕ) → session_at t.live n ≡ None) → t.live.next ≡ 0x1000 → ((com_id : ℕ) → response_at t.waiting com_id ≡ None)
-    → HasNoTries (record { tables = tables }) → HasKnownRows (record { tables = tables }) → Keeps t (record { tables = tables }) []
+    → HasNoTries (origin_on tables) → HasKnownRows (origin_on tables) → Keeps t (origin_on tables) []
 opening-kept t tables mbr store size zeros none next waits tries known = record {
-  store = subst (λ (s : Stored). KeepsStore s (record { tables = tables }) []) (sym store) (store_opening_law tables mbr tries known size zeros);
+  store = subst (λ (s : Stored). KeepsStore s (origin_on tables) []) (sym store) (store_opening_law tables mbr tries known size zeros);
   sessions = sessions_opening_law t.live next none;
   waiting = waits;
 }

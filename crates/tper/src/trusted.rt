@@ -16,7 +16,7 @@ ghost use Rattle.history.specs.Events.{Event, WasReset, did};
 ghost use Rattle.history.specs.Facts.{facts};
 ghost use Rattle.history.specs.History.{Act, log};
 ghost use Rattle.history.specs.KeptStore.{HasKnownRows};
-ghost use Rattle.history.specs.Opening.{Origin};
+ghost use Rattle.history.specs.Opening.{Origin, origin_on};
 ghost use Rattle.history.specs.Readers.{waiting};
 ghost use Rattle.call_shapes.specs.Carried.{is_carried};
 ghost use Rattle.tcg_tokens.specs.Message.{message};
@@ -92,9 +92,8 @@ fn nothing() -> Sent
 impl Tper {
     /// No session lives, and nothing was done with the tables.
     pub fn new(alloc: Global, tables: Tables) -> Tper
-        ensures kept { HasNoTries (record { tables = tables })
-            → HasKnownRows (record { tables = tables })
-            → Keeps result (record { tables = tables }) [] }
+        ensures kept { HasNoTries (origin_on tables) → HasKnownRows (origin_on tables)
+            → Keeps result (origin_on tables) [] }
         ensures config { result.store.config ≡ tables.config }
     {
         let mbr = Mbr::new(alloc, tables.config().mbr_sectors());

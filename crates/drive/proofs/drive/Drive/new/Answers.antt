@@ -1,5 +1,6 @@
 use Rattle.std.proofs.Common.{[], subst}
 use Rattle.sp_tables.specs.Contents.{Contents}
+use Rattle.history.specs.Opening.{origin_on}
 use Rattle.history.specs.Agreement.{HasNoTries}
 use Rattle.history.specs.KeptStore.{HasKnownRows}
 use Rattle.history.proofs.Openings.{factory_law}
@@ -9,5 +10,5 @@ use Rattle.drive.proofs.drive.Drive.new.Goals as goal
 
 pub returns-clause-agrees : goal.returns-clause-agrees
 returns-clause-agrees c =
-    subst (λ (t : Contents). HasNoTries (record { tables = t }) → HasKnownRows (record { tables = t }) → Keeps c.in_ok-drive.drive (record { tables = t }) [])
+    subst (λ (t : Contents). HasNoTries (origin_on t) → HasKnownRows (origin_on t) → Keeps c.in_ok-drive.drive (origin_on t) [])
     c.in_ok-tables.ensures c.in_ok-drive.ensures (factory_law c.args.config) (factory-has-known c.args.config)

@@ -7,7 +7,7 @@ use Rattle.drive.proofs.opening.Opening.set_range.Goals as goal
 pub invariant_of-self-2 : goal.invariant_of-self-2
 invariant_of-self-2 c =
     let row = c.args.row.now in
-    range-opens (record { tables = c.self.inside.tables }) row c.range.result
+    range-opens c.self.inside.tables row c.range.result
     ((range_start_column, Number row.start) ∷ (range_length_column, Number row.length)
     ∷ (read_lock_enabled_column, c.flag.result) ∷ (write_lock_enabled_column, c.flag-2.result)
     ∷ (read_locked_column, c.flag-3.result) ∷ (write_locked_column, c.flag-4.result) ∷ [])
