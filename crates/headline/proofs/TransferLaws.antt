@@ -17,8 +17,6 @@ use Rattle.transactions.specs.Bytes.{bytes_from}
 use Rattle.history.specs.Decisions.{on_drive, ranges_in_force}
 use Rattle.history.specs.Items.{Items}
 use Rattle.history.specs.Quiet.{IsQuiet}
-use Rattle.history.specs.Tcg.{tcg}
-use Rattle.history.proofs.QuietProofs.{tcg_quiet}
 use Rattle.history.specs.Facts.{Facts}
 use Rattle.history.specs.Opening.{Origin}
 use Rattle.history.specs.Readers.{held, failure}
@@ -28,7 +26,8 @@ use Rattle.port_history.specs.declared.request.Answer.{Answer}
 use Rattle.port_history.specs.declared.request.Answer.TheVariants as answers
 use Rattle.port_history.specs.declared.stages.Stage.TheVariants.{Answered}
 use Rattle.port_history.specs.declared.step.Step.{Step}
-use Rattle.port_history.specs.Steps.{payload, Moment, trace, events, failed, answer, trace_of}
+use Rattle.port_history.specs.Steps.{payload, Moment, events, failed, answer, trace_of}
+use Rattle.port_history.specs.Refusals.{AreLawful}
 use Rattle.headline.proofs.Landed.{Lands, Landed, landed_by, landed}
 use Rattle.headline.specs.Steps.{past_of, through_move, facts_after, before_acceptance, before_move, own_past}
 use Rattle.headline.proofs.Unmoved.{IsWritten, Unmoved, unmoved_by, unmoved}
@@ -126,7 +125,7 @@ by_verdict ranges g op lba count =
 
 -- what an answered transfer was answered
 answered_so : (items : Items) (still : IsQuiet items) (o : Origin) (list : List Step) (tag : ℕ) (x : Transfer) (a : Answer)
-    → Rattle.port_history.specs.Refusals.AreLawful items o list → IsAnswered items o list tag x a
+    → AreLawful items o list → IsAnswered items o list tag x a
     → a ≢ answers.Reset
     → a ≡ answer_to (facts_after items o (before_acceptance list tag)) (facts_after items o (before_move list tag)) x
 answered_so items still o list tag x a lawful is no_reset =
@@ -208,7 +207,7 @@ served_so items o list tag x a is lands = record {
 
 -- and what it wrote has landed
 landed_so : (items : Items) (still : IsQuiet items) (o : Origin) (list : List Step) (tag : ℕ) (x : Transfer) (a : Answer)
-    → Rattle.port_history.specs.Refusals.AreLawful items o list → IsAnswered items o list tag x a
+    → AreLawful items o list → IsAnswered items o list tag x a
     → x.op ≡ Write → IsDone a
     → HaveData (past_of items o (through_move list tag)) x (payload (trace_of items o list) tag)
 landed_so items still o list tag x a lawful is write done =
@@ -223,7 +222,7 @@ landed_so items still o list tag x a lawful is write done =
 
 -- and but for a write that was done nothing moved
 unmoved_so : (items : Items) (still : IsQuiet items) (o : Origin) (list : List Step) (tag : ℕ) (x : Transfer) (a : Answer)
-    → Rattle.port_history.specs.Refusals.AreLawful items o list → IsAnswered items o list tag x a
+    → AreLawful items o list → IsAnswered items o list tag x a
     → (IsDoneWrite x a → ⊥) → MoveNothing (own_past items o list tag)
 unmoved_so items still o list tag x a lawful is undone =
     subst (λ (y : Option Transfer). IfSome y (λ z. (IsWritten z (answer ms tag) → ⊥) → MoveNothing (own_past items o list tag)))
@@ -252,19 +251,19 @@ there None d h = absurd (cc)
 there (Some a) d h = refl
 
 pub taken_law : TakenLaw
-taken_law o list tag lawful put x stands asks = (
+taken_law items still o list tag lawful put x stands asks = (
   λ no_reset. law.served tag x _ is no_reset,
   λ undone. law.unmoved tag x _ is undone,
 )
   where
-    law : AreServed tcg o list
-    law = transfer_law tcg tcg_quiet o list lawful
+    law : AreServed items o list
+    law = transfer_law items still o list lawful
 
-    is : IsAnswered tcg o list tag x (unwrap_or (answer (trace o list) tag) no_bytes)
+    is : IsAnswered items o list tag x (unwrap_or (answer (trace_of items o list) tag) no_bytes)
     is = record {
       put = put;
       stands = stands;
       asks = asks;
-      answers = there (answer (trace o list) tag) no_bytes
-          (answer_law o list lawful tag (ap is_answered stands));
+      answers = there (answer (trace_of items o list) tag) no_bytes
+          (answer_law items still o list lawful tag (ap is_answered stands));
     }

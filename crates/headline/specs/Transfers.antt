@@ -16,16 +16,15 @@ use Rattle.history.specs.Items.{Items}
 use Rattle.history.specs.Opening.{Origin}
 use Rattle.history.specs.Quiet.{IsQuiet}
 use Rattle.history.specs.Readers.{sector, writing}
-use Rattle.history.specs.Tcg.{tcg}
 use Rattle.history.specs.TransferLaws.{IsPermitted}
 use Rattle.port_history.specs.declared.request.Answer.{Answer}
 use Rattle.port_history.specs.declared.request.Answer.TheVariants.{Done, Failed, Reset}
 use Rattle.port_history.specs.declared.stages.Put.{Put}
 use Rattle.port_history.specs.declared.stages.Stage.TheVariants.{Answered}
 use Rattle.port_history.specs.declared.step.Step.{Step}
-use Rattle.port_history.specs.Refusals.{AreLawful, IsLawful}
+use Rattle.port_history.specs.Refusals.{AreLawful}
 use Rattle.port_history.specs.Requests.{no_bytes}
-use Rattle.port_history.specs.Steps.{trace_of, trace, stage, payload, answer}
+use Rattle.port_history.specs.Steps.{trace_of, stage, payload, answer}
 use Rattle.headline.specs.Steps.{past_of, facts_after, ranges_after, before_acceptance, before_move, through_move, own_past}
 
 -- A read or a write of so many sectors, from an address on.
@@ -115,15 +114,16 @@ TransferLaw =
     (items : Items) → IsQuiet items → (o : Origin) (list : List Step) → AreLawful items o list
     → AreServed items o list
 
--- And so, by the items of this drive, what a client takes, where its command is a transfer.
-abbrev pub IsServedAnswer : Origin → List Step → ℕ → Answer → Type 0
-IsServedAnswer o list tag a =
-    (put : Put) (x : Transfer) → stage (trace o list) tag ≡ Answered put
+-- And so what a client takes, where its command is a transfer.
+abbrev pub IsServedAnswer : Items → Origin → List Step → ℕ → Answer → Type 0
+IsServedAnswer items o list tag a =
+    (put : Put) (x : Transfer) → stage (trace_of items o list) tag ≡ Answered put
     → transfer_of put.command ≡ Some x
-    → (a ≢ Reset → IsServed tcg o list tag x a)
-    × ((IsDoneWrite x a → ⊥) → MoveNothing (own_past tcg o list tag))
+    → (a ≢ Reset → IsServed items o list tag x a)
+    × ((IsDoneWrite x a → ⊥) → MoveNothing (own_past items o list tag))
 
 abbrev pub TakenLaw : Type 0
 TakenLaw =
-    (o : Origin) (list : List Step) (tag : ℕ) → IsLawful o list
-    → IsServedAnswer o list tag (unwrap_or (answer (trace o list) tag) no_bytes)
+    (items : Items) → IsQuiet items → (o : Origin) (list : List Step) (tag : ℕ)
+    → AreLawful items o list
+    → IsServedAnswer items o list tag (unwrap_or (answer (trace_of items o list) tag) no_bytes)

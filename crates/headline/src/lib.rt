@@ -7,7 +7,8 @@ ghost use Rattle.headline.specs.NoTrace.{OpenLaw, AbortLaw};
 ghost use Rattle.headline.specs.Transfers.{TransferLaw, TakenLaw};
 
 /// A read or write that the drive answers is served exactly where every range that it touches permits it by the rows
-/// in force at its last acceptance; and what is no write that was done, as one that a reset stopped, moves nothing.
+/// in force at its last acceptance; and what is no write that was done, as one that a reset stopped, moves nothing. Both
+/// whatever quiet items do; `taken` says it of what a client takes.
 ///
 /// Not said: that a transfer is ever answered.
 pub fn law_of_transfers()

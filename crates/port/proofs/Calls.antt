@@ -9,6 +9,8 @@ use Rattle.port_history.specs.declared.error.PortError.{PortError}
 use Rattle.port_history.specs.declared.step.Step.{Step}
 use Rattle.port_history.specs.Steps.{trace, answer}
 use Rattle.port_history.specs.Refusals.{refusal, has_slot, IsRefusedBy, IsTold}
+use Rattle.history.specs.Tcg.{tcg}
+use Rattle.history.proofs.QuietProofs.{tcg_quiet}
 use Rattle.port.specs.State.{State, refusal_on}
 use Rattle.port.specs.Answers.{taken}
 use Rattle.port.specs.Agreement.{PortAgrees}
@@ -37,9 +39,9 @@ answered_call (Err error) old tag lt e = tt
 -- and so it is served where it is allowed
 pub served_call : (r : Result (ℕ × Answer) PortError) (old : State) (tag : ℕ)
     → IfOk r (λ x. (o : Origin) (list : List Step) → PortAgrees old o list → (x.0 ≡ 1 + length (trace o list)) × (x.1 ≡ unwrap_or (answer (trace o list) tag) no_bytes))
-    → IfOk r (λ x. (o : Origin) (list : List Step) → PortAgrees old o list → IsServedAnswer o list tag x.1)
+    → IfOk r (λ x. (o : Origin) (list : List Step) → PortAgrees old o list → IsServedAnswer tcg o list tag x.1)
 served_call (Ok x) old tag e = λ o list h.
-    subst (IsServedAnswer o list tag) (sym (e o list h).1) (taken_law o list tag h.lawful)
+    subst (IsServedAnswer tcg o list tag) (sym (e o list h).1) (taken_law tcg tcg_quiet o list tag h.lawful)
 served_call (Err error) old tag e = tt
 
 -- the same where the private step tells its refusals of a port that agrees

@@ -32,6 +32,7 @@ impl Port {
     ghost use Rattle.slots.specs.declared.fetched.Fetched.{Fetched};
     ghost use Rattle.history.specs.Answers.{payload_of};
     ghost use Rattle.history.specs.Opening.{Origin};
+    ghost use Rattle.history.specs.Tcg.{tcg};
     ghost use Rattle.port_history.specs.declared.stages.Put.{Put};
     ghost use Rattle.port_history.specs.declared.step.Step.{Step};
     ghost use Rattle.port_history.specs.declared.step.Step.TheVariants as steps;
@@ -263,7 +264,7 @@ impl Port {
             × (r.1 ≡ unwrap_or (answer (trace o list) tag) no_bytes)) }
         ensures served { IfOk result (λ r. (o : Origin) (list : List Step)
             → PortAgrees self.old o list
-            → IsServedAnswer o list tag r.1) }
+            → IsServedAnswer tcg o list tag r.1) }
         ensures refused { (o : Origin) (list : List Step) → PortAgrees self.old o list
             → IsRefusedBy (refusal (trace o list) (steps.Take client tag)) result }
         ensures err { OnErr result (self.new ≡ self.old) }

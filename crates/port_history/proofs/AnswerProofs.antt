@@ -2,8 +2,6 @@
 use Rattle.std.proofs.Common.{◌≡◌, ◌∙◌, ℕ, ◌==◌, Bool, true, false, List, [], ◌∷◌, if◌then◌else◌, Option, Some, None, refl, sym, ap, subst, eqb-true}
 use Rattle.std.specs.Prelude.{is_some, unwrap_or}
 use Rattle.device_data.specs.declared.log_page.Failure.{Failure}
-use Rattle.history.specs.Tcg.{tcg}
-use Rattle.history.proofs.QuietProofs.{tcg_quiet}
 use Rattle.port_history.specs.declared.request.Answer.{Answer}
 use Rattle.port_history.specs.declared.request.Answer.TheVariants as answers
 use Rattle.port_history.specs.declared.stages.Put.{Put}
@@ -11,7 +9,7 @@ use Rattle.port_history.specs.declared.stages.Stage.{Stage}
 use Rattle.port_history.specs.declared.stages.Stage.TheVariants.{Free, Prepared, Issued, Accepted, Answered}
 use Rattle.port_history.specs.declared.step.Step.TheVariants as steps
 use Rattle.port_history.specs.Stages.{is_queued, is_answered, is_pending, to, accepted_stage, recovered, after_reset}
-use Rattle.port_history.specs.Steps.{Effect, Moment, trace, stage, failed, is_tag, answer, executed_answer, recovered_answer}
+use Rattle.port_history.specs.Steps.{Effect, Moment, trace_of, stage, failed, is_tag, answer, executed_answer, recovered_answer}
 use Rattle.port_history.specs.Laws.{AnswerLaw}
 use Rattle.port_history.proofs.Tests.{some_is, was_true, none_holds, tests_of, issued_is}
 use Rattle.port_history.proofs.KeptLaw.{kept, accept_is, accepted_effect, found}
@@ -100,41 +98,41 @@ stopped (Answered put) x had is = had refl
 abbrev HasAnswer : List Moment → ℕ → Type 0
 HasAnswer ms tag = is_answered (stage ms tag) ≡ true → is_some (answer ms tag) ≡ true
 
--- Every tag that is Answered has an answer.
+-- Every tag that is Answered has an answer, whatever quiet items do.
 pub answer_law : AnswerLaw
-answer_law o [] h tag is = absurd cc
-answer_law o (steps.Put client u request ∷ before) h tag is =
-    let ms = trace o before in
+answer_law items still o [] h tag is = absurd cc
+answer_law items still o (steps.Put client u request ∷ before) h tag is =
+    let ms = trace_of items o before in
     emptied (u == tag) (Prepared _) (stage ms tag) (answer ms tag) refl
-    (answer_law o before h.2 tag) is
-answer_law o (steps.Issue u ∷ before) h tag is =
-    let ms = trace o before in
-    issued (u == tag) (stage ms tag) (answer ms tag) (answer_law o before h.2 tag) is
-answer_law o (steps.Accept u ∷ before) h tag is =
-    let ms = trace o before in
+    (answer_law items still o before h.2 tag) is
+answer_law items still o (steps.Issue u ∷ before) h tag is =
+    let ms = trace_of items o before in
+    issued (u == tag) (stage ms tag) (answer ms tag) (answer_law items still o before h.2 tag) is
+answer_law items still o (steps.Accept u ∷ before) h tag is =
+    let ms = trace_of items o before in
     let t = none_holds (tests_of ms (steps.Accept u)) h.1 in
     let p = issued_is (stage ms u) t.1.1.0 in
-    subst (λ (m : Moment). HasAnswer (m ∷ ms) tag) (sym (accept_is tcg o ms u p.0 p.1))
-    (accepted_other u tag (u == tag) refl p.0 (accepted_effect tcg o ms u p.0) (stage ms tag)
+    subst (λ (m : Moment). HasAnswer (m ∷ ms) tag) (sym (accept_is items o ms u p.0 p.1))
+    (accepted_other u tag (u == tag) refl p.0 (accepted_effect items o ms u p.0) (stage ms tag)
     (λ same. subst (λ (k : ℕ). stage ms k ≡ Issued p.0) same p.1) (answer ms tag)
-    (answer_law o before h.2 tag)) is
-answer_law o (steps.Complete u ∷ before) h tag is =
-    let ms = trace o before in
-    completed (u == tag) _ (stage ms tag) _ (answer ms tag) (answer_law o before h.2 tag) is
-answer_law o (steps.Recover ∷ before) h tag is =
-    let ms = trace o before in
+    (answer_law items still o before h.2 tag)) is
+answer_law items still o (steps.Complete u ∷ before) h tag is =
+    let ms = trace_of items o before in
+    completed (u == tag) _ (stage ms tag) _ (answer ms tag) (answer_law items still o before h.2 tag) is
+answer_law items still o (steps.Recover ∷ before) h tag is =
+    let ms = trace_of items o before in
     let t = none_holds (tests_of ms steps.Recover) h.1 in
     let f = some_is (failed ms) (was_true _ t.1.0) in
-    let x = found ms f.0 (kept tcg tcg_quiet o before h.2) f.1 in
+    let x = found ms f.0 (kept items still o before h.2) f.1 in
     subst
     (λ (y : Option Failure). is_some (unwrap_or (if is_tag tag (failed ms) then recovered_answer y
     else None) (answer ms tag)) ≡ true)
     (sym x.failing)
     (recovered_one (is_tag tag (failed ms)) x.found (stage ms tag) (answer ms tag)
-    (answer_law o before h.2 tag) is)
-answer_law o (steps.Reset client kind ∷ before) h tag is =
-    let ms = trace o before in
-    stopped (stage ms tag) (answer ms tag) (answer_law o before h.2 tag) is
-answer_law o (steps.Take client u ∷ before) h tag is =
-    let ms = trace o before in
-    emptied (u == tag) Free (stage ms tag) (answer ms tag) refl (answer_law o before h.2 tag) is
+    (answer_law items still o before h.2 tag) is)
+answer_law items still o (steps.Reset client kind ∷ before) h tag is =
+    let ms = trace_of items o before in
+    stopped (stage ms tag) (answer ms tag) (answer_law items still o before h.2 tag) is
+answer_law items still o (steps.Take client u ∷ before) h tag is =
+    let ms = trace_of items o before in
+    emptied (u == tag) Free (stage ms tag) (answer ms tag) refl (answer_law items still o before h.2 tag) is

@@ -13,17 +13,19 @@ use Rattle.history.specs.Decisions.{is_busy}
 use Rattle.history.specs.Events.{Event}
 use Rattle.history.specs.Facts.{facts}
 use Rattle.history.specs.History.{Accept as AcceptFis}
+use Rattle.history.specs.Items.{Items}
 use Rattle.history.specs.Opening.{Origin}
+use Rattle.history.specs.Quiet.{IsQuiet}
 use Rattle.history.specs.Readers.{held, failure}
 use Rattle.port_history.specs.declared.request.Answer.{Answer}
 use Rattle.port_history.specs.declared.step.Step.{Step}
 use Rattle.port_history.specs.declared.step.Step.TheVariants as steps
-use Rattle.port_history.specs.Refusals.{IsLawful, most_steps}
+use Rattle.port_history.specs.Refusals.{AreLawful, IsLawful, most_steps}
 use Rattle.port_history.specs.Ready.{ready}
 use Rattle.port_history.specs.Registers.{registers}
 use Rattle.port_history.specs.Requests.{log_fis}
 use Rattle.port_history.specs.Stages.{is_active, is_answered, is_issued, is_queued}
-use Rattle.port_history.specs.Steps.{Moment, trace, events, acts, stage, failed, is_tag, answer, act_of, reply}
+use Rattle.port_history.specs.Steps.{Moment, trace_of, trace, events, acts, stage, failed, is_tag, answer, act_of, reply}
 
 -- A FIS comes past the rules that stand before addresses, policy and security protocols: the queue
 -- has not failed, the FIS carries a command; a queued one has a free tag, and any other finds
@@ -70,11 +72,12 @@ RegisterLaw =
     (o : Origin) (list : List Step) → IsLawful o list → (tag : ℕ) → tag < slot_count
     → HasBits (trace o list) tag
 
--- Every tag that is Answered has an answer.
+-- Every tag that is Answered has an answer, whatever quiet items do.
 abbrev pub AnswerLaw : Type 0
 AnswerLaw =
-    (o : Origin) (list : List Step) → IsLawful o list → (tag : ℕ)
-    → is_answered (stage (trace o list) tag) ≡ true → is_some (answer (trace o list) tag) ≡ true
+    (items : Items) → IsQuiet items → (o : Origin) (list : List Step) → AreLawful items o list
+    → (tag : ℕ) → is_answered (stage (trace_of items o list) tag) ≡ true
+    → is_some (answer (trace_of items o list) tag) ≡ true
 
 -- What a step says of a slot's owner: a Put makes its client the owner, a Take leaves none.
 abbrev pub owner_by : ℕ → Step → Option (Option ℕ)

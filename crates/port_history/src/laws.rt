@@ -13,10 +13,11 @@ ghost use Rattle.port_history.specs.declared.request.TheConstants as requests;
 /// reads the log page of a failed queue. `failure`: the drive's queue has failed exactly while the
 /// port has, and its log page names the tag. `registers`: PxSACT has exactly the queued tags that
 /// are Issued or Accepted, PxCI those that are Issued, and the failed tag. `answered`: each tag
-/// that is Answered has an answer. `taken`: a client takes only what is its own, the answer to the
-/// newest command put into the slot and not taken since, which that client put. `own`: while the
-/// history has room, no client is refused such an answer. `fed`: each act brings as many bytes as
-/// its command wants. `full`: where the history is full, the engine may do nothing.
+/// that is Answered has an answer, whatever quiet items do. `taken`: a client takes only what is its
+/// own, the answer to the newest command put into the slot and not taken since, which that client
+/// put. `own`: while the history has room, no client is refused such an answer. `fed`: each act
+/// brings as many bytes as its command wants. `full`: where the history is full, the engine may do
+/// nothing.
 pub fn laws_of_steps()
     ensures unmixed { NeverMixes }
     ensures failure { FailureLaw }
