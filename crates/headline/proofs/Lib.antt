@@ -11,5 +11,6 @@ pub mod Forgotten
 pub mod NoTraceLaws
 mod Scenes
 mod RowsTransfers
+mod RowsItems
 mod RowsMethods
 mod RowsNoTrace

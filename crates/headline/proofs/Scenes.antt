@@ -8,6 +8,7 @@ use Rattle.tcg_tokens.specs.Message.{Message}
 use Rattle.tcg_tokens.specs.Spelling.{item_spelling_of}
 use Rattle.audit.specs.declared.reason.Why.{Why}
 use Rattle.history.specs.Events.{SessionDeed, Deed, InSession, Event}
+use Rattle.history.specs.Items.{Items}
 use Rattle.history.specs.Opening.{Origin}
 use Rattle.history.proofs.Scripts.{msid, start_as}
 use Rattle.port_history.specs.declared.error.PortError.{PortError}
@@ -15,16 +16,19 @@ use Rattle.port_history.specs.declared.request.Request.{Request}
 use Rattle.port_history.specs.declared.request.Request.TheVariants.{Send, Receive}
 use Rattle.port_history.specs.declared.step.Step.{Step}
 use Rattle.port_history.specs.declared.step.Step.TheVariants.{Put, Issue, Accept}
-use Rattle.port_history.specs.Refusals.{IsLawful, refusal, has_slot}
-use Rattle.port_history.specs.Steps.{trace}
+use Rattle.port_history.specs.Refusals.{AreLawful, IsLawful, refusal, has_slot}
+use Rattle.port_history.specs.Steps.{trace_of}
 use Rattle.history.specs.Tcg.{tcg}
 use Rattle.headline.specs.Steps.{event_after}
 
--- Each step of a list is lawful where it stands.
+-- Each step of a list is lawful where it stands, by what items do; and by those of this drive.
+abbrev pub are_lawful_by : Items → Origin → List Step → Bool
+are_lawful_by items o [] = true
+are_lawful_by items o (step ∷ before) =
+    has_slot step && is_none (refusal (trace_of items o before) step) && are_lawful_by items o before
+
 abbrev pub are_lawful : Origin → List Step → Bool
-are_lawful o [] = true
-are_lawful o (step ∷ before) =
-    has_slot step && is_none (refusal (trace o before) step) && are_lawful o before
+are_lawful = are_lawful_by tcg
 
 both : (a b : Bool) → (a && b) ≡ true → (a ≡ true) × (b ≡ true)
 both true b e = (refl, e)
@@ -34,12 +38,16 @@ none_of : (x : Option PortError) → is_none x ≡ true → x ≡ None
 none_of None e = refl
 none_of (Some x) e = absurd (cc)
 
+pub lawful_by : (items : Items) (o : Origin) (list : List Step) → are_lawful_by items o list ≡ true → AreLawful items o list
+lawful_by items o [] e = tt
+lawful_by items o (step ∷ before) e =
+    let refused = refusal (trace_of items o before) step in
+    let p = both (has_slot step && is_none refused) (are_lawful_by items o before) e in
+    let q = both (has_slot step) (is_none refused) p.0 in
+    (q.0, none_of refused q.1, lawful_by items o before p.1)
+
 pub lawful : (o : Origin) (list : List Step) → are_lawful o list ≡ true → IsLawful o list
-lawful o [] e = tt
-lawful o (step ∷ before) e =
-    let p = both (has_slot step && is_none (refusal (trace o before) step)) (are_lawful o before) e in
-    let q = both (has_slot step) (is_none (refusal (trace o before) step)) p.0 in
-    (q.0, none_of (refusal (trace o before) step) q.1, lawful o before p.1)
+lawful = lawful_by tcg
 
 -- A request that sends a message to ComID 1000h.
 abbrev pub told : ℕ → ℕ → Message → Request

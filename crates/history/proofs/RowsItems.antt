@@ -2,10 +2,11 @@
 use Rattle.std.proofs.Common.{◌≡◌, ℕ, ◌==◌, Bool, true, false, [], if◌then◌else◌, refl, ap}
 use Rattle.history.specs.Decisions.{refuses}
 use Rattle.history.specs.Events.{Event, did, Nothing, OfQueue, QueueMended}
-use Rattle.history.specs.Facts.{Facts}
+use Rattle.history.specs.Facts.{Facts, facts}
 use Rattle.history.specs.Items.{Items}
 use Rattle.history.specs.NoTrace.{IsByOwnView}
 use Rattle.history.specs.Quiet.{is_quiet, IsQuiet}
+use Rattle.history.proofs.Scripts.{new_drive}
 
 false_true : false ≡ true → ⊥
 false_true h = cc
@@ -20,12 +21,19 @@ refusing_quiet f protocol com_id blocks payload = refl
 refusing_views : IsByOwnView refusing
 refusing_views f rows bytes number same protocol com_id blocks payload apart = refl
 
--- Items that end the failure of the queue are not quiet.
+-- What a new drive shows.
+abbrev shown : Facts
+shown = facts new_drive []
+
+-- Items that end the failure of the queue are not quiet, but see no view.
 abbrev mending : Items
 mending = record { sends = λ f protocol com_id blocks payload. did (OfQueue QueueMended); gives = λ f command. [] }
 
-mending_is_not : Facts → IsQuiet mending → ⊥
-mending_is_not f h = false_true (h f 1 0 1 [])
+mending_is_not : IsQuiet mending → ⊥
+mending_is_not h = false_true (h shown 1 0 1 [])
+
+mending_views : IsByOwnView mending
+mending_views f rows bytes number same protocol com_id blocks payload apart = refl
 
 -- Items that tell each client of a byte in the view of session 5 are quiet, but see another's view.
 abbrev telling : Items
@@ -38,11 +46,8 @@ telling_quiet f protocol com_id blocks payload = by_byte (f.byte_of 5 0 == 0)
     by_byte true = refl
     by_byte false = refl
 
-abbrev blank : Facts → Facts
-blank f = record f { byte_of = λ viewer place. 0 }
-
-telling_sees : Facts → IsByOwnView telling → ⊥
-telling_sees f h = told (h (blank f) f.rows_of (λ viewer place. if 5 == viewer then 1 else 0) 5 (λ viewer apart. record {
+telling_sees : IsByOwnView telling → ⊥
+telling_sees h = told (h shown shown.rows_of (λ viewer place. if 5 == viewer then 1 else 0) 5 (λ viewer apart. record {
   rows_same = refl;
   bytes_same = ap (λ (b : Bool). λ (place : ℕ). if b then 1 else 0) apart;
 }) 1 0 1 [] refl)
