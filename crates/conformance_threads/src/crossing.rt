@@ -5,8 +5,8 @@ ghost use Rattle.std.specs.Prelude.{◌≡◌};
 use crate::clients::{Told, close, deal, has_all_receipts, port, put_receipt};
 use basics::Bytes;
 use fis::Tag;
-use locked_port::{Gate, LockedPort, Pass, Pick, PortName, Receipt, Ticket, is_done, is_same_step};
-use port::{EngineStep, Entry, PortError, Request, Step};
+use locked_port::{Gate, LockedPort, Pass, Pick, PortName, Receipt, Ticket};
+use port::{Answer, EngineStep, Entry, PortError, Request, Step};
 use std::alloc::{AllocError, Global};
 use std::marker::Brand;
 use std::process::Abort;
@@ -252,7 +252,7 @@ fn new_client<L: PortName>(alloc: Global, pass: Pass<L>) -> Client<L> {
 /// The first place of a history behind a Put at which a step stands.
 fn place_of(history: &[Entry], put: &Ticket, step: &Step) -> Option<usize> {
     for at in 0..history.len() {
-        if at as u64 >= put.number && is_same_step(&history[at].step, step) {
+        if at as u64 >= put.number && history[at].step == *step {
             return Some(at);
         }
     }
@@ -274,9 +274,9 @@ fn is_crossed(history: &[Entry], read: &Ticket, write: &Ticket) -> bool {
 fn has_told(receipts: &[Receipt], middle: &[u8], last: &[u8]) -> bool {
     match *receipts {
         [_, ref written, _, ref second, _, ref third] => {
-            is_done(&written.reply, &[])
-                && is_done(&second.reply, middle)
-                && is_done(&third.reply, last)
+            written.reply == Answer::nothing()
+                && second.reply.bytes() == Some(middle)
+                && third.reply.bytes() == Some(last)
         }
         _ => false,
     }

@@ -3,7 +3,7 @@
 use crate::clients::{Told, port, run};
 use basics::Bytes;
 use drive::RangeRow;
-use locked_port::{Gate, Pick, Receipt, is_done, is_same_answer, is_same_step};
+use locked_port::{Gate, Pick, Receipt};
 use port::{Answer, EngineStep, Entry, Port, Request};
 use std::alloc::{AllocError, Global};
 use std::marker::Brand;
@@ -58,7 +58,7 @@ fn is_denied(receipts: &[Receipt]) -> bool {
         status: 0x51,
         error: 0x04,
     };
-    is_done(&before.reply, &[0; 2560]) && is_same_answer(&into.reply, &failed)
+    before.reply.bytes() == Some(&[0; 2560][..]) && into.reply == failed
 }
 
 /// Whether what was written was read.
@@ -66,23 +66,7 @@ fn has_read(receipts: &[Receipt]) -> bool {
     let [_, ref written, _, ref read] = *receipts else {
         return false;
     };
-    is_done(&written.reply, &[]) && is_done(&read.reply, &[0xaa; 512])
-}
-
-fn is_same_entry(one: &Entry, other: &Entry) -> bool {
-    is_same_step(&one.step, &other.step) && is_same_answer(&one.reply, &other.reply)
-}
-
-fn is_same_history(one: &[Entry], other: &[Entry]) -> bool {
-    if one.len() != other.len() {
-        return false;
-    }
-    for i in 0..one.len() {
-        if !is_same_entry(&one[i], &other[i]) {
-            return false;
-        }
-    }
-    true
+    written.reply == Answer::nothing() && read.reply.bytes() == Some(&[0xaa; 512][..])
 }
 
 /// Whether a port does the same steps, with the same answers, and tells of the same one denial.
@@ -92,9 +76,7 @@ fn has_replayed(was: &Port, again: &mut Port) -> bool {
             return false;
         }
     }
-    is_same_history(was.history(), again.history())
-        && was.audit().len() == 1
-        && was.audit() == again.audit()
+    was.history() == again.history() && was.audit().len() == 1 && was.audit() == again.audit()
 }
 
 /// Whether each client has its answers, and the engine used all its turns.

@@ -3,8 +3,8 @@
 
 use crate::clients::{First, Told, has_all_receipts, run};
 use basics::Bytes;
-use locked_port::{Receipt, is_done};
-use port::Request;
+use locked_port::Receipt;
+use port::{Answer, Request};
 use std::alloc::Global;
 use std::marker::Brand;
 use std::sync::ledger::Blank;
@@ -38,15 +38,16 @@ fn requests(alloc: Global, lba: u64, first: u8) -> Result<Vec<Request>, Fail> {
 /// Whether the four receipts of each round are there, of the Puts and the Takes of its write and of its read, and the
 /// read has what the write wrote.
 fn has_read(receipts: &[Receipt], first: u8) -> bool {
+    let nothing = Answer::nothing();
     for round in 0..ROUNDS {
         let start = 4 * usize::from(round);
         let Some([put, written, asked, read]) = receipts.get(start..start + 4) else {
             return false;
         };
-        let is_right = is_done(&put.reply, &[])
-            && is_done(&written.reply, &[])
-            && is_done(&asked.reply, &[])
-            && is_done(&read.reply, &sector(first, round));
+        let is_right = put.reply == nothing
+            && written.reply == nothing
+            && asked.reply == nothing
+            && read.reply.bytes() == Some(&sector(first, round)[..]);
         if !is_right {
             return false;
         }

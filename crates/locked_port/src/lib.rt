@@ -6,12 +6,10 @@ mod gate;
 mod locked;
 mod pass;
 mod receipts;
-mod same;
 mod ticket;
 
 pub use gate::{Gate, Pick};
 pub use locked::{Closed, LockedPort};
 pub use pass::{Pass, PortName};
 pub use receipts::check_receipts;
-pub use same::{is_done, is_same_answer, is_same_step};
 pub use ticket::{Receipt, Ticket};

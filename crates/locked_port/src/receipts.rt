@@ -4,7 +4,6 @@ ghost use Rattle.std.specs.Prelude.{◌≡◌, ◌+◌, ◌^◌, ◌<◌, ◌≤
 ghost use Rattle.locked_port.specs.Counts.{is_client};
 ghost use Rattle.locked_port.specs.Receipts.{AreApart, IsShown, AreNamed, AreApartIn, AreNamedIn, AreThere, AreOnly, AreMarked};
 
-use crate::same::{is_same_answer, is_same_step};
 use crate::ticket::Receipt;
 use port::{Entry, Step};
 
@@ -26,7 +25,7 @@ fn is_same(entry: &Entry, receipt: &Receipt) -> bool
     ensures { IsTrue result
         ↔ (entry.now ≡ record { step = receipt.now.step; reply = receipt.now.reply }) }
 {
-    is_same_step(&entry.step, &receipt.step) && is_same_answer(&entry.reply, &receipt.reply)
+    entry.step == receipt.step && entry.reply == receipt.reply
 }
 
 /// Whether the history has a receipt's step and reply at its number.

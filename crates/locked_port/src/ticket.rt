@@ -12,7 +12,7 @@ pub struct Ticket {
 }
 
 /// A step of the history, as its client was told: its number, and what it answered.
-#[derive(Drop)]
+#[derive(Debug, Drop, PartialEq, Eq)]
 pub struct Receipt {
     pub number: u64,
     pub step: Step,

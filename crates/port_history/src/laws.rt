@@ -1,10 +1,18 @@
 //! What follows from the definitions alone, and their limits.
 
-ghost use Rattle.std.specs.Prelude.{◌≡◌};
+ghost use Rattle.std.specs.Prelude.{◌≡◌, ◌↔◌, IsTrue};
 ghost use Rattle.port_history.specs.Laws.{NeverMixes, FailureLaw, RegisterLaw, AnswerLaw, TakeLaw, OwnLaw, FedLaw, FullLaw};
 ghost use Rattle.port_history.specs.Refusals.{most_steps};
 ghost use Rattle.port_history.specs.Requests.{most_blocks};
+ghost use Rattle.port_history.specs.contracts.request.AnswerPartialEq.TheImpl as answers;
+ghost use Rattle.port_history.specs.contracts.request.RequestPartialEq.TheImpl as asked;
+ghost use Rattle.port_history.specs.contracts.step.EntryPartialEq.TheImpl as entries;
+ghost use Rattle.port_history.specs.contracts.step.StepPartialEq.TheImpl as steps;
+ghost use Rattle.port_history.specs.declared.request.Answer.{Answer};
+ghost use Rattle.port_history.specs.declared.request.Request.{Request};
 ghost use Rattle.port_history.specs.declared.request.TheConstants as requests;
+ghost use Rattle.port_history.specs.declared.step.Entry.{Entry};
+ghost use Rattle.port_history.specs.declared.step.Step.{Step};
 
 /// Laws of the definitions, over every origin and every lawful list of steps.
 ///
@@ -33,4 +41,12 @@ pub fn laws_of_steps()
 pub fn laws_of_limits()
     ensures steps { most_steps ≡ 1048576 }
     ensures blocks { (requests.MOST_BLOCKS ≡ most_blocks) × (most_blocks ≡ 256) }
+{}
+
+/// What `==` of the types of this crate computes is whether the values are the same.
+pub fn laws_of_equality()
+    ensures requests { (x y : Request) → IsTrue ((asked.ghosts).eq x y) ↔ (x ≡ y) }
+    ensures answers { (x y : Answer) → IsTrue ((answers.ghosts).eq x y) ↔ (x ≡ y) }
+    ensures steps { (x y : Step) → IsTrue ((steps.ghosts).eq x y) ↔ (x ≡ y) }
+    ensures entries { (x y : Entry) → IsTrue ((entries.ghosts).eq x y) ↔ (x ≡ y) }
 {}

@@ -10,7 +10,7 @@ mod stages;
 mod step;
 
 pub use error::{PlayError, PortError};
-pub use laws::{laws_of_limits, laws_of_steps};
+pub use laws::{laws_of_equality, laws_of_limits, laws_of_steps};
 pub use reply::ReplyBytes;
 pub use request::{Answer, MOST_BLOCKS, Request};
 pub use stages::{Put, Stage, is_queued};

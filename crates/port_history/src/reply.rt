@@ -6,6 +6,7 @@ ghost use Rattle.port_history.specs.Replies.{are_zero};
 use basics::Bytes;
 use std::alloc::{AllocError, Global};
 use std::boxed::Box;
+use std::fmt;
 use std::marker::Model;
 
 /// Zeros up to this many take no memory of a reply.
@@ -13,8 +14,8 @@ const MOST_ZEROS: usize = 65_535;
 
 static ZEROS: [u8; MOST_ZEROS] = [0; MOST_ZEROS];
 
-/// Bytes of any length, seen as their list. It is small, and where it has zeros alone, as what was read of sectors
-/// that were never written, it takes no memory.
+/// Bytes of any length, seen as their list and compared by it. It is small, and where it has zeros alone, as what was
+/// read of sectors that were never written, it takes no memory.
 #[derive(Drop)]
 pub struct ReplyBytes {
     kept: Kept,
@@ -35,6 +36,38 @@ impl Model for ReplyBytes {
     ghost use Rattle.port_history.specs.Replies.{bytes_kept};
 
     ghost view = { λ b. bytes_kept b.kept };
+}
+
+impl PartialEq for ReplyBytes {
+    ghost use Rattle.std.specs.Prelude.{◌≡◌, ◌==◌, ◌↔◌, IsTrue};
+    ghost use Rattle.std.proofs.Common.{rules};
+    ghost use Rattle.std.specs.Cmp.Rules.{comparing};
+    ghost use lib.Pointwise.{pointwise};
+
+    ghost eq = { pointwise ◌==◌ };
+
+    ghost laws = { Prim.search (comparing, rules) };
+
+    fn eq(&self, other: &ReplyBytes) -> bool
+        ensures value { result ≡ pointwise ◌==◌ self.now other.now }
+        ensures same { IsTrue result ↔ (self.now ≡ other.now) }
+    {
+        self.as_slice() == other.as_slice()
+    }
+}
+
+impl Eq for ReplyBytes {
+    ghost use Rattle.std.proofs.Common.{rules};
+    ghost use Rattle.std.specs.Cmp.Rules.{comparing};
+
+    ghost laws = { Prim.search (comparing, rules) };
+}
+
+/// The list of the bytes.
+impl fmt::Debug for ReplyBytes {
+    fn fmt<W: fmt::Write>(&self, f: &mut fmt::Formatter<W>) -> fmt::Result {
+        f.debug_list().entries(self.as_slice()).finish()
+    }
 }
 
 /// So many zeros.

@@ -1,8 +1,9 @@
 //! What clients ask, and what they are answered.
 
-ghost use Rattle.std.specs.Prelude.{◌≡◌, ◌≤◌, ◌<◌, ◌^◌, ◌/◌, ◌*◌, ◌&&◌, IfOk, IfSome, true, length};
+ghost use Rattle.std.specs.Prelude.{◌≡◌, ◌≤◌, ◌<◌, ◌^◌, ◌/◌, ◌*◌, ◌&&◌, ℕ, List, IfOk, IfSome, MatchOption, true, length};
 ghost use Rattle.trusted_cmds.specs.Commands.{lba_of, IsCounted, sector_size};
 ghost use Rattle.port_history.specs.Requests.{no_bytes, is_address, are_blocks, are_whole, is_sized, command_of, payload_of, most_blocks, bytes_moved};
+ghost use Rattle.port_history.specs.declared.request.Answer.TheVariants as answers;
 
 use crate::reply::ReplyBytes;
 use basics::Bytes;
@@ -18,8 +19,9 @@ const ADDRESSES: u64 = 1 << 48;
 /// Trusted commands take their forms by DMA.
 const BY_DMA: bool = true;
 
-/// What a client asks of the drive. Addresses and counts are of blocks of 512 bytes.
-#[derive(Drop)]
+/// What a client asks of the drive. Addresses and counts are of blocks of 512 bytes. Two are `==` where they ask the
+/// same: the bytes count, and not where they lie.
+#[derive(Debug, Drop, PartialEq, Eq)]
 pub enum Request {
     /// Reads so many blocks, in the queue.
     Read {
@@ -60,7 +62,7 @@ pub enum Request {
 }
 
 /// What a client is answered.
-#[derive(Drop)]
+#[derive(Debug, Drop, PartialEq, Eq)]
 pub enum Answer {
     /// Done, with the bytes that were read.
     Done(ReplyBytes),
@@ -76,6 +78,17 @@ impl Answer {
         ensures { result ≡ no_bytes }
     {
         Answer::Done(ReplyBytes::none())
+    }
+
+    /// The bytes of an answer that is done.
+    pub fn bytes(&self) -> Option<&[u8]>
+        ensures { MatchOption result ((bytes : List ℕ) → self.now ≡ answers.Done bytes → ⊥)
+            (λ bytes. self.now ≡ answers.Done bytes.now) }
+    {
+        match *self {
+            Answer::Done(ref bytes) => Some(bytes.as_slice()),
+            Answer::Failed { .. } | Answer::Reset => None,
+        }
     }
 
     /// The same answer once more.

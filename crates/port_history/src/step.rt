@@ -5,7 +5,7 @@ use fis::Tag;
 use history::ResetKind;
 
 /// A step of a port.
-#[derive(Drop)]
+#[derive(Debug, Drop, PartialEq, Eq)]
 pub enum Step {
     /// A client puts a request in a free slot.
     Put {
@@ -51,7 +51,7 @@ pub enum EngineStep {
 
 /// A step of the history, and what it answered: the answer that a Take took, else that it is done,
 /// with no bytes.
-#[derive(Drop)]
+#[derive(Debug, Drop, PartialEq, Eq)]
 pub struct Entry {
     pub step: Step,
     pub reply: Answer,

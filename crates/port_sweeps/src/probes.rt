@@ -1,7 +1,7 @@
 //! What is asked of a port behind a reset.
 
 use crate::lists::{COM_ID_PROTOCOL, OldSession};
-use crate::seen::{are_same, bytes_of, is_done, is_reset, stopped};
+use crate::seen::{bytes_of, is_done, is_reset, stopped};
 use compacket::{ComId, empty_header};
 use drive::RangeRow;
 use fis::{SLOT_COUNT, Tag};
@@ -116,7 +116,7 @@ fn stays_answered(
 ) -> Result<bool, PortError> {
     let (_, kept) = twin.take(client, tag)?;
     let (_, answer) = port.take(client, tag)?;
-    Ok(are_same(&kept, &answer))
+    Ok(kept == answer)
 }
 
 /// Whether a slot is answered as it is to be: a command that the reset stopped with that, another one as without it.

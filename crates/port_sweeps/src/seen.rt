@@ -70,15 +70,12 @@ pub fn is_reset(answer: &Answer) -> bool {
 
 /// The bytes of an answer, none where the command is not done.
 pub fn bytes_of(answer: &Answer) -> &[u8] {
-    match answer {
-        Answer::Done(bytes) => bytes.as_slice(),
-        Answer::Failed { .. } | Answer::Reset => &[],
-    }
+    answer.bytes().unwrap_or(&[])
 }
 
 /// Whether a command is done.
 pub fn is_done(answer: &Answer) -> bool {
-    matches!(answer, Answer::Done(_))
+    answer.bytes().is_some()
 }
 
 /// The registers of a command that failed.
@@ -87,11 +84,4 @@ pub fn failure(answer: &Answer) -> Option<(u8, u8)> {
         Answer::Failed { status, error } => Some((*status, *error)),
         Answer::Done(_) | Answer::Reset => None,
     }
-}
-
-/// Whether two answers are the same.
-pub fn are_same(one: &Answer, other: &Answer) -> bool {
-    is_done(one) == is_done(other)
-        && failure(one) == failure(other)
-        && bytes_of(one) == bytes_of(other)
 }

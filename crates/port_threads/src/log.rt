@@ -5,7 +5,7 @@ ghost use Rattle.port_threads.specs.Rounds.{filled};
 ghost use Rattle.port_threads.specs.Steps.{put_receipt};
 
 use basics::Bytes;
-use locked_port::{LockedPort, Pass, PortName, Receipt, Ticket, is_done};
+use locked_port::{LockedPort, Pass, PortName, Receipt, Ticket};
 use port::{Answer, PortError, Request, Step};
 use std::alloc::{AllocError, Global};
 use std::sync::Wait;
@@ -104,7 +104,7 @@ impl Log {
     {
         self.receipts.reserve(1)?;
         let receipt = port.await_answer(rt, pass, ticket)?;
-        let is_so = is_done(&receipt.reply, bytes);
+        let is_so = receipt.reply.bytes() == Some(bytes);
         self.receipts.push_reserved(receipt);
         Ok(is_so)
     }
