@@ -6,8 +6,8 @@ use basics::Bytes;
 use compacket::{Session, frame};
 use drive::{Drive, DriveConfig, RangeRow, ResetKind};
 use fis::Tag;
-use port::{Answer, PlayError, Port, PortError, Request, Step};
-use std::alloc::Global;
+use port::{Answer, PlayError, Port, PortError, ReplyBytes, Request, Step};
+use std::alloc::{AllocError, Global};
 use std::test::Fail;
 
 /// The ComID of a send and of a receive.
@@ -160,21 +160,7 @@ fn reply(port: &Port, number: usize) -> Result<&Answer, Fail> {
 }
 
 fn is_failed(answer: &Answer, status: u8, error: u8) -> bool {
-    match answer {
-        Answer::Failed {
-            status: told,
-            error: why,
-        } => *told == status && *why == error,
-        Answer::Done(_) | Answer::Reset => false,
-    }
-}
-
-/// The bytes of an answer, none where the command is not done.
-fn bytes_of(answer: &Answer) -> Option<&[u8]> {
-    match answer {
-        Answer::Done(bytes) => Some(bytes.as_slice()),
-        Answer::Failed { .. } | Answer::Reset => None,
-    }
+    *answer == Answer::Failed { status, error }
 }
 
 /// Whether the step is refused so, and changes nothing.
@@ -362,9 +348,9 @@ fn was_done(alloc: Global, port: &Port, rows: &[Row], texts: &[&str]) -> Result<
 fn are_locked(port: &Port) -> Result<bool, Fail> {
     let first = is_failed(reply(port, 20)?, 0x51, 0x04);
     let second = is_failed(reply(port, 21)?, 0x51, 0x04);
-    let sent = bytes_of(reply(port, 22)?).ok_or("a send that is done")?;
-    let synced = bytes_of(reply(port, 23)?).ok_or("a receive that is done")?;
-    let set = bytes_of(reply(port, 24)?).ok_or("a send that is done")?;
+    let sent = reply(port, 22)?.bytes().ok_or("a send that is done")?;
+    let synced = reply(port, 23)?.bytes().ok_or("a receive that is done")?;
+    let set = reply(port, 24)?.bytes().ok_or("a send that is done")?;
     let tokens = synced.get(56..87).ok_or("a response")?;
     Ok(
         first
@@ -559,9 +545,9 @@ const RESET_BY_COMMAND: [Row; 19] = [
 
 /// Whether the reset and the Set are done with no bytes, and the read gave a sector.
 fn is_reset_by_command(port: &Port) -> Result<bool, Fail> {
-    let reset = bytes_of(reply(port, 14)?).ok_or("a send that is done")?;
-    let read = bytes_of(reply(port, 18)?).ok_or("a read that is done")?;
-    let set = bytes_of(reply(port, 19)?).ok_or("a send that is done")?;
+    let reset = reply(port, 14)?.bytes().ok_or("a send that is done")?;
+    let read = reply(port, 18)?.bytes().ok_or("a read that is done")?;
+    let set = reply(port, 19)?.bytes().ok_or("a send that is done")?;
     Ok(reset.is_empty() && set.is_empty() && read == [0; 512].as_slice())
 }
 
@@ -606,7 +592,7 @@ fn one_range() -> [RangeRow; 1] {
 /// Whether the write was stopped, and the read gave zeros.
 fn is_stopped(port: &Port) -> Result<bool, Fail> {
     let stopped = matches!(reply(port, 5)?, Answer::Reset);
-    let bytes = bytes_of(reply(port, 10)?).ok_or("a read that is done")?;
+    let bytes = reply(port, 10)?.bytes().ok_or("a read that is done")?;
     Ok(stopped && bytes == [0; 512].as_slice())
 }
 
@@ -651,5 +637,31 @@ fn turns_the_stopped(alloc: Global, port: &mut Port) -> Result<bool, Fail> {
 #[test]
 fn stops_a_write_by_turns(rt: HostRuntime) -> Result<(), Fail> {
     assert!(rt; on_port(rt.alloc(), &one_range(), turns_the_stopped)?);
+    Ok(())
+}
+
+/// Whether bytes come back from a reply that was made of a vector of them, and it is that which is made of the bytes.
+fn gives_back(alloc: Global, bytes: &[u8]) -> Result<bool, AllocError> {
+    let made = ReplyBytes::from_vec(alloc, bytes.to_vec(alloc)?)?;
+    let is_same = made == ReplyBytes::new(alloc, bytes)?;
+    let back = made.into_vec(alloc)?;
+    Ok(is_same && back.as_slice() == bytes)
+}
+
+#[test]
+fn gives_back_the_bytes_of_a_reply(rt: HostRuntime) -> Result<(), Fail> {
+    let alloc = rt.alloc();
+    let zeros = gives_back(alloc, &[0; 512])?;
+    let others = gives_back(alloc, &[0xaa; 512])?;
+    assert!(rt; zeros && others);
+    Ok(())
+}
+
+#[test]
+fn prints_what_a_client_is_answered(rt: HostRuntime) -> Result<(), Fail> {
+    let alloc = rt.alloc();
+    let done = Answer::Done(ReplyBytes::new(alloc, &[1, 2])?);
+    let text = format!(in alloc; "{done:?}")?;
+    assert!(rt; text.as_str() == "Done([1, 2])");
     Ok(())
 }

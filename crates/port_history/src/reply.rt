@@ -1,6 +1,6 @@
 //! The bytes that a reply holds.
 
-ghost use Rattle.std.specs.Prelude.{◌≡◌, IfOk, replicate};
+ghost use Rattle.std.specs.Prelude.{◌≡◌, IfOk, IfSome, replicate};
 ghost use Rattle.port_history.specs.Replies.{are_zero};
 
 use basics::Bytes;
@@ -105,12 +105,30 @@ impl ReplyBytes {
     pub fn new(alloc: Global, bytes: &[u8]) -> Result<ReplyBytes, AllocError>
         ensures { IfOk result (λ b. b ≡ bytes.now) }
     {
-        if bytes.len() <= MOST_ZEROS && are_zero(bytes) {
-            let kept = Kept::Zeros(bytes.len() as u16);
-            return Ok(ReplyBytes { kept });
+        match counted(bytes) {
+            Some(zeros) => Ok(zeros),
+            None => own(alloc, Bytes::from_vec(bytes.to_vec(alloc)?)),
         }
-        let bytes = Bytes::from_vec(bytes.to_vec(alloc)?);
-        own(alloc, bytes)
+    }
+
+    /// These bytes, kept as they lie; of zeros the number is kept, and their memory is freed.
+    pub fn from_vec(alloc: Global, bytes: Vec<u8>) -> Result<ReplyBytes, AllocError>
+        ensures { IfOk result (λ b. b ≡ bytes.items) }
+    {
+        match counted(bytes.as_slice()) {
+            Some(zeros) => Ok(zeros),
+            None => own(alloc, Bytes::from_vec(bytes)),
+        }
+    }
+
+    /// The bytes as a vector: without a copy, but for zeros, which take memory now.
+    pub fn into_vec(self, alloc: Global) -> Result<Vec<u8>, AllocError>
+        ensures { IfOk result (λ v. v.items ≡ self) }
+    {
+        match self.kept {
+            Kept::Zeros(count) => zeros(count).to_vec(alloc),
+            Kept::Own(bytes) => Ok(Box::into_inner(bytes).into_vec()),
+        }
     }
 
     /// The bytes.
@@ -134,6 +152,17 @@ impl ReplyBytes {
             Kept::Own(bytes) => own(alloc, bytes.copy()?),
         }
     }
+}
+
+/// Zeros, where these bytes are so many that take no memory.
+fn counted(bytes: &[u8]) -> Option<ReplyBytes>
+    ensures { IfSome result (λ b. b ≡ bytes.now) }
+{
+    if bytes.len() <= MOST_ZEROS && are_zero(bytes) {
+        let kept = Kept::Zeros(bytes.len() as u16);
+        return Some(ReplyBytes { kept });
+    }
+    None
 }
 
 /// Bytes in memory of their own.

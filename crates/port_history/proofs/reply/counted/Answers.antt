@@ -1,7 +1,7 @@
 use Rattle.std.proofs.Common.{◌≡◌, true, sym}
 use Rattle.port_history.specs.Replies.{are_zero}
 use Rattle.port_history.proofs.Zeros.{are_zero-replicate}
-use Rattle.port_history.proofs.reply.ReplyBytes.new.Goals as goal
+use Rattle.port_history.proofs.reply.counted.Goals as goal
 
 pub returns-then-are_zero : goal.returns-then-are_zero
 returns-then-are_zero c =
