@@ -46,7 +46,7 @@ fn ask<L: PortName, R: Wait>(
     request: &Request,
     receipts: &mut Vec<Receipt>,
 ) -> Result<(), PortError> {
-    let asked = request.copy()?;
+    let asked = request.copy(*receipts.allocator())?;
     receipts.reserve(2)?;
     let ticket = port.submit(rt, pass, request)?;
     receipts.push_reserved(put_receipt(&ticket, asked));

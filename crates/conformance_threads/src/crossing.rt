@@ -118,7 +118,7 @@ fn put<L: PortName, R: Wait>(
     client: &mut Client<L>,
     request: &Request,
 ) -> Result<Ticket, PortError> {
-    let asked = request.copy()?;
+    let asked = request.copy(*client.receipts.allocator())?;
     client.receipts.reserve(1)?;
     let ticket = port.submit(rt, &mut client.pass, request)?;
     client.receipts.push_reserved(put_receipt(&ticket, asked));

@@ -19,6 +19,7 @@ use tag_board::TagBoard;
 /// A port under one lock.
 #[derive(Drop)]
 pub struct LockedPort<L: PortName> {
+    alloc: Global,
     desk: Mutex<Desk<L>>,
     moved: Condvar,
     clients: u16,
@@ -65,6 +66,7 @@ impl<L: PortName> LockedPort<L> {
         let passes = Pass::deal(alloc, whole, seat, clients as u32 + 1)?;
         Ok((
             LockedPort {
+                alloc,
                 desk: Mutex::new(Desk::new(port, book)),
                 moved: Condvar::new(),
                 clients,
@@ -97,7 +99,7 @@ impl<L: PortName> LockedPort<L> {
         let Some(tag) = pass.claim() else {
             return Err(PortError::SlotBusy);
         };
-        let put = match build(request, tag) {
+        let put = match build(self.alloc, request, tag) {
             Ok(built) => pass.submit(&mut self.desk.lock(rt), built),
             Err(error) => Err(error),
         };
@@ -249,6 +251,7 @@ impl<L: PortName> LockedPort<L> {
             return Err((self, passes));
         }
         let LockedPort {
+            alloc: _,
             desk,
             moved: _,
             clients: _,
@@ -262,12 +265,12 @@ impl<L: PortName> LockedPort<L> {
 }
 
 /// Builds the command of a request. Nothing but memory is refused.
-fn build(request: &Request, tag: Tag) -> Result<Built, PortError>
+fn build(alloc: Global, request: &Request, tag: Tag) -> Result<Built, PortError>
     requires { is_sized request.now ≡ true }
     ensures built { IfOk result (λ built. (built.request ≡ request.now) × (built.tag ≡ tag)) }
     ensures memory { IsOkUnless result PortError.OutOfMemory }
 {
-    match Built::new(request, tag) {
+    match Built::new(alloc, request, tag) {
         Ok(built) => Ok(built),
         Err(_) => Err(PortError::OutOfMemory),
     }

@@ -76,7 +76,7 @@ impl Port {
         let step = Step::Put {
             client,
             tag,
-            request: request.copy()?,
+            request: request.copy(self.alloc)?,
         };
         let reply = Answer::nothing();
         self.history.reserve(1)?;

@@ -8,7 +8,7 @@ use crate::port::Port;
 use fis::Tag;
 use port_history::{Answer, Entry, PortError, Put, Request, Stage, Step};
 use slots::CommandBlock;
-use std::alloc::AllocError;
+use std::alloc::{AllocError, Global};
 use std::marker::Model;
 
 /// Whether a port takes a request, by its size: false exactly where `put` answers `Size`.
@@ -45,12 +45,12 @@ impl Built {
     /// # Errors
     ///
     /// `AllocError`, when a growth is refused.
-    pub fn new(request: &Request, tag: Tag) -> Result<Built, AllocError>
+    pub fn new(alloc: Global, request: &Request, tag: Tag) -> Result<Built, AllocError>
         requires { is_sized request.now ≡ true }
         ensures { IfOk result (λ built. (built.tag ≡ tag) × (built.request ≡ request.now)) }
     {
         let fis = host::command_block(request.command(), tag);
-        let request = request.copy()?;
+        let request = request.copy(alloc)?;
         Ok(Built { tag, request, fis })
     }
 

@@ -137,6 +137,13 @@ fn blocks_of(bytes: &Bytes) -> u32
     (bytes.as_slice().len() / SECTOR_SIZE) as u32
 }
 
+/// The same bytes once more.
+fn copy_of(alloc: Global, bytes: &Bytes) -> Result<Bytes, AllocError>
+    ensures { IfOk result (λ b. b ≡ bytes.now) }
+{
+    Ok(Bytes::from_vec(bytes.as_slice().to_vec(alloc)?))
+}
+
 impl Request {
     /// Whether a port takes it: 1 to 256 whole blocks, from an address of 48 bits on.
     pub fn is_sized(&self) -> bool
@@ -217,18 +224,18 @@ impl Request {
     }
 
     /// The same request once more.
-    pub fn copy(&self) -> Result<Request, AllocError>
+    pub fn copy(&self, alloc: Global) -> Result<Request, AllocError>
         ensures { IfOk result (λ r. r ≡ self.now) }
     {
         match *self {
             Request::Read { lba, count } => Ok(Request::Read { lba, count }),
             Request::ReadDma { lba, count } => Ok(Request::ReadDma { lba, count }),
             Request::Write { lba, ref bytes } => {
-                let bytes = bytes.copy()?;
+                let bytes = copy_of(alloc, bytes)?;
                 Ok(Request::Write { lba, bytes })
             }
             Request::WriteDma { lba, ref bytes } => {
-                let bytes = bytes.copy()?;
+                let bytes = copy_of(alloc, bytes)?;
                 Ok(Request::WriteDma { lba, bytes })
             }
             Request::Send {
@@ -236,7 +243,7 @@ impl Request {
                 com_id,
                 ref bytes,
             } => {
-                let bytes = bytes.copy()?;
+                let bytes = copy_of(alloc, bytes)?;
                 Ok(Request::Send {
                     protocol,
                     com_id,
