@@ -3,6 +3,7 @@
 ghost use Rattle.std.specs.Prelude.{◌∷◌, List, OnOk, IfOk};
 ghost use Rattle.headline.specs.Transfers.{IsServedAnswer};
 ghost use Rattle.history.specs.Opening.{Origin};
+ghost use Rattle.history.specs.Tcg.{tcg};
 ghost use Rattle.port.specs.Agreement.{PortAgrees};
 ghost use Rattle.port_history.specs.declared.step.Step.{Step};
 ghost use Rattle.port_history.specs.declared.step.Step.TheVariants as steps;
@@ -24,7 +25,7 @@ pub fn serve_alone(
     // A read or a write is done exactly where every range that it touches permits it.
     ensures served { IfOk result (λ answer. (o : Origin) (list : List Step)
         → PortAgrees port.old o list
-        → IsServedAnswer o (served_steps client tag request.now list) tag answer) }
+        → IsServedAnswer tcg o (served_steps client tag request.now list) tag answer) }
 {
     port.put(client, tag, request)?;
     port.issue(tag)?;

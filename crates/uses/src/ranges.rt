@@ -1,6 +1,7 @@
 //! A caller of `locking`.
 
-ghost use Rattle.std.specs.Prelude.{◌≡◌, ◌+◌, ◌<◌, ◌≤◌, ◌^◌, IfOk};
+ghost use Rattle.std.specs.Prelude.{◌≡◌, ◌+◌, ◌<◌, ◌≤◌, IfOk};
+ghost use Rattle.basics.specs.Addresses.{address_limit};
 ghost use Rattle.locking.specs.Ranges.{ranges_in};
 ghost use Rattle.locking.specs.Verdict.{verdict_of};
 ghost use Rattle.uses.specs.Serves.{serves};
@@ -19,7 +20,7 @@ pub fn is_served<R: Rows>(
     count: u32,
 ) -> Result<bool, AllocError>
     requires some { 0 < count }
-    requires room { lba + count ≤ 2 ^ 48 }
+    requires room { lba + count ≤ address_limit }
     ensures { IfOk result (λ is_so. is_so ≡ serves
         (verdict_of (ranges_in (R.shadow_sectors rows.now) (R.look_up rows.now)) op lba count)) }
 {
