@@ -4,7 +4,7 @@ use Rattle.std.proofs.lemmas.Bool.{le-leb}
 use Rattle.sp_cells.specs.Config.{Config}
 use Rattle.sp_cells.specs.Names.{locking_sp, admin_pin_uid}
 use Rattle.sp_cells.specs.declared.names.Sp.TheVariants.{Admin, Locking}
-use Rattle.sp_factory.specs.Factory.{admin_sps, admin_authorities, locking_authorities, admin_pins, locking_pins, admin_aces}
+use Rattle.sp_rows.specs.Factory.{admin_sps, admin_authorities, locking_authorities, admin_pins, locking_pins, admin_aces}
 use Rattle.sp_tables.specs.Contents.{factory_contents}
 use Rattle.sp_tables.specs.Faults.{fault_of}
 use Rattle.history.specs.Opening.{life_cycle, pin, manufactured_contents, ActivationLaw}

@@ -17,7 +17,7 @@ use Rattle.sp_cells.specs.Names.{locking_sp, range_uid, admin_pin_uid, mbr_contr
 use Rattle.sp_cells.specs.ColumnNames.{credential_column, lock_on_reset_column, mbr_done_column, mbr_done_on_reset_column}
 use Rattle.sp_cells.specs.Flat.{PlacedCell, sp_eq, cell_at}
 use Rattle.sp_rows.specs.Items.{Item, on, with_item, with_items}
-use Rattle.sp_factory.specs.Factory.{admin_factory, locking_factory, admin_sps, admin_authorities, locking_authorities, admin_pins, locking_pins, locking_ranges, locking_mbr_controls, admin_aces, authority_aces, pin_aces, range_aces, mbr_aces}
+use Rattle.sp_rows.specs.Factory.{admin_factory, locking_factory, admin_sps, admin_authorities, locking_authorities, admin_pins, locking_pins, locking_ranges, locking_mbr_controls, admin_aces, authority_aces, pin_aces, range_aces, mbr_aces}
 use Rattle.sp_tables.specs.AtReset.{has_kind}
 use Rattle.sp_tables.specs.Contents.{Contents, factory_contents, look_up, flat}
 use Rattle.sp_tables.specs.Looks.{RowLook, put_in, puts_in}

@@ -15,7 +15,7 @@ use Rattle.sp_cells.specs.ColumnNames.{life_cycle_state_column, pin_column, trie
 use Rattle.sp_cells.specs.Limits.{manufactured, manufactured_inactive}
 use Rattle.sp_cells.specs.Ranges.{number}
 use Rattle.sp_rows.specs.Items.{item_at, with_item}
-use Rattle.sp_factory.specs.Factory.{admin_factory, locking_factory}
+use Rattle.sp_rows.specs.Factory.{admin_factory, locking_factory}
 use Rattle.sp_tables.specs.Contents.{Contents, items_of, factory_contents, look_up}
 use Rattle.sp_tables.specs.Looks.{put_in}
 use Rattle.sp_tables.specs.AtReset.{locking_tries_after}

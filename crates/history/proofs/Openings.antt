@@ -15,7 +15,7 @@ use Rattle.sp_cells.specs.Config.{Config}
 use Rattle.sp_cells.specs.Flat.{PlacedCell, sp_eq, cell_at}
 use Rattle.sp_cells.specs.Names.{c_pin_table, range_base, locking_sp, range_uid, admin_pin_uid}
 use Rattle.sp_rows.specs.Items.{Item, on, with_item, with_items}
-use Rattle.sp_factory.specs.Factory.{admin_factory, locking_factory, admin_sps, admin_authorities, locking_authorities, admin_pins, locking_pins, locking_ranges, locking_mbr_controls, admin_aces, authority_aces, pin_aces, range_aces, mbr_aces}
+use Rattle.sp_rows.specs.Factory.{admin_factory, locking_factory, admin_sps, admin_authorities, locking_authorities, admin_pins, locking_pins, locking_ranges, locking_mbr_controls, admin_aces, authority_aces, pin_aces, range_aces, mbr_aces}
 use Rattle.sp_tables.specs.Contents.{Contents, look_up, flat}
 use Rattle.sp_tables.specs.Tries.{is_pin, is_tries, names_tries}
 use Rattle.locking.specs.declared.range.RangeRow.{RangeRow}

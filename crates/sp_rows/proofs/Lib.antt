@@ -1,3 +1,4 @@
 pub mod ItemLemmas
 pub mod RunLemmas
 pub mod ExchangeLemmas
+pub mod FamilyLemmas

@@ -2,3 +2,4 @@ pub mod Items
 pub mod Columns
 pub mod Runs
 pub mod Halves
+pub mod Factory

@@ -1,13 +1,17 @@
-//! The rows of one security provider of a self-locking drive: a struct for each kind of row, and the search and the
-//! exchange of a cell among them.
+//! The rows of one security provider of a self-locking drive: a struct for each kind of row, the search and the
+//! exchange of a cell among them, and the rows of a new drive.
 #![tactic(auto)]
 
 pub mod exchange;
+pub mod factory;
+mod families;
 pub mod halves;
+mod new_rows;
 pub mod rows;
 pub mod runs;
 
 pub use exchange::{exchange_all, new_cells};
+pub use factory::{new_admin_sp, new_locking_sp};
 pub use halves::SpTables;
 pub use rows::{AceRow, AuthorityRow, CPinRow, LockingRow, MbrControlRow, Row, SpRow, TperInfoRow};
 pub use runs::{Run, find_cell, swap_in};

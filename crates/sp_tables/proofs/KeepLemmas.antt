@@ -13,7 +13,7 @@ use Rattle.sp_cells.specs.Flat.{LookUp}
 use Rattle.sp_cells.specs.Ranges.{range_start, range_length, AreApart, number_in, of_range, ranges_meet}
 use Rattle.sp_rows.specs.Items.{Item, item_at, with_item, with_items}
 use Rattle.sp_cells.specs.Config.{Config}
-use Rattle.sp_factory.specs.Factory.{locking_factory}
+use Rattle.sp_rows.specs.Factory.{locking_factory}
 use Rattle.sp_tables.specs.Contents.{Contents, look_up, factory_contents}
 use Rattle.sp_tables.specs.Undo.{RangesApart, KeepsApart, IsNoBound, put_back, with_row_back}
 use Rattle.sp_tables.specs.Tries.{is_pin, tries_put, family_cleared, locking_cleared}

@@ -8,8 +8,7 @@ ghost use Rattle.sp_tables.specs.Faults.{fault_of, TellsFault};
 ghost use Rattle.sp_cells.specs.Ranges.{AreApart};
 
 use sp_cells::{Cell, Column, DriveConfig, Rows, SetError, Sp, Uid};
-use sp_factory::{new_admin_sp, new_locking_sp};
-use sp_rows::{SpTables, exchange_all, new_cells};
+use sp_rows::{SpTables, exchange_all, new_admin_sp, new_cells, new_locking_sp};
 use std::alloc::{AllocError, Global};
 use std::marker::Model;
 

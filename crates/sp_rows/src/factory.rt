@@ -1,0 +1,496 @@
+//! The tables of a new drive, row by row.
+
+ghost use Rattle.std.specs.Prelude.{◌≡◌, ◌+◌, ◌<◌, ◌≤◌, ◌^◌, [], ◌∷◌, ◌++◌, IfOk, OnOk, string_bytes, map};
+ghost use Rattle.std.specs.List.{flat_map};
+ghost use Rattle.sp_cells.specs.declared.cells.Element.TheVariants as elements;
+ghost use Rattle.sp_cells.specs.Names.{user_ace_base, read_locked_ace_base, ace_range_set_read_locked, write_locked_ace_base, ace_range_set_write_locked};
+ghost use Rattle.sp_rows.specs.Items.{row_items, rows_from};
+ghost use Rattle.sp_rows.specs.Runs.{run_items};
+ghost use Rattle.sp_rows.specs.Halves.{half_items};
+ghost use Rattle.sp_rows.specs.Columns.{sp_columns, authority_columns, c_pin_columns, locking_columns, mbr_control_columns, tper_info_columns, ace_columns};
+ghost use Rattle.sp_rows.specs.Factory.{HasRows, AddsRows, ace_row, family, user_ace, read_locked_aces, write_locked_aces, admin_sps, admin_authorities, admin_pins, admin_tper_infos, admin_aces, locking_authorities, locking_pins, locking_ranges, locking_mbr_controls, authority_aces, pin_aces, range_aces, mbr_aces, admin_factory, locking_factory};
+
+use crate::families::{
+    admin_pin_rows, admin_rows, range_rows, read_locked_ace_row, read_locked_ace_rows,
+    user_ace_rows, user_pin_rows, user_rows, write_locked_ace_row, write_locked_ace_rows,
+};
+use crate::new_rows::{
+    ace, group, mbr_control, member, only, pin, push_row, range, sp_row, tper_info,
+};
+use crate::{
+    AceRow, AuthorityRow, CPinRow, LockingRow, MbrControlRow, Row, Run, SpRow, SpTables,
+    TperInfoRow,
+};
+use sp_cells::limits::{MANUFACTURED, MANUFACTURED_INACTIVE, NEW_TRY_LIMIT, NO_TRY_LIMIT};
+use sp_cells::{Column, RANGES, USERS, Uid};
+use std::alloc::{AllocError, Global};
+
+/// The columns of a C_PIN row but for its names and the PIN.
+const BUT_PIN: [Column; 5] = [
+    Column::UID,
+    Column::CHAR_SET,
+    Column::TRY_LIMIT,
+    Column::TRIES,
+    Column::PERSISTENCE,
+];
+
+/// The columns that lock a range.
+const LOCKS: [Column; 5] = [
+    Column::READ_LOCK_ENABLED,
+    Column::WRITE_LOCK_ENABLED,
+    Column::READ_LOCKED,
+    Column::WRITE_LOCKED,
+    Column::LOCK_ON_RESET,
+];
+
+/// The columns that place a range and lock it.
+const PLACE_AND_LOCKS: [Column; 7] = [
+    Column::RANGE_START,
+    Column::RANGE_LENGTH,
+    Column::READ_LOCK_ENABLED,
+    Column::WRITE_LOCK_ENABLED,
+    Column::READ_LOCKED,
+    Column::WRITE_LOCKED,
+    Column::LOCK_ON_RESET,
+];
+
+/// Adds rows whose names follow one another.
+#[tactic(auto, using(crate::proofs::FamilyLemmas::pushing))]
+fn push_run<R: Row + Drop>(
+    runs: &mut Vec<Run<R>>,
+    first: Uid,
+    rows: Vec<R>,
+) -> Result<(), AllocError>
+    ensures { OnOk result
+        (AddsRows R.held runs.old.items runs.new.items (rows_from R.held first.0 rows.items)) }
+{
+    push_row(runs, Run { first, rows })?;
+    Ok(())
+}
+
+/// Adds one row.
+#[tactic(auto, using(crate::proofs::FamilyLemmas::pushing))]
+fn push_one<R: Row + Drop>(
+    alloc: Global,
+    runs: &mut Vec<Run<R>>,
+    object: Uid,
+    row: R,
+) -> Result<(), AllocError>
+    ensures { OnOk result
+        (AddsRows R.held runs.old.items runs.new.items (row_items object (R.held row))) }
+{
+    let mut rows = Vec::with_capacity(alloc, 1)?;
+    push_row(&mut rows, row)?;
+    push_run(runs, object, rows)?;
+    Ok(())
+}
+
+/// Adds an ACE that one authority, or one class, fulfils.
+fn push_ace(
+    alloc: Global,
+    runs: &mut Vec<Run<AceRow>>,
+    uid: Uid,
+    name: &str,
+    authority: Uid,
+    columns: &[Column],
+) -> Result<(), AllocError>
+    ensures { OnOk result (AddsRows ace_columns runs.old.items runs.new.items
+        (ace_row uid name.now authority columns.now)) }
+{
+    let name = String::from_str(alloc, name)?;
+    let expr = only(alloc, authority)?;
+    push_one(alloc, runs, uid, ace(alloc, uid, name, expr, columns)?)?;
+    Ok(())
+}
+
+#[tactic(auto, unfolding(crate::specs::Factory::admin_sps))]
+fn admin_sps_made(alloc: Global) -> Result<Vec<Run<SpRow>>, AllocError>
+    ensures { IfOk result (λ runs. HasRows sp_columns runs.items admin_sps) }
+{
+    let mut runs = Vec::new(alloc);
+    let admin = String::from_str(alloc, "Admin")?;
+    push_one(
+        alloc,
+        &mut runs,
+        Uid::ADMIN_SP,
+        sp_row(Uid::ADMIN_SP, admin, MANUFACTURED),
+    )?;
+    let locking = String::from_str(alloc, "Locking")?;
+    push_one(
+        alloc,
+        &mut runs,
+        Uid::LOCKING_SP,
+        sp_row(Uid::LOCKING_SP, locking, MANUFACTURED_INACTIVE),
+    )?;
+    Ok(runs)
+}
+
+#[tactic(auto, unfolding(crate::specs::Factory::admin_authorities))]
+fn admin_authorities_made(alloc: Global) -> Result<Vec<Run<AuthorityRow>>, AllocError>
+    ensures { IfOk result (λ runs. HasRows authority_columns runs.items admin_authorities) }
+{
+    let mut runs = Vec::new(alloc);
+    let anybody = String::from_str(alloc, "Anybody")?;
+    push_one(
+        alloc,
+        &mut runs,
+        Uid::ANYBODY,
+        group(alloc, Uid::ANYBODY, anybody, 0),
+    )?;
+    let sid = String::from_str(alloc, "SID")?;
+    let row = member(alloc, Uid::SID, sid, Uid::NONE, 1, Uid::C_PIN_SID);
+    push_one(alloc, &mut runs, Uid::SID, row)?;
+    Ok(runs)
+}
+
+#[tactic(auto, unfolding(crate::specs::Factory::locking_authorities))]
+fn locking_authorities_made(alloc: Global) -> Result<Vec<Run<AuthorityRow>>, AllocError>
+    ensures { IfOk result (λ runs. HasRows authority_columns runs.items locking_authorities) }
+{
+    let mut runs = Vec::new(alloc);
+    let anybody = String::from_str(alloc, "Anybody")?;
+    push_one(
+        alloc,
+        &mut runs,
+        Uid::ANYBODY,
+        group(alloc, Uid::ANYBODY, anybody, 0),
+    )?;
+    let admins = String::from_str(alloc, "Admins")?;
+    push_one(
+        alloc,
+        &mut runs,
+        Uid::ADMINS,
+        group(alloc, Uid::ADMINS, admins, 1),
+    )?;
+    push_run(&mut runs, Uid::admin(1), admin_rows(alloc)?)?;
+    let users = String::from_str(alloc, "Users")?;
+    push_one(
+        alloc,
+        &mut runs,
+        Uid::USERS,
+        group(alloc, Uid::USERS, users, 1),
+    )?;
+    push_run(&mut runs, Uid::user(1), user_rows(alloc)?)?;
+    Ok(runs)
+}
+
+#[tactic(auto, unfolding(crate::specs::Factory::admin_pins))]
+fn admin_pins_made(alloc: Global, msid: &[u8]) -> Result<Vec<Run<CPinRow>>, AllocError>
+    ensures { IfOk result (λ runs. HasRows c_pin_columns runs.items (admin_pins msid.now)) }
+{
+    let mut runs = Vec::new(alloc);
+    let sid = String::from_str(alloc, "C_PIN_SID")?;
+    let sid_row = pin(alloc, Uid::C_PIN_SID, sid, msid, NEW_TRY_LIMIT)?;
+    push_one(alloc, &mut runs, Uid::C_PIN_SID, sid_row)?;
+    let public = String::from_str(alloc, "C_PIN_MSID")?;
+    let msid_row = pin(alloc, Uid::C_PIN_MSID, public, msid, NO_TRY_LIMIT)?;
+    push_one(alloc, &mut runs, Uid::C_PIN_MSID, msid_row)?;
+    Ok(runs)
+}
+
+#[tactic(auto, unfolding(crate::specs::Factory::locking_pins))]
+fn locking_pins_made(alloc: Global) -> Result<Vec<Run<CPinRow>>, AllocError>
+    ensures { IfOk result (λ runs. HasRows c_pin_columns runs.items locking_pins) }
+{
+    let mut runs = Vec::new(alloc);
+    push_run(&mut runs, Uid::pin_of_admin(1), admin_pin_rows(alloc)?)?;
+    push_run(&mut runs, Uid::pin_of_user(1), user_pin_rows(alloc)?)?;
+    Ok(runs)
+}
+
+#[tactic(auto, unfolding(crate::specs::Factory::locking_ranges))]
+fn locking_ranges_made(alloc: Global) -> Result<Vec<Run<LockingRow>>, AllocError>
+    ensures { IfOk result (λ runs. HasRows locking_columns runs.items locking_ranges) }
+{
+    let mut runs = Vec::new(alloc);
+    let global = String::from_str(alloc, "Locking_GlobalRange")?;
+    push_one(
+        alloc,
+        &mut runs,
+        Uid::range(0),
+        range(alloc, Uid::range(0), global),
+    )?;
+    push_run(&mut runs, Uid::range(1), range_rows(alloc)?)?;
+    Ok(runs)
+}
+
+#[tactic(auto, unfolding(crate::specs::Factory::locking_mbr_controls))]
+fn mbr_controls_made(alloc: Global) -> Result<Vec<Run<MbrControlRow>>, AllocError>
+    ensures { IfOk result (λ runs. HasRows mbr_control_columns runs.items locking_mbr_controls) }
+{
+    let mut runs = Vec::new(alloc);
+    push_one(
+        alloc,
+        &mut runs,
+        Uid::MBR_CONTROL,
+        mbr_control(Uid::MBR_CONTROL),
+    )?;
+    Ok(runs)
+}
+
+fn tper_infos_made(alloc: Global) -> Result<Vec<Run<TperInfoRow>>, AllocError>
+    ensures { IfOk result (λ runs. HasRows tper_info_columns runs.items admin_tper_infos) }
+{
+    let mut runs = Vec::new(alloc);
+    push_one(alloc, &mut runs, Uid::TPER_INFO, tper_info(Uid::TPER_INFO))?;
+    Ok(runs)
+}
+
+/// Adds the ACEs of the Admin SP.
+#[tactic(auto, using(crate::proofs::FamilyLemmas::pushing), unfolding(crate::specs::Factory::admin_aces))]
+fn push_admin_aces(alloc: Global, runs: &mut Vec<Run<AceRow>>) -> Result<(), AllocError>
+    ensures { OnOk result (AddsRows ace_columns runs.old.items runs.new.items admin_aces) }
+{
+    push_ace(alloc, runs, Uid::ACE_ANYBODY, "Anybody", Uid::ANYBODY, &[])?;
+    push_ace(
+        alloc,
+        runs,
+        Uid::ACE_C_PIN_SID_GET_NOPIN,
+        "C_PIN_SID_Get_NOPIN",
+        Uid::SID,
+        &BUT_PIN,
+    )?;
+    push_ace(
+        alloc,
+        runs,
+        Uid::ACE_C_PIN_SID_SET_PIN,
+        "C_PIN_SID_Set_PIN",
+        Uid::SID,
+        &[Column::PIN],
+    )?;
+    push_ace(
+        alloc,
+        runs,
+        Uid::ACE_C_PIN_MSID_GET_PIN,
+        "C_PIN_MSID_Get_PIN",
+        Uid::ANYBODY,
+        &[Column::UID, Column::PIN],
+    )?;
+    push_ace(alloc, runs, Uid::ACE_SP_SID, "SP_SID", Uid::SID, &[])?;
+    push_ace(
+        alloc,
+        runs,
+        Uid::ACE_TPER_INFO_SET_PROGRAMMATIC_RESET_ENABLE,
+        "TPerInfo_Set_ProgrammaticResetEnable",
+        Uid::SID,
+        &[Column::PROGRAMMATIC_RESET_ENABLE],
+    )?;
+    Ok(())
+}
+
+fn admin_aces_made(alloc: Global) -> Result<Vec<Run<AceRow>>, AllocError>
+    ensures { IfOk result (λ runs. HasRows ace_columns runs.items admin_aces) }
+{
+    let mut runs = Vec::new(alloc);
+    push_admin_aces(alloc, &mut runs)?;
+    Ok(runs)
+}
+
+/// Adds the ACEs on authorities, ACEs and the tables as a whole.
+#[tactic(auto, using(crate::proofs::FamilyLemmas::pushing), unfolding(crate::specs::Factory::authority_aces))]
+fn push_authority_aces(alloc: Global, runs: &mut Vec<Run<AceRow>>) -> Result<(), AllocError>
+    ensures { OnOk result (AddsRows ace_columns runs.old.items runs.new.items authority_aces) }
+{
+    push_ace(alloc, runs, Uid::ACE_ANYBODY, "Anybody", Uid::ANYBODY, &[])?;
+    push_ace(alloc, runs, Uid::ACE_ADMINS, "Admins", Uid::ADMINS, &[])?;
+    push_ace(
+        alloc,
+        runs,
+        Uid::ACE_ANYBODY_GET_COMMON_NAME,
+        "Anybody_Get_CommonName",
+        Uid::ANYBODY,
+        &[Column::UID, Column::COMMON_NAME],
+    )?;
+    push_ace(
+        alloc,
+        runs,
+        Uid::ACE_ACE_SET_BOOLEAN_EXPRESSION,
+        "ACE_Set_BooleanExpr",
+        Uid::ADMINS,
+        &[Column::BOOLEAN_EXPR],
+    )?;
+    push_ace(
+        alloc,
+        runs,
+        Uid::ACE_AUTHORITY_SET_ENABLED,
+        "Authority_Set_Enabled",
+        Uid::ADMINS,
+        &[Column::ENABLED],
+    )?;
+    Ok(())
+}
+
+/// Adds the ACEs on the Users' PINs.
+fn push_user_aces(alloc: Global, runs: &mut Vec<Run<AceRow>>) -> Result<(), AllocError>
+    ensures { OnOk result
+        (AddsRows ace_columns runs.old.items runs.new.items (family user_ace_base user_ace USERS)) }
+{
+    push_run(runs, Uid::ace_c_pin_user_set_pin(1), user_ace_rows(alloc)?)?;
+    Ok(())
+}
+
+/// Adds the ACEs on the ReadLocked flags.
+fn push_read_locked_aces(alloc: Global, runs: &mut Vec<Run<AceRow>>) -> Result<(), AllocError>
+    ensures { OnOk result (AddsRows ace_columns runs.old.items runs.new.items read_locked_aces) }
+{
+    push_one(
+        alloc,
+        runs,
+        Uid::ace_range_set_read_locked(0),
+        read_locked_ace_row(alloc, 0)?,
+    )?;
+    push_run(
+        runs,
+        Uid::ace_range_set_read_locked(1),
+        read_locked_ace_rows(alloc)?,
+    )?;
+    Ok(())
+}
+
+/// Adds the ACEs on the WriteLocked flags.
+fn push_write_locked_aces(alloc: Global, runs: &mut Vec<Run<AceRow>>) -> Result<(), AllocError>
+    ensures { OnOk result (AddsRows ace_columns runs.old.items runs.new.items write_locked_aces) }
+{
+    push_one(
+        alloc,
+        runs,
+        Uid::ace_range_set_write_locked(0),
+        write_locked_ace_row(alloc, 0)?,
+    )?;
+    push_run(
+        runs,
+        Uid::ace_range_set_write_locked(1),
+        write_locked_ace_rows(alloc)?,
+    )?;
+    Ok(())
+}
+
+/// Adds the ACEs on C_PIN rows.
+#[tactic(auto, using(crate::proofs::FamilyLemmas::pushing), unfolding(crate::specs::Factory::pin_aces))]
+fn push_pin_aces(alloc: Global, runs: &mut Vec<Run<AceRow>>) -> Result<(), AllocError>
+    ensures { OnOk result (AddsRows ace_columns runs.old.items runs.new.items pin_aces) }
+{
+    push_ace(
+        alloc,
+        runs,
+        Uid::ACE_C_PIN_ADMINS_GET_ALL_NOPIN,
+        "C_PIN_Get_NOPIN",
+        Uid::ADMINS,
+        &BUT_PIN,
+    )?;
+    push_ace(
+        alloc,
+        runs,
+        Uid::ACE_C_PIN_ADMINS_SET_PIN,
+        "C_PIN_Admins_Set_PIN",
+        Uid::ADMINS,
+        &[Column::PIN],
+    )?;
+    push_user_aces(alloc, runs)?;
+    Ok(())
+}
+
+/// Adds the ACEs on ranges.
+#[tactic(auto, using(crate::proofs::FamilyLemmas::pushing), unfolding(crate::specs::Factory::range_aces))]
+fn push_range_aces(alloc: Global, runs: &mut Vec<Run<AceRow>>) -> Result<(), AllocError>
+    ensures { OnOk result (AddsRows ace_columns runs.old.items runs.new.items range_aces) }
+{
+    push_ace(
+        alloc,
+        runs,
+        Uid::ACE_LOCKING_GET_ALL,
+        "Locking_Get",
+        Uid::ADMINS,
+        &PLACE_AND_LOCKS,
+    )?;
+    push_read_locked_aces(alloc, runs)?;
+    push_write_locked_aces(alloc, runs)?;
+    push_ace(
+        alloc,
+        runs,
+        Uid::ACE_LOCKING_GLOBAL_RANGE_ADMINS_SET,
+        "Locking_Global_Set",
+        Uid::ADMINS,
+        &LOCKS,
+    )?;
+    push_ace(
+        alloc,
+        runs,
+        Uid::ACE_LOCKING_ADMINS_SET,
+        "Locking_Range_Set",
+        Uid::ADMINS,
+        &PLACE_AND_LOCKS,
+    )?;
+    Ok(())
+}
+
+/// Adds the ACEs on the shadow MBR.
+#[tactic(auto, using(crate::proofs::FamilyLemmas::pushing), unfolding(crate::specs::Factory::mbr_aces))]
+fn push_mbr_aces(alloc: Global, runs: &mut Vec<Run<AceRow>>) -> Result<(), AllocError>
+    ensures { OnOk result (AddsRows ace_columns runs.old.items runs.new.items mbr_aces) }
+{
+    push_ace(
+        alloc,
+        runs,
+        Uid::ACE_MBR_CONTROL_ADMINS_SET,
+        "MBRControl_Set",
+        Uid::ADMINS,
+        &[
+            Column::MBR_ENABLE,
+            Column::MBR_DONE,
+            Column::MBR_DONE_ON_RESET,
+        ],
+    )?;
+    push_ace(
+        alloc,
+        runs,
+        Uid::ACE_MBR_CONTROL_SET_DONE_TO_DOR,
+        "MBRControl_Set_DoneToDOR",
+        Uid::ADMINS,
+        &[Column::MBR_DONE, Column::MBR_DONE_ON_RESET],
+    )?;
+    Ok(())
+}
+
+fn locking_aces_made(alloc: Global) -> Result<Vec<Run<AceRow>>, AllocError>
+    ensures { IfOk result
+        (λ runs. HasRows ace_columns runs.items
+        (authority_aces ++ pin_aces ++ range_aces ++ mbr_aces)) }
+{
+    let mut runs = Vec::new(alloc);
+    push_authority_aces(alloc, &mut runs)?;
+    push_pin_aces(alloc, &mut runs)?;
+    push_range_aces(alloc, &mut runs)?;
+    push_mbr_aces(alloc, &mut runs)?;
+    Ok(runs)
+}
+
+/// The tables of a new Admin SP.
+pub fn new_admin_sp(alloc: Global, msid: &[u8]) -> Result<SpTables, AllocError>
+    ensures { IfOk result (λ t. half_items t ≡ admin_factory msid.now) }
+{
+    Ok(SpTables {
+        sps: admin_sps_made(alloc)?,
+        authorities: admin_authorities_made(alloc)?,
+        pins: admin_pins_made(alloc, msid)?,
+        ranges: Vec::new(alloc),
+        mbr_controls: Vec::new(alloc),
+        tper_infos: tper_infos_made(alloc)?,
+        aces: admin_aces_made(alloc)?,
+    })
+}
+
+/// The tables of a new Locking SP.
+pub fn new_locking_sp(alloc: Global) -> Result<SpTables, AllocError>
+    ensures { IfOk result (λ t. half_items t ≡ locking_factory) }
+{
+    Ok(SpTables {
+        sps: Vec::new(alloc),
+        authorities: locking_authorities_made(alloc)?,
+        pins: locking_pins_made(alloc)?,
+        ranges: locking_ranges_made(alloc)?,
+        mbr_controls: mbr_controls_made(alloc)?,
+        tper_infos: Vec::new(alloc),
+        aces: locking_aces_made(alloc)?,
+    })
+}
