@@ -81,7 +81,7 @@ impl Model for Drive {
 }
 
 impl Drive {
-    ghost use Rattle.std.specs.Prelude.{◌⊎◌, [], ◌∷◌, ◌++◌, ℕ, List, Option, ◌<◌, ◌↔◌, ◌*◌, IfErr, IsErrOf, IsOk, IsOkUnless, None, Some, Ok, Err, is_some, true, false};
+    ghost use Rattle.std.specs.Prelude.{◌⊎◌, [], ◌∷◌, ◌++◌, ℕ, List, Option, ◌<◌, ◌↔◌, ◌*◌, IfErr, IsErrOf, IsOk, None, Some, Ok, Err, is_some, true, false};
     ghost use Rattle.fis.specs.H2d.{h2d_at};
     ghost use Rattle.fis.specs.declared.h2d.RegH2d.{RegH2d};
     ghost use Rattle.compacket.specs.Frames.{reading as frame_in};
@@ -111,9 +111,8 @@ impl Drive {
     // What is opened.
 
     /// A drive as it leaves the factory, on which nothing was done.
-    pub fn new(alloc: Global, config: DriveConfig) -> Result<Drive, DriveError>
+    pub fn new(alloc: Global, config: DriveConfig) -> Result<Drive, AllocError>
         ensures agrees { IfOk result (λ drive. Agrees drive (factory_origin config) []) }
-        ensures memory { IsOkUnless result DriveError.OutOfMemory }
     {
         let tables = Tables::factory(alloc, &config)?;
         let drive = Drive::over(alloc, tables)?;
@@ -351,7 +350,7 @@ impl Drive {
     /// Want of memory, and then the drive is as before.
     // An answer is large: where the caller has the code at hand, it is not moved.
     #[inline(always)]
-    pub fn accept(&mut self, fis: &[u8; H2D_LENGTH], payload: &[u8]) -> Result<Accepted, DriveError>
+    pub fn accept(&mut self, fis: &[u8; H2D_LENGTH], payload: &[u8]) -> Result<Accepted, AllocError>
         requires { length payload.now ≡ payload_of fis.now }
         ensures agrees { OnOk result ((o : Origin) (acts : List Act) → Agrees self.old o acts
             → Agrees self.new o (Accept fis.now payload.now ∷ acts)) }
@@ -362,7 +361,6 @@ impl Drive {
             → Agrees self.old o acts
             → IsAnswer (facts o (log o acts)) (h2d_at fis.now)
             (event o (log o acts) (Accept fis.now payload.now)) accepted) }
-        ensures memory { IsOkUnless result DriveError.OutOfMemory }
         ensures err { OnErr result (self.new ≡ self.old) }
     {
         let accepted = self.take(fis, payload)?;

@@ -104,13 +104,7 @@ impl OpeningPhase {
         ensures { IfOk result (λ drive. Agrees drive (origin_of self) []) }
     {
         match self {
-            OpeningPhase::Factory(config) => {
-                // nothing but memory is refused here
-                let Ok(drive) = Drive::new(alloc, config) else {
-                    return Err(AllocError);
-                };
-                Ok(drive)
-            }
+            OpeningPhase::Factory(config) => Drive::new(alloc, config),
             OpeningPhase::Activated(opening) => opening.into_drive(),
         }
     }

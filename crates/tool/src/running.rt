@@ -138,10 +138,7 @@ impl RunningPhase {
             → Accepts self.new o acts command.now tag self.old.payload.items accepted) }
     {
         let fis = to_fis(command, tag).to_bytes();
-        // nothing but memory is refused here
-        let Ok(accepted) = self.drive.accept(&fis, &self.payload) else {
-            return Err(AllocError);
-        };
+        let accepted = self.drive.accept(&fis, &self.payload)?;
         self.acts = self.acts.wrapping_add(1);
         Ok(accepted)
     }

@@ -8,8 +8,9 @@ ghost use Rattle.history.specs.Facts.{facts};
 ghost use Rattle.history.specs.History.{Act, Accept, event, log};
 ghost use Rattle.history.specs.Opening.{Origin};
 
-use drive::{Accepted, Drive, DriveError, payload_of};
+use drive::{Accepted, Drive, payload_of};
 use fis::H2D_LENGTH;
+use std::alloc::AllocError;
 
 /// Gives a drive the FIS of a command with its payload. None where the payload is not of as many bytes as the
 /// command brings: then nothing was done.
@@ -17,7 +18,7 @@ pub fn hand_over(
     drive: &mut Drive,
     fis: &[u8; H2D_LENGTH],
     payload: &[u8],
-) -> Result<Option<Accepted>, DriveError>
+) -> Result<Option<Accepted>, AllocError>
     // Whatever was done with the drive before, it now stands as after that and this command, and answers as it should.
     ensures done { IfOk result (λ given. IfSome given (λ accepted.
         (o : Origin) (acts : List Act) → Agrees drive.old o acts
