@@ -1,6 +1,6 @@
 -- What a line leaves of a run.
-use Rattle.std.proofs.Common.{◌≡◌, ℕ, Bool, true, false, List, [], ◌∷◌, refl, OnOk, IfOk, Result, Ok, Err, subst, sym, ap, ◌∙◌, ◌+◌, ◌%◌, ◌^◌}
-use Rattle.std.specs.Prelude.{if◌then◌else◌, ◌==◌, IsOk, Option, None, Some, unwrap_or}
+use Rattle.std.proofs.Common.{◌≡◌, ℕ, Bool, true, List, [], ◌∷◌, refl, OnOk, IfOk, Result, Ok, Err, subst, sym, ap, ◌∙◌, ◌+◌, ◌%◌, ◌^◌}
+use Rattle.std.specs.Prelude.{if◌then◌else◌, ◌==◌, Option, None, Some, unwrap_or}
 use Rattle.history.specs.Opening.{Origin}
 use Rattle.history.specs.History.{Act, Accept, log, event}
 use Rattle.script_lines.specs.declared.line.Line as told
@@ -22,13 +22,12 @@ use Rattle.fis.specs.declared.h2d.RegH2d.{RegH2d}
 use Rattle.script_lines.specs.Texts.{Prints, failure_text, denial_lines}
 use Rattle.drive.specs.State.{Agrees}
 use Rattle.drive.specs.Answers.{IsAnswer}
-use Rattle.tool.specs.Effects.{Effect, RunsOn, Stands, Has, Accepts, GoesTruly, completed, failed, transferred, served_text, answer_text, told_lines, commanded, Does}
+use Rattle.tool.specs.Effects.{Effect, RunsOn, Stands, Has, Accepts, completed, failed, transferred, served_text, answer_text, told_lines, commanded, Does}
 use Rattle.drive.specs.declared.answer.Accepted.{Accepted}
 use Rattle.script_lines.specs.declared.line.Transfer.{Transfer}
 use Rattle.history.specs.Answers.{failed as failed_status, status_of, is_holding}
 use Rattle.history.specs.Tcg.{answer_data}
 use Rattle.tool.specs.declared.running.Turn.{Turn}
-use Rattle.tool.specs.declared.running.Turn.TheVariants as turns
 use Rattle.tool.specs.declared.running.RunningPhase.{RunningPhase}
 use Rattle.trusted_cmds.specs.declared.command.Command.{Command}
 

@@ -1,5 +1,5 @@
 -- The first line of a text, and what a run has read so far.
-use Rattle.std.proofs.Common.{◌≡◌, ℕ, suc, ◌-◌, ◌<◌, Bool, true, false, ◌==◌, ◌&&◌, List, [], ◌∷◌, ◌++◌, map, cond, length, take, slice_index, refl, sym, ap, subst, ◌∙◌, arith, lt-ltb, Option, Some, None, IfSome, All, Ok, Err, IfOk, Result, append_assoc, append-nil, inl, inr}
+use Rattle.std.proofs.Common.{◌≡◌, ℕ, suc, ◌-◌, ◌<◌, Bool, true, false, ◌==◌, ◌&&◌, List, [], ◌∷◌, map, cond, length, take, slice_index, refl, sym, ap, subst, ◌∙◌, arith, lt-ltb, Option, Some, None, IfSome}
 use Rattle.std.specs.Io.BufRead.{take_through, drop_through, strip_last}
 use Rattle.tool.specs.Scripts.{in_front, lines_of_text, script_lines, bare, TakesLine}
 

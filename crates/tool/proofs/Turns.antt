@@ -1,25 +1,23 @@
 -- What the turn of a line is, on a drive and on a port.
-use Rattle.std.proofs.Common.{◌≡◌, ◌∙◌, ℕ, Bool, true, false, List, [], ◌∷◌, ◌++◌, refl, sym, ap, subst, append-nil, Option, Some, None, Result, Ok, Err, IfOk}
+use Rattle.std.proofs.Common.{◌≡◌, ◌∙◌, ℕ, Bool, true, false, List, [], refl, sym, ap, subst, append-nil, Result, Ok, Err, IfOk}
 use Rattle.std.specs.Prelude.{if◌then◌else◌}
 use Rattle.std.specs.Str.{bytes_eq}
 use Rattle.history.specs.Opening.{Origin}
 use Rattle.history.specs.Events.{Event}
-use Rattle.history.specs.History.{Act, log}
+use Rattle.history.specs.History.{Act}
 use Rattle.port_history.specs.declared.step.Step.{Step}
 use Rattle.script_lines.specs.Lines.{line_of, expected_text}
 use Rattle.script_lines.specs.PortLines.{port_line_of}
-use Rattle.script_lines.specs.Texts.{Prints}
 use Rattle.script_lines.specs.declared.fault.LineFault.{LineFault}
 use Rattle.script_lines.specs.declared.line.Line as told
 use Rattle.script_lines.specs.declared.line.Line.TheVariants as lines
 use Rattle.script_lines.specs.declared.port_line.PortLine as told_of_port
 use Rattle.script_lines.specs.declared.port_line.PortLine.TheVariants as port_lines
 use Rattle.script_lines.specs.declared.report.Report.{Report}
-use Rattle.tool.specs.Courses.{Course, OnDrive, OnPort, Advance, Advances, DriveSteps, PhaseRunsOn, course_step, on_drive, on_port, step, step_by, port_step, port_step_by}
-use Rattle.tool.specs.Effects.{Effect, RunsOn, Has, GoesTruly, Does, effect_of}
-use Rattle.tool.specs.PortEffects.{PortEffect, PortRunsOn, PortHas, PortDoes, port_effect_of}
+use Rattle.tool.specs.Courses.{Course, OnDrive, OnPort, Advances, DriveSteps, PhaseRunsOn, course_step, on_drive, on_port, step, step_by, port_step, port_step_by}
+use Rattle.tool.specs.Effects.{Effect, RunsOn, Has, GoesTruly, Does}
+use Rattle.tool.specs.PortEffects.{PortEffect, PortRunsOn, PortHas, PortDoes}
 use Rattle.tool.specs.Progress.{Steps}
-use Rattle.tool.specs.declared.ending.Fault.{Fault}
 use Rattle.tool.specs.declared.ending.Fault.TheVariants as faults
 use Rattle.tool.specs.declared.phase.Phase.{Phase}
 use Rattle.tool.specs.declared.phase.Phase.TheVariants as phases

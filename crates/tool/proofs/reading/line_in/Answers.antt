@@ -1,5 +1,4 @@
-use Rattle.std.proofs.Common.{◌≡◌, ◌+◌, ◌≤◌, length, Some, None}
-use Rattle.std.specs.Io.BufRead.{take_through}
+use Rattle.std.proofs.Common.{Some, None}
 use Rattle.tool.proofs.AtHand.{found-at}
 use Rattle.tool.proofs.reading.line_in.Goals as goal
 

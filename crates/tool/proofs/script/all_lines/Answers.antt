@@ -1,11 +1,11 @@
-use Rattle.std.proofs.Common.{subst, IfSome, Option, Some, None, Bool}
+use Rattle.std.proofs.Common.{subst}
 use Rattle.std.proofs.lemmas.Result.{IfOk-weaker}
 use Rattle.std.specs.Io.Buffered.{reader_remaining}
 use Rattle.tool.specs.Ends.{OpenedStands}
 use Rattle.tool.specs.Outcomes.{outcome_of}
 use Rattle.tool.specs.Progress.{FirstLine, OpensTo}
 use Rattle.tool.proofs.Texts.{weaker}
-use Rattle.tool.proofs.Outcomes.{first-opens, opened-ends, opened-runs}
+use Rattle.tool.proofs.Outcomes.{first-opens, opened-runs}
 use Rattle.tool.proofs.script.all_lines.Goals as goal
 
 pub remaining_lines-requires : goal.remaining_lines-requires

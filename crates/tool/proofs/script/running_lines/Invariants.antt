@@ -1,4 +1,4 @@
-use Rattle.std.proofs.Common.{ℕ, List, ◌∷◌, IfSome}
+use Rattle.std.proofs.Common.{◌∷◌, IfSome}
 use Rattle.std.specs.Io.Buffered.{reader_remaining}
 use Rattle.history.specs.Opening.{Origin}
 use Rattle.tool.specs.Scripts.{bare, script_lines}
