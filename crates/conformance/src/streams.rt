@@ -6,7 +6,7 @@ use std::alloc::{AllocError, Global};
 use std::io;
 use std::io::{ErrorKind, Read, Write};
 use std::test::Fail;
-use tool::{Options, RunError, run_script};
+use tool::{Options, RunError, run_script, run_script_with_faults};
 
 /// Gives one line at each call, as a client over a pipe does, and fails at one call.
 #[derive(Drop)]
@@ -80,6 +80,9 @@ const SERVED: &[u8] = b"ok 00000000 00000000 00000000 00000000 00000000\n";
 const ALL: &[u8] =
     b"ok 00000000 00000000 00000000 00000000 00000000\nfail 51 04\naudit 3 7 deny read 95+6 range 1 ReadLocked\n";
 
+const BEFORE_THE_FAULT: &[u8] =
+    b"ok 00000000 00000000 00000000 00000000 00000000\nfail 51 04\naudit 3 7 deny read 95+6 range 1 ReadLocked\nfail 51 04\n";
+
 fn options(alloc: Global, sectors: &[u8]) -> Result<Options, Fail> {
     Ok(Options::parse(alloc, sectors, b"8", b"4f50414c4d534944")?)
 }
@@ -142,6 +145,28 @@ fn ends_at_each_write_that_fails(rt: HostRuntime) -> Result<(), Fail> {
             "at {fails_at}"
         );
     }
+    Ok(())
+}
+
+/// A writer of faults that fails, at a line whose command a failed queue aborts: the answers that were pending are
+/// written all the same, that of the aborted command among them.
+#[test]
+fn answers_before_a_fault_that_fails(rt: HostRuntime) -> Result<(), Fail> {
+    let options = options(rt.alloc(), b"1000")?;
+    let script = b"range 1 100 10 1 0 1 0\nread 7 5 95 5\nread 7 5 95 6\nread 7 5 0 1\nread 7 5 0 1\n";
+    let mut output = Taker::new(rt.alloc(), 1000, 0);
+    let mut faults = Taker::new(rt.alloc(), 1000, 1);
+    assert_eq!(rt;
+        run_script_with_faults(
+            rt.alloc(),
+            script.as_slice(),
+            &mut output,
+            &mut faults,
+            &options
+        ),
+        Err(RunError::Write)
+    );
+    assert_eq!(rt; output.taken.as_slice(), BEFORE_THE_FAULT);
     Ok(())
 }
 

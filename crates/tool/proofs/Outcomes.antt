@@ -1,16 +1,15 @@
 -- How a run of a script comes to its outcome.
-use Rattle.std.proofs.Common.{◌≡◌, ◌∙◌, ℕ, Bool, true, false, List, [], ◌∷◌, ◌++◌, refl, sym, ap, subst, append_assoc, append-nil, Option, Some, None, IfSome, Result, Ok, Err, IfOk}
-use Rattle.std.specs.Prelude.{if◌then◌else◌}
+use Rattle.std.proofs.Common.{◌≡◌, ◌∙◌, ℕ, Bool, true, false, List, [], ◌∷◌, ◌++◌, refl, sym, ap, subst, append_assoc, append-nil, Option, Some, None, IfSome, Result, Ok, Err, IfOk, inl, inr}
+use Rattle.std.specs.Prelude.{◌⊎◌, if◌then◌else◌}
 use Rattle.std.specs.Io.BufRead.{drop_through}
 use Rattle.std.specs.Io.KnownBytes.{Appends}
 use Rattle.std.proofs.KnownBytes.{Appends-nil, Appends-trans}
 use Rattle.std.proofs.lemmas.Grind.{flat_map-append}
 use Rattle.sp_cells.specs.Config.{Config}
-use Rattle.sp_cells.specs.declared.error.SetError.{SetError}
 use Rattle.locking.specs.declared.range.RangeRow.{RangeRow}
-use Rattle.history.specs.Opening.{Origin, row_fault, with_range}
+use Rattle.history.specs.Opening.{Origin}
 use Rattle.script_lines.specs.PortLines.{is_port_line}
-use Rattle.script_lines.specs.Texts.{Prints, last_of, printed}
+use Rattle.script_lines.specs.Texts.{last_of, printed}
 use Rattle.script_lines.specs.declared.fault.LineFault.{LineFault}
 use Rattle.script_lines.specs.declared.report.Report.{Report}
 use Rattle.tool.specs.Scripts.{bare, lines_of_text, script_lines, TakesLine}
@@ -22,6 +21,7 @@ use Rattle.tool.specs.Progress.{HandsOn, LeadsTo, Steps, OpensTo, LinesOpenTo, F
 use Rattle.tool.specs.declared.ending.End.{End}
 use Rattle.tool.specs.declared.ending.Fault.{Fault}
 use Rattle.tool.specs.declared.ending.Fault.TheVariants as faults
+use Rattle.tool.specs.declared.ending.RunError.{RunError}
 use Rattle.tool.specs.declared.opening.OpeningPhase.{OpeningPhase}
 use Rattle.tool.specs.declared.opening.OpeningPhase.TheVariants.{Factory}
 use Rattle.tool.specs.declared.opening.OpeningTurn.{OpeningTurn}
@@ -494,3 +494,32 @@ yields-so (Ok status) end (Some text) whole old now new before pending told none
     leads)
     appends in
     (told ∙ yields.0, yields.1)
+
+-- what was pending is handed on behind the lines, whatever ended them
+pub answered-so : (r ended : Result End RunError) (failed : RunError) (from : Option (List ℕ))
+    (whole : List ℕ → Outcome) (old now new : Option (List ℕ)) (before pending : List ℕ)
+    → ((r ≡ ended) × Appends now new pending) ⊎ (r ≡ Err failed) → before ≡ []
+    → IfOk ended (λ end. IfSome from
+    (λ text. LeadsTo (whole text) (ends (status_of end)) old now before pending))
+    → IfOk r (λ end. IfSome from (λ text. Yields (whole text) (status_of end) old new))
+answered-so r (Ok end) failed from whole old now new before pending (inl (is, appends)) none leads =
+    let told : Result ℕ RunError = Ok (status_of end) in
+    subst (λ r. IfOk r (λ end. IfSome from (λ text. Yields (whole text) (status_of end) old new)))
+    (sym is)
+    (yields-so told end from whole old now new before pending refl none appends leads)
+answered-so r (Err e) failed from whole old now new before pending (inl (is, appends)) none leads =
+    subst (λ r. IfOk r (λ end. IfSome from (λ text. Yields (whole text) (status_of end) old new)))
+    (sym is) tt
+answered-so r ended failed from whole old now new before pending (inr is) none leads =
+    subst (λ r. IfOk r (λ end. IfSome from (λ text. Yields (whole text) (status_of end) old new)))
+    (sym is) tt
+
+-- the status that is told is that of the end
+pub told-so : {E : Type 0} (r : Result ℕ E) (status : ℕ) (from : Option (List ℕ))
+    (whole : List ℕ → Outcome) (old new : Option (List ℕ))
+    → IfOk r (λ told. told ≡ status)
+    → IfSome from (λ text. Yields (whole text) status old new)
+    → IfOk r (λ told. IfSome from (λ text. Yields (whole text) told old new))
+told-so (Err e) status from whole old new told yields = tt
+told-so (Ok it) status from whole old new told yields =
+    subst (λ it. IfSome from (λ text. Yields (whole text) it old new)) (sym told) yields

@@ -1,8 +1,10 @@
 //! A whole script, from a reader to a writer.
 
-ghost use Rattle.std.specs.Prelude.{◌≡◌, ◌≤◌, [], ℕ, IfOk, IfSome};
+ghost use Rattle.std.specs.Prelude.{◌≡◌, ◌≤◌, ◌⊎◌, [], ℕ, Err, IfOk, IfSome};
 ghost use Rattle.std.specs.Io.Buffered.{reader_remaining};
-ghost use Rattle.tool.specs.Ends.{OpenedStands};
+ghost use Rattle.std.specs.Io.KnownBytes.{Appends};
+ghost use Rattle.tool.specs.declared.ending.RunError.{RunError};
+ghost use Rattle.tool.specs.Ends.{OpenedStands, status_of};
 ghost use Rattle.tool.specs.Courses.{PhaseStands};
 ghost use Rattle.tool.specs.Openings.{opens_with};
 ghost use Rattle.tool.specs.Outcomes.{ScriptYields};
@@ -172,6 +174,43 @@ fn all_lines<R: Read + Drop, W: Write, E: Write>(
     }
 }
 
+/// Hands on what is pending, whatever ended the lines.
+fn hand_on_behind<W: Write>(
+    end: Result<End, RunError>,
+    report: &mut Report,
+    output: &mut W,
+) -> Result<End, RunError>
+    ensures cleared { report.new.pending.items ≡ [] }
+    ensures last { report.new.last ≡ report.old.last }
+    ensures written { ((result ≡ end)
+        × Appends (W.contents output.old) (W.contents output.new) report.old.pending.items)
+        ⊎ (result ≡ Err RunError.Write) }
+{
+    report.hand_on(output).map_err(|_| RunError::Write)?;
+    end
+}
+
+/// Does the lines of a script, and hands on all answers, also where an error ends the lines.
+fn all_answers<R: Read + Drop, W: Write, E: Write>(
+    alloc: Global,
+    options: &Options,
+    reader: &mut BufReader<R>,
+    report: &mut Report,
+    line: &mut Vec<u8>,
+    output: &mut W,
+    faults: &mut E,
+) -> Result<End, RunError>
+    requires pending { report.old.pending.items ≡ [] }
+    requires last { report.old.last.items ≡ [] }
+    ensures handed_on { report.new.pending.items ≡ [] }
+    ensures yields { IfOk result (λ end.
+        ScriptYields options.now (reader_remaining R.remaining reader.old)
+        (status_of end) (W.contents output.old) (W.contents output.new)) }
+{
+    let end = all_lines(alloc, options, reader, report, line, output, faults);
+    hand_on_behind(end, report, output)
+}
+
 /// Runs the script that a reader gives, writes what it prints to `output` and the fault that ended
 /// it to `faults`, and gives its status: 0 done, 1 an expectation failed, 2 a bad line or a refused
 /// range row. A script whose first line is `port` runs on a port, any other on a drive. Without a
@@ -196,7 +235,7 @@ pub fn run_script_with_faults<R: Read + Drop, W: Write, E: Write>(
     let mut reader = lines_of(alloc, input)?;
     let mut report = Report::new(alloc);
     let mut line = Vec::new(alloc);
-    let end = all_lines(
+    let end = all_answers(
         alloc,
         options,
         &mut reader,
@@ -204,9 +243,8 @@ pub fn run_script_with_faults<R: Read + Drop, W: Write, E: Write>(
         &mut line,
         output,
         faults,
-    );
-    report.hand_on(output).map_err(|_| RunError::Write)?;
-    tell(end?, without_end(&line), &report.last, faults)
+    )?;
+    tell(end, without_end(&line), &report.last, faults)
 }
 
 /// Runs the script that a reader gives, as `run_script_with_faults` does, and drops the text of the
