@@ -1,115 +1,108 @@
 //! ATA commands in their FISes (ACS-3, the commands' tables of inputs).
 
+ghost use Rattle.std.specs.Prelude.{◌<◌, ◌^◌, IfSome};
+ghost use Rattle.trusted_cmds.specs.Commands.{lba_of, IsCounted};
+
 use fis::{Lba, RegH2d, Tag};
-use std::test::Fail;
 use trusted_cmds::*;
 
-#[test]
-fn writes_the_fis_of_a_queued_read(rt: HostRuntime) -> Result<(), Fail> {
-    let tag = Tag::new(5).ok_or("a tag")?;
-    let command = Command::ReadQueued {
+/// READ FPDMA QUEUED of 8 sectors from 123456h under tag 5.
+const READ_QUEUED: [u8; 20] = [
+    0x27, 0x80, 0x60, 0x08, 0x56, 0x34, 0x12, 0x40, 0, 0, 0, 0, 0x28, 0, 0, 0, 0, 0, 0, 0,
+];
+
+/// WRITE FPDMA QUEUED of 65,536 sectors up to the last address, under the last tag.
+const WRITE_QUEUED: [u8; 20] = [
+    0x27, 0x80, 0x61, 0, 0xff, 0xff, 0xff, 0x40, 0xff, 0xff, 0xff, 0, 0xf8, 0, 0, 0, 0, 0, 0, 0,
+];
+
+/// READ DMA EXT has its sectors in Count, and no tag.
+const READ_DMA: [u8; 20] = [
+    0x27, 0x80, 0x25, 0, 0x56, 0x34, 0x12, 0x40, 0, 0, 0, 0, 8, 0, 0, 0, 0, 0, 0, 0,
+];
+
+/// TRUSTED SEND DMA: protocol in Feature, the ComID in LBA 23:8, the number of blocks in Count 7:0 and LBA 7:0.
+const SEND_DMA: [u8; 20] = [
+    0x27, 0x80, 0x5f, 1, 0x01, 0xfe, 0x07, 0, 0, 0, 0, 0, 0x02, 0, 0, 0, 0, 0, 0, 0,
+];
+
+/// READ LOG EXT of the NCQ Command Error log: address 10h, page 0, one page.
+const READ_LOG: [u8; 20] = [
+    0x27, 0x80, 0x2f, 0, 0x10, 0, 0, 0, 0, 0, 0, 0, 1, 0, 0, 0, 0, 0, 0, 0,
+];
+
+/// Whether a command has this FIS under a tag, is read back from it, with the tag where it is queued, and brings so many
+/// bytes.
+fn is_spelled(command: Command, tag: u8, queued: bool, bytes: &[u8; 20], payload: usize) -> bool
+    requires address { IfSome (lba_of command) (λ lba. lba < 2 ^ 48) }
+    requires counted { IsCounted command }
+{
+    let tag = Tag::low_bits(tag);
+    let told = if queued { Some(tag) } else { None };
+    let fis = to_fis(&command, tag);
+    fis.to_bytes() == *bytes && of_fis(&fis) == Ok((command, told)) && payload_len(&fis) == payload
+}
+
+/// A count field of 0 is 65,536 sectors, both ways.
+fn are_queued() -> bool {
+    let read = Command::ReadQueued {
         lba: 0x12_3456,
         count: 8,
     };
-    let fis = to_fis(&command, tag);
-    let bytes = [
-        0x27, 0x80, 0x60, 0x08, 0x56, 0x34, 0x12, 0x40, 0, 0, 0, 0, 0x28, 0, 0, 0, 0, 0, 0, 0,
-    ];
-    assert_eq!(rt; fis.to_bytes(), bytes);
-    assert_eq!(rt; of_fis(&fis), Ok((command, Some(tag))));
-    assert_eq!(rt; payload_len(&fis), 0);
-    Ok(())
-}
-
-/// A count field of 0 is 65,536 sectors, both ways; the last tag, and the last address.
-#[test]
-fn a_count_of_0_is_65536(rt: HostRuntime) -> Result<(), Fail> {
-    assert_eq!(rt;
-        (sectors(0), sectors(1), sectors(0xffff)),
-        (65_536, 1, 65_535)
-    );
-    let tag = Tag::new(31).ok_or("a tag")?;
-    let command = Command::WriteQueued {
+    let write = Command::WriteQueued {
         lba: 0xffff_ffff_ffff,
         count: 65_536,
     };
-    let fis = to_fis(&command, tag);
-    let bytes = [
-        0x27, 0x80, 0x61, 0, 0xff, 0xff, 0xff, 0x40, 0xff, 0xff, 0xff, 0, 0xf8, 0, 0, 0, 0, 0, 0, 0,
-    ];
-    assert_eq!(rt; fis.to_bytes(), bytes);
-    assert_eq!(rt; of_fis(&fis), Ok((command, Some(tag))));
-    Ok(())
+    is_spelled(read, 5, true, &READ_QUEUED, 0) && is_spelled(write, 31, true, &WRITE_QUEUED, 0)
 }
 
-/// READ DMA EXT has its sectors in Count, and no tag.
-#[test]
-fn writes_the_fis_of_a_read_by_dma(rt: HostRuntime) -> Result<(), Fail> {
-    let tag = Tag::new(5).ok_or("a tag")?;
-    let command = Command::ReadDma {
+fn are_unqueued() -> bool {
+    let read = Command::ReadDma {
         lba: 0x12_3456,
         count: 8,
     };
-    let fis = to_fis(&command, tag);
-    let bytes = [
-        0x27, 0x80, 0x25, 0, 0x56, 0x34, 0x12, 0x40, 0, 0, 0, 0, 8, 0, 0, 0, 0, 0, 0, 0,
-    ];
-    assert_eq!(rt; fis.to_bytes(), bytes);
-    assert_eq!(rt; of_fis(&fis), Ok((command, None)));
-    Ok(())
-}
-
-/// TRUSTED SEND DMA: protocol in Feature, the ComID in LBA 23:8, the number of blocks in Count 7:0 and LBA 7:0.
-#[test]
-fn writes_the_fis_of_a_trusted_send(rt: HostRuntime) -> Result<(), Fail> {
-    let tag = Tag::new(0).ok_or("a tag")?;
-    let command = Command::Send {
+    let send = Command::Send {
         protocol: 1,
         sp_specific: 0x07fe,
         blocks: 0x0102,
         dma: true,
     };
-    let fis = to_fis(&command, tag);
-    let bytes = [
-        0x27, 0x80, 0x5f, 1, 0x01, 0xfe, 0x07, 0, 0, 0, 0, 0, 0x02, 0, 0, 0, 0, 0, 0, 0,
-    ];
-    assert_eq!(rt; fis.to_bytes(), bytes);
-    assert_eq!(rt; of_fis(&fis), Ok((command, None)));
-    assert_eq!(rt; payload_len(&fis), 0x0102 * 512);
-    Ok(())
-}
-
-/// READ LOG EXT of the NCQ Command Error log: address 10h, page 0, one page. Another page there is none of.
-#[test]
-fn reads_one_log_page(rt: HostRuntime) -> Result<(), Fail> {
-    let tag = Tag::new(0).ok_or("a tag")?;
-    let command = Command::ReadLog10 { dma: false };
-    let fis = to_fis(&command, tag);
-    let bytes = [
-        0x27, 0x80, 0x2f, 0, 0x10, 0, 0, 0, 0, 0, 0, 0, 1, 0, 0, 0, 0, 0, 0, 0,
-    ];
-    assert_eq!(rt; fis.to_bytes(), bytes);
-    assert_eq!(rt; of_fis(&fis), Ok((command, None)));
-    let other = RegH2d {
-        lba: Lba::new(0x01_0000_0010).ok_or("an address")?,
-        ..fis
-    };
-    assert_eq!(rt; of_fis(&other), Err(CommandError::LogPage));
-    Ok(())
+    let log = Command::ReadLog10 { dma: false };
+    is_spelled(read, 5, false, &READ_DMA, 0)
+        && is_spelled(send, 0, false, &SEND_DMA, 0x0102 * 512)
+        && is_spelled(log, 0, false, &READ_LOG, 0)
 }
 
 /// The code of each command that has no fields of its own, or that receives.
-#[test]
-fn codes_of_commands_without_sectors(rt: HostRuntime) -> Result<(), Fail> {
-    let tag = Tag::new(0).ok_or("a tag")?;
+fn are_codes() -> bool {
+    let tag = Tag::low_bits(0);
     let receive = Command::Receive {
         protocol: 0,
         sp_specific: 1,
         blocks: 1,
         dma: false,
     };
-    assert_eq!(rt; to_fis(&receive, tag).command, 0x5c);
-    assert_eq!(rt; to_fis(&Command::Identify, tag).command, 0xec);
-    assert_eq!(rt; to_fis(&Command::Flush, tag).command, 0xea);
-    Ok(())
+    to_fis(&receive, tag).command == 0x5c
+        && to_fis(&Command::Identify, tag).command == 0xec
+        && to_fis(&Command::Flush, tag).command == 0xea
+}
+
+/// Another page of the log than page 0 there is none of.
+fn is_no_page() -> bool {
+    let Some(lba) = Lba::new(0x01_0000_0010) else {
+        return false;
+    };
+    let log = to_fis(&Command::ReadLog10 { dma: false }, Tag::low_bits(0));
+    of_fis(&RegH2d { lba, ..log }) == Err(CommandError::LogPage)
+}
+
+/// Whether a count field of 0 is 65,536 sectors.
+fn are_counted() -> bool {
+    sectors(0) == 65_536 && sectors(1) == 1 && sectors(0xffff) == 65_535
+}
+
+#[test]
+fn commands_have_their_fis(rt: HostRuntime) {
+    let are_spelled = are_queued() && are_unqueued() && are_codes();
+    assert!(rt; are_spelled && is_no_page() && are_counted());
 }

@@ -3,6 +3,7 @@
 use compacket::{
     FrameError, Opened, Session, empty_header, frame, frame_into, frame_len, open, short_header,
 };
+use std::alloc::{AllocError, Global};
 use std::test::Fail;
 
 /// A Get of the PIN of C_PIN_MSID in the session 1000h/1, on ComID 1000h: 37 bytes of tokens in a
@@ -20,6 +21,19 @@ const SESSION: Session = Session {
     hsn: 1,
 };
 
+/// Bytes of the vector that are changed, and the fault that a frame has then.
+const FAULTS: [(usize, u8, FrameError); 9] = [
+    (19, 0x4d, FrameError::Short),
+    (19, 0, FrameError::Empty),
+    (19, 0x17, FrameError::Length),
+    (43, 0x35, FrameError::Length),
+    (43, 0x33, FrameError::Many),
+    (51, 1, FrameError::Kind),
+    (55, 0, FrameError::Empty),
+    (55, 0x29, FrameError::Length),
+    (55, 0x24, FrameError::Many),
+];
+
 /// The fault of a copy of the vector in which one byte is another.
 fn fault_at(place: usize, byte: u8) -> Option<FrameError> {
     let mut bytes = VECTOR;
@@ -29,99 +43,102 @@ fn fault_at(place: usize, byte: u8) -> Option<FrameError> {
     open(&bytes).err()
 }
 
-#[test]
-fn frames_the_vector(rt: HostRuntime) -> Result<(), Fail> {
-    let bytes = frame(rt.alloc(), 0x1000, SESSION, &VECTOR[56..93])?;
-    assert_eq!(rt; bytes.as_slice(), VECTOR.as_slice());
-    let mut response = Vec::with_capacity(rt.alloc(), 100)?;
-    frame_into(0x1000, SESSION, &VECTOR[56..93], &mut response);
-    assert_eq!(rt; response.as_slice(), VECTOR.as_slice());
-    assert_eq!(rt; frame_len(37), 96);
-    Ok(())
-}
-
-#[test]
-fn opens_the_vector(rt: HostRuntime) {
+/// Whether bytes are a frame of the session with this payload.
+fn is_frame(bytes: &[u8], payload: &[u8]) -> bool {
     let want = Opened {
         com_id: 0x1000,
         session: SESSION,
-        payload: &VECTOR[56..93],
+        payload,
     };
-    assert_eq!(rt; open(&VECTOR), Ok(want));
+    open(bytes) == Ok(want)
 }
 
-#[test]
-fn tells_each_fault(rt: HostRuntime) {
-    for (place, byte, want) in [
-        (19, 0x4d, FrameError::Short),
-        (19, 0, FrameError::Empty),
-        (19, 0x17, FrameError::Length),
-        (43, 0x35, FrameError::Length),
-        (43, 0x33, FrameError::Many),
-        (51, 1, FrameError::Kind),
-        (55, 0, FrameError::Empty),
-        (55, 0x29, FrameError::Length),
-        (55, 0x24, FrameError::Many),
-    ] {
-        assert_eq!(rt; fault_at(place, byte), Some(want), "byte {place} is {byte}");
-    }
-}
-
-#[test]
-fn opens_a_cut_frame(rt: HostRuntime) {
+/// Whether so many bytes of the vector are no frame alone, and behind them zeros, but for its padding, what they should be.
+fn is_cut_told(size: usize) -> bool {
     let mut padded = [0; 512];
-    for n in 0..=96 {
-        if n > 0 {
-            padded[n - 1] = VECTOR[n - 1];
-        }
-        let want = match n {
-            0..=19 | 44..=55 => Some(FrameError::Empty),
-            20..=43 => Some(FrameError::Many),
-            _ => None,
-        };
-        assert_eq!(rt; open(&padded).err(), want, "{n} bytes and zeros");
-        if n < 96 {
-            assert_eq!(rt;
-                open(&VECTOR[..n]).err(),
-                Some(FrameError::Short),
-                "{n} bytes"
-            );
-        }
+    for i in 0..size.min(96) {
+        padded[i] = VECTOR[i];
     }
+    let want = match size {
+        0..=19 | 44..=55 => Some(FrameError::Empty),
+        20..=43 => Some(FrameError::Many),
+        _ => None,
+    };
+    let bare = match VECTOR.get(..size) {
+        Some(bytes) if size < 96 => open(bytes).err() == Some(FrameError::Short),
+        _ => true,
+    };
+    open(&padded).err() == want && bare
 }
 
-#[test]
-fn writes_headers(rt: HostRuntime) {
+/// The headers where no response waits on 1002h, and where one of 600 bytes is longer than the transfer.
+fn are_headers() -> bool {
     let mut empty = [0; 20];
     empty[4] = 0x10;
     empty[5] = 2;
-    assert_eq!(rt; empty_header(0x1002), empty);
-    // A response of 600 bytes where the transfer is one block.
     let mut short = [0; 20];
     short[4] = 0x10;
     short[10] = 2;
     short[11] = 0x58;
     short[14] = 2;
     short[15] = 0x58;
-    assert_eq!(rt; short_header(0x1000, 600), short);
+    empty_header(0x1002) == empty && short_header(0x1000, 600) == short
 }
 
-/// A ComPacket of 65,536 bytes carries 65,480 bytes.
-#[test]
-fn frames_the_longest_payload(rt: HostRuntime) -> Result<(), Fail> {
-    let payload = vec![in rt.alloc(); 0xa5; 65_480]?;
-    let bytes = frame(rt.alloc(), 0x1000, SESSION, payload.as_slice())?;
-    assert_eq!(rt; bytes.len(), 65_536);
-    let want = Opened {
-        com_id: 0x1000,
-        session: SESSION,
-        payload: payload.as_slice(),
-    };
-    assert_eq!(rt; open(bytes.as_slice()), Ok(want));
-    // One byte more in the ComPacket's length is too much.
-    let mut longer = vec![in rt.alloc(); 0; 65_540]?;
+/// Whether the vector is written, alone and behind other bytes.
+fn is_written(alloc: Global) -> Result<bool, AllocError> {
+    let tokens = &VECTOR[56..93];
+    let bytes = frame(alloc, 0x1000, SESSION, tokens)?;
+    let mut response = Vec::with_capacity(alloc, 100)?;
+    frame_into(0x1000, SESSION, tokens, &mut response);
+    Ok(bytes.as_slice() == VECTOR.as_slice() && response.as_slice() == VECTOR.as_slice())
+}
+
+/// Whether a ComPacket of 65,536 bytes carries 65,480 bytes.
+fn is_longest_written(alloc: Global) -> Result<bool, AllocError> {
+    let payload = vec![in alloc; 0xa5; 65_480]?;
+    let bytes = frame(alloc, 0x1000, SESSION, payload.as_slice())?;
+    Ok(bytes.len() == 65_536 && is_frame(bytes.as_slice(), payload.as_slice()))
+}
+
+/// Whether one whose length is a byte more is none.
+fn is_longer_refused(alloc: Global) -> Result<bool, AllocError> {
+    let mut longer = vec![in alloc; 0; 65_540]?;
     longer[18] = 0xff;
     longer[19] = 0xed;
-    assert_eq!(rt; open(longer.as_slice()).err(), Some(FrameError::Length));
+    Ok(open(longer.as_slice()).err() == Some(FrameError::Length))
+}
+
+/// Whether each changed byte is told.
+fn are_faults_told() -> bool {
+    let mut are = true;
+    for (place, byte, want) in FAULTS {
+        are &= fault_at(place, byte) == Some(want);
+    }
+    are
+}
+
+/// Whether each cut is told.
+fn are_cuts_told() -> bool {
+    let mut are = true;
+    for size in 0..=96 {
+        are &= is_cut_told(size);
+    }
+    are
+}
+
+#[test]
+fn frames_are_written(rt: HostRuntime) -> Result<(), Fail> {
+    let is_vector = is_written(rt.alloc())?;
+    let is_longest = is_longest_written(rt.alloc())?;
+    assert!(rt; is_vector && is_longest && are_headers() && frame_len(37) == 96);
+    Ok(())
+}
+
+#[test]
+fn frames_are_read(rt: HostRuntime) -> Result<(), Fail> {
+    let is_refused = is_longer_refused(rt.alloc())?;
+    let is_vector = is_frame(&VECTOR, &VECTOR[56..93]);
+    assert!(rt; is_vector && is_refused && are_faults_told() && are_cuts_told());
     Ok(())
 }

@@ -3,10 +3,6 @@
 #![tactic(auto)]
 
 #[cfg(test)]
-mod access;
-#[cfg(test)]
-mod aces;
-#[cfg(test)]
 mod audit_lines;
 #[cfg(test)]
 mod commands;
@@ -15,15 +11,9 @@ mod fises;
 #[cfg(test)]
 mod frames;
 #[cfg(test)]
-mod media;
-#[cfg(test)]
 mod memory;
 #[cfg(test)]
-mod ranges;
-#[cfg(test)]
 mod registers;
-#[cfg(test)]
-mod store;
 #[cfg(test)]
 mod tables;
 #[cfg(test)]

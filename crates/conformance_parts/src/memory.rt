@@ -2,6 +2,7 @@
 
 use fis::{Fis, Tag};
 use slots::*;
+use std::alloc::{AllocError, Global};
 use std::test::Fail;
 
 /// READ FPDMA QUEUED of 8 sectors from 123456h under tag 5 (Serial ATA, "Register - Host to Device";
@@ -20,72 +21,86 @@ const ENTRY: [u8; 16] = [
     0x00, 0x00, 0x0b, 0x00, 0, 0, 0, 0, 0, 0, 0, 0, 0xff, 0x0f, 0x00, 0x00,
 ];
 
-/// The bytes of a memory in which slot 5 has that command, as the standard writes it.
-fn written(alloc: std::alloc::Global) -> Result<Vec<u8>, std::alloc::AllocError> {
+/// A Set Device Bits FIS (Serial ATA, "Set Device Bits - Device to Host").
+const RECEIVED: [u8; 8] = [0xa1, 0x40, 0x40, 0, 0x20, 0, 0, 0];
+
+/// Bytes of the memory that are changed, and the fault of the command then.
+const FAULTS: [(usize, u8, FetchError); 4] = [
+    (0xa0, 0x04, FetchError::BadLength),
+    (0xa8, 0x04, FetchError::BadAddress),
+    (0xd8c, 0xfe, FetchError::BadPrdt),
+    (0xd01, 0x00, FetchError::BadFis),
+];
+
+/// The bytes of a memory in which slot 5 has that command, as the standard writes it, but for one byte.
+fn written(alloc: Global, at: usize, byte: u8) -> Result<Vec<u8>, AllocError> {
     let mut bytes = vec![in alloc; 0; MEMORY]?;
-    if bytes.len() == MEMORY {
+    if bytes.len() == MEMORY && at < MEMORY {
         bytes[0xa0..0xb0].copy_from_slice(&HEADER);
         bytes[0xd00..0xd14].copy_from_slice(&READ);
         bytes[0xd80..0xd90].copy_from_slice(&ENTRY);
+        bytes[at] = byte;
     }
     Ok(bytes)
 }
 
-/// The memory with that command and one byte changed.
-fn changed(
-    alloc: std::alloc::Global,
-    at: usize,
-    byte: u8,
-) -> Result<Option<PortMemory>, std::alloc::AllocError> {
-    let mut bytes = written(alloc)?;
-    if let Some(old) = bytes.get_mut(at) {
-        *old = byte;
+/// Whether the first fault of such a memory is this.
+fn is_told(alloc: Global, at: usize, byte: u8, want: FetchError) -> Result<bool, AllocError> {
+    let bytes = written(alloc, at, byte)?;
+    match PortMemory::of_bytes(bytes) {
+        Some(memory) => Ok(memory.fetch(Tag::low_bits(5)) == Err(want)),
+        None => Ok(false),
     }
-    Ok(PortMemory::of_bytes(bytes))
 }
 
-#[test]
-fn fetches_what_it_placed(rt: HostRuntime) -> Result<(), Fail> {
-    let tag = Tag::low_bits(5);
-    let command = CommandBlock::new(READ).ok_or("a command")?;
-    let mut memory = PortMemory::new(rt.alloc())?;
-    memory.place(tag, &command, false, 4096);
-    assert_eq!(rt; memory.part(0xa0, 16), HEADER.as_slice());
-    assert_eq!(rt; memory.part(0xd00, 20), READ.as_slice());
-    assert_eq!(rt; memory.part(0xd80, 16), ENTRY.as_slice());
-    let expected = Fetched {
+/// Whether the parts of a memory in which the command is placed are those of the standard, and it is fetched.
+fn is_placed(memory: &PortMemory) -> bool {
+    let want = Fetched {
         fis: READ,
         write: false,
         len: 4096,
     };
-    assert_eq!(rt; memory.fetch(tag), Ok(expected));
-    Ok(())
+    memory.part(0xa0, 16) == HEADER.as_slice()
+        && memory.part(0xd00, 20) == READ.as_slice()
+        && memory.part(0xd80, 16) == ENTRY.as_slice()
+        && memory.fetch(Tag::low_bits(5)) == Ok(want)
 }
 
-#[test]
-fn tells_the_first_fault(rt: HostRuntime) -> Result<(), Fail> {
-    let tag = Tag::low_bits(5);
-    let memory = changed(rt.alloc(), 0xa0, 0x04)?.ok_or("a memory")?;
-    assert_eq!(rt; memory.fetch(tag), Err(FetchError::BadLength));
-    let memory = changed(rt.alloc(), 0xa8, 0x04)?.ok_or("a memory")?;
-    assert_eq!(rt; memory.fetch(tag), Err(FetchError::BadAddress));
-    let memory = changed(rt.alloc(), 0xd8c, 0xfe)?.ok_or("a memory")?;
-    assert_eq!(rt; memory.fetch(tag), Err(FetchError::BadPrdt));
-    let memory = changed(rt.alloc(), 0xd01, 0x00)?.ok_or("a memory")?;
-    assert_eq!(rt; memory.fetch(tag), Err(FetchError::BadFis));
-    Ok(())
+/// Whether the command is placed in a new memory.
+fn places(alloc: Global) -> Result<bool, AllocError> {
+    let mut memory = PortMemory::new(alloc)?;
+    let Some(command) = CommandBlock::new(READ) else {
+        return Ok(false);
+    };
+    memory.place(Tag::low_bits(5), &command, false, 4096);
+    Ok(is_placed(&memory))
 }
 
-/// A Set Device Bits FIS (Serial ATA, "Set Device Bits - Device to Host") stands at 58h of the
-/// received FISes (AHCI 1.3.1, 4.2.1).
-#[test]
-fn keeps_what_it_received(rt: HostRuntime) -> Result<(), Fail> {
-    let received = [0xa1, 0x40, 0x40, 0, 0x20, 0, 0, 0];
-    let mut memory = PortMemory::new(rt.alloc())?;
-    memory.post(&Fis::read(&received)?);
-    assert_eq!(rt; memory.part(0x458, 8), received.as_slice());
+/// Whether a FIS that is received stands at 58h of the received FISes (AHCI 1.3.1, 4.2.1), and a buffer keeps what is
+/// written into it.
+fn receives(alloc: Global) -> Result<bool, AllocError> {
+    let mut memory = PortMemory::new(alloc)?;
+    let Ok(fis) = Fis::read(&RECEIVED) else {
+        return Ok(false);
+    };
+    memory.post(&fis);
     let buffer = memory.buffer_mut(Tag::low_bits(31));
     buffer[BUFFER - 2..].copy_from_slice(&[1, 2]);
-    assert_eq!(rt; memory.buffer(Tag::low_bits(31)).last(), Some(&2));
+    let last = memory.buffer(Tag::low_bits(31)).last().copied();
+    Ok(memory.part(0x458, 8) == RECEIVED.as_slice() && last == Some(2))
+}
+
+#[test]
+fn memories_are_fetched_from(rt: HostRuntime) -> Result<(), Fail> {
+    let is_kept = receives(rt.alloc())?;
+    assert!(rt; is_kept && places(rt.alloc())?);
+    Ok(())
+}
+
+#[test]
+fn the_first_fault_is_told(rt: HostRuntime) -> Result<(), Fail> {
+    for (at, byte, want) in FAULTS {
+        assert!(rt; is_told(rt.alloc(), at, byte, want)?);
+    }
     Ok(())
 }

@@ -3,56 +3,66 @@
 use hba_regs::*;
 use std::test::Fail;
 
-/// PxCMD after the port starts, and with FRE alone (AHCI 1.3.1, 3.3.7).
-#[test]
-fn a_stopped_port_drops_tags(rt: HostRuntime) -> Result<(), Fail> {
+/// Whether a register has this word.
+fn reads(regs: &PortRegs, offset: u32, word: u32) -> bool {
+    regs.read(offset) == Some(word)
+}
+
+/// What the registers that a device or the port sets have at the start: PxFB, PxCMD, PxTFD, PxSIG, PxSSTS; and what no host
+/// writes: a word of the port, and one that is none.
+fn begins_with_a_device() -> bool {
     let mut regs = PortRegs::new();
-    assert_eq!(rt; regs.read(0x18), Some(0xc011));
+    let is_first = reads(&regs, 0x08, 0x400)
+        && reads(&regs, 0x18, 0xc011)
+        && reads(&regs, 0x20, 0x50)
+        && reads(&regs, 0x24, 0x101)
+        && reads(&regs, 0x28, 0x133);
+    let is_read_only = regs.write(0x20, 0) == Err(RegError::ReadOnly);
+    let is_none = regs.write(0x1c, 0) == Err(RegError::BadOffset);
+    is_first && is_read_only && is_none
+}
+
+/// A port that is stopped, with FRE alone in PxCMD (AHCI 1.3.1, 3.3.7), takes no tag into PxSACT.
+fn drops_tags() -> Result<bool, RegError> {
+    let mut regs = PortRegs::new();
     regs.write(0x18, 0x10)?;
-    assert_eq!(rt; regs.read(0x18), Some(0x4010));
+    let is_stopped = reads(&regs, 0x18, 0x4010);
     regs.write(0x34, 0x20)?;
-    assert_eq!(rt; regs.read(0x34), Some(0));
-    Ok(())
+    Ok(is_stopped && reads(&regs, 0x34, 0))
 }
 
-/// What the registers that a device or the port sets have at the start: PxFB, PxTFD, PxSIG, PxSSTS.
-#[test]
-fn begins_with_a_device(rt: HostRuntime) -> Result<(), Fail> {
-    let regs = PortRegs::new();
-    let words = [0x08, 0x20, 0x24, 0x28].map(|offset| regs.read(offset));
-    assert_eq!(rt; words, [Some(0x400), Some(0x50), Some(0x101), Some(0x133)]);
-    Ok(())
-}
-
-#[test]
-fn refuses_what_no_host_writes(rt: HostRuntime) -> Result<(), Fail> {
-    let mut regs = PortRegs::new();
-    assert_eq!(rt; regs.write(0x20, 0), Err(RegError::ReadOnly));
-    assert_eq!(rt; regs.write(0x1c, 0), Err(RegError::BadOffset));
-    Ok(())
-}
-
-#[test]
-fn follows_a_queued_command(rt: HostRuntime) -> Result<(), Fail> {
+/// PxSACT and PxCI where tag 5 is issued; PxSACT, PxCI, PxTFD and PxIS where it has failed.
+fn follows_a_command() -> bool {
     let mut regs = PortRegs::new();
     let tag = fis::Tag::low_bits(5);
     regs.set_issue(tag, true);
-    assert_eq!(rt; regs.read(0x34), Some(0x20));
-    assert_eq!(rt; regs.read(0x38), Some(0x20));
+    let is_issued = reads(&regs, 0x34, 0x20) && reads(&regs, 0x38, 0x20);
     regs.clear_issue(tag);
     regs.clear_active(0x20);
     regs.set_task(0x51, 0x04);
     regs.raise(PxIs::SDBS);
     regs.raise(PxIs::TFES);
-    assert_eq!(rt; regs.read(0x34), Some(0));
-    assert_eq!(rt; regs.read(0x38), Some(0));
-    assert_eq!(rt; regs.read(0x20), Some(0x0451));
-    assert_eq!(rt; regs.read(0x10), Some(0x4000_0008));
+    let is_ended = reads(&regs, 0x34, 0) && reads(&regs, 0x38, 0);
+    is_issued && is_ended && reads(&regs, 0x20, 0x0451) && reads(&regs, 0x10, 0x4000_0008)
+}
+
+/// PxIS where a host clears TFES; PxCMD where the port stops and starts.
+fn clears_and_starts() -> Result<bool, RegError> {
+    let mut regs = PortRegs::new();
+    regs.raise(PxIs::SDBS);
+    regs.raise(PxIs::TFES);
     regs.write(0x10, 0x4000_0000)?;
-    assert_eq!(rt; regs.read(0x10), Some(0x0000_0008));
+    let is_cleared = reads(&regs, 0x10, 0x0000_0008);
     regs.stop();
-    assert_eq!(rt; regs.read(0x18), Some(0x4010));
+    let is_stopped = reads(&regs, 0x18, 0x4010);
     regs.start();
-    assert_eq!(rt; regs.read(0x18), Some(0xc011));
+    Ok(is_cleared && is_stopped && reads(&regs, 0x18, 0xc011))
+}
+
+#[test]
+fn words_of_the_registers(rt: HostRuntime) -> Result<(), Fail> {
+    let drops = drops_tags()?;
+    let clears = clears_and_starts()?;
+    assert!(rt; begins_with_a_device() && drops && follows_a_command() && clears);
     Ok(())
 }
