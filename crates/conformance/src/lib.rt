@@ -1,18 +1,10 @@
-//! Tests of the drive and of its scripts against the standards: what no clause says, and values that come
-//! from outside.
+//! Tests of the drive, of a port and of scripts against the standards: what no clause says and no run of the program
+//! can say, and values that come from outside.
 #![tactic(auto)]
 
-#[cfg(test)]
-mod acceptance;
-#[cfg(test)]
-mod faults;
 #[cfg(test)]
 mod port_steps;
 #[cfg(test)]
 mod queue;
 #[cfg(test)]
-mod scripts;
-#[cfg(test)]
 mod streams;
-#[cfg(test)]
-mod trusted;

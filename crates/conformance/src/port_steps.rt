@@ -1,12 +1,12 @@
-//! Lists of steps on a port, replayed by `play` and by `turn` (AHCI 1.3.1, 5.5 and 6.2; ACS-3, NCQ feature set). What
-//! is expected was worked out by hand.
+//! Lists of steps on a port, by `play` and by `turn` (AHCI 1.3.1, 5.5 and 6.2; ACS-3, NCQ feature set). What is expected
+//! was worked out by hand. What scripts of a port can say stands in `scripts/`.
 
 use audit::line_bytes;
 use basics::Bytes;
 use compacket::{Session, frame};
 use drive::{Drive, DriveConfig, RangeRow, ResetKind};
 use fis::Tag;
-use port::{Answer, PlayError, Port, PortError, ReplyBytes, Request, Step};
+use port::{Answer, Port, ReplyBytes, Request, Step};
 use std::alloc::{AllocError, Global};
 use std::test::Fail;
 
@@ -104,14 +104,6 @@ fn step(alloc: Global, row: Row) -> Result<Step, Fail> {
     }
 }
 
-fn steps(alloc: Global, rows: &[Row]) -> Result<Vec<Step>, Fail> {
-    let mut steps = Vec::new(alloc);
-    for row in rows {
-        steps.push(step(alloc, *row)?)?;
-    }
-    Ok(steps)
-}
-
 /// What tells steps of these lists apart: a letter, the client and the tag.
 fn word(step: &Step) -> (u8, u32, u8) {
     match *step {
@@ -125,122 +117,69 @@ fn word(step: &Step) -> (u8, u32, u8) {
     }
 }
 
-/// Whether the history of a port has these steps.
-fn has_done(port: &Port, steps: &[Step]) -> bool {
-    let history = port.history();
-    if history.len() != steps.len() {
-        return false;
-    }
-    for i in 0..history.len() {
-        if word(&history[i].step) != word(&steps[i]) {
-            return false;
-        }
-    }
-    true
-}
-
-/// Whether the audit log of a port has these lines.
-fn has_told(alloc: Global, port: &Port, texts: &[&str]) -> Result<bool, Fail> {
-    let lines = port.audit();
-    if lines.len() != texts.len() {
-        return Ok(false);
-    }
-    for i in 0..lines.len() {
-        if line_bytes(alloc, &lines[i])?.as_slice() != texts[i].as_bytes() {
-            return Ok(false);
-        }
-    }
-    Ok(true)
-}
-
-/// The reply of the step with this number.
-fn reply(port: &Port, number: usize) -> Result<&Answer, Fail> {
-    let place = number.checked_sub(1).ok_or("a number")?;
-    Ok(&port.history().get(place).ok_or("a step")?.reply)
-}
-
-fn is_failed(answer: &Answer, status: u8, error: u8) -> bool {
-    *answer == Answer::Failed { status, error }
-}
-
-/// Whether the step is refused so, and changes nothing.
-fn refuses(port: &mut Port, step: Step, error: PortError) -> bool {
-    let before = port.history().len();
-    let may = port.may(&step);
-    let told = port.play(&[step]);
-    !may && told == Err(PlayError { at: 0, error }) && port.history().len() == before
-}
-
-/// Plays steps, and where memory is refused goes on at the step that was refused.
-fn play_on(port: &mut Port, steps: &[Step]) -> Result<(), Fail> {
-    let mut done: usize = 0;
-    for _ in 0..=steps.len() {
-        let rest = steps.get(done..).ok_or("the steps that are left")?;
-        match port.play(rest) {
-            Ok(()) => return Ok(()),
-            Err(
-                PlayError {
-                    at,
-                    error: PortError::OutOfMemory,
-                },
-            ) => done = done.saturating_add(at),
-            Err(refused) => return Err(refused.into()),
-        }
-    }
-    Err("memory".into())
-}
-
-/// What a list by turns has for a step: a step of a client, or a choice among those that are ready.
+/// What a list has for a step: one that is played, or a choice among those that are ready.
 #[derive(Clone, Copy)]
 enum Next {
-    Client(Row),
+    Play(Row),
     Turn(usize),
 }
 
-/// Does steps of clients, and lets the engine choose the others.
-fn take_turns(alloc: Global, port: &mut Port, list: &[Next]) -> Result<(), Fail> {
-    for next in list {
-        match *next {
-            Next::Client(row) => play_on(port, &[step(alloc, row)?])?,
-            Next::Turn(choice) => {
-                port.turn(choice)?.ok_or("a step that is ready")?;
-            }
-        }
-    }
-    Ok(())
+/// What a step replies.
+#[derive(Clone, Copy)]
+enum Reply {
+    Failed(u8, u8),
+    Reset,
+    /// It is done with no bytes.
+    Nothing,
+    /// It is done with a sector of zeros.
+    Zeros,
+    /// It is done with a block that has these tokens.
+    Tokens(&'static [u8]),
 }
 
-fn range(range: u8, start: u64, write_enabled: bool, read_locked: bool) -> RangeRow {
+/// A list of steps on a port over a drive of 1,000 sectors with some ranges; the steps that are done then, some of their
+/// replies by the numbers of the steps, and the audit log.
+#[derive(Clone, Copy)]
+struct List {
+    ranges: &'static [RangeRow],
+    next: &'static [Next],
+    done: &'static [Row],
+    replies: &'static [(usize, Reply)],
+    audit: &'static [&'static str],
+}
+
+/// The first of two ranges locks reads.
+const TWO_RANGES: [RangeRow; 2] = [
     RangeRow {
-        range,
-        start,
+        range: 1,
+        start: 100,
         length: 10,
         read_enabled: true,
-        write_enabled,
-        read_locked,
+        write_enabled: false,
+        read_locked: true,
         write_locked: false,
-    }
-}
+    },
+    RangeRow {
+        range: 2,
+        start: 200,
+        length: 10,
+        read_enabled: true,
+        write_enabled: false,
+        read_locked: false,
+        write_locked: false,
+    },
+];
 
-/// A port over a drive of 1,000 sectors with these ranges.
-fn port(alloc: Global, rows: &[RangeRow]) -> Result<Port, Fail> {
-    let config = DriveConfig::new(1000, 8, b"OPALMSID").ok_or("limits")?;
-    let drive = Drive::with_ranges(alloc, config, rows)?;
-    Ok(Port::new(alloc, drive)?)
-}
-
-/// Whether something holds of the port over a drive with these ranges. The tests are lent the port: to own it through
-/// their asserts would make each of them a long proof.
-fn on_port<F: FnOnce(Global, &mut Port) -> Result<bool, Fail>>(
-    alloc: Global,
-    rows: &[RangeRow],
-    holds: F,
-) -> Result<bool, Fail>
-    requires { F.IsAlwaysCallable holds }
-{
-    let mut port = port(alloc, rows)?;
-    holds(alloc, &mut port)
-}
+/// A range that is not locked.
+const ONE_RANGE: [RangeRow; 1] = [RangeRow {
+    range: 1,
+    start: 100,
+    length: 10,
+    read_enabled: true,
+    write_enabled: true,
+    read_locked: false,
+    write_locked: false,
+}];
 
 /// The session manager.
 const MANAGER: Session = Session { tsn: 0, hsn: 0 };
@@ -262,36 +201,42 @@ const LOCK: &[u8] =
     b"\xf8\xa8\x00\x00\x08\x02\x00\x03\x00\x02\xa8\x00\x00\x00\x06\x00\x00\x00\x17\xf0\xf2\x01\xf0\
     \xf2\x07\x01\xf3\xf1\xf3\xf1\xf9\xf0\x00\x00\x00\xf1";
 
+/// SyncSession: the first number of a session is 1000h.
+const SYNC: &[u8] =
+    b"\xf8\xa8\x00\x00\x00\x00\x00\x00\x00\xff\xa8\x00\x00\x00\x00\x00\x00\xff\x03\xf0\x07\x82\x10\x00\xf1\
+    \xf9\xf0\x00\x00\x00\xf1";
+
 /// A denied read fails the port; after the recovery another client locks a range, and the read that was accepted before
 /// is issued again and denied.
-const DENIED: [Row; 6] = [
-    Row::Read(3, 100),
-    Row::Read(5, 200),
-    Row::Issue(5),
-    Row::Issue(3),
-    Row::Accept(5),
-    Row::Accept(3),
-];
-
-const LOCKED: [Row; 18] = [
-    Row::Recover,
-    Row::Send(0, MANAGER, START),
-    Row::Issue(0),
-    Row::Accept(0),
-    Row::Receive(1),
-    Row::Issue(1),
-    Row::Accept(1),
-    Row::Send(2, FIRST, LOCK),
-    Row::Issue(2),
-    Row::Accept(2),
-    Row::Issue(5),
-    Row::Accept(5),
-    Row::Recover,
-    Row::Take(1, 3),
-    Row::Take(1, 5),
-    Row::Take(2, 0),
-    Row::Take(2, 1),
-    Row::Take(2, 2),
+const BY_TURNS: [Next; 24] = [
+    Next::Play(Row::Read(3, 100)),
+    Next::Play(Row::Read(5, 200)),
+    // Issue 3 and 5; then Issue 3 and Accept 5; then Accept 3 and 5; then Accept 3 and Complete 5
+    Next::Turn(1),
+    Next::Turn(0),
+    Next::Turn(1),
+    Next::Turn(0),
+    // Recover alone
+    Next::Turn(9),
+    Next::Play(Row::Send(0, MANAGER, START)),
+    // Issue 0 and 5; then Accept 0 alone, since no queued command goes beside it
+    Next::Turn(0),
+    Next::Turn(3),
+    Next::Play(Row::Receive(1)),
+    Next::Turn(0),
+    Next::Turn(0),
+    Next::Play(Row::Send(2, FIRST, LOCK)),
+    Next::Turn(0),
+    Next::Turn(0),
+    // Issue 5, Accept 5, Recover, each alone
+    Next::Turn(0),
+    Next::Turn(1),
+    Next::Turn(2),
+    Next::Play(Row::Take(1, 3)),
+    Next::Play(Row::Take(1, 5)),
+    Next::Play(Row::Take(2, 0)),
+    Next::Play(Row::Take(2, 1)),
+    Next::Play(Row::Take(2, 2)),
 ];
 
 const ALL_LOCKED: [Row; 24] = [
@@ -321,128 +266,40 @@ const ALL_LOCKED: [Row; 24] = [
     Row::Take(2, 2),
 ];
 
-/// The audit log of it.
-const DENIALS: [&str; 2] = [
-    "6 1 deny read 100+1 range 1 ReadLocked",
-    "18 1 deny read 200+1 range 2 ReadLocked",
-];
-
-/// SyncSession: the first number of a session is 1000h.
-const SYNC: &[u8] =
-    b"\xf8\xa8\x00\x00\x00\x00\x00\x00\x00\xff\xa8\x00\x00\x00\x00\x00\x00\xff\x03\xf0\x07\x82\x10\x00\xf1\
-    \xf9\xf0\x00\x00\x00\xf1";
-
-/// The first of two ranges locks reads.
-fn two_ranges() -> [RangeRow; 2] {
-    [range(1, 100, false, true), range(2, 200, false, false)]
-}
-
-/// Whether the port did these steps, and told of these denials.
-fn was_done(alloc: Global, port: &Port, rows: &[Row], texts: &[&str]) -> Result<bool, Fail> {
-    let list = steps(alloc, rows)?;
-    let told = has_told(alloc, port, texts)?;
-    Ok(told && has_done(port, &list))
-}
-
-/// Whether the replies of the five Takes are those of it.
-fn are_locked(port: &Port) -> Result<bool, Fail> {
-    let first = is_failed(reply(port, 20)?, 0x51, 0x04);
-    let second = is_failed(reply(port, 21)?, 0x51, 0x04);
-    let sent = reply(port, 22)?.bytes().ok_or("a send that is done")?;
-    let synced = reply(port, 23)?.bytes().ok_or("a receive that is done")?;
-    let set = reply(port, 24)?.bytes().ok_or("a send that is done")?;
-    let tokens = synced.get(56..87).ok_or("a response")?;
-    Ok(
-        first
-            && second
-            && sent.is_empty()
-            && tokens == SYNC
-            && set.is_empty()
-            && synced.len() == 512,
-    )
-}
-
-/// Whether a port, on which a read was denied, takes nothing but a recovery, and then all that is left.
-fn is_locked_on(alloc: Global, port: &mut Port) -> Result<bool, Fail> {
-    let refused = refuses(port, step(alloc, Row::Issue(5))?, PortError::Failed);
-    let left = steps(alloc, &LOCKED)?;
-    play_on(port, &left)?;
-    Ok(refused && are_locked(port)?)
-}
-
-/// By `play`; where memory is refused, the list goes on from the refused step, with the same outcome.
-fn plays_the_denied(alloc: Global, port: &mut Port) -> Result<bool, Fail> {
-    let first = steps(alloc, &DENIED)?;
-    play_on(port, &first)?;
-    let denied = was_done(alloc, port, &DENIED, &DENIALS[..1])?;
-    let locked = is_locked_on(alloc, port)?;
-    let done = was_done(alloc, port, &ALL_LOCKED, &DENIALS)?;
-    Ok(denied && locked && done)
-}
-
-#[test]
-fn denies_and_locks_by_play(rt: HostRuntime) -> Result<(), Fail> {
-    assert!(rt; on_port(rt.alloc(), &two_ranges(), plays_the_denied)?);
-    Ok(())
-}
-
-const BY_TURNS: [Next; 24] = [
-    Next::Client(Row::Read(3, 100)),
-    Next::Client(Row::Read(5, 200)),
-    // Issue 3 and 5; then Issue 3 and Accept 5; then Accept 3 and 5; then Accept 3 and Complete 5
-    Next::Turn(1),
-    Next::Turn(0),
-    Next::Turn(1),
-    Next::Turn(0),
-    // Recover alone
-    Next::Turn(9),
-    Next::Client(Row::Send(0, MANAGER, START)),
-    // Issue 0 and 5; then Accept 0 alone, since no queued command goes beside it
-    Next::Turn(0),
-    Next::Turn(3),
-    Next::Client(Row::Receive(1)),
-    Next::Turn(0),
-    Next::Turn(0),
-    Next::Client(Row::Send(2, FIRST, LOCK)),
-    Next::Turn(0),
-    Next::Turn(0),
-    // Issue 5, Accept 5, Recover, each alone
-    Next::Turn(0),
-    Next::Turn(1),
-    Next::Turn(2),
-    Next::Client(Row::Take(1, 3)),
-    Next::Client(Row::Take(1, 5)),
-    Next::Client(Row::Take(2, 0)),
-    Next::Client(Row::Take(2, 1)),
-    Next::Client(Row::Take(2, 2)),
-];
-
-/// By `turn`.
-fn turns_the_denied(alloc: Global, port: &mut Port) -> Result<bool, Fail> {
-    take_turns(alloc, port, &BY_TURNS)?;
-    let locked = are_locked(port)?;
-    let done = was_done(alloc, port, &ALL_LOCKED, &DENIALS)?;
-    let idle = port.turn(0)?.is_none();
-    Ok(locked && done && idle)
-}
-
-#[test]
-fn denies_and_locks_by_turns(rt: HostRuntime) -> Result<(), Fail> {
-    assert!(rt; on_port(rt.alloc(), &two_ranges(), turns_the_denied)?);
-    Ok(())
-}
+const DENIED: List = List {
+    ranges: &TWO_RANGES,
+    next: &BY_TURNS,
+    done: &ALL_LOCKED,
+    replies: &[
+        (20, Reply::Failed(0x51, 0x04)),
+        (21, Reply::Failed(0x51, 0x04)),
+        (22, Reply::Nothing),
+        (23, Reply::Tokens(SYNC)),
+        (24, Reply::Nothing),
+    ],
+    audit: &[
+        "6 1 deny read 100+1 range 1 ReadLocked",
+        "18 1 deny read 200+1 range 2 ReadLocked",
+    ],
+};
 
 /// A block that is no frame.
 const NO_FRAME: &[u8] = b"\x00";
 
-const HELD: [Row; 7] = [
-    Row::Read(0, 100),
-    Row::Read(1, 101),
-    Row::Issue(0),
-    Row::Accept(0),
-    Row::Issue(1),
-    Row::Accept(1),
-    Row::Send(2, MANAGER, NO_FRAME),
+/// What is not queued waits for all that is.
+const HELD_BY_TURNS: [Next; 10] = [
+    Next::Play(Row::Read(0, 100)),
+    Next::Play(Row::Read(1, 101)),
+    // Issue 0 and 1; then Issue 1 and Accept 0; then Issue 1 and Complete 0; then Accept 1 and Complete 0
+    Next::Turn(0),
+    Next::Turn(1),
+    Next::Turn(0),
+    Next::Turn(0),
+    Next::Play(Row::Send(2, MANAGER, NO_FRAME)),
+    // Complete 0 and 1; then Complete 1 alone; then Issue 2 alone
+    Next::Turn(2),
+    Next::Turn(0),
+    Next::Turn(0),
 ];
 
 const ALL_HELD: [Row; 10] = [
@@ -458,56 +315,13 @@ const ALL_HELD: [Row; 10] = [
     Row::Issue(2),
 ];
 
-/// Whether the send waits until both reads have ended, one by `play`, one by `turn`.
-fn waits_for_both(alloc: Global, port: &mut Port) -> Result<bool, Fail> {
-    let first = refuses(port, step(alloc, Row::Issue(2))?, PortError::Queue);
-    play_on(port, &[step(alloc, Row::Complete(0))?])?;
-    let second = refuses(port, step(alloc, Row::Issue(2))?, PortError::Queue);
-    port.turn(0)?.ok_or("a read that is held")?;
-    play_on(port, &[step(alloc, Row::Issue(2))?])?;
-    Ok(first && second)
-}
-
-fn plays_the_held(alloc: Global, port: &mut Port) -> Result<bool, Fail> {
-    let list = steps(alloc, &HELD)?;
-    play_on(port, &list)?;
-    let waits = waits_for_both(alloc, port)?;
-    let done = was_done(alloc, port, &ALL_HELD, &[])?;
-    Ok(waits && done)
-}
-
-/// What is not queued waits for all that is.
-#[test]
-fn keeps_a_send_back(rt: HostRuntime) -> Result<(), Fail> {
-    assert!(rt; on_port(rt.alloc(), &[], plays_the_held)?);
-    Ok(())
-}
-
-const HELD_BY_TURNS: [Next; 10] = [
-    Next::Client(Row::Read(0, 100)),
-    Next::Client(Row::Read(1, 101)),
-    // Issue 0 and 1; then Issue 1 and Accept 0; then Issue 1 and Complete 0; then Accept 1 and Complete 0
-    Next::Turn(0),
-    Next::Turn(1),
-    Next::Turn(0),
-    Next::Turn(0),
-    Next::Client(Row::Send(2, MANAGER, NO_FRAME)),
-    // Complete 0 and 1; then Complete 1 alone; then Issue 2 alone
-    Next::Turn(2),
-    Next::Turn(0),
-    Next::Turn(0),
-];
-
-fn turns_the_held(alloc: Global, port: &mut Port) -> Result<bool, Fail> {
-    take_turns(alloc, port, &HELD_BY_TURNS)?;
-    was_done(alloc, port, &ALL_HELD, &[])
-}
-
-#[test]
-fn keeps_a_send_back_by_turns(rt: HostRuntime) -> Result<(), Fail> {
-    assert!(rt; on_port(rt.alloc(), &[], turns_the_held)?);
-    Ok(())
-}
+const HELD: List = List {
+    ranges: &[],
+    next: &HELD_BY_TURNS,
+    done: &ALL_HELD,
+    replies: &[],
+    audit: &[],
+};
 
 /// StartSession to the Admin SP by SID with the MSID.
 const START_SID: &[u8] =
@@ -521,7 +335,7 @@ const LET_RESET: &[u8] =
     \xf2\x08\x01\xf3\xf1\xf3\xf1\xf9\xf0\x00\x00\x00\xf1";
 
 /// A reset that a command makes leaves a read that is prepared, which is then served.
-const RESET_BY_COMMAND: [Row; 19] = [
+const BY_COMMAND: [Row; 19] = [
     Row::Send(0, MANAGER, START_SID),
     Row::Issue(0),
     Row::Accept(0),
@@ -543,26 +357,40 @@ const RESET_BY_COMMAND: [Row; 19] = [
     Row::Take(2, 2),
 ];
 
-/// Whether the reset and the Set are done with no bytes, and the read gave a sector.
-fn is_reset_by_command(port: &Port) -> Result<bool, Fail> {
-    let reset = reply(port, 14)?.bytes().ok_or("a send that is done")?;
-    let read = reply(port, 18)?.bytes().ok_or("a read that is done")?;
-    let set = reply(port, 19)?.bytes().ok_or("a send that is done")?;
-    Ok(reset.is_empty() && set.is_empty() && read == [0; 512].as_slice())
-}
+const BY_COMMAND_NEXT: [Next; 19] = [
+    Next::Play(Row::Send(0, MANAGER, START_SID)),
+    Next::Play(Row::Issue(0)),
+    Next::Play(Row::Accept(0)),
+    Next::Play(Row::Receive(1)),
+    Next::Play(Row::Issue(1)),
+    Next::Play(Row::Accept(1)),
+    Next::Play(Row::Send(2, FIRST, LET_RESET)),
+    Next::Play(Row::Issue(2)),
+    Next::Play(Row::Accept(2)),
+    Next::Play(Row::Read(5, 200)),
+    Next::Play(Row::TperReset(3)),
+    Next::Play(Row::Issue(3)),
+    Next::Play(Row::Accept(3)),
+    Next::Play(Row::Take(2, 3)),
+    Next::Play(Row::Issue(5)),
+    Next::Play(Row::Accept(5)),
+    Next::Play(Row::Complete(5)),
+    Next::Play(Row::Take(1, 5)),
+    Next::Play(Row::Take(2, 2)),
+];
 
-fn plays_a_reset_by_command(alloc: Global, port: &mut Port) -> Result<bool, Fail> {
-    let list = steps(alloc, &RESET_BY_COMMAND)?;
-    play_on(port, &list)?;
-    let done = was_done(alloc, port, &RESET_BY_COMMAND, &[])?;
-    Ok(done && is_reset_by_command(port)?)
-}
-
-#[test]
-fn a_command_resets_beside_a_prepared_read(rt: HostRuntime) -> Result<(), Fail> {
-    assert!(rt; on_port(rt.alloc(), &two_ranges(), plays_a_reset_by_command)?);
-    Ok(())
-}
+/// The reset and the Set are done with no bytes, and the read gives a sector.
+const RESET_BY_COMMAND: List = List {
+    ranges: &TWO_RANGES,
+    next: &BY_COMMAND_NEXT,
+    done: &BY_COMMAND,
+    replies: &[
+        (14, Reply::Nothing),
+        (18, Reply::Zeros),
+        (19, Reply::Nothing),
+    ],
+    audit: &[],
+};
 
 /// A write that a reset stops moves nothing; a power cycle sets the locks of a range.
 const STOPPED: [Row; 14] = [
@@ -582,61 +410,126 @@ const STOPPED: [Row; 14] = [
     Row::Accept(0),
 ];
 
-const LOCKED_BY_POWER: [&str; 1] = ["14 1 deny read 100+1 range 1 ReadLocked"];
-
-/// A range that is not locked.
-fn one_range() -> [RangeRow; 1] {
-    [range(1, 100, true, false)]
-}
-
-/// Whether the write was stopped, and the read gave zeros.
-fn is_stopped(port: &Port) -> Result<bool, Fail> {
-    let stopped = matches!(reply(port, 5)?, Answer::Reset);
-    let bytes = reply(port, 10)?.bytes().ok_or("a read that is done")?;
-    Ok(stopped && bytes == [0; 512].as_slice())
-}
-
-fn plays_the_stopped(alloc: Global, port: &mut Port) -> Result<bool, Fail> {
-    let list = steps(alloc, &STOPPED)?;
-    play_on(port, &list)?;
-    let stopped = is_stopped(port)?;
-    let done = was_done(alloc, port, &STOPPED, &LOCKED_BY_POWER)?;
-    Ok(stopped && done)
-}
-
-#[test]
-fn stops_a_write_by_play(rt: HostRuntime) -> Result<(), Fail> {
-    assert!(rt; on_port(rt.alloc(), &one_range(), plays_the_stopped)?);
-    Ok(())
-}
-
 const STOPPED_BY_TURNS: [Next; 14] = [
-    Next::Client(Row::Write(0, 100, 0xaa)),
+    Next::Play(Row::Write(0, 100, 0xaa)),
     Next::Turn(0),
     Next::Turn(7),
-    Next::Client(Row::Reset(ResetKind::Hardware)),
-    Next::Client(Row::Take(1, 0)),
-    Next::Client(Row::Read(0, 100)),
+    Next::Play(Row::Reset(ResetKind::Hardware)),
+    Next::Play(Row::Take(1, 0)),
+    Next::Play(Row::Read(0, 100)),
     Next::Turn(0),
     Next::Turn(0),
     Next::Turn(0),
-    Next::Client(Row::Take(1, 0)),
-    Next::Client(Row::Reset(ResetKind::Power)),
-    Next::Client(Row::Read(0, 100)),
+    Next::Play(Row::Take(1, 0)),
+    Next::Play(Row::Reset(ResetKind::Power)),
+    Next::Play(Row::Read(0, 100)),
     Next::Turn(0),
     Next::Turn(0),
 ];
 
-fn turns_the_stopped(alloc: Global, port: &mut Port) -> Result<bool, Fail> {
-    take_turns(alloc, port, &STOPPED_BY_TURNS)?;
-    let stopped = is_stopped(port)?;
-    let done = was_done(alloc, port, &STOPPED, &LOCKED_BY_POWER)?;
-    Ok(stopped && done)
+const STOPPED_WRITE: List = List {
+    ranges: &ONE_RANGE,
+    next: &STOPPED_BY_TURNS,
+    done: &STOPPED,
+    replies: &[(5, Reply::Reset), (10, Reply::Zeros)],
+    audit: &["14 1 deny read 100+1 range 1 ReadLocked"],
+};
+
+/// A port over a drive of 1,000 sectors with these ranges.
+fn port(alloc: Global, rows: &[RangeRow]) -> Result<Port, Fail> {
+    let config = DriveConfig::new(1000, 8, b"OPALMSID").ok_or("limits")?;
+    let drive = Drive::with_ranges(alloc, config, rows)?;
+    Ok(Port::new(alloc, drive)?)
+}
+
+/// Does what a list has for a step. It tells whether there was one.
+fn go(alloc: Global, port: &mut Port, next: Next) -> Result<bool, Fail> {
+    match next {
+        Next::Play(row) => {
+            port.play(&[step(alloc, row)?])?;
+            Ok(true)
+        }
+        Next::Turn(choice) => Ok(port.turn(choice)?.is_some()),
+    }
+}
+
+/// Whether the history of a port has these steps.
+fn has_done(alloc: Global, port: &Port, rows: &[Row]) -> Result<bool, Fail> {
+    let history = port.history();
+    let mut has = history.len() == rows.len();
+    for (entry, row) in history.iter().zip(rows) {
+        has &= word(&entry.step) == word(&step(alloc, *row)?);
+    }
+    Ok(has)
+}
+
+/// Whether the audit log of a port has these lines.
+fn has_told(alloc: Global, port: &Port, texts: &[&str]) -> Result<bool, AllocError> {
+    let lines = port.audit();
+    let mut has = lines.len() == texts.len();
+    for (line, text) in lines.iter().zip(texts) {
+        has &= line_bytes(alloc, line)?.as_slice() == text.as_bytes();
+    }
+    Ok(has)
+}
+
+/// Whether an answer is this one.
+fn is_reply(answer: &Answer, reply: Reply) -> bool {
+    match (answer, reply) {
+        (Answer::Failed { status, error }, Reply::Failed(told, why)) => {
+            *status == told && *error == why
+        }
+        (Answer::Reset, Reply::Reset) => true,
+        (Answer::Done(bytes), Reply::Nothing) => bytes.as_slice().is_empty(),
+        (Answer::Done(bytes), Reply::Zeros) => bytes.as_slice() == [0; 512].as_slice(),
+        (Answer::Done(bytes), Reply::Tokens(tokens)) => {
+            bytes.as_slice().len() == 512 && bytes.as_slice()[56..].starts_with(tokens)
+        }
+        _ => false,
+    }
+}
+
+/// Whether a port has these replies.
+fn has_replied(port: &Port, replies: &[(usize, Reply)]) -> bool {
+    let mut has = true;
+    for (number, reply) in replies {
+        has &= match port.history().get(number.saturating_sub(1)) {
+            Some(entry) => is_reply(&entry.reply, *reply),
+            None => false,
+        };
+    }
+    has
+}
+
+/// Whether a port that does a list comes to what the list says.
+fn comes_to(alloc: Global, port: &mut Port, list: &List) -> Result<bool, Fail> {
+    let mut goes = true;
+    for next in list.next {
+        goes &= go(alloc, port, *next)?;
+    }
+    let has_done = has_done(alloc, port, list.done)?;
+    let has_told = has_told(alloc, port, list.audit)?;
+    Ok(goes && has_done && has_told && has_replied(port, list.replies))
+}
+
+/// Whether a new port does.
+fn is_right(alloc: Global, list: &List) -> Result<bool, Fail> {
+    let mut port = port(alloc, list.ranges)?;
+    comes_to(alloc, &mut port, list)
+}
+
+/// Whether each list comes to what it says.
+fn are_right(alloc: Global) -> Result<bool, Fail> {
+    let mut are = true;
+    for list in [DENIED, HELD, RESET_BY_COMMAND, STOPPED_WRITE] {
+        are &= is_right(alloc, &list)?;
+    }
+    Ok(are)
 }
 
 #[test]
-fn stops_a_write_by_turns(rt: HostRuntime) -> Result<(), Fail> {
-    assert!(rt; on_port(rt.alloc(), &one_range(), turns_the_stopped)?);
+fn lists_of_steps(rt: HostRuntime) -> Result<(), Fail> {
+    assert!(rt; are_right(rt.alloc())?);
     Ok(())
 }
 

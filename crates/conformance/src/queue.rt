@@ -1,12 +1,68 @@
 //! The rules of a drive's queue (ACS-3, NCQ feature set; Opal SSC, Locking table), and the FISes of
 //! its answers (Serial ATA, FISes to the host). What is expected was worked out by hand.
 
-use crate::acceptance::{accept, accept_with};
 use arrayvec::ArrayVec;
-use drive::{Completed, Drive, DriveConfig, RangeRow, Why};
+use drive::{Drive, DriveConfig, DriveError, RangeRow, Why, payload_of};
 use fis::{Fis, Tag};
 use std::alloc::Global;
 use std::test::Fail;
+
+/// What is done to a drive, and what comes of it.
+#[derive(Clone, Copy)]
+enum Row {
+    /// A queued read under a tag, from a sector on, of so many sectors.
+    Read(u8, u16, u16, Told),
+    /// A queued write.
+    Write(u8, u16, u16, Told),
+    /// Any FIS, with bytes AAh where it brings data.
+    Fis(&'static [u8; 20], Told),
+    /// A FIS, and the first bytes of the one that answers it; the others are 0.
+    Answer(&'static [u8; 20], [u8; 4]),
+    /// The command under a tag is completed with data of one byte: its answer is so many bytes, all the same.
+    Done(u8, u8, Data),
+    /// The command under a tag is completed with zeros, and told by two FISes.
+    DoneBy(u8, &'static [u8; 28], &'static [u8; 8]),
+    /// No command is held under a tag.
+    Free(u8),
+    /// How many bytes the command under a tag takes.
+    Takes(u8, usize),
+    /// How the queue has failed: tag, error, LBA, Device and Count.
+    Failed(Option<u8>, u8, u64, u8, u16),
+    NotFailed,
+}
+
+/// So many bytes, all the same.
+type Data = (usize, u8);
+
+/// How a command is answered.
+#[derive(Clone, Copy)]
+enum Told {
+    /// It is held, or served.
+    Served,
+    Aborted,
+    /// Its sectors are not all on the drive.
+    Beyond,
+    /// A range denies a read, or a write, of these sectors.
+    ReadDenied(u64, u32, u8),
+    WriteDenied(u64, u32, u8),
+}
+
+impl Told {
+    /// Status, error and reason.
+    fn words(self) -> (u8, u8, Option<Why>) {
+        match self {
+            Told::Served => (0x50, 0x00, None),
+            Told::Aborted => (0x51, 0x04, None),
+            Told::Beyond => (0x51, 0x10, None),
+            Told::ReadDenied(lba, count, range) => {
+                (0x51, 0x04, Some(Why::ReadLocked { lba, count, range }))
+            }
+            Told::WriteDenied(lba, count, range) => {
+                (0x51, 0x04, Some(Why::WriteLocked { lba, count, range }))
+            }
+        }
+    }
+}
 
 /// READ FPDMA QUEUED and WRITE FPDMA QUEUED.
 const READ: u8 = 0x60;
@@ -14,17 +70,204 @@ const READ: u8 = 0x60;
 const WRITE: u8 = 0x61;
 
 /// IDENTIFY DEVICE, which is not queued.
-const IDENTIFY: [u8; 20] = [
+const IDENTIFY: &[u8; 20] = &[
     0x27, 0x80, 0xec, 0, 0, 0, 0, 0, 0, 0, 0, 0, 0, 0, 0, 0, 0, 0, 0, 0,
 ];
 
 /// A command that the drive does not know.
-const UNKNOWN: [u8; 20] = [
+const UNKNOWN: &[u8; 20] = &[
     0x27, 0x80, 0x10, 0, 0, 0, 0, 0, 0, 0, 0, 0, 0, 0, 0, 0, 0, 0, 0, 0,
 ];
 
+/// WRITE DMA EXT of sector 8.
+const WRITE_DMA: &[u8; 20] = &[
+    0x27, 0x80, 0x35, 0, 8, 0, 0, 0x40, 0, 0, 0, 0, 1, 0, 0, 0, 0, 0, 0, 0,
+];
+
+/// READ LOG EXT of page 10h.
+const READ_LOG: &[u8; 20] = &[
+    0x27, 0x80, 0x2f, 0, 0x10, 0, 0, 0, 0, 0, 0, 0, 1, 0, 0, 0, 0, 0, 0, 0,
+];
+
+/// A queued read of sector 5 under tag 7 whose Device bit 6 is clear.
+const CLEAR_BIT: &[u8; 20] = &[
+    0x27, 0x80, 0x60, 1, 5, 0, 0, 0, 0, 0, 0, 0, 0x38, 0, 0, 0, 0, 0, 0, 0,
+];
+
+/// A queued read of sector 5 with bit C clear, and one of another type.
+const CONTROL: &[u8; 20] = &[
+    0x27, 0x00, 0x60, 1, 5, 0, 0, 0x40, 0, 0, 0, 0, 0, 0, 0, 0, 0, 0, 0, 0,
+];
+
+const OTHER_TYPE: &[u8; 20] = &[
+    0x34, 0x80, 0x60, 1, 5, 0, 0, 0x40, 0, 0, 0, 0, 0, 0, 0, 0, 0, 0, 0, 0,
+];
+
+/// A device's FIS, which carries no command and brings no data, though its Status is the code of WRITE DMA EXT.
+const NO_WRITE: &[u8; 20] = &[
+    0x34, 0x80, 0x35, 0, 8, 0, 0, 0x40, 0, 0, 0, 0, 1, 0, 0, 0, 0, 0, 0, 0,
+];
+
+/// Queued reads: of five sectors from 95 on under tag 5, of sector 100 under tag 3, and of sector 1,000 under tag 5.
+const READ_95: &[u8; 20] = &[
+    0x27, 0x80, 0x60, 5, 95, 0, 0, 0x40, 0, 0, 0, 0, 0x28, 0, 0, 0, 0, 0, 0, 0,
+];
+
+const READ_100: &[u8; 20] = &[
+    0x27, 0x80, 0x60, 1, 100, 0, 0, 0x40, 0, 0, 0, 0, 0x18, 0, 0, 0, 0, 0, 0, 0,
+];
+
+const READ_1000: &[u8; 20] = &[
+    0x27, 0x80, 0x60, 1, 0xe8, 0x03, 0, 0x40, 0, 0, 0, 0, 0x28, 0, 0, 0, 0, 0, 0, 0,
+];
+
+/// DMA Setup: bit D, the tag and the count of bytes. Set Device Bits: bit I, Status, and SActive. Of a read of five sectors
+/// under tag 5, and of a write of a sector under tag 31.
+const READ_SETUP: &[u8; 28] = &[
+    0x41, 0x20, 0, 0, 5, 0, 0, 0, 0, 0, 0, 0, 0, 0, 0, 0, 0, 0, 0, 0, 0x00, 0x0a, 0, 0, 0, 0, 0, 0,
+];
+
+const READ_END: &[u8; 8] = &[0xa1, 0x40, 0x50, 0, 0x20, 0, 0, 0];
+
+const WRITE_SETUP: &[u8; 28] = &[
+    0x41, 0x00, 0, 0, 31, 0, 0, 0, 0, 0, 0, 0, 0, 0, 0, 0, 0, 0, 0, 0, 0x00, 0x02, 0, 0, 0, 0, 0, 0,
+];
+
+const WRITE_END: &[u8; 8] = &[0xa1, 0x40, 0x50, 0, 0, 0, 0, 0x80];
+
+/// What a range denies, as the first command of a drive.
+const FIRST: [Row; 19] = [
+    // a range denies what it locks
+    Row::Read(3, 100, 1, Told::ReadDenied(100, 1, 1)),
+    Row::Write(3, 100, 1, Told::Served),
+    Row::Read(5, 95, 6, Told::ReadDenied(95, 6, 1)),
+    Row::Read(5, 95, 5, Told::Served),
+    Row::Write(4, 205, 2, Told::WriteDenied(205, 2, 2)),
+    Row::Read(4, 205, 2, Told::Served),
+    // a lock counts with its own enable
+    Row::Read(0, 220, 10, Told::Served),
+    Row::Write(0, 220, 10, Told::Served),
+    Row::Read(0, 250, 10, Told::Served),
+    Row::Write(0, 250, 10, Told::Served),
+    Row::Write(1, 230, 1, Told::Served),
+    Row::Read(1, 230, 1, Told::ReadDenied(230, 1, 4)),
+    // the least denied sector gives the reason
+    Row::Read(2, 105, 10, Told::ReadDenied(105, 10, 1)),
+    Row::Write(2, 105, 10, Told::WriteDenied(105, 10, 6)),
+    // the addresses come before the policy; a count of 0 is 65,536 sectors
+    Row::Read(5, 0, 0, Told::Beyond),
+    Row::Read(5, 100, 901, Told::Beyond),
+    Row::Read(5, 999, 1, Told::Served),
+    Row::Read(5, 1000, 1, Told::Beyond),
+    Row::Write(5, 1000, 1, Told::Beyond),
+];
+
+/// A failed queue drops what it held, and all that follows is aborted.
+const DROPPED: [Row; 7] = [
+    Row::Write(0, 5, 1, Told::Served),
+    Row::Takes(0, 512),
+    Row::Read(3, 100, 1, Told::ReadDenied(100, 1, 1)),
+    Row::Takes(0, 0),
+    Row::Free(0),
+    Row::Read(2, 5, 1, Told::Aborted),
+    // log page 10h tells of the denied read: 03 .. 04 64 00 00 40 .. 18 00
+    Row::Failed(Some(3), 0x04, 0x64, 0x40, 0x18),
+];
+
+/// A command that is not queued, beside a held one, fails the queue.
+const MIXED: [Row; 5] = [
+    Row::Fis(IDENTIFY, Told::Served),
+    Row::Write(0, 5, 1, Told::Served),
+    Row::Fis(IDENTIFY, Told::Aborted),
+    Row::Free(0),
+    Row::Failed(None, 0x04, 0, 0, 0),
+];
+
+/// So does a write that is not queued, and it moves nothing.
+const MIXED_WRITE: [Row; 7] = [
+    Row::Read(3, 5, 1, Told::Served),
+    Row::Fis(WRITE_DMA, Told::Aborted),
+    Row::Free(3),
+    Row::Failed(None, 0x04, 8, 0x40, 1),
+    Row::Fis(READ_LOG, Told::Served),
+    Row::Read(3, 8, 1, Told::Served),
+    Row::Done(3, 0, (512, 0)),
+];
+
+/// A tag is free once its command is completed, and fails the queue while it is held.
+const HELD_TAG: [Row; 7] = [
+    Row::Write(3, 5, 1, Told::Served),
+    Row::Done(3, 0, (0, 0)),
+    Row::Read(3, 8, 1, Told::Served),
+    Row::Read(31, 8, 1, Told::Served),
+    Row::Read(3, 9, 2, Told::Aborted),
+    Row::Free(31),
+    Row::Failed(Some(3), 0x04, 9, 0x40, 0x18),
+];
+
+/// A queued command whose Device bit 6 is clear fails the queue.
+const DEVICE_BIT: [Row; 3] = [
+    Row::Fis(CLEAR_BIT, Told::Aborted),
+    Row::Failed(Some(7), 0x04, 5, 0, 0x38),
+    Row::Read(2, 5, 1, Told::Aborted),
+];
+
+/// What carries no command changes nothing.
+const NO_COMMAND: [Row; 6] = [
+    Row::Write(0, 5, 1, Told::Served),
+    Row::Fis(CONTROL, Told::Aborted),
+    Row::Fis(OTHER_TYPE, Told::Aborted),
+    Row::Fis(NO_WRITE, Told::Aborted),
+    Row::NotFailed,
+    Row::Done(0, 0, (0, 0)),
+];
+
+/// The FIS of a command that is held, and of one that is denied.
+const ANSWERS: [Row; 2] = [
+    Row::Answer(READ_95, [0x34, 0x00, 0x50, 0x00]),
+    Row::Answer(READ_100, [0x34, 0x40, 0x51, 0x04]),
+];
+
+/// Of one that is not known, and of one beyond the drive.
+const ABORTS: [Row; 2] = [
+    Row::Answer(UNKNOWN, [0x34, 0x40, 0x51, 0x04]),
+    Row::Answer(READ_1000, [0x34, 0x40, 0x51, 0x10]),
+];
+
+/// The two FISes of a read, and of a write.
+const ENDS: [Row; 4] = [
+    Row::Read(5, 95, 5, Told::Served),
+    Row::DoneBy(5, READ_SETUP, READ_END),
+    Row::Write(31, 5, 1, Told::Served),
+    Row::DoneBy(31, WRITE_SETUP, WRITE_END),
+];
+
+/// A queued write moves its data as it is completed, and a read gives the bytes of its completion.
+const MOVED_LATE: [Row; 6] = [
+    Row::Write(0, 5, 1, Told::Served),
+    Row::Read(1, 5, 1, Told::Served),
+    Row::Done(1, 0, (512, 0)),
+    Row::Read(1, 5, 1, Told::Served),
+    Row::Done(0, 0xaa, (0, 0)),
+    Row::Done(1, 0, (512, 0xaa)),
+];
+
+/// The lists, each for a drive on which nothing was done.
+const LISTS: [&[Row]; 10] = [
+    &DROPPED,
+    &MIXED,
+    &MIXED_WRITE,
+    &HELD_TAG,
+    &DEVICE_BIT,
+    &NO_COMMAND,
+    &ANSWERS,
+    &ABORTS,
+    &ENDS,
+    &MOVED_LATE,
+];
+
 /// Ten sectors of a range with its two enables and its two locks.
-fn row(range: u8, start: u64, enables: (bool, bool), locks: (bool, bool)) -> RangeRow {
+fn range_row(range: u8, start: u64, enables: (bool, bool), locks: (bool, bool)) -> RangeRow {
     RangeRow {
         range,
         start,
@@ -41,115 +284,103 @@ fn row(range: u8, start: u64, enables: (bool, bool), locks: (bool, bool)) -> Ran
 /// denies both, behind range 1.
 fn drive(alloc: Global) -> Result<Drive, Fail> {
     let rows = [
-        row(1, 100, (true, false), (true, false)),
-        row(2, 200, (false, true), (false, true)),
-        row(3, 220, (false, false), (true, true)),
-        row(4, 230, (true, false), (true, true)),
-        row(5, 250, (true, true), (false, false)),
-        row(6, 110, (true, true), (true, true)),
+        range_row(1, 100, (true, false), (true, false)),
+        range_row(2, 200, (false, true), (false, true)),
+        range_row(3, 220, (false, false), (true, true)),
+        range_row(4, 230, (true, false), (true, true)),
+        range_row(5, 250, (true, true), (false, false)),
+        range_row(6, 110, (true, true), (true, true)),
     ];
     let config = DriveConfig::new(1000, 8, b"OPALMSID").ok_or("limits")?;
     Ok(Drive::with_ranges(alloc, config, &rows)?)
 }
 
-/// The FIS of a queued command, with this Device field.
-fn queued_with(device: u8, code: u8, tag: u8, lba: u16, count: u16) -> [u8; 20] {
+/// The FIS of a queued command.
+fn queued(code: u8, tag: u8, lba: u16, count: u16) -> [u8; 20] {
     let tags = 8 * Tag::low_bits(tag).number();
     let lba = lba.to_le_bytes();
     let count = count.to_le_bytes();
     [
-        0x27, 0x80, code, count[0], lba[0], lba[1], 0, device, 0, 0, 0, count[1], tags, 0, 0, 0, 0,
+        0x27, 0x80, code, count[0], lba[0], lba[1], 0, 0x40, 0, 0, 0, count[1], tags, 0, 0, 0, 0,
         0, 0, 0,
     ]
 }
 
-/// The FIS of a queued command.
-fn queued(code: u8, tag: u8, lba: u16, count: u16) -> [u8; 20] {
-    queued_with(0x40, code, tag, lba, count)
-}
-
-/// Status, error and reason of the answer to a FIS.
-fn answer(drive: &mut Drive, fis: &[u8; 20]) -> Result<(u8, u8, Option<Why>), Fail> {
-    let accepted = accept(drive, fis)?;
-    Ok((accepted.status, accepted.error, accepted.denied))
-}
-
-/// Whether the drive answers the FIS so.
-fn answers(
+/// Whether a FIS is answered so, with bytes AAh where it brings data.
+fn is_told(
+    alloc: Global,
     drive: &mut Drive,
     fis: &[u8; 20],
-    expected: &(u8, u8, Option<Why>),
-) -> Result<bool, Fail> {
-    let told = answer(drive, fis)?;
-    Ok(told == *expected)
+    told: Told,
+) -> Result<bool, DriveError> {
+    let data = vec![in alloc; 0xaa; payload_of(fis)]?;
+    let accepted = drive.accept(fis, &data)?;
+    let (status, error, denied) = told.words();
+    Ok(accepted.status == status && accepted.error == error && accepted.denied == denied)
 }
 
-/// The answers of a command that is held or served, of one that is aborted, and of one that is not on the drive.
-const HELD: (u8, u8, Option<Why>) = (0x50, 0x00, None);
-
-const SERVED: (u8, u8, Option<Why>) = (0x50, 0x00, None);
-
-const ABORTED: (u8, u8, Option<Why>) = (0x51, 0x04, None);
-
-const BEYOND: (u8, u8, Option<Why>) = (0x51, 0x10, None);
-
-fn read_denied(lba: u64, count: u32, range: u8) -> (u8, u8, Option<Why>) {
-    (0x51, 0x04, Some(Why::ReadLocked { lba, count, range }))
-}
-
-fn write_denied(lba: u64, count: u32, range: u8) -> (u8, u8, Option<Why>) {
-    (0x51, 0x04, Some(Why::WriteLocked { lba, count, range }))
-}
-
-/// Whether something holds of the drive on which nothing was done. The tests are lent the drive: to own it through their
-/// asserts would make each of them a long proof.
-fn on_drive<F: FnOnce(Global, &mut Drive) -> Result<bool, Fail>>(
-    alloc: Global,
-    holds: F,
-) -> Result<bool, Fail>
-    requires { F.IsAlwaysCallable holds }
-{
-    let mut drive = drive(alloc)?;
-    holds(alloc, &mut drive)
-}
-
-/// What the command is answered on a drive on which nothing was done.
-fn first(alloc: Global, fis: &[u8; 20]) -> Result<(u8, u8, Option<Why>), Fail> {
-    let mut drive = drive(alloc)?;
-    answer(&mut drive, fis)
-}
-
-/// Whether the commands are so answered, each on a drive on which nothing was done.
-fn are_first(alloc: Global, cases: &[([u8; 20], (u8, u8, Option<Why>))]) -> Result<bool, Fail> {
-    for (fis, expected) in cases {
-        if first(alloc, fis)? != *expected {
-            return Ok(false);
-        }
+/// Whether a FIS that brings no data is answered by one FIS that begins so, and no data.
+fn is_answered(drive: &mut Drive, fis: &[u8; 20], front: [u8; 4]) -> Result<bool, DriveError> {
+    if payload_of(fis) != 0 {
+        return Ok(false);
     }
-    Ok(true)
+    let accepted = drive.accept(fis, &[])?;
+    let mut expected = [0; 20];
+    expected[..4].copy_from_slice(&front);
+    let is_one = accepted.fises.len() == 1 && accepted.bytes.is_empty();
+    Ok(is_one && is_fis(&accepted.fises, 0, &expected))
 }
 
-/// Completes a held command with so many bytes, all the same.
-fn complete(alloc: Global, drive: &mut Drive, tag: u8, byte: u8) -> Result<Completed, Fail> {
+/// Whether the FIS at a place has these bytes.
+fn is_fis(fises: &ArrayVec<Fis, 2>, place: usize, expected: &[u8]) -> bool {
+    match fises.get(place) {
+        Some(fis) => fis.to_bytes().as_slice() == expected,
+        None => false,
+    }
+}
+
+/// Whether bytes are so many, all the same.
+fn are_bytes(bytes: &[u8], data: Data) -> bool {
+    let (size, byte) = data;
+    bytes.len() == size && bytes.iter().all(|it| *it == byte)
+}
+
+/// Whether the command under a tag, completed with data of one byte, gives so many bytes, all the same.
+fn gives(
+    alloc: Global,
+    drive: &mut Drive,
+    tag: u8,
+    byte: u8,
+    data: Data,
+) -> Result<bool, DriveError> {
     let tag = Tag::low_bits(tag);
-    let data = vec![in alloc; byte; drive.expects(tag)]?;
-    Ok(drive.complete(tag, &data)?)
+    let given = vec![in alloc; byte; drive.expects(tag)]?;
+    let done = drive.complete(tag, &given)?;
+    Ok(are_bytes(&done.bytes, data))
 }
 
-/// Whether a command is held under the tag.
-fn is_held(alloc: Global, drive: &mut Drive, tag: u8) -> Result<bool, Fail> {
+/// Whether the command under a tag, completed with zeros, is told by these FISes.
+fn is_done_by(
+    alloc: Global,
+    drive: &mut Drive,
+    tag: u8,
+    setup: &[u8; 28],
+    end: &[u8; 8],
+) -> Result<bool, DriveError> {
     let tag = Tag::low_bits(tag);
-    let data = vec![in alloc; 0; drive.expects(tag)]?;
-    Ok(drive.complete(tag, &data).is_ok())
+    let given = vec![in alloc; 0; drive.expects(tag)]?;
+    let done = drive.complete(tag, &given)?;
+    let are_two = done.fises.len() == 2;
+    Ok(are_two && is_fis(&done.fises, 0, setup) && is_fis(&done.fises, 1, end))
 }
 
-/// The bytes of one of these FISes.
-fn bytes_at(fises: &ArrayVec<Fis, 2>, index: usize) -> Option<ArrayVec<u8, 28>> {
-    let fis = fises.get(index)?;
-    Some(fis.to_bytes())
+/// Whether no command is held under a tag.
+fn is_free(drive: &mut Drive, tag: u8) -> bool {
+    let tag = Tag::low_bits(tag);
+    drive.expects(tag) == 0 && drive.complete(tag, &[]).err() == Some(DriveError::NotHeld)
 }
 
-/// What tells how the queue has failed: tag, error, LBA, Device and Count.
+/// Tag, error, LBA, Device and Count of the command that made the queue fail.
 fn failure(drive: &Drive) -> Option<(Option<u8>, u8, u64, u8, u16)> {
     let failure = drive.failure()?;
     Some((
@@ -161,307 +392,77 @@ fn failure(drive: &Drive) -> Option<(Option<u8>, u8, u64, u8, u16)> {
     ))
 }
 
-#[test]
-fn a_range_denies_what_it_locks(rt: HostRuntime) -> Result<(), Fail> {
-    let alloc = rt.alloc();
-    let cases = [
-        (queued(READ, 3, 100, 1), read_denied(100, 1, 1)),
-        (queued(WRITE, 3, 100, 1), HELD),
-        (queued(READ, 5, 95, 6), read_denied(95, 6, 1)),
-        (queued(READ, 5, 95, 5), HELD),
-        (queued(WRITE, 4, 205, 2), write_denied(205, 2, 2)),
-        (queued(READ, 4, 205, 2), HELD),
-    ];
-    assert!(rt; are_first(alloc, &cases)?);
-    Ok(())
-}
-
-#[test]
-fn a_lock_counts_with_its_own_enable(rt: HostRuntime) -> Result<(), Fail> {
-    let alloc = rt.alloc();
-    let cases = [
-        (queued(READ, 0, 220, 10), HELD),
-        (queued(WRITE, 0, 220, 10), HELD),
-        (queued(READ, 0, 250, 10), HELD),
-        (queued(WRITE, 0, 250, 10), HELD),
-        (queued(WRITE, 1, 230, 1), HELD),
-        (queued(READ, 1, 230, 1), read_denied(230, 1, 4)),
-    ];
-    assert!(rt; are_first(alloc, &cases)?);
-    Ok(())
-}
-
-#[test]
-fn the_least_denied_sector_gives_the_reason(rt: HostRuntime) -> Result<(), Fail> {
-    let alloc = rt.alloc();
-    let read = first(alloc, &queued(READ, 2, 105, 10))?;
-    assert_eq!(rt; read, read_denied(105, 10, 1));
-    let write = first(alloc, &queued(WRITE, 2, 105, 10))?;
-    assert_eq!(rt; write, write_denied(105, 10, 6));
-    Ok(())
-}
-
-#[test]
-fn the_addresses_come_before_the_policy(rt: HostRuntime) -> Result<(), Fail> {
-    let alloc = rt.alloc();
-    let cases = [
-        (queued(READ, 5, 0, 0), BEYOND),
-        (queued(READ, 5, 100, 901), BEYOND),
-        (queued(READ, 5, 999, 1), HELD),
-        (queued(READ, 5, 1000, 1), BEYOND),
-        (queued(WRITE, 5, 1000, 1), BEYOND),
-    ];
-    assert!(rt; are_first(alloc, &cases)?);
-    Ok(())
-}
-
-/// A failure: what was held is gone, and all that follows is aborted.
-fn drops_what_it_held(alloc: Global, drive: &mut Drive) -> Result<bool, Fail> {
-    let is_held_first = answers(drive, &queued(WRITE, 0, 5, 1), &HELD)?;
-    let wants_data = drive.expects(Tag::low_bits(0)) == 512;
-    let is_denied = answers(drive, &queued(READ, 3, 100, 1), &read_denied(100, 1, 1))?;
-    let wants_none = drive.expects(Tag::low_bits(0)) == 0;
-    let is_kept = is_held(alloc, drive, 0)?;
-    let is_aborted = answers(drive, &queued(READ, 2, 5, 1), &ABORTED)?;
-    // log page 10h tells of the denied read: 03 .. 04 64 00 00 40 .. 18 00
-    let is_told = failure(drive) == Some((Some(3), 0x04, 0x64, 0x40, 0x18));
-    Ok(is_held_first && wants_data && is_denied && wants_none && !is_kept && is_aborted && is_told)
-}
-
-#[test]
-fn a_failed_queue_drops_what_it_held(rt: HostRuntime) -> Result<(), Fail> {
-    assert!(rt; on_drive(rt.alloc(), drops_what_it_held)?);
-    Ok(())
-}
-
-/// A command that is not queued, beside a held one.
-fn fails_by_mixing(alloc: Global, drive: &mut Drive) -> Result<bool, Fail> {
-    let is_served = answers(drive, &IDENTIFY, &SERVED)?;
-    let is_held_first = answers(drive, &queued(WRITE, 0, 5, 1), &HELD)?;
-    let is_aborted = answers(drive, &IDENTIFY, &ABORTED)?;
-    let is_kept = is_held(alloc, drive, 0)?;
-    let is_told = failure(drive) == Some((None, 0x04, 0, 0, 0));
-    Ok(is_served && is_held_first && is_aborted && !is_kept && is_told)
-}
-
-#[test]
-fn mixing_fails_the_queue(rt: HostRuntime) -> Result<(), Fail> {
-    assert!(rt; on_drive(rt.alloc(), fails_by_mixing)?);
-    Ok(())
-}
-
-/// WRITE DMA EXT of sector 8.
-const WRITE_DMA: [u8; 20] = [
-    0x27, 0x80, 0x35, 0, 8, 0, 0, 0x40, 0, 0, 0, 0, 1, 0, 0, 0, 0, 0, 0, 0,
-];
-
-/// READ LOG EXT of page 10h.
-const READ_LOG: [u8; 20] = [
-    0x27, 0x80, 0x2f, 0, 0x10, 0, 0, 0, 0, 0, 0, 0, 1, 0, 0, 0, 0, 0, 0, 0,
-];
-
-/// A write that is not queued, beside a held read: it fails the queue, and moves nothing.
-fn fails_by_mixing_a_write(alloc: Global, drive: &mut Drive) -> Result<bool, Fail> {
-    let is_read = answers(drive, &queued(READ, 3, 5, 1), &HELD)?;
-    let mixed = accept_with(drive, &WRITE_DMA, &[0xaa; 512])?;
-    let is_aborted = (mixed.status, mixed.error, mixed.denied) == ABORTED;
-    let is_kept = is_held(alloc, drive, 3)?;
-    let is_told = failure(drive) == Some((None, 0x04, 8, 0x40, 1));
-    let is_mended = answers(drive, &READ_LOG, &SERVED)?;
-    let is_read_again = answers(drive, &queued(READ, 3, 8, 1), &HELD)?;
-    let is_unmoved = gives(alloc, drive, 3, 0, &[0; 512])?;
-    Ok(is_read && is_aborted && !is_kept && is_told && is_mended && is_read_again && is_unmoved)
-}
-
-#[test]
-fn mixing_a_write_fails_the_queue(rt: HostRuntime) -> Result<(), Fail> {
-    assert!(rt; on_drive(rt.alloc(), fails_by_mixing_a_write)?);
-    Ok(())
-}
-
-/// A tag is free once its command is completed, and fails the queue while it is held.
-fn fails_by_a_held_tag(alloc: Global, drive: &mut Drive) -> Result<bool, Fail> {
-    let is_written = answers(drive, &queued(WRITE, 3, 5, 1), &HELD)?;
-    let is_completed = is_held(alloc, drive, 3)?;
-    let is_read = answers(drive, &queued(READ, 3, 8, 1), &HELD)?;
-    let is_other = answers(drive, &queued(READ, 31, 8, 1), &HELD)?;
-    let is_aborted = answers(drive, &queued(READ, 3, 9, 2), &ABORTED)?;
-    let is_kept = is_held(alloc, drive, 31)?;
-    let is_told = failure(drive) == Some((Some(3), 0x04, 9, 0x40, 0x18));
-    Ok(is_written && is_completed && is_read && is_other && is_aborted && !is_kept && is_told)
-}
-
-#[test]
-fn a_tag_that_is_held_fails_the_queue(rt: HostRuntime) -> Result<(), Fail> {
-    assert!(rt; on_drive(rt.alloc(), fails_by_a_held_tag)?);
-    Ok(())
-}
-
-/// A queued command whose Device bit 6 is clear, and one behind it.
-fn fails_by_a_clear_bit(_alloc: Global, drive: &mut Drive) -> Result<bool, Fail> {
-    let is_aborted = answers(drive, &queued_with(0, READ, 7, 5, 1), &ABORTED)?;
-    let is_told = failure(drive) == Some((Some(7), 0x04, 5, 0, 0x38));
-    let is_failed = answers(drive, &queued(READ, 2, 5, 1), &ABORTED)?;
-    Ok(is_aborted && is_told && is_failed)
-}
-
-#[test]
-fn a_clear_device_bit_fails_the_queue(rt: HostRuntime) -> Result<(), Fail> {
-    assert!(rt; on_drive(rt.alloc(), fails_by_a_clear_bit)?);
-    Ok(())
-}
-
-/// A device's FIS, which carries no command and brings no data, though its Status is the code of WRITE DMA EXT.
-const NO_WRITE: [u8; 20] = [
-    0x34, 0x80, 0x35, 0, 8, 0, 0, 0x40, 0, 0, 0, 0, 1, 0, 0, 0, 0, 0, 0, 0,
-];
-
-/// A FIS with bit C clear and two of another type, beside a held command.
-fn is_left_alone(alloc: Global, drive: &mut Drive) -> Result<bool, Fail> {
-    let is_held_first = answers(drive, &queued(WRITE, 0, 5, 1), &HELD)?;
-    let mut control = queued(READ, 0, 5, 1);
-    control[1] = 0;
-    let is_control_aborted = answers(drive, &control, &ABORTED)?;
-    let mut other = queued(READ, 0, 5, 1);
-    other[0] = 0x34;
-    let is_other_aborted = answers(drive, &other, &ABORTED)?;
-    let is_write_aborted = answers(drive, &NO_WRITE, &ABORTED)?;
-    let is_kept = is_held(alloc, drive, 0)?;
-    let is_mended = failure(drive).is_none();
-    let are_aborted = is_control_aborted && is_other_aborted && is_write_aborted;
-    Ok(is_held_first && are_aborted && is_kept && is_mended)
-}
-
-#[test]
-fn what_carries_no_command_changes_nothing(rt: HostRuntime) -> Result<(), Fail> {
-    assert!(rt; on_drive(rt.alloc(), is_left_alone)?);
-    Ok(())
-}
-
-/// Whether the drive answers a command with one FIS, whose first fields are these, and no data.
-fn is_told_by(drive: &mut Drive, fis: &[u8; 20], fields: &[u8; 3]) -> Result<bool, Fail> {
-    let accepted = accept(drive, fis)?;
-    let mut expected = [0; 20];
-    expected[0] = 0x34;
-    expected[1..4].copy_from_slice(fields);
-    let is_told = is_fis(&accepted.fises, 0, &expected);
-    Ok(is_told && accepted.fises.len() == 1 && accepted.bytes.is_empty())
-}
-
-/// The FIS of a command that is held, of one that is denied, of one beyond the drive, and of none that is known; only the
-/// first may be answered before the queue fails.
-fn answers_by_a_fis(_alloc: Global, drive: &mut Drive) -> Result<bool, Fail> {
-    let is_held_first = is_told_by(drive, &queued(READ, 5, 95, 5), &[0x00, 0x50, 0x00])?;
-    let is_denied = is_told_by(drive, &queued(READ, 3, 100, 1), &[0x40, 0x51, 0x04])?;
-    Ok(is_held_first && is_denied)
-}
-
-fn aborts_by_a_fis(_alloc: Global, drive: &mut Drive) -> Result<bool, Fail> {
-    let is_unknown = is_told_by(drive, &UNKNOWN, &[0x40, 0x51, 0x04])?;
-    let is_beyond = is_told_by(drive, &queued(READ, 5, 1000, 1), &[0x40, 0x51, 0x10])?;
-    Ok(is_unknown && is_beyond)
-}
-
-#[test]
-fn the_fis_of_an_answer(rt: HostRuntime) -> Result<(), Fail> {
-    assert!(rt; on_drive(rt.alloc(), answers_by_a_fis)?);
-    assert!(rt; on_drive(rt.alloc(), aborts_by_a_fis)?);
-    Ok(())
-}
-
-/// Whether the FIS at a place has these bytes.
-fn is_fis(fises: &ArrayVec<Fis, 2>, index: usize, expected: &[u8]) -> bool {
-    match bytes_at(fises, index) {
-        Some(bytes) => bytes.as_slice() == expected,
-        None => false,
+/// Does what a row says, and tells whether that came of it.
+fn is_right(alloc: Global, drive: &mut Drive, row: Row) -> Result<bool, DriveError> {
+    match row {
+        Row::Read(tag, lba, count, told) => {
+            is_told(alloc, drive, &queued(READ, tag, lba, count), told)
+        }
+        Row::Write(tag, lba, count, told) => {
+            is_told(alloc, drive, &queued(WRITE, tag, lba, count), told)
+        }
+        Row::Fis(fis, told) => is_told(alloc, drive, fis, told),
+        Row::Answer(fis, front) => is_answered(drive, fis, front),
+        Row::Done(tag, byte, data) => gives(alloc, drive, tag, byte, data),
+        Row::DoneBy(tag, setup, end) => is_done_by(alloc, drive, tag, setup, end),
+        Row::Free(tag) => Ok(is_free(drive, tag)),
+        Row::Takes(tag, size) => Ok(drive.expects(Tag::low_bits(tag)) == size),
+        Row::Failed(tag, error, lba, device, count) => {
+            Ok(failure(drive) == Some((tag, error, lba, device, count)))
+        }
+        Row::NotFailed => Ok(drive.failure().is_none()),
     }
 }
 
-/// Whether a completion gives two FISes with these bytes, and so much data.
-fn completes_with(
-    alloc: Global,
-    drive: &mut Drive,
-    tag: u8,
-    setup: &[u8],
-    end: &[u8],
-    size: usize,
-) -> Result<bool, Fail> {
-    let done = complete(alloc, drive, tag, 0)?;
-    let are_told = is_fis(&done.fises, 0, setup) && is_fis(&done.fises, 1, end);
-    Ok(are_told && done.fises.len() == 2 && done.bytes.len() == size)
+/// The first row of a list, on a drive on which nothing was done, of which something else came.
+fn wrong_row(alloc: Global, rows: &[Row]) -> Result<Option<usize>, Fail> {
+    let mut drive = drive(alloc)?;
+    for (place, row) in rows.iter().enumerate() {
+        if !is_right(alloc, &mut drive, *row)? {
+            return Ok(Some(place));
+        }
+    }
+    Ok(None)
 }
 
-/// A read of five sectors under tag 5.
-fn reads_by_fises(alloc: Global, drive: &mut Drive) -> Result<bool, Fail> {
-    let setup = [
-        0x41, 0x20, 0, 0, 5, 0, 0, 0, 0, 0, 0, 0, 0, 0, 0, 0, 0, 0, 0, 0, 0x00, 0x0a, 0, 0, 0, 0,
-        0, 0,
-    ];
-    let end = [0xa1, 0x40, 0x50, 0, 0x20, 0, 0, 0];
-    let is_held = answers(drive, &queued(READ, 5, 95, 5), &HELD)?;
-    let is_told = completes_with(alloc, drive, 5, &setup, &end, 2560)?;
-    Ok(is_held && is_told)
+/// Whether each first command is answered as it should be.
+fn denies_the_first(alloc: Global) -> Result<bool, Fail> {
+    let mut denies = true;
+    for row in FIRST {
+        denies &= wrong_row(alloc, &[row])?.is_none();
+    }
+    Ok(denies)
 }
 
-/// DMA Setup: bit D, the tag and the count of bytes. Set Device Bits: bit I, Status, and SActive.
+/// The first of the lists, and of its rows, of which something else came.
+fn wrong_list(alloc: Global) -> Result<Option<(usize, usize)>, Fail> {
+    for (place, rows) in LISTS.iter().enumerate() {
+        if let Some(row) = wrong_row(alloc, rows)? {
+            return Ok(Some((place, row)));
+        }
+    }
+    Ok(None)
+}
+
+/// What a drive denies first.
 #[test]
-fn the_fises_of_a_read(rt: HostRuntime) -> Result<(), Fail> {
-    assert!(rt; on_drive(rt.alloc(), reads_by_fises)?);
+fn denies_the_first_command(rt: HostRuntime) -> Result<(), Fail> {
+    assert!(rt; denies_the_first(rt.alloc())?);
     Ok(())
 }
 
-/// A write of a sector under tag 31.
-fn writes_by_fises(alloc: Global, drive: &mut Drive) -> Result<bool, Fail> {
-    let setup = [
-        0x41, 0x00, 0, 0, 31, 0, 0, 0, 0, 0, 0, 0, 0, 0, 0, 0, 0, 0, 0, 0, 0x00, 0x02, 0, 0, 0, 0,
-        0, 0,
-    ];
-    let end = [0xa1, 0x40, 0x50, 0, 0, 0, 0, 0x80];
-    let is_held = answers(drive, &queued(WRITE, 31, 5, 1), &HELD)?;
-    let is_told = completes_with(alloc, drive, 31, &setup, &end, 0)?;
-    Ok(is_held && is_told)
-}
-
+/// The rules of the queue.
 #[test]
-fn the_fises_of_a_write(rt: HostRuntime) -> Result<(), Fail> {
-    assert!(rt; on_drive(rt.alloc(), writes_by_fises)?);
+fn keeps_the_rules_of_the_queue(rt: HostRuntime) -> Result<(), Fail> {
+    let wrong = wrong_list(rt.alloc())?;
+    assert!(rt; wrong.is_none(), "{wrong:?}");
     Ok(())
 }
 
-/// Whether a completion gives these bytes.
-fn gives(
-    alloc: Global,
-    drive: &mut Drive,
-    tag: u8,
-    byte: u8,
-    expected: &[u8],
-) -> Result<bool, Fail> {
-    let done = complete(alloc, drive, tag, byte)?;
-    Ok(done.bytes.as_slice() == expected)
-}
-
-/// A write and two reads over it, of which one is completed before it and one behind it.
-fn moves_late(alloc: Global, drive: &mut Drive) -> Result<bool, Fail> {
-    let is_written = answers(drive, &queued(WRITE, 0, 5, 1), &HELD)?;
-    let is_read = answers(drive, &queued(READ, 1, 5, 1), &HELD)?;
-    let is_before = gives(alloc, drive, 1, 0, &[0; 512])?;
-    let is_read_again = answers(drive, &queued(READ, 1, 5, 1), &HELD)?;
-    let is_done = gives(alloc, drive, 0, 0xaa, &[])?;
-    let is_behind = gives(alloc, drive, 1, 0, &[0xaa; 512])?;
-    Ok(is_written && is_read && is_before && is_read_again && is_done && is_behind)
-}
-
-/// A queued write moves its data as it is completed, and a read gives the bytes of its completion.
-#[test]
-fn data_moves_at_the_completion(rt: HostRuntime) -> Result<(), Fail> {
-    assert!(rt; on_drive(rt.alloc(), moves_late)?);
-    Ok(())
-}
-
-/// IDENTIFY DEVICE of a drive of 1,000 sectors: the words 48 (trusted computing), 75 and 76 (native command queuing, 32
-/// deep), 83, and 100 for the sectors; all others are 0.
-fn gives_its_identity(_alloc: Global, drive: &mut Drive) -> Result<bool, Fail> {
-    let accepted = accept(drive, &IDENTIFY)?;
+/// Whether IDENTIFY DEVICE of a drive of 1,000 sectors gives the words 48 (trusted computing), 75 and 76 (native command
+/// queuing, 32 deep), 83, and 100 for the sectors, and all others 0.
+fn identifies_itself(alloc: Global) -> Result<bool, Fail> {
+    let mut drive = drive(alloc)?;
     let mut expected = [0; 512];
     expected[96] = 0x01;
     expected[97] = 0x40;
@@ -470,12 +471,15 @@ fn gives_its_identity(_alloc: Global, drive: &mut Drive) -> Result<bool, Fail> {
     expected[167] = 0x64;
     expected[200] = 0xe8;
     expected[201] = 0x03;
-    let is_served = (accepted.status, accepted.error) == (0x50, 0x00);
-    Ok(is_served && accepted.bytes.as_slice() == expected.as_slice())
+    if payload_of(IDENTIFY) != 0 {
+        return Ok(false);
+    }
+    let accepted = drive.accept(IDENTIFY, &[])?;
+    Ok(accepted.bytes.as_slice() == expected.as_slice())
 }
 
 #[test]
-fn identifies_itself(rt: HostRuntime) -> Result<(), Fail> {
-    assert!(rt; on_drive(rt.alloc(), gives_its_identity)?);
+fn the_data_of_identify(rt: HostRuntime) -> Result<(), Fail> {
+    assert!(rt; identifies_itself(rt.alloc())?);
     Ok(())
 }

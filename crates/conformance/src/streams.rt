@@ -87,100 +87,93 @@ fn options(alloc: Global, sectors: &[u8]) -> Result<Options, Fail> {
     Ok(Options::parse(alloc, sectors, b"8", b"4f50414c4d534944")?)
 }
 
-/// A reader that fails at its first call, at its second one, and so on: the answers to what was read
-/// before are written, once.
-#[test]
-fn ends_at_each_read_that_fails(rt: HostRuntime) -> Result<(), Fail> {
-    let options = options(rt.alloc(), b"1000")?;
-    for (fails_at, end, written) in [
-        (1, Err(RunError::Read), b"".as_slice()),
-        (2, Err(RunError::Read), b"".as_slice()),
-        (3, Err(RunError::Read), SERVED),
-        (4, Err(RunError::Read), ALL),
-        (5, Ok(0), ALL),
-    ] {
-        let input = Client {
-            rest: SCRIPT,
-            calls: 0,
-            fails_at,
-        };
-        let mut output = Taker::new(rt.alloc(), 1000, 0);
-        assert_eq!(rt;
-            run_script(rt.alloc(), input, &mut output, &options),
-            end,
-            "at {fails_at}"
-        );
-        assert_eq!(rt; output.taken.as_slice(), written, "at {fails_at}");
+/// How a script ends: at which call the reader fails, at which call the writer, and how many bytes that takes at one; the
+/// end, what is written, and how many calls were made of the reader and of `write` and `flush`.
+#[derive(Clone, Copy)]
+struct Ending {
+    reader_fails: usize,
+    writer_fails: usize,
+    most: usize,
+    end: Result<u8, RunError>,
+    written: &'static [u8],
+    reads: usize,
+    writes: usize,
+}
+
+fn at_read(reader_fails: usize, written: &'static [u8], writes: usize) -> Ending {
+    Ending {
+        reader_fails,
+        writer_fails: 0,
+        most: 1000,
+        end: Err(RunError::Read),
+        written,
+        reads: reader_fails,
+        writes,
     }
-    Ok(())
 }
 
-/// A writer that fails at its first call, at its second one, and so on (each answer is a write and a
-/// flush): nothing is written once more, and no line is read behind it.
-#[test]
-fn ends_at_each_write_that_fails(rt: HostRuntime) -> Result<(), Fail> {
-    let options = options(rt.alloc(), b"1000")?;
-    for (fails_at, end, written, calls, reads) in [
-        (1, Err(RunError::Write), b"".as_slice(), 1, 2),
-        (2, Err(RunError::Write), SERVED, 2, 2),
-        (3, Err(RunError::Write), SERVED, 3, 3),
-        (4, Err(RunError::Write), ALL, 4, 3),
-        (5, Ok(0), ALL, 4, 4),
-    ] {
-        let mut input = Client {
-            rest: SCRIPT,
-            calls: 0,
-            fails_at: 0,
-        };
-        let mut output = Taker::new(rt.alloc(), 1000, fails_at);
-        assert_eq!(rt;
-            run_script(rt.alloc(), &mut input, &mut output, &options),
-            end,
-            "at {fails_at}"
-        );
-        assert_eq!(rt; output.taken.as_slice(), written, "at {fails_at}");
-        assert_eq!(rt;
-            (output.calls, input.calls),
-            (calls, reads),
-            "at {fails_at}"
-        );
+fn at_write(writer_fails: usize, most: usize, written: &'static [u8], reads: usize) -> Ending {
+    Ending {
+        reader_fails: 0,
+        writer_fails,
+        most,
+        end: Err(RunError::Write),
+        written,
+        reads,
+        writes: writer_fails,
     }
-    Ok(())
 }
 
-/// A writer of faults that fails, at a line whose command a failed queue aborts: the answers that were pending are
-/// written all the same, that of the aborted command among them.
-#[test]
-fn answers_before_a_fault_that_fails(rt: HostRuntime) -> Result<(), Fail> {
-    let options = options(rt.alloc(), b"1000")?;
-    let script = b"range 1 100 10 1 0 1 0\nread 7 5 95 5\nread 7 5 95 6\nread 7 5 0 1\nread 7 5 0 1\n";
-    let mut output = Taker::new(rt.alloc(), 1000, 0);
-    let mut faults = Taker::new(rt.alloc(), 1000, 1);
-    assert_eq!(rt;
-        run_script_with_faults(
-            rt.alloc(),
-            script.as_slice(),
-            &mut output,
-            &mut faults,
-            &options
-        ),
-        Err(RunError::Write)
-    );
-    assert_eq!(rt; output.taken.as_slice(), BEFORE_THE_FAULT);
-    Ok(())
+/// Where nothing fails each answer is a write and a flush.
+const WHOLE: Ending = Ending {
+    reader_fails: 0,
+    writer_fails: 0,
+    most: 1000,
+    end: Ok(0),
+    written: ALL,
+    reads: 4,
+    writes: 4,
+};
+
+/// Whether the script ends so.
+fn ends_so(alloc: Global, ending: &Ending) -> Result<bool, Fail> {
+    let options = options(alloc, b"1000")?;
+    let mut input = Client {
+        rest: SCRIPT,
+        calls: 0,
+        fails_at: ending.reader_fails,
+    };
+    let mut output = Taker::new(alloc, ending.most, ending.writer_fails);
+    let end = run_script(alloc, &mut input, &mut output, &options);
+    let is_end = end == ending.end && output.taken.as_slice() == ending.written;
+    Ok(is_end && input.calls == ending.reads && output.calls == ending.writes)
 }
 
-/// A writer that takes a byte at a call: what it took before it fails is not written once more.
+/// Whether the script ends so at each call: a reader that fails at its first call, at its second one, and so on: the answers
+/// to what was read before are written, once. A writer that does: nothing is written once more, and no line is read behind
+/// it; nor of an answer of which the writer took two bytes.
+fn end_so(alloc: Global) -> Result<bool, Fail> {
+    let mut end = true;
+    for ending in [
+        at_read(1, b"", 0),
+        at_read(2, b"", 0),
+        at_read(3, SERVED, 2),
+        at_read(4, ALL, 4),
+        at_write(1, 1000, b"", 2),
+        at_write(2, 1000, SERVED, 2),
+        at_write(3, 1000, SERVED, 3),
+        at_write(4, 1000, ALL, 3),
+        at_write(3, 1, b"ok", 2),
+        WHOLE,
+    ] {
+        end &= ends_so(alloc, &ending)?;
+    }
+    Ok(end)
+}
+
 #[test]
-fn ends_within_an_answer(rt: HostRuntime) -> Result<(), Fail> {
-    let options = options(rt.alloc(), b"1000")?;
-    let mut output = Taker::new(rt.alloc(), 1, 3);
-    assert_eq!(rt;
-        run_script(rt.alloc(), SCRIPT, &mut output, &options),
-        Err(RunError::Write)
-    );
-    assert_eq!(rt; output.taken.as_slice(), b"ok".as_slice());
-    assert_eq!(rt; output.calls, 3);
+fn ends_at_each_call_that_fails(rt: HostRuntime) -> Result<(), Fail> {
+    assert!(rt; end_so(rt.alloc())?);
     Ok(())
 }
 
@@ -198,60 +191,90 @@ fn thousand_lines(alloc: Global) -> Result<(Vec<u8>, Vec<u8>), AllocError> {
     Ok((script, answers))
 }
 
-/// No answer to a thousand lines is lost, whatever ends them and however they come.
+/// Whether all answers to a thousand lines are written, line by line, to a writer that takes seven bytes at a call.
+fn are_answered(alloc: Global, end: &[u8], status: u8) -> Result<bool, Fail> {
+    let options = options(alloc, b"1000")?;
+    let (mut script, answers) = thousand_lines(alloc)?;
+    script.extend_from_slice(end)?;
+    let mut output = Taker::new(alloc, 7, 0);
+    let input = Client {
+        rest: &script,
+        calls: 0,
+        fails_at: 0,
+    };
+    let told = run_script(alloc, input, &mut output, &options);
+    Ok(told == Ok(status) && output.taken.as_slice() == answers.as_slice())
+}
+
+/// Whether no answer is lost, whatever ends the lines. `scripts/a-thousand-lines.txt` has them as one stream.
+fn are_all_answered(alloc: Global) -> Result<bool, Fail> {
+    let behind = are_answered(alloc, b"", 0)?;
+    let expected = are_answered(alloc, b"expect no\n", 1)?;
+    Ok(behind && expected && are_answered(alloc, b"stop\n", 2)?)
+}
+
 #[test]
 fn answers_a_thousand_lines(rt: HostRuntime) -> Result<(), Fail> {
-    let options = options(rt.alloc(), b"1000")?;
-    for (end, status) in [
-        (b"".as_slice(), 0),
-        (b"expect no\n".as_slice(), 1),
-        (b"stop\n".as_slice(), 2),
-    ] {
-        let (mut script, answers) = thousand_lines(rt.alloc())?;
-        script.extend_from_slice(end)?;
-        let mut output = Taker::new(rt.alloc(), 1_000_000, 0);
-        assert_eq!(rt;
-            run_script(rt.alloc(), script.as_slice(), &mut output, &options),
-            Ok(status)
-        );
-        assert_eq!(rt;
-            output.taken.as_slice() == answers.as_slice(),
-            true,
-            "at {status}"
-        );
-        let input = Client {
-            rest: &script,
-            calls: 0,
-            fails_at: 0,
-        };
-        let mut output = Taker::new(rt.alloc(), 7, 0);
-        assert_eq!(rt;
-            run_script(rt.alloc(), input, &mut output, &options),
-            Ok(status)
-        );
-        assert_eq!(rt;
-            output.taken.as_slice() == answers.as_slice(),
-            true,
-            "at {status}"
-        );
-    }
+    assert!(rt; are_all_answered(rt.alloc())?);
     Ok(())
 }
 
-/// Long answers to the lines of one buffer are handed on one after the other: 3 and 9 bytes for each of
-/// 65,536 sectors.
+/// Whether long answers to the lines of one buffer are handed on one after the other: 3 and 9 bytes for each of 65,536
+/// sectors.
+fn are_handed_on(alloc: Global) -> Result<bool, Fail> {
+    let options = options(alloc, b"65536")?;
+    let script = b"read 1 0 0 0\nread 1 0 0 0\nread 1 0 0 0\nread 1 0 0 0\n".as_slice();
+    let mut output = Taker::new(alloc, 1_000_000, 0);
+    let end = run_script(alloc, script, &mut output, &options);
+    Ok(end == Ok(0) && output.taken.len() == 4 * 589_827 && output.largest == 589_827)
+}
+
 #[test]
 fn hands_on_long_answers(rt: HostRuntime) -> Result<(), Fail> {
-    let options = options(rt.alloc(), b"65536")?;
-    let script = b"read 1 0 0 0\nread 1 0 0 0\nread 1 0 0 0\nread 1 0 0 0\n".as_slice();
-    let mut output = Taker::new(rt.alloc(), 1_000_000, 0);
+    assert!(rt; are_handed_on(rt.alloc())?);
+    Ok(())
+}
+
+/// Whether an error has this text.
+fn is_text(alloc: Global, error: RunError, text: &str) -> Result<bool, AllocError> {
+    let told = format!(in alloc; "{error}")?;
+    Ok(told.as_str() == text)
+}
+
+/// Whether the sentences of ends that no run of the program comes to by itself are these.
+fn are_texts(alloc: Global) -> Result<bool, AllocError> {
+    let memory = is_text(alloc, RunError::Memory, "out of memory")?;
+    let read = is_text(alloc, RunError::Read, "the input could not be read")?;
+    let write = is_text(alloc, RunError::Write, "the output could not be written")?;
+    let limit = "the script has more than 4294967295 lines";
+    Ok(memory && read && write && is_text(alloc, RunError::ReadLimit, limit)?)
+}
+
+#[test]
+fn tells_why_a_script_ends(rt: HostRuntime) -> Result<(), Fail> {
+    assert!(rt; are_texts(rt.alloc())?);
+    Ok(())
+}
+
+/// A writer of faults that fails, at a line whose command a failed queue aborts: the answers that were pending are
+/// written all the same, that of the aborted command among them.
+#[test]
+fn answers_before_a_fault_that_fails(rt: HostRuntime) -> Result<(), Fail> {
+    let options = options(rt.alloc(), b"1000")?;
+    let script =
+        b"range 1 100 10 1 0 1 0\nread 7 5 95 5\nread 7 5 95 6\nread 7 5 0 1\nread 7 5 0 1\n";
+    let mut output = Taker::new(rt.alloc(), 1000, 0);
+    let mut faults = Taker::new(rt.alloc(), 1000, 1);
     assert_eq!(rt;
-        run_script(rt.alloc(), script, &mut output, &options),
-        Ok(0)
+        run_script_with_faults(
+            rt.alloc(),
+            script.as_slice(),
+            &mut output,
+            &mut faults,
+            &options
+        ),
+        Err(RunError::Write)
     );
-    assert_eq!(rt;
-        (output.taken.len(), output.largest),
-        (4 * 589_827, 589_827)
-    );
+    assert_eq!(rt; output.taken.as_slice(), BEFORE_THE_FAULT);
     Ok(())
 }
