@@ -8,7 +8,9 @@ use Rattle.history.proofs.KeptStoreOpenings.{factory-has-known}
 use Rattle.drive.specs.State.{Keeps}
 use Rattle.drive.proofs.drive.Drive.new.Goals as goal
 
-pub returns-clause-agrees : goal.returns-clause-agrees
-returns-clause-agrees c =
-    subst (λ (t : Contents). HasNoTries (origin_on t) → HasKnownRows (origin_on t) → Keeps c.in_ok-drive.drive (origin_on t) [])
-    c.in_ok-tables.ensures c.in_ok-drive.ensures (factory_law c.args.config) (factory-has-known c.args.config)
+pub returns : goal.returns
+returns c = record {
+  agrees =
+      subst (λ (t : Contents). HasNoTries (origin_on t) → HasKnownRows (origin_on t) → Keeps c.in_ok-drive.drive (origin_on t) [])
+      c.in_ok-tables.ensures c.in_ok-drive.ensures (factory_law c.args.config) (factory-has-known c.args.config);
+}
