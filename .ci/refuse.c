@@ -1,9 +1,12 @@
-/* A library to load before a program: the REFUSE_ATth allocation that the program itself asks for is refused, and the file
- * that REFUSE_TOLD names is made then. What other libraries ask for is not counted. */
+/* A library to load before a program: the REFUSE_ATth allocation that the program itself asks for is refused, and so is each
+ * thread from the REFUSE_THREADS_FROMth on; the file that REFUSE_TOLD names is made then. What other libraries ask for is not
+ * counted. */
 #define _GNU_SOURCE
+#include <dlfcn.h>
 #include <errno.h>
 #include <fcntl.h>
 #include <link.h>
+#include <pthread.h>
 #include <stdatomic.h>
 #include <stdint.h>
 #include <stdlib.h>
@@ -15,8 +18,8 @@ void *__libc_realloc(void *old, size_t size);
 void *__libc_memalign(size_t alignment, size_t size);
 
 static uintptr_t first, behind;
-static long refused_at;
-static atomic_long asked;
+static long refused_at, threads_refused_from;
+static atomic_long asked, threads_asked;
 
 /* The first object is the program. */
 static int note_program(struct dl_phdr_info *info, size_t size, void *unused)
@@ -37,19 +40,29 @@ __attribute__((constructor)) static void begin(void)
 {
     const char *at = getenv("REFUSE_AT");
     refused_at = at ? atol(at) : 0;
+    const char *from = getenv("REFUSE_THREADS_FROM");
+    threads_refused_from = from ? atol(from) : 0;
     dl_iterate_phdr(note_program, NULL);
 }
 
-static int is_refused(const void *caller)
+static int is_own(const void *caller)
 {
-    if ((uintptr_t)caller < first || (uintptr_t)caller >= behind)
-        return 0;
-    if (atomic_fetch_add(&asked, 1) + 1 != refused_at)
-        return 0;
+    return (uintptr_t)caller >= first && (uintptr_t)caller < behind;
+}
+
+static void tell(void)
+{
     const char *told = getenv("REFUSE_TOLD");
     int file = told ? open(told, O_CREAT | O_WRONLY, 0600) : -1;
     if (file >= 0)
         close(file);
+}
+
+static int is_refused(const void *caller)
+{
+    if (!is_own(caller) || atomic_fetch_add(&asked, 1) + 1 != refused_at)
+        return 0;
+    tell();
     errno = ENOMEM;
     return 1;
 }
@@ -83,4 +96,15 @@ int posix_memalign(void **to, size_t alignment, size_t size)
         return ENOMEM;
     *to = got;
     return 0;
+}
+
+int pthread_create(pthread_t *thread, const pthread_attr_t *attributes, void *(*start)(void *), void *argument)
+{
+    int (*real)(pthread_t *, const pthread_attr_t *, void *(*)(void *), void *) = dlsym(RTLD_NEXT, "pthread_create");
+    if (is_own(__builtin_return_address(0)) && threads_refused_from
+        && atomic_fetch_add(&threads_asked, 1) + 1 >= threads_refused_from) {
+        tell();
+        return EAGAIN;
+    }
+    return real(thread, attributes, start, argument);
 }

@@ -2,6 +2,7 @@
 #![tactic(auto)]
 
 mod command_line;
+mod error;
 mod program;
 
 use crate::program::ends;

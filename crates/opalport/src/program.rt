@@ -5,8 +5,9 @@ ghost use Rattle.clap.specs.Words.{kind_of};
 ghost use Rattle.opalport.specs.Program.{Told, RunEnds, Level0Ends, ThreadsEnd, TokensEnd, Ends};
 
 use crate::command_line::{DriveTexts, LoadTexts, Request, request_of};
+use crate::error::ProgramError;
 use clap::error::ErrorKind;
-use port_threads::{Load, run_load};
+use port_threads::{Load, LoadError, run_load};
 use std::alloc::Global;
 use std::io::{Read, Write};
 use std::sync::Wait;
@@ -77,7 +78,7 @@ fn threads<R: Threads + Wait + Sync, W: Write, E: Write>(
     load: &LoadTexts<'_>,
     output: &mut W,
     faults: &mut E,
-) -> Result<u8, RunError>
+) -> Result<u8, LoadError>
     ensures most { IfOk result (λ status. status ≤ 2) }
     ensures ends { IfOk result (λ status. ThreadsEnd load.now.clients.now load.now.rounds.now
         status (W.contents output.old) (W.contents output.new)) }
@@ -85,7 +86,7 @@ fn threads<R: Threads + Wait + Sync, W: Write, E: Write>(
     match Load::parse(load.clients.as_bytes(), load.rounds.as_bytes()) {
         Ok(load) => run_load(rt, alloc, load.blank(), output, &load),
         Err(fault) => {
-            writeln!(faults, "error: {fault}").map_err(|_| RunError::Write)?;
+            writeln!(faults, "error: {fault}").map_err(|_| LoadError::Write)?;
             Ok(2)
         }
     }
@@ -137,7 +138,7 @@ fn tell<W: Write, E: Write>(
 ///
 /// # Errors
 ///
-/// An allocation was refused, or the reader or a writer failed.
+/// An allocation was refused, the reader or a writer failed, or no thread could be started.
 pub fn ends<T: Threads + Wait + Sync, R: Read + Drop, W: Write, E: Write>(
     rt: &T,
     alloc: Global,
@@ -145,17 +146,17 @@ pub fn ends<T: Threads + Wait + Sync, R: Read + Drop, W: Write, E: Write>(
     input: R,
     output: &mut W,
     faults: &mut E,
-) -> Result<u8, RunError>
+) -> Result<u8, ProgramError>
     ensures most { IfOk result (λ status. status ≤ 2) }
     ensures ends { IfOk result (λ status. Ends (map string_bytes words.now) (R.remaining input)
         status (W.contents output.old) (W.contents output.new)) }
 {
     match request_of(alloc, words) {
-        Ok(Some(Request::Run(drive))) => run(alloc, &drive, input, output, faults),
-        Ok(Some(Request::Level0(drive))) => level0(alloc, &drive, output, faults),
-        Ok(Some(Request::Threads(load))) => threads(rt, alloc, &load, output, faults),
-        Ok(Some(Request::Tokens(hex))) => tokens(alloc, hex, output, faults),
+        Ok(Some(Request::Run(drive))) => Ok(run(alloc, &drive, input, output, faults)?),
+        Ok(Some(Request::Level0(drive))) => Ok(level0(alloc, &drive, output, faults)?),
+        Ok(Some(Request::Threads(load))) => Ok(threads(rt, alloc, &load, output, faults)?),
+        Ok(Some(Request::Tokens(hex))) => Ok(tokens(alloc, hex, output, faults)?),
         Ok(None) => Ok(2),
-        Err(error) => tell(&error, output, faults),
+        Err(error) => Ok(tell(&error, output, faults)?),
     }
 }

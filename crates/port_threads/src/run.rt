@@ -2,11 +2,12 @@
 
 ghost use Rattle.std.specs.Prelude.{◌≡◌, ◌+◌, ◌*◌, ◌≤◌, ◌<◌, ℕ, map, vec_len, slice_index_or, OnOk, IfOk, IfErr, ◌⊎◌};
 ghost use Rattle.locked_port.specs.Counts.{Stands};
-ghost use Rattle.tool.specs.declared.ending.RunError.{RunError};
+ghost use Rattle.port_threads.specs.declared.error.LoadError.{LoadError};
 ghost use Rattle.port_threads.specs.Loads.{default_clients, default_rounds};
 ghost use Rattle.port_threads.specs.Rounds.{steps_of_round, Made, AreOf, rounds_of, receipts_of};
 ghost use Rattle.port_threads.specs.Works.{IsTold, Ran, is_right};
 
+use crate::error::LoadError;
 use crate::facts::{Facts, facts_text};
 use crate::load::Load;
 use crate::work::{Work, make_rounds};
@@ -20,8 +21,7 @@ use std::sync::Wait;
 use std::sync::atomic::{AtomicBool, Ordering};
 use std::sync::ledger::Blank;
 use std::thread;
-use std::thread::{Threads, join};
-use tool::RunError;
+use std::thread::Threads;
 
 /// The engine does three steps for a transfer: Issue, Accept and Complete; a round has two transfers.
 const ENGINE_STEPS: u64 = 6;
@@ -51,6 +51,14 @@ impl Gate for WhileServed {
             Pick::Do(0)
         }
     }
+}
+
+/// What came of the engine, and what each client did.
+#[derive(Drop)]
+struct Served<L: PortName> {
+    left: Result<u64, PortError>,
+    engine: Pass<L>,
+    works: Result<Vec<Work<L>>, AllocError>,
 }
 
 /// What all clients did.
@@ -112,16 +120,16 @@ fn gather<L: PortName>(alloc: Global, works: Vec<Work<L>>) -> Result<Works<L>, A
 }
 
 /// The default drive behind a port: 1,000 sectors, a shadow of 8, and the MSID of the command line's default.
-fn default_port(alloc: Global) -> Result<Port, RunError>
+fn default_port(alloc: Global) -> Result<Port, LoadError>
     ensures stands { IfOk result (λ port. Stands port 0) }
-    ensures memory { IfErr result (λ error. error ≡ RunError.Memory) }
+    ensures memory { IfErr result (λ error. error ≡ LoadError.Memory) }
 {
     let config = DriveConfig::new(1_000, 8, b"OPALMSID").unwrap();
     let Ok(drive) = Drive::new(alloc, config) else {
-        return Err(RunError::Memory);
+        return Err(LoadError::Memory);
     };
     let Ok(port) = Port::new(alloc, drive) else {
-        return Err(RunError::Memory);
+        return Err(LoadError::Memory);
     };
     Ok(port)
 }
@@ -150,19 +158,54 @@ fn run_clients<L: PortName + Send + Sync, R: Threads + Wait + Sync>(
     works
 }
 
-/// Runs the engine. No engine comes behind it, so no client waits for one then.
+/// Runs the engine, and gives its pass back. No engine comes behind it, so no client waits for one then.
 fn serve<L: PortName, R: Wait>(
     rt: &R,
     port: &LockedPort<L>,
-    engine: &mut Pass<L>,
+    mut engine: Pass<L>,
     gate: &WhileServed,
     turns: u64,
-) -> Result<u64, PortError>
-    ensures { engine.new ≡ engine.old }
-{
-    let left = port.engine(rt, engine, gate, turns);
+) -> (Result<u64, PortError>, Pass<L>) {
+    let left = port.engine(rt, &mut engine, gate, turns);
     port.give_up(rt);
-    left
+    (left, engine)
+}
+
+/// Runs the engine in a thread of its own, and all clients beside it. Where no thread is started for the engine no client
+/// is begun, since it would wait for an answer that nobody gives.
+fn run_beside<L: PortName + Send + Sync, R: Threads + Wait + Sync>(
+    rt: &R,
+    alloc: Global,
+    port: &LockedPort<L>,
+    engine: Pass<L>,
+    clients: Vec<Pass<L>>,
+    turns: u64,
+    rounds: u32,
+) -> Result<Served<L>, LoadError>
+    ensures made { IfOk result (λ served. IfOk served.works
+        (λ works. (i : ℕ) (d : _) (p : _) → i < vec_len works
+        → Made (slice_index_or clients.items i p).client rounds
+        (slice_index_or works.items i d).rounds (slice_index_or works.items i d).receipts.items)) }
+    ensures clients { IfOk result (λ served. IfOk served.works
+        (λ works. vec_len works ≡ vec_len clients)) }
+    ensures errors { IfErr result (λ error. error ≡ LoadError.Thread) }
+{
+    let gate = WhileServed::new();
+    let gate = &gate;
+    thread::scope(thread::scope_env(), rt, |scope| {
+        match scope.spawn(move || serve(rt, port, engine, gate, turns)) {
+            Ok(serving) => {
+                let works = run_clients(rt, port, alloc, gate, clients, rounds);
+                let (left, engine) = serving.join(rt);
+                Ok(Served {
+                    left,
+                    engine,
+                    works,
+                })
+            }
+            Err(_) => Err(LoadError::Thread),
+        }
+    })
 }
 
 /// Runs the engine and all clients at once.
@@ -172,25 +215,24 @@ fn run_all<L: PortName + Send + Sync, R: Threads + Wait + Sync>(
     port: &LockedPort<L>,
     mut passes: Vec<Pass<L>>,
     load: &Load,
-) -> Result<Works<L>, RunError>
+) -> Result<Works<L>, LoadError>
     ensures made { IfOk result (λ all. AreOf load.now.rounds passes.items all.rounds
         all.receipts.items) }
     ensures passes { IfOk result (λ all. vec_len all.passes ≡ vec_len passes) }
-    ensures memory { IfErr result (λ error. error ≡ RunError.Memory) }
+    ensures errors { IfErr result
+        (λ error. (error ≡ LoadError.Memory) ⊎ (error ≡ LoadError.Thread)) }
 {
-    let Some(mut engine) = passes.pop() else {
-        return Err(RunError::Memory);
+    let Some(engine) = passes.pop() else {
+        return Err(LoadError::Memory);
     };
-    let rounds = load.rounds;
-    let turns = ENGINE_STEPS * u64::from(load.clients) * u64::from(rounds);
-    let gate = WhileServed::new();
-    let (left, works) = join(
-        rt,
-        || serve(rt, port, &mut engine, &gate, turns),
-        || run_clients(rt, port, alloc, &gate, passes, rounds),
-    );
+    let turns = ENGINE_STEPS * u64::from(load.clients) * u64::from(load.rounds);
+    let Served {
+        left,
+        engine,
+        works,
+    } = run_beside(rt, alloc, port, engine, passes, turns, load.rounds)?;
     if left.is_err() {
-        return Err(RunError::Memory);
+        return Err(LoadError::Memory);
     }
     let mut works = gather(alloc, works?)?;
     works.add_engine(engine)?;
@@ -203,17 +245,18 @@ fn facts_of<L: PortName + Send + Sync, R: Threads + Wait + Sync>(
     alloc: Global,
     blank: Blank,
     load: &Load,
-) -> Result<Facts, RunError>
+) -> Result<Facts, LoadError>
     requires name { blank.name ≡ L.name }
     requires parts { (blank.parts ≡ L.parts) × (blank.parts ≡ load.now.clients + 1)
         × (L.passes ≡ L.parts) }
     ensures told { IfOk result (λ facts. IsTold load.now.clients load.now.rounds facts) }
-    ensures memory { IfErr result (λ error. error ≡ RunError.Memory) }
+    ensures errors { IfErr result
+        (λ error. (error ≡ LoadError.Memory) ⊎ (error ≡ LoadError.Thread)) }
 {
     let port = default_port(alloc)?;
     // nothing but memory is refused here
     let Ok((shared, passes)) = LockedPort::<L>::new(alloc, blank, port, load.clients) else {
-        return Err(RunError::Memory);
+        return Err(LoadError::Memory);
     };
     let Works {
         passes,
@@ -222,7 +265,7 @@ fn facts_of<L: PortName + Send + Sync, R: Threads + Wait + Sync>(
     } = run_all(rt, alloc, &shared, passes, load)?;
     // no pass is missing
     let Ok(closed) = shared.close(passes) else {
-        return Err(RunError::Memory);
+        return Err(LoadError::Memory);
     };
     Ok(Facts::of(&closed, rounds, &receipts))
 }
@@ -242,27 +285,28 @@ fn is_right(load: &Load, facts: &Facts) -> bool
 ///
 /// # Errors
 ///
-/// Want of memory, also of a client or of the engine; a call of the writer that fails. Where the system starts no
-/// thread the engine and the clients run one after the other, and the call may never return.
+/// Want of memory, also of a client or of the engine; a call of the writer that fails; a system that starts no thread for
+/// the engine. Clients for which it starts none run one after the other.
 pub fn run_load<R: Threads + Wait + Sync, W: Write>(
     rt: &R,
     alloc: Global,
     blank: Blank,
     output: &mut W,
     load: &Load,
-) -> Result<u8, RunError>
+) -> Result<u8, LoadError>
     requires { blank.parts ≡ load.now.clients + 1 }
     ensures ran { IfOk result (λ status.
         Ran load.now.clients load.now.rounds status (W.contents output.old)
         (W.contents output.new)) }
-    ensures errors { IfErr result (λ error. (error ≡ RunError.Memory) ⊎ (error ≡ RunError.Write)) }
+    ensures errors { IfErr result (λ error. (error ≡ LoadError.Memory)
+        ⊎ (error ≡ LoadError.Write) ⊎ (error ≡ LoadError.Thread)) }
 {
     let facts = facts_of::<Brand, R>(rt, alloc, blank, load)?;
     let text = facts_text(alloc, &facts)?;
     output
         .write_all(text.as_bytes())
-        .map_err(|_| RunError::Write)?;
-    output.flush().map_err(|_| RunError::Write)?;
+        .map_err(|_| LoadError::Write)?;
+    output.flush().map_err(|_| LoadError::Write)?;
     Ok(u8::from(!is_right(load, &facts)))
 }
 
@@ -276,11 +320,12 @@ pub fn run_threads<R: Threads + Wait + Sync, W: Write>(
     alloc: Global,
     blank: Blank,
     output: &mut W,
-) -> Result<u8, RunError>
+) -> Result<u8, LoadError>
     requires { blank.parts ≡ default_clients + 1 }
     ensures ran { IfOk result (λ status.
         Ran default_clients default_rounds status (W.contents output.old) (W.contents output.new)) }
-    ensures errors { IfErr result (λ error. (error ≡ RunError.Memory) ⊎ (error ≡ RunError.Write)) }
+    ensures errors { IfErr result (λ error. (error ≡ LoadError.Memory)
+        ⊎ (error ≡ LoadError.Write) ⊎ (error ≡ LoadError.Thread)) }
 {
     let status = run_load(rt, alloc, blank, output, &Load::usual())?;
     Ok(status)
