@@ -1,13 +1,14 @@
 //! Why a sweep ends before its end.
 
+use port::PortError;
 use std::alloc::{AllocError, AllocFailed};
 use std::io;
 use thiserror::Error;
 
 /// Why a sweep ends before its end.
-#[derive(Clone, Copy, Debug, PartialEq, Eq, Error)]
+#[derive(Clone, Copy, Debug, Error)]
 pub enum SweepError {
-    #[error("usage: port_sweeps [refused [ALLOCATIONS]] < LISTS")]
+    #[error("usage: port_sweeps [refused [ALLOCATIONS]] < LISTS, or port_sweeps full")]
     Usage,
     /// The line with this number is none of a list.
     #[error("line {0}: no line of a list")]
@@ -18,6 +19,9 @@ pub enum SweepError {
     /// The input could not be read.
     #[error("the input cannot be read")]
     Read,
+    /// A step of a probe was refused.
+    #[error("a step of a probe is refused")]
+    Probe,
     /// The output could not be written.
     #[error("the output cannot be written")]
     Write,
@@ -27,6 +31,14 @@ pub enum SweepError {
 }
 
 impl SweepError {
+    /// Why a port refuses a step of a probe.
+    pub fn of_port(error: PortError) -> SweepError {
+        match error {
+            PortError::OutOfMemory => SweepError::OutOfMemory,
+            _ => SweepError::Probe,
+        }
+    }
+
     /// Why the input cannot be read.
     pub fn reading(error: io::Error) -> SweepError {
         match error.kind() {

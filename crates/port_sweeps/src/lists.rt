@@ -1,5 +1,6 @@
 //! The lists of steps that the input has.
 
+ghost use Rattle.std.specs.Prelude.{◌≤◌, ◌<◌, length};
 ghost use Rattle.script_lines.specs.PortLines.{FitsPort};
 
 use crate::error::SweepError;
@@ -14,8 +15,12 @@ use tool::request_of;
 /// The security protocol whose sends go to ComIDs.
 pub const COM_ID_PROTOCOL: u8 = 1;
 
-/// What is sent in an old session: EndTransaction, with status 0.
-const TOKENS: &[u8] = b"\xfc\x00";
+/// What is sent in an old session: EndTransaction with status 0 and with status 1, and EndSession.
+const COMMIT: &[u8] = b"\xfc\x00";
+
+const ABORT: &[u8] = b"\xfc\x01";
+
+const END: &[u8] = b"\xfa";
 
 /// How many bytes a block of a send has.
 const BLOCK: usize = 512;
@@ -28,8 +33,11 @@ const HEAD: &str = "list ";
 pub struct OldSession {
     pub com_id: ComId,
     pub session: Session,
-    /// EndTransaction in that session.
-    pub send: Request,
+    /// EndTransaction in that session: a commit, and an abort.
+    pub commit: Request,
+    pub abort: Request,
+    /// EndSession in that session.
+    pub end: Request,
 }
 
 /// A list of steps, and the ranges of the drive that they are for.
@@ -39,6 +47,8 @@ pub struct List {
     pub rows: Vec<RangeRow>,
     pub steps: Vec<Step>,
     pub sessions: Vec<OldSession>,
+    /// The steps of the sends to the session manager.
+    starts: Vec<usize>,
 }
 
 /// The kind of a reset.
@@ -90,7 +100,7 @@ fn step_of(alloc: Global, line: &PortLine<'_>) -> Result<Option<Step>, AllocErro
     }
 }
 
-/// The ComID and the session of a send, if a step puts one in a session.
+/// The ComID and the session of a send, if a step puts one that is a frame.
 fn session_of(step: &Step) -> Option<(ComId, Session)> {
     let Step::Put {
         request: Request::Send { com_id, bytes, .. },
@@ -100,25 +110,39 @@ fn session_of(step: &Step) -> Option<(ComId, Session)> {
         return None;
     };
     let opened = open(bytes.as_slice()).ok()?;
-    if opened.session.tsn == 0 {
-        return None;
-    }
     Some((*com_id, opened.session))
 }
 
-/// EndTransaction in a session.
-fn old_session(alloc: Global, com_id: ComId, session: Session) -> Result<OldSession, AllocError> {
-    let mut bytes = frame(alloc, com_id, session, TOKENS)?;
+/// A send of tokens in a session.
+fn send(
+    alloc: Global,
+    com_id: ComId,
+    session: Session,
+    tokens: &[u8],
+) -> Result<Request, AllocError>
+    requires some { 0 < length tokens.now }
+    requires few { length tokens.now ≤ 2 }
+{
+    let mut bytes = frame(alloc, com_id, session, tokens)?;
     bytes.resize(BLOCK, 0)?;
-    let send = Request::Send {
+    Ok(Request::Send {
         protocol: COM_ID_PROTOCOL,
         com_id,
         bytes: Bytes::from_vec(bytes),
-    };
+    })
+}
+
+/// What is sent in a session that a list leaves.
+fn old_session(alloc: Global, com_id: ComId, session: Session) -> Result<OldSession, AllocError> {
+    let commit = send(alloc, com_id, session, COMMIT)?;
+    let abort = send(alloc, com_id, session, ABORT)?;
+    let end = send(alloc, com_id, session, END)?;
     Ok(OldSession {
         com_id,
         session,
-        send,
+        commit,
+        abort,
+        end,
     })
 }
 
@@ -130,7 +154,16 @@ impl List {
             rows: Vec::new(alloc),
             steps: Vec::new(alloc),
             sessions: Vec::new(alloc),
+            starts: Vec::new(alloc),
         })
+    }
+
+    /// The first send to the session manager, if there is one: a StartSession.
+    pub fn start(&self) -> Option<&Request> {
+        match self.steps.get(*self.starts.first()?)? {
+            Step::Put { request, .. } => Some(request),
+            _ => None,
+        }
     }
 
     /// Whether a session is among those of the list.
@@ -140,11 +173,14 @@ impl List {
             .any(|old| old.com_id == com_id && old.session == session)
     }
 
-    /// Adds the session in which a step sends, if it is a new one.
+    /// Notes in which session a step sends, if it is a new one, or that it sends to the session manager.
     fn note_session(&mut self, alloc: Global, step: &Step) -> Result<(), AllocError> {
-        if let Some((com_id, session)) = session_of(step)
-            && !self.has_session(com_id, session)
-        {
+        let Some((com_id, session)) = session_of(step) else {
+            return Ok(());
+        };
+        if session.tsn == 0 {
+            self.starts.push(self.steps.len())?;
+        } else if !self.has_session(com_id, session) {
             self.sessions.push(old_session(alloc, com_id, session)?)?;
         }
         Ok(())

@@ -3,6 +3,7 @@
 #![tactic(auto)]
 
 mod error;
+mod full;
 mod lists;
 mod ports;
 mod probes;
@@ -13,6 +14,7 @@ mod summary;
 mod texts;
 
 use crate::error::SweepError;
+use crate::full::ends_all_calls;
 use crate::lists::{List, lists_in};
 use crate::refused::{spare, whole_text};
 use crate::resets::sweep_resets;
@@ -22,14 +24,18 @@ use std::alloc::Global;
 use std::io;
 use std::io::Write;
 use std::process::ExitCode;
+use std::sync::Wait;
+use std::thread::Threads;
 
 /// What the words of the command line ask for.
-#[derive(Clone, Copy, Debug, PartialEq, Eq)]
+#[derive(Clone, Copy)]
 enum Mode {
     /// A reset at each place.
     Resets,
     /// The steps alone, after so many allocations of one byte.
     Refused { spare: u64 },
+    /// A history that has no room left.
+    Full,
 }
 
 /// How many allocations a run makes at most before its steps.
@@ -39,6 +45,7 @@ const MOST_SPARE: u64 = 1_000_000;
 fn mode_of(words: &[String]) -> Option<Mode> {
     match words {
         [_] => Some(Mode::Resets),
+        [_, word] if word.as_str() == "full" => Some(Mode::Full),
         [_, word] if word.as_str() == "refused" => Some(Mode::Refused { spare: 0 }),
         [_, word, number] if word.as_str() == "refused" => {
             let spare = number_up_to(MOST_SPARE, number.as_bytes())?;
@@ -85,19 +92,32 @@ fn play_all(rt: &HostRuntime, allocations: u64) -> Result<u8, SweepError> {
     Ok(0)
 }
 
+/// Fills a history, and tells what came of it. The status is 1 where a call did not end so.
+fn fill_history<T: Threads + Wait + Sync>(rt: &HostRuntime, threads: &T) -> Result<u8, SweepError> {
+    let ends = ends_all_calls(threads, rt.alloc())?;
+    let (text, status) = if ends {
+        ("each call ends with HistoryFull", 0)
+    } else {
+        ("a call does not end with HistoryFull", 1)
+    };
+    println!(rt; "{text}").map_err(SweepError::writing)?;
+    Ok(status)
+}
+
 /// Does what the words of the command line ask for, and gives the status.
-fn status(rt: &HostRuntime) -> Result<u8, SweepError> {
+fn status<T: Threads + Wait + Sync>(rt: &HostRuntime, threads: &T) -> Result<u8, SweepError> {
     let words: Vec<String> = std::env::args(rt)
         .map_err(SweepError::reading)?
         .collect(rt.alloc())?;
     match mode_of(&words).ok_or(SweepError::Usage)? {
         Mode::Resets => sweep_all(rt),
         Mode::Refused { spare } => play_all(rt, spare),
+        Mode::Full => fill_history(rt, threads),
     }
 }
 
 fn main(rt: HostRuntime) -> ExitCode {
-    let status = match status(&rt) {
+    let status = match status(&rt, &rt) {
         Ok(status) => status,
         Err(error) => {
             let _ = eprintln!(rt; "error: {error}");

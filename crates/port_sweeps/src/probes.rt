@@ -2,6 +2,7 @@
 
 use crate::lists::{COM_ID_PROTOCOL, OldSession};
 use crate::seen::{bytes_of, is_done, is_reset, stopped};
+use basics::Bytes;
 use compacket::{ComId, empty_header};
 use drive::RangeRow;
 use fis::{SLOT_COUNT, Tag};
@@ -10,6 +11,12 @@ use std::alloc::{AllocError, Global};
 
 /// The client that asks.
 pub const CLIENT: u32 = 77;
+
+/// The byte that it writes.
+const PROBE: u8 = 0xee;
+
+/// Where the tokens of a response begin, behind their number.
+const TOKENS: usize = 56;
 
 /// The slot in which it asks, where another is free.
 fn free_slot(port: &Port) -> Tag {
@@ -32,23 +39,28 @@ fn ask(port: &mut Port, request: &Request) -> Result<Answer, PortError> {
     Ok(answer)
 }
 
-/// Whether no response waits on a ComID.
-fn has_no_response(port: &mut Port, com_id: ComId) -> Result<bool, PortError> {
-    let answer = ask(
+/// What waits on a ComID, in a block.
+fn received(port: &mut Port, com_id: ComId) -> Result<Answer, PortError> {
+    ask(
         port,
         &Request::Receive {
             protocol: COM_ID_PROTOCOL,
             com_id,
             blocks: 1,
         },
-    )?;
+    )
+}
+
+/// Whether no response waits on a ComID.
+fn has_no_response(port: &mut Port, com_id: ComId) -> Result<bool, PortError> {
+    let answer = received(port, com_id)?;
     Ok(bytes_of(&answer).starts_with(&empty_header(com_id)))
 }
 
 /// Whether no response waits for a session, and a send in it leaves none.
 fn is_over(port: &mut Port, old: &OldSession) -> Result<bool, PortError> {
     let before = has_no_response(port, old.com_id)?;
-    let sent = ask(port, &old.send)?;
+    let sent = ask(port, &old.commit)?;
     let after = has_no_response(port, old.com_id)?;
     Ok(before && is_done(&sent) && after)
 }
@@ -151,28 +163,65 @@ pub fn are_answered(
 }
 
 /// Whether the first sector of a range is read.
-fn is_read(port: &mut Port, row: &RangeRow) -> Result<bool, PortError> {
-    let answer = ask(
-        port,
-        &Request::ReadDma {
-            lba: row.start,
-            count: 1,
-        },
-    )?;
+fn is_read(port: &mut Port, lba: u64) -> Result<bool, PortError> {
+    let answer = ask(port, &Request::ReadDma { lba, count: 1 })?;
     Ok(is_done(&answer))
 }
 
-/// Of which ranges the first sector is read.
-pub fn reads(alloc: Global, port: &mut Port, rows: &[RangeRow]) -> Result<Vec<bool>, PortError> {
-    let mut reads = Vec::with_capacity(alloc, rows.len())?;
-    for row in rows {
-        let read = is_read(port, row)?;
-        pushed(&mut reads, read)?;
-    }
-    Ok(reads)
+/// Whether it is written.
+fn is_written(alloc: Global, port: &mut Port, lba: u64) -> Result<bool, PortError> {
+    let bytes = Bytes::from_vec([PROBE; 512].to_vec(alloc)?);
+    let answer = ask(port, &Request::WriteDma { lba, bytes })?;
+    Ok(is_done(&answer))
 }
 
-fn pushed(reads: &mut Vec<bool>, read: bool) -> Result<(), AllocError> {
-    reads.push(read)?;
+/// Of which ranges the first sector is read, and of which it is written.
+pub fn served(alloc: Global, port: &mut Port, rows: &[RangeRow]) -> Result<Vec<bool>, PortError> {
+    let mut served = Vec::new(alloc);
+    for row in rows {
+        let read = is_read(port, row.start)?;
+        let written = is_written(alloc, port, row.start)?;
+        pushed(&mut served, read)?;
+        pushed(&mut served, written)?;
+    }
+    Ok(served)
+}
+
+fn pushed(served: &mut Vec<bool>, is: bool) -> Result<(), AllocError> {
+    served.push(is)?;
+    Ok(())
+}
+
+/// The status of the response to a call, which ends with it: F1, F9, F0, the status, two numbers, F1.
+fn status_of(response: &[u8]) -> Option<u8> {
+    let size = usize::from(*response.get(TOKENS - 1)?);
+    response.get((TOKENS + size).saturating_sub(4)).copied()
+}
+
+/// Whether a StartSession is answered with status 0.
+pub fn opens(port: &mut Port, start: &Request) -> Result<bool, PortError> {
+    let Request::Send { com_id, .. } = start else {
+        return Ok(false);
+    };
+    ask(port, start)?;
+    let answer = received(port, *com_id)?;
+    Ok(status_of(bytes_of(&answer)) == Some(0))
+}
+
+/// Ends a session as a host does: it takes what waits, aborts the transaction and ends the session.
+fn end(port: &mut Port, old: &OldSession) -> Result<(), PortError> {
+    received(port, old.com_id)?;
+    ask(port, &old.abort)?;
+    received(port, old.com_id)?;
+    ask(port, &old.end)?;
+    received(port, old.com_id)?;
+    Ok(())
+}
+
+/// Ends each of these sessions.
+pub fn end_all(port: &mut Port, sessions: &[OldSession]) -> Result<(), PortError> {
+    for old in sessions {
+        end(port, old)?;
+    }
     Ok(())
 }

@@ -3,7 +3,7 @@
 use crate::error::SweepError;
 use crate::lists::List;
 use crate::ports::{go_on, new_port};
-use crate::probes::{CLIENT, are_answered, are_over, have_moved_nothing, reads};
+use crate::probes::{CLIENT, are_answered, are_over, end_all, have_moved_nothing, opens, served};
 use crate::seen::{count_stopped, is_idle, shows_a_reset, stages};
 use crate::summary::{Found, Summary, Wrong};
 use drive::ResetKind;
@@ -16,12 +16,14 @@ use std::alloc::Global;
 struct Sweep<'a> {
     alloc: Global,
     list: &'a List,
-    /// Of which ranges the first sector was read at the last place at which the port was idle.
-    reads: Vec<bool>,
+    /// Of which ranges the first sector was read, and written, at the last place at which the port was idle.
+    served: Vec<bool>,
+    /// Whether the list's StartSession opened a session there, where the open ones had ended.
+    opened: bool,
     summary: Summary,
 }
 
-/// Whether reads behind a reset are as before it: a power cycle may lock ranges, and no reset unlocks one.
+/// Whether reads and writes behind a reset are as before it: a power cycle may lock ranges, and no reset unlocks one.
 fn are_as_locked(kind: ResetKind, before: &[bool], after: &[bool]) -> bool {
     let mut are = before.len() == after.len();
     for i in 0..before.len().min(after.len()) {
@@ -50,10 +52,73 @@ impl Sweep<'_> {
         }
     }
 
-    /// Looks which ranges are read, where the port is idle.
+    /// Looks which ranges are read and written, where the port is idle.
     fn look(&mut self, twin: &mut Port) -> Result<(), PortError> {
         if is_idle(twin) {
-            self.reads = reads(self.alloc, twin, &self.list.rows)?;
+            self.served = served(self.alloc, twin, &self.list.rows)?;
+        }
+        Ok(())
+    }
+
+    /// Whether the list's StartSession opens a session on a port, once the open ones have ended.
+    fn opens_on(&self, port: &mut Port) -> Result<bool, PortError> {
+        let Some(start) = self.list.start() else {
+            return Ok(false);
+        };
+        end_all(port, &self.list.sessions)?;
+        opens(port, start)
+    }
+
+    /// Whether it does on a port that is idle.
+    fn opens_if_idle(&self, port: &mut Port) -> Result<Option<bool>, PortError> {
+        if !is_idle(port) {
+            return Ok(None);
+        }
+        Ok(Some(self.opens_on(port)?))
+    }
+
+    /// Whether it does on a port that is reset.
+    fn opens_behind(&self, port: &mut Port, kind: ResetKind) -> Result<bool, PortError> {
+        port.reset(CLIENT, kind)?;
+        self.opens_on(port)
+    }
+
+    /// Looks whether it does at a place without a reset, where the port is idle there.
+    fn look_at_start(&mut self, place: usize) -> Result<(), SweepError> {
+        let mut port = self.port_at(place)?;
+        match self.opens_if_idle(&mut port) {
+            Ok(opens) => {
+                self.opened = opens.unwrap_or(self.opened);
+                Ok(())
+            }
+            Err(error) => Err(SweepError::of_port(error)),
+        }
+    }
+
+    /// Whether it does behind a reset at a place.
+    fn opens_at(&self, place: usize, kind: ResetKind) -> Result<bool, SweepError> {
+        let mut port = self.port_at(place)?;
+        match self.opens_behind(&mut port, kind) {
+            Ok(opens) => Ok(opens),
+            Err(error) => Err(SweepError::of_port(error)),
+        }
+    }
+
+    /// Whether it does there as before: a power cycle may end a lockout.
+    fn opens_as_before(&self, place: usize, kind: ResetKind) -> Result<bool, SweepError> {
+        let opens = self.opens_at(place, kind)?;
+        match kind {
+            ResetKind::Power => Ok(opens || !self.opened),
+            ResetKind::Hardware => Ok(opens == self.opened),
+        }
+    }
+
+    /// Tries the list's StartSession behind a reset at a place.
+    fn try_start(&mut self, place: usize, kind: ResetKind) -> Result<(), SweepError> {
+        self.look_at_start(place)?;
+        if !self.opens_as_before(place, kind)? {
+            let wrong = Wrong::Opened;
+            self.summary.found.push(Found { place, kind, wrong })?;
         }
         Ok(())
     }
@@ -66,8 +131,8 @@ impl Sweep<'_> {
         kind: ResetKind,
     ) -> Result<bool, PortError> {
         self.look(twin)?;
-        let after = reads(self.alloc, port, &self.list.rows)?;
-        Ok(are_as_locked(kind, &self.reads, &after))
+        let after = served(self.alloc, port, &self.list.rows)?;
+        Ok(are_as_locked(kind, &self.served, &after))
     }
 
     /// The first thing that is wrong behind a reset. `twin` is not reset.
@@ -153,6 +218,12 @@ impl Sweep<'_> {
         let mut twin = self.port_at(place)?;
         self.try_on(&mut port, &mut twin, place, kind)
     }
+
+    /// Puts a reset at a place, and one before the list's StartSession there.
+    fn try_both(&mut self, place: usize, kind: ResetKind) -> Result<(), SweepError> {
+        self.try_reset(place, kind)?;
+        self.try_start(place, kind)
+    }
 }
 
 /// Puts a reset of each kind at each place of a list.
@@ -160,12 +231,13 @@ pub fn sweep_resets(alloc: Global, list: &List) -> Result<Summary, SweepError> {
     let mut sweep = Sweep {
         alloc,
         list,
-        reads: Vec::new(alloc),
+        served: Vec::new(alloc),
+        opened: false,
         summary: Summary::new(alloc),
     };
     for place in 0..=list.steps.len() {
-        sweep.try_reset(place, ResetKind::Power)?;
-        sweep.try_reset(place, ResetKind::Hardware)?;
+        sweep.try_both(place, ResetKind::Power)?;
+        sweep.try_both(place, ResetKind::Hardware)?;
     }
     Ok(sweep.summary)
 }

@@ -7,7 +7,7 @@ use std::alloc::{AllocError, Global};
 use thiserror::Error;
 
 /// What is wrong behind a reset.
-#[derive(Clone, Copy, Debug, PartialEq, Eq, Error)]
+#[derive(Clone, Copy, Debug, Error)]
 pub enum Wrong {
     #[error("the port does not show it")]
     Shown,
@@ -17,8 +17,10 @@ pub enum Wrong {
     Moved,
     #[error("a session of before is not over")]
     Session,
-    #[error("another range can be read")]
+    #[error("another range can be read or written")]
     Locked,
+    #[error("the StartSession of the list is answered otherwise")]
+    Opened,
     #[error("a step is refused: {0}")]
     Refused(PortError),
 }
@@ -49,7 +51,7 @@ impl Wrong {
 }
 
 /// A reset behind which something was wrong.
-#[derive(Clone, Copy, Debug, PartialEq, Eq)]
+#[derive(Clone, Copy)]
 pub struct Found {
     /// How many steps of the list were before it.
     pub place: usize,
