@@ -1,5 +1,5 @@
 //! Lists of steps on a port, by `play` and by `turn` (AHCI 1.3.1, 5.5 and 6.2; ACS-3, NCQ feature set). What is expected
-//! was worked out by hand. What scripts of a port can say stands in `scripts/`.
+//! was worked out by hand. What scripts of a port can say stands in `worked/`.
 
 use audit::line_bytes;
 use basics::Bytes;

@@ -206,7 +206,7 @@ fn are_answered(alloc: Global, end: &[u8], status: u8) -> Result<bool, Fail> {
     Ok(told == Ok(status) && output.taken.as_slice() == answers.as_slice())
 }
 
-/// Whether no answer is lost, whatever ends the lines. `scripts/a-thousand-lines.txt` has them as one stream.
+/// Whether no answer is lost, whatever ends the lines. `worked/a-thousand-lines.txt` has them as one stream.
 fn are_all_answered(alloc: Global) -> Result<bool, Fail> {
     let behind = are_answered(alloc, b"", 0)?;
     let expected = are_answered(alloc, b"expect no\n", 1)?;
