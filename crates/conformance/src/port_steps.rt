@@ -8,6 +8,7 @@ use drive::{Drive, DriveConfig, RangeRow, ResetKind};
 use fis::Tag;
 use port::{Answer, Port, ReplyBytes, Request, Step};
 use std::alloc::{AllocError, Global};
+use std::slice;
 use std::test::Fail;
 
 /// The ComID of a send and of a receive.
@@ -446,7 +447,8 @@ fn port(alloc: Global, rows: &[RangeRow]) -> Result<Port, Fail> {
 fn go(alloc: Global, port: &mut Port, next: Next) -> Result<bool, Fail> {
     match next {
         Next::Play(row) => {
-            port.play(&[step(alloc, row)?])?;
+            let step = step(alloc, row)?;
+            port.play(slice::from_ref(&step))?;
             Ok(true)
         }
         Next::Turn(choice) => Ok(port.turn(choice)?.is_some()),
