@@ -414,15 +414,20 @@ fn is_right(alloc: Global, drive: &mut Drive, row: Row) -> Result<bool, DriveErr
     }
 }
 
-/// The first row of a list, on a drive on which nothing was done, of which something else came.
-fn wrong_row(alloc: Global, rows: &[Row]) -> Result<Option<usize>, Fail> {
-    let mut drive = drive(alloc)?;
+/// The first row of a list of which something else came.
+fn other_row(alloc: Global, drive: &mut Drive, rows: &[Row]) -> Result<Option<usize>, Fail> {
     for (place, row) in rows.iter().enumerate() {
-        if !is_right(alloc, &mut drive, *row)? {
+        if !is_right(alloc, drive, *row)? {
             return Ok(Some(place));
         }
     }
     Ok(None)
+}
+
+/// The same on a drive on which nothing was done.
+fn wrong_row(alloc: Global, rows: &[Row]) -> Result<Option<usize>, Fail> {
+    let mut drive = drive(alloc)?;
+    other_row(alloc, &mut drive, rows)
 }
 
 /// Whether each first command is answered as it should be.
@@ -461,8 +466,7 @@ fn keeps_the_rules_of_the_queue(rt: HostRuntime) -> Result<(), Fail> {
 
 /// Whether IDENTIFY DEVICE of a drive of 1,000 sectors gives the words 48 (trusted computing), 75 and 76 (native command
 /// queuing, 32 deep), 83, and 100 for the sectors, and all others 0.
-fn identifies_itself(alloc: Global) -> Result<bool, Fail> {
-    let mut drive = drive(alloc)?;
+fn is_identity(drive: &mut Drive) -> Result<bool, Fail> {
     let mut expected = [0; 512];
     expected[96] = 0x01;
     expected[97] = 0x40;
@@ -476,6 +480,12 @@ fn identifies_itself(alloc: Global) -> Result<bool, Fail> {
     }
     let accepted = drive.accept(IDENTIFY, &[])?;
     Ok(accepted.bytes.as_slice() == expected.as_slice())
+}
+
+/// Whether a drive does on which nothing was done.
+fn identifies_itself(alloc: Global) -> Result<bool, Fail> {
+    let mut drive = drive(alloc)?;
+    is_identity(&mut drive)
 }
 
 #[test]
