@@ -9,7 +9,6 @@ use locked_port::{
 };
 use port::{Answer, EngineStep, Port, PortError, Request, Step};
 use std::alloc::Global;
-use std::process::Abort;
 use std::sync::Wait;
 use std::sync::ledger::Blank;
 use std::test::Fail;
@@ -104,50 +103,95 @@ pub(crate) fn has_all_receipts(told: Told) -> Result<bool, Fail> {
     Ok(check_receipts(closed.port.history(), &receipts))
 }
 
-/// Takes the port out of its lock with all passes, after a try that lacks the engine's: it gives all back.
-pub(crate) fn close<L: PortName, R: Abort>(
-    rt: &R,
-    alloc: Global,
-    port: LockedPort<L>,
-    clients: (Pass<L>, Pass<L>),
-    engine: Pass<L>,
-) -> Result<Closed, Fail>
+/// What the threads at a port bring back, before it is out of its lock: all passes, the receipts of both clients, and the
+/// turns that the engine had left.
+#[derive(Drop)]
+pub(crate) struct Worked<L: PortName> {
+    pub(crate) passes: Vec<Pass<L>>,
+    pub(crate) one: Vec<Receipt>,
+    pub(crate) two: Vec<Receipt>,
+    pub(crate) left: u64,
+}
+
+/// Takes the port out of its lock with all passes.
+pub(crate) fn close<L: PortName>(port: LockedPort<L>, worked: Worked<L>) -> Result<Told, Fail>
     requires { L.passes ≡ L.parts }
 {
-    let mut passes = Vec::new(alloc);
-    passes.push(clients.0)?;
-    passes.push(clients.1)?;
-    let Err((port, mut passes)) = port.close(passes) else {
-        panic!(rt; "a pass is missing")
-    };
-    assert_eq!(rt; passes.len(), 2);
-    passes.push(engine)?;
-    let Ok(closed) = port.close(passes) else {
-        panic!(rt; "all passes are there")
-    };
-    Ok(closed)
+    let Worked {
+        passes,
+        one,
+        two,
+        left,
+    } = worked;
+    match port.close(passes) {
+        Ok(closed) => Ok(Told {
+            closed,
+            one,
+            two,
+            left,
+        }),
+        Err(_) => Err("all passes are there".into()),
+    }
 }
 
 /// The passes of both clients and of the engine.
-pub(crate) fn deal<L: PortName, R: Abort>(
-    rt: &R,
+pub(crate) fn deal<L: PortName>(
     mut passes: Vec<Pass<L>>,
-) -> (Pass<L>, Pass<L>, Pass<L>) {
-    let Some(engine) = passes.pop() else {
-        panic!(rt; "no pass")
-    };
-    let Some(two) = passes.pop() else {
-        panic!(rt; "no pass")
-    };
-    let Some(one) = passes.pop() else {
-        panic!(rt; "no pass")
-    };
-    (one, two, engine)
+) -> Result<(Pass<L>, Pass<L>, Pass<L>), Fail> {
+    match (passes.pop(), passes.pop(), passes.pop()) {
+        (Some(engine), Some(two), Some(one)) => Ok((one, two, engine)),
+        _ => Err("three passes".into()),
+    }
 }
 
-/// Two clients at a port over a drive with these ranges, each of which does its requests one after the other, and an
-/// engine that does steps as a gate picks, for at most so many turns: each of the three in a thread of its own.
-pub(crate) fn run<L: PortName + Send + Sync, G: Gate + Sync, R: Threads + Wait + Abort + Sync>(
+/// These passes in one vector.
+pub(crate) fn gather<L: PortName>(
+    alloc: Global,
+    one: Pass<L>,
+    two: Pass<L>,
+    engine: Pass<L>,
+) -> Result<Vec<Pass<L>>, Fail> {
+    let mut passes = Vec::new(alloc);
+    passes.push(one)?;
+    passes.push(two)?;
+    passes.push(engine)?;
+    Ok(passes)
+}
+
+/// Two clients at a port, each of which does its requests one after the other, and an engine that does steps as a gate
+/// picks, for at most so many turns: each of the three in a thread of its own.
+fn work<L: PortName + Send + Sync, G: Gate + Sync, R: Threads + Wait + Sync>(
+    rt: &R,
+    alloc: Global,
+    port: &LockedPort<L>,
+    passes: Vec<Pass<L>>,
+    asked: (&[Request], &[Request]),
+    gate: &G,
+    turns: u64,
+) -> Result<Worked<L>, Fail> {
+    let (one, two, mut engine) = deal(passes)?;
+    let (first, second) = asked;
+    let (left, (one, two)) = join(
+        rt,
+        || port.engine(rt, &mut engine, gate, turns),
+        || {
+            join(
+                rt,
+                || ask_all(rt, alloc, port, one, first),
+                || ask_all(rt, alloc, port, two, second),
+            )
+        },
+    );
+    Ok(Worked {
+        passes: gather(alloc, one.0, two.0, engine)?,
+        one: one.1,
+        two: two.1,
+        left: left?,
+    })
+}
+
+/// The same at a new port over a drive with these ranges, which is out of its lock then.
+pub(crate) fn run<L: PortName + Send + Sync, G: Gate + Sync, R: Threads + Wait + Sync>(
     rt: &R,
     alloc: Global,
     blank: Blank,
@@ -160,26 +204,8 @@ pub(crate) fn run<L: PortName + Send + Sync, G: Gate + Sync, R: Threads + Wait +
     requires parts { (blank.parts ≡ L.parts) × (blank.parts ≡ 3) × (L.passes ≡ L.parts) }
 {
     let (shared, passes) = LockedPort::<L>::new(alloc, blank, port(alloc, rows)?, 2)?;
-    let (one, two, mut engine) = deal(rt, passes);
-    let (first, second) = asked;
-    let port = &shared;
-    let (left, (one, two)) = join(
-        rt,
-        || port.engine(rt, &mut engine, gate, turns),
-        || {
-            join(
-                rt,
-                || ask_all(rt, alloc, port, one, first),
-                || ask_all(rt, alloc, port, two, second),
-            )
-        },
-    );
-    let left = left?;
-    let closed = close(rt, alloc, shared, (one.0, two.0), engine)?;
-    Ok(Told {
-        closed,
-        one: one.1,
-        two: two.1,
-        left,
-    })
+    match work(rt, alloc, &shared, passes, asked, gate, turns) {
+        Ok(worked) => close(shared, worked),
+        Err(error) => Err(error),
+    }
 }

@@ -2,14 +2,13 @@
 
 ghost use Rattle.std.specs.Prelude.{◌≡◌};
 
-use crate::clients::{Told, close, deal, has_all_receipts, port, put_receipt};
+use crate::clients::{Told, Worked, close, deal, gather, has_all_receipts, port, put_receipt};
 use basics::Bytes;
 use fis::Tag;
 use locked_port::{Gate, LockedPort, Pass, Pick, PortName, Receipt, Ticket};
 use port::{Answer, EngineStep, Entry, PortError, Request, Step};
 use std::alloc::{AllocError, Global};
 use std::marker::Brand;
-use std::process::Abort;
 use std::sync::Wait;
 use std::sync::atomic::{AtomicBool, Ordering};
 use std::sync::ledger::Blank;
@@ -209,8 +208,48 @@ struct Crossed {
 }
 
 /// Each client writes its sector; then the first one reads its own while the second one writes its own again; then each
-/// reads its own.
-fn cross<L: PortName + Send + Sync, R: Threads + Wait + Abort + Sync>(
+/// reads its own. It gives the tickets of the read and of the second write, and the turns that were left then.
+fn ask_in_turn<L: PortName + Send + Sync, R: Threads + Wait + Sync>(
+    rt: &R,
+    alloc: Global,
+    port: &LockedPort<L>,
+    clients: &mut (Client<L>, Client<L>),
+    engine: &mut Pass<L>,
+) -> Result<(Ticket, Ticket, u64), PortError> {
+    let (first, second) = (write(alloc, 100, 0x11)?, write(alloc, 200, 0x22)?);
+    let again = write(alloc, 200, 0xaa)?;
+    let tickets = put_both(rt, port, clients, (&first, &second))?;
+    take_both(rt, port, clients, engine, &Open, &tickets)?;
+    let (read, write) = put_both(rt, port, clients, (&FIRST_READ, &again))?;
+    let (gate, tickets) = (Crossing::new(&read, &write), (read, write));
+    let left = take_both(rt, port, clients, engine, &gate, &tickets)?;
+    let tickets = put_both(rt, port, clients, (&FIRST_READ, &SECOND_READ))?;
+    take_both(rt, port, clients, engine, &Open, &tickets)?;
+    Ok((read, write, left))
+}
+
+/// The same with all passes, which come back.
+fn work<L: PortName + Send + Sync, R: Threads + Wait + Sync>(
+    rt: &R,
+    alloc: Global,
+    port: &LockedPort<L>,
+    passes: Vec<Pass<L>>,
+) -> Result<(Worked<L>, Ticket, Ticket), Fail> {
+    let (one, two, mut engine) = deal(passes)?;
+    let mut clients = (new_client(alloc, one), new_client(alloc, two));
+    let (read, write, left) = ask_in_turn(rt, alloc, port, &mut clients, &mut engine)?;
+    let (one, two) = clients;
+    let worked = Worked {
+        passes: gather(alloc, one.pass, two.pass, engine)?,
+        one: one.receipts,
+        two: two.receipts,
+        left,
+    };
+    Ok((worked, read, write))
+}
+
+/// The same at a new port, which is out of its lock then.
+fn cross<L: PortName + Send + Sync, R: Threads + Wait + Sync>(
     rt: &R,
     alloc: Global,
     blank: Blank,
@@ -219,26 +258,14 @@ fn cross<L: PortName + Send + Sync, R: Threads + Wait + Abort + Sync>(
     requires parts { (blank.parts ≡ L.parts) × (blank.parts ≡ 3) × (L.passes ≡ L.parts) }
 {
     let (shared, passes) = LockedPort::<L>::new(alloc, blank, port(alloc, &[])?, 2)?;
-    let (one, two, mut engine) = deal(rt, passes);
-    let mut clients = (new_client(alloc, one), new_client(alloc, two));
-    let (first, second) = (write(alloc, 100, 0x11)?, write(alloc, 200, 0x22)?);
-    let again = write(alloc, 200, 0xaa)?;
-    let tickets = put_both(rt, &shared, &mut clients, (&first, &second))?;
-    take_both(rt, &shared, &mut clients, &mut engine, &Open, &tickets)?;
-    let (read, write) = put_both(rt, &shared, &mut clients, (&FIRST_READ, &again))?;
-    let (gate, tickets) = (Crossing::new(&read, &write), (read, write));
-    let left = take_both(rt, &shared, &mut clients, &mut engine, &gate, &tickets)?;
-    let tickets = put_both(rt, &shared, &mut clients, (&FIRST_READ, &SECOND_READ))?;
-    take_both(rt, &shared, &mut clients, &mut engine, &Open, &tickets)?;
-    let (one, two) = clients;
-    let closed = close(rt, alloc, shared, (one.pass, two.pass), engine)?;
-    let told = Told {
-        closed,
-        one: one.receipts,
-        two: two.receipts,
-        left,
-    };
-    Ok(Crossed { told, read, write })
+    match work(rt, alloc, &shared, passes) {
+        Ok((worked, read, write)) => Ok(Crossed {
+            told: close(shared, worked)?,
+            read,
+            write,
+        }),
+        Err(error) => Err(error),
+    }
 }
 
 /// A client that was told nothing.
@@ -302,9 +329,20 @@ fn has_crossed(crossed: Crossed) -> Result<bool, Fail> {
     Ok(has_all_receipts(told)? && is_right)
 }
 
+/// Whether that holds of a new port.
+fn crosses<L: PortName + Send + Sync, R: Threads + Wait + Sync>(
+    rt: &R,
+    alloc: Global,
+    blank: Blank,
+) -> Result<bool, Fail>
+    requires name { blank.name ≡ L.name }
+    requires parts { (blank.parts ≡ L.parts) × (blank.parts ≡ 3) × (L.passes ≡ L.parts) }
+{
+    has_crossed(cross::<L, R>(rt, alloc, blank)?)
+}
+
 #[test]
 fn two_commands_are_under_way_at_once(rt: HostRuntime) -> Result<(), Fail> {
-    let crossed = cross::<Brand, HostRuntime>(&rt, rt.alloc(), Blank::new(3))?;
-    assert!(rt; has_crossed(crossed)?);
+    assert!(rt; crosses::<Brand, HostRuntime>(&rt, rt.alloc(), Blank::new(3))?);
     Ok(())
 }

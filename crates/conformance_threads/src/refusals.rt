@@ -8,7 +8,6 @@ use locked_port::{Gate, LockedPort, Pass, Pick, PortName, Ticket};
 use port::{EngineStep, PortError, Request};
 use std::alloc::Global;
 use std::marker::Brand;
-use std::process::Abort;
 use std::sync::Wait;
 use std::sync::ledger::Blank;
 use std::test::Fail;
@@ -158,14 +157,23 @@ fn is_refusing<L: PortName, R: Wait>(
         && is_given_once(rt, port, one, two, &last)
 }
 
-/// Two clients and the engine, in one thread.
-fn refuse<L: PortName, R: Wait + Abort>(rt: &R, alloc: Global, blank: Blank) -> Result<bool, Fail>
+/// Two clients and the engine with all passes, in one thread.
+fn refuse_with<L: PortName, R: Wait>(
+    rt: &R,
+    port: &LockedPort<L>,
+    passes: Vec<Pass<L>>,
+) -> Result<bool, Fail> {
+    let (mut one, mut two, mut engine) = deal(passes)?;
+    Ok(is_refusing(rt, port, &mut one, &mut two, &mut engine))
+}
+
+/// The same at a new port.
+fn refuse<L: PortName, R: Wait>(rt: &R, alloc: Global, blank: Blank) -> Result<bool, Fail>
     requires name { blank.name ≡ L.name }
     requires parts { (blank.parts ≡ L.parts) × (blank.parts ≡ 3) × (L.passes ≡ L.parts) }
 {
     let (port, passes) = LockedPort::<L>::new(alloc, blank, port(alloc, &[])?, 2)?;
-    let (mut one, mut two, mut engine) = deal(rt, passes);
-    Ok(is_refusing(rt, &port, &mut one, &mut two, &mut engine))
+    refuse_with(rt, &port, passes)
 }
 
 #[test]

@@ -1,14 +1,18 @@
 //! A history that clients and an engine made under the lock, and the same steps on a port that one caller has.
 
+ghost use Rattle.std.specs.Prelude.{◌≡◌};
+
 use crate::clients::{Told, port, run};
 use basics::Bytes;
 use drive::RangeRow;
-use locked_port::{Gate, Pick, Receipt};
+use locked_port::{Gate, Pick, PortName, Receipt};
 use port::{Answer, EngineStep, Entry, Port, Request};
 use std::alloc::{AllocError, Global};
 use std::marker::Brand;
+use std::sync::Wait;
 use std::sync::ledger::Blank;
 use std::test::Fail;
+use std::thread::Threads;
 
 /// Sectors 100 to 109, whose reads are locked.
 const LOCKED: RangeRow = RangeRow {
@@ -96,21 +100,23 @@ fn is_replayed(alloc: Global, told: Told) -> Result<bool, Fail> {
     Ok(is_same_again(alloc, &told.closed.port)? && is_answered)
 }
 
-#[test]
-fn is_played_again(rt: HostRuntime) -> Result<(), Fail> {
-    let alloc = rt.alloc();
+/// Whether that holds of two clients at a new port, and an engine.
+fn plays_again<L: PortName + Send + Sync, R: Threads + Wait + Sync>(
+    rt: &R,
+    alloc: Global,
+    blank: Blank,
+) -> Result<bool, Fail>
+    requires name { blank.name ≡ L.name }
+    requires parts { (blank.parts ≡ L.parts) × (blank.parts ≡ 3) × (L.passes ≡ L.parts) }
+{
     let (first, second) = (reads(alloc)?, write_and_read(alloc)?);
     let asked = (first.as_slice(), second.as_slice());
-    let blank = Blank::new(3);
-    let told = run::<Brand, Last, HostRuntime>(
-        &rt,
-        alloc,
-        blank,
-        &[LOCKED],
-        asked,
-        &Last,
-        ENGINE_STEPS,
-    )?;
-    assert!(rt; is_replayed(alloc, told)?);
+    let told = run::<L, Last, R>(rt, alloc, blank, &[LOCKED], asked, &Last, ENGINE_STEPS)?;
+    is_replayed(alloc, told)
+}
+
+#[test]
+fn is_played_again(rt: HostRuntime) -> Result<(), Fail> {
+    assert!(rt; plays_again::<Brand, HostRuntime>(&rt, rt.alloc(), Blank::new(3))?);
     Ok(())
 }

@@ -1,14 +1,18 @@
 //! Rounds of two clients, and an engine, each in a thread of its own: what is written is read, and every step of a
 //! client has its receipt.
 
+ghost use Rattle.std.specs.Prelude.{◌≡◌};
+
 use crate::clients::{First, Told, has_all_receipts, run};
 use basics::Bytes;
-use locked_port::Receipt;
+use locked_port::{PortName, Receipt};
 use port::{Answer, Request};
 use std::alloc::Global;
 use std::marker::Brand;
+use std::sync::Wait;
 use std::sync::ledger::Blank;
 use std::test::Fail;
+use std::thread::Threads;
 
 /// How many rounds each client makes. In each it writes its sector and reads it back.
 const ROUNDS: u8 = 20;
@@ -70,21 +74,23 @@ fn is_whole(told: Told) -> Result<bool, Fail> {
     Ok(has_all_receipts(told)? && is_right)
 }
 
-#[test]
-fn both_read_what_they_wrote(rt: HostRuntime) -> Result<(), Fail> {
-    let alloc = rt.alloc();
+/// Whether that holds of two clients at a new port, and an engine.
+fn reads_what_it_wrote<L: PortName + Send + Sync, R: Threads + Wait + Sync>(
+    rt: &R,
+    alloc: Global,
+    blank: Blank,
+) -> Result<bool, Fail>
+    requires name { blank.name ≡ L.name }
+    requires parts { (blank.parts ≡ L.parts) × (blank.parts ≡ 3) × (L.passes ≡ L.parts) }
+{
     let (first, second) = (requests(alloc, 100, 1)?, requests(alloc, 101, 101)?);
     let asked = (first.as_slice(), second.as_slice());
-    let blank = Blank::new(3);
-    let told = run::<Brand, First, HostRuntime>(
-        &rt,
-        alloc,
-        blank,
-        &[],
-        asked,
-        &First,
-        ENGINE_STEPS,
-    )?;
-    assert!(rt; is_whole(told)?);
+    let told = run::<L, First, R>(rt, alloc, blank, &[], asked, &First, ENGINE_STEPS)?;
+    is_whole(told)
+}
+
+#[test]
+fn both_read_what_they_wrote(rt: HostRuntime) -> Result<(), Fail> {
+    assert!(rt; reads_what_it_wrote::<Brand, HostRuntime>(&rt, rt.alloc(), Blank::new(3))?);
     Ok(())
 }

@@ -3,27 +3,46 @@
 ghost use Rattle.std.specs.Prelude.{◌≡◌};
 
 use fis::Tag;
-use std::process::Abort;
+use std::alloc::{AllocError, Global};
 use std::test::Fail;
 use std::thread;
 use std::thread::Threads;
 use tag_board::{TagBoard, TagSeat};
 
-/// The numbers of 32 claims are 0 to 31, and the 33rd finds none. A tag that is given back is claimed again.
+/// Whether the next claim of a seat gets this tag.
+fn claims(seat: &mut TagSeat, number: u8) -> bool {
+    seat.claim() == Some(Tag::low_bits(number))
+}
+
+/// Whether the numbers of 32 claims are 0 to 31, and the 33rd finds none.
+fn claims_all(seat: &mut TagSeat) -> bool {
+    let mut are = true;
+    for number in 0..32u8 {
+        are &= claims(seat, number);
+    }
+    are && seat.claim().is_none()
+}
+
+/// Whether a tag that is given back is claimed again.
+fn claims_again(seat: &mut TagSeat, number: u8) -> bool {
+    let tag = Tag::low_bits(number);
+    if !seat.holds(tag) {
+        return false;
+    }
+    seat.release(tag);
+    !seat.holds(tag) && claims(seat, number)
+}
+
+/// Whether that holds of a new board.
+fn is_claimed(alloc: Global) -> Result<bool, AllocError> {
+    let (_board, mut seat) = TagBoard::new(alloc)?;
+    let all = claims_all(&mut seat);
+    Ok(all && claims_again(&mut seat, 7))
+}
+
 #[test]
 fn claims_all_and_no_more(rt: HostRuntime) -> Result<(), Fail> {
-    let (_board, mut seat) = TagBoard::new(rt.alloc())?;
-    for number in 0..32u8 {
-        assert_eq!(rt; seat.claim().map(|tag| tag.number()), Some(number));
-    }
-    assert!(rt; seat.claim().is_none());
-    let seven = Tag::new(7).ok_or("tag")?;
-    assert!(rt; seat.holds(seven));
-    if seat.holds(seven) {
-        seat.release(seven);
-    }
-    assert!(rt; !seat.holds(seven));
-    assert_eq!(rt; seat.claim().map(|tag| tag.number()), Some(7));
+    assert!(rt; is_claimed(rt.alloc())?);
     Ok(())
 }
 
@@ -37,20 +56,32 @@ fn after_claims(mut seat: TagSeat, many: u8) -> TagSeat
     seat
 }
 
-/// How many tags two seats hold, each of which one of them lacks.
-fn held_apart<R: Abort>(rt: &R, one: &TagSeat, two: &TagSeat) -> Result<u8, Fail> {
+/// How many tags two seats hold of which one lacks them, none where both hold one.
+fn held_apart(one: &TagSeat, two: &TagSeat) -> Option<u8> {
     let mut held = 0u8;
     for number in 0..32u8 {
-        let tag = Tag::new(number).ok_or("tag")?;
-        assert!(rt; !(one.holds(tag) && two.holds(tag)));
+        let tag = Tag::low_bits(number);
+        if one.holds(tag) && two.holds(tag) {
+            return None;
+        }
         if one.holds(tag) || two.holds(tag) {
             held = held.wrapping_add(1);
         }
     }
-    Ok(held)
+    Some(held)
 }
 
-fn both_claim<R: Threads + Abort>(rt: &R, seat: TagSeat, other: TagSeat) -> Result<(), Fail>
+/// Whether a seat holds the first so many tags.
+fn holds_first(seat: &TagSeat, many: u8) -> bool {
+    let mut holds = true;
+    for number in 0..many {
+        holds &= seat.holds(Tag::low_bits(number));
+    }
+    holds
+}
+
+/// Whether two threads that claim ten tags each hold twenty tags apart, and the seat that is joined of theirs holds these.
+fn both_claim<R: Threads>(rt: &R, seat: TagSeat, other: TagSeat) -> bool
     requires { other.board ≡ seat.board }
 {
     let (one, two) = thread::join(
@@ -62,20 +93,22 @@ fn both_claim<R: Threads + Abort>(rt: &R, seat: TagSeat, other: TagSeat) -> Resu
             ensures { result.board ≡ other.board }
         { after_claims(other, 10) },
     );
-    assert_eq!(rt; held_apart(rt, &one, &two)?, 20);
+    let are_apart = held_apart(&one, &two) == Some(20);
     let whole = one.join(two);
-    for number in 0..20u8 {
-        let tag = Tag::new(number).ok_or("tag")?;
-        assert!(rt; whole.holds(tag));
-    }
-    Ok(())
+    are_apart && holds_first(&whole, 20)
+}
+
+/// Whether that holds of a new board.
+fn is_apart<R: Threads>(rt: &R, alloc: Global) -> Result<bool, AllocError> {
+    let (_board, mut seat) = TagBoard::new(alloc)?;
+    let other = seat.split()?;
+    Ok(both_claim(rt, seat, other))
 }
 
 /// Two threads claim at once from seats of one board: no tag is held by both, and one seat that is joined of them holds
 /// what both held.
 #[test]
 fn two_threads_have_no_tag_in_common(rt: HostRuntime) -> Result<(), Fail> {
-    let (_board, mut seat) = TagBoard::new(rt.alloc())?;
-    let other = seat.split()?;
-    both_claim(&rt, seat, other)
+    assert!(rt; is_apart(&rt, rt.alloc())?);
+    Ok(())
 }

@@ -1,7 +1,7 @@
 use Rattle.conformance_threads.proofs.rounds.both_read_what_they_wrote.Given as goal
 
-abbrev pub ghosts-run-L-Ledger : goal.ghosts-run-L-Ledger
-ghosts-run-L-Ledger g a = record { name = a.blank.name; parts = a.blank.parts }
+abbrev pub ghosts-reads_what_it_wrote-L-Ledger : goal.ghosts-reads_what_it_wrote-L-Ledger
+ghosts-reads_what_it_wrote-L-Ledger g a = record { name = a.blank.name; parts = a.blank.parts }
 
-abbrev pub ghosts-run-L-PortName : goal.ghosts-run-L-PortName
-ghosts-run-L-PortName g a = record { passes = a.blank.parts }
+abbrev pub ghosts-reads_what_it_wrote-L-PortName : goal.ghosts-reads_what_it_wrote-L-PortName
+ghosts-reads_what_it_wrote-L-PortName g a = record { passes = a.blank.parts }
