@@ -8,7 +8,7 @@ use locked_port::{
     Closed, Gate, LockedPort, Pass, Pick, PortName, Receipt, Ticket, check_receipts,
 };
 use port::{Answer, EngineStep, Port, PortError, Request, Step};
-use std::alloc::Global;
+use std::alloc::{AllocError, Global};
 use std::sync::Wait;
 use std::sync::ledger::Blank;
 use std::test::Fail;
@@ -91,16 +91,25 @@ pub(crate) struct Told {
     pub(crate) left: u64,
 }
 
+/// The receipts of both clients in one vector.
+fn joined(one: Vec<Receipt>, two: Vec<Receipt>) -> Result<Vec<Receipt>, AllocError> {
+    let (mut receipts, mut others) = (one, two);
+    receipts.append(&mut others)?;
+    Ok(receipts)
+}
+
 /// Whether the receipts of both clients are just the client steps of the history.
-pub(crate) fn has_all_receipts(told: Told) -> Result<bool, Fail> {
+pub(crate) fn has_all_receipts(told: Told) -> Result<bool, AllocError> {
     let Told {
         closed,
-        one: mut receipts,
-        two: mut others,
+        one,
+        two,
         left: _,
     } = told;
-    receipts.append(&mut others)?;
-    Ok(check_receipts(closed.port.history(), &receipts))
+    match joined(one, two) {
+        Ok(receipts) => Ok(check_receipts(closed.port.history(), &receipts)),
+        Err(error) => Err(error),
+    }
 }
 
 /// What the threads at a port bring back, before it is out of its lock: all passes, the receipts of both clients, and the

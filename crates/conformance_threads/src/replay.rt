@@ -95,8 +95,8 @@ fn is_same_again(alloc: Global, was: &Port) -> Result<bool, Fail> {
 }
 
 /// Whether all is answered as it should be, and a new port does the same steps.
-fn is_replayed(alloc: Global, told: Told) -> Result<bool, Fail> {
-    let is_answered = is_answered(&told);
+fn is_replayed(alloc: Global, told: &Told) -> Result<bool, Fail> {
+    let is_answered = is_answered(told);
     Ok(is_same_again(alloc, &told.closed.port)? && is_answered)
 }
 
@@ -112,7 +112,7 @@ fn plays_again<L: PortName + Send + Sync, R: Threads + Wait + Sync>(
     let (first, second) = (reads(alloc)?, write_and_read(alloc)?);
     let asked = (first.as_slice(), second.as_slice());
     let told = run::<L, Last, R>(rt, alloc, blank, &[LOCKED], asked, &Last, ENGINE_STEPS)?;
-    is_replayed(alloc, told)
+    is_replayed(alloc, &told)
 }
 
 #[test]
