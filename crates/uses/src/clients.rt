@@ -14,7 +14,7 @@ pub fn ask<L: PortName, R: Wait>(
     pass: &mut Pass<L>,
     request: &Request,
 ) -> Result<Receipt, PortError>
-    // The receipt is of a Take by this client, and its tag is free again.
+    // The receipt is of a Take by this client.
     ensures { IfOk result (λ receipt. (tag : ℕ) × (receipt.step ≡ steps.Take pass.old.client tag)) }
 {
     let ticket = port.submit(rt, pass, request)?;
