@@ -1,5 +1,5 @@
 -- When a port agrees with the origin of its drive and the list of its steps.
-use Rattle.std.specs.Prelude.{◌≡◌, ℕ, ◌<◌, List, length, reverse, take, slice_get, ◌++◌, Option, Some, Err}
+use Rattle.std.specs.Prelude.{◌≡◌, ℕ, ◌<◌, ◌+◌, List, ◌∷◌, length, reverse, take, slice_get, ◌++◌, Option, Some, Result, Err, IfOk, OnOk}
 use Rattle.fis.specs.Tags.{slot_count}
 use Rattle.history.specs.Opening.{Origin}
 use Rattle.drive.specs.State.{Agrees as DriveAgrees}
@@ -56,3 +56,22 @@ pub record IsStopped (port : State) (o : Origin) (steps : List Step) (at : ℕ) 
   pub refused : (step : Step) → slice_get steps at ≡ Some step
       → IsRefusedBy {A = Unit {0}} (refusal (trace o (reverse (take at steps) ++ list)) step)
       (Err error)
+
+-- What a call that makes a step promises, whatever steps it agrees with so far: where it is not
+-- refused, the port agrees with one step more; the number that it gives is that of the step; and it
+-- is refused as the rules say.
+
+abbrev pub MakesStep : {A : Type 0} → State → State → Step → Result A PortError → Type 0
+MakesStep old new step result =
+    OnOk result ((o : Origin) (list : List Step) → PortAgrees old o list
+    → PortAgrees new o (step ∷ list))
+
+abbrev pub NumbersStep : State → Result ℕ PortError → Type 0
+NumbersStep old result =
+    IfOk result (λ n. (o : Origin) (list : List Step) → PortAgrees old o list
+    → n ≡ 1 + length (trace o list))
+
+abbrev pub RefusesStep : {A : Type 0} → State → Step → Result A PortError → Type 0
+RefusesStep old step result =
+    (o : Origin) (list : List Step) → PortAgrees old o list
+    → IsRefusedBy (refusal (trace o list) step) result

@@ -40,7 +40,7 @@ impl Port {
     ghost use Rattle.port_history.specs.Requests.{no_bytes};
     ghost use Rattle.port_history.specs.Steps.{trace, answer};
     ghost use Rattle.headline.specs.Transfers.{IsServedAnswer};
-    ghost use Rattle.port.specs.Agreement.{PortAgrees};
+    ghost use Rattle.port.specs.Agreement.{PortAgrees, MakesStep, NumbersStep, RefusesStep};
     ghost use Rattle.port.specs.Answers.{stage_at, outcome_at, taken};
     ghost use Rattle.port.specs.State.{refusal_on, IsPut, IsIssued, IsAccepted, IsCompleted, IsTaken, IsReady};
 
@@ -50,13 +50,9 @@ impl Port {
     ///
     /// In this order: `HistoryFull`, `Size`, `SlotBusy`, `OutOfMemory`. The port is then as before.
     pub fn put(&mut self, client: u32, tag: Tag, request: &Request) -> Result<u64, PortError>
-        ensures agrees { OnOk result ((o : Origin) (list : List Step) → PortAgrees self.old o list
-            → PortAgrees self.new o (steps.Put client tag request.now ∷ list)) }
-        ensures number { IfOk result (λ n. (o : Origin) (list : List Step)
-            → PortAgrees self.old o list
-            → n ≡ 1 + length (trace o list)) }
-        ensures refused { (o : Origin) (list : List Step) → PortAgrees self.old o list
-            → IsRefusedBy (refusal (trace o list) (steps.Put client tag request.now)) result }
+        ensures agrees { MakesStep self.old self.new (steps.Put client tag request.now) result }
+        ensures number { NumbersStep self.old result }
+        ensures refused { RefusesStep self.old (steps.Put client tag request.now) result }
         ensures err { OnErr result (self.new ≡ self.old) }
     {
         self.do_put(client, tag, request)
@@ -98,13 +94,9 @@ impl Port {
     ///
     /// In this order: `HistoryFull`, `Failed`, `NotPrepared`, `Queue`, `OutOfMemory`. The port is then as before.
     pub fn issue(&mut self, tag: Tag) -> Result<u64, PortError>
-        ensures agrees { OnOk result ((o : Origin) (list : List Step) → PortAgrees self.old o list
-            → PortAgrees self.new o (steps.Issue tag ∷ list)) }
-        ensures number { IfOk result (λ n. (o : Origin) (list : List Step)
-            → PortAgrees self.old o list
-            → n ≡ 1 + length (trace o list)) }
-        ensures refused { (o : Origin) (list : List Step) → PortAgrees self.old o list
-            → IsRefusedBy (refusal (trace o list) (steps.Issue tag)) result }
+        ensures agrees { MakesStep self.old self.new (steps.Issue tag) result }
+        ensures number { NumbersStep self.old result }
+        ensures refused { RefusesStep self.old (steps.Issue tag) result }
         ensures err { OnErr result (self.new ≡ self.old) }
     {
         self.do_issue(tag)
@@ -137,13 +129,9 @@ impl Port {
     ///
     /// In this order: `HistoryFull`, `Failed`, `NotIssued`, `OutOfMemory`. The port is then as before.
     pub fn accept(&mut self, tag: Tag) -> Result<u64, PortError>
-        ensures agrees { OnOk result ((o : Origin) (list : List Step) → PortAgrees self.old o list
-            → PortAgrees self.new o (steps.Accept tag ∷ list)) }
-        ensures number { IfOk result (λ n. (o : Origin) (list : List Step)
-            → PortAgrees self.old o list
-            → n ≡ 1 + length (trace o list)) }
-        ensures refused { (o : Origin) (list : List Step) → PortAgrees self.old o list
-            → IsRefusedBy (refusal (trace o list) (steps.Accept tag)) result }
+        ensures agrees { MakesStep self.old self.new (steps.Accept tag) result }
+        ensures number { NumbersStep self.old result }
+        ensures refused { RefusesStep self.old (steps.Accept tag) result }
         ensures err { OnErr result (self.new ≡ self.old) }
     {
         self.do_accept(tag)
@@ -198,13 +186,9 @@ impl Port {
     ///
     /// In this order: `HistoryFull`, `Failed`, `NotAccepted`, `OutOfMemory`. The port is then as before.
     pub fn complete(&mut self, tag: Tag) -> Result<u64, PortError>
-        ensures agrees { OnOk result ((o : Origin) (list : List Step) → PortAgrees self.old o list
-            → PortAgrees self.new o (steps.Complete tag ∷ list)) }
-        ensures number { IfOk result (λ n. (o : Origin) (list : List Step)
-            → PortAgrees self.old o list
-            → n ≡ 1 + length (trace o list)) }
-        ensures refused { (o : Origin) (list : List Step) → PortAgrees self.old o list
-            → IsRefusedBy (refusal (trace o list) (steps.Complete tag)) result }
+        ensures agrees { MakesStep self.old self.new (steps.Complete tag) result }
+        ensures number { NumbersStep self.old result }
+        ensures refused { RefusesStep self.old (steps.Complete tag) result }
         ensures err { OnErr result (self.new ≡ self.old) }
     {
         self.do_complete(tag)
@@ -256,8 +240,7 @@ impl Port {
     ///
     /// In this order: `HistoryFull`, `NotAnswered`, `NotYours`, `OutOfMemory`. The port is then as before.
     pub fn take(&mut self, client: u32, tag: Tag) -> Result<(u64, Answer), PortError>
-        ensures agrees { OnOk result ((o : Origin) (list : List Step) → PortAgrees self.old o list
-            → PortAgrees self.new o (steps.Take client tag ∷ list)) }
+        ensures agrees { MakesStep self.old self.new (steps.Take client tag) result }
         ensures answer { IfOk result (λ r. (o : Origin) (list : List Step)
             → PortAgrees self.old o list
             → (r.0 ≡ 1 + length (trace o list))
@@ -265,8 +248,7 @@ impl Port {
         ensures served { IfOk result (λ r. (o : Origin) (list : List Step)
             → PortAgrees self.old o list
             → IsServedAnswer tcg o list tag r.1) }
-        ensures refused { (o : Origin) (list : List Step) → PortAgrees self.old o list
-            → IsRefusedBy (refusal (trace o list) (steps.Take client tag)) result }
+        ensures refused { RefusesStep self.old (steps.Take client tag) result }
         ensures err { OnErr result (self.new ≡ self.old) }
     {
         self.do_take(client, tag)

@@ -70,7 +70,7 @@ impl Port {
     ghost use Rattle.port_history.specs.declared.step.Step.TheVariants as steps;
     ghost use Rattle.port_history.specs.Refusals.{refusal};
     ghost use Rattle.port_history.specs.Steps.{trace};
-    ghost use Rattle.port.specs.Agreement.{PortAgrees};
+    ghost use Rattle.port.specs.Agreement.{PortAgrees, MakesStep, NumbersStep};
     ghost use Rattle.port.specs.Built.{IsGivenBack};
     ghost use Rattle.port.specs.State.{refusal_on, IsPut};
 
@@ -80,11 +80,9 @@ impl Port {
     ///
     /// In this order: `HistoryFull`, `SlotBusy`, `OutOfMemory`; what was built comes back. The port is then as before.
     pub fn put_built(&mut self, client: u32, built: Built) -> Result<u64, (PortError, Built)>
-        ensures agrees { OnOk result ((o : Origin) (list : List Step) → PortAgrees self.old o list
-            → PortAgrees self.new o (steps.Put client built.tag built.request ∷ list)) }
-        ensures number { IfOk result (λ n. (o : Origin) (list : List Step)
-            → PortAgrees self.old o list
-            → n ≡ 1 + length (trace o list)) }
+        ensures agrees { MakesStep self.old self.new (steps.Put client built.tag built.request)
+            result }
+        ensures number { NumbersStep self.old result }
         ensures refused { (o : Origin) (list : List Step) → PortAgrees self.old o list
             → IsGivenBack (refusal (trace o list) (steps.Put client built.tag built.request)) built
             result }

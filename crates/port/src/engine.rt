@@ -15,7 +15,7 @@ impl Port {
     ghost use Rattle.port_history.specs.Ready.{those, ready_steps, ready, chosen, with_step, as_step, count};
     ghost use Rattle.port_history.specs.Refusals.{refusal, IsRefusedBy};
     ghost use Rattle.port_history.specs.Steps.{trace};
-    ghost use Rattle.port.specs.Agreement.{PortAgrees, IsStopped};
+    ghost use Rattle.port.specs.Agreement.{PortAgrees, IsStopped, MakesStep, NumbersStep, RefusesStep};
     ghost use Rattle.port.specs.State.{refusal_on};
 
     /// Does a step.
@@ -24,10 +24,8 @@ impl Port {
     ///
     /// Those of its call. The port is then as before.
     pub fn step(&mut self, step: &Step) -> Result<(), PortError>
-        ensures agrees { OnOk result ((o : Origin) (list : List Step) → PortAgrees self.old o list
-            → PortAgrees self.new o (step.now ∷ list)) }
-        ensures refused { (o : Origin) (list : List Step) → PortAgrees self.old o list
-            → IsRefusedBy (refusal (trace o list) step.now) result }
+        ensures agrees { MakesStep self.old self.new step.now result }
+        ensures refused { RefusesStep self.old step.now result }
         ensures err { OnErr result (self.new ≡ self.old) }
     {
         match *step {
@@ -127,13 +125,9 @@ impl Port {
 
     /// Does a step of the engine.
     fn engine_step(&mut self, step: EngineStep) -> Result<u64, PortError>
-        ensures agrees { OnOk result ((o : Origin) (list : List Step) → PortAgrees self.old o list
-            → PortAgrees self.new o (as_step step ∷ list)) }
-        ensures number { IfOk result (λ n. (o : Origin) (list : List Step)
-            → PortAgrees self.old o list
-            → n ≡ 1 + length (trace o list)) }
-        ensures refused { (o : Origin) (list : List Step) → PortAgrees self.old o list
-            → IsRefusedBy (refusal (trace o list) (as_step step)) result }
+        ensures agrees { MakesStep self.old self.new (as_step step) result }
+        ensures number { NumbersStep self.old result }
+        ensures refused { RefusesStep self.old (as_step step) result }
         ensures err { OnErr result (self.new ≡ self.old) }
     {
         match step {

@@ -15,7 +15,7 @@ impl Port {
     ghost use Rattle.port_history.specs.declared.step.Step.TheVariants as steps;
     ghost use Rattle.port_history.specs.Refusals.{refusal, IsRefusedBy};
     ghost use Rattle.port_history.specs.Steps.{trace};
-    ghost use Rattle.port.specs.Agreement.{PortAgrees};
+    ghost use Rattle.port.specs.Agreement.{MakesStep, NumbersStep, RefusesStep};
     ghost use Rattle.port.specs.State.{refusal_on, IsRecovered, IsReset};
 
     /// Recovers from a failed command: the port stops and starts, reads log page 10h of the device, answers the command
@@ -25,13 +25,9 @@ impl Port {
     ///
     /// In this order: `HistoryFull`, `NotFailed`, `OutOfMemory`. The port is then as before.
     pub fn recover(&mut self) -> Result<u64, PortError>
-        ensures agrees { OnOk result ((o : Origin) (list : List Step) → PortAgrees self.old o list
-            → PortAgrees self.new o (steps.Recover ∷ list)) }
-        ensures number { IfOk result (λ n. (o : Origin) (list : List Step)
-            → PortAgrees self.old o list
-            → n ≡ 1 + length (trace o list)) }
-        ensures refused { (o : Origin) (list : List Step) → PortAgrees self.old o list
-            → IsRefusedBy (refusal (trace o list) steps.Recover) result }
+        ensures agrees { MakesStep self.old self.new steps.Recover result }
+        ensures number { NumbersStep self.old result }
+        ensures refused { RefusesStep self.old steps.Recover result }
         ensures err { OnErr result (self.new ≡ self.old) }
     {
         self.do_recover()
@@ -69,13 +65,9 @@ impl Port {
     ///
     /// In this order: `HistoryFull`, `OutOfMemory`. The port is then as before.
     pub fn reset(&mut self, client: u32, kind: ResetKind) -> Result<u64, PortError>
-        ensures agrees { OnOk result ((o : Origin) (list : List Step) → PortAgrees self.old o list
-            → PortAgrees self.new o (steps.Reset client kind ∷ list)) }
-        ensures number { IfOk result (λ n. (o : Origin) (list : List Step)
-            → PortAgrees self.old o list
-            → n ≡ 1 + length (trace o list)) }
-        ensures refused { (o : Origin) (list : List Step) → PortAgrees self.old o list
-            → IsRefusedBy (refusal (trace o list) (steps.Reset client kind)) result }
+        ensures agrees { MakesStep self.old self.new (steps.Reset client kind) result }
+        ensures number { NumbersStep self.old result }
+        ensures refused { RefusesStep self.old (steps.Reset client kind) result }
         ensures err { OnErr result (self.new ≡ self.old) }
     {
         self.do_reset(client, kind)
