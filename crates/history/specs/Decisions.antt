@@ -44,7 +44,8 @@ fails error denied = record { failed = Some error; deed = Nothing; denied = deni
 abbrev pub refuses : Event
 refuses = fails aborted None
 
--- The queue fails with the command of a FIS: its error, and what denied it.
+-- The queue fails with the command of a FIS: its error, and what denied it (ACS-3, NCQ feature set
+-- and NCQ Command Error log).
 abbrev pub fails_queue : Option ℕ → ℕ → RegH2d → Option Why → Event
 fails_queue tag error h denied = record {
   failed = Some error;
@@ -52,7 +53,7 @@ fails_queue tag error h denied = record {
   denied = denied;
 }
 
--- Transfers. The addresses come before the policy.
+-- Transfers. The addresses (ACS-3, IDNF) come before the policy (Opal SSC 2.01, section 4.3.5).
 
 abbrev pub on_drive : Facts → ℕ → ℕ → Bool
 on_drive f lba count = nat_le (lba + count) f.sectors
@@ -78,7 +79,7 @@ queued_transfer f h tag command op lba count =
     then queued_by h tag command (verdict_on f op lba count)
     else fails_queue (Some tag) not_found h None
 
--- A tag that is held fails the queue.
+-- A tag that is held fails the queue (ACS-3, READ FPDMA QUEUED, NCQ Tag).
 abbrev pub admitted : Facts → RegH2d → ℕ → Command → Bool → Event
 admitted f h tag command true = fails_queue (Some tag) aborted h None
 admitted f h tag (ReadQueued lba count) false =
@@ -87,7 +88,8 @@ admitted f h tag (WriteQueued lba count) false =
     queued_transfer f h tag (WriteQueued lba count) Write lba count
 admitted f h tag _ false = refuses
 
--- A transfer that is not queued is executed whole: a write moves its data here.
+-- A transfer that is not queued is executed whole: a write moves its data here (ACS-3, READ DMA EXT
+-- and WRITE DMA EXT).
 abbrev pub unqueued_by : Deed → Verdict → Event
 unqueued_by deed (Denied why) = fails aborted (Some why)
 unqueued_by deed Serve = did deed
@@ -98,7 +100,7 @@ unqueued_transfer f deed op lba count =
     if on_drive f lba count
     then unqueued_by deed (verdict_on f op lba count) else fails not_found None
 
--- Trusted commands.
+-- Trusted commands (ACS-3, TRUSTED SEND and TRUSTED RECEIVE; Opal SSC 2.01, section 3.1.1).
 
 abbrev pub last_com_id : ℕ
 last_com_id = first_com_id + com_ids - 1
@@ -120,7 +122,7 @@ lets_reset rows = number rows Admin tper_info programmatic_reset_enable_column =
 abbrev pub resets : LookUp → Command → Bool
 resets rows command = is_programmatic_reset command && lets_reset rows
 
--- The waiting response is taken where the transfer has room for it.
+-- The waiting response is taken where the transfer has room for it (Core 2.01, section 3.3.10).
 abbrev pub received : ℕ → ℕ → Option (List ℕ) → Event
 received com_id blocks None = did Nothing
 received com_id blocks (Some response) =
@@ -148,7 +150,7 @@ unqueued_of items f payload (ReadQueued lba count) = refuses
 unqueued_of items f payload (WriteQueued lba count) = refuses
 
 -- A command that the mixing of queues does not refuse. A queued one whose FIS has a fault fails the
--- queue.
+-- queue (ACS-3, READ FPDMA QUEUED, Device and Error Outputs).
 abbrev pub known_of : Items → Facts → RegH2d → List ℕ → Result (Command × Option ℕ) CommandError
     → Event
 known_of items f h payload (Err e) =
@@ -157,7 +159,8 @@ known_of items f h payload (Ok (command, Some tag)) =
     admitted f h tag command (is_some (f.held tag))
 known_of items f h payload (Ok (command, None)) = unqueued_of items f payload command
 
--- While the queue has failed: log page 10h is read, which ends it.
+-- While the queue has failed: log page 10h is read, which ends it (ACS-3, NCQ feature set, error
+-- handling, and READ LOG EXT).
 abbrev pub while_failed : Result (Command × Option ℕ) CommandError → Event
 while_failed (Ok (ReadLog10 dma, tag)) = did (OfQueue QueueMended)
 while_failed _ = refuses
@@ -170,7 +173,8 @@ any_below p (suc n) = p n || any_below p n
 abbrev pub is_busy : Facts → Bool
 is_busy f = any_below (λ tag. is_some (f.held tag)) slot_count
 
--- No command changes nothing; one that is not queued, beside a held one, fails the queue.
+-- No command changes nothing (Serial ATA, Register - Host to Device, bit C); one that is not queued,
+-- beside a held one, fails the queue (ACS-3, NCQ feature set).
 abbrev pub commanded_of : Items → Facts → RegH2d → List ℕ → Event
 commanded_of items f h payload =
     if not h.is_command then refuses
@@ -182,7 +186,7 @@ abbrev pub accepted_of : Items → Facts → List ℕ → List ℕ → Event
 accepted_of items f fis payload =
     if slice_index fis 0 == h2d_type then commanded_of items f (h2d_at fis) payload else refuses
 
--- A completion moves the data of what is held.
+-- A completion moves the data of what is held (Serial ATA, DMA Setup and Set Device Bits).
 abbrev pub completed_by : ℕ → List ℕ → Command → Event
 completed_by tag payload (WriteQueued lba count) = did (OfQueue (CompletedWrite tag lba payload))
 completed_by tag payload _ = did (OfQueue (Completed tag))

@@ -37,7 +37,7 @@ restores Locking sp = sp_eq Locking sp
 abbrev pub if_restored : {A : Type 0} → Sp → Sp → A → Option A
 if_restored reverted sp x = if restores reverted sp then Some x else None
 
--- Sessions.
+-- Sessions (Core 2.01, section 3.3.7).
 
 abbrev pub is_start : Deed → Bool
 is_start (InSession (Started session row) response) = true
@@ -88,7 +88,7 @@ authorities past session =
     flat_map (λ us. us) (every (gains session.sp) (since (starts session.sp) past))
     ++ session.authorities
 
--- Transactions.
+-- Transactions (Core 2.01, section 3.3.9).
 
 abbrev pub turns_by : Sp → SessionDeed → Option (Option ℕ)
 turns_by sp (Began begun number) = on_sp sp begun (Some number)
@@ -137,7 +137,7 @@ if_open (Some number) own = own
 abbrev pub open_changes : List Event → Sp → List Change
 open_changes past sp = if_open (open_on past sp) (own_changes past sp)
 
--- Changes in force.
+-- Changes in force (Core 2.01, section 3.3.9).
 
 abbrev pub only_on : Sp → Sp → List Change → List Change
 only_on sp named changes = if sp_eq named sp then changes else []
@@ -149,7 +149,7 @@ unless_open (Some number) change = []
 abbrev pub state_change : ℕ → List Change
 state_change state = Sets (cells_set locking_sp ((life_cycle_state_column, Number state) ∷ [])) ∷ []
 
--- The Locking SP is Manufactured, and its Admin1 has SID's PIN.
+-- The Locking SP is Manufactured, and its Admin1 has SID's PIN (Opal SSC 2.01, section 5.1.1).
 abbrev pub pin_change : Option Cell → List Change
 pin_change None = []
 pin_change (Some pin) = Sets (cells_set (admin_pin_uid 1) ((pin_column, pin) ∷ [])) ∷ []
@@ -159,7 +159,7 @@ activation pin Admin = state_change manufactured
 activation pin Locking = pin_change pin
 
 -- The factory's cells; after a Revert of the Locking SP alone the Admin SP knows it as
--- Manufactured-Inactive.
+-- Manufactured-Inactive (Opal SSC 2.01, sections 5.1.2 and 5.1.3).
 abbrev pub restoring : Sp → Sp → List Change
 restoring Admin sp = Restores ∷ []
 restoring Locking Locking = Restores ∷ []
@@ -184,7 +184,7 @@ abbrev pub changes : List Event → Sp → List Change
 changes [] sp = []
 changes (event ∷ before) sp = brought before sp event.deed ++ changes before sp
 
--- Tries.
+-- Tries (Core 2.01, section 5.3.4.1, and table C_PIN).
 
 -- The largest number of a cell stays.
 abbrev pub most_tries : ℕ
@@ -222,7 +222,8 @@ abbrev pub tries : List Event → Sp → Uid → ℕ
 tries [] sp row = 0
 tries (event ∷ before) sp row = tries_then sp row event.deed (tries before sp row)
 
--- Rows and the shadow's bytes, in force and in a session's view.
+-- Rows and the shadow's bytes, in force and in a session's view (Core 2.01, section 3.3.9; Opal
+-- SSC 2.01, section 4.3.5.4).
 
 abbrev pub factory_rows : Origin → LookUp
 factory_rows o = look_up o.factory
@@ -259,7 +260,8 @@ byte_in_view past number place =
     else byte_in_force past place
 
 -- Media: a sector holds what the latest act that moved data over it wrote there; a Revert while the
--- Locking SP was Manufactured makes zeros.
+-- Locking SP was Manufactured makes zeros (Opal SSC 2.01, sections 5.1.2 and 5.1.3; that the bytes
+-- are zeros is this project's).
 
 abbrev pub part_of : ℕ → ℕ → List ℕ → Option (List ℕ)
 part_of place lba bytes =
@@ -279,7 +281,7 @@ writing place _ = None
 abbrev pub sector : List Event → ℕ → List ℕ
 sector past place = unwrap_or (latest (writing place) past) zeros
 
--- The queue: what is held, and how it failed.
+-- The queue: what is held, and how it failed (ACS-3, NCQ feature set and NCQ Command Error log).
 
 abbrev pub holds_by : ℕ → QueueDeed → Option (Option HeldCommand)
 holds_by tag (Held its held) = if its == tag then Some (Some held) else None
@@ -309,7 +311,7 @@ failing _ = None
 abbrev pub failure : List Event → Option Failure
 failure past = unwrap_or (latest failing past) None
 
--- Waiting responses, by their ComIDs.
+-- Waiting responses, by their ComIDs (Core 2.01, section 3.3.10).
 
 abbrev pub waits : ℕ → Deed → Option (Option (List ℕ))
 waits com_id (InSession deed response) =
