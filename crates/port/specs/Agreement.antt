@@ -61,12 +61,12 @@ pub record IsStopped (port : State) (o : Origin) (steps : List Step) (at : ℕ) 
 -- refused, the port agrees with one step more; the number that it gives is that of the step; and it
 -- is refused as the rules say.
 
-abbrev pub MakesStep : {A : Type 0} → State → State → Step → Result A PortError → Type 0
+abbrev pub MakesStep : {A E : Type 0} → State → State → Step → Result A E → Type 0
 MakesStep old new step result =
     OnOk result ((o : Origin) (list : List Step) → PortAgrees old o list
     → PortAgrees new o (step ∷ list))
 
-abbrev pub NumbersStep : State → Result ℕ PortError → Type 0
+abbrev pub NumbersStep : {E : Type 0} → State → Result ℕ E → Type 0
 NumbersStep old result =
     IfOk result (λ n. (o : Origin) (list : List Step) → PortAgrees old o list
     → n ≡ 1 + length (trace o list))
