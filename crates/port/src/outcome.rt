@@ -58,14 +58,14 @@ pub(crate) fn outcome_after_reset(pending: bool, outcome: Option<Outcome>) -> Op
 
 /// The outcome after a recovery: that of the command which failed is its status and error.
 pub(crate) fn outcome_recovered(
-    fails: bool,
+    is_failed: bool,
     status: u8,
     error: u8,
     outcome: Option<Outcome>,
 ) -> Option<Outcome>
-    ensures { result ≡ outcome_recovered fails status error outcome }
+    ensures { result ≡ outcome_recovered is_failed status error outcome }
 {
-    if fails {
+    if is_failed {
         Some(Outcome::Failed { status, error })
     } else {
         outcome
