@@ -214,6 +214,15 @@ impl Drive {
         }
     }
 
+    /// Whether something is held under the tag.
+    pub fn holds(&self, tag: Tag) -> bool
+        ensures stands { result ≡ is_some (held_at self.now.queue tag) }
+        ensures told { (o : Origin) (acts : List Act) → Agrees self.now o acts
+            → result ≡ is_some (held_in (log o acts) tag) }
+    {
+        self.held(tag).is_some()
+    }
+
     /// How the queue has failed, if it has: what log page 10h tells.
     pub fn failure(&self) -> Option<Failure>
         ensures stands { result ≡ self.now.queue.failure }

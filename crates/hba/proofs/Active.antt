@@ -1,0 +1,108 @@
+-- Which FISes leave PxSACT as it was.
+use Rattle.std.proofs.Common.{◌≡◌, ℕ, ◌%◌, ◌^◌, Bool, true, false, List, [], ◌∷◌, length, Option, Some, None, ◌*◌, refl, ap, inl, inr}
+use Rattle.std.specs.Prelude.{◌==◌, ◌⊎◌, ◌&&◌, is_some, unwrap_or, Result, Ok, Err, if◌then◌else◌}
+use Rattle.fis.specs.declared.any.Fis.{Fis}
+use Rattle.fis.specs.declared.any.Fis.TheVariants as fises
+use Rattle.hba_regs.specs.Registers.{Regs, without}
+use Rattle.trusted_cmds.specs.declared.command.Command.{Command}
+use Rattle.trusted_cmds.specs.declared.command.Command.TheVariants.{ReadQueued, WriteQueued, ReadDma, WriteDma, Send, Receive, Identify, ReadLog10, Flush}
+use Rattle.trusted_cmds.specs.declared.command.CommandError.{CommandError}
+use Rattle.history.specs.Answers.{failed, ready, answer_fis, served_fises, fises_read, fises_of, completed_fises, setup_fis, moved_fis}
+use Rattle.history.specs.Events.{HeldCommand}
+use Rattle.port_history.specs.Registers.{raised, with_task, no_more_issued, is_finished, task_error_bit, register_bit, pio_setup_bit, dma_setup_bit, device_bits_bit, carried, shown, all_shown}
+use Rattle.hba.specs.declared.registers.Registers.{Registers}
+use Rattle.hba.specs.declared.window.Region.{Region}
+use Rattle.hba.specs.Memory.{have_room}
+use Rattle.hba.specs.Showing.{answered, faulted, fetching}
+use Rattle.hba.specs.Laws.{ToldByDeviceBits}
+
+raised_active : (bits : ℕ) (raises : Bool) (regs : Regs) → (raised bits raises regs).active ≡ regs.active
+raised_active bits true regs = refl
+raised_active bits false regs = refl
+
+task_active : (status error : ℕ) (regs : Regs) → (with_task status error regs).active ≡ regs.active
+task_active status error regs =
+    raised_active task_error_bit (status % 2 == 1) (record regs { status = status; error = error })
+
+served_active : (tag : ℕ) (regs : Regs) (command : Command)
+    → (all_shown tag regs (served_fises command)).active ≡ regs.active
+served_active tag regs (ReadQueued lba count) = refl
+served_active tag regs (WriteQueued lba count) = refl
+served_active tag regs (ReadDma lba count) = refl
+served_active tag regs (WriteDma lba count) = refl
+served_active tag regs (Send protocol com_id blocks true) = refl
+served_active tag regs (Send protocol com_id blocks false) = refl
+served_active tag regs (Receive protocol com_id blocks true) = refl
+served_active tag regs (Receive protocol com_id blocks false) = refl
+served_active tag regs Identify = refl
+served_active tag regs (ReadLog10 true) = refl
+served_active tag regs (ReadLog10 false) = refl
+served_active tag regs Flush = refl
+
+read_active : (tag : ℕ) (regs : Regs) (read : Result (Command × Option ℕ) CommandError)
+    → (all_shown tag regs (fises_read read)).active ≡ regs.active
+read_active tag regs (Err e) = refl
+read_active tag regs (Ok (command, slot)) = served_active tag regs command
+
+accepted_active : (tag : ℕ) (regs : Regs) (error : Option ℕ) (holds : Bool)
+    (read : Result (Command × Option ℕ) CommandError)
+    → (all_shown tag regs
+    (if is_some error then answer_fis true failed (unwrap_or error 0) ∷ []
+    else (if holds then answer_fis false ready 0 ∷ [] else fises_read read))).active ≡ regs.active
+accepted_active tag regs (Some error) holds read = refl
+accepted_active tag regs None true read = refl
+accepted_active tag regs None false read = read_active tag regs read
+
+-- The registers after an act of the drive, with room for its data or without.
+pub served_same : (room : Bool) (tag : ℕ) (fises : List Fis) (regs : Registers)
+    → (all_shown tag regs.port fises).active ≡ regs.port.active
+    → (if room then answered tag fises regs else faulted regs).port.active ≡ regs.port.active
+served_same true tag fises regs e = e
+served_same false tag fises regs e = refl
+
+pub fetched_same : (room : Bool) (tag : ℕ) (regs : Registers) (error : Option ℕ) (holds : Bool)
+    (read : Result (Command × Option ℕ) CommandError) (fises : List Fis)
+    → fises ≡ (if is_some error then answer_fis true failed (unwrap_or error 0) ∷ []
+    else (if holds then answer_fis false ready 0 ∷ [] else fises_read read))
+    → (if room then answered tag fises (fetching tag regs)
+    else faulted (fetching tag regs)).port.active ≡ regs.port.active
+fetched_same room tag regs error holds read fises e =
+    served_same room tag fises (fetching tag regs)
+    (rw e (accepted_active tag regs.port error holds read))
+
+-- The two FISes of a completion.
+moved_active : (tag : ℕ) (to_host : Bool) (count : ℕ) (regs : Regs)
+    → (all_shown tag regs (setup_fis to_host tag count ∷ moved_fis tag ∷ [])).active
+    ≡ without regs.active (2 ^ tag)
+moved_active tag to_host count regs =
+    ap (λ a. without a (2 ^ tag)) (task_active (carried regs.status ready) 0 regs)
+
+told_if : (room : Bool) (tag : ℕ) (setup : Fis) (regs : Registers)
+    → (all_shown tag regs.port (setup ∷ moved_fis tag ∷ [])).active ≡ without regs.port.active (2 ^ tag)
+    → ToldByDeviceBits tag (setup ∷ moved_fis tag ∷ []) regs.port.active
+    (if room then answered tag (setup ∷ moved_fis tag ∷ []) regs else faulted regs).port.active
+told_if true tag setup regs e = inr (setup, refl, e)
+told_if false tag setup regs e = inl refl
+
+by_command : (room : Bool) (tag : ℕ) (regs : Registers) (command : Command)
+    → ToldByDeviceBits tag (fises_of tag command) regs.port.active
+    (if room then answered tag (fises_of tag command) regs else faulted regs).port.active
+by_command room tag regs (ReadQueued lba count) =
+    told_if room tag (setup_fis true tag (512 * count)) regs
+    (moved_active tag true (512 * count) regs.port)
+by_command room tag regs (WriteQueued lba count) =
+    told_if room tag (setup_fis false tag (512 * count)) regs
+    (moved_active tag false (512 * count) regs.port)
+by_command room tag regs (ReadDma lba count) = inl (served_same room tag [] regs refl)
+by_command room tag regs (WriteDma lba count) = inl (served_same room tag [] regs refl)
+by_command room tag regs (Send protocol com_id blocks dma) = inl (served_same room tag [] regs refl)
+by_command room tag regs (Receive protocol com_id blocks dma) = inl (served_same room tag [] regs refl)
+by_command room tag regs Identify = inl (served_same room tag [] regs refl)
+by_command room tag regs (ReadLog10 dma) = inl (served_same room tag [] regs refl)
+by_command room tag regs Flush = inl (served_same room tag [] regs refl)
+
+pub completed_told : (room : Bool) (tag : ℕ) (regs : Registers) (held : Option HeldCommand)
+    → ToldByDeviceBits tag (completed_fises tag held) regs.port.active
+    (if room then answered tag (completed_fises tag held) regs else faulted regs).port.active
+completed_told room tag regs None = inl (served_same room tag [] regs refl)
+completed_told room tag regs (Some held) = by_command room tag regs held.command

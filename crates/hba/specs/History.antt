@@ -1,0 +1,92 @@
+-- Lists of operations of an HBA, the newest first: what the host wrote, and what the engine did with
+-- what it read of the host's memory. What they make of the registers and of the drive follows from
+-- them and from what the drive started from, alone.
+use Rattle.std.specs.Prelude.{◌≡◌, ℕ, List, [], ◌∷◌, length, Option, None, if◌then◌else◌}
+use Rattle.sp_cells.specs.Resets.{power_cycle, hardware}
+use Rattle.history.specs.Facts.{facts}
+use Rattle.history.specs.History.{Act, Accept, Complete, Reset, log}
+use Rattle.history.specs.Opening.{Origin}
+use Rattle.drive.specs.State.{State as DriveState, Agrees}
+use Rattle.audit.specs.declared.reason.Why.{Why}
+use Rattle.port_history.specs.Steps.{Effect, effect_by}
+use Rattle.hba.specs.declared.registers.Registers.{Registers}
+use Rattle.hba.specs.declared.window.Region.{Region}
+use Rattle.hba.specs.Registers.{fresh, written_at, resets}
+use Rattle.hba.specs.Memory.{have_room}
+use Rattle.hba.specs.Showing.{signed, faulted, controlled, fetching, answered}
+
+-- The host's write of a register; a power cycle; the device's signature; memory that is not there;
+-- a FIS that carries no command; a command's FIS, with the data that came with it and the places of
+-- its data; the completion of a held command, with the same.
+pub data Operation : Type 0 where
+  Wrote : (offset value : ℕ) → Operation
+  Powered : Operation
+  Signed : Operation
+  Missed : Operation
+  Controlled : (tag : ℕ) → Operation
+  Fetched : (tag : ℕ) (fis payload : List ℕ) (places : List Region) → Operation
+  Completed : (tag : ℕ) (payload : List ℕ) (places : List Region) → Operation
+
+-- What operations have done: the acts of the drive, the newest first, and the registers.
+pub record Account : Type 0 where
+  pub acts : List Act
+  pub registers : Registers
+
+abbrev pub effect_after : Origin → Account → Act → Effect
+effect_after o a act = effect_by (facts o (log o a.acts)) act
+
+-- An act of the drive for the command of a tag: its FISes come where its data have room, else
+-- memory is not there.
+abbrev pub served : ℕ → Act → List Region → Effect → Account → Account
+served tag act places effect a = record {
+  acts = act ∷ a.acts;
+  registers =
+      (if have_room places (length effect.bytes) then answered tag effect.fises a.registers
+      else faulted a.registers);
+}
+
+abbrev pub did : Origin → Account → Operation → Account
+did o a (Wrote offset value) = record {
+  acts = (if resets a.registers offset value then Reset hardware ∷ a.acts else a.acts);
+  registers = written_at a.registers offset value;
+}
+did o a Powered = record { acts = Reset power_cycle ∷ a.acts; registers = fresh }
+did o a Signed = record a { registers = signed a.registers }
+did o a Missed = record a { registers = faulted a.registers }
+did o a (Controlled tag) = record a { registers = controlled tag a.registers }
+did o a (Fetched tag fis payload places) =
+    served tag (Accept fis payload) places (effect_after o a (Accept fis payload))
+    (record a { registers = fetching tag a.registers })
+did o a (Completed tag payload places) =
+    served tag (Complete tag payload) places (effect_after o a (Complete tag payload)) a
+
+abbrev pub account : Origin → List Operation → Account
+account o [] = record { acts = []; registers = fresh }
+account o (operation ∷ before) = did o (account o before) operation
+
+abbrev pub acts_of : Origin → List Operation → List Act
+acts_of o list = (account o list).acts
+
+abbrev pub regs_of : Origin → List Operation → Registers
+regs_of o list = (account o list).registers
+
+-- What contracts see of an HBA.
+pub record State : Type 0 where
+  pub drive : DriveState
+  pub registers : Registers
+
+-- Drive and registers are those of a list of operations.
+pub record AgreesHba (hba : State) (o : Origin) (list : List Operation) : Type 0 where
+  pub drive : Agrees hba.drive o (acts_of o list)
+  pub registers : hba.registers ≡ regs_of o list
+
+-- What denied the command that an operation fetched, if one did.
+abbrev pub denied_by : Origin → Account → Operation → Option Why
+denied_by o a (Fetched tag fis payload places) =
+    (effect_after o a (Accept fis payload)).event.denied
+denied_by o a _ = None
+
+-- Whatever list the HBA agreed with, it agrees with that list and the operation in front.
+abbrev pub Adds : Operation → State → State → Type 0
+Adds operation old new =
+    (o : Origin) (list : List Operation) → AgreesHba old o list → AgreesHba new o (operation ∷ list)

@@ -1,0 +1,90 @@
+-- Laws over every list of operations: a command that fails, and a transfer that the policy denies, in
+-- the words of the registers and of the host's memory.
+use Rattle.std.specs.Prelude.{◌≡◌, ◌⊎◌, ℕ, ◌^◌, List, [], ◌∷◌, length, Option, Some, true, bit_or}
+use Rattle.fis.specs.declared.any.Fis.{Fis}
+use Rattle.hba_regs.specs.Registers.{without}
+use Rattle.locking.specs.declared.range.Op.{Op}
+use Rattle.trusted_cmds.specs.declared.command.Command.{Command}
+use Rattle.history.specs.Answers.{failed, answer_fis, moved_fis}
+use Rattle.history.specs.Decisions.{aborted, on_drive, ranges_in_force}
+use Rattle.history.specs.DenialLaws.{Moves as MovesSectors, IsFree}
+use Rattle.history.specs.Facts.{facts}
+use Rattle.history.specs.History.{Accept, Complete, log}
+use Rattle.history.specs.MethodLaws.{IsLookedAt}
+use Rattle.history.specs.Opening.{Origin}
+use Rattle.history.specs.TransferLaws.{IsPermitted}
+use Rattle.port_history.specs.Registers.{register_bit, task_error_bit}
+use Rattle.hba.specs.declared.registers.Registers.{Registers}
+use Rattle.hba.specs.declared.window.Region.{Region}
+use Rattle.hba.specs.Engine.{Moves, received_at, header_at}
+use Rattle.hba.specs.History.{Operation, Wrote, Powered, Fetched, Completed, account, acts_of, regs_of, effect_after}
+use Rattle.hba.specs.Memory.{counted, IsPosted}
+
+-- The registers tell the error: PxTFD has it, PxIS has TFES; PxCI and PxSACT have each bit that they
+-- had, and the port is halted.
+pub record TellsError (error : ℕ) (before after : Registers) : Type 0 where
+  pub status : after.port.status ≡ failed
+  pub code : after.port.error ≡ error
+  pub raised : after.port.interrupts
+      ≡ bit_or (bit_or before.port.interrupts task_error_bit) register_bit
+  pub issued : after.port.issued ≡ before.port.issued
+  pub active : after.port.active ≡ before.port.active
+  pub halted : after.is_halted ≡ true
+
+-- No data reach the memory: at most the count of bytes that moved, and the FIS of the error.
+abbrev pub GivesNothing : ℕ → Registers → ℕ → ℕ → ℕ → List ℕ → List ℕ → Type 0
+GivesNothing base regs tag moved error old new =
+    IsPosted base (received_at regs) (counted base (header_at regs tag) moved old)
+    (answer_fis true failed error ∷ []) new
+
+-- A fetched command fails with an error, in registers and memory.
+pub record FailsSo (o : Origin) (before : List Operation) (tag : ℕ) (fis payload : List ℕ)
+    (places : List Region) (error : ℕ) : Type 0 where
+  pub tells : TellsError error (regs_of o before)
+      (regs_of o (Fetched tag fis payload places ∷ before))
+  pub gives : (base : ℕ) (old new : List ℕ)
+      → Moves o (account o before) base (Fetched tag fis payload places) old new
+      → GivesNothing base (regs_of o before) tag (length payload) error old new
+
+-- Each command that the drive fails does so.
+abbrev pub FailureLaw : Type 0
+FailureLaw =
+    (o : Origin) (before : List Operation) (tag : ℕ) (fis payload : List ℕ) (places : List Region)
+    (error : ℕ)
+    → (effect_after o (account o before) (Accept fis payload)).event.failed ≡ Some error
+    → FailsSo o before tag fis payload places error
+
+-- And so each transfer that comes to the policy, of sectors on the drive, where a range denies it.
+abbrev pub DenialLaw : Type 0
+DenialLaw =
+    (o : Origin) (before : List Operation) (tag : ℕ) (fis payload : List ℕ) (places : List Region)
+    (command : Command) (slot : Option ℕ) (op : Op) (lba count : ℕ)
+    → let f = facts o (log o (acts_of o before)) in
+    IsLookedAt f (Accept fis payload) command slot → MovesSectors command slot op lba count
+    → IsFree f slot → on_drive f lba count ≡ true
+    → (IsPermitted (ranges_in_force f) op lba count → ⊥)
+    → FailsSo o before tag fis payload places aborted
+
+-- PxSACT after a completion: as before, or the tag's bit is cleared, and the Set Device Bits FIS of
+-- the tag told it (Serial ATA, Set Device Bits FIS; AHCI 1.3.1, 5.5.2).
+abbrev pub ToldByDeviceBits : ℕ → List Fis → ℕ → ℕ → Type 0
+ToldByDeviceBits tag fises before after =
+    (after ≡ before)
+    ⊎ ((setup : Fis) × (fises ≡ setup ∷ moved_fis tag ∷ []) × (after ≡ without before (2 ^ tag)))
+
+-- PxSACT after an operation of the engine.
+abbrev pub ActiveAfter : Origin → List Operation → Operation → Type 0
+ActiveAfter o before (Wrote offset value) = Unit {0}
+ActiveAfter o before Powered = Unit {0}
+ActiveAfter o before (Completed tag payload places) =
+    ToldByDeviceBits tag (effect_after o (account o before) (Complete tag payload)).fises
+    (regs_of o before).port.active
+    (regs_of o (Completed tag payload places ∷ before)).port.active
+ActiveAfter o before operation =
+    (regs_of o (operation ∷ before)).port.active ≡ (regs_of o before).port.active
+
+-- A bit of PxSACT falls by the Set Device Bits FIS of its own tag alone, but for what the host writes
+-- and a power cycle.
+abbrev pub ActiveLaw : Type 0
+ActiveLaw =
+    (o : Origin) (before : List Operation) (operation : Operation) → ActiveAfter o before operation

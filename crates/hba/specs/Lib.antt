@@ -1,0 +1,7 @@
+pub mod Registers
+pub mod Memory
+pub mod Showing
+pub mod History
+pub mod Ready
+pub mod Engine
+pub mod Laws

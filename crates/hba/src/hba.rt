@@ -1,0 +1,98 @@
+//! An HBA with one port, and the drive behind it.
+
+ghost use Rattle.std.specs.Prelude.{◌≡◌, List, ◌∷◌, if◌then◌else◌};
+ghost use Rattle.history.specs.Opening.{Origin};
+ghost use Rattle.history.specs.History.{Act, Reset};
+ghost use Rattle.sp_cells.specs.Resets.{hardware};
+ghost use Rattle.drive.specs.State.{Agrees};
+
+use crate::registers::Registers;
+use drive::{Drive, ResetKind};
+use std::alloc::Global;
+use std::marker::Model;
+
+/// An HBA with one port, and the drive behind it.
+#[derive(Drop)]
+pub struct Hba {
+    pub(crate) alloc: Global,
+    pub(crate) drive: Drive,
+    pub(crate) registers: Registers,
+}
+
+impl Model for Hba {
+    ghost use Rattle.hba.specs.History.{State};
+
+    ghost Value = { State };
+
+    ghost view = { λ h. record { drive = h.drive; registers = h.registers } };
+}
+
+/// Resets the drive, where it is to be.
+fn reset_if(resets: bool, drive: &mut Drive)
+    ensures { (o : Origin) (acts : List Act) → Agrees drive.old o acts
+        → Agrees drive.new o (if resets then Reset hardware ∷ acts else acts) }
+{
+    if resets {
+        drive.reset(ResetKind::Hardware);
+    }
+}
+
+impl Hba {
+    ghost use Rattle.std.specs.Prelude.{[]};
+    ghost use Rattle.hba.specs.Registers.{word_at, line};
+    ghost use Rattle.hba.specs.History.{Operation, Wrote, Powered, AgreesHba, Adds, regs_of};
+
+    /// An HBA after its reset, over a drive that has done no act.
+    pub fn new(alloc: Global, drive: Drive) -> Hba
+        ensures { (o : Origin) → Agrees drive o [] → AgreesHba result o [] }
+    {
+        Hba {
+            alloc,
+            drive,
+            registers: Registers::new(),
+        }
+    }
+
+    /// The word that the host reads at an offset: 0 where no register stands. Nothing changes.
+    pub fn read(&self, offset: u32) -> u32
+        ensures stands { result ≡ word_at self.now.registers offset }
+        ensures told { (o : Origin) (list : List Operation) → AgreesHba self.now o list
+            → result ≡ word_at (regs_of o list) offset }
+    {
+        self.registers.read(offset)
+    }
+
+    /// The interrupt line.
+    pub fn interrupt(&self) -> bool
+        ensures stands { result ≡ line self.now.registers }
+        ensures told { (o : Origin) (list : List Operation) → AgreesHba self.now o list
+            → result ≡ line (regs_of o list) }
+    {
+        self.registers.line()
+    }
+
+    /// The drive.
+    pub fn drive(&self) -> &Drive
+        ensures { result.now ≡ self.now.drive }
+    {
+        &self.drive
+    }
+
+    /// The host's write of a word at an offset. It touches registers, and the drive by a reset alone; never
+    /// the host's memory, and needs none.
+    pub fn write(&mut self, offset: u32, value: u32)
+        ensures { Adds (Wrote offset value) self.old self.new }
+    {
+        let resets = self.registers.resets(offset, value);
+        self.registers.write(offset, value);
+        reset_if(resets, &mut self.drive);
+    }
+
+    /// A power cycle: the drive's reset of that kind, and all registers as at the start.
+    pub fn power_cycle(&mut self)
+        ensures { Adds Powered self.old self.new }
+    {
+        self.drive.reset(ResetKind::Power);
+        self.registers = Registers::new();
+    }
+}

@@ -1,0 +1,19 @@
+//! What follows from the definitions alone.
+
+ghost use Rattle.hba.specs.Laws.{FailureLaw, DenialLaw, ActiveLaw};
+
+/// Laws of the definitions, over every origin and every list of operations.
+///
+/// `failed`: where the drive fails a fetched command, PxTFD tells the error, PxIS has TFES, PxCI and PxSACT keep their
+/// bits, the port is halted, and no data reach the host's memory. `denied`: so it is for each transfer that comes to the
+/// policy and that a range denies by the rows in force at its fetch.
+pub fn laws_of_failures()
+    ensures failed { FailureLaw }
+    ensures denied { DenialLaw }
+{}
+
+/// The law of queued commands: a bit of PxSACT falls by the Set Device Bits FIS of its own tag alone, but for what the
+/// host writes and a power cycle.
+pub fn laws_of_queues()
+    ensures { ActiveLaw }
+{}

@@ -1,0 +1,140 @@
+//! What the engine may do (AHCI 1.3.1, 5.3 and 5.5.1).
+
+ghost use Rattle.std.specs.Prelude.{◌≡◌, ◌<◌, ◌≤◌, ◌+◌, ◌++◌, List, [], None, length};
+ghost use Rattle.history.specs.Opening.{Origin};
+ghost use Rattle.hba.specs.Ready.{picked};
+
+use crate::hba::Hba;
+use arrayvec::ArrayVec;
+use drive::Why;
+use fis::Tag;
+use thiserror::Error;
+
+/// A piece of work of the engine.
+#[derive(Clone, Copy, Debug, Default, PartialEq, Eq)]
+pub enum Work {
+    /// The device tells its signature.
+    #[default]
+    Signature,
+    /// The command that is issued under a tag is fetched.
+    Fetch(Tag),
+    /// What the drive holds under a tag is completed.
+    Complete(Tag),
+}
+
+/// A piece of work that was done, and what denied the command that it fetched.
+#[derive(Debug, Drop, PartialEq, Eq)]
+pub struct Turned {
+    pub work: Work,
+    pub denied: Option<Why>,
+}
+
+/// Why a piece of work was not done.
+#[derive(Clone, Copy, Debug, PartialEq, Eq, Error)]
+pub enum HbaError {
+    /// It is not to be done now.
+    #[error("the engine has no such work")]
+    NotReady,
+    /// Memory for the payload, the answer or the places of data.
+    #[error("out of memory")]
+    OutOfMemory,
+}
+
+impl Hba {
+    ghost use Rattle.hba.specs.History.{Operation, AgreesHba};
+    ghost use Rattle.hba.specs.Ready.{is_ready_on, is_ready_after, if_ready, fetches, completions, ready_on, ready_after, picked};
+    ghost use Rattle.fis.specs.Tags.{slot_count};
+
+    /// Whether the engine may do a piece of work.
+    pub fn is_ready(&self, work: &Work) -> bool
+        ensures stands { result ≡ is_ready_on self.now work.now }
+        ensures told { (o : Origin) (list : List Operation) → AgreesHba self.now o list
+            → result ≡ is_ready_after o list work.now }
+    {
+        self.may(work)
+    }
+
+    fn may(&self, work: &Work) -> bool
+        ensures { result ≡ is_ready_on self.now work.now }
+    {
+        match *work {
+            Work::Signature => self.registers.may_sign(),
+            Work::Fetch(tag) => self.registers.may_fetch(tag),
+            Work::Complete(tag) => self.registers.may_complete(tag) && self.drive.holds(tag),
+        }
+    }
+
+    /// Adds a piece of work that may be done.
+    fn add(&self, works: &mut ArrayVec<Work, 65>, work: Work)
+        requires { length works.old.items < 65 }
+        ensures items { works.new.items ≡ works.old.items ++ if_ready (is_ready_on self.now) work }
+        ensures few { length works.new.items ≤ length works.old.items + 1 }
+    {
+        if self.is_ready(&work) {
+            works.push(work);
+        }
+    }
+
+    #[tactic(auto, using(crate::proofs::Works::one_fetch))]
+    fn add_fetches(&self, works: &mut ArrayVec<Work, 65>)
+        requires { length works.old.items ≤ 1 }
+        ensures items { works.new.items
+            ≡ works.old.items ++ fetches (is_ready_on self.now) slot_count }
+        ensures few { length works.new.items ≤ 33 }
+    {
+        for number in 0..32 {
+            self.add(works, Work::Fetch(Tag::low_bits(number)));
+        }
+    }
+
+    #[tactic(auto, using(crate::proofs::Works::one_completion))]
+    fn add_completions(&self, works: &mut ArrayVec<Work, 65>)
+        requires { length works.old.items ≤ 33 }
+        ensures { works.new.items
+            ≡ works.old.items ++ completions (is_ready_on self.now) slot_count }
+    {
+        for number in 0..32 {
+            self.add(works, Work::Complete(Tag::low_bits(number)));
+        }
+    }
+
+    /// The work that may be done: the signature, then fetches and then completions, the least tag first.
+    #[tactic(auto, using(crate::proofs::Works::ready_same))]
+    pub fn ready(&self) -> ArrayVec<Work, 65>
+        ensures stands { result.items ≡ ready_on self.now }
+        ensures told { (o : Origin) (list : List Operation) → AgreesHba self.now o list
+            → result.items ≡ ready_after o list }
+    {
+        let works = self.works();
+        works
+    }
+
+    fn works(&self) -> ArrayVec<Work, 65>
+        ensures { result.items ≡ ready_on self.now }
+    {
+        let mut works = ArrayVec::new();
+        self.add(&mut works, Work::Signature);
+        self.add_fetches(&mut works);
+        self.add_completions(&mut works);
+        works
+    }
+
+    /// The work of this number, modulo how many there are.
+    pub(crate) fn pick(&self, choice: usize) -> Option<Work>
+        ensures { result ≡ picked choice (ready_on self.now) }
+    {
+        let works = self.works();
+        let work = pick(works.as_slice(), choice);
+        work
+    }
+}
+
+/// The work of a number, modulo how many there are.
+fn pick(works: &[Work], choice: usize) -> Option<Work>
+    ensures { result ≡ picked choice works.now }
+{
+    if works.is_empty() {
+        return None;
+    }
+    Some(works[choice % works.len()])
+}
