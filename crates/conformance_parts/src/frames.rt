@@ -4,7 +4,6 @@ use compacket::{
     FrameError, Opened, Session, empty_header, frame, frame_into, frame_len, open, short_header,
 };
 use std::alloc::{AllocError, Global};
-use std::test::Fail;
 
 /// A Get of the PIN of C_PIN_MSID in the session 1000h/1, on ComID 1000h: 37 bytes of tokens in a
 /// subpacket of 37, a packet of 52, a ComPacket of 76.
@@ -128,17 +127,9 @@ fn are_cuts_told() -> bool {
 }
 
 #[test]
-fn frames_are_written(rt: HostRuntime) -> Result<(), Fail> {
-    let is_vector = is_written(rt.alloc())?;
-    let is_longest = is_longest_written(rt.alloc())?;
-    assert!(rt; is_vector && is_longest && are_headers() && frame_len(37) == 96);
-    Ok(())
-}
-
-#[test]
-fn frames_are_read(rt: HostRuntime) -> Result<(), Fail> {
-    let is_refused = is_longer_refused(rt.alloc())?;
-    let is_vector = is_frame(&VECTOR, &VECTOR[56..93]);
-    assert!(rt; is_vector && is_refused && are_faults_told() && are_cuts_told());
-    Ok(())
+fn frames_are_written_and_read(rt: HostRuntime) {
+    let is_vector = is_written(rt.alloc()) == Ok(true) && is_frame(&VECTOR, &VECTOR[56..93]);
+    let is_longest = is_longest_written(rt.alloc()) == Ok(true);
+    let is_told = is_longer_refused(rt.alloc()) == Ok(true) && are_faults_told() && are_cuts_told();
+    assert!(rt; is_vector && is_longest && is_told && are_headers() && frame_len(37) == 96);
 }

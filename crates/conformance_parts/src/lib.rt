@@ -7,6 +7,8 @@ mod audit_lines;
 #[cfg(test)]
 mod commands;
 #[cfg(test)]
+mod damage;
+#[cfg(test)]
 mod fises;
 #[cfg(test)]
 mod frames;

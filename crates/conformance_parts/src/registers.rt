@@ -1,7 +1,6 @@
 //! The registers of a port (AHCI 1.3.1, chapter 3).
 
 use hba_regs::*;
-use std::test::Fail;
 
 /// Whether a register has this word.
 fn reads(regs: &PortRegs, offset: u32, word: u32) -> bool {
@@ -60,9 +59,8 @@ fn clears_and_starts() -> Result<bool, RegError> {
 }
 
 #[test]
-fn words_of_the_registers(rt: HostRuntime) -> Result<(), Fail> {
-    let drops = drops_tags()?;
-    let clears = clears_and_starts()?;
+fn words_of_the_registers(rt: HostRuntime) {
+    let drops = drops_tags() == Ok(true);
+    let clears = clears_and_starts() == Ok(true);
     assert!(rt; begins_with_a_device() && drops && follows_a_command() && clears);
-    Ok(())
 }
