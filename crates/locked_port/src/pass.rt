@@ -45,7 +45,7 @@ impl<L: PortName> Model for Pass<L> {
 }
 
 impl<L: PortName> Pass<L> {
-    ghost use Rattle.std.specs.Prelude.{◌≡◌, ◌+◌, ◌<◌, List, ◌∷◌, length, Ok, Err, is_some, true, IfOk, IfErr, IsOkUnless, MatchResult, MatchOption};
+    ghost use Rattle.std.specs.Prelude.{◌≡◌, ◌+◌, ◌<◌, List, ◌∷◌, length, ◌++◌, [], Ok, Err, is_some, true, IfOk, IfErr, OnOk, IsOkUnless, MatchResult, MatchOption};
     ghost use Rattle.history.specs.Opening.{Origin};
     ghost use Rattle.port_history.specs.declared.error.PortError.{PortError};
     ghost use Rattle.port_history.specs.declared.step.Step.{Step};
@@ -55,13 +55,40 @@ impl<L: PortName> Pass<L> {
     ghost use Rattle.port_history.specs.Steps.{trace};
     ghost use Rattle.port.specs.Agreement.{PortAgrees};
     ghost use Rattle.locked_port.specs.Awaits.{awaited, IsTaken, IsWaitRefused, is_of_submit, is_of_wait};
-    ghost use Rattle.locked_port.specs.Hands.{hands, counted, Claims, Frees};
+    ghost use Rattle.locked_port.specs.Hands.{hand, hands, counted, Claims, Frees};
 
     /// The client: 1 and up, and the engine's one behind the last client's.
     pub fn client(&self) -> u32
         ensures { result ≡ self.now.client }
     {
         self.client
+    }
+
+    /// Deals one more pass, with a seat at the board.
+    fn deal_one(
+        passes: &mut Vec<Pass<L>>,
+        whole: &mut Share<L>,
+        first: &mut TagSeat,
+        client: u32,
+    ) -> Result<(), PortError>
+        requires { (0 < whole.old.parts) × (whole.old.amount ≡ 0) }
+        ensures passes { OnOk result (passes.new.items
+            ≡ passes.old.items ++ hand client 0 0 ∷ []) }
+        ensures whole { OnOk result ((whole.new.parts + 1 ≡ whole.old.parts)
+            × (whole.new.amount ≡ 0)) }
+        ensures memory { IsOkUnless result PortError.OutOfMemory }
+    {
+        let share = whole.split_off(1, 0);
+        let seat = first.split()?;
+        let pass = Pass {
+            client,
+            share,
+            seat,
+        };
+        if passes.push(pass).is_err() {
+            return Err(PortError::OutOfMemory);
+        }
+        Ok(())
     }
 
     /// The passes 1 to `many`, each with a seat at the board.
@@ -78,16 +105,7 @@ impl<L: PortName> Pass<L> {
         let mut whole = whole;
         let mut passes = Vec::new(alloc);
         for k in 0..many {
-            let share = whole.split_off(1, 0);
-            let seat = first.split()?;
-            let pass = Pass {
-                client: k + 1,
-                share,
-                seat,
-            };
-            if passes.push(pass).is_err() {
-                return Err(PortError::OutOfMemory);
-            }
+            Self::deal_one(&mut passes, &mut whole, &mut first, k + 1)?;
         }
         Ok(passes)
     }
