@@ -13,12 +13,11 @@ use Rattle.compacket.specs.declared.error.FrameError.{FrameError}
 use Rattle.compacket.specs.declared.session.Session.{Session}
 use Rattle.locking.specs.declared.ranges.Verdict.{Verdict}
 use Rattle.tcg_tokens.specs.Reading.{reading as message_in}
-use Rattle.history.specs.Sessions.{Begun}
-use Rattle.history.specs.KeptCalls.{wipes_by}
+use Rattle.sessions.specs.Deeds.{Begun, wipes_by, SessionDeed, Unchanged, Started, Tried, Changed, Began, Committed, Aborted, Ended, Activated, Reverted}
 use Rattle.history.specs.Decisions.{completed}
 use Rattle.history.specs.Tcg.{sent, framed, to_session, to_manager, answers, is_manager}
 use Rattle.history.specs.Opening.{Origin}
-use Rattle.history.specs.Events.{SessionDeed, Unchanged, Started, Tried, Changed, Began, Committed, Aborted, Ended, Activated, Reverted, HeldCommand, QueueDeed, Held as HeldDeed, Completed, CompletedWrite, QueueFailed, QueueMended, Deed, Nothing, OfQueue, Wrote, Took, WasReset, InSession, Event, did, or_else, latest}
+use Rattle.history.specs.Events.{HeldCommand, QueueDeed, Held as HeldDeed, Completed, CompletedWrite, QueueFailed, QueueMended, Deed, Nothing, OfQueue, Wrote, Took, WasReset, InSession, Event, did, or_else, latest}
 use Rattle.history.specs.Readers.{holding, held, failing, failure, writing, sector, wipes as wiped_to}
 use Rattle.history.specs.Facts.{Facts, facts, session_named}
 use Rattle.history.specs.KeptStore.{ReadsStore}

@@ -39,8 +39,7 @@ denied_as f act why (inl t) =
 denied_as f act why (inr (inl m)) =
     inr (inl (record {
       by = m;
-      names = deny_law (standing f m.session).rows m.session.sp (uid_of m.object) (uid_of m.method)
-          (standing f m.session).held m.ask why m.denial;
+      names = deny_law (standing f m.session) (uid_of m.object) (uid_of m.method) m.ask why m.denial;
     }))
 denied_as f act why (inr (inr (inl a))) = inr (inr (inl a))
 denied_as f act why (inr (inr (inr s))) = inr (inr (inr s))

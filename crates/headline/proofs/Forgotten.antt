@@ -3,7 +3,8 @@ use Rattle.std.proofs.Common.{◌≡◌, ◌∙◌, ℕ, ◌+◌, Bool, true, fa
 use Rattle.std.specs.Prelude.{unwrap_or}
 use Rattle.sp_cells.specs.declared.names.Sp.{Sp}
 use Rattle.sp_cells.specs.Flat.{sp_eq}
-use Rattle.history.specs.Events.{Changed, Committed, Deed, InSession, Event, or_else, latest, since, every}
+use Rattle.history.specs.Events.{Deed, InSession, Event, or_else, latest, since, every}
+use Rattle.sessions.specs.Deeds.{Changed, Committed}
 use Rattle.history.specs.Items.{Items}
 use Rattle.history.specs.History.{Act, event_of, event_in}
 use Rattle.history.specs.NoTrace.{emptied, is_commit, Aborts, further}

@@ -19,25 +19,25 @@ use Rattle.call_shapes.specs.Limits.{most_response}
 use Rattle.sessions.specs.Starts.{is_in_use}
 use Rattle.methods.specs.Effects.{has_ask}
 use Rattle.methods.specs.Kinds.{kind_of}
-use Rattle.methods.specs.Settings.{Setting}
+use Rattle.sessions.specs.Deeds.{Setting, Sets, Unchanged, Changed, Activated, Reverted, Begun}
 use Rattle.methods.specs.Listed.{listed}
 use Rattle.methods.proofs.ListLaws.{list_law}
-use Rattle.history.specs.Calls.{Judgement, Refuses, Gives, Activates, Reverts, Standing, table_size, bytes_between, rows_given, gives, listing, makes, unless_open, does_ask, does, judged, asked}
-use Rattle.history.specs.Changes.{Sets}
+use Rattle.methods.specs.Judgement.{Judgement, Refuses, Gives, Activates, Reverts, Standing, table_size, bytes_between, rows_given, gives, listing, makes, unless_open, does_ask, does, judged, asked}
 use Rattle.history.specs.Decisions.{is_session_com_id, is_trusted}
-use Rattle.history.specs.Tcg.{answers, outcome_of, tcg}
+use Rattle.history.specs.Tcg.{answers, tcg}
+use Rattle.methods.specs.Calls.{outcome_of}
 use Rattle.history.specs.Facts.{Facts, standing}
 use Rattle.history.specs.History.{Act, Accept as AcceptFis, event_by}
-use Rattle.history.specs.MethodLaws.{IsGranted, takes_effect, IsLookedAt, IsSent, IsCall}
-use Rattle.history.proofs.MethodProofs.{grant_law, call_law, effect_law}
-use Rattle.history.specs.Events.{Unchanged, Changed, Activated, Reverted}
+use Rattle.history.specs.MethodLaws.{IsLookedAt, IsSent, IsCall}
+use Rattle.methods.specs.Laws.{IsGranted, takes_effect, IsJudgedByAces}
+use Rattle.methods.proofs.GrantLaws.{effect_law as effects}
+use Rattle.history.proofs.MethodProofs.{call_law, effect_law}
 use Rattle.sp_cells.specs.declared.names.Sp.{Sp}
 use Rattle.sp_cells.specs.declared.names.Sp.TheVariants.{Admin, Locking}
 use Rattle.sp_cells.specs.declared.names.Uid.{Uid}
 use Rattle.sp_cells.specs.ColumnNames.{pin_column}
 use Rattle.sp_cells.specs.Names.{c_pin_sid}
 use Rattle.history.specs.Opening.{Origin}
-use Rattle.history.specs.Sessions.{Begun}
 use Rattle.port_history.specs.declared.stages.Put.{Put}
 use Rattle.port_history.specs.declared.stages.Stage.TheVariants.{Issued}
 use Rattle.port_history.specs.declared.step.Step.{Step}
@@ -179,36 +179,36 @@ gives_cells s object first last valid =
 
 -- what takes effect, method by method
 by_room : (f : Facts) (session : Begun) (b : Bool) (results : List Tree)
-    → (outcome_of f session.sp (if b then Gives results else Refuses response_overflow None)).deed ≡ Unchanged
+    → (outcome_of f.rows session.sp (if b then Gives results else Refuses response_overflow None)).deed ≡ Unchanged
 by_room f session true results = refl
 by_room f session false results = refl
 
 by_setting : (f : Facts) (session : Begun) (found : Option Setting)
     → takes_effect (makes found) ≡ true
     → (set : Setting) × (found ≡ Some set)
-    × ((outcome_of f session.sp (makes found)).deed ≡ Changed session.sp (Sets set))
+    × ((outcome_of f.rows session.sp (makes found)).deed ≡ Changed session.sp (Sets set))
 by_setting f session None valid = absurd (cc)
 by_setting f session (Some set) valid = (set, refl, refl)
 
 rows_deed : (f : Facts) (session : Begun) (first last : ℕ)
-    → (outcome_of f session.sp (rows_given (standing f session) first last)).deed ≡ Unchanged
+    → (outcome_of f.rows session.sp (rows_given (standing f session).byte (table_size (standing f session)) first last)).deed ≡ Unchanged
 rows_deed f session first last =
     by_tests
     ((table_size (standing f session) == 0) || (nat_le (table_size (standing f session)) last || nat_lt last first))
     (nat_lt most_response (last + 1 - first))
   where
     by_tests : (a b : Bool)
-        → (outcome_of f session.sp (if a then Refuses invalid_parameter None
+        → (outcome_of f.rows session.sp (if a then Refuses invalid_parameter None
         else (if b then Refuses response_overflow None
-        else gives (bytes_between (standing f session) first last)))).deed ≡ Unchanged
+        else gives (bytes_between (standing f session).byte first last)))).deed ≡ Unchanged
     by_tests true b = refl
     by_tests false true = refl
     by_tests false false = by_room f session _ _
 
 activates_deed : (f : Facts) (session : Begun) (in_use is_open : Bool)
     → takes_effect (unless_open is_open Activates) ≡ true → is_in_use f.rows Locking ≡ in_use
-    → (in_use ≡ true → (outcome_of f session.sp (unless_open is_open Activates)).deed ≡ Unchanged)
-    × (in_use ≡ false → (outcome_of f session.sp (unless_open is_open Activates)).deed
+    → (in_use ≡ true → (outcome_of f.rows session.sp (unless_open is_open Activates)).deed ≡ Unchanged)
+    × (in_use ≡ false → (outcome_of f.rows session.sp (unless_open is_open Activates)).deed
     ≡ Activated (f.rows Admin c_pin_sid pin_column))
 activates_deed f session in_use true valid is = absurd (cc)
 activates_deed f session true false valid is = (
@@ -222,7 +222,7 @@ activates_deed f session false false valid is = (
 
 reverts_deed : (f : Facts) (session : Begun) (reverted : Sp) (is_open : Bool)
     → takes_effect (unless_open is_open (Reverts reverted)) ≡ true
-    → (outcome_of f session.sp (unless_open is_open (Reverts reverted))).deed
+    → (outcome_of f.rows session.sp (unless_open is_open (Reverts reverted))).deed
     ≡ Reverted reverted (is_in_use f.rows Locking)
 reverts_deed f session reverted true valid = absurd (cc)
 reverts_deed f session reverted false valid = refl
@@ -230,7 +230,7 @@ reverts_deed f session reverted false valid = refl
 effect_is : (f : Facts) (session : Begun) (object : Uid) (ask : Ask) (has : Bool)
     → takes_effect (does_ask (standing f session) object (if has then ask else Other)) ≡ true
     → EffectIs f session object ask
-    (outcome_of f session.sp (does_ask (standing f session) object (if has then ask else Other))).deed
+    (outcome_of f.rows session.sp (does_ask (standing f session) object (if has then ask else Other))).deed
 effect_is f session object ask false valid = absurd (cc)
 effect_is f session object (GetCells first last) true valid = by_room f session _ _
 effect_is f session object (GetBytes first last) true valid = rows_deed f session first _
@@ -272,23 +272,23 @@ judged_so_far o before step session object method args ask h c shaped = record {
     here : event_after tcg o before step ≡ Some (event_by f act)
     here = event_is_here o before step c.tag c.put c.accepts c.stands
 
-    judges : Rattle.history.specs.MethodLaws.IsJudgedByAces (standing f session) (uid_of object) (uid_of method) ask
-    judges = grant_law (standing f session) (uid_of object) (uid_of method) ask
+    judges : IsJudgedByAces (standing f session) (uid_of object) (uid_of method) ask
+    judges = effects (standing f session) (uid_of object) (uid_of method) ask
 
     law : takes_effect (does (standing f session) (uid_of object) ask) ≡ true
-        → (event_by f act ≡ answers c.com_id c.frame.session (outcome_of f session.sp (does (standing f session) (uid_of object) ask))
+        → (event_by f act ≡ answers c.com_id c.frame.session (outcome_of f.rows session.sp (does (standing f session) (uid_of object) ask))
         → IsGranted (standing f session) (uid_of object) (uid_of method) ask)
         × (IsGranted (standing f session) (uid_of object) (uid_of method) ask
-        → event_by f act ≡ answers c.com_id c.frame.session (outcome_of f session.sp (does (standing f session) (uid_of object) ask)))
+        → event_by f act ≡ answers c.com_id c.frame.session (outcome_of f.rows session.sp (does (standing f session) (uid_of object) ask)))
     law valid = effect_law f act session object method args is_call ask shaped valid
 
     judged_so : event_by f act
         ≡ answers c.com_id c.frame.session
-        (outcome_of f session.sp (judged (standing f session) (uid_of object) (uid_of method) (Some ask)))
+        (outcome_of f.rows session.sp (judged (standing f session) (uid_of object) (uid_of method) (Some ask)))
     judged_so =
         call_law f act session object method args is_call
         ∙ ap (λ (x : Option Ask). answers c.com_id c.frame.session
-        (outcome_of f session.sp (judged (standing f session) (uid_of object) (uid_of method) x))) shaped
+        (outcome_of f.rows session.sp (judged (standing f session) (uid_of object) (uid_of method) x))) shaped
 
     refused_by : (IsGrantedAt o before session object method ask → ⊥)
         → (why : Why) × (judged (standing f session) (uid_of object) (uid_of method) (Some ask) ≡ Refuses not_authorized (Some why))
@@ -297,7 +297,7 @@ judged_so_far o before step session object method args ask h c shaped = record {
       d.0,
       record {
         event =
-            here ∙ ap Some (judged_so ∙ ap (λ (j : Judgement). answers c.com_id c.frame.session (outcome_of f session.sp j)) d.1);
+            here ∙ ap Some (judged_so ∙ ap (λ (j : Judgement). answers c.com_id c.frame.session (outcome_of f.rows session.sp j)) d.1);
       },
     )
 
@@ -309,7 +309,7 @@ judged_so_far o before step session object method args ask h c shaped = record {
       cells = listed (standing f session).rows session.sp (uid_of object) first last (standing f session).held;
       says =
           here ∙ ap Some ((law valid).1 granted)
-          ∙ ap (λ (j : Judgement). Some (answers c.com_id c.frame.session (outcome_of f session.sp j)))
+          ∙ ap (λ (j : Judgement). Some (answers c.com_id c.frame.session (outcome_of f.rows session.sp j)))
           (ap (does (standing f session) (uid_of object)) is
           ∙ gives_cells (standing f session) (uid_of object) first last
           (subst (λ (a : Ask). takes_effect (does (standing f session) (uid_of object) a) ≡ true) is valid));

@@ -13,11 +13,10 @@ use Rattle.locking.specs.declared.range.Op.{Op}
 use Rattle.locking.specs.declared.range.Op.TheVariants as ops
 use Rattle.shadow_mbr.specs.Stored.{zeros, sectors_from}
 use Rattle.transactions.specs.Resets.{is_range}
-use Rattle.methods.specs.Settings.{cells_set}
+use Rattle.sessions.specs.Deeds.{cells_set, Sets, SessionDeed, Changed, Began, Aborted}
 use Rattle.trusted_cmds.specs.declared.command.Command.TheVariants as commands
-use Rattle.history.specs.Changes.{Sets}
 use Rattle.history.specs.Decisions.{any_below, refuses, verdict_on}
-use Rattle.history.specs.Events.{Event, SessionDeed, Changed, Began, Aborted, InSession, did}
+use Rattle.history.specs.Events.{Event, InSession, did}
 use Rattle.history.specs.Facts.{facts}
 use Rattle.history.specs.Items.{Items}
 use Rattle.history.specs.NoTrace.{IsByOwnView, Aborts, emptied, further}

@@ -11,16 +11,15 @@ use Rattle.sp_cells.specs.declared.cells.Cell.{Cell}
 use Rattle.sp_cells.specs.declared.names.Column.{Column}
 use Rattle.sp_cells.specs.declared.names.Uid.{Uid}
 use Rattle.compacket.specs.Frames.{Frame}
-use Rattle.tcg_tokens.specs.Spelling.{item_spelling_of}
+use Rattle.tcg_tokens.specs.Spelling.{item_spelling_of, number_spelling, bytes_spelling}
 use Rattle.tcg_tokens.specs.Tree.{Trees, trees_of}
 use Rattle.trusted_cmds.specs.declared.command.Command.TheVariants.{Send}
 use Rattle.call_shapes.specs.Asks.{uid_of}
 use Rattle.call_shapes.specs.declared.ask.Ask.TheVariants.{SetCells, Revert}
-use Rattle.methods.specs.Laws.{are_rising}
-use Rattle.methods.specs.Listed.{listed}
-use Rattle.history.specs.Calls.{asked}
-use Rattle.history.specs.MethodLaws.{takes_effect}
-use Rattle.history.specs.Sessions.{Begun}
+use Rattle.methods.specs.Laws.{are_rising, takes_effect}
+use Rattle.methods.specs.Listed.{listed, listed_among}
+use Rattle.methods.specs.Judgement.{asked}
+use Rattle.sessions.specs.Deeds.{Begun, cells_set, Sets, SessionDeed, Unchanged, Changed, Reverted}
 use Rattle.headline.specs.Methods.{IsCallStep, EffectIs, standing_at, comes_to}
 use Rattle.sp_cells.specs.Authorities.{authorities_of_locking}
 use Rattle.sp_tables.specs.Faults.{any_to}
@@ -31,16 +30,11 @@ use Rattle.locking.specs.Verdict.{verdict_of}
 use Rattle.shadow_mbr.specs.Stored.{zeros, sectors_from}
 use Rattle.tcg_tokens.specs.Lex.{first_lexeme}
 use Rattle.tcg_tokens.specs.Reading.{expect, number_at, uid_at, values_up_to, list_with, list_value_with, named_with, value_of, list_at, status_at, call_at, reply_at, message_at, reading as message_in}
-use Rattle.tcg_tokens.specs.Spelling.{number_spelling, bytes_spelling}
 use Rattle.transactions.specs.Resets.{is_range}
-use Rattle.methods.specs.Listed.{listed_among}
 use Rattle.methods.specs.Settings.{cells_for}
 use Rattle.history.specs.Decisions.{any_below}
 use Rattle.tcg_tokens.specs.Tree as tree
 use Rattle.audit.specs.declared.reason.Why.TheVariants.{NoEntryHolds}
-use Rattle.history.specs.Changes.{Sets}
-use Rattle.history.specs.Events.{SessionDeed, Unchanged, Changed, Reverted}
-use Rattle.methods.specs.Settings.{cells_set}
 use Rattle.history.proofs.Scripts.{new_drive, activated, start_anybody, set_cells}
 use Rattle.port_history.specs.declared.step.Step.{Step}
 use Rattle.port_history.specs.declared.step.Step.TheVariants.{Accept}

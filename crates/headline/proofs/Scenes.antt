@@ -7,7 +7,8 @@ use Rattle.sp_cells.specs.Names.{locking_sp, admin_uid}
 use Rattle.tcg_tokens.specs.Message.{Message}
 use Rattle.tcg_tokens.specs.Spelling.{item_spelling_of}
 use Rattle.audit.specs.declared.reason.Why.{Why}
-use Rattle.history.specs.Events.{SessionDeed, Deed, InSession, Event}
+use Rattle.history.specs.Events.{Deed, InSession, Event}
+use Rattle.sessions.specs.Deeds.{SessionDeed}
 use Rattle.history.specs.Items.{Items}
 use Rattle.history.specs.Opening.{Origin}
 use Rattle.history.proofs.Scripts.{msid, start_as}

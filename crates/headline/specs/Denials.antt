@@ -29,8 +29,7 @@ pub record IsTransferDenied (f : Facts) (act : Act) (why : Why) : Type 0 where
 -- A call that no access entry granted: by the first column, in the call's order, that has none.
 pub record IsMethodDenied (f : Facts) (act : Act) (why : Why) : Type 0 where
   pub by : MethodDenied f act why
-  pub names : IsDeniedBy (standing f by.session).rows by.session.sp (uid_of by.object)
-      (uid_of by.method) (standing f by.session).held by.ask why
+  pub names : IsDeniedBy (standing f by.session) (uid_of by.object) (uid_of by.method) by.ask why
 
 -- What denied an act: the policy, the access entries, or a failed attempt, which is named with its
 -- authority and how it failed.

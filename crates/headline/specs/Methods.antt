@@ -18,22 +18,19 @@ use Rattle.call_shapes.specs.Asks.{uid_of}
 use Rattle.call_shapes.specs.Statuses.{success, not_authorized}
 use Rattle.call_shapes.specs.declared.ask.Ask.{Ask}
 use Rattle.call_shapes.specs.declared.ask.Ask.TheVariants.{GetCells, GetBytes, SetCells, SetBytes, Authenticate, Activate, Revert, Other}
-use Rattle.methods.specs.Laws.{IsAmong, IsListed, are_rising}
+use Rattle.methods.specs.Laws.{IsAmong, IsListed, are_rising, IsGranted, takes_effect}
 use Rattle.methods.specs.Listed.{cell_value}
 use Rattle.methods.specs.Said.{reply_of}
 use Rattle.sessions.specs.Attempts.{failure as failure_of, credential}
 use Rattle.sessions.specs.Starts.{is_in_use}
 use Rattle.methods.specs.Effects.{sp_of_row}
-use Rattle.methods.specs.Settings.{Setting}
-use Rattle.history.specs.Changes.{Sets}
-use Rattle.history.specs.Calls.{Judgement, Standing, asked, does, to_set}
+use Rattle.sessions.specs.Deeds.{Setting, Sets, Outcome, says, Attempt, SessionDeed, Unchanged, Tried, Changed, Activated, Reverted, Begun}
+use Rattle.methods.specs.Judgement.{Judgement, Standing, asked, does, to_set}
 use Rattle.history.specs.Decisions.{is_session_com_id}
-use Rattle.history.specs.Tcg.{answers, is_manager, Outcome, outcome_of, says, tcg}
-use Rattle.history.specs.Events.{Attempt, SessionDeed, Unchanged, Tried, Changed, Activated, Reverted}
+use Rattle.history.specs.Tcg.{answers, is_manager, tcg}
+use Rattle.methods.specs.Calls.{outcome_of}
 use Rattle.history.specs.Facts.{Facts, session_named, standing}
-use Rattle.history.specs.MethodLaws.{IsGranted, takes_effect}
 use Rattle.history.specs.Opening.{Origin}
-use Rattle.history.specs.Sessions.{Begun}
 use Rattle.port_history.specs.declared.stages.Put.{Put}
 use Rattle.port_history.specs.declared.stages.Stage.TheVariants.{Issued}
 use Rattle.port_history.specs.declared.step.Step.{Step}
@@ -139,11 +136,12 @@ pub record IsJudged (o : Origin) (before : List Step) (step : Step) (session : B
     (c : IsCallStep o before step session object method args) (ask : Ask) : Type 0 where
   pub granted : takes_effect (comes_to o before session object ask) ≡ true
       → DoesSo o before step session object method args c
-      (outcome_of (facts_after tcg o before) session.sp (comes_to o before session object ask))
+      (outcome_of (facts_after tcg o before).rows session.sp (comes_to o before session object ask))
       ↔ IsGrantedAt o before session object method ask
   pub effect : takes_effect (comes_to o before session object ask) ≡ true
       → EffectIs (facts_after tcg o before) session (uid_of object) ask
-      (outcome_of (facts_after tcg o before) session.sp (comes_to o before session object ask)).deed
+      (outcome_of (facts_after tcg o before).rows session.sp
+      (comes_to o before session object ask)).deed
   pub refused : (IsGrantedAt o before session object method ask → ⊥)
       → (why : Why) × DoesSo o before step session object method args c (refused_with why)
   pub listed : (first last : ℕ) → ask ≡ GetCells first last

@@ -16,7 +16,7 @@ use Rattle.call_shapes.specs.Named.{values_of, list_in, assignments, value_of, o
 use Rattle.call_shapes.specs.Asks.{uid_of, is_mbr_table, cellblock, columns_between, columns_in, is_ordered, rows_between, rows_in, cells_of, cells_to_set, cells_in, bytes_to_set, bytes_in, proof_of, proof_in, attempt_in, without_arguments, get_of, set_of, ask_of}
 use Rattle.call_shapes.specs.declared.ask.Ask.{Ask}
 use Rattle.call_shapes.specs.declared.ask.Ask.TheVariants.{GetCells, GetBytes, SetCells, SetBytes, Authenticate, Activate, Revert, Other}
-use Rattle.history.specs.Calls.{asked}
+use Rattle.methods.specs.Judgement.{asked}
 use Rattle.history.specs.Deeds.{is_set_in_admin}
 
 -- the method that an ask is of; any for one that the drive does not know

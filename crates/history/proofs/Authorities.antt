@@ -19,7 +19,7 @@ use Rattle.methods.specs.Columns.{columns_of}
 use Rattle.methods.specs.Effects.{ask_at}
 use Rattle.methods.specs.Grants.{why_denied, unless_allowed, denial as denial_of, wanted, first_some}
 use Rattle.methods.specs.Listed.{is_asked, shown, listed_among, listed, cell_value}
-use Rattle.history.specs.Calls.{Standing, denial, gives, does_ask, does, unless_denied, judged}
+use Rattle.methods.specs.Judgement.{Standing, denial, gives, does_ask, does, unless_denied, judged}
 use Rattle.sp_cells.specs.Names.{get}
 use Rattle.sp_cells.specs.Flat.{LookUp}
 use Rattle.sp_cells.specs.ColumnNames.{boolean_expr_column}

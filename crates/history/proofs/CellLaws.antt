@@ -24,8 +24,8 @@ use Rattle.sp_tables.specs.Looks.{RowLook, put_in, puts_in}
 use Rattle.sp_tables.specs.Tries.{is_tries}
 use Rattle.locking.specs.declared.range.RangeRow.{RangeRow}
 use Rattle.transactions.specs.Resets.{is_range, is_lock, locks_seen}
-use Rattle.methods.specs.Settings.{cells_set, bytes_set}
-use Rattle.history.specs.Changes.{Change, Sets, Restores, Resets, reset_rows, apply, apply_all, with_tries}
+use Rattle.sessions.specs.Deeds.{cells_set, bytes_set, Change, Sets, Restores, Resets}
+use Rattle.history.specs.Changes.{reset_rows, apply, apply_all, with_tries}
 use Rattle.history.specs.Opening.{Origin, factory_origin, life_cycle, pin, activated_origin, changes_of, row_fault, with_range, unless, origin_after}
 use Rattle.history.specs.Readers.{open_on, open_changes, changes, tries, factory_rows, rows_after, rows_within, is_of}
 use Rattle.history.specs.Bounds.{CellLaw, HasNoColumn, ColumnLaw}

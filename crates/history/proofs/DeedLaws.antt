@@ -8,7 +8,7 @@ use Rattle.sp_cells.specs.declared.names.Sp.TheVariants.{Admin, Locking}
 use Rattle.sp_cells.specs.declared.names.Column.{Column}
 use Rattle.sp_cells.specs.declared.cells.Cell.{Cell}
 use Rattle.sp_cells.specs.declared.error.SetError.{SetError}
-use Rattle.sp_cells.specs.Names.{set, activate, revert, c_pin_sid}
+use Rattle.sp_cells.specs.Names.{set, activate, revert, c_pin_sid, properties, start_session}
 use Rattle.ace_eval.specs.Aces.{acl_at}
 use Rattle.audit.specs.declared.reason.AttemptFailure.{AttemptFailure}
 use Rattle.audit.specs.declared.reason.Why.{Why}
@@ -16,26 +16,24 @@ use Rattle.tcg_tokens.specs.declared.error.TokenError.{TokenError}
 use Rattle.tcg_tokens.specs.Message.{Message, call, reply, end_session, begin, end}
 use Rattle.tcg_tokens.specs.Tree.{Tree, Trees}
 use Rattle.history.specs.Opening.{Origin}
-use Rattle.history.specs.Changes.{Sets}
+use Rattle.sessions.specs.Deeds.{Sets, Begun, Setting, cells_set, bytes_set, SessionDeed, Unchanged, Started, Tried, Changed, Began, Committed, Aborted, Ended, Activated, Reverted, Outcome, says}
 use Rattle.sp_cells.specs.ColumnNames.{pin_column}
 use Rattle.sessions.specs.Attempts.{failure as failure_of}
 use Rattle.call_shapes.specs.Asks.{uid_of}
-use Rattle.sp_cells.specs.Names.{properties, start_session}
-use Rattle.history.specs.Sessions.{Begun}
-use Rattle.call_shapes.specs.Statuses.{fail}
+use Rattle.call_shapes.specs.Statuses.{fail, success}
 use Rattle.sessions.specs.Properties.{properties_message}
 use Rattle.call_shapes.specs.Carried.{is_carried}
-use Rattle.call_shapes.specs.Statuses.{success}
 use Rattle.methods.specs.declared.kinds.Kind.{Kind}
 use Rattle.methods.specs.declared.kinds.Kind.TheVariants as kinds
 use Rattle.methods.specs.Kinds.{kind_of}
 use Rattle.methods.specs.Columns.{set_types_of}
-use Rattle.methods.specs.Settings.{cells_for, is_within, Setting, cells_set, bytes_set, setting_of_cells, cells_of_ask, bytes_of_ask, setting}
-use Rattle.methods.specs.Said.{reply_of}
+use Rattle.methods.specs.Settings.{cells_for, setting_of_cells, cells_of_ask, bytes_of_ask, setting}
+use Rattle.sessions.specs.Made.{is_within}
+use Rattle.methods.specs.Said.{reply_of, refusal}
 use Rattle.call_shapes.specs.Limits.{most_response}
 use Rattle.methods.specs.Effects.{has_ask, last_row, unless_fault, sp_of_row}
 use Rattle.sp_cells.specs.declared.values.ColumnType.{ColumnType}
-use Rattle.history.specs.Calls.{asked, Standing, Judgement, Refuses, Gives, Makes, Attempts, Activates, Reverts, denial, gives, listing, table_size, bytes_between, rows_given, fault_by, valid, to_set, makes, unless_open, does_ask, does, unless_denied, judged}
+use Rattle.methods.specs.Judgement.{asked, Standing, Judgement, Refuses, Gives, Makes, Attempts, Activates, Reverts, denial, gives, listing, table_size, bytes_between, rows_given, fault_by, valid, to_set, makes, unless_open, does_ask, does, unless_denied, judged}
 use Rattle.sessions.specs.declared.opening.Opening.{Opening}
 use Rattle.sessions.specs.declared.opening.StartVerdict.{StartVerdict}
 use Rattle.sessions.specs.declared.opening.StartVerdict.TheVariants.{Refused, Attempted}
@@ -45,10 +43,11 @@ use Rattle.call_shapes.specs.Named.{values_of}
 use Rattle.sp_cells.specs.Flat.{LookUp, sp_eq}
 use Rattle.call_shapes.specs.declared.ask.Ask.{Ask}
 use Rattle.call_shapes.specs.declared.ask.Ask.TheVariants.{GetCells, GetBytes, SetCells, SetBytes, Authenticate, Activate, Revert, Other}
-use Rattle.history.specs.Events.{SessionDeed, Unchanged, Started, Tried, Changed, Began, Committed, Aborted, Ended, Activated, Reverted, Deed, Nothing, InSession, OfQueue, Wrote, Took, WasReset, Event}
+use Rattle.history.specs.Events.{Deed, Nothing, InSession, OfQueue, Wrote, Took, WasReset, Event}
 use Rattle.history.specs.Readers.{living, lives_by, restores, session_on, open_on, is_of, in_force}
 use Rattle.history.specs.Facts.{facts, numbered, live, has_open, standing}
-use Rattle.history.specs.Tcg.{refusal, Outcome, says, tried_in, start_verdict, deed_of_start, start_deed, started, is_method_of_manager, to_manager, outcome_of, judgement_on, begins_on, ended_by, ends_on, in_session}
+use Rattle.history.specs.Tcg.{start_verdict, deed_of_start, start_deed, started, is_method_of_manager, to_manager, judgement_on, begins_on, ended_by, ends_on, in_session}
+use Rattle.methods.specs.Calls.{tried_in, outcome_of}
 use Rattle.history.specs.Deeds.{IsIn, is_set_in_admin, is_of_row, is_inside, CanDo, DeedLaw}
 use Rattle.history.proofs.Words.{latest-here, latest-skip, sp-is, sp-same}
 use Rattle.history.proofs.Items.{item-from}
@@ -88,10 +87,10 @@ gives-kind results k h = by_carried (is_carried (reply_of results success)) h
     by_carried true g = g
     by_carried false g = absurd (zero-one g)
 
-rows-kind : (s : Standing) (first last : ℕ) (k : ℕ) → kind (rows_given s first last) ≡ suc k → 1 ≡ suc k
+rows-kind : (s : Standing) (first last : ℕ) (k : ℕ) → kind (rows_given s.byte (table_size s) first last) ≡ suc k → 1 ≡ suc k
 rows-kind s first last k h =
     kind-if ((table_size s == 0) || (nat_le (table_size s) last || nat_lt last first)) (Refuses 0x0c None) _ k 1 refl
-    (kind-if (nat_lt most_response (last + 1 - first)) (Refuses 0x11 None) (gives (bytes_between s first last)) k 1 refl (gives-kind (bytes_between s first last) k)) h
+    (kind-if (nat_lt most_response (last + 1 - first)) (Refuses 0x11 None) (gives (bytes_between s.byte first last)) k 1 refl (gives-kind (bytes_between s.byte first last) k)) h
 
 makes-kind : (x : Option Setting) (k : ℕ) → kind (makes x) ≡ suc k → 2 ≡ suc k
 makes-kind None k h = absurd (zero-one h)
@@ -233,7 +232,7 @@ unfaulted (Some fault) set made h = absurd (none-some h)
 
 valid-fit : (p : Setting → Bool) (s : Standing) (x : Option Setting) (made : Setting) → ((set : Setting) → x ≡ Some set → p set ≡ true) → valid s x ≡ Some made → p made ≡ true
 valid-fit p s None made h g = absurd (none-some g)
-valid-fit p s (Some set) made h g = ap p (unfaulted (fault_by s.sectors s.rows s.sp set) set made g) ∙ h set refl
+valid-fit p s (Some set) made h g = ap p (unfaulted (fault_by s.sectors s.newest s.sp set) set made g) ∙ h set refl
 
 makes-is : (x : Option Setting) (made : Setting) → makes x ≡ Makes made → x ≡ Some made
 makes-is None made h = absurd (zero-one (ap kind h))
@@ -331,7 +330,7 @@ session-on (e ∷ es) sp s h = session-step sp s e es (living sp e.deed) refl h 
 in-admin : (past : List Event) (s : Begun) → session_on past s.sp ≡ Some s → s.sp ≡ Admin → IsIn past Admin s
 in-admin past s h admin = record { lives = ap (session_on past) (sym admin) ∙ h; on = admin }
 
-judged-can : (o : Origin) (past : List Event) (s : Begun) → session_on past s.sp ≡ Some s → (object method : Uid) (args : Trees) (j : Judgement) → judgement_on (facts o past) s object method args ≡ j → CanDo o past (outcome_of (facts o past) s.sp j).deed
+judged-can : (o : Origin) (past : List Event) (s : Begun) → session_on past s.sp ≡ Some s → (object method : Uid) (args : Trees) (j : Judgement) → judgement_on (facts o past) s object method args ≡ j → CanDo o past (outcome_of (in_force o past) s.sp j).deed
 judged-can o past s h object method args (Refuses status denied) is = tt
 judged-can o past s h object method args (Gives results) is = tt
 judged-can o past s h object method args (Makes c) is = record {
@@ -342,7 +341,7 @@ judged-can o past s h object method args (Makes c) is = record {
 }
 judged-can o past s h object method args (Attempts authority pin) is = by_failure (failure_of (in_force o past) s.sp authority pin)
   where
-    by_failure : (x : Option AttemptFailure) → CanDo o past (tried_in (facts o past) s.sp authority x).deed
+    by_failure : (x : Option AttemptFailure) → CanDo o past (tried_in (in_force o past) s.sp authority x).deed
     by_failure None = tt
     by_failure (Some x) = tt
 judged-can o past s h object method args Activates is = by_state (is_in_use (in_force o past) Locking) refl

@@ -8,7 +8,7 @@ use Rattle.sp_cells.specs.declared.names.Uid.{Uid}
 use Rattle.sp_cells.specs.declared.names.Sp.{Sp}
 use Rattle.locking.specs.declared.range.Op.{Op}
 use Rattle.locking.specs.declared.range.Op.TheVariants.{Read, Write}
-use Rattle.trusted_cmds.specs.Commands.{is_queued, tag_of, sector_size}
+use Rattle.trusted_cmds.specs.Commands.{is_queued, tag_of, sector_size, reading}
 use Rattle.audit.specs.declared.reason.AttemptFailure.{AttemptFailure}
 use Rattle.audit.specs.declared.reason.Why.{Why}
 use Rattle.compacket.specs.declared.error.FrameError.{FrameError}
@@ -20,13 +20,12 @@ use Rattle.tcg_tokens.specs.Tree.{Tree, Trees}
 use Rattle.trusted_cmds.specs.declared.command.Command.{Command}
 use Rattle.trusted_cmds.specs.declared.command.Command.TheVariants.{ReadQueued, WriteQueued, ReadDma, WriteDma, Send, Receive, Identify, ReadLog10, Flush}
 use Rattle.trusted_cmds.specs.declared.command.CommandError.{CommandError}
-use Rattle.trusted_cmds.specs.Commands.{reading}
 use Rattle.locking.specs.declared.ranges.Verdict.{Verdict}
 use Rattle.locking.specs.declared.ranges.Verdict.TheVariants.{Serve, Shadow, Denied}
 use Rattle.sessions.specs.Attempts.{failure as failure_of}
 use Rattle.call_shapes.specs.Asks.{uid_of}
 use Rattle.sp_cells.specs.Names.{properties, start_session}
-use Rattle.history.specs.Sessions.{Begun}
+use Rattle.sessions.specs.Deeds.{Begun, Setting, Unchanged, says}
 use Rattle.call_shapes.specs.Statuses.{success, fail}
 use Rattle.sessions.specs.Properties.{properties_message}
 use Rattle.sessions.specs.declared.opening.Opening.{Opening}
@@ -35,19 +34,17 @@ use Rattle.sessions.specs.declared.opening.StartVerdict.TheVariants.{Refused, At
 use Rattle.sessions.specs.Starts.{opening_of, host_of, denied_with}
 use Rattle.call_shapes.specs.Named.{values_of}
 use Rattle.call_shapes.specs.Carried.{is_carried}
-use Rattle.methods.specs.Settings.{Setting}
-use Rattle.methods.specs.Said.{reply_of, said_attempt}
+use Rattle.methods.specs.Said.{reply_of, refusal}
 use Rattle.call_shapes.specs.Limits.{most_response}
 use Rattle.methods.specs.Effects.{ask_at, last_row, sp_of_row}
-use Rattle.audit.specs.declared.reason.AttemptFailure.TheVariants.{WrongPin, LockedOut, Disabled, Unknown}
-use Rattle.audit.specs.declared.reason.Why.TheVariants.{AttemptFailed}
-use Rattle.history.specs.Calls.{asked, Standing, Judgement, Refuses, Gives, Makes, Attempts, Activates, Reverts, denial, gives, listing, table_size, bytes_between, rows_given, to_set, makes, unless_open, does_ask, does, unless_denied, judged}
+use Rattle.methods.specs.Judgement.{asked, Standing, Judgement, Refuses, Gives, Makes, Attempts, Activates, Reverts, denial, gives, listing, table_size, bytes_between, rows_given, to_set, makes, unless_open, does_ask, does, unless_denied, judged}
 use Rattle.call_shapes.specs.declared.ask.Ask.{Ask}
 use Rattle.call_shapes.specs.declared.ask.Ask.TheVariants.{GetCells, GetBytes, SetCells, SetBytes, Authenticate, Activate, Revert, Other}
-use Rattle.history.specs.Events.{Unchanged, Nothing, Wrote, Took, HeldCommand, Event, did, WasReset}
+use Rattle.history.specs.Events.{Nothing, Wrote, Took, HeldCommand, Event, did, WasReset}
 use Rattle.history.specs.Facts.{Facts, session_named, has_open, standing}
 use Rattle.history.specs.Decisions.{not_found, fails, refuses, aborted, fails_queue, on_drive, verdict_on, queued_by, admitted, unqueued_by, is_trusted, is_session_com_id, discovery_com_id, received, while_failed, is_busy, completed_by, completed, resets}
-use Rattle.history.specs.Tcg.{refusal, says, answers, tried_in, start_verdict, started_by, started, is_method_of_manager, to_manager, outcome_of, judgement_on, begins_on, ends_on, in_session, is_manager, to_session, framed, sent, send, unqueued, known, commanded, tcg}
+use Rattle.history.specs.Tcg.{answers, start_verdict, started_by, started, is_method_of_manager, to_manager, judgement_on, begins_on, ends_on, in_session, is_manager, to_session, framed, sent, send, unqueued, known, commanded, tcg}
+use Rattle.methods.specs.Calls.{tried_in, outcome_of}
 use Rattle.history.specs.History.{Act, Accept, Complete, Reset, event_by}
 use Rattle.history.specs.MethodLaws.{IsLookedAt, IsSent, IsCall}
 use Rattle.history.specs.DenialLaws.{Moves, read_queued, write_queued, read_dma, write_dma, IsFree, TransferDenied, MethodDenied, AttemptDenied, StartDenied, IsDenied, DenialLaw}
@@ -80,21 +77,14 @@ transfer-denied f act why d =
 method-denied : (f : Facts) (act : Act) (why : Why) → MethodDenied f act why → (event_by f act).denied ≡ Some why
 method-denied f act why d =
     ap (λ (e : Event). e.denied) (call_law f act d.session d.object d.method d.args d.called)
-    ∙ ap (λ x. (outcome_of f d.session.sp (judged (standing f d.session) (uid_of d.object) (uid_of d.method) x)).denied) d.shaped
-    ∙ ap (λ x. (outcome_of f d.session.sp (unless_denied x (does (standing f d.session) (uid_of d.object) d.ask))).denied) d.denial
-
-attempt-reason : (sp : Sp) (authority : Uid) (failure : AttemptFailure) → (said_attempt sp authority (Some failure)).denied ≡ Some (AttemptFailed sp authority failure)
-attempt-reason sp authority LockedOut = refl
-attempt-reason sp authority WrongPin = refl
-attempt-reason sp authority Disabled = refl
-attempt-reason sp authority Unknown = refl
+    ∙ ap (λ x. (outcome_of f.rows d.session.sp (judged (standing f d.session) (uid_of d.object) (uid_of d.method) x)).denied) d.shaped
+    ∙ ap (λ x. (outcome_of f.rows d.session.sp (unless_denied x (does (standing f d.session) (uid_of d.object) d.ask))).denied) d.denial
 
 attempt-denied : (f : Facts) (act : Act) (why : Why) → AttemptDenied f act why → (event_by f act).denied ≡ Some why
 attempt-denied f act why d =
     ap (λ (e : Event). e.denied) (call_law f act d.session d.object d.method d.args d.called)
-    ∙ ap (λ j. (outcome_of f d.session.sp j).denied) d.attempts
-    ∙ ap (λ x. (tried_in f d.session.sp d.authority x).denied) d.fails
-    ∙ attempt-reason d.session.sp d.authority d.failure
+    ∙ ap (λ j. (outcome_of f.rows d.session.sp j).denied) d.attempts
+    ∙ ap (λ x. (tried_in f.rows d.session.sp d.authority x).denied) d.fails
     ∙ ap (λ y. Some y) (sym d.why_is)
 
 start-denied : (f : Facts) (act : Act) (why : Why) → StartDenied f act why → (event_by f act).denied ≡ Some why
@@ -139,10 +129,10 @@ clean-if false x y h g = g
 gives-clean : (results : List Tree) → reason (gives results) ≡ None
 gives-clean results = clean-if (is_carried (reply_of results success)) (Gives results) (Refuses 0x11 None) refl refl
 
-rows-clean : (s : Standing) (first last : ℕ) → reason (rows_given s first last) ≡ None
+rows-clean : (s : Standing) (first last : ℕ) → reason (rows_given s.byte (table_size s) first last) ≡ None
 rows-clean s first last =
     clean-if ((table_size s == 0) || (nat_le (table_size s) last || nat_lt last first)) (Refuses 0x0c None) _ refl
-    (clean-if (nat_lt most_response (last + 1 - first)) (Refuses 0x11 None) (gives (bytes_between s first last)) refl (gives-clean (bytes_between s first last)))
+    (clean-if (nat_lt most_response (last + 1 - first)) (Refuses 0x11 None) (gives (bytes_between s.byte first last)) refl (gives-clean (bytes_between s.byte first last)))
 
 makes-clean : (x : Option Setting) → reason (makes x) ≡ None
 makes-clean None = refl
@@ -176,12 +166,12 @@ refused-is f act why session object method args c (Some ask) is h = by_denial (d
     by_denial (Some w) some_why g = inr (inl (record { session = session; object = object; method = method; args = args; called = c; ask = ask; shaped = is; denial = some_why ∙ g }))
 
 attempt-is : (f : Facts) (act : Act) (why : Why) (session : Begun) (object method : List ℕ) (args : Trees) → IsCall f act session object method args → (authority : Uid) (pin : List ℕ) → judgement_on f session (uid_of object) (uid_of method) args ≡ Attempts authority pin
-    → (x : Option AttemptFailure) → failure_of f.rows session.sp authority pin ≡ x → (tried_in f session.sp authority x).denied ≡ Some why → IsDenied f act why
+    → (x : Option AttemptFailure) → failure_of f.rows session.sp authority pin ≡ x → (tried_in f.rows session.sp authority x).denied ≡ Some why → IsDenied f act why
 attempt-is f act why session object method args c authority pin j None is h = absurd (nothing h)
 attempt-is f act why session object method args c authority pin j (Some failure) is h =
-    inr (inr (inl (record { session = session; object = object; method = method; args = args; called = c; authority = authority; pin = pin; attempts = j; failure = failure; fails = is; why_is = same-why (sym h ∙ attempt-reason session.sp authority failure) })))
+    inr (inr (inl (record { session = session; object = object; method = method; args = args; called = c; authority = authority; pin = pin; attempts = j; failure = failure; fails = is; why_is = same-why (sym h) })))
 
-judged-is : (f : Facts) (act : Act) (why : Why) (session : Begun) (object method : List ℕ) (args : Trees) → IsCall f act session object method args → (j : Judgement) → judgement_on f session (uid_of object) (uid_of method) args ≡ j → (outcome_of f session.sp j).denied ≡ Some why → IsDenied f act why
+judged-is : (f : Facts) (act : Act) (why : Why) (session : Begun) (object method : List ℕ) (args : Trees) → IsCall f act session object method args → (j : Judgement) → judgement_on f session (uid_of object) (uid_of method) args ≡ j → (outcome_of f.rows session.sp j).denied ≡ Some why → IsDenied f act why
 judged-is f act why session object method args c (Refuses status denied) is h =
     refused-is f act why session object method args c (asked session.sp (uid_of object) (uid_of method) args) refl (ap reason is ∙ h)
 judged-is f act why session object method args c (Attempts authority pin) is h = attempt-is f act why session object method args c authority pin is (failure_of f.rows session.sp authority pin) refl h

@@ -14,9 +14,9 @@ use Rattle.sessions.specs.Live.{Holder, Live, session_at, holder_on}
 use Rattle.methods.specs.Effects.{held_of, held_in, seen_by, is_inside}
 use Rattle.history.specs.Opening.{Origin}
 use Rattle.history.specs.Changes.{with_tries}
-use Rattle.history.specs.Calls.{Standing}
-use Rattle.history.specs.CallsAgree.{standing_on}
-use Rattle.history.specs.Sessions.{Begun}
+use Rattle.methods.specs.Judgement.{Standing}
+use Rattle.methods.specs.Calls.{standing_on}
+use Rattle.sessions.specs.Deeds.{Begun}
 use Rattle.history.specs.Events.{Event, or_else}
 use Rattle.history.specs.Readers.{session_on, authorities, open_on, rows_after, rows_within, is_of, tries, in_force, view, byte_in_force, byte_in_view}
 use Rattle.history.specs.Facts.{facts, standing}
@@ -155,7 +155,7 @@ own-pending o acts s session store h t is =
     let opened : open_on (log o acts) session.sp ≡ Some t.tsn = sym (store.parts session.sp).transaction ∙ ap (option_map (λ (x : Transaction). x.tsn)) is in
     eq-eqb t.tsn session.number (sym (own-open o acts session t.tsn h opened))
 
-pub latest-seen : (o : Origin) (acts : List Act) (s : Stored) (session : Begun) → KeepsStore s o (log o acts) → session_on (log o acts) session.sp ≡ Some session → latest_look s session.sp ≡ seen_by s (id_of session) session.sp
+latest-seen : (o : Origin) (acts : List Act) (s : Stored) (session : Begun) → KeepsStore s o (log o acts) → session_on (log o acts) session.sp ≡ Some session → latest_look s session.sp ≡ seen_by s (id_of session) session.sp
 latest-seen o acts s session store h = by_sp session.sp (own-pending o acts s session store h)
   where
     by_sp : (sp : Sp) → ((t : Transaction) → (part s sp).pending ≡ Some t → (t.tsn == session.number) ≡ true) → latest_look s sp ≡ look_up (sight_of s (record { tsn = session.number; sp = sp })) sp
@@ -167,8 +167,9 @@ pub standing-same : (o : Origin) (acts : List Act) (s : Stored) (l : Live) (sess
     → with_held (standing_on s (id_of session) held) (authorities (log o acts) session) ≡ standing (facts o (log o acts)) session
 standing-same o acts s l session held store keeps h =
     ap (λ (config : Config). record base { sectors = config.sectors; mbr_sectors = config.mbr_sectors }) store.config
-    ∙ ap (λ rows. record after { rows = rows; byte = base.byte; is_open = base.is_open }) (rows-same o acts s l session store keeps h)
-    ∙ ap (λ byte. record after { byte = byte; is_open = base.is_open }) (bytes-same o acts s l session store keeps h)
+    ∙ ap (λ rows. record after { rows = rows; byte = base.byte; newest = base.newest; is_open = base.is_open }) (rows-same o acts s l session store keeps h)
+    ∙ ap (λ byte. record after { byte = byte; newest = base.newest; is_open = base.is_open }) (bytes-same o acts s l session store keeps h)
+    ∙ ap (λ newest. record after { newest = newest; is_open = base.is_open }) (latest-seen o acts s session store h ∙ ap (λ look. look session.sp) (rows-same o acts s l session store keeps h))
     ∙ ap (λ is_open. record after { is_open = is_open }) (inside-same o (log o acts) s session store)
   where
     base : Standing

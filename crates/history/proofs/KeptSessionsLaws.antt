@@ -4,10 +4,11 @@ use Rattle.sp_cells.specs.declared.names.Sp.{Sp}
 use Rattle.sp_cells.specs.declared.names.Sp.TheVariants.{Admin, Locking}
 use Rattle.sp_cells.specs.Flat.{sp_eq}
 use Rattle.sessions.specs.Live.{Live, session_at, unless_on}
-use Rattle.methods.specs.Effects.{ended_by}
-use Rattle.history.specs.Events.{Unchanged, Started, Tried, Changed, Began, Committed, Aborted, Ended, Activated, Reverted, Deed, Nothing, InSession, OfQueue, Wrote, Took, WasReset, Event}
+use Rattle.sessions.specs.Made.{ended_by, LeavesAll}
+use Rattle.history.specs.Events.{Deed, Nothing, InSession, OfQueue, Wrote, Took, WasReset, Event}
+use Rattle.sessions.specs.Deeds.{Unchanged, Started, Tried, Changed, Began, Committed, Aborted, Ended, Activated, Reverted}
 use Rattle.history.specs.Readers.{is_start, living, restores, starts, gains}
-use Rattle.history.specs.KeptSessions.{KeepsSessions, LeavesAll, LivesBy, SessionsOpeningLaw, SessionsLaw}
+use Rattle.history.specs.KeptSessions.{KeepsSessions, LivesBy, SessionsOpeningLaw, SessionsLaw}
 use Rattle.history.proofs.KeptSessionsNumbers.{none-apart, none-kept}
 use Rattle.history.proofs.KeptSessionsSteps.{sp-flip, Ends, left-kept, tried-kept}
 use Rattle.history.proofs.KeptSessionsStarts.{started-kept}
@@ -46,7 +47,7 @@ sessions_law past e l m k lives = by_deed e.deed refl lives
   where
     by_deed : (d : Deed) → e.deed ≡ d → LivesBy d l m → KeepsSessions m (e ∷ past)
     by_deed (InSession (Started session row) r) is v = started-kept e past session row r l m is k v
-    by_deed (InSession (Tried attempt) r) is v = tried-kept e past attempt r l m is k v.0 v.1
+    by_deed (InSession (Tried attempt) r) is v = tried-kept e past attempt r l m is k v
     by_deed (InSession (Ended sp) r) is v =
         left-kept e past (sp_eq sp) (unless_on sp) l m
         (record { none = refl; some = λ h. ap (λ b. cond b None (Some h)) (sp-flip h.sp sp); turns = λ s. ap (living s) is; starts_none = λ s. ap (starts s) is; gains_none = λ s. ap (gains s) is; is_no_start = ap is_start is })

@@ -6,7 +6,7 @@ use Rattle.sp_cells.specs.declared.names.Sp.TheVariants.{Admin, Locking}
 use Rattle.sp_cells.specs.Flat.{sp_eq}
 use Rattle.compacket.specs.declared.session.Session.{Session}
 use Rattle.sessions.specs.Live.{Holder, session_at, found}
-use Rattle.history.specs.Sessions.{Begun}
+use Rattle.sessions.specs.Deeds.{Begun}
 use Rattle.history.specs.Events.{Event, or_else}
 use Rattle.history.specs.Readers.{session_on}
 use Rattle.history.specs.Facts.{facts, if_named, session_named}

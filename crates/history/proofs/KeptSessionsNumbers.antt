@@ -4,7 +4,7 @@ use Rattle.sp_cells.specs.declared.names.Sp.{Sp}
 use Rattle.sp_cells.specs.declared.names.Sp.TheVariants.{Admin, Locking}
 use Rattle.sp_cells.specs.Flat.{sp_eq}
 use Rattle.sessions.specs.Live.{Holder}
-use Rattle.history.specs.Sessions.{Begun}
+use Rattle.sessions.specs.Deeds.{Begun}
 use Rattle.history.specs.Events.{Event, or_else}
 use Rattle.history.specs.KeptSessions.{KeepsSession, IsKeptAs, if_number}
 

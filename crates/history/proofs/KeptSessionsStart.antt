@@ -1,5 +1,5 @@
 -- A StartSession comes to the same by what is kept and by the past.
-use Rattle.std.proofs.Common.{◌≡◌, ℕ, ◌==◌, Bool, true, false, not, ◌&&◌, ◌||◌, map, nat_eq, List, [], ◌∷◌, ◌++◌, Option, Some, None, refl, sym, ◌∙◌, ap, cond, subst, inl, inr, eq-eqb}
+use Rattle.std.proofs.Common.{◌≡◌, ℕ, ◌==◌, Bool, true, false, not, ◌||◌, map, nat_eq, List, [], ◌∷◌, ◌++◌, Option, Some, None, refl, sym, ◌∙◌, ap, cond, subst, inl, inr, eq-eqb}
 use Rattle.std.specs.Prelude.{is_some, nat_lt}
 use Rattle.std.specs.List.{list_any}
 use Rattle.std.specs.Map.{lookup}
@@ -12,7 +12,6 @@ use Rattle.sp_cells.specs.ColumnNames.{tries_column}
 use Rattle.sp_cells.specs.Ranges.{number}
 use Rattle.audit.specs.declared.reason.AttemptFailure.{AttemptFailure}
 use Rattle.audit.specs.declared.reason.AttemptFailure.TheVariants.{WrongPin, LockedOut, Disabled, Unknown}
-use Rattle.ace_eval.specs.Truth.{has}
 use Rattle.call_shapes.specs.Statuses.{invalid_parameter, sp_busy, no_sessions_available}
 use Rattle.transactions.specs.Stored.{Stored}
 use Rattle.sessions.specs.declared.opening.Opening.{Opening}
@@ -24,14 +23,14 @@ use Rattle.sessions.specs.Gains.{first_held}
 use Rattle.sessions.specs.Live.{Holder, Live, session_at, lives_on, AreNumbered}
 use Rattle.sessions.specs.Starts.{opening_of, sp_named, is_in_use, is_full, verdict_on, verdict, host_of, reply_to, denied_with, stored_by, stored_with, begun_by, begun_with, next_by}
 use Rattle.history.specs.Opening.{Origin}
-use Rattle.history.specs.Sessions.{Begun}
-use Rattle.history.specs.Events.{Attempt, Event}
+use Rattle.sessions.specs.Deeds.{Begun, wipes_by}
+use Rattle.history.specs.Events.{Event}
 use Rattle.history.specs.Readers.{session_on}
 use Rattle.history.specs.Facts.{Facts, facts, numbered, live}
 use Rattle.history.specs.Tcg.{start_verdict, deed_of_start, start_deed}
-use Rattle.history.specs.KeptStore.{with_count, StoresAs}
-use Rattle.history.specs.KeptSessions.{session_numbered, KeepsSessions, GainsAt, LivesAs}
-use Rattle.history.specs.KeptCalls.{wipes_by, StartLaw}
+use Rattle.sessions.specs.Made.{with_count, StoresAs, gains_on, LivesAs}
+use Rattle.history.specs.KeptSessions.{session_numbered, KeepsSessions}
+use Rattle.history.specs.KeptCalls.{StartLaw}
 use Rattle.history.proofs.Words.{sp-same}
 use Rattle.history.proofs.KeptStoreReads.{store_read_law}
 use Rattle.history.proofs.KeptSessionsNumbers.{Hits, split, numbered-miss, numbered-hit, none-apart, kept-none, Kept, kept-some}
@@ -159,27 +158,13 @@ store-with f com_id s l same (Some opening) verdicts =
 
 -- The sessions.
 
-or-false : (b : Bool) → (b || false) ≡ b
-or-false true = refl
-or-false false = refl
-
-and-false : (b : Bool) → (b && false) ≡ false
-and-false true = refl
-and-false false = refl
-
-gains-none : (t : Attempt) → t.gained ≡ [] → (h after : Option Holder) → after ≡ h → GainsAt t h after
-gains-none t none None None is = tt
-gains-none t none (Some h) (Some g) is =
-    let same : g ≡ h = some-same is in
-    record {
-      sp = ap (λ (x : Holder). x.sp) same;
-      com_id = ap (λ (x : Holder). x.com_id) same;
-      host = ap (λ (x : Holder). x.host) same;
-      held = λ a. ap (λ (x : Holder). has x.held a) same
-          ∙ sym (ap (λ us. has h.held a || (sp_eq h.sp t.sp && has us a)) none ∙ ap (λ b. has h.held a || b) (and-false (sp_eq h.sp t.sp)) ∙ or-false (has h.held a));
-    }
-gains-none t none None (Some g) is = absurd (none-apart (sym is))
-gains-none t none (Some h) None is = absurd (none-apart is)
+gains-none : (sp : Sp) (o : Option Holder) → o ≡ gains_on sp [] o
+gains-none sp None = refl
+gains-none sp (Some h) = by_sp (sp_eq h.sp sp)
+  where
+    by_sp : (b : Bool) → Some h ≡ cond b (Some (record h { held = h.held })) (Some h)
+    by_sp true = refl
+    by_sp false = refl
 
 free-at : (l : Live) (sp : Sp) → lives_on sp l ≡ false → (n : ℕ) (h : Holder) → session_at l n ≡ Some h → sp_eq h.sp sp ≡ false
 free-at l sp free n h is = by_test (sp_eq h.sp sp) refl
@@ -192,7 +177,7 @@ lives-by : (f : Facts) (com_id : ℕ) (opening : Opening) (look : LookUp) (l m :
     → ((sp : Sp) (g : Option AttemptFailure) → v ≡ Attempted sp g → lives_on sp l ≡ false) → m.next ≡ next_by v l.next
     → ((n : ℕ) → session_at m n ≡ begun_by look com_id opening v (l.next == n) (session_at l n)) → LivesAs (deed_of_start f com_id opening v) l m
 lives-by f com_id opening look l m rows next (Refused status) free after points = record { next = after; at = points }
-lives-by f com_id opening look l m rows next (Attempted sp (Some failure)) free after points = (after, λ n. gains-none _ refl (session_at l n) (session_at m n) (points n))
+lives-by f com_id opening look l m rows next (Attempted sp (Some failure)) free after points = record { next = after; at = λ n. points n ∙ gains-none sp (session_at l n) }
 lives-by f com_id opening look l m rows next (Attempted sp None) free after points = record {
   number = sym next;
   next = after;

@@ -6,10 +6,11 @@ use Rattle.sp_cells.specs.declared.names.Sp.TheVariants.{Admin, Locking}
 use Rattle.sp_cells.specs.Flat.{sp_eq}
 use Rattle.ace_eval.specs.Truth.{has}
 use Rattle.sessions.specs.Live.{Live, session_at}
-use Rattle.history.specs.Sessions.{Begun, holder_of}
-use Rattle.history.specs.Events.{Started, Response, InSession, Event, count}
+use Rattle.sessions.specs.Deeds.{Begun, holder_of, Started}
+use Rattle.history.specs.Events.{Response, InSession, Event, count}
 use Rattle.history.specs.Readers.{is_start, living, session_on, starts, gains}
-use Rattle.history.specs.KeptSessions.{IsKeptAs, session_numbered, KeepsSessions, Starts}
+use Rattle.history.specs.KeptSessions.{IsKeptAs, session_numbered, KeepsSessions}
+use Rattle.sessions.specs.Made.{Starts}
 use Rattle.history.proofs.Words.{sp-is, sp-same}
 use Rattle.history.proofs.Steps.{started, lives-on}
 use Rattle.history.proofs.KeptSessionsNumbers.{AreApart, Hits, Misses, split, numbered-miss, numbered-hit, true-apart, kept-none, Kept, kept-some, none-kept, some-kept}

@@ -1,5 +1,5 @@
 -- The sessions that are kept after one more event that begins none.
-use Rattle.std.proofs.Common.{◌≡◌, ◌<◌, ℕ, ◌+◌, ◌==◌, Bool, true, false, ◌&&◌, ◌||◌, List, ◌∷◌, ◌++◌, Option, Some, None, refl, sym, ◌∙◌, ap, cond, subst, append_assoc, ◌⊎◌, inl, inr}
+use Rattle.std.proofs.Common.{◌≡◌, ◌<◌, ℕ, ◌+◌, ◌==◌, Bool, true, false, ◌&&◌, ◌||◌, List, [], ◌∷◌, ◌++◌, Option, Some, None, refl, sym, ◌∙◌, ap, cond, subst, append_assoc, eqb-true, ◌⊎◌, inl, inr}
 use Rattle.std.specs.Prelude.{option_to_list}
 use Rattle.std.specs.List.{flat_map}
 use Rattle.std.proofs.lemmas.List.Folds.{list_any-append}
@@ -9,10 +9,11 @@ use Rattle.sp_cells.specs.declared.names.Sp.TheVariants.{Admin, Locking}
 use Rattle.sp_cells.specs.Flat.{sp_eq}
 use Rattle.ace_eval.specs.Truth.{has}
 use Rattle.sessions.specs.Live.{Holder, Live, session_at}
-use Rattle.history.specs.Sessions.{Begun}
-use Rattle.history.specs.Events.{Attempt, Tried, Response, InSession, Event, or_else, since, every, count}
+use Rattle.sessions.specs.Deeds.{Begun, Attempt, Tried}
+use Rattle.history.specs.Events.{Response, InSession, Event, or_else, since, every, count}
 use Rattle.history.specs.Readers.{is_start, living, session_on, next_number, starts, gains, authorities}
-use Rattle.history.specs.KeptSessions.{KeepsSession, IsKeptAs, if_number, session_numbered, KeepsSessions, GainsAt, Leaves}
+use Rattle.history.specs.KeptSessions.{KeepsSession, IsKeptAs, if_number, session_numbered, KeepsSessions}
+use Rattle.sessions.specs.Made.{with_each, gains_on, Leaves}
 use Rattle.history.proofs.Words.{sp-is}
 use Rattle.history.proofs.Emptied.{every-since-more}
 use Rattle.history.proofs.Steps.{tried-gains, gone, lives-on}
@@ -121,6 +122,32 @@ or-flip true false = refl
 or-flip false true = refl
 or-flip false false = refl
 
+or-assoc : (a b c : Bool) → ((a || b) || c) ≡ (a || (b || c))
+or-assoc true b c = refl
+or-assoc false b c = refl
+
+-- what is held behind what was held
+has-behind : (held : List Uid) (a x : Uid) → has (held ++ a ∷ []) x ≡ (has held x || (a.0 == x.0))
+has-behind [] a x = or-false (a.0 == x.0)
+has-behind (u ∷ us) a x = ap (λ b. (u.0 == x.0) || b) (has-behind us a x) ∙ sym (or-assoc (u.0 == x.0) (has us x) (a.0 == x.0))
+
+held-already : (held : List Uid) (a x : Uid) (b : Bool) → (a.0 == x.0) ≡ b → has held a ≡ true → has held x ≡ (has held x || b)
+held-already held a x false is h = sym (or-false (has held x))
+held-already held a x true is h =
+    let held_x : has held x ≡ true = sym (ap (λ n. has held (record { 0 = n })) (eqb-true a.0 x.0 is)) ∙ h in
+    held_x ∙ sym (ap (λ b. b || true) held_x)
+
+has-one : (held : List Uid) (a x : Uid) (b : Bool) → has held a ≡ b → has (cond b held (held ++ a ∷ [])) x ≡ (has held x || (a.0 == x.0))
+has-one held a x true is = held-already held a x (a.0 == x.0) refl is
+has-one held a x false is = has-behind held a x
+
+has-each : (gains held : List Uid) (x : Uid) → has (with_each gains held) x ≡ (has held x || has gains x)
+has-each [] held x = sym (or-false (has held x))
+has-each (a ∷ more) held x =
+    has-each more (cond (has held a) held (held ++ a ∷ [])) x
+    ∙ ap (λ b. b || has more x) (has-one held a x (has held a) refl)
+    ∙ or-assoc (has held x) (a.0 == x.0) (has more x)
+
 -- what a session of an SP has after it
 has-tried : (e : Event) (es : List Event) (t : Attempt) (s : Begun) (r : Response) (a : Uid) (b : Bool) → e.deed ≡ InSession (Tried t) r → sp_eq s.sp t.sp ≡ b
     → has (authorities (e ∷ es) s) a ≡ (has (authorities es s) a || (b && has t.gained a))
@@ -133,29 +160,25 @@ has-tried e es t s r a false is on =
     ap (λ us. has us a) (authorities-same e es s (ap (starts s.sp) is) (ap (gains s.sp) is ∙ ap (λ b. cond b (Some t.gained) None) (sp-flip t.sp s.sp ∙ on)))
     ∙ sym (or-false (has (authorities es s) a))
 
-tried-at : (e : Event) (es : List Event) (t : Attempt) (r : Response) → e.deed ≡ InSession (Tried t) r → (h after : Option Holder) (x : Option Begun) → IsKeptAs es h x → GainsAt t h after → IsKeptAs (e ∷ es) after x
-tried-at e es t r is None None None k g = tt
-tried-at e es t r is (Some h) (Some after) (Some s) k g = record {
-  sp = g.sp ∙ k.sp;
-  com_id = g.com_id ∙ k.com_id;
-  host = g.host ∙ k.host;
-  held = λ a. g.held a
-      ∙ ap (λ b. b || (sp_eq h.sp t.sp && has t.gained a)) (k.held a)
-      ∙ ap (λ sp. has (authorities es s) a || (sp_eq sp t.sp && has t.gained a)) k.sp
-      ∙ sym (has-tried e es t s r a (sp_eq s.sp t.sp) is refl);
-}
-tried-at e es t r is None None (Some s) k g = absurd k
-tried-at e es t r is (Some h) after None k g = absurd k
-tried-at e es t r is None (Some after) x k g = absurd g
-tried-at e es t r is (Some h) None x k g = absurd g
+tried-at : (e : Event) (es : List Event) (t : Attempt) (r : Response) → e.deed ≡ InSession (Tried t) r → (h : Option Holder) (x : Option Begun) → IsKeptAs es h x → IsKeptAs (e ∷ es) (gains_on t.sp t.gained h) x
+tried-at e es t r is None None k = tt
+tried-at e es t r is (Some h) (Some s) k = by_sp (sp_eq h.sp t.sp) refl
+  where
+    has-after : (b : Bool) → sp_eq h.sp t.sp ≡ b → (a : Uid) → (has h.held a || (b && has t.gained a)) ≡ has (authorities (e ∷ es) s) a
+    has-after b on a = ap (λ c. c || (b && has t.gained a)) (k.held a) ∙ sym (has-tried e es t s r a b is (ap (λ sp. sp_eq sp t.sp) (sym k.sp) ∙ on))
 
-pub tried-kept : (e : Event) (es : List Event) (t : Attempt) (r : Response) (l m : Live) → e.deed ≡ InSession (Tried t) r → KeepsSessions l es → m.next ≡ l.next
-    → ((n : ℕ) → GainsAt t (session_at l n) (session_at m n)) → KeepsSessions m (e ∷ es)
-tried-kept e es t r l m is k next points = record {
-  next = next ∙ k.next ∙ sym (next-same e es (ap is_start is));
-  at = λ n. subst (λ x. IsKeptAs (e ∷ es) (session_at m n) x) (sym (numbered n)) (tried-at e es t r is (session_at l n) (session_at m n) (session_numbered es n) (k.at n) (points n));
+    by_sp : (b : Bool) → sp_eq h.sp t.sp ≡ b → IsKeptAs (e ∷ es) (cond b (Some (record h { held = with_each t.gained h.held })) (Some h)) (Some s)
+    by_sp true on = record { sp = k.sp; com_id = k.com_id; host = k.host; held = λ a. has-each t.gained h.held a ∙ has-after true on a }
+    by_sp false on = record { sp = k.sp; com_id = k.com_id; host = k.host; held = λ a. sym (or-false (has h.held a)) ∙ has-after false on a }
+tried-at e es t r is None (Some s) k = absurd k
+tried-at e es t r is (Some h) None k = absurd k
+
+pub tried-kept : (e : Event) (es : List Event) (t : Attempt) (r : Response) (l m : Live) → e.deed ≡ InSession (Tried t) r → KeepsSessions l es → Leaves (gains_on t.sp t.gained) l m → KeepsSessions m (e ∷ es)
+tried-kept e es t r l m is k left = record {
+  next = left.next ∙ k.next ∙ sym (next-same e es (ap is_start is));
+  at = λ n. subst (IsKeptAs (e ∷ es) (session_at m n)) (sym (numbered n)) (subst (λ x. IsKeptAs (e ∷ es) x (session_numbered es n)) (sym (left.at n)) (tried-at e es t r is (session_at l n) (session_numbered es n) (k.at n)));
   on = λ sp s lives. k.on sp s (was sp s lives);
-  below = λ sp s lives. let lt : s.number < l.next = k.below sp s (was sp s lives) in subst (λ x. s.number < x) (sym next) lt;
+  below = λ sp s lives. let lt : s.number < l.next = k.below sp s (was sp s lives) in subst (λ x. s.number < x) (sym left.next) lt;
   apart = λ a b lives its. k.apart a b (was Admin a lives) (was Locking b its);
 }
   where

@@ -10,11 +10,11 @@ use Rattle.shadow_mbr.specs.Stored.{Stored as Mbr, sector_size, byte_at, byte_af
 use Rattle.transactions.specs.Bytes.{bytes_from, bytes_in, laid, written, blank}
 use Rattle.transactions.specs.Stored.{Transaction, Part, bytes_seen, part_begin, part_commit}
 use Rattle.transactions.proofs.ByteLemmas.{length-from}
-use Rattle.methods.specs.Settings.{Setting, cells_set, bytes_set}
-use Rattle.methods.specs.Effects.{part_with, bytes_with}
+use Rattle.sessions.specs.Deeds.{Setting, cells_set, bytes_set, Change, Sets, Changed, Began, Committed}
+use Rattle.sessions.specs.Made.{part_with, bytes_with}
 use Rattle.history.specs.Opening.{Origin}
-use Rattle.history.specs.Changes.{Change, Sets, byte_in}
-use Rattle.history.specs.Events.{Response, InSession, Changed, Began, Committed, Event}
+use Rattle.history.specs.Changes.{byte_in}
+use Rattle.history.specs.Events.{Response, InSession, Event}
 use Rattle.history.specs.Readers.{turns, begins, changes_on, brought, own_changes, if_open, open_on, open_changes, unless_open, changes}
 use Rattle.history.specs.KeptStore.{KeepsBytes}
 use Rattle.history.proofs.Words.{sp-same}

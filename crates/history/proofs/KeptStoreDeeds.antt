@@ -29,14 +29,13 @@ use Rattle.transactions.specs.Bytes.{blank}
 use Rattle.transactions.specs.Stored.{Transaction, Part, Stored, part, at_part, part_begin, part_commit, part_close, part_tries, part_put, part_of, reverted, after_reset}
 use Rattle.transactions.specs.Sights.{activated_with, with_pin}
 use Rattle.sessions.specs.Answers.{in_force as rows_in_force, up}
-use Rattle.methods.specs.Settings.{Setting, cells_set, bytes_set}
-use Rattle.methods.specs.Effects.{part_with}
+use Rattle.sessions.specs.Deeds.{Setting, cells_set, bytes_set, Sets, Restores, Resets, Begun, Attempt, Unchanged, Started, Tried, Changed, Began, Committed, Aborted, Ended, Activated, Reverted}
+use Rattle.sessions.specs.Made.{part_with, StoresChange, with_count, CanSet}
 use Rattle.history.specs.Opening.{Origin, factory_origin}
-use Rattle.history.specs.Changes.{Sets, Restores, Resets, byte_in, reset_rows}
-use Rattle.history.specs.Sessions.{Begun}
-use Rattle.history.specs.Events.{Attempt, Unchanged, Started, Tried, Changed, Began, Committed, Aborted, Ended, Activated, Reverted, Response, Deed, Nothing, InSession, OfQueue, Wrote, Took, WasReset, Event}
+use Rattle.history.specs.Changes.{byte_in, reset_rows}
+use Rattle.history.specs.Events.{Response, Deed, Nothing, InSession, OfQueue, Wrote, Took, WasReset, Event}
 use Rattle.history.specs.Readers.{turns, brought, changes, factory_rows, open_on, rows_after, tries, one_more, same_row}
-use Rattle.history.specs.KeptStore.{HasKnownRows, KeepsPart, KeepsBytes, KeepsStore, with_count, StoresSetting, StoresBy, StoreLaw}
+use Rattle.history.specs.KeptStore.{HasKnownRows, KeepsPart, KeepsBytes, KeepsStore, StoresBy, StoreLaw}
 use Rattle.history.proofs.Steps.{rows-by, turned}
 use Rattle.history.proofs.Openings.{factory_law}
 use Rattle.history.proofs.KeptStoreRows.{ShowTries, shows-places, put-places, item-shows, reset-shows, reset-same, count-shows, counts-same}
@@ -185,12 +184,12 @@ set-kept s o past x w Locking st r h fits =
     (set-bytes s.locking o e past st r h.bytes (fits refl) refl (was-closed s.locking o past Locking (h.parts Locking)) (λ t. was-open s.locking o past Locking t (h.parts Locking)))
     (record { turn = refl; start = refl; change = refl; bring = refl }) (λ u. refl)
 
-setting-kept : (s t : Stored) (o : Origin) (past : List Event) (x : Option ℕ) (w : Option Why) (sp : Sp) (st : Setting) (r : Response) → KeepsStore s o past → StoresSetting sp st s t → KeepsStore t o (doing x w (InSession (Changed sp (Sets st)) r) ∷ past)
-setting-kept s t o past x w Admin (cells_set object cells) r h by = keep-as _ t o _ by.1 (set-kept s o past x w Admin (cells_set object cells) r h (λ is. tt))
-setting-kept s t o past x w Locking (cells_set object cells) r h by = keep-as _ t o _ by.1 (set-kept s o past x w Locking (cells_set object cells) r h (λ is. tt))
-setting-kept s t o past x w Locking (bytes_set start bytes) r h by =
-    keep-as _ t o _ by.1 (set-kept s o past x w Locking (bytes_set start bytes) r h (λ is. subst (λ (c : Config). start + length bytes ≤ sector_size * c.mbr_sectors) h.config (le-of (start + length bytes) (512 * s.config.mbr_sectors) by.0)))
-setting-kept s t o past x w Admin (bytes_set start bytes) r h by = absurd by
+can-fit : (s : Stored) (o : Origin) (past : List Event) (st : Setting) → KeepsStore s o past → CanSet s.config.mbr_sectors Locking st → FitsIn st (sector_size * o.tables.config.mbr_sectors)
+can-fit s o past (cells_set object cells) h can = tt
+can-fit s o past (bytes_set start bytes) h can = subst (λ (c : Config). start + length bytes ≤ sector_size * c.mbr_sectors) h.config (le-of (start + length bytes) (512 * s.config.mbr_sectors) can)
+
+setting-kept : (s t : Stored) (o : Origin) (past : List Event) (x : Option ℕ) (w : Option Why) (sp : Sp) (st : Setting) (r : Response) → KeepsStore s o past → StoresChange sp (Sets st) s t → KeepsStore t o (doing x w (InSession (Changed sp (Sets st)) r) ∷ past)
+setting-kept s t o past x w sp st r h by = keep-as _ t o _ by.1 (set-kept s o past x w sp st r h (λ is. can-fit s o past st h (subst (λ sp. CanSet s.config.mbr_sectors sp st) is by.0)))
 
 -- transactions
 begun-kept : (s : Stored) (o : Origin) (past : List Event) (x : Option ℕ) (w : Option Why) (sp : Sp) (n : ℕ) (r : Response) → KeepsStore s o past → KeepsStore (at_part sp (part_begin n) s) o (doing x w (InSession (Began sp n) r) ∷ past)

@@ -7,11 +7,11 @@ use Rattle.sp_cells.specs.declared.names.Sp.{Sp}
 use Rattle.sp_rows.specs.Items.{Item, item_at}
 use Rattle.sp_tables.specs.Looks.{RowLook}
 use Rattle.transactions.specs.Stored.{Transaction, Part, rows_seen, part_begin, part_commit}
-use Rattle.methods.specs.Settings.{Setting}
-use Rattle.methods.specs.Effects.{part_with}
+use Rattle.sessions.specs.Deeds.{Setting, Sets, Changed, Began, Committed}
+use Rattle.sessions.specs.Made.{part_with}
 use Rattle.history.specs.Opening.{Origin}
-use Rattle.history.specs.Changes.{Sets, apply, apply_all}
-use Rattle.history.specs.Events.{Deed, Response, InSession, Changed, Began, Committed, Event}
+use Rattle.history.specs.Changes.{apply, apply_all}
+use Rattle.history.specs.Events.{Deed, Response, InSession, Event}
 use Rattle.history.specs.Readers.{turns, begins, changes_on, brought, own_changes, if_open, open_on, rows_after, rows_within, tries, factory_rows}
 use Rattle.history.specs.KeptStore.{but_tries, tries_alone, KeepsPart}
 use Rattle.history.proofs.Steps.{spared, begun-within, set-outside, set-inside, committed}

@@ -18,9 +18,9 @@ use Rattle.sp_tables.proofs.LookLemmas.{item_at-put, item_at-puts}
 use Rattle.transactions.specs.Resets.{is_range, is_lock, locks_seen, done_seen}
 use Rattle.transactions.proofs.ResetLemmas.{reset-places}
 use Rattle.transactions.proofs.TriesLemmas.{without-none, without-all, among-none, among-all}
-use Rattle.methods.specs.Settings.{Setting, cells_set, bytes_set}
-use Rattle.methods.specs.Effects.{rows_with}
-use Rattle.history.specs.Changes.{Sets, apply, reset_rows}
+use Rattle.sessions.specs.Deeds.{Setting, cells_set, bytes_set, Sets}
+use Rattle.sessions.specs.Made.{rows_with}
+use Rattle.history.specs.Changes.{apply, reset_rows}
 use Rattle.history.specs.KeptStore.{but_tries, tries_alone}
 
 -- items by their places

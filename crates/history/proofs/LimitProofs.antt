@@ -4,18 +4,17 @@ use Rattle.std.specs.Prelude.{zero, suc, Result, Ok, Err}
 use Rattle.sp_cells.specs.declared.names.Uid.{Uid}
 use Rattle.sp_cells.specs.declared.names.Sp.{Sp}
 use Rattle.sp_cells.specs.declared.names.Sp.TheVariants.{Admin, Locking}
-use Rattle.sp_cells.specs.Names.{set, c_pin_sid, anybody}
+use Rattle.sp_cells.specs.Names.{set, c_pin_sid, anybody, properties, start_session}
 use Rattle.audit.specs.declared.reason.AttemptFailure.{AttemptFailure}
 use Rattle.tcg_tokens.specs.declared.error.TokenError.{TokenError}
 use Rattle.tcg_tokens.specs.Message.{Message, call, reply, end_session, begin, end}
 use Rattle.sp_cells.specs.ColumnNames.{pin_column, try_limit_column, tries_column, is_class_column, enabled_column}
 use Rattle.sessions.specs.Attempts.{failure as failure_of, credential, is_pin, is_used_up}
 use Rattle.call_shapes.specs.Asks.{uid_of}
-use Rattle.sp_cells.specs.Names.{properties, start_session}
-use Rattle.history.specs.Sessions.{Begun}
+use Rattle.sessions.specs.Deeds.{Begun, SessionDeed, Unchanged, Tried, Activated, Outcome, says}
 use Rattle.call_shapes.specs.Statuses.{fail}
 use Rattle.sessions.specs.Properties.{properties_message}
-use Rattle.history.specs.Calls.{Judgement, Refuses, Gives, Makes, Attempts, Activates, Reverts}
+use Rattle.methods.specs.Judgement.{Judgement, Refuses, Gives, Makes, Attempts, Activates, Reverts}
 use Rattle.sessions.specs.declared.opening.Opening.{Opening}
 use Rattle.sessions.specs.declared.opening.StartVerdict.{StartVerdict}
 use Rattle.sessions.specs.declared.opening.StartVerdict.TheVariants.{Refused, Attempted}
@@ -23,9 +22,10 @@ use Rattle.sessions.specs.Live.{Live, lives_on}
 use Rattle.sessions.specs.Starts.{opening_of, is_in_use, sp_named, is_full, verdict_on}
 use Rattle.call_shapes.specs.Named.{values_of}
 use Rattle.sp_cells.specs.Flat.{LookUp}
-use Rattle.history.specs.Events.{SessionDeed, Unchanged, Tried, Activated}
 use Rattle.history.specs.Facts.{live, has_open, Facts}
-use Rattle.history.specs.Tcg.{refusal, Outcome, says, start_verdict, deed_of_start, start_deed, started, is_method_of_manager, to_manager, outcome_of, judgement_on, begins_on, ends_on, in_session}
+use Rattle.history.specs.Tcg.{start_verdict, deed_of_start, start_deed, started, is_method_of_manager, to_manager, judgement_on, begins_on, ends_on, in_session}
+use Rattle.methods.specs.Calls.{outcome_of}
+use Rattle.methods.specs.Said.{refusal}
 use Rattle.history.proofs.Items.{item-from}
 use Rattle.sp_cells.specs.Ranges.{number}
 use Rattle.audit.specs.declared.reason.AttemptFailure.TheVariants.{WrongPin, LockedOut, Disabled, Unknown}
@@ -90,7 +90,7 @@ manager-below f com_id (Ok (end n)) = tt
 manager-below f com_id (Ok end_session) = tt
 manager-below f com_id (Err e) = tt
 
-judged-below : (f : Facts) (sp : Sp) (j : Judgement) → Below f (outcome_of f sp j).deed
+judged-below : (f : Facts) (sp : Sp) (j : Judgement) → Below f (outcome_of f.rows sp j).deed
 judged-below f sp (Refuses status why) = tt
 judged-below f sp (Gives results) = tt
 judged-below f sp (Makes set) = tt

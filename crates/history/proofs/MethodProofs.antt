@@ -16,29 +16,29 @@ use Rattle.audit.specs.declared.reason.Why.{Why}
 use Rattle.audit.specs.declared.reason.Why.TheVariants.{NoEntryHolds, NoAccessRow}
 use Rattle.sessions.specs.Attempts.{failure as failure_of}
 use Rattle.call_shapes.specs.Asks.{uid_of}
-use Rattle.history.specs.Sessions.{Begun}
+use Rattle.sessions.specs.Deeds.{Begun}
 use Rattle.sp_cells.specs.declared.names.Sp.{Sp}
-use Rattle.trusted_cmds.specs.Commands.{is_queued}
+use Rattle.trusted_cmds.specs.Commands.{is_queued, reading}
 use Rattle.compacket.specs.Frames.{Frame, reading as frame_in}
 use Rattle.tcg_tokens.specs.Reading.{reading as message_in}
 use Rattle.tcg_tokens.specs.Tree.{Tree}
 use Rattle.trusted_cmds.specs.declared.command.Command.{Command}
 use Rattle.trusted_cmds.specs.declared.command.Command.TheVariants.{Send}
-use Rattle.trusted_cmds.specs.Commands.{reading}
 use Rattle.call_shapes.specs.declared.ask.Ask.{Ask}
 use Rattle.call_shapes.specs.declared.ask.Ask.TheVariants.{GetCells, GetBytes, SetCells, SetBytes, Authenticate, Activate, Revert, Other}
 use Rattle.std.specs.Option.{option_or}
 use Rattle.methods.specs.Grants.{why_denied, unless_allowed, denial as denial_of, wanted, first_some}
-use Rattle.methods.specs.Laws.{EachHasAce}
-use Rattle.methods.proofs.GrantLaws.{grant_law as grants}
-use Rattle.history.specs.Calls.{Standing, Judgement, Refuses, Gives, Makes, Attempts, Activates, Reverts, denial, does, unless_denied, judged}
+use Rattle.methods.specs.Laws.{EachHasAce, IsGranted, takes_effect}
+use Rattle.methods.proofs.GrantLaws.{grant_law as grants, effect_law as judges}
+use Rattle.methods.specs.Judgement.{Standing, Judgement, Refuses, Gives, Makes, Attempts, Activates, Reverts, denial, does, unless_denied, judged}
 use Rattle.history.specs.Events.{Event, Nothing, did, WasReset}
 use Rattle.history.specs.Items.{Items}
 use Rattle.history.specs.Facts.{Facts, standing, session_named}
 use Rattle.history.specs.Decisions.{admitted, fails_queue, refuses, aborted, while_failed, is_busy, resets, is_trusted, is_session_com_id, unqueued_of, known_of, commanded_of}
-use Rattle.history.specs.Tcg.{outcome_of, tried_in, answers, to_manager, to_session, in_session, framed, sent, send, tcg}
+use Rattle.history.specs.Tcg.{answers, to_manager, to_session, in_session, framed, sent, send, tcg}
+use Rattle.methods.specs.Calls.{outcome_of, tried_in}
 use Rattle.history.specs.History.{Act, event_by, event_in}
-use Rattle.history.specs.MethodLaws.{EffectLaw, IsGranted, takes_effect, GrantLaw, IsLookedAt, IsSent, CallLaw}
+use Rattle.history.specs.MethodLaws.{EffectLaw, IsLookedAt, IsSent, CallLaw}
 use Rattle.sp_cells.specs.Resets.{programmatic}
 
 none-some : {A : Type 0} {x : A} → None ≡ Some x → ⊥
@@ -56,11 +56,8 @@ row-there None ace h = absurd (clash h)
 row-there (Some r) ace h = (r, refl)
 
 -- a call is denied exactly where it is not granted
-pub no-denial : (s : Standing) (object method : Uid) (ask : Ask) → IsGranted s object method ask → denial s object method ask ≡ None
-no-denial s object method ask h = (grants s.rows s.sp object method s.held ask).1 h
-
 pub denial-none : (s : Standing) (object method : Uid) (ask : Ask) → denial s object method ask ≡ None → IsGranted s object method ask
-denial-none s object method ask h = (grants s.rows s.sp object method s.held ask).0 h
+denial-none s object method ask h = (grants s object method ask).0 h
 
 -- some ACE is wanted, and so the method is offered
 first-row : (s : Standing) (object method : Uid) (ks : List (Option Column)) (k : Option Column) (rest : List (Option Column)) → ks ≡ k ∷ rest → EachHasAce s.rows s.sp object method s.held ks → (r : List Uid) × (acl_at s.sp object method ≡ Some r)
@@ -80,23 +77,6 @@ granted-row s object method (Authenticate a b) h = first-row s object method (No
 granted-row s object method Activate h = first-row s object method (None ∷ []) None [] refl h
 granted-row s object method Revert h = first-row s object method (None ∷ []) None [] refl h
 granted-row s object method Other h = first-row s object method (None ∷ []) None [] refl h
-
-effect-if : (s : Standing) (object method : Uid) (ask : Ask) (d : Option Why) → denial s object method ask ≡ d → takes_effect (unless_denied d (does s object ask)) ≡ true → IsGranted s object method ask
-effect-if s object method ask None is h = denial-none s object method ask is
-effect-if s object method ask (Some why) is h = absurd (clash h)
-
-denied-if : (s : Standing) (object method : Uid) (ask : Ask) (d : Option Why) → denial s object method ask ≡ d → (IsGranted s object method ask → ⊥) → (why : Why) × (unless_denied d (does s object ask) ≡ Refuses 1 (Some why))
-denied-if s object method ask None is h = absurd (h (denial-none s object method ask is))
-denied-if s object method ask (Some why) is h = (why, refl)
-
-pub grant_law : GrantLaw
-grant_law s object method ask =
-    let same : IsGranted s object method ask → judged s object method (Some ask) ≡ does s object ask = λ h. ap (λ d. unless_denied d (does s object ask)) (no-denial s object method ask h) in
-    record {
-      effect = λ valid. ((λ h. effect-if s object method ask (denial s object method ask) refl h), (λ h. ap takes_effect (same h) ∙ valid));
-      granted = same;
-      denied = λ h. denied-if s object method ask (denial s object method ask) refl h;
-    }
 
 -- what is looked at
 abbrev pub looked_event : (items : Items) (f : Facts) (h : RegH2d) (payload : List ℕ) (command : Command) → Option ℕ → Event
@@ -175,14 +155,14 @@ abbrev reason_of : Option Why → Bool
 reason_of None = false
 reason_of (Some why) = of_access why
 
-tried-reason : (f : Facts) (sp : Sp) (authority : Uid) (x : Option AttemptFailure) → reason_of (tried_in f sp authority x).denied ≡ false
+tried-reason : (f : Facts) (sp : Sp) (authority : Uid) (x : Option AttemptFailure) → reason_of (tried_in f.rows sp authority x).denied ≡ false
 tried-reason f sp authority None = refl
 tried-reason f sp authority (Some LockedOut) = refl
 tried-reason f sp authority (Some WrongPin) = refl
 tried-reason f sp authority (Some Disabled) = refl
 tried-reason f sp authority (Some Unknown) = refl
 
-effect-reason : (f : Facts) (sp : Sp) (j : Judgement) → takes_effect j ≡ true → reason_of (outcome_of f sp j).denied ≡ false
+effect-reason : (f : Facts) (sp : Sp) (j : Judgement) → takes_effect j ≡ true → reason_of (outcome_of f.rows sp j).denied ≡ false
 effect-reason f sp (Refuses status denied) h = absurd (clash h)
 effect-reason f sp (Gives results) h = refl
 effect-reason f sp (Makes change) h = refl
@@ -191,7 +171,7 @@ effect-reason f sp Activates h = refl
 effect-reason f sp (Reverts r) h = refl
 
 effect-back : (f : Facts) (session : Begun) (object method : Uid) (ask : Ask) (d : Option Why) → denial (standing f session) object method ask ≡ d → takes_effect (does (standing f session) object ask) ≡ true
-    → (outcome_of f session.sp (unless_denied d (does (standing f session) object ask))).denied ≡ (outcome_of f session.sp (does (standing f session) object ask)).denied → IsGranted (standing f session) object method ask
+    → (outcome_of f.rows session.sp (unless_denied d (does (standing f session) object ask))).denied ≡ (outcome_of f.rows session.sp (does (standing f session) object ask)).denied → IsGranted (standing f session) object method ask
 effect-back f session object method ask None is valid same = denial-none (standing f session) object method ask is
 effect-back f session object method ask (Some why) is valid same =
     absurd (clash (sym (effect-reason f session.sp (does (standing f session) object ask) valid) ∙ ap reason_of (sym same) ∙ denial-access (standing f session) object method ask why is))
@@ -199,8 +179,8 @@ effect-back f session object method ask (Some why) is valid same =
 pub effect_law : EffectLaw
 effect_law f act session object method args c ask shaped valid =
     let s = standing f session in let o = uid_of object in let m = uid_of method in
-    let answer : Judgement → Event = λ j. answers c.com_id c.frame.session (outcome_of f session.sp j) in
+    let answer : Judgement → Event = λ j. answers c.com_id c.frame.session (outcome_of f.rows session.sp j) in
     let here : event_by f act ≡ answer (judged s o m (Some ask)) = call_law f act session object method args c ∙ ap (λ x. answer (judged s o m x)) shaped in (
       (λ h. effect-back f session o m ask (denial s o m ask) refl valid (ap (λ (e : Event). e.denied) (sym here ∙ h))),
-      (λ g. here ∙ ap answer ((grant_law s o m ask).granted g)),
+      (λ g. here ∙ ap answer ((judges s o m ask).granted g)),
     )

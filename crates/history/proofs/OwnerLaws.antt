@@ -18,11 +18,10 @@ use Rattle.sp_tables.specs.Looks.{RowLook, put_in, puts_in}
 use Rattle.sp_cells.specs.declared.names.TheConstants.{RANGES}
 use Rattle.sp_tables.specs.AtReset.{has_kind}
 use Rattle.transactions.specs.Resets.{is_range, locks_seen}
-use Rattle.methods.specs.Settings.{cells_set, bytes_set}
-use Rattle.history.specs.Changes.{reset_rows, Change, Sets, Restores, Resets, apply, apply_all}
-use Rattle.history.specs.Sessions.{Begun}
+use Rattle.sessions.specs.Deeds.{cells_set, bytes_set, Change, Sets, Restores, Resets, Begun, SessionDeed, Unchanged, Started, Tried, Changed, Began, Committed, Aborted, Ended, Activated, Reverted}
+use Rattle.history.specs.Changes.{reset_rows, apply, apply_all}
 use Rattle.sessions.specs.Starts.{is_in_use}
-use Rattle.history.specs.Events.{SessionDeed, Unchanged, Started, Tried, Changed, Began, Committed, Aborted, Ended, Activated, Reverted, Response, Deed, Nothing, InSession, OfQueue, Wrote, Took, WasReset, Event}
+use Rattle.history.specs.Events.{Response, Deed, Nothing, InSession, OfQueue, Wrote, Took, WasReset, Event}
 use Rattle.history.specs.Readers.{restores, living, session_on, open_on, is_of, in_force, turns, begins, changes_on, own_changes, if_open, open_changes, only_on, unless_open, brought, changes, factory_rows}
 use Rattle.history.specs.History.{Act, event, log}
 use Rattle.history.specs.Deeds.{IsNew, is_set_in_admin, is_of_row, Begins, Changes, IsOutside, CanDo, OwnerLaw, LifeLaw, ActivateLaw, RevertLaw}

@@ -5,7 +5,7 @@ use Rattle.compacket.specs.declared.session.Session.{Session}
 use Rattle.compacket.specs.declared.error.FrameError.{FrameError}
 use Rattle.compacket.specs.Frames.{Frame, reading as frame_in}
 use Rattle.tcg_tokens.specs.Reading.{reading as message_in}
-use Rattle.history.specs.Sessions.{Begun}
+use Rattle.sessions.specs.Deeds.{Begun}
 use Rattle.history.specs.Answers.{is_holding}
 use Rattle.history.specs.Events.{Deed, Nothing, InSession, OfQueue, Wrote, Took, WasReset, Event, did}
 use Rattle.history.specs.Facts.{Facts, session_named}

@@ -4,7 +4,7 @@ use Rattle.std.specs.Prelude.{take}
 use Rattle.sp_cells.specs.declared.names.Sp.TheVariants.{Admin}
 use Rattle.sp_cells.specs.declared.cells.Cell.TheVariants.{Number}
 use Rattle.sp_cells.specs.Authorities.{authorities_of_locking}
-use Rattle.sp_cells.specs.Names.{admin_sp, locking_sp, sid, admin_uid, revert, activate}
+use Rattle.sp_cells.specs.Names.{admin_sp, locking_sp, sid, admin_uid, revert, activate, session_manager, properties}
 use Rattle.sp_cells.specs.ColumnNames.{life_cycle_state_column}
 use Rattle.sp_tables.specs.Faults.{any_to}
 use Rattle.sp_rows.specs.Factory.{admin_sps, admin_authorities, locking_authorities, admin_pins, locking_pins, locking_ranges, locking_mbr_controls, admin_aces, authority_aces, pin_aces, range_aces, mbr_aces}
@@ -20,10 +20,9 @@ use Rattle.tcg_tokens.specs.Message.{end_session}
 use Rattle.transactions.specs.Resets.{is_range}
 use Rattle.methods.specs.Listed.{listed_among}
 use Rattle.methods.specs.Settings.{cells_for}
-use Rattle.sp_cells.specs.Names.{session_manager, properties}
 use Rattle.sessions.specs.Starts.{sync_message}
 use Rattle.sessions.specs.Properties.{properties_message}
-use Rattle.history.specs.Tcg.{refusal}
+use Rattle.methods.specs.Said.{refusal}
 use Rattle.history.specs.Readers.{in_force, sector}
 use Rattle.history.specs.Decisions.{any_below}
 use Rattle.device_data.specs.ErrorLog.{sized}

@@ -20,7 +20,7 @@ use Rattle.methods.specs.Listed.{listed_among}
 use Rattle.methods.specs.Settings.{cells_for}
 use Rattle.history.specs.Opening.{Origin, activated_origin}
 use Rattle.sessions.specs.Starts.{sync_message}
-use Rattle.history.specs.Tcg.{refusal}
+use Rattle.methods.specs.Said.{refusal}
 use Rattle.history.specs.Readers.{waiting}
 use Rattle.history.specs.Decisions.{any_below}
 use Rattle.history.specs.History.{Act, log}

@@ -6,7 +6,7 @@ use Rattle.sp_cells.specs.declared.names.Sp.TheVariants.{Locking}
 use Rattle.sp_cells.specs.declared.names.Uid.{Uid as UidType}
 use Rattle.sp_cells.specs.declared.cells.Element.TheVariants.{Authority}
 use Rattle.sp_cells.specs.Authorities.{authorities_of_locking}
-use Rattle.sp_cells.specs.Names.{locking_sp, admin_uid, user_uid, admin_pin_uid, global_range, range_uid, mbr_table, ace_range_set_read_locked, get, set, admins_class}
+use Rattle.sp_cells.specs.Names.{locking_sp, admin_uid, user_uid, admin_pin_uid, global_range, range_uid, mbr_table, ace_range_set_read_locked, get, set, admins_class, session_manager, start_session, properties}
 use Rattle.sp_cells.specs.ColumnNames.{range_start_column}
 use Rattle.sp_tables.specs.Faults.{any_to}
 use Rattle.sp_rows.specs.Factory.{admin_sps, admin_authorities, locking_authorities, admin_pins, locking_pins, locking_ranges, locking_mbr_controls, admin_aces, authority_aces, pin_aces, range_aces, mbr_aces}
@@ -25,10 +25,9 @@ use Rattle.tcg_tokens.specs.Tree as tree
 use Rattle.transactions.specs.Resets.{is_range}
 use Rattle.methods.specs.Listed.{listed_among}
 use Rattle.methods.specs.Settings.{cells_for}
-use Rattle.sp_cells.specs.Names.{session_manager, start_session, properties}
 use Rattle.sessions.specs.Starts.{sync_message}
 use Rattle.sessions.specs.Properties.{properties_call}
-use Rattle.history.specs.Tcg.{refusal}
+use Rattle.methods.specs.Said.{refusal}
 use Rattle.call_shapes.specs.CellValues.{element_tree}
 use Rattle.history.specs.Decisions.{any_below}
 use Rattle.history.specs.History.{Act}

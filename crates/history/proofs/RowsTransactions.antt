@@ -23,7 +23,7 @@ use Rattle.methods.specs.Listed.{listed_among}
 use Rattle.methods.specs.Settings.{cells_for}
 use Rattle.history.specs.Opening.{Origin}
 use Rattle.sessions.specs.Starts.{sync_message}
-use Rattle.history.specs.Tcg.{refusal}
+use Rattle.methods.specs.Said.{refusal}
 use Rattle.history.specs.Readers.{in_force}
 use Rattle.history.specs.Decisions.{any_below}
 use Rattle.history.specs.History.{Act, Reset, log}

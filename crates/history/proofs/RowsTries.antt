@@ -23,8 +23,7 @@ use Rattle.transactions.specs.Resets.{is_range}
 use Rattle.sessions.specs.Starts.{sync_message}
 use Rattle.methods.specs.Listed.{listed_among}
 use Rattle.methods.specs.Settings.{cells_for}
-use Rattle.history.specs.Tcg.{refusal}
-use Rattle.methods.specs.Said.{reply_of}
+use Rattle.methods.specs.Said.{refusal, reply_of}
 use Rattle.history.specs.Readers.{tries}
 use Rattle.history.specs.Decisions.{any_below}
 use Rattle.history.specs.History.{Act, Reset, log}

@@ -6,7 +6,7 @@ use Rattle.fis.specs.H2d.{h2d_at}
 use Rattle.fis.specs.declared.h2d.RegH2d.{RegH2d}
 use Rattle.locking.specs.declared.range.Op.{Op}
 use Rattle.locking.specs.declared.range.Op.TheVariants.{Read, Write}
-use Rattle.trusted_cmds.specs.Commands.{is_queued, tag_of, sector_size, blocks, trusted_send, trusted_send_dma, sectors, write_dma, read_queued, write_queued, payload_length}
+use Rattle.trusted_cmds.specs.Commands.{is_queued, tag_of, sector_size, blocks, trusted_send, trusted_send_dma, sectors, write_dma, read_queued, write_queued, payload_length, reading, trusted_receive_dma, read_log_dma, read_dma, protocol_of, sp_specific_of, fault_of, read_unless, is_send, is_receive, is_log_read, identify_device}
 use Rattle.compacket.specs.declared.session.Session.{Session}
 use Rattle.compacket.specs.declared.error.FrameError.{FrameError}
 use Rattle.compacket.specs.Frames.{Frame, reading as frame_in}
@@ -14,12 +14,11 @@ use Rattle.tcg_tokens.specs.Reading.{reading as message_in}
 use Rattle.trusted_cmds.specs.declared.command.Command.{Command}
 use Rattle.trusted_cmds.specs.declared.command.Command.TheVariants.{ReadQueued, WriteQueued, ReadDma, WriteDma, Send, Receive, ReadLog10, Identify, Flush}
 use Rattle.trusted_cmds.specs.declared.command.CommandError.{CommandError}
-use Rattle.trusted_cmds.specs.Commands.{reading, trusted_receive_dma, read_log_dma, read_dma, protocol_of, sp_specific_of, fault_of, read_unless, is_send, is_receive, is_log_read, identify_device}
 use Rattle.locking.specs.declared.ranges.Verdict.{Verdict}
 use Rattle.locking.specs.declared.ranges.Verdict.TheVariants.{Serve, Shadow, Denied}
-use Rattle.history.specs.Sessions.{Begun}
+use Rattle.sessions.specs.Deeds.{Begun, SessionDeed, Reverted}
 use Rattle.history.specs.Opening.{Origin}
-use Rattle.history.specs.Events.{SessionDeed, did, HeldCommand, Deed, Nothing, InSession, Wrote, Event, or_else, OfQueue, Took, WasReset, latest, CompletedWrite, Completed, Held, QueueFailed, QueueMended, Reverted}
+use Rattle.history.specs.Events.{did, HeldCommand, Deed, Nothing, InSession, Wrote, Event, or_else, OfQueue, Took, WasReset, latest, CompletedWrite, Completed, Held, QueueFailed, QueueMended}
 use Rattle.history.specs.Facts.{Facts, facts, session_named}
 use Rattle.history.specs.Decisions.{aborted, not_found, fails, refuses, fails_queue, on_drive, verdict_on, queued_by, queued_transfer, admitted, unqueued_by, unqueued_transfer, is_trusted, is_session_com_id, discovery_com_id, received, while_failed, is_busy, completed_by, completed, resets}
 use Rattle.history.specs.Tcg.{answers, to_manager, is_manager, to_session, framed, sent, unqueued, known, commanded, tcg}

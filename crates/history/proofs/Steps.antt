@@ -11,11 +11,11 @@ use Rattle.std.specs.List.{flat_map}
 use Rattle.sp_cells.specs.Flat.{sp_eq}
 use Rattle.sp_cells.specs.declared.names.Uid.{Uid}
 use Rattle.sp_cells.specs.ColumnNames.{life_cycle_state_column, pin_column}
-use Rattle.history.specs.Sessions.{Begun}
+use Rattle.sessions.specs.Deeds.{Begun, Change, Restores, Attempt, Started, Tried, Changed, Began, Committed, Aborted, Ended, Activated, Reverted}
 use Rattle.history.specs.Opening.{Origin}
 use Rattle.sp_tables.specs.Looks.{RowLook, puts_in}
-use Rattle.history.specs.Changes.{Change, Restores, apply, apply_all, reset_rows}
-use Rattle.history.specs.Events.{Attempt, Started, Tried, Changed, Began, Committed, Aborted, Ended, Activated, Reverted, Response, InSession, WasReset, Event, since, every, count}
+use Rattle.history.specs.Changes.{apply, apply_all, reset_rows}
+use Rattle.history.specs.Events.{Response, InSession, WasReset, Event, since, every, count}
 use Rattle.history.specs.Readers.{is_start, living, session_on, next_number, starts, gains, authorities, turns, begins, changes_on, open_on, own_changes, if_open, open_changes, unless_open, brought, changes, factory_rows, rows_after, rows_within}
 use Rattle.history.proofs.Words.{latest-here, latest-skip, sp-same}
 use Rattle.history.proofs.Emptied.{every-since-more}

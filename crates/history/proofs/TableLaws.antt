@@ -6,10 +6,10 @@ use Rattle.std.proofs.lemmas.List.Folds.{list_all-append}
 use Rattle.std.proofs.lemmas.Bool.Decides.{nat_tests}
 use Rattle.sp_cells.specs.declared.names.Sp.{Sp}
 use Rattle.sp_cells.specs.declared.names.Sp.TheVariants.{Admin, Locking}
-use Rattle.methods.specs.Settings.{cells_set, bytes_set}
-use Rattle.history.specs.Changes.{Change, Sets, Restores, Resets, byte_then, byte_in}
+use Rattle.sessions.specs.Deeds.{cells_set, bytes_set, Change, Sets, Restores, Resets, SessionDeed, Unchanged, Started, Tried, Changed, Began, Committed, Aborted, Ended, Activated, Reverted}
+use Rattle.history.specs.Changes.{byte_then, byte_in}
 use Rattle.history.specs.Opening.{Origin}
-use Rattle.history.specs.Events.{SessionDeed, Unchanged, Started, Tried, Changed, Began, Committed, Aborted, Ended, Activated, Reverted, Response, Deed, Nothing, InSession, OfQueue, Wrote, Took, WasReset, Event}
+use Rattle.history.specs.Events.{Response, Deed, Nothing, InSession, OfQueue, Wrote, Took, WasReset, Event}
 use Rattle.history.specs.Readers.{changes_on, begins, open_on, own_changes, if_open, open_changes, only_on, unless_open, pin_change, brought, changes, is_of}
 use Rattle.history.specs.History.{Act, event, log}
 use Rattle.history.specs.Deeds.{is_inside, Changes, CanDo}

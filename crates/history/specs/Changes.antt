@@ -8,15 +8,7 @@ use Rattle.sp_tables.specs.Looks.{RowLook, puts_in}
 use Rattle.sp_tables.specs.Tries.{is_tries}
 use Rattle.shadow_mbr.specs.Stored.{byte_after}
 use Rattle.transactions.specs.Resets.{locks_seen, done_seen}
-use Rattle.methods.specs.Settings.{Setting, cells_set, bytes_set}
-
-pub data Change : Type 0 where
-  -- cells of an object, or bytes of the shadow
-  Sets : (setting : Setting) → Change
-  -- the factory's cells, and a shadow of zeros
-  Restores : Change
-  -- the locks and the shadow that a reset of this kind sets
-  Resets : (kind : ℕ) → Change
+use Rattle.sessions.specs.Deeds.{cells_set, bytes_set, Change, Sets, Restores, Resets}
 
 -- ReadLocked and WriteLocked of each range whose LockOnReset has the kind are set, and Done is
 -- cleared where DoneOnReset has it.

@@ -7,11 +7,10 @@ use Rattle.sp_cells.specs.Names.{c_pin_sid, tper_info}
 use Rattle.sp_cells.specs.declared.names.Uid.{Uid}
 use Rattle.sp_cells.specs.declared.cells.Cell.{Cell}
 use Rattle.history.specs.Opening.{Origin}
-use Rattle.methods.specs.Settings.{cells_set, bytes_set, is_within}
-use Rattle.history.specs.Changes.{Change, Sets, Restores, Resets}
-use Rattle.history.specs.Sessions.{Begun}
+use Rattle.sessions.specs.Deeds.{cells_set, bytes_set, Change, Sets, Restores, Resets, Begun, SessionDeed, Unchanged, Started, Tried, Changed, Began, Committed, Aborted, Ended, Activated, Reverted}
+use Rattle.sessions.specs.Made.{is_within}
 use Rattle.sessions.specs.Starts.{is_in_use}
-use Rattle.history.specs.Events.{SessionDeed, Unchanged, Started, Tried, Changed, Began, Committed, Aborted, Ended, Activated, Reverted, Response, InSession, Event}
+use Rattle.history.specs.Events.{Response, InSession, Event}
 use Rattle.history.specs.Readers.{session_on, next_number, open_on, is_of, in_force}
 use Rattle.history.specs.History.{Act, event, log}
 

@@ -17,9 +17,9 @@ use Rattle.locking.specs.declared.ranges.Verdict.TheVariants.{Denied}
 use Rattle.sessions.specs.Attempts.{failure as failure_of}
 use Rattle.call_shapes.specs.Asks.{uid_of}
 use Rattle.sp_cells.specs.Names.{properties, start_session}
-use Rattle.history.specs.Sessions.{Begun}
+use Rattle.sessions.specs.Deeds.{Begun}
 use Rattle.call_shapes.specs.declared.ask.Ask.{Ask}
-use Rattle.history.specs.Calls.{asked, Attempts, denial}
+use Rattle.methods.specs.Judgement.{asked, Attempts, denial}
 use Rattle.call_shapes.specs.Named.{values_of}
 use Rattle.sessions.specs.declared.opening.Opening.{Opening}
 use Rattle.sessions.specs.declared.opening.StartVerdict.TheVariants.{Attempted}

@@ -2,38 +2,11 @@
 -- comes first. A deed names its SP, and records what it did: the session as it began, the PIN that
 -- an Activate copied, whether media were wiped, the bytes of a response.
 use Rattle.std.specs.Prelude.{ℕ, ◌+◌, Bool, List, [], ◌∷◌, ◌++◌, Option, Some, None, option_to_list, if◌then◌else◌}
-use Rattle.sp_cells.specs.declared.names.Uid.{Uid}
-use Rattle.sp_cells.specs.declared.names.Sp.{Sp}
-use Rattle.sp_cells.specs.declared.cells.Cell.{Cell}
-use Rattle.audit.specs.declared.reason.AttemptFailure.{AttemptFailure}
 use Rattle.audit.specs.declared.reason.Why.{Why}
 use Rattle.trusted_cmds.specs.declared.command.Command.{Command}
 use Rattle.locking.specs.declared.ranges.Verdict.{Verdict}
 use Rattle.device_data.specs.declared.log_page.Failure.{Failure}
-use Rattle.history.specs.Changes.{Change}
-use Rattle.history.specs.Sessions.{Begun}
-
--- An attempt that began no session: on an authority of an SP whose C_PIN row is `row`. A right one,
--- which has no failure, was made in a session, which gained these authorities.
-pub record Attempt : Type 0 where
-  pub sp : Sp
-  pub authority : Uid
-  pub row : Uid
-  pub failure : Option AttemptFailure
-  pub gained : List Uid
-
--- What an item did, in a session or to the session manager.
-pub data SessionDeed : Type 0 where
-  Unchanged : SessionDeed
-  Started : (session : Begun) (row : Uid) → SessionDeed
-  Tried : (attempt : Attempt) → SessionDeed
-  Changed : (sp : Sp) (change : Change) → SessionDeed
-  Began : (sp : Sp) (number : ℕ) → SessionDeed
-  Committed : (sp : Sp) → SessionDeed
-  Aborted : (sp : Sp) → SessionDeed
-  Ended : (sp : Sp) → SessionDeed
-  Activated : (pin : Option Cell) → SessionDeed
-  Reverted : (sp : Sp) (wipes : Bool) → SessionDeed
+use Rattle.sessions.specs.Deeds.{SessionDeed}
 
 -- The response that an item left on its ComID: the bytes of a frame.
 pub record Response : Type 0 where

@@ -1,58 +1,33 @@
 -- What comes of an item, by what is kept, is what comes of it by the past: its answer, and what it
 -- makes of the store and of the sessions.
-use Rattle.std.specs.Prelude.{◌≡◌, ℕ, Bool, false, List, Option, Some}
+use Rattle.std.specs.Prelude.{◌≡◌, ℕ, false, List, Some}
 use Rattle.sp_cells.specs.declared.names.Uid.{Uid}
 use Rattle.tcg_tokens.specs.Tree.{Tree, Trees}
-use Rattle.tcg_tokens.specs.Message.{Message}
-use Rattle.audit.specs.declared.reason.Why.{Why}
 use Rattle.call_shapes.specs.Named.{values_of}
 use Rattle.transactions.specs.Stored.{Stored}
 use Rattle.sessions.specs.Live.{Live, session_at, AreNumbered}
 use Rattle.sessions.specs.Starts.{start_reply, start_denied, start_stored, start_at, start_next}
-use Rattle.methods.specs.Calls.{called_with, said_call, stored_call, holder_call}
+use Rattle.methods.specs.Calls.{judged_with, outcome_of, outcome_in}
 use Rattle.history.specs.Opening.{Origin}
-use Rattle.history.specs.Sessions.{Begun}
-use Rattle.history.specs.Events.{SessionDeed, Reverted, Event}
+use Rattle.sessions.specs.Deeds.{Begun}
+use Rattle.history.specs.Events.{Event}
 use Rattle.history.specs.Readers.{session_on}
 use Rattle.history.specs.Facts.{facts}
-use Rattle.history.specs.Tcg.{Outcome, outcome_of, judgement_on, started}
+use Rattle.history.specs.Tcg.{judgement_on, started}
 use Rattle.history.specs.History.{Act, log}
-use Rattle.history.specs.KeptStore.{KeepsStore, StoresAs}
-use Rattle.history.specs.KeptSessions.{KeepsSessions, LivesAs, id_of}
-
--- All media become zeros.
-abbrev pub wipes_by : SessionDeed → Bool
-wipes_by (Reverted sp wipes) = wipes
-wipes_by _ = false
-
--- What is answered, and what is made of the store and of the sessions, is what an outcome says.
-pub record Meets (out : Outcome) (said : Message) (why : Option Why) (wiped : Bool) (s t : Stored)
-    (l m : Live) : Type 0 where
-  pub answer : said ≡ out.said
-  pub denied : why ≡ out.denied
-  pub wipe : wiped ≡ wipes_by out.deed
-  pub store : StoresAs out.deed s t
-  pub sessions : LivesAs out.deed l m
+use Rattle.history.specs.KeptStore.{KeepsStore}
+use Rattle.sessions.specs.Made.{Meets}
+use Rattle.history.specs.KeptSessions.{KeepsSessions, id_of}
 
 -- A method that a live session calls.
 abbrev pub CallLaw : Type 0
 CallLaw =
-    (o : Origin) (acts : List Act) (s : Stored) (l m : Live) (session : Begun)
-    (object method : Uid) (args : Trees)
-    → KeepsStore s o (log o acts) → KeepsSessions l (log o acts)
+    (o : Origin) (acts : List Act) (s : Stored) (l : Live) (session : Begun) (object method : Uid)
+    (args : Trees) → KeepsStore s o (log o acts) → KeepsSessions l (log o acts)
     → session_on (log o acts) session.sp ≡ Some session
-    → m.next ≡ l.next
-    → ((n : ℕ) → session_at m n
-    ≡ holder_call s (called_with l (id_of session) object method (values_of args)) n
-    (session_at l n))
-    → Meets
-    (outcome_of (facts o (log o acts)) session.sp
-    (judgement_on (facts o (log o acts)) session object method args))
-    (said_call s (called_with l (id_of session) object method (values_of args))).answer
-    (said_call s (called_with l (id_of session) object method (values_of args))).denied
-    (said_call s (called_with l (id_of session) object method (values_of args))).wipe
-    s (stored_call s (called_with l (id_of session) object method (values_of args)))
-    l m
+    → outcome_in s (id_of session) (judged_with s l (id_of session) object method (values_of args))
+    ≡ outcome_of (facts o (log o acts)).rows session.sp
+    (judgement_on (facts o (log o acts)) session object method args)
 
 -- A StartSession.
 abbrev pub StartLaw : Type 0

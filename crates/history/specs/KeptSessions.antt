@@ -1,18 +1,17 @@
 -- When the sessions that are kept are those of the past, and what each deed makes of them. By
 -- points: by their numbers.
-use Rattle.std.specs.Prelude.{◌≡◌, ◌<◌, ◌==◌, ◌+◌, ◌&&◌, ◌||◌, ℕ, false, List, [], ◌∷◌, Option, None, Some, option_map, if◌then◌else◌}
+use Rattle.std.specs.Prelude.{◌≡◌, ◌<◌, ◌==◌, ℕ, false, List, [], ◌∷◌, Option, None, Some, option_map, if◌then◌else◌}
 use Rattle.sp_cells.specs.declared.names.Uid.{Uid}
 use Rattle.sp_cells.specs.declared.names.Sp.{Sp}
 use Rattle.sp_cells.specs.declared.names.Sp.TheVariants.{Admin, Locking}
-use Rattle.sp_cells.specs.Flat.{sp_eq}
 use Rattle.ace_eval.specs.Truth.{has}
 use Rattle.compacket.specs.declared.session.Session.{Session}
 use Rattle.transactions.specs.declared.change.SessionId.{SessionId}
-use Rattle.sessions.specs.Live.{Holder, Live, session_at, found, unless_on}
-use Rattle.methods.specs.Effects.{ended_by}
+use Rattle.sessions.specs.Live.{Holder, Live, session_at, found}
+use Rattle.sessions.specs.Made.{Leaves, LeavesAll, LivesAs}
 use Rattle.history.specs.Opening.{Origin}
-use Rattle.history.specs.Sessions.{Begun, holder_of}
-use Rattle.history.specs.Events.{Attempt, SessionDeed, Unchanged, Started, Tried, Changed, Began, Committed, Aborted, Ended, Activated, Reverted, Deed, Nothing, InSession, OfQueue, Wrote, Took, WasReset, Event, or_else}
+use Rattle.sessions.specs.Deeds.{Begun}
+use Rattle.history.specs.Events.{Deed, Nothing, InSession, OfQueue, Wrote, Took, WasReset, Event, or_else}
 use Rattle.history.specs.Readers.{session_on, authorities, first_number, next_number}
 use Rattle.history.specs.Facts.{facts, session_named}
 
@@ -50,48 +49,6 @@ pub record KeepsSessions (live : Live) (past : List Event) : Type 0 where
       → (a.number == l.number) ≡ false
 
 -- What a deed makes of the sessions.
-
--- A session of that SP has also what an attempt gained.
-pub record Gains (attempt : Attempt) (h after : Holder) : Type 0 where
-  pub sp : after.sp ≡ h.sp
-  pub com_id : after.com_id ≡ h.com_id
-  pub host : after.host ≡ h.host
-  pub held : (a : Uid) → has after.held a
-      ≡ (has h.held a || (sp_eq h.sp attempt.sp && has attempt.gained a))
-
-abbrev pub GainsAt : Attempt → Option Holder → Option Holder → Type 0
-GainsAt attempt None None = Unit {0}
-GainsAt attempt (Some h) (Some after) = Gains attempt h after
-GainsAt attempt None (Some after) = ⊥
-GainsAt attempt (Some h) None = ⊥
-
--- It began with the next number, on an SP that has no session.
-pub record Starts (session : Begun) (l m : Live) : Type 0 where
-  pub number : session.number ≡ l.next
-  pub next : m.next ≡ l.next + 1
-  pub free : (n : ℕ) (h : Holder) → session_at l n ≡ Some h → sp_eq h.sp session.sp ≡ false
-  pub at : (n : ℕ) → session_at m n
-      ≡ (if l.next == n then Some (holder_of session) else session_at l n)
-
-pub record Leaves (f : Option Holder → Option Holder) (l m : Live) : Type 0 where
-  pub next : m.next ≡ l.next
-  pub at : (n : ℕ) → session_at m n ≡ f (session_at l n)
-
-abbrev pub LeavesAll : Live → Live → Type 0
-LeavesAll l m = Leaves (λ h. h) l m
-
-abbrev pub LivesAs : SessionDeed → Live → Live → Type 0
-LivesAs (Started session row) l m = Starts session l m
-LivesAs (Tried attempt) l m =
-    (m.next ≡ l.next) × ((n : ℕ) → GainsAt attempt (session_at l n) (session_at m n))
-LivesAs (Ended sp) l m = Leaves (unless_on sp) l m
-LivesAs (Reverted sp wipes) l m = Leaves (ended_by sp) l m
-LivesAs Unchanged l m = LeavesAll l m
-LivesAs (Changed sp change) l m = LeavesAll l m
-LivesAs (Began sp number) l m = LeavesAll l m
-LivesAs (Committed sp) l m = LeavesAll l m
-LivesAs (Aborted sp) l m = LeavesAll l m
-LivesAs (Activated pin) l m = LeavesAll l m
 
 abbrev pub LivesBy : Deed → Live → Live → Type 0
 LivesBy Nothing l m = LeavesAll l m

@@ -1,6 +1,5 @@
--- When a store keeps what the past says, and what each deed makes of a store. Part by part, and by
--- points.
-use Rattle.std.specs.Prelude.{◌≡◌, ◌==◌, ◌||◌, ℕ, zero, suc, ◌+◌, ◌*◌, Bool, true, false, List, [], ◌∷◌, ◌++◌, length, slice_index, Option, None, Some, is_some, option_map, Ok, if◌then◌else◌}
+-- When a store keeps what the past says. Part by part, and by points.
+use Rattle.std.specs.Prelude.{◌≡◌, ◌==◌, ◌||◌, ℕ, zero, suc, ◌+◌, ◌*◌, Bool, true, false, List, [], ◌∷◌, ◌++◌, length, slice_index, None, Some, is_some, option_map, Ok, if◌then◌else◌}
 use Rattle.sp_cells.specs.declared.names.Uid.{Uid}
 use Rattle.sp_cells.specs.declared.names.Sp.{Sp}
 use Rattle.sp_cells.specs.declared.names.Sp.TheVariants.{Admin, Locking}
@@ -8,26 +7,20 @@ use Rattle.sp_cells.specs.declared.names.Column.{Column}
 use Rattle.sp_cells.specs.declared.cells.Cell.TheVariants.{Number}
 use Rattle.sp_cells.specs.declared.names.TheConstants.{USERS, ADMINS, RANGES}
 use Rattle.sp_cells.specs.Config.{Config}
-use Rattle.sp_cells.specs.ColumnNames.{tries_column}
 use Rattle.sp_cells.specs.Names.{c_pin_sid, c_pin_msid, admin_pin_uid, user_pin_uid, mbr_control}
-use Rattle.sp_cells.specs.Ranges.{number}
 use Rattle.sp_rows.specs.Items.{item_at}
 use Rattle.sp_tables.specs.Contents.{Contents, factory_contents, look_up as cells_of}
 use Rattle.sp_tables.specs.Looks.{RowLook}
-use Rattle.sp_tables.specs.Tries.{is_tries, names_tries}
+use Rattle.sp_tables.specs.Tries.{is_tries}
 use Rattle.shadow_mbr.specs.Stored.{Stored as Bytes, sector_size, byte_at}
-use Rattle.audit.specs.declared.reason.AttemptFailure.{AttemptFailure}
-use Rattle.audit.specs.declared.reason.AttemptFailure.TheVariants.{WrongPin, LockedOut, Disabled, Unknown}
-use Rattle.transactions.specs.Stored.{Transaction, Part, Stored, part, at_part, part_begin, part_commit, part_close, part_tries, bytes_seen, new_store, reverted, after_reset}
+use Rattle.transactions.specs.Stored.{Transaction, Part, Stored, part, bytes_seen, new_store, after_reset}
 use Rattle.transactions.specs.Resets.{is_range}
-use Rattle.transactions.specs.Sights.{look_up, committed_sight, side_at, side_for, activated_with}
-use Rattle.sessions.specs.Answers.{in_force as rows_in_force, up}
-use Rattle.methods.specs.Settings.{Setting, cells_set, bytes_set, is_within}
-use Rattle.methods.specs.Effects.{set_stored}
+use Rattle.transactions.specs.Sights.{look_up, committed_sight, side_at, side_for}
+use Rattle.sessions.specs.Made.{StoresAs}
 use Rattle.locking.specs.declared.range.RangeRow.{RangeRow}
 use Rattle.history.specs.Opening.{Origin, origin_on, factory_origin, origin_with}
-use Rattle.history.specs.Changes.{Change, Sets, Restores, Resets, byte_in}
-use Rattle.history.specs.Events.{SessionDeed, Unchanged, Started, Tried, Changed, Began, Committed, Aborted, Ended, Activated, Reverted, Deed, Nothing, InSession, OfQueue, Wrote, Took, WasReset, Event}
+use Rattle.history.specs.Changes.{byte_in}
+use Rattle.history.specs.Events.{Deed, Nothing, InSession, OfQueue, Wrote, Took, WasReset, Event}
 use Rattle.history.specs.Readers.{changes, open_changes, open_on, rows_after, rows_within, tries, in_force, view, byte_in_force, byte_in_view}
 use Rattle.history.specs.Agreement.{HasNoTries}
 
@@ -94,52 +87,6 @@ pub record KeepsStore (s : Stored) (o : Origin) (past : List Event) : Type 0 whe
   pub bytes : KeepsBytes s.locking o past
 
 -- What a deed makes of a store.
-
-abbrev pub StoresSetting : Sp → Setting → Stored → Stored → Type 0
-StoresSetting sp (cells_set object cells) s t =
-    (names_tries object cells ≡ false) × (t ≡ set_stored s sp (Some (cells_set object cells)))
-StoresSetting Locking (bytes_set at content) s t =
-    (is_within s.config.mbr_sectors at content ≡ true)
-    × (t ≡ set_stored s Locking (Some (bytes_set at content)))
-StoresSetting Admin (bytes_set at content) s t = ⊥
-
-abbrev pub StoresChange : Sp → Change → Stored → Stored → Type 0
-StoresChange sp (Sets setting) s t = StoresSetting sp setting s t
-StoresChange sp Restores s t = ⊥
-StoresChange sp (Resets kind) s t = ⊥
-
-abbrev pub with_count : Sp → Uid → ℕ → Stored → Stored
-with_count sp row n s = at_part sp (part_tries row n) s
-
--- A right PIN makes the Tries of its row 0, and a wrong one counts.
-abbrev pub StoresAttempt : Sp → Uid → Option AttemptFailure → Stored → Stored → Type 0
-StoresAttempt sp row None s t = t ≡ with_count sp row 0 s
-StoresAttempt sp row (Some WrongPin) s t =
-    t ≡ with_count sp row (up (number (rows_in_force s) sp row tries_column)) s
-StoresAttempt sp row (Some LockedOut) s t = t ≡ s
-StoresAttempt sp row (Some Disabled) s t = t ≡ s
-StoresAttempt sp row (Some Unknown) s t = t ≡ s
-
-abbrev pub Opens : Sp → ℕ → Stored → Stored → Type 0
-Opens sp number s t =
-    ((part s sp).pending ≡ None) × (t ≡ at_part sp (part_begin number) s)
-
-abbrev pub Commits : Sp → Stored → Stored → Type 0
-Commits sp s t =
-    (its : Transaction) × ((part s sp).pending ≡ Some its)
-    × (t ≡ at_part sp (part_commit its.tsn) s)
-
-abbrev pub StoresAs : SessionDeed → Stored → Stored → Type 0
-StoresAs Unchanged s t = t ≡ s
-StoresAs (Started session row) s t = t ≡ with_count session.sp row 0 s
-StoresAs (Tried attempt) s t = StoresAttempt attempt.sp attempt.row attempt.failure s t
-StoresAs (Changed sp change) s t = StoresChange sp change s t
-StoresAs (Began sp number) s t = Opens sp number s t
-StoresAs (Committed sp) s t = Commits sp s t
-StoresAs (Aborted sp) s t = t ≡ at_part sp part_close s
-StoresAs (Ended sp) s t = t ≡ at_part sp part_close s
-StoresAs (Activated pin) s t = t ≡ activated_with pin s
-StoresAs (Reverted sp wipes) s t = t ≡ reverted sp s
 
 abbrev pub StoresBy : Deed → Stored → Stored → Type 0
 StoresBy Nothing s t = t ≡ s

@@ -1,7 +1,5 @@
 pub mod Changes
 pub mod Resets
-pub mod Sessions
-pub mod Calls
 pub mod Opening
 pub mod Events
 pub mod Readers
@@ -21,8 +19,6 @@ pub mod DenialLaws
 pub mod TransferLaws
 pub mod Agreement
 pub mod Bounds
-pub mod CallsAgree
-pub mod SessionsAgree
 pub mod KeptStore
 pub mod KeptSessions
 pub mod KeptCalls

@@ -2,51 +2,23 @@
 use Rattle.std.specs.Prelude.{◌≡◌, ℕ, ◌==◌, ◌↔◌, ◌&&◌, Bool, true, false, not, is_some, slice_index, List, Option, Some, None, Ok}
 use Rattle.fis.specs.Types.{h2d_type}
 use Rattle.fis.specs.H2d.{h2d_at}
-use Rattle.sp_cells.specs.declared.names.Uid.{Uid}
-use Rattle.audit.specs.declared.reason.Why.{Why}
-use Rattle.trusted_cmds.specs.Commands.{is_queued}
+use Rattle.trusted_cmds.specs.Commands.{is_queued, reading}
 use Rattle.compacket.specs.Frames.{Frame, reading as frame_in}
 use Rattle.tcg_tokens.specs.Message.{call}
 use Rattle.tcg_tokens.specs.Reading.{reading as message_in}
 use Rattle.tcg_tokens.specs.Tree.{Trees}
 use Rattle.trusted_cmds.specs.declared.command.Command.{Command}
 use Rattle.trusted_cmds.specs.declared.command.Command.TheVariants.{Send}
-use Rattle.trusted_cmds.specs.Commands.{reading}
 use Rattle.call_shapes.specs.Asks.{uid_of}
-use Rattle.call_shapes.specs.Statuses.{not_authorized}
-use Rattle.history.specs.Sessions.{Begun}
+use Rattle.sessions.specs.Deeds.{Begun}
 use Rattle.call_shapes.specs.declared.ask.Ask.{Ask}
-use Rattle.methods.specs.Laws.{IsGranted as IsGrantedBy}
-use Rattle.history.specs.Calls.{Standing, Judgement, Refuses, Gives, Makes, Attempts, Activates, Reverts, asked, does, judged}
+use Rattle.methods.specs.Laws.{IsGranted, takes_effect}
+use Rattle.methods.specs.Judgement.{asked, does}
 use Rattle.history.specs.Facts.{Facts, session_named, standing}
 use Rattle.history.specs.Decisions.{is_trusted, is_session_com_id, is_busy}
-use Rattle.history.specs.Tcg.{answers, is_manager, outcome_of, judgement_on}
+use Rattle.history.specs.Tcg.{answers, is_manager, judgement_on}
+use Rattle.methods.specs.Calls.{outcome_of}
 use Rattle.history.specs.History.{Act, Accept, event_by}
-
--- Each column for which a call wants an ACE has one, of those that the standing has.
-abbrev pub IsGranted : Standing → Uid → Uid → Ask → Type 0
-IsGranted s object method ask = IsGrantedBy s.rows s.sp object method s.held ask
-
-abbrev pub takes_effect : Judgement → Bool
-takes_effect (Refuses status denied) = false
-takes_effect (Gives results) = true
-takes_effect (Makes setting) = true
-takes_effect (Attempts authority pin) = true
-takes_effect Activates = true
-takes_effect (Reverts sp) = true
-
--- Of a call of the right shape: with valid values it takes effect exactly where it is granted, and
--- then it is what the ask comes to; where it is not granted, it is refused with a reason.
-pub record IsJudgedByAces (s : Standing) (object method : Uid) (ask : Ask) : Type 0 where
-  pub effect : takes_effect (does s object ask) ≡ true
-      → (takes_effect (judged s object method (Some ask)) ≡ true) ↔ IsGranted s object method ask
-  pub granted : IsGranted s object method ask
-      → judged s object method (Some ask) ≡ does s object ask
-  pub denied : (IsGranted s object method ask → ⊥)
-      → (why : Why) × (judged s object method (Some ask) ≡ Refuses not_authorized (Some why))
-
-abbrev pub GrantLaw : Type 0
-GrantLaw = (s : Standing) (object method : Uid) (ask : Ask) → IsJudgedByAces s object method ask
 
 -- An accepted FIS whose command is looked at: it is one, the queue has not failed, and a command
 -- that is not queued stands beside no held one.
@@ -89,7 +61,7 @@ CallLaw =
     (c : IsCall f act session object method args)
     → event_by f act
     ≡ answers c.com_id c.frame.session
-    (outcome_of f session.sp (judgement_on f session (uid_of object) (uid_of method) args))
+    (outcome_of f.rows session.sp (judgement_on f session (uid_of object) (uid_of method) args))
 
 -- And so, act by act: of a call of the right shape with valid values, the act does and answers what
 -- its ask comes to exactly where it is granted.
@@ -101,5 +73,5 @@ EffectLaw =
     → takes_effect (does (standing f session) (uid_of object) ask) ≡ true
     → (event_by f act
     ≡ answers c.com_id c.frame.session
-    (outcome_of f session.sp (does (standing f session) (uid_of object) ask)))
+    (outcome_of f.rows session.sp (does (standing f session) (uid_of object) ask)))
     ↔ IsGranted (standing f session) (uid_of object) (uid_of method) ask

@@ -4,11 +4,7 @@ use Rattle.std.specs.Prelude.{ℕ, zero, suc, ◌*◌, ◌==◌, Bool, true, fal
 use Rattle.fis.specs.declared.h2d.RegH2d.{RegH2d}
 use Rattle.sp_cells.specs.declared.names.Uid.{Uid}
 use Rattle.sp_cells.specs.declared.names.Sp.{Sp}
-use Rattle.sp_cells.specs.declared.names.Sp.TheVariants.{Admin, Locking}
-use Rattle.sp_cells.specs.Names.{c_pin_sid, session_manager, properties, start_session}
-use Rattle.sp_cells.specs.ColumnNames.{pin_column}
-use Rattle.audit.specs.declared.reason.AttemptFailure.{AttemptFailure}
-use Rattle.audit.specs.declared.reason.Why.{Why}
+use Rattle.sp_cells.specs.Names.{session_manager, properties, start_session}
 use Rattle.compacket.specs.declared.session.Session.{Session}
 use Rattle.compacket.specs.declared.error.FrameError.{FrameError}
 use Rattle.compacket.specs.Frames.{Frame, reading as frame_in}
@@ -22,20 +18,20 @@ use Rattle.call_shapes.specs.Named.{values_of}
 use Rattle.trusted_cmds.specs.declared.command.Command.{Command}
 use Rattle.trusted_cmds.specs.declared.command.Command.TheVariants.{Receive, Identify}
 use Rattle.trusted_cmds.specs.declared.command.CommandError.{CommandError}
-use Rattle.sessions.specs.Attempts.{failure as failure_of, credential}
+use Rattle.sessions.specs.Attempts.{credential}
 use Rattle.call_shapes.specs.Asks.{uid_of}
-use Rattle.history.specs.Sessions.{Begun}
-use Rattle.call_shapes.specs.Statuses.{success, transaction_failure, fail}
+use Rattle.sessions.specs.Deeds.{Begun, SessionDeed, Unchanged, Started, Began, Committed, Aborted, Ended, Outcome, says, tried}
+use Rattle.call_shapes.specs.Statuses.{transaction_failure, fail}
 use Rattle.sessions.specs.declared.opening.Opening.{Opening}
 use Rattle.sessions.specs.declared.opening.StartVerdict.{StartVerdict}
 use Rattle.sessions.specs.declared.opening.StartVerdict.TheVariants.{Refused, Attempted}
-use Rattle.sessions.specs.Gains.{gained, first_held}
-use Rattle.sessions.specs.Starts.{opening_of, is_in_use, verdict, host_of, reply_to, denied_with}
+use Rattle.sessions.specs.Gains.{first_held}
+use Rattle.sessions.specs.Starts.{opening_of, verdict, host_of, reply_to, denied_with}
 use Rattle.sessions.specs.Properties.{properties_message}
-use Rattle.methods.specs.Said.{reply_of, said_attempt}
-use Rattle.history.specs.Changes.{Sets}
-use Rattle.history.specs.Calls.{Judgement, Refuses, Gives, Makes, Attempts, Activates, Reverts, asked, judged}
-use Rattle.history.specs.Events.{SessionDeed, Unchanged, Started, Tried, Changed, Began, Committed, Aborted, Ended, Activated, Reverted, Nothing, InSession, Event, did}
+use Rattle.methods.specs.Said.{refusal}
+use Rattle.methods.specs.Judgement.{Judgement, asked, judged}
+use Rattle.methods.specs.Calls.{outcome_of}
+use Rattle.history.specs.Events.{Nothing, InSession, Event, did}
 use Rattle.history.specs.Facts.{Facts, live, session_named, has_open, standing}
 use Rattle.device_data.specs.Discovery.{discovery}
 use Rattle.device_data.specs.Identity.{identity}
@@ -45,18 +41,7 @@ use Rattle.history.specs.Items.{Items}
 use Rattle.history.specs.Decisions.{refuses, is_session_com_id, discovery_com_id, is_trusted, unqueued_of, known_of, commanded_of, accepted_of}
 use Rattle.history.specs.Answers.{block_of, data_read_of, answer_data_of, accepted_data_of}
 
--- Items. What one does and is answered, and what denied it.
-
-pub record Outcome : Type 0 where
-  pub deed : SessionDeed
-  pub said : Message
-  pub denied : Option Why
-
-abbrev pub says : SessionDeed → Message → Outcome
-says deed said = record { deed = deed; said = said; denied = None }
-
-abbrev pub refusal : ℕ → Message
-refusal status = reply_of [] status
+-- Items.
 
 abbrev pub answers : ℕ → Session → Outcome → Event
 answers com_id session outcome = record {
@@ -66,30 +51,6 @@ answers com_id session outcome = record {
     bytes = frame_bytes com_id session (item_spelling_of outcome.said);
   });
   denied = outcome.denied;
-}
-
--- Attempts. They go by the rows in force, never by an open transaction's; a right one gains the
--- authority and its class.
-
-abbrev pub gains_of : Facts → Sp → Uid → Option AttemptFailure → List Uid
-gains_of f sp authority None = gained f.rows sp authority []
-gains_of f sp authority (Some failure) = []
-
-abbrev pub tried : Facts → Sp → Uid → Option AttemptFailure → List Uid → SessionDeed
-tried f sp authority failure gains =
-    Tried (record {
-      sp = sp;
-      authority = authority;
-      row = credential f.rows sp authority;
-      failure = failure;
-      gained = gains;
-    })
-
-abbrev pub tried_in : Facts → Sp → Uid → Option AttemptFailure → Outcome
-tried_in f sp authority failure = record {
-  deed = tried f sp authority failure (gains_of f sp authority failure);
-  said = (said_attempt sp authority failure).answer;
-  denied = (said_attempt sp authority failure).denied;
 }
 
 -- The session manager.
@@ -110,7 +71,7 @@ start_verdict f opening = verdict f.rows (live f) opening
 abbrev pub deed_of_start : Facts → ℕ → Opening → StartVerdict → SessionDeed
 deed_of_start f com_id opening (Refused status) = Unchanged
 deed_of_start f com_id opening (Attempted sp (Some failure)) =
-    tried f sp opening.authority (Some failure) []
+    tried f.rows sp opening.authority (Some failure) []
 deed_of_start f com_id opening (Attempted sp None) =
     Started (begun f com_id opening sp) (credential f.rows sp opening.authority)
 
@@ -144,25 +105,6 @@ to_manager f com_id _ = says Unchanged (refusal fail)
 
 -- A session.
 
-abbrev pub done : Message
-done = reply_of [] success
-
-abbrev pub activates : Facts → Outcome
-activates f =
-    says (if is_in_use f.rows Locking then Unchanged
-    else Activated (f.rows Admin c_pin_sid pin_column)) done
-
--- What a judgement does, and how it is answered. Attempts go by the rows in force.
-abbrev pub outcome_of : Facts → Sp → Judgement → Outcome
-outcome_of f sp (Refuses status denied) =
-    record { deed = Unchanged; said = refusal status; denied = denied }
-outcome_of f sp (Gives results) = says Unchanged (reply_of results success)
-outcome_of f sp (Makes setting) = says (Changed sp (Sets setting)) done
-outcome_of f sp (Attempts authority pin) =
-    tried_in f sp authority (failure_of f.rows sp authority pin)
-outcome_of f sp Activates = activates f
-outcome_of f sp (Reverts reverted) = says (Reverted reverted (is_in_use f.rows Locking)) done
-
 abbrev pub judgement_on : Facts → Begun → Uid → Uid → Trees → Judgement
 judgement_on f session object method args =
     judged (standing f session) object method (asked session.sp object method args)
@@ -182,7 +124,7 @@ ends_on sp number false = says Unchanged (end transaction_failure)
 
 abbrev pub in_session : Facts → Begun → Result Message TokenError → Outcome
 in_session f session (Ok (call object method args status)) =
-    outcome_of f session.sp (judgement_on f session (uid_of object) (uid_of method) args)
+    outcome_of f.rows session.sp (judgement_on f session (uid_of object) (uid_of method) args)
 in_session f session (Ok (begin n)) = begins_on session.sp session.number (f.open_on session.sp)
 in_session f session (Ok (end n)) = ends_on session.sp n (has_open f session)
 in_session f session (Ok end_session) = says (Ended session.sp) end_session

@@ -26,7 +26,7 @@ use Rattle.methods.specs.Kinds.{kind_of}
 use Rattle.methods.specs.Columns.{columns_of}
 use Rattle.methods.specs.Effects.{has_ask}
 use Rattle.methods.specs.Laws.{IsAmong}
-use Rattle.methods.specs.Cases.{CaseLaw, ColumnLaw, HasCell, HasColumnsOfKind, new_cells}
+use Rattle.methods.specs.Cases.{CaseLaw, ColumnLaw, HasCell, new_cells}
 
 -- ---- what is asked, by its shape alone
 

@@ -9,16 +9,24 @@ use Rattle.transactions.specs.declared.change.Change.{Change}
 use Rattle.transactions.specs.declared.change.Change.TheVariants.{Cells, Mbr}
 use Rattle.transactions.specs.Stored.{Stored, Part, Transaction, part_set, at_part}
 use Rattle.transactions.specs.Changes.{fault_of_change}
-use Rattle.methods.specs.Settings.{Setting, setting}
+use Rattle.methods.specs.Settings.{setting}
+use Rattle.sessions.specs.Deeds.{Setting}
 use Rattle.methods.specs.Changes.{setting_seen, object_of}
-use Rattle.methods.specs.Effects.{fault_of_setting, fault_of_set, has_set, part_with, is_told, stored_after, unless_fault, valid_setting, set_stored, set_said, to_set, held_of, bytes_from}
-use Rattle.call_shapes.specs.Statuses.{invalid_parameter}
-use Rattle.methods.specs.Said.{says, refuses, said_attempt}
+use Rattle.transactions.specs.Bytes.{bytes_from}
+use Rattle.methods.specs.Effects.{fault_of_set, has_set, is_told, stored_after, unless_fault, held_of}
+use Rattle.sessions.specs.Made.{part_with, set_stored}
+use Rattle.methods.specs.Judgement.{fault_by, valid, to_set}
+use Rattle.methods.specs.Calls.{standing_on}
+use Rattle.methods.proofs.FaultLemmas.{fault-alike}
+use Rattle.call_shapes.specs.Statuses.{success}
+use Rattle.methods.specs.Said.{reply_of, attempt_reply, attempt_denied}
 use Rattle.tcg_tokens.specs.Tree.{number}
 use Rattle.audit.specs.declared.reason.Why.{Why}
 use Rattle.audit.specs.declared.reason.AttemptFailure.{AttemptFailure}
-use Rattle.audit.specs.declared.reason.AttemptFailure.TheVariants.{WrongPin, LockedOut, Disabled, Unknown}
-use Rattle.sessions.specs.declared.answers.AuthAnswer.TheVariants.{Wrong}
+use Rattle.audit.specs.declared.reason.AttemptFailure.TheVariants.{WrongPin, Disabled, Unknown}
+use Rattle.audit.specs.declared.reason.AttemptFailure.TheVariants as failures
+use Rattle.audit.specs.declared.reason.Why.TheVariants.{AttemptFailed}
+use Rattle.sessions.specs.declared.answers.AuthAnswer.TheVariants.{Right, Wrong, LockedOut}
 use Rattle.sessions.specs.Answers.{answer_to}
 use Rattle.transactions.specs.Sights.{Sight, sight_on, sight_of, latest_look}
 use Rattle.methods.specs.Kinds.{kind_of}
@@ -44,15 +52,16 @@ set_made : (change : Change) (sp : Sp) (s : Stored) → at_part sp (part_set cha
 set_made change Admin s = ap (λ (p : Part). record s { admin = p }) (part_made change s.admin s.admin.pending refl)
 set_made change Locking s = ap (λ (p : Part). record s { locking = p }) (part_made change s.locking s.locking.pending refl)
 
-fault_made : (change : Change) (sp : Sp) (s : Stored) → fault_of_change s sp change ≡ fault_of_setting s sp (setting_seen change)
-fault_made (Cells object cells) sp s = refl
+fault_made : (change : Change) (sp : Sp) (s : Stored) → fault_of_change s sp change ≡ fault_by s.config.sectors (latest_look s sp) sp (setting_seen change)
+fault_made (Cells object cells) sp s =
+    ap (λ o. if names_tries object cells.items then Some faults.NoCell else o) (fault-alike s.config.sectors (latest_look s) (λ _. latest_look s sp) sp object cells.items refl)
 fault_made (Mbr at bytes) sp s = refl
 
 -- where the object's kind has Set, it is the change that may have a fault
 fault_here : (s : Stored) (session : SessionId) (change : Change) → has_set (kind_of session.sp (object_of change)) ≡ true → fault_of_set s session change ≡ fault_of_change s session.sp change
 fault_here s session change e = rw e refl
 
-fault_as : (s : Stored) (session : SessionId) (object : Uid) (ask : Ask) (change : Change) → has_set (kind_of session.sp object) ≡ true → Some (setting_seen change) ≡ setting session.sp s.config.mbr_sectors object (kind_of session.sp object) ask → fault_of_set s session change ≡ fault_of_setting s session.sp (setting_seen change)
+fault_as : (s : Stored) (session : SessionId) (object : Uid) (ask : Ask) (change : Change) → has_set (kind_of session.sp object) ≡ true → Some (setting_seen change) ≡ setting session.sp s.config.mbr_sectors object (kind_of session.sp object) ask → fault_of_set s session change ≡ fault_by s.config.sectors (latest_look s session.sp) session.sp (setting_seen change)
 fault_as s session object ask change h e = fault_here s session change (set_there session.sp s.config.mbr_sectors object ask change e h) ∙ fault_made change session.sp s
 
 -- what a session holds
@@ -65,7 +74,7 @@ held_none None e = refl
 held_none (Some s) e = cc
 
 -- every view has the store's configuration
-config_seen : (sp : Sp) (n : ℕ) (s : Stored) → (sight_on sp n s).config ≡ s.config
+pub config_seen : (sp : Sp) (n : ℕ) (s : Stored) → (sight_on sp n s).config ≡ s.config
 config_seen Admin n s = refl
 config_seen Locking n s = refl
 
@@ -76,13 +85,30 @@ read_setting s session object ask v change read seen =
     ∙ ap (λ (w : Sight). setting session.sp w.config.mbr_sectors object (kind_of session.sp object) ask) seen
     ∙ ap (λ config. setting session.sp config.mbr_sectors object (kind_of session.sp object) ask) (config_seen session.sp session.tsn s)
 
--- a wrong attempt, and its answer
-pub wrong_said : (sp : Sp) (a : Uid) (f : Option AttemptFailure) (why : Why) → Wrong why ≡ answer_to sp a f → says (number 0 ∷ []) (Some why) false ≡ said_attempt sp a f
-wrong_said sp a None why e = cc
-wrong_said sp a (Some LockedOut) why e = cc
-wrong_said sp a (Some WrongPin) why e = cc
-wrong_said sp a (Some Disabled) why e = cc
-wrong_said sp a (Some Unknown) why e = cc
+-- an attempt, by its answer: right, wrong, or locked out
+pub right-said : (sp : Sp) (a : Uid) (f : Option AttemptFailure) → Right ≡ answer_to sp a f → (reply_of (number 1 ∷ []) success ≡ attempt_reply f) × (None ≡ attempt_denied sp a f)
+right-said sp a None e = (refl, refl)
+right-said sp a (Some failures.LockedOut) e = cc
+right-said sp a (Some WrongPin) e = cc
+right-said sp a (Some Disabled) e = cc
+right-said sp a (Some Unknown) e = cc
+
+same-why : (why other : Why) → Wrong why ≡ Wrong other → Some why ≡ Some other
+same-why why other e = cc
+
+pub wrong-said : (sp : Sp) (a : Uid) (f : Option AttemptFailure) (why : Why) → Wrong why ≡ answer_to sp a f → (reply_of (number 0 ∷ []) success ≡ attempt_reply f) × (Some why ≡ attempt_denied sp a f)
+wrong-said sp a None why e = cc
+wrong-said sp a (Some failures.LockedOut) why e = cc
+wrong-said sp a (Some WrongPin) why e = (refl, same-why why (AttemptFailed sp a WrongPin) e)
+wrong-said sp a (Some Disabled) why e = (refl, same-why why (AttemptFailed sp a Disabled) e)
+wrong-said sp a (Some Unknown) why e = (refl, same-why why (AttemptFailed sp a Unknown) e)
+
+pub locked-said : (sp : Sp) (a : Uid) (f : Option AttemptFailure) → LockedOut ≡ answer_to sp a f → f ≡ Some failures.LockedOut
+locked-said sp a None e = cc
+locked-said sp a (Some failures.LockedOut) e = refl
+locked-said sp a (Some WrongPin) e = cc
+locked-said sp a (Some Disabled) e = cc
+locked-said sp a (Some Unknown) e = cc
 
 clash : false ≡ true → ⊥
 clash h = cc
@@ -131,36 +157,39 @@ pub stored_refused : (o : Option SetError) (sp : Sp) (change : Change) (s : Stor
 stored_refused None sp change s e = cc
 stored_refused (Some x) sp change s e = refl
 
--- what a change leaves is what its setting leaves
-set_by : (o : Option SetError) (sp : Sp) (change : Change) (s : Stored) → stored_after o sp change s ≡ set_stored s sp (unless_fault o (setting_seen change))
-set_by None sp change s = set_made change sp s
-set_by (Some x) sp change s = refl
+-- what is set by a Set whose values are read: its setting, unless the change has a fault
+set-left : (o : Option SetError) (st : Setting) → false ≡ not (is_some o) → unless_fault o st ≡ None
+set-left None st e = cc
+set-left (Some x) st e = refl
 
-said_by : (o : Option SetError) (st : Setting) (b : Bool) → b ≡ not (is_some o) → set_said (unless_fault o st) ≡ (if b then says [] None false else refuses invalid_parameter None)
-said_by None st true e = refl
-said_by None st false e = cc
-said_by (Some x) st true e = cc
-said_by (Some x) st false e = refl
+set-stays : (o : Option SetError) (st : Setting) → true ≡ not (is_some o) → unless_fault o st ≡ Some st
+set-stays None st e = refl
+set-stays (Some x) st e = cc
 
--- the store, and the answer, of a Set whose values are read
-pub stored_set : (s : Stored) (session : SessionId) (object : Uid) (ask : Ask) (change : Change) → has_set (kind_of session.sp object) ≡ true → Some (setting_seen change) ≡ setting session.sp s.config.mbr_sectors object (kind_of session.sp object) ask → stored_after (fault_of_set s session change) session.sp change s ≡ set_stored s session.sp (to_set s session object ask)
-stored_set s session object ask change h e = ap (λ o. stored_after o session.sp change s) (fault_as s session object ask change h e) ∙ set_by (fault_of_setting s session.sp (setting_seen change)) session.sp change s ∙ ap (λ o. set_stored s session.sp (valid_setting s session.sp o)) e
+to_set-read : (s : Stored) (session : SessionId) (object : Uid) (ask : Ask) (change : Change) → has_set (kind_of session.sp object) ≡ true → Some (setting_seen change) ≡ setting session.sp s.config.mbr_sectors object (kind_of session.sp object) ask → to_set (standing_on s session []) object ask ≡ unless_fault (fault_of_set s session change) (setting_seen change)
+to_set-read s session object ask change h e =
+    sym (ap (valid (standing_on s session [])) e)
+    ∙ ap (λ o. unless_fault o (setting_seen change)) (sym (fault_as s session object ask change h e))
 
-pub said_set : (s : Stored) (session : SessionId) (object : Uid) (ask : Ask) (change : Change) (b : Bool) → has_set (kind_of session.sp object) ≡ true → Some (setting_seen change) ≡ setting session.sp s.config.mbr_sectors object (kind_of session.sp object) ask → b ≡ not (is_some (fault_of_set s session change)) → (if b then says [] None false else refuses invalid_parameter None) ≡ set_said (to_set s session object ask)
-said_set s session object ask change b h e made = sym (said_by (fault_of_set s session change) (setting_seen change) b made) ∙ ap (λ o. set_said (unless_fault o (setting_seen change))) (fault_as s session object ask change h e) ∙ ap (λ o. set_said (valid_setting s session.sp o)) e
+pub to_set-none : (s : Stored) (session : SessionId) (object : Uid) (ask : Ask) (change : Change) → has_set (kind_of session.sp object) ≡ true → Some (setting_seen change) ≡ setting session.sp s.config.mbr_sectors object (kind_of session.sp object) ask → false ≡ not (is_some (fault_of_set s session change)) → to_set (standing_on s session []) object ask ≡ None
+to_set-none s session object ask change h e made = to_set-read s session object ask change h e ∙ set-left (fault_of_set s session change) (setting_seen change) made
 
-pub ruleset setting_done = (stored_set, said_set)
+pub to_set-some : (s : Stored) (session : SessionId) (object : Uid) (ask : Ask) (change : Change) → has_set (kind_of session.sp object) ≡ true → Some (setting_seen change) ≡ setting session.sp s.config.mbr_sectors object (kind_of session.sp object) ask → true ≡ not (is_some (fault_of_set s session change)) → to_set (standing_on s session []) object ask ≡ Some (setting_seen change)
+to_set-some s session object ask change h e made = to_set-read s session object ask change h e ∙ set-stays (fault_of_set s session change) (setting_seen change) made
+
+-- the store that it leaves
+pub stored-made : (o : Option SetError) (sp : Sp) (change : Change) (s : Stored) → true ≡ not (is_some o) → stored_after o sp change s ≡ set_stored s sp (setting_seen change)
+stored-made None sp change s e = set_made change sp s
+stored-made (Some x) sp change s e = cc
 
 pub ruleset telling = (told, stored_told, no_fault)
 
 -- bytes that are told one by one
-pub bytes_told : (bs xs : List ℕ) (first n : ℕ) → length xs ≡ n → ((k : ℕ) → k < length xs → slice_index xs k ≡ slice_index bs (first + k)) → xs ≡ bytes_from bs first n
-bytes_told bs [] first zero e h = refl
-bytes_told bs [] first (suc n) e h = absurd (omega (arith, e))
-bytes_told bs (x ∷ xs) first zero e h = absurd (omega (arith, e))
-bytes_told bs (x ∷ xs) first (suc n) e h =
-    let front : x ≡ slice_index bs first = h 0 (omega arith) ∙ ap (slice_index bs) (omega arith) in
-    let rest : xs ≡ bytes_from bs (suc first) n = bytes_told bs xs (suc first) n (omega (arith, e)) (λ k lt. h (suc k) (omega (arith, lt)) ∙ ap (slice_index bs) (omega arith)) in
-    ap (λ y. y ∷ xs) front ∙ ap (λ ys. slice_index bs first ∷ ys) rest
-
-pub ruleset bytes_read = (bytes_told)
+pub bytes_told : (byte : ℕ → ℕ) (xs : List ℕ) (first n : ℕ) → length xs ≡ n → ((k : ℕ) → k < length xs → slice_index xs k ≡ byte (first + k)) → xs ≡ bytes_from byte first n
+bytes_told byte [] first zero e h = refl
+bytes_told byte [] first (suc n) e h = absurd (omega (arith, e))
+bytes_told byte (x ∷ xs) first zero e h = absurd (omega (arith, e))
+bytes_told byte (x ∷ xs) first (suc n) e h =
+    let front : x ≡ byte first = h 0 (omega arith) ∙ ap byte (omega arith) in
+    let rest : xs ≡ bytes_from byte (suc first) n = bytes_told byte xs (suc first) n (omega (arith, e)) (λ k lt. h (suc k) (omega (arith, lt)) ∙ ap byte (omega arith)) in
+    ap (λ y. y ∷ xs) front ∙ ap (λ ys. byte first ∷ ys) rest

@@ -1,6 +1,10 @@
 pub mod SettingLemmas
 pub mod CaseLemmas
+pub mod FaultLemmas
 pub mod EffectLemmas
+pub mod FitLemmas
+pub mod AttemptLemmas
+pub mod CallLemmas
 pub mod ListLemmas
 pub mod ObjectLemmas
 pub mod GrantLaws

@@ -15,7 +15,9 @@ use Rattle.methods.specs.declared.kinds.Kind.TheVariants as kinds
 use Rattle.methods.specs.Kinds.{kind_of}
 use Rattle.methods.specs.Columns.{set_types_of}
 use Rattle.methods.specs.Effects.{has_set}
-use Rattle.methods.specs.Settings.{cells_set, bytes_set, setting, setting_of_cells, cells_of_ask, cells_for, bytes_of_ask, is_within}
+use Rattle.methods.specs.Settings.{setting, setting_of_cells, cells_of_ask, cells_for, bytes_of_ask}
+use Rattle.sessions.specs.Deeds.{cells_set, bytes_set}
+use Rattle.sessions.specs.Made.{is_within}
 use Rattle.methods.specs.Changes.{setting_seen, object_of}
 
 -- cells that are set are of the object

@@ -11,15 +11,16 @@ use Rattle.sp_cells.specs.declared.values.ColumnType.{ColumnType}
 use Rattle.sp_cells.specs.Names.{col}
 use Rattle.sp_cells.specs.Values.{type_at}
 use Rattle.tcg_tokens.specs.Tree.{Tree}
-use Rattle.transactions.specs.Stored.{Stored}
 use Rattle.call_shapes.specs.declared.ask.Ask.{Ask}
 use Rattle.call_shapes.specs.declared.ask.Ask.TheVariants.{GetCells, GetBytes, SetCells, SetBytes, Authenticate, Activate, Revert, Other}
 use Rattle.methods.specs.declared.kinds.Kind.{Kind}
 use Rattle.methods.specs.declared.kinds.Kind.TheVariants as kinds
 use Rattle.methods.specs.Kinds.{kind_of}
 use Rattle.methods.specs.Columns.{columns_in, set_types_of}
-use Rattle.methods.specs.Settings.{Setting, cells_set, setting, setting_of_cells, cells_of_ask, cells_for, cell_for, cell_as, with_column}
-use Rattle.methods.specs.Effects.{valid_setting, unless_fault, fault_of_setting}
+use Rattle.methods.specs.Settings.{setting, setting_of_cells, cells_of_ask, cells_for, cell_for, cell_as, with_column}
+use Rattle.sessions.specs.Deeds.{Setting, cells_set}
+use Rattle.methods.specs.Effects.{unless_fault}
+use Rattle.methods.specs.Judgement.{Standing, fault_by, valid}
 use Rattle.methods.specs.Laws.{IsAmong, SetsOnly, SetLaw, PinLaw, StoreLaw, set_columns_of}
 use Rattle.methods.proofs.ObjectLemmas.{no_cells}
 
@@ -114,9 +115,9 @@ fault_there : (fault : Option SetError) (st asked : Setting) → unless_fault fa
 fault_there None st asked is = is
 fault_there (Some f) st asked is = cc
 
-valid_there : (s : Stored) (sp : Sp) (o : Option Setting) (st : Setting) → valid_setting s sp o ≡ Some st → o ≡ Some st
-valid_there s sp None st is = is
-valid_there s sp (Some asked) st is = fault_there (fault_of_setting s sp asked) st asked is
+valid_there : (s : Standing) (o : Option Setting) (st : Setting) → valid s o ≡ Some st → o ≡ Some st
+valid_there s None st is = is
+valid_there s (Some asked) st is = fault_there (fault_by s.sectors s.newest s.sp asked) st asked is
 
 pub store_law : StoreLaw
-store_law s session object ask st is = valid_there s session.sp (setting session.sp s.config.mbr_sectors object (kind_of session.sp object) ask) st is
+store_law s object ask st is = valid_there s (setting s.sp s.mbr_sectors object (kind_of s.sp object) ask) st is

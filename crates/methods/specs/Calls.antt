@@ -1,89 +1,92 @@
--- A call in a session: its shape first, then whether it is granted, then what it does.
-use Rattle.std.specs.Prelude.{ℕ, List, map, Option, None, Some}
+-- What a call in a session does: it is judged by what the session sees and holds, and the judgement says what is done
+-- and answered. Attempts go by the rows in force.
+use Rattle.std.specs.Prelude.{◌≡◌, slice_index, false, List, map, Option, if◌then◌else◌}
 use Rattle.tcg_tokens.specs.Tree.{Tree, tree}
+use Rattle.tcg_tokens.specs.Message.{message}
 use Rattle.tcg_tokens.specs.declared.value.Call.{Call}
 use Rattle.sp_cells.specs.declared.names.Uid.{Uid}
-use Rattle.audit.specs.declared.reason.Why.{Why}
+use Rattle.sp_cells.specs.declared.names.Sp.{Sp}
+use Rattle.sp_cells.specs.declared.names.Sp.TheVariants.{Admin, Locking}
+use Rattle.sp_cells.specs.Names.{c_pin_sid}
+use Rattle.sp_cells.specs.ColumnNames.{pin_column}
+use Rattle.sp_cells.specs.Flat.{LookUp}
+use Rattle.audit.specs.declared.reason.AttemptFailure.{AttemptFailure}
 use Rattle.transactions.specs.declared.change.SessionId.{SessionId}
 use Rattle.transactions.specs.Stored.{Stored}
+use Rattle.transactions.specs.Sights.{sight_of, latest_look}
 use Rattle.call_shapes.specs.Asks.{ask_of, uid_of}
-use Rattle.call_shapes.specs.Statuses.{not_authorized, invalid_parameter}
-use Rattle.call_shapes.specs.declared.ask.Ask.{Ask}
-use Rattle.sessions.specs.Live.{Live, Holder}
-use Rattle.methods.specs.Grants.{denied}
-use Rattle.methods.specs.Said.{Said, refuses}
-use Rattle.methods.specs.Effects.{seen_by, held_in, ask_at, said_ask, stored_ask, holder_ask}
+use Rattle.call_shapes.specs.Statuses.{success}
+use Rattle.sessions.specs.Answers.{in_force}
+use Rattle.sessions.specs.Attempts.{failure as failure_of}
+use Rattle.sessions.specs.Deeds.{Unchanged, Changed, Sets, Activated, Reverted, Outcome, says, gains_of, tried}
+use Rattle.sessions.specs.Live.{Live}
+use Rattle.sessions.specs.Made.{Meets}
+use Rattle.sessions.specs.Starts.{is_in_use}
+use Rattle.methods.specs.declared.outcome.Outcome.{Outcome as Answered}
+use Rattle.methods.specs.Said.{reply_of, refusal, done, attempt_reply, attempt_denied}
+use Rattle.methods.specs.Effects.{held_in, seen_by, is_inside}
+use Rattle.methods.specs.Judgement.{Standing, Judgement, Refuses, Gives, Makes, Attempts, Activates, Reverts, judged}
 
--- a call in a session: the object and the method that it names, the authorities that the session holds, and what it
--- asks; None where its arguments have not the shape that its method wants
-pub record Called : Type 0 where
-  pub session : SessionId
-  pub object : Uid
-  pub method : Uid
-  pub held : List Uid
-  pub ask : Option Ask
+-- what the rules ask of a session that holds these authorities, of what is kept
+abbrev pub standing_on : Stored → SessionId → List Uid → Standing
+standing_on s session held = record {
+  sectors = s.config.sectors;
+  mbr_sectors = s.config.mbr_sectors;
+  rows = seen_by s session;
+  byte = slice_index (sight_of s session).bytes;
+  sp = session.sp;
+  newest = latest_look s session.sp;
+  held = held;
+  is_open = is_inside s session;
+}
 
-abbrev pub called : Live → SessionId → Uid → Uid → Option Ask → Called
-called live session object method ask =
-    record {
-      session = session;
-      object = object;
-      method = method;
-      held = held_in live session;
-      ask =
-          ask;
-    }
+-- with those that it holds
+abbrev pub standing_in : Stored → Live → SessionId → Standing
+standing_in s live session = standing_on s session (held_in live session)
 
--- the call with these arguments
-abbrev pub called_with : Live → SessionId → Uid → Uid → List Tree → Called
-called_with live session object method args =
-    called live session object method (ask_of session.sp object method args)
+-- what comes of a call with these arguments, and of the call that a session sends
+abbrev pub judged_with : Stored → Live → SessionId → Uid → Uid → List Tree → Judgement
+judged_with s live session object method args =
+    judged (standing_in s live session) object method (ask_of session.sp object method args)
 
--- the call that a session sends
-abbrev pub call_in : Live → SessionId → Call → Called
-call_in live session call = called_with live session (uid_of call.object) (uid_of call.method)
-    (map tree call.args.items)
+abbrev pub judged_call : Stored → Live → SessionId → Call → Judgement
+judged_call s live session call =
+    judged_with s live session (uid_of call.object) (uid_of call.method) (map tree call.args.items)
 
--- why it is denied, and what it does where it is not
-abbrev pub denied_call : Stored → Called → Ask → Option Why
-denied_call s c ask = denied (seen_by s c.session) c.session.sp c.object c.method c.held ask
+abbrev pub tried_in : LookUp → Sp → Uid → Option AttemptFailure → Outcome
+tried_in rows sp authority failure = record {
+  deed = tried rows sp authority failure (gains_of rows sp authority failure);
+  said = attempt_reply failure;
+  denied = attempt_denied sp authority failure;
+}
 
--- the answer
-abbrev pub said_unless : Option Why → Said → Said
-said_unless None said = said
-said_unless (Some why) said = refuses not_authorized (Some why)
+abbrev pub activates : LookUp → Outcome
+activates rows =
+    says (if is_in_use rows Locking then Unchanged
+    else Activated (rows Admin c_pin_sid pin_column)) done
 
-abbrev pub said_shaped : Stored → Called → Option Ask → Said
-said_shaped s c None = refuses invalid_parameter None
-said_shaped s c (Some ask) = said_unless (denied_call s c ask)
-    (said_ask s c.session c.object c.held (ask_at c.session.sp c.object ask))
+-- what a judgement does, and how it is answered, by the rows in force
+abbrev pub outcome_of : LookUp → Sp → Judgement → Outcome
+outcome_of rows sp (Refuses status denied) =
+    record { deed = Unchanged; said = refusal status; denied = denied }
+outcome_of rows sp (Gives results) = says Unchanged (reply_of results success)
+outcome_of rows sp (Makes setting) = says (Changed sp (Sets setting)) done
+outcome_of rows sp (Attempts authority pin) =
+    tried_in rows sp authority (failure_of rows sp authority pin)
+outcome_of rows sp Activates = activates rows
+outcome_of rows sp (Reverts reverted) = says (Reverted reverted (is_in_use rows Locking)) done
 
-abbrev pub said_call : Stored → Called → Said
-said_call s c = said_shaped s c c.ask
+-- in a session, by those that are kept
+abbrev pub outcome_in : Stored → SessionId → Judgement → Outcome
+outcome_in s session judgement = outcome_of (in_force s) session.sp judgement
 
--- the store
-abbrev pub stored_unless_denied : Option Why → Stored → Stored → Stored
-stored_unless_denied None s t = t
-stored_unless_denied (Some why) s t = s
+-- what is answered, and what is made of the store and of the sessions, is what an outcome says
+pub record Fulfils (outcome : Outcome) (out : Answered) (s t : Stored) (l m : Live) : Type 0 where
+  pub met : Meets outcome (message out.reply) out.denied out.wipe s t l m
+  pub unchanged : out.changes ≡ false → t ≡ s
 
-abbrev pub stored_shaped : Stored → Called → Option Ask → Stored
-stored_shaped s c None = s
-stored_shaped s c (Some ask) = stored_unless_denied (denied_call s c ask) s
-    (stored_ask s c.session c.object (ask_at c.session.sp c.object ask))
-
-abbrev pub stored_call : Stored → Called → Stored
-stored_call s c = stored_shaped s c c.ask
-
--- the sessions, by their numbers
-abbrev pub holder_unless : Option Why → Option Holder → Option Holder → Option Holder
-holder_unless None o p = p
-holder_unless (Some why) o p = o
-
-abbrev pub holder_shaped : Stored → Called → Option Ask → ℕ → Option Holder → Option Holder
-holder_shaped s c None n o = o
-holder_shaped s c (Some ask) n o =
-    holder_unless (denied_call s c ask) o
-    (holder_ask s c.session c.object (ask_at c.session.sp c.object ask) n o)
-
-abbrev pub holder_call : Stored → Called → ℕ → Option Holder → Option Holder
-holder_call s c n o = holder_shaped s c c.ask n o
+-- so it is of a judgement that changes nothing, whatever is kept
+abbrev pub Tells : Judgement → Answered → Type 0
+Tells judgement out =
+    (rows : LookUp) (sp : Sp) (s : Stored) (l : Live)
+    → Fulfils (outcome_of rows sp judgement) out s s l l

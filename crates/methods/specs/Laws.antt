@@ -1,6 +1,6 @@
 -- What calls come to, in the words of ACEs: a call does what it asks exactly where it is granted, it is denied by the
 -- first column without an ACE, and Get lists a column exactly where it has one.
-use Rattle.std.specs.Prelude.{◌≡◌, ◌≤◌, ◌⊎◌, ◌↔◌, nat_lt, ℕ, Bool, true, ◌&&◌, List, [], ◌∷◌, ◌++◌, Option, None, Some}
+use Rattle.std.specs.Prelude.{◌≡◌, ◌≤◌, ◌⊎◌, ◌↔◌, nat_lt, ℕ, Bool, true, false, ◌&&◌, List, [], ◌∷◌, ◌++◌, Option, None, Some}
 use Rattle.sp_cells.specs.declared.names.Uid.{Uid}
 use Rattle.sp_cells.specs.declared.names.Sp.{Sp}
 use Rattle.sp_cells.specs.declared.names.Column.{Column}
@@ -10,21 +10,17 @@ use Rattle.sp_cells.specs.Names.{get}
 use Rattle.sp_cells.specs.Flat.{LookUp}
 use Rattle.ace_eval.specs.Aces.{HasAce, acl_at}
 use Rattle.audit.specs.declared.reason.Why.{Why}
-use Rattle.transactions.specs.declared.change.SessionId.{SessionId}
-use Rattle.transactions.specs.Stored.{Stored}
 use Rattle.call_shapes.specs.declared.ask.Ask.{Ask}
 use Rattle.call_shapes.specs.Statuses.{not_authorized}
-use Rattle.sessions.specs.Live.{Holder}
 use Rattle.methods.specs.declared.kinds.Kind.{Kind}
 use Rattle.methods.specs.declared.kinds.Kind.TheVariants as kinds
 use Rattle.methods.specs.Kinds.{kind_of}
 use Rattle.methods.specs.Columns.{columns_in, columns_of, set_types_of}
 use Rattle.methods.specs.Listed.{listed}
-use Rattle.methods.specs.Grants.{wanted, why_denied, denied}
-use Rattle.methods.specs.Said.{refuses}
-use Rattle.methods.specs.Settings.{Setting, cells_set, setting}
-use Rattle.methods.specs.Effects.{seen_by, ask_at, said_ask, stored_ask, holder_ask, to_set}
-use Rattle.methods.specs.Calls.{Called, said_call, stored_call, holder_call}
+use Rattle.methods.specs.Grants.{wanted, why_denied}
+use Rattle.methods.specs.Settings.{setting}
+use Rattle.sessions.specs.Deeds.{Setting, cells_set}
+use Rattle.methods.specs.Judgement.{Standing, Judgement, Refuses, Gives, Makes, Attempts, Activates, Reverts, denial, to_set, does, judged}
 
 -- each of these columns has an ACE: one that names it, and whose expression is the postorder writing of a tree that is
 -- true of the authorities held
@@ -33,55 +29,48 @@ EachHasAce look sp object method held [] = Unit {0}
 EachHasAce look sp object method held (k ∷ ks) = HasAce look sp object method k held
     × EachHasAce look sp object method held ks
 
--- each column for which a call wants an ACE has one
-abbrev pub IsGranted : LookUp → Sp → Uid → Uid → List Uid → Ask → Type 0
-IsGranted look sp object method held ask = EachHasAce look sp object method held (wanted ask)
+-- each column for which a call wants an ACE has one, of those that the session holds in its view
+abbrev pub IsGranted : Standing → Uid → Uid → Ask → Type 0
+IsGranted s object method ask = EachHasAce s.rows s.sp object method s.held (wanted ask)
 
 abbrev pub GrantLaw : Type 0
-GrantLaw = (look : LookUp) (sp : Sp) (object method : Uid) (held : List Uid) (ask : Ask)
-    → (denied look sp object method held ask ≡ None) ↔ IsGranted look sp object method held ask
+GrantLaw = (s : Standing) (object method : Uid) (ask : Ask)
+    → (denial s object method ask ≡ None) ↔ IsGranted s object method ask
 
 -- the reason is that of the first column, in the call's order, that has no ACE
-pub record IsDeniedBy (look : LookUp) (sp : Sp) (object method : Uid) (held : List Uid) (ask : Ask)
-    (why : Why) : Type 0 where
+pub record IsDeniedBy (s : Standing) (object method : Uid) (ask : Ask) (why : Why) : Type 0 where
   pub before : List (Option Column)
   pub column : Option Column
   pub after : List (Option Column)
   pub order : wanted ask ≡ before ++ column ∷ after
-  pub granted : EachHasAce look sp object method held before
-  pub without : HasAce look sp object method column held → ⊥
-  pub reason : why ≡ why_denied look sp object method column (acl_at sp object method)
+  pub granted : EachHasAce s.rows s.sp object method s.held before
+  pub without : HasAce s.rows s.sp object method column s.held → ⊥
+  pub reason : why ≡ why_denied s.rows s.sp object method column (acl_at s.sp object method)
 
 abbrev pub DenyLaw : Type 0
-DenyLaw = (look : LookUp) (sp : Sp) (object method : Uid) (held : List Uid) (ask : Ask) (why : Why)
-    → denied look sp object method held ask ≡ Some why
-    → IsDeniedBy look sp object method held ask why
+DenyLaw = (s : Standing) (object method : Uid) (ask : Ask) (why : Why)
+    → denial s object method ask ≡ Some why → IsDeniedBy s object method ask why
 
--- a call takes effect: the answer, the store and the sessions are those of what it asks
-pub record TakesEffect (s : Stored) (c : Called) (ask : Ask) : Type 0 where
-  pub answer : said_call s c ≡ said_ask s c.session c.object c.held
-      (ask_at c.session.sp c.object ask)
-  pub store : stored_call s c ≡ stored_ask s c.session c.object (ask_at c.session.sp c.object ask)
-  pub sessions : (n : ℕ) (o : Option Holder)
-      → holder_call s c n o ≡ holder_ask s c.session c.object (ask_at c.session.sp c.object ask) n o
+abbrev pub takes_effect : Judgement → Bool
+takes_effect (Refuses status denied) = false
+takes_effect (Gives results) = true
+takes_effect (Makes setting) = true
+takes_effect (Attempts authority pin) = true
+takes_effect Activates = true
+takes_effect (Reverts sp) = true
 
--- a call is refused for want of an ACE, and changes nothing
-pub record IsRefused (s : Stored) (c : Called) : Type 0 where
-  pub why : Why
-  pub answer : said_call s c ≡ refuses not_authorized (Some why)
-  pub store : stored_call s c ≡ s
-  pub sessions : (n : ℕ) (o : Option Holder) → holder_call s c n o ≡ o
-
-abbrev pub IsGrantedCall : Stored → Called → Ask → Type 0
-IsGrantedCall s c ask = IsGranted (seen_by s c.session) c.session.sp c.object c.method c.held ask
-
--- a call of the right shape takes effect where it is granted by what the session sees, and is refused where it is not
-pub record ComesTo (s : Stored) (c : Called) (ask : Ask) : Type 0 where
-  pub granted : IsGrantedCall s c ask → TakesEffect s c ask
-  pub refused : (IsGrantedCall s c ask → ⊥) → IsRefused s c
+-- of a call of the right shape: with valid values it takes effect exactly where it is granted, and then it is what the
+-- ask comes to; where it is not granted, it is refused with a reason
+pub record IsJudgedByAces (s : Standing) (object method : Uid) (ask : Ask) : Type 0 where
+  pub effect : takes_effect (does s object ask) ≡ true
+      → (takes_effect (judged s object method (Some ask)) ≡ true) ↔ IsGranted s object method ask
+  pub granted : IsGranted s object method ask
+      → judged s object method (Some ask) ≡ does s object ask
+  pub denied : (IsGranted s object method ask → ⊥)
+      → (why : Why) × (judged s object method (Some ask) ≡ Refuses not_authorized (Some why))
 
 abbrev pub EffectLaw : Type 0
-EffectLaw = (s : Stored) (c : Called) (ask : Ask) → c.ask ≡ Some ask → ComesTo s c ask
+EffectLaw = (s : Standing) (object method : Uid) (ask : Ask) → IsJudgedByAces s object method ask
 
 -- an element of a list
 abbrev pub IsAmong : {A : Type 0} → List A → A → Type 0
@@ -143,6 +132,6 @@ PinLaw = (sp : Sp) (mbr_sectors : ℕ) (object target : Uid) (ask : Ask)
 
 -- what is stored is what the call sets
 abbrev pub StoreLaw : Type 0
-StoreLaw = (s : Stored) (session : SessionId) (object : Uid) (ask : Ask) (set : Setting)
-    → to_set s session object ask ≡ Some set
-    → setting session.sp s.config.mbr_sectors object (kind_of session.sp object) ask ≡ Some set
+StoreLaw = (s : Standing) (object : Uid) (ask : Ask) (set : Setting)
+    → to_set s object ask ≡ Some set
+    → setting s.sp s.mbr_sectors object (kind_of s.sp object) ask ≡ Some set

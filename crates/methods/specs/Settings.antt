@@ -1,5 +1,5 @@
 -- What Set sets: the cells, or the bytes, that a call's values write (Core 2.01, section 5.3.3.7).
-use Rattle.std.specs.Prelude.{nat_le, ◌+◌, ◌*◌, ℕ, Bool, List, length, Option, None, Some, is_some, if◌then◌else◌}
+use Rattle.std.specs.Prelude.{ℕ, List, Option, None, Some, is_some, if◌then◌else◌}
 use Rattle.std.specs.List.{list_all, filter_map}
 use Rattle.sp_cells.specs.declared.names.Uid.{Uid}
 use Rattle.sp_cells.specs.declared.names.Sp.{Sp}
@@ -9,13 +9,14 @@ use Rattle.sp_cells.specs.declared.cells.Cell.{Cell}
 use Rattle.sp_cells.specs.declared.values.ColumnType.{ColumnType}
 use Rattle.sp_cells.specs.Names.{col}
 use Rattle.sp_cells.specs.Values.{type_at}
-use Rattle.shadow_mbr.specs.Stored.{sector_size}
 use Rattle.tcg_tokens.specs.Tree.{Tree}
 use Rattle.call_shapes.specs.CellValues.{cell_in}
 use Rattle.call_shapes.specs.declared.ask.Ask.{Ask}
 use Rattle.call_shapes.specs.declared.ask.Ask.TheVariants.{SetCells, SetBytes}
 use Rattle.methods.specs.declared.kinds.Kind.{Kind}
 use Rattle.methods.specs.declared.kinds.Kind.TheVariants as kinds
+use Rattle.sessions.specs.Deeds.{Setting, cells_set, bytes_set}
+use Rattle.sessions.specs.Made.{is_within}
 use Rattle.methods.specs.Columns.{set_types_of}
 
 -- the cell that a value writes in a column of this type; None where the type is none, or does not take the value
@@ -36,15 +37,6 @@ unfoldable pub cells_for : List (Column × ColumnType) → List (ℕ × Tree)
     → Option (List (Column × Cell))
 cells_for types ps = if list_all (λ p. is_some (cell_for types p)) ps
     then Some (filter_map (cell_for types) ps) else None
-
--- the bytes stand within the byte table
-abbrev pub is_within : ℕ → ℕ → List ℕ → Bool
-is_within mbr_sectors at bytes = nat_le (at + length bytes) (sector_size * mbr_sectors)
-
--- what a call sets: cells of its object, or bytes of the byte table
-pub data Setting : Type 0 where
-  cells_set : Uid → List (Column × Cell) → Setting
-  bytes_set : ℕ → List ℕ → Setting
 
 abbrev pub setting_of_cells : Uid → Option (List (Column × Cell)) → Option Setting
 setting_of_cells object None = None

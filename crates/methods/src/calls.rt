@@ -1,12 +1,11 @@
 //! Methods called in a session.
 
-ghost use Rattle.std.specs.Prelude.{◌≡◌, ◌↔◌, ℕ, true, false, Err, Some, None, IfOk, OnOk, OnErr, IfSome, is_some, option_map, map};
+ghost use Rattle.std.specs.Prelude.{◌≡◌, ◌≢◌, ◌↔◌, true, Err, Some, None, IfOk, OnErr, IfSome, is_some, map};
 ghost use Rattle.tcg_tokens.specs.Tree.{tree};
-ghost use Rattle.sessions.specs.Live.{session_at};
 ghost use Rattle.methods.specs.Grants.{denied as denied_by};
-ghost use Rattle.methods.specs.Said.{said_seen};
-ghost use Rattle.methods.specs.Effects.{seen_by, holder_of, held_in, has_ask, handles, ask_at, said_ask, stored_ask, holder_ask};
-ghost use Rattle.methods.specs.Calls.{called as called_by, called_with, call_in, said_call, stored_call, holder_call};
+ghost use Rattle.methods.specs.Effects.{seen_by, holder_of, held_in, has_ask, handles};
+ghost use Rattle.methods.specs.Judgement.{denial, does, judged};
+ghost use Rattle.methods.specs.Calls.{standing_in, judged_with, judged_call, outcome_in, Fulfils};
 ghost use Rattle.methods.specs.declared.outcome.MethodFault.TheVariants as faults;
 
 use crate::cases::method_cases;
@@ -43,7 +42,7 @@ fn handler_of(kind: Option<Kind>, ask: &Ask) -> Option<Handler>
     method_cases!(handler_arms(kind, ask))
 }
 
-/// Does what a granted call asks, by the kind of its object.
+/// Fulfils what a granted call asks, by the kind of its object.
 fn perform(
     alloc: Global,
     store: &mut Store,
@@ -52,18 +51,12 @@ fn perform(
     object: Uid,
     ask: &Ask,
 ) -> Result<Outcome, MethodFault>
-    ensures outcome { IfOk result (λ out. said_seen out
-        ≡ said_ask store.old session object (held_in sessions.old session)
-        (ask_at session.sp object ask.now)) }
-    ensures store { OnOk result (store.new
-        ≡ stored_ask store.old session object (ask_at session.sp object ask.now)) }
-    ensures unchanged { IfOk result (λ out. out.changes ≡ false → store.new ≡ store.old) }
-    ensures points { OnOk result ((n : ℕ) → session_at sessions.new n
-        ≡ holder_ask store.old session object (ask_at session.sp object ask.now)
-        n (session_at sessions.old n)) }
-    ensures next { OnOk result (sessions.new.next ≡ sessions.old.next) }
-    ensures err_store { OnErr result (store.new ≡ store.old) }
-    ensures err_sessions { OnErr result (sessions.new ≡ sessions.old) }
+    requires lives { holder_of sessions.old session ≢ None }
+    ensures fulfils { IfOk result (λ out.
+        Fulfils (outcome_in store.old session
+        (does (standing_in store.old sessions.old session) object ask.now))
+        out store.old store.new sessions.old sessions.new) }
+    ensures err { OnErr result ((store.new ≡ store.old) × (sessions.new ≡ sessions.old)) }
     ensures no_session { (result ≡ Err faults.NoSession) → (holder_of sessions.old session ≡ None) }
 {
     let Some(handler) = handler_of(kind_of(session.sp, object), ask) else {
@@ -105,8 +98,7 @@ fn denied_in(
     ask: &Ask,
 ) -> Option<Why>
     ensures { result
-        ≡ denied_by (seen_by store.now session) session.sp object method
-        (held_in sessions.now session) ask.now }
+        ≡ denial (standing_in store.now sessions.now session) object method ask.now }
 {
     match sessions.authorities(session) {
         Some(held) => denied(&store.view(session), session.sp, object, method, held, ask),
@@ -131,17 +123,12 @@ fn call_asked(
     method: Uid,
     ask: &Ask,
 ) -> Result<Outcome, MethodFault>
-    ensures outcome { IfOk result (λ out. said_seen out
-        ≡ said_call store.old (called_by sessions.old session object method (Some ask.now))) }
-    ensures store { OnOk result (store.new
-        ≡ stored_call store.old (called_by sessions.old session object method (Some ask.now))) }
-    ensures unchanged { IfOk result (λ out. out.changes ≡ false → store.new ≡ store.old) }
-    ensures points { OnOk result ((n : ℕ) → session_at sessions.new n
-        ≡ holder_call store.old (called_by sessions.old session object method (Some ask.now))
-        n (session_at sessions.old n)) }
-    ensures next { OnOk result (sessions.new.next ≡ sessions.old.next) }
-    ensures err_store { OnErr result (store.new ≡ store.old) }
-    ensures err_sessions { OnErr result (sessions.new ≡ sessions.old) }
+    requires lives { holder_of sessions.old session ≢ None }
+    ensures fulfils { IfOk result (λ out.
+        Fulfils (outcome_in store.old session
+        (judged (standing_in store.old sessions.old session) object method (Some ask.now)))
+        out store.old store.new sessions.old sessions.new) }
+    ensures err { OnErr result ((store.new ≡ store.old) × (sessions.new ≡ sessions.old)) }
     ensures no_session { (result ≡ Err faults.NoSession) → (holder_of sessions.old session ≡ None) }
 {
     match denied_in(store, sessions, session, object, method, ask) {
@@ -160,19 +147,12 @@ fn called(
     method: Uid,
     args: &[Value],
 ) -> Result<Outcome, MethodFault>
-    ensures outcome { IfOk result (λ out. said_seen out
-        ≡ said_call store.old
-        (called_with sessions.old session object method (map tree args.now))) }
-    ensures store { OnOk result (store.new
-        ≡ stored_call store.old
-        (called_with sessions.old session object method (map tree args.now))) }
-    ensures unchanged { IfOk result (λ out. out.changes ≡ false → store.new ≡ store.old) }
-    ensures points { OnOk result ((n : ℕ) → session_at sessions.new n
-        ≡ holder_call store.old (called_with sessions.old session object method (map tree args.now))
-        n (session_at sessions.old n)) }
-    ensures next { OnOk result (sessions.new.next ≡ sessions.old.next) }
-    ensures err_store { OnErr result (store.new ≡ store.old) }
-    ensures err_sessions { OnErr result (sessions.new ≡ sessions.old) }
+    requires lives { holder_of sessions.old session ≢ None }
+    ensures fulfils { IfOk result (λ out.
+        Fulfils (outcome_in store.old session
+        (judged_with store.old sessions.old session object method (map tree args.now)))
+        out store.old store.new sessions.old sessions.new) }
+    ensures err { OnErr result ((store.new ≡ store.old) × (sessions.new ≡ sessions.old)) }
     ensures no_session { (result ≡ Err faults.NoSession) → (holder_of sessions.old session ≡ None) }
 {
     match read_ask(alloc, session.sp, object, method, args)? {
@@ -193,17 +173,11 @@ pub fn invoke(
     session: SessionId,
     call: &Call,
 ) -> Result<Outcome, MethodFault>
-    ensures outcome { IfOk result (λ out. said_seen out
-        ≡ said_call store.old (call_in sessions.old session call.now)) }
-    ensures store { OnOk result (store.new
-        ≡ stored_call store.old (call_in sessions.old session call.now)) }
-    ensures unchanged { IfOk result (λ out. out.changes ≡ false → store.new ≡ store.old) }
-    ensures points { OnOk result ((n : ℕ) → session_at sessions.new n
-        ≡ holder_call store.old (call_in sessions.old session call.now)
-        n (session_at sessions.old n)) }
-    ensures next { OnOk result (sessions.new.next ≡ sessions.old.next) }
-    ensures err_store { OnErr result (store.new ≡ store.old) }
-    ensures err_sessions { OnErr result (sessions.new ≡ sessions.old) }
+    ensures fulfils { IfOk result (λ out.
+        Fulfils (outcome_in store.old session
+        (judged_call store.old sessions.old session call.now))
+        out store.old store.new sessions.old sessions.new) }
+    ensures err { OnErr result ((store.new ≡ store.old) × (sessions.new ≡ sessions.old)) }
     ensures no_session { (result ≡ Err faults.NoSession) ↔ (holder_of sessions.old session ≡ None) }
 {
     if sessions.authorities(session).is_none() {

@@ -1,17 +1,15 @@
 //! The handlers of granted calls. In each, all that can fail comes before the first change.
 
-ghost use Rattle.std.specs.Prelude.{◌≡◌, ◌==◌, ◌↔◌, ◌+◌, ◌*◌, ◌≤◌, ◌<◌, ◌-◌, length, ℕ, Err, [], ◌∷◌, Some, None, true, false, not, is_some, option_map, IfOk, OnOk, OnErr, IfErr, if◌then◌else◌};
+ghost use Rattle.std.specs.Prelude.{◌≡◌, ◌≢◌, ◌==◌, ◌↔◌, ◌+◌, ◌*◌, ◌≤◌, ◌<◌, ◌-◌, length, slice_index, ℕ, Err, [], ◌∷◌, Some, None, true, false, not, is_some, option_map, IfOk, OnOk, OnErr, IfErr, if◌then◌else◌};
 ghost use Rattle.shadow_mbr.specs.Stored.{sector_size};
-ghost use Rattle.sessions.specs.Live.{session_at};
+ghost use Rattle.transactions.specs.Bytes.{bytes_from};
+ghost use Rattle.transactions.specs.Sights.{sight_of, is_manufactured};
+ghost use Rattle.sessions.specs.Live.{Live};
 ghost use Rattle.methods.specs.Kinds.{kind_of as kind_of_object};
-ghost use Rattle.methods.specs.Said.{said_seen, said_attempt};
-ghost use Rattle.methods.specs.Settings.{setting};
 ghost use Rattle.methods.specs.Changes.{setting_seen};
-ghost use Rattle.methods.specs.Effects.{columns_said, bytes_said, bytes_from, seen_by, holder_of, held_in, gaining, to_set, valid_setting, set_said, set_stored, is_inside, unless_inside, has_set, stored_unless, ended_unless, sp_of_row as sp_of};
-ghost use Rattle.methods.specs.Said.{says};
-ghost use Rattle.transactions.specs.Stored.{reverted};
-ghost use Rattle.transactions.specs.Sights.{sight_of, activated, is_manufactured};
-ghost use Rattle.sessions.specs.Answers.{attempt, after_attempt};
+ghost use Rattle.methods.specs.Effects.{holder_of, is_inside, has_set, sp_of_row as sp_of};
+ghost use Rattle.methods.specs.Judgement.{Attempts, Activates, Reverts, list_given, listing, gives, bytes_given, to_set, makes, unless_open};
+ghost use Rattle.methods.specs.Calls.{standing_on, standing_in, outcome_in, Tells, Fulfils};
 ghost use Rattle.methods.specs.declared.outcome.MethodFault.TheVariants as faults;
 
 use crate::changes::apply_set;
@@ -40,8 +38,8 @@ fn columns_outcome<R: Rows>(
     last: u64,
     held: &Authorities,
 ) -> Result<Outcome, AllocError>
-    ensures { IfOk result (λ out. said_seen out
-        ≡ columns_said (R.look_up rows.now) sp object first last held.now) }
+    ensures { IfOk result
+        (Tells (gives (list_given (R.look_up rows.now) sp object first last held.now))) }
 {
     let listed = list_columns(alloc, rows, sp, object, first, last, held)?;
     let mut results = Vec::with_capacity(alloc, 1)?;
@@ -59,8 +57,10 @@ pub(crate) fn read_cells(
     first: u64,
     last: u64,
 ) -> Result<Outcome, MethodFault>
-    ensures outcome { IfOk result (λ out. said_seen out ≡ columns_said (seen_by store.now session)
-        session.sp object first last (held_in sessions.now session)) }
+    ensures fulfils { IfOk result (λ out.
+        Fulfils (outcome_in store.now session
+        (gives (listing (standing_in store.now sessions.now session) object first last)))
+        out store.now store.now sessions.now sessions.now) }
     ensures no_session { (result ≡ Err faults.NoSession) ↔ (holder_of sessions.now session ≡ None) }
 {
     let Some(held) = sessions.authorities(session) else {
@@ -85,7 +85,8 @@ fn bytes_outcome(
     first: u64,
     last: Option<u64>,
 ) -> Result<Outcome, AllocError>
-    ensures { IfOk result (λ out. said_seen out ≡ bytes_said view.now first last) }
+    ensures { IfOk result (Tells (bytes_given (slice_index view.now.bytes)
+        (sector_size * view.now.config.mbr_sectors) first last)) }
 {
     let size = SECTOR_SIZE as u128 * u128::from(view.mbr_sectors());
     if size == 0 {
@@ -111,7 +112,7 @@ fn bytes_outcome(
 /// Fills a buffer with the bytes of the table from a row on.
 fn fill(view: &View<'_>, first: u64, buffer: &mut [u8])
     requires { first + length buffer.old ≤ sector_size * view.now.config.mbr_sectors }
-    ensures { buffer.new ≡ bytes_from view.now.bytes first (length buffer.old) }
+    ensures { buffer.new ≡ bytes_from (slice_index view.now.bytes) first (length buffer.old) }
 {
     view.read_mbr(first, buffer);
 }
@@ -124,7 +125,7 @@ fn read_rows(
     count: usize,
 ) -> Result<Vec<u8>, AllocError>
     requires { first + count ≤ sector_size * view.now.config.mbr_sectors }
-    ensures { IfOk result (λ v. v.items ≡ bytes_from view.now.bytes first count) }
+    ensures { IfOk result (λ v. v.items ≡ bytes_from (slice_index view.now.bytes) first count) }
 {
     let mut buffer = vec![in alloc; 0; count]?;
     fill(view, first, &mut buffer);
@@ -139,8 +140,11 @@ pub(crate) fn read_bytes(
     first: u64,
     last: Option<u64>,
 ) -> Result<Outcome, MethodFault>
-    ensures outcome { IfOk result (λ out. said_seen out
-        ≡ bytes_said (sight_of store.now session) first last) }
+    ensures fulfils { (l : Live) → IfOk result (λ out.
+        Fulfils (outcome_in store.now session
+        (bytes_given (slice_index (sight_of store.now session).bytes)
+        (sector_size * store.now.config.mbr_sectors) first last))
+        out store.now store.now l l) }
     ensures memory { IfErr result (λ e. e ≡ faults.OutOfMemory) }
 {
     let outcome = bytes_outcome(alloc, &store.view(session), first, last)?;
@@ -148,7 +152,6 @@ pub(crate) fn read_bytes(
 }
 
 /// Set, of columns or of bytes.
-#[tactic(auto, using(crate::proofs::EffectLemmas::setting_done))]
 pub(crate) fn write(
     alloc: Global,
     store: &mut Store,
@@ -157,11 +160,10 @@ pub(crate) fn write(
     ask: &Ask,
 ) -> Result<Outcome, MethodFault>
     requires { has_set (kind_of_object session.sp object) ≡ true }
-    ensures outcome { IfOk result (λ out. said_seen out
-        ≡ set_said (to_set store.old session object ask.now)) }
-    ensures store { OnOk result (store.new
-        ≡ set_stored store.old session.sp (to_set store.old session object ask.now)) }
-    ensures unchanged { IfOk result (λ out. out.changes ≡ false → store.new ≡ store.old) }
+    ensures fulfils { (l : Live) → IfOk result (λ out.
+        Fulfils (outcome_in store.old session
+        (makes (to_set (standing_on store.old session []) object ask.now)))
+        out store.old store.new l l) }
     ensures err { OnErr result (store.new ≡ store.old) }
     ensures memory { IfErr result (λ e. e ≡ faults.OutOfMemory) }
 {
@@ -184,19 +186,14 @@ pub(crate) fn authenticate(
     authority: Uid,
     proof: &[u8],
 ) -> Result<Outcome, MethodFault>
-    ensures outcome { IfOk result (λ out. said_seen out
-        ≡ said_attempt session.sp authority (attempt store.old session.sp authority proof.now)) }
-    ensures store { OnOk result (store.new
-        ≡ after_attempt session.sp authority (attempt store.old session.sp authority proof.now)
-        store.old) }
-    ensures unchanged { IfOk result (λ out. out.changes ≡ false → store.new ≡ store.old) }
-    ensures points { OnOk result ((n : ℕ) → session_at sessions.new n
-        ≡ gaining store.old session authority proof.now n (session_at sessions.old n)) }
-    ensures next { OnOk result (sessions.new.next ≡ sessions.old.next) }
-    ensures err_store { OnErr result (store.new ≡ store.old) }
-    ensures err_sessions { OnErr result (sessions.new ≡ sessions.old) }
+    requires lives { holder_of sessions.old session ≢ None }
+    ensures fulfils { IfOk result (λ out.
+        Fulfils (outcome_in store.old session (Attempts authority proof.now))
+        out store.old store.new sessions.old sessions.new) }
+    ensures err { OnErr result ((store.new ≡ store.old) × (sessions.new ≡ sessions.old)) }
     ensures memory { IfErr result (λ e. e ≡ faults.OutOfMemory) }
 {
+    sessions.are_apart();
     let right = number_result(alloc, 1)?;
     let wrong = number_result(alloc, 0)?;
     match sessions.authenticate(store, session, authority, proof) {
@@ -220,11 +217,10 @@ pub(crate) fn activate(
     store: &mut Store,
     session: SessionId,
 ) -> Result<Outcome, MethodFault>
-    ensures outcome { IfOk result (λ out. said_seen out
-        ≡ unless_inside (is_inside store.old session) (says [] None false)) }
-    ensures store { OnOk result (store.new
-        ≡ stored_unless (is_inside store.old session) store.old (activated store.old)) }
-    ensures unchanged { IfOk result (λ out. out.changes ≡ false → store.new ≡ store.old) }
+    ensures fulfils { (l : Live) → IfOk result (λ out.
+        Fulfils (outcome_in store.old session
+        (unless_open (is_inside store.old session) Activates))
+        out store.old store.new l l) }
     ensures err { OnErr result (store.new ≡ store.old) }
     ensures memory { IfErr result (λ e. e ≡ faults.OutOfMemory) }
 {
@@ -266,17 +262,11 @@ pub(crate) fn revert(
     session: SessionId,
     object: Uid,
 ) -> Result<Outcome, MethodFault>
-    ensures outcome { IfOk result (λ out. said_seen out
-        ≡ unless_inside (is_inside store.old session) (says [] None (is_manufactured store.old))) }
-    ensures store { OnOk result (store.new
-        ≡ stored_unless (is_inside store.old session) store.old
-        (reverted (sp_of object) store.old)) }
-    ensures unchanged { IfOk result (λ out. out.changes ≡ false → store.new ≡ store.old) }
-    ensures points { OnOk result ((n : ℕ) → session_at sessions.new n
-        ≡ ended_unless (is_inside store.old session) (sp_of object) (session_at sessions.old n)) }
-    ensures next { OnOk result (sessions.new.next ≡ sessions.old.next) }
-    ensures err_store { OnErr result (store.new ≡ store.old) }
-    ensures err_sessions { OnErr result (sessions.new ≡ sessions.old) }
+    ensures fulfils { IfOk result (λ out.
+        Fulfils (outcome_in store.old session
+        (unless_open (is_inside store.old session) (Reverts (sp_of object))))
+        out store.old store.new sessions.old sessions.new) }
+    ensures err { OnErr result ((store.new ≡ store.old) × (sessions.new ≡ sessions.old)) }
     ensures memory { IfErr result (λ e. e ≡ faults.OutOfMemory) }
 {
     if store.is_open(session) {

@@ -3,7 +3,10 @@
 ghost use Rattle.std.specs.Prelude.{◌≡◌, true, false, [], ◌∷◌, map, None, nat_lt, IfOk};
 ghost use Rattle.tcg_tokens.specs.Tree.{tree, number};
 ghost use Rattle.tcg_tokens.specs.Message.{message};
-ghost use Rattle.methods.specs.Said.{Said, said_seen, reply_of, says, refuses, fits};
+ghost use Rattle.call_shapes.specs.Statuses.{success};
+ghost use Rattle.methods.specs.Said.{reply_of, refusal};
+ghost use Rattle.methods.specs.Judgement.{Refuses, gives};
+ghost use Rattle.methods.specs.Calls.{Tells};
 
 use audit::Why;
 use call_shapes::limits::MOST_RESPONSE;
@@ -68,7 +71,9 @@ fn reply(results: Vec<Value>, status: u64) -> Item
 
 /// These results of a call that may change something, and what was denied beside them.
 pub(crate) fn said(results: Vec<Value>, denied: Option<Why>, wipe: bool) -> Outcome
-    ensures outcome { said_seen result ≡ says (map tree results.items) denied wipe }
+    ensures reply { message result.reply ≡ reply_of (map tree results.items) success }
+    ensures denied { result.denied ≡ denied }
+    ensures wipe { result.wipe ≡ wipe }
     ensures changes { result.changes ≡ true }
 {
     Outcome {
@@ -81,8 +86,11 @@ pub(crate) fn said(results: Vec<Value>, denied: Option<Why>, wipe: bool) -> Outc
 
 /// A refusal, which changes nothing.
 pub(crate) fn refused(alloc: Global, status: u64, denied: Option<Why>) -> Outcome
-    ensures outcome { said_seen result ≡ refuses status denied }
+    ensures reply { message result.reply ≡ refusal status }
+    ensures denied { result.denied ≡ denied }
+    ensures wipe { result.wipe ≡ false }
     ensures changes { result.changes ≡ false }
+    ensures tells { Tells (Refuses status denied) result }
 {
     Outcome {
         reply: reply(Vec::new(alloc), status),
@@ -93,10 +101,8 @@ pub(crate) fn refused(alloc: Global, status: u64, denied: Option<Why>) -> Outcom
 }
 
 /// These results of a call that changes nothing, where a response can carry them.
-#[tactic(auto, unfolding(crate::specs::Said::fits))]
 pub(crate) fn fitting(alloc: Global, results: Vec<Value>) -> Outcome
-    ensures outcome { said_seen result ≡ fits (map tree results.items) }
-    ensures changes { result.changes ≡ false }
+    ensures { Tells (gives (map tree results.items)) result }
 {
     let reply = reply(results, status::SUCCESS);
     if writable(&reply) && item_len(&reply) as u64 <= MOST_RESPONSE {

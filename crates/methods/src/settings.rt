@@ -3,7 +3,8 @@
 ghost use Rattle.std.specs.Prelude.{◌≡◌, ◌≤◌, ◌<◌, ◌+◌, ◌*◌, ◌∷◌, ◌^◌, [], map, IfOk, option_map, None, Some};
 ghost use Rattle.tcg_tokens.specs.Tree.{tree};
 ghost use Rattle.sp_cells.specs.Values.{type_at as type_in};
-ghost use Rattle.methods.specs.Settings.{cell_for as cell_by, cells_for, is_within as is_within_table, cells_of_ask, bytes_of_ask, setting};
+ghost use Rattle.methods.specs.Settings.{cell_for as cell_by, cells_for, cells_of_ask, bytes_of_ask, setting};
+ghost use Rattle.sessions.specs.Made.{is_within as is_within_table};
 ghost use Rattle.methods.specs.Changes.{setting_seen};
 ghost use Rattle.methods.specs.Kinds.{kind_of as kind_of_object};
 

@@ -15,7 +15,8 @@ use Rattle.trusted_cmds.specs.declared.command.Command.TheVariants.{ReadQueued, 
 use Rattle.locking.specs.declared.range.Op.TheVariants.{Read}
 use Rattle.locking.specs.declared.ranges.Verdict.{Verdict}
 use Rattle.locking.specs.declared.ranges.Verdict.TheVariants.{Serve, Shadow, Denied}
-use Rattle.history.specs.Events.{SessionDeed, Reverted, CompletedWrite, Deed, InSession, OfQueue, Wrote, Event, or_else, latest}
+use Rattle.history.specs.Events.{CompletedWrite, Deed, InSession, OfQueue, Wrote, Event, or_else, latest}
+use Rattle.sessions.specs.Deeds.{SessionDeed, Reverted}
 use Rattle.history.specs.Readers.{part_of, wipes, writing, sector}
 use Rattle.history.specs.Facts.{Facts}
 use Rattle.history.specs.Decisions.{verdict_on, discovery_com_id}

@@ -1,13 +1,12 @@
 -- Each answer can be carried by a response: that to a call, that to a StartSession, and that to Properties.
-use Rattle.shadow_mbr.specs.Stored.{sector_size}
-use Rattle.std.proofs.Common.{◌≡◌, ℕ, ◌+◌, ◌*◌, ◌^◌, ◌<◌, ◌≤◌, Bool, true, false, not, ltb, List, [], ◌∷◌, ◌++◌, length, Option, None, Some, refl, cond, arith, inl, inr}
+use Rattle.std.proofs.Common.{◌≡◌, ℕ, ◌+◌, ◌^◌, ◌<◌, ◌≤◌, Bool, true, false, not, ltb, List, [], ◌∷◌, ◌++◌, length, Option, None, Some, refl, cond, arith, inl, inr}
 use Rattle.std.specs.Prelude.{◌==◌, ◌-◌, ◌||◌, suc, nat_le, nat_lt}
 use Rattle.std.specs.Int.{w64, to_be_bytes}
 use Rattle.std.proofs.Math.Nat.{min-le_left}
 use Rattle.std.proofs.lemmas.Bool.{ltb-true, le-leb, lt-ltb}
 use Rattle.std.proofs.lemmas.Bool.Decides.{nat_tests}
 use Rattle.std.proofs.lemmas.List.{length-append}
-use Rattle.tcg_tokens.specs.Tree.{Tree, number, bytes, list, trees_of}
+use Rattle.tcg_tokens.specs.Tree.{Tree, number, list, trees_of}
 use Rattle.tcg_tokens.specs.Message.{begin, end}
 use Rattle.tcg_tokens.specs.Length.{len_of}
 use Rattle.tcg_tokens.specs.Spelling.{header, significant, number_spelling, bytes_spelling, status_spelling, item_spelling_of}
@@ -21,9 +20,7 @@ use Rattle.sp_cells.specs.Names.{session_manager, sync_session}
 use Rattle.audit.specs.declared.reason.AttemptFailure.{AttemptFailure}
 use Rattle.audit.specs.declared.reason.AttemptFailure.TheVariants.{WrongPin, LockedOut, Disabled, Unknown}
 use Rattle.audit.specs.declared.reason.Why.{Why}
-use Rattle.transactions.specs.declared.change.SessionId.{SessionId}
 use Rattle.transactions.specs.Stored.{Stored}
-use Rattle.transactions.specs.Sights.{sight_of, is_manufactured}
 use Rattle.call_shapes.specs.Carried.{is_carried}
 use Rattle.call_shapes.specs.CellValues.{number_in}
 use Rattle.call_shapes.specs.Limits.{most_response}
@@ -32,19 +29,16 @@ use Rattle.call_shapes.specs.declared.ask.Ask.{Ask}
 use Rattle.call_shapes.specs.declared.ask.Ask.TheVariants.{GetCells, GetBytes, SetCells, SetBytes, Authenticate, Activate, Revert, Other}
 use Rattle.sessions.specs.declared.opening.Opening.{Opening}
 use Rattle.sessions.specs.declared.opening.StartVerdict.TheVariants.{Refused, Attempted}
-use Rattle.sessions.specs.Answers.{in_force, attempt}
+use Rattle.sessions.specs.Answers.{in_force}
 use Rattle.sessions.specs.Attempts.{failure}
 use Rattle.sessions.specs.Live.{Live, lives_on}
 use Rattle.sessions.specs.Properties.{takes_properties, properties_list, properties_call, properties_message}
 use Rattle.sessions.specs.Starts.{sp_named, is_in_use, is_full, is_host, verdict_on, verdict, opening_of, host_among, host_of, sync_message, reply_to, start_reply}
-use Rattle.methods.specs.Said.{Said, reply_of, says, refuses, fits, said_attempt}
-use Rattle.methods.specs.Settings.{Setting}
-use Rattle.methods.specs.Effects.{ask_at, is_inside, rows_said, last_row, bytes_from, set_said, to_set, unless_inside, said_ask}
-use Rattle.methods.specs.Calls.{Called, denied_call, said_unless, said_shaped, said_call}
-
--- The answer can be carried.
-abbrev Carries : Said → Type 0
-Carries said = is_carried said.answer ≡ true
+use Rattle.methods.specs.Said.{reply_of, attempt_reply}
+use Rattle.sessions.specs.Deeds.{Setting}
+use Rattle.methods.specs.Effects.{ask_at, last_row, sp_of_row}
+use Rattle.methods.specs.Judgement.{Standing, Judgement, Refuses, Gives, Activates, Reverts, denial, gives, listing, bytes_between, bytes_given, table_size, to_set, makes, unless_open, does_ask, does, unless_denied, judged}
+use Rattle.methods.specs.Calls.{outcome_of}
 
 -- ---- the answers without results, and those of one number
 
@@ -82,58 +76,59 @@ one_success = refl
 
 -- ---- a call
 
-fitting : (results : List Tree) (b : Bool) → is_carried (reply_of results success) ≡ b → Carries (cond b (says results None false) (refuses response_overflow None))
-fitting results true h = h
-fitting results false h = bare_overflow
+-- what a judgement is answered
+abbrev Told : LookUp → Sp → Judgement → Type 0
+Told rows sp j = is_carried (outcome_of rows sp j).said ≡ true
 
-fits_carried : (results : List Tree) → Carries (fits results)
-unfolding fits
-fits_carried results = fitting results (is_carried (reply_of results success)) refl
+fitting : (rows : LookUp) (sp : Sp) (results : List Tree) (b : Bool) → is_carried (reply_of results success) ≡ b → Told rows sp (cond b (Gives results) (Refuses response_overflow None))
+fitting rows sp results true h = h
+fitting rows sp results false h = bare_overflow
 
-rows_carried : (past_end too_long : Bool) (results : List Tree) → Carries (cond past_end (refuses invalid_parameter None) (cond too_long (refuses response_overflow None) (fits results)))
-rows_carried true too_long results = bare_invalid
-rows_carried false true results = bare_overflow
-rows_carried false false results = fits_carried results
+given : (rows : LookUp) (sp : Sp) (results : List Tree) → Told rows sp (gives results)
+given rows sp results = fitting rows sp results (is_carried (reply_of results success)) refl
 
-bytes_carried : (bs : List ℕ) (size first last : ℕ) → Carries (rows_said bs size first last)
-bytes_carried bs size first last =
-    rows_carried ((size == 0) || (nat_le size last || nat_lt last first)) (nat_lt most_response (last + 1 - first)) (bytes (bytes_from bs first (last + 1 - first)) ∷ [])
+rows_carried : (rows : LookUp) (sp : Sp) (past_end too_long : Bool) (results : List Tree) → Told rows sp (cond past_end (Refuses invalid_parameter None) (cond too_long (Refuses response_overflow None) (gives results)))
+rows_carried rows sp true too_long results = bare_invalid
+rows_carried rows sp false true results = bare_overflow
+rows_carried rows sp false false results = given rows sp results
 
-set_carried : (o : Option Setting) → Carries (set_said o)
-set_carried None = bare_invalid
-set_carried (Some st) = bare_success
+bytes_carried : (rows : LookUp) (sp : Sp) (byte : ℕ → ℕ) (size first : ℕ) (to : Option ℕ) → Told rows sp (bytes_given byte size first to)
+bytes_carried rows sp byte size first to =
+    let last : ℕ = last_row size to in
+    rows_carried rows sp ((size == 0) || (nat_le size last || nat_lt last first)) (nat_lt most_response (last + 1 - first)) (bytes_between byte first last)
 
-attempt_carried : (sp : Sp) (authority : Uid) (o : Option AttemptFailure) → Carries (said_attempt sp authority o)
-attempt_carried sp authority None = one_success
-attempt_carried sp authority (Some LockedOut) = bare_locked_out
-attempt_carried sp authority (Some WrongPin) = zero_success
-attempt_carried sp authority (Some Disabled) = zero_success
-attempt_carried sp authority (Some Unknown) = zero_success
+set_carried : (rows : LookUp) (sp : Sp) (o : Option Setting) → Told rows sp (makes o)
+set_carried rows sp None = bare_invalid
+set_carried rows sp (Some st) = bare_success
 
-inside_carried : (b : Bool) (said : Said) → Carries said → Carries (unless_inside b said)
-inside_carried true said h = bare_fail
-inside_carried false said h = h
+attempt_carried : (o : Option AttemptFailure) → is_carried (attempt_reply o) ≡ true
+attempt_carried None = one_success
+attempt_carried (Some LockedOut) = bare_locked_out
+attempt_carried (Some WrongPin) = zero_success
+attempt_carried (Some Disabled) = zero_success
+attempt_carried (Some Unknown) = zero_success
 
-ask_carried : (s : Stored) (session : SessionId) (object : Uid) (held : List Uid) (ask : Ask) → Carries (said_ask s session object held ask)
-ask_carried s session object held (GetCells first last) = fits_carried _
-ask_carried s session object held (GetBytes first last) = bytes_carried (sight_of s session).bytes (sector_size * (sight_of s session).config.mbr_sectors) first (last_row (sector_size * (sight_of s session).config.mbr_sectors) last)
-ask_carried s session object held (SetCells ps) = set_carried (to_set s session object (SetCells ps))
-ask_carried s session object held (SetBytes at octets) = set_carried (to_set s session object (SetBytes at octets))
-ask_carried s session object held (Authenticate authority proof) = attempt_carried session.sp authority (attempt s session.sp authority proof)
-ask_carried s session object held Activate = inside_carried (is_inside s session) (says [] None false) bare_success
-ask_carried s session object held Revert = inside_carried (is_inside s session) (says [] None (is_manufactured s)) bare_success
-ask_carried s session object held Other = bare_fail
+inside_carried : (rows : LookUp) (sp : Sp) (b : Bool) (j : Judgement) → Told rows sp j → Told rows sp (unless_open b j)
+inside_carried rows sp true j h = bare_fail
+inside_carried rows sp false j h = h
 
-unless_carried : (denied : Option Why) (said : Said) → Carries said → Carries (said_unless denied said)
-unless_carried None said h = h
-unless_carried (Some why) said h = bare_not_authorized
+ask_carried : (rows : LookUp) (sp : Sp) (its : Standing) (object : Uid) (ask : Ask) → Told rows sp (does_ask its object ask)
+ask_carried rows sp its object (GetCells first last) = given rows sp (listing its object first last)
+ask_carried rows sp its object (GetBytes first last) = bytes_carried rows sp its.byte (table_size its) first last
+ask_carried rows sp its object (SetCells ps) = set_carried rows sp (to_set its object (SetCells ps))
+ask_carried rows sp its object (SetBytes at octets) = set_carried rows sp (to_set its object (SetBytes at octets))
+ask_carried rows sp its object (Authenticate authority proof) = attempt_carried (failure rows sp authority proof)
+ask_carried rows sp its object Activate = inside_carried rows sp its.is_open Activates bare_success
+ask_carried rows sp its object Revert = inside_carried rows sp its.is_open (Reverts (sp_of_row object)) bare_success
+ask_carried rows sp its object Other = bare_fail
 
-shaped_carried : (s : Stored) (c : Called) (ask : Option Ask) → Carries (said_shaped s c ask)
-shaped_carried s c None = bare_invalid
-shaped_carried s c (Some ask) = unless_carried (denied_call s c ask) (said_ask s c.session c.object c.held (ask_at c.session.sp c.object ask)) (ask_carried s c.session c.object c.held (ask_at c.session.sp c.object ask))
+unless_carried : (rows : LookUp) (sp : Sp) (denied : Option Why) (j : Judgement) → Told rows sp j → Told rows sp (unless_denied denied j)
+unless_carried rows sp None j h = h
+unless_carried rows sp (Some why) j h = bare_not_authorized
 
-pub call_carried : (s : Stored) (c : Called) → is_carried (said_call s c).answer ≡ true
-call_carried s c = shaped_carried s c c.ask
+pub call_carried : (rows : LookUp) (sp : Sp) (its : Standing) (object method : Uid) (ask : Option Ask) → is_carried (outcome_of rows sp (judged its object method ask)).said ≡ true
+call_carried rows sp its object method None = bare_invalid
+call_carried rows sp its object method (Some ask) = unless_carried rows sp (denial its object method ask) (does its object ask) (ask_carried rows sp its object (ask_at its.sp object ask))
 
 -- ---- an answer of the session manager
 

@@ -10,24 +10,25 @@ use Rattle.tcg_tokens.specs.Tree.{Tree, tree, trees}
 use Rattle.tcg_tokens.specs.Message.{Message, message}
 use Rattle.tcg_tokens.specs.Gives.{Fails}
 use Rattle.audit.specs.declared.reason.Why.{Why}
-use Rattle.call_shapes.specs.Asks.{uid_of}
+use Rattle.call_shapes.specs.Asks.{ask_of, uid_of}
 use Rattle.call_shapes.specs.Carried.{is_carried}
 use Rattle.call_shapes.specs.Named.{values_of}
 use Rattle.call_shapes.proofs.NamedLemmas.{values_trees}
 use Rattle.transactions.specs.declared.change.SessionId.{SessionId}
 use Rattle.transactions.specs.Stored.{Stored}
+use Rattle.sessions.specs.Answers.{in_force}
 use Rattle.sessions.specs.Live.{Live, AreNumbered, session_at}
 use Rattle.sessions.specs.Starts.{start_reply, start_denied, start_stored, start_at, start_next}
 use Rattle.methods.specs.declared.outcome.Outcome.{Outcome as Answered}
-use Rattle.methods.specs.Said.{Said, said_seen}
-use Rattle.methods.specs.Calls.{Called, called_with, call_in, said_call, stored_call, holder_call}
+use Rattle.methods.specs.Calls.{standing_in, judged_with, judged_call, outcome_of, outcome_in, Fulfils}
 use Rattle.history.specs.Opening.{Origin}
-use Rattle.history.specs.Events.{Event, Unchanged}
+use Rattle.history.specs.Events.{Event}
+use Rattle.sessions.specs.Deeds.{Unchanged, Outcome, says}
 use Rattle.history.specs.Facts.{Facts, facts}
-use Rattle.history.specs.Tcg.{Outcome, says, called_manager, to_manager, in_session, outcome_of, judgement_on, started}
+use Rattle.history.specs.Tcg.{called_manager, to_manager, in_session, judgement_on, started}
 use Rattle.history.specs.KeptStore.{KeepsStore}
 use Rattle.history.specs.KeptSessions.{KeepsSessions, id_of}
-use Rattle.history.specs.KeptCalls.{Meets}
+use Rattle.sessions.specs.Made.{Meets}
 use Rattle.history.proofs.KeptCallsProofs.{kept_call_law}
 use Rattle.history.proofs.KeptSessionsStart.{start_law}
 use Rattle.tper.specs.Items.{Answers, OfManager, OfSession}
@@ -39,34 +40,25 @@ carried-as said m h k = subst (λ (x : Message). is_carried x ≡ true) (sym h) 
 
 -- ---- a call of a session
 
-said-meets : (out : Outcome) (said : Answered) (x : Said) (s t u : Stored) (l m : Live) → said_seen said ≡ x → t ≡ u → Meets out x.answer x.denied x.wipe s u l m → Answers out said s t l m
-said-meets out said x s t u l m h k g =
-    subst (λ (v : Stored). Answers out said s v l m) (sym k)
-    (subst (λ (y : Said). Meets out y.answer y.denied y.wipe s u l m) (sym h) g)
-
 -- the call by the values of its arguments is the call that the session sends
-same-call : (l : Live) (session : SessionId) (call : Call) → called_with l session (uid_of call.object) (uid_of call.method) (values_of (trees call.args.items)) ≡ call_in l session call
-same-call l session call =
-    ap (λ (args : List Tree). called_with l session (uid_of call.object) (uid_of call.method) args) (values_trees call.args.items)
+same-call : (s : Stored) (l : Live) (session : SessionId) (call : Call) → judged_call s l session call ≡ judged_with s l session (uid_of call.object) (uid_of call.method) (values_of (trees call.args.items))
+same-call s l session call =
+    sym (ap (λ (args : List Tree). judged_with s l session (uid_of call.object) (uid_of call.method) args) (values_trees call.args.items))
 
 pub call-met : (s t : Stored) (l m : Live) (session : SessionId) (call : Call) (said : Answered)
-    → said_seen said ≡ said_call s (call_in l session call)
-    → t ≡ stored_call s (call_in l session call)
-    → ((n : ℕ) → session_at m n ≡ holder_call s (call_in l session call) n (session_at l n))
-    → m.next ≡ l.next
-    → OfSession (λ f its. outcome_of f its.sp (judgement_on f its (uid_of call.object) (uid_of call.method) (trees call.args.items))) session said s t l m
-call-met s t l m session call said answered stored points next = λ o acts its ks kl lives same.
-    let is : call_in l session call ≡ called_with l (id_of its) (uid_of call.object) (uid_of call.method) (values_of (trees call.args.items)) =
-    ap (λ (id : SessionId). call_in l id call) same ∙ sym (same-call l (id_of its) call) in
-    said-meets _ said (said_call s (called_with l (id_of its) (uid_of call.object) (uid_of call.method) (values_of (trees call.args.items))))
-    s t (stored_call s (called_with l (id_of its) (uid_of call.object) (uid_of call.method) (values_of (trees call.args.items)))) l m
-    (answered ∙ ap (λ (c : Called). said_call s c) is)
-    (stored ∙ ap (λ (c : Called). stored_call s c) is)
-    (kept_call_law o acts s l m its (uid_of call.object) (uid_of call.method) (trees call.args.items) ks kl lives next
-    (λ n. points n ∙ ap (λ (c : Called). holder_call s c n (session_at l n)) is))
+    → Fulfils (outcome_in s session (judged_call s l session call)) said s t l m
+    → OfSession (λ f its. outcome_of f.rows its.sp (judgement_on f its (uid_of call.object) (uid_of call.method) (trees call.args.items))) session said s t l m
+call-met s t l m session call said fulfils = λ o acts its ks kl lives same.
+    let here : Fulfils (outcome_in s (id_of its) (judged_call s l (id_of its) call)) said s t l m = subst (λ (id : SessionId). Fulfils (outcome_in s id (judged_call s l id call)) said s t l m) same fulfils in
+    subst (λ (x : Outcome). Answers x said s t l m)
+    (ap (outcome_in s (id_of its)) (same-call s l (id_of its) call)
+    ∙ kept_call_law o acts s l its (uid_of call.object) (uid_of call.method) (trees call.args.items) ks kl lives)
+    here.met
 
-pub call-carried : (s : Stored) (l : Live) (session : SessionId) (call : Call) (said : Answered) → said_seen said ≡ said_call s (call_in l session call) → is_carried (message said.reply) ≡ true
-call-carried s l session call said h = carried-as (message said.reply) _ (ap (λ (x : Said). x.answer) h) (call_carried s (call_in l session call))
+pub call-carried : (s t : Stored) (l m : Live) (session : SessionId) (call : Call) (said : Answered) → Fulfils (outcome_in s session (judged_call s l session call)) said s t l m → is_carried (message said.reply) ≡ true
+call-carried s t l m session call said h =
+    carried-as (message said.reply) _ h.met.answer
+    (call_carried (in_force s) session.sp (standing_in s l session) (uid_of call.object) (uid_of call.method) (ask_of session.sp (uid_of call.object) (uid_of call.method) (map tree call.args.items)))
 
 -- ---- the session manager
 

@@ -15,9 +15,10 @@ use Rattle.history.specs.Agreement.{HasNoTries}
 use Rattle.history.specs.Events.{Event, Nothing, Took, WasReset, did}
 use Rattle.history.specs.Readers.{waiting, waits}
 use Rattle.history.specs.Decisions.{received}
-use Rattle.history.specs.Tcg.{Outcome, answers}
+use Rattle.history.specs.Tcg.{answers}
+use Rattle.sessions.specs.Deeds.{Outcome}
 use Rattle.history.specs.KeptStore.{HasKnownRows, KeepsStore}
-use Rattle.history.specs.KeptSessions.{LeavesAll}
+use Rattle.sessions.specs.Made.{LeavesAll}
 use Rattle.history.proofs.KeptStoreOpenings.{store_opening_law}
 use Rattle.history.proofs.KeptSessionsLaws.{sessions_opening_law}
 use Rattle.tper.specs.declared.trusted.Sent.{Sent}

@@ -10,7 +10,7 @@ use Rattle.transactions.specs.declared.change.SessionId.{SessionId}
 use Rattle.sessions.specs.Live.{Holder, Live, session_at, is_of, found, holder_on}
 use Rattle.methods.specs.Effects.{holder_of}
 use Rattle.history.specs.Opening.{Origin}
-use Rattle.history.specs.Sessions.{Begun}
+use Rattle.sessions.specs.Deeds.{Begun}
 use Rattle.history.specs.Events.{Event, Nothing, did}
 use Rattle.history.specs.Readers.{session_on}
 use Rattle.history.specs.Facts.{Facts, facts, session_named}

@@ -6,15 +6,14 @@ use Rattle.transactions.specs.Stored.{Stored}
 use Rattle.sessions.specs.Live.{Live}
 use Rattle.methods.specs.declared.outcome.Outcome.{Outcome as Answered}
 use Rattle.history.specs.Opening.{Origin}
-use Rattle.history.specs.Sessions.{Begun}
+use Rattle.sessions.specs.Deeds.{Begun, Outcome}
 use Rattle.history.specs.Events.{Event}
 use Rattle.history.specs.Readers.{session_on}
 use Rattle.history.specs.Facts.{Facts, facts}
-use Rattle.history.specs.Tcg.{Outcome}
 use Rattle.history.specs.History.{Act, log}
 use Rattle.history.specs.KeptStore.{KeepsStore}
 use Rattle.history.specs.KeptSessions.{KeepsSessions, id_of}
-use Rattle.history.specs.KeptCalls.{Meets}
+use Rattle.sessions.specs.Made.{Meets}
 
 -- The answer, and what was made of the store and of the sessions, is what an outcome says.
 abbrev pub Answers : Outcome → Answered → Stored → Stored → Live → Live → Type 0

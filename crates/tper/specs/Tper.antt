@@ -9,7 +9,7 @@ use Rattle.history.specs.Readers.{waiting}
 use Rattle.history.specs.Decisions.{is_session_com_id}
 use Rattle.history.specs.KeptStore.{KeepsStore}
 use Rattle.history.specs.KeptSessions.{KeepsSessions}
-use Rattle.history.specs.KeptCalls.{wipes_by}
+use Rattle.sessions.specs.Deeds.{wipes_by}
 use Rattle.compacket.specs.declared.session.Session.{Session}
 use Rattle.compacket.specs.Spelling.{frame_bytes}
 use Rattle.tcg_tokens.specs.Message.{Message, message}

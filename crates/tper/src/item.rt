@@ -11,8 +11,10 @@ ghost use Rattle.tcg_tokens.specs.Reading.{reading as message_in};
 ghost use Rattle.tcg_tokens.specs.Tree.{trees};
 ghost use Rattle.methods.specs.Effects.{holder_of};
 ghost use Rattle.sessions.specs.Live.{Live};
-ghost use Rattle.history.specs.Events.{Ended};
-ghost use Rattle.history.specs.Tcg.{says, refusal, to_manager, called_manager, in_session, outcome_of, judgement_on, begins_on, ends_on};
+ghost use Rattle.sessions.specs.Deeds.{Ended, says};
+ghost use Rattle.history.specs.Tcg.{to_manager, called_manager, in_session, judgement_on, begins_on, ends_on};
+ghost use Rattle.methods.specs.Calls.{outcome_of};
+ghost use Rattle.methods.specs.Said.{refusal};
 ghost use Rattle.history.specs.Facts.{has_open};
 ghost use Rattle.tper.specs.Items.{OfManager, OfSession};
 
@@ -129,7 +131,6 @@ pub(crate) fn to_manager(
 }
 
 /// A method that a live session calls.
-#[tactic(auto, using(crate::proofs::Configs::call_config))]
 fn call_in_session(
     alloc: Global,
     store: &mut Store,
@@ -139,7 +140,7 @@ fn call_in_session(
 ) -> Result<Outcome, AllocError>
     requires lives { holder_of sessions.old session ≢ None }
     ensures met { IfOk result (λ said. OfSession
-        (λ f its. outcome_of f its.sp (judgement_on f its (uid_in call.now.object)
+        (λ f its. outcome_of f.rows its.sp (judgement_on f its (uid_in call.now.object)
         (uid_in call.now.method) (trees call.now.args.items))) session said
         store.old store.new sessions.old sessions.new) }
     ensures carried { IfOk result (λ said. is_carried (message said.reply) ≡ true) }

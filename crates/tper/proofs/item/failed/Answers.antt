@@ -1,7 +1,7 @@
 use Rattle.std.proofs.Common.{rules}
 use Rattle.tcg_tokens.specs.Message.{message}
 use Rattle.call_shapes.specs.Statuses.{fail}
-use Rattle.history.specs.Tcg.{refusal}
+use Rattle.methods.specs.Said.{refusal}
 use Rattle.tper.proofs.Carried.{bare_fail}
 use Rattle.tper.proofs.Items.{carried-as}
 use Rattle.tper.proofs.item.failed.Goals as goal

@@ -1,12 +1,11 @@
--- What comes of a call in a session, by the definitions of the crate that does it: its shape, its
--- ACEs, its values, in this order. Over any view and any authorities.
-use Rattle.std.specs.Prelude.{ℕ, ◌+◌, ◌-◌, ◌*◌, ◌==◌, ◌||◌, Bool, true, false, nat_le, nat_lt, List, [], ◌∷◌, map, Option, Some, None, if◌then◌else◌}
+-- What comes of a call in a session: its shape, its ACEs, its values, in this order. Over any view and any authorities.
+use Rattle.std.specs.Prelude.{ℕ, ◌+◌, ◌*◌, ◌==◌, ◌||◌, ◌-◌, Bool, true, false, nat_le, nat_lt, List, [], ◌∷◌, map, Option, Some, None, if◌then◌else◌}
 use Rattle.sp_cells.specs.declared.names.Uid.{Uid}
 use Rattle.sp_cells.specs.declared.names.Sp.{Sp}
 use Rattle.sp_cells.specs.declared.error.SetError.{SetError}
 use Rattle.sp_cells.specs.declared.error.SetError.TheVariants as faults
 use Rattle.sp_cells.specs.Flat.{LookUp}
-use Rattle.sp_tables.specs.Looks.{fault_seen}
+use Rattle.sp_tables.specs.Looks.{RowLook, fault_seen}
 use Rattle.sp_tables.specs.Tries.{names_tries}
 use Rattle.shadow_mbr.specs.Stored.{sector_size}
 use Rattle.transactions.specs.Bytes.{bytes_from}
@@ -17,28 +16,30 @@ use Rattle.call_shapes.specs.declared.ask.Ask.{Ask}
 use Rattle.call_shapes.specs.declared.ask.Ask.TheVariants.{GetCells, GetBytes, SetCells, SetBytes, Authenticate, Activate, Revert, Other}
 use Rattle.call_shapes.specs.Named.{values_of}
 use Rattle.call_shapes.specs.Asks.{ask_of}
+use Rattle.call_shapes.specs.Limits.{most_response}
 use Rattle.call_shapes.specs.Statuses.{success, not_authorized, invalid_parameter, response_overflow, fail}
 use Rattle.methods.specs.Kinds.{kind_of}
 use Rattle.methods.specs.Grants.{denied}
 use Rattle.methods.specs.Listed.{listed, cell_value}
-use Rattle.methods.specs.Settings.{Setting, cells_set, bytes_set, setting}
+use Rattle.methods.specs.Settings.{setting}
+use Rattle.sessions.specs.Deeds.{Setting, cells_set, bytes_set}
 use Rattle.methods.specs.Said.{reply_of}
-use Rattle.call_shapes.specs.Limits.{most_response}
 use Rattle.methods.specs.Effects.{ask_at, last_row, sp_of_row, unless_fault}
 
--- What the rules ask of a session: the drive's sectors, those of its shadow, the rows and the
--- shadow's bytes in its view, its SP, the authorities that it holds, and whether it has a
--- transaction open.
+-- what the rules ask of a session: the drive's sectors, those of its shadow, the rows and the shadow's bytes in its
+-- view, its SP, the rows there by which a change is judged, the authorities that it holds, and whether it has a
+-- transaction open
 pub record Standing : Type 0 where
   pub sectors : ℕ
   pub mbr_sectors : ℕ
   pub rows : LookUp
   pub byte : ℕ → ℕ
   pub sp : Sp
+  pub newest : RowLook
   pub held : List Uid
   pub is_open : Bool
 
--- What a call asks, or nothing where its arguments have not the shape of its method.
+-- what a call asks, or nothing where its arguments have not the shape of its method
 abbrev pub asked : Sp → Uid → Uid → Trees → Option Ask
 asked sp object method args = ask_of sp object method (values_of args)
 
@@ -50,47 +51,55 @@ pub data Judgement : Type 0 where
   Activates : Judgement
   Reverts : (sp : Sp) → Judgement
 
--- What denies a call.
+-- what denies a call
 abbrev pub denial : Standing → Uid → Uid → Ask → Option Why
 denial s object method ask = denied s.rows s.sp object method s.held ask
 
--- Results, where a response can carry them.
+-- results, where a response can carry them
 abbrev pub gives : List Tree → Judgement
 gives results =
     if is_carried (reply_of results success)
     then Gives results else Refuses response_overflow None
 
--- What a Get of columns gives: those that are listed, with their values.
-abbrev pub listing : Standing → Uid → ℕ → ℕ → List Tree
-listing s object first last =
-    list (trees_of (map cell_value (listed s.rows s.sp object first last s.held))) ∷ []
+-- what a Get of columns gives: those that are listed, with their values
+abbrev pub list_given : LookUp → Sp → Uid → ℕ → ℕ → List Uid → List Tree
+list_given look sp object first last held =
+    list (trees_of (map cell_value (listed look sp object first last held))) ∷ []
 
--- What a Get of bytes gives: rows of the shadow's table.
+abbrev pub listing : Standing → Uid → ℕ → ℕ → List Tree
+listing s object first last = list_given s.rows s.sp object first last s.held
+
+-- what a Get of bytes gives: rows of the shadow's table
+abbrev pub bytes_between : (ℕ → ℕ) → ℕ → ℕ → List Tree
+bytes_between byte first last = bytes (bytes_from byte first (last + 1 - first)) ∷ []
+
+-- the rows lie within the table, and are not too many for a response
+abbrev pub rows_given : (ℕ → ℕ) → ℕ → ℕ → ℕ → Judgement
+rows_given byte size first last =
+    if (size == 0) || (nat_le size last || nat_lt last first)
+    then Refuses invalid_parameter None
+    else (if nat_lt most_response (last + 1 - first) then Refuses response_overflow None
+    else gives (bytes_between byte first last))
+
+-- a Get of bytes, to the last one where none is named
+abbrev pub bytes_given : (ℕ → ℕ) → ℕ → ℕ → Option ℕ → Judgement
+bytes_given byte size first last = rows_given byte size first (last_row size last)
+
 abbrev pub table_size : Standing → ℕ
 table_size s = sector_size * s.mbr_sectors
 
-abbrev pub bytes_between : Standing → ℕ → ℕ → List Tree
-bytes_between s first last = bytes (bytes_from s.byte first (last + 1 - first)) ∷ []
-
-abbrev pub rows_given : Standing → ℕ → ℕ → Judgement
-rows_given s first last =
-    if (table_size s == 0) || (nat_le (table_size s) last || nat_lt last first)
-    then Refuses invalid_parameter None
-    else (if nat_lt most_response (last + 1 - first) then Refuses response_overflow None
-    else gives (bytes_between s first last))
-
--- Why what a Set sets is not set, by the rows as the session sees them. Tries are no cells that a
--- change names.
-abbrev pub fault_by : ℕ → LookUp → Sp → Setting → Option SetError
-fault_by sectors look sp (cells_set object cells) =
-    if names_tries object cells then Some faults.NoCell else fault_seen sectors look sp object cells
-fault_by sectors look sp (bytes_set at content) = None
+-- why what a Set sets is not set, by the newest rows of its SP. Tries are no cells that a change names
+abbrev pub fault_by : ℕ → RowLook → Sp → Setting → Option SetError
+fault_by sectors newest sp (cells_set object cells) =
+    if names_tries object cells
+    then Some faults.NoCell else fault_seen sectors (λ _. newest) sp object cells
+fault_by sectors newest sp (bytes_set at content) = None
 
 abbrev pub valid : Standing → Option Setting → Option Setting
 valid s None = None
-valid s (Some set) = unless_fault (fault_by s.sectors s.rows s.sp set) set
+valid s (Some set) = unless_fault (fault_by s.sectors s.newest s.sp set) set
 
--- What a Set sets, where its values are valid.
+-- what a Set sets, where its values are valid
 abbrev pub to_set : Standing → Uid → Ask → Option Setting
 to_set s object ask = valid s (setting s.sp s.mbr_sectors object (kind_of s.sp object) ask)
 
@@ -98,15 +107,15 @@ abbrev pub makes : Option Setting → Judgement
 makes None = Refuses invalid_parameter None
 makes (Some set) = Makes set
 
--- Activate and Revert do nothing within a transaction.
+-- Activate and Revert do nothing within a transaction
 abbrev pub unless_open : Bool → Judgement → Judgement
 unless_open true judgement = Refuses fail None
 unless_open false judgement = judgement
 
--- What a granted call comes to, where the object's kind has the method.
+-- what a granted call comes to, where the object's kind has the method
 abbrev pub does_ask : Standing → Uid → Ask → Judgement
 does_ask s object (GetCells first last) = gives (listing s object first last)
-does_ask s object (GetBytes first last) = rows_given s first (last_row (table_size s) last)
+does_ask s object (GetBytes first last) = bytes_given s.byte (table_size s) first last
 does_ask s object (SetCells values) = makes (to_set s object (SetCells values))
 does_ask s object (SetBytes at content) = makes (to_set s object (SetBytes at content))
 does_ask s object (Authenticate authority pin) = Attempts authority pin

@@ -1,0 +1,109 @@
+-- What is answered, and made of the store and of the sessions, is what was judged: of a refusal, of results, of a Set, an
+-- attempt, an Activate and a Revert.
+use Rattle.std.proofs.Common.{◌≡◌, ℕ, ◌+◌, ◌==◌, true, false, ◌||◌, List, Option, Some, None, refl, sym, subst, ◌∙◌, ap, if◌then◌else◌}
+use Rattle.std.specs.Prelude.{Result, IfOk, ◌-◌, nat_le, nat_lt}
+use Rattle.sp_cells.specs.declared.names.Uid.{Uid}
+use Rattle.audit.specs.declared.reason.AttemptFailure.{AttemptFailure}
+use Rattle.call_shapes.specs.Limits.{most_response}
+use Rattle.call_shapes.specs.Statuses.{invalid_parameter, response_overflow}
+use Rattle.call_shapes.specs.declared.ask.Ask.{Ask}
+use Rattle.call_shapes.specs.declared.ask.Ask.TheVariants.{GetCells, GetBytes, SetCells, SetBytes, Authenticate, Activate, Revert, Other}
+use Rattle.tcg_tokens.specs.Tree.{Tree}
+use Rattle.tcg_tokens.specs.Message.{message}
+use Rattle.transactions.specs.declared.change.SessionId.{SessionId}
+use Rattle.transactions.specs.Stored.{Stored}
+use Rattle.sessions.specs.Answers.{in_force, attempt, after_attempt, gaining_if}
+use Rattle.sessions.specs.Deeds.{Setting}
+use Rattle.sessions.specs.Live.{Live, session_at, AreApart}
+use Rattle.sessions.specs.Made.{CanSet, set_stored, StoresAs}
+use Rattle.methods.specs.declared.kinds.Handler.TheVariants as handlers
+use Rattle.methods.specs.declared.outcome.Outcome.{Outcome}
+use Rattle.methods.specs.declared.outcome.MethodFault.{MethodFault}
+use Rattle.methods.specs.Kinds.{kind_of}
+use Rattle.methods.specs.Said.{done, attempt_reply, attempt_denied}
+use Rattle.methods.specs.Effects.{has_ask, handles, holder_of, last_row}
+use Rattle.methods.specs.Judgement.{Standing, Judgement, Refuses, Attempts, gives, bytes_between, rows_given, bytes_given, to_set, makes, does_ask, does}
+use Rattle.methods.specs.Calls.{outcome_in, Fulfils, Tells}
+use Rattle.methods.proofs.AttemptLemmas.{attempt-stores, gained-at, alone-at}
+
+-- a judgement that is the same
+pub tells-as : (x y : Judgement) (out : Outcome) → x ≡ y → Tells x out → Tells y out
+tells-as x y out is h = subst (λ j. Tells j out) is h
+
+pub fulfils-as : (x y : Judgement) (session : SessionId) (out : Outcome) (s t : Stored) (l m : Live) → x ≡ y → Fulfils (outcome_in s session x) out s t l m → Fulfils (outcome_in s session y) out s t l m
+fulfils-as x y session out s t l m is h = subst (λ j. Fulfils (outcome_in s session j) out s t l m) is h
+
+pub judged-as : (x y : Judgement) (session : SessionId) (r : Result Outcome MethodFault) (s t : Stored) (l m : Live) → x ≡ y
+    → IfOk r (λ out. Fulfils (outcome_in s session x) out s t l m) → IfOk r (λ out. Fulfils (outcome_in s session y) out s t l m)
+judged-as x y session r s t l m is h = subst (λ j. IfOk r (λ out. Fulfils (outcome_in s session j) out s t l m)) is h
+
+-- a Get of bytes within the table, and of no more than a response carries
+pub bytes-told : (byte : ℕ → ℕ) (size first last : ℕ) (to : Option ℕ) (values : List Tree) → last_row size to ≡ last → (size == 0) ≡ false → nat_le size last ≡ false → nat_lt last first ≡ false → nat_lt most_response (last + 1 - first) ≡ false
+    → values ≡ bytes_between byte first last → gives values ≡ bytes_given byte size first to
+bytes-told byte size first last to values is some below above few same =
+    ap gives same
+    ∙ sym (ap (rows_given byte size first) is
+    ∙ ap (λ b. if b || (nat_le size last || nat_lt last first) then Refuses invalid_parameter None else (if nat_lt most_response (last + 1 - first) then Refuses response_overflow None else gives (bytes_between byte first last))) some
+    ∙ ap (λ b. if b || nat_lt last first then Refuses invalid_parameter None else (if nat_lt most_response (last + 1 - first) then Refuses response_overflow None else gives (bytes_between byte first last))) below
+    ∙ ap (λ b. if b then Refuses invalid_parameter None else (if nat_lt most_response (last + 1 - first) then Refuses response_overflow None else gives (bytes_between byte first last))) above
+    ∙ ap (λ b. if b then Refuses response_overflow None else gives (bytes_between byte first last)) few)
+
+-- what may have changed something does not tell that nothing changed
+pub changed : {A : Type 0} (out : Outcome) → out.changes ≡ true → out.changes ≡ false → A
+changed out h k = absurd (let differ : true ≡ false = sym h ∙ k in cc)
+
+-- a Set
+pub set-made : (x : Option Setting) (set : Setting) (session : SessionId) (out : Outcome) (s t : Stored) (l : Live) → x ≡ Some set → CanSet s.config.mbr_sectors session.sp set
+    → message out.reply ≡ done → out.denied ≡ None → out.wipe ≡ false → out.changes ≡ true → t ≡ set_stored s session.sp set → Fulfils (outcome_in s session (makes x)) out s t l l
+set-made x set session out s t l is can answer denied wipe changes store =
+    subst (λ y. Fulfils (outcome_in s session (makes y)) out s t l l) (sym is)
+    (record {
+      met = record { answer = answer; denied = denied; wipe = wipe; store = (can, store); sessions = record { next = refl; at = λ n. refl } };
+      unchanged = λ h. changed out changes h;
+    })
+
+-- an attempt
+pub attempts : (authority : Uid) (pin : List ℕ) (session : SessionId) (out : Outcome) (s t : Stored) (l m : Live) → AreApart l.sessions → (holder_of l session ≡ None → ⊥)
+    → message out.reply ≡ attempt_reply (attempt s session.sp authority pin) → out.denied ≡ attempt_denied session.sp authority (attempt s session.sp authority pin) → out.wipe ≡ false
+    → (out.changes ≡ false → t ≡ s) → t ≡ after_attempt session.sp authority (attempt s session.sp authority pin) s
+    → m.next ≡ l.next → ((n : ℕ) → session_at m n ≡ (if session.tsn == n then gaining_if (in_force s) authority (attempt s session.sp authority pin) (session_at l n) else session_at l n))
+    → Fulfils (outcome_in s session (Attempts authority pin)) out s t l m
+attempts authority pin session out s t l m apart lives answer denied wipe unchanged store next points =
+    let x : Option AttemptFailure = attempt s session.sp authority pin in
+    record {
+      met = record {
+        answer = answer;
+        denied = denied;
+        wipe = wipe;
+        store = subst (λ (u : Stored). StoresAs (outcome_in s session (Attempts authority pin)).deed s u) (sym store) (attempt-stores s session.sp authority x);
+        sessions = record {
+          next = next;
+          at = λ n. points n ∙ gained-at (in_force s) session authority x n (session_at l n) (alone-at l session apart lives n);
+        };
+      };
+      unchanged = unchanged;
+    }
+
+-- what is asked, where the object's kind has it
+pub asked-is : (its : Standing) (object : Uid) (ask a : Ask) → has_ask (kind_of its.sp object) ask ≡ true → ask ≡ a → does_ask its object a ≡ does its object ask
+asked-is its object ask a has is = ap (does_ask its object) (sym is) ∙ sym (ap (λ b. does_ask its object (if b then ask else Other)) has)
+
+pub set-is : (its : Standing) (object : Uid) (ask : Ask) → (handles handlers.WriteCells ask || handles handlers.WriteBytes ask) ≡ true → makes (to_set its object ask) ≡ does_ask its object ask
+set-is its object (SetCells ps) h = refl
+set-is its object (SetBytes a b) h = refl
+set-is its object (GetCells a b) h = cc
+set-is its object (GetBytes a b) h = cc
+set-is its object (Authenticate a b) h = cc
+set-is its object Activate h = cc
+set-is its object Revert h = cc
+set-is its object Other h = cc
+
+pub activate-is : (ask : Ask) → handles handlers.Activate ask ≡ true → ask ≡ Activate
+activate-is Activate h = refl
+activate-is (GetCells a b) h = cc
+activate-is (GetBytes a b) h = cc
+activate-is (SetCells ps) h = cc
+activate-is (SetBytes a b) h = cc
+activate-is (Authenticate a b) h = cc
+activate-is Revert h = cc
+activate-is Other h = cc

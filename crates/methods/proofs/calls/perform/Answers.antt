@@ -1,0 +1,49 @@
+use Rattle.std.proofs.Common.{◌≡◌, true, ◌||◌, ◌∙◌, refl, sym, ap, rules}
+use Rattle.call_shapes.specs.declared.ask.Ask.TheVariants.{GetCells, GetBytes, Activate}
+use Rattle.methods.specs.Kinds.{kind_of}
+use Rattle.methods.specs.Effects.{has_ask, handles}
+use Rattle.methods.specs.Calls.{standing_in}
+use Rattle.methods.specs.declared.kinds.Handler.TheVariants as handlers
+use Rattle.methods.proofs.CallLemmas.{judged-as, asked-is, set-is, activate-is}
+use Rattle.methods.proofs.calls.perform.Goals.{in-WriteCells+in-SetCells-1, in-WriteBytes+in-SetBytes-1, in_default-2-via-in-ReadCells+in_default, in_default-2-via-in-ReadBytes+in_default, in_default-2-via-in-WriteCells+in_default, in_default-2-via-in-WriteBytes+in_default, in_default-2-via-in-Authenticate+in_default}
+use Rattle.methods.proofs.calls.perform.Goals as goal
+
+pub returns-in-ReadCells-GetCells-clause-fulfils : goal.returns-in-ReadCells-GetCells-clause-fulfils
+returns-in-ReadCells-GetCells-clause-fulfils c =
+    let has : has_ask (kind_of c.args.session.sp c.args.object) c.args.ask.now ≡ true = sym (c.in-Some.ensures.cased ∙ ap (λ k. has_ask k c.args.ask.now) c.kind_of.ensures) in
+    judged-as _ _ c.args.session c.read_cells.result _ _ _ _
+    (asked-is (standing_in c.args.store.now c.args.sessions.now c.args.session) c.args.object c.args.ask.now (GetCells c.in-ReadCells-GetCells.first c.in-ReadCells-GetCells.last) has c.in-ReadCells-GetCells.is-1)
+    c.read_cells.ensures.fulfils
+
+pub returns-in-ReadBytes-GetBytes-clause-fulfils : goal.returns-in-ReadBytes-GetBytes-clause-fulfils
+returns-in-ReadBytes-GetBytes-clause-fulfils c =
+    let has : has_ask (kind_of c.args.session.sp c.args.object) c.args.ask.now ≡ true = sym (c.in-Some.ensures.cased ∙ ap (λ k. has_ask k c.args.ask.now) c.kind_of.ensures) in
+    judged-as _ _ c.args.session c.read_bytes.result _ _ _ _
+    (asked-is (standing_in c.args.store.now c.args.sessions.now c.args.session) c.args.object c.args.ask.now (GetBytes c.in-ReadBytes-GetBytes.first c.in-ReadBytes-GetBytes.last) has c.in-ReadBytes-GetBytes.is-1)
+    (c.read_bytes.ensures.fulfils c.args.sessions.now)
+
+pub returns-in-Activate-default-clause-fulfils : goal.returns-in-Activate-default-clause-fulfils
+returns-in-Activate-default-clause-fulfils c =
+    let has : has_ask (kind_of c.args.session.sp c.args.object) c.args.ask.now ≡ true = sym (c.in-Some.ensures.cased ∙ ap (λ k. has_ask k c.args.ask.now) c.kind_of.ensures) in
+    let is = activate-is c.args.ask.now (sym (ap (λ h. handles h c.args.ask.now) c.in-Activate-default.is-0) ∙ c.in-Some.ensures.handles) in
+    judged-as _ _ c.args.session c.activate.result _ _ _ _
+    (asked-is (standing_in c.args.store.now c.args.sessions.now c.args.session) c.args.object c.args.ask.now Activate has is)
+    (c.activate.ensures.fulfils c.args.sessions.now)
+
+pub returns-in-WriteCells-SetCells-clause-fulfils : goal.returns-in-WriteCells-SetCells-clause-fulfils
+returns-in-WriteCells-SetCells-clause-fulfils c =
+    let has : has_ask (kind_of c.args.session.sp c.args.object) c.args.ask.now ≡ true = sym (c.in-Some.ensures.cased ∙ ap (λ k. has_ask k c.args.ask.now) c.kind_of.ensures) in
+    let is : (handles handlers.WriteCells c.args.ask.now || handles handlers.WriteBytes c.args.ask.now) ≡ true = elim c.in-WriteCells-SetCells-1.branch [ in-WriteCells+in-SetCells-1 w ↦ search rules | in-WriteBytes+in-SetBytes-1 w ↦ search rules ] in
+    judged-as _ _ c.args.session c.write.result _ _ _ _
+    (set-is (standing_in c.args.store.now c.args.sessions.now c.args.session) c.args.object c.args.ask.now is
+    ∙ asked-is (standing_in c.args.store.now c.args.sessions.now c.args.session) c.args.object c.args.ask.now c.args.ask.now has refl)
+    (c.write.ensures.fulfils c.args.sessions.now)
+
+pub returns-in_default-2-clause-fulfils : goal.returns-in_default-2-clause-fulfils
+returns-in_default-2-clause-fulfils c = elim c.in_default-2.branch [
+  | in_default-2-via-in-ReadCells+in_default w ↦ absurd (search rules)
+  | in_default-2-via-in-ReadBytes+in_default w ↦ absurd (search rules)
+  | in_default-2-via-in-WriteCells+in_default w ↦ absurd (search rules)
+  | in_default-2-via-in-WriteBytes+in_default w ↦ absurd (search rules)
+  | in_default-2-via-in-Authenticate+in_default w ↦ absurd (search rules)
+]
