@@ -1,18 +1,15 @@
 -- Which FISes leave PxSACT as it was.
-use Rattle.std.proofs.Common.{◌≡◌, ℕ, ◌%◌, ◌^◌, Bool, true, false, List, [], ◌∷◌, length, Option, Some, None, ◌*◌, refl, ap, inl, inr}
-use Rattle.std.specs.Prelude.{◌==◌, ◌⊎◌, ◌&&◌, is_some, unwrap_or, Result, Ok, Err, if◌then◌else◌}
+use Rattle.std.proofs.Common.{◌≡◌, ℕ, ◌%◌, ◌^◌, Bool, true, false, List, [], ◌∷◌, Option, Some, None, ◌*◌, refl, ap, inl, inr}
+use Rattle.std.specs.Prelude.{◌==◌, is_some, unwrap_or, Result, Ok, Err, if◌then◌else◌}
 use Rattle.fis.specs.declared.any.Fis.{Fis}
-use Rattle.fis.specs.declared.any.Fis.TheVariants as fises
 use Rattle.hba_regs.specs.Registers.{Regs, without}
 use Rattle.trusted_cmds.specs.declared.command.Command.{Command}
 use Rattle.trusted_cmds.specs.declared.command.Command.TheVariants.{ReadQueued, WriteQueued, ReadDma, WriteDma, Send, Receive, Identify, ReadLog10, Flush}
 use Rattle.trusted_cmds.specs.declared.command.CommandError.{CommandError}
 use Rattle.history.specs.Answers.{failed, ready, answer_fis, served_fises, fises_read, fises_of, completed_fises, setup_fis, moved_fis}
 use Rattle.history.specs.Events.{HeldCommand}
-use Rattle.port_history.specs.Registers.{raised, with_task, no_more_issued, is_finished, task_error_bit, register_bit, pio_setup_bit, dma_setup_bit, device_bits_bit, carried, shown, all_shown}
+use Rattle.port_history.specs.Registers.{raised, with_task, task_error_bit, carried, all_shown}
 use Rattle.hba.specs.declared.registers.Registers.{Registers}
-use Rattle.hba.specs.declared.window.Region.{Region}
-use Rattle.hba.specs.Memory.{have_room}
 use Rattle.hba.specs.Showing.{answered, faulted, fetching}
 use Rattle.hba.specs.Laws.{ToldByDeviceBits}
 

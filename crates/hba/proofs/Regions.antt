@@ -1,9 +1,9 @@
 -- Regions of the host's memory, one after the other.
-use Rattle.std.proofs.Common.{◌≡◌, ℕ, ◌+◌, ◌-◌, ◌≤◌, ◌<◌, zero, suc, true, false, List, [], ◌∷◌, ◌++◌, Some, None, refl, sym, ap, ◌∙◌, arith, append_assoc, length, length-append, min, nat_eq}
+use Rattle.std.proofs.Common.{◌≡◌, ℕ, ◌+◌, ◌-◌, ◌≤◌, ◌<◌, zero, suc, true, false, List, [], ◌∷◌, ◌++◌, Some, None, sym, ◌∙◌, arith, append_assoc, length, length-append, min, nat_eq}
 use Rattle.std.proofs.lemmas.Grind.{common_steps}
 use Rattle.std.proofs.lemmas.List.{append-nil}
 use Rattle.slots.specs.Layout.{part, descriptor_size}
-use Rattle.hba.specs.Memory.{stands, piece_of, then_regions, regions, have_room, gathered, AreWithin}
+use Rattle.hba.specs.Memory.{stands, piece_of, regions, have_room, gathered, AreWithin}
 use Rattle.hba.specs.declared.window.Region.{Region}
 use Rattle.hba.specs.declared.window.Piece.{Piece}
 

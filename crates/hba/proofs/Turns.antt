@@ -1,5 +1,5 @@
 -- A piece of work by the state, and by a list of operations that it agrees with.
-use Rattle.std.proofs.Common.{◌≡◌, ℕ, ◌+◌, suc, List, ◌∷◌, ap, sym, refl, ◌∙◌, Option, Some, subst, add-one}
+use Rattle.std.proofs.Common.{◌≡◌, ℕ, ◌+◌, List, ◌∷◌, ap, sym, refl, ◌∙◌, Option, Some, subst, add-one}
 use Rattle.std.proofs.Math.Path.{fun_ext}
 use Rattle.audit.specs.declared.reason.Why.{Why}
 use Rattle.history.specs.Answers.{expected}

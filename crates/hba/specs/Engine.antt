@@ -12,8 +12,8 @@ use Rattle.port_history.specs.Steps.{Effect}
 use Rattle.hba.specs.declared.registers.Registers.{Registers}
 use Rattle.hba.specs.declared.window.Region.{Region}
 use Rattle.hba.specs.declared.window.Slot.{Slot}
-use Rattle.hba.specs.Memory.{slot_at, is_command, regions, have_room, gathered, posted, IsPosted, IsDelivered}
-use Rattle.history.specs.History.{Act, Accept, Complete, log}
+use Rattle.hba.specs.Memory.{slot_at, is_command, regions, have_room, gathered, IsPosted, IsDelivered}
+use Rattle.history.specs.History.{Accept, Complete, log}
 use Rattle.history.specs.Readers.{held}
 use Rattle.history.specs.Opening.{Origin}
 use Rattle.audit.specs.declared.reason.Why.{Why}

@@ -1,12 +1,12 @@
 -- Host memory: bytes that stand at a base address, and what the engine finds there (AHCI 1.3.1,
 -- section 4). Addresses are below 4 GiB; bytes that are asked for and stand nowhere are a fault.
-use Rattle.std.specs.Prelude.{◌≡◌, ◌≤◌, ℕ, ◌+◌, ◌-◌, ◌*◌, ◌%◌, ◌/◌, ◌^◌, min, ◌==◌, ◌&&◌, zero, suc, nat_le, nat_lt, Bool, true, false, List, [], ◌∷◌, ◌++◌, length, take, drop, slice_index, Option, Some, None, if◌then◌else◌}
+use Rattle.std.specs.Prelude.{◌≡◌, ◌≤◌, ℕ, ◌+◌, ◌-◌, ◌*◌, ◌%◌, ◌/◌, ◌^◌, min, ◌==◌, ◌&&◌, zero, suc, nat_le, Bool, true, false, List, [], ◌∷◌, ◌++◌, length, take, drop, slice_index, Option, Some, None, if◌then◌else◌}
 use Rattle.byteorder.specs.Endian.{little_bytes}
 use Rattle.fis.specs.Fis.{IsSpelling}
 use Rattle.fis.specs.Types.{h2d_type, h2d_length}
 use Rattle.fis.specs.declared.any.Fis.{Fis}
-use Rattle.slots.specs.Layout.{part, laid, header_size, descriptors_at, descriptor_size, received_at, received_place}
-use Rattle.slots.specs.Header.{number_at, command_words, fis_words, entries, table_at, table_alignment}
+use Rattle.slots.specs.Layout.{part, laid, header_size, descriptor_size, received_at, received_place}
+use Rattle.slots.specs.Header.{command_words, fis_words, entries, table_at, table_alignment}
 use Rattle.slots.specs.Table.{address, count}
 use Rattle.hba.specs.declared.window.Region.{Region}
 use Rattle.hba.specs.declared.window.Piece.{Piece}

@@ -1,5 +1,5 @@
 -- What the engine may do (AHCI 1.3.1, 5.3 and 5.5.1).
-use Rattle.std.specs.Prelude.{ℕ, ◌+◌, ◌^◌, ◌%◌, ◌==◌, ◌&&◌, not, zero, suc, Bool, List, [], ◌∷◌, ◌++◌, length, slice_index_or, Option, Some, None, is_some, bit_and, if◌then◌else◌}
+use Rattle.std.specs.Prelude.{ℕ, ◌^◌, ◌%◌, ◌==◌, ◌&&◌, not, zero, suc, Bool, List, [], ◌∷◌, ◌++◌, length, slice_index_or, Option, Some, None, is_some, bit_and, if◌then◌else◌}
 use Rattle.fis.specs.Tags.{slot_count}
 use Rattle.hba_regs.specs.Registers.{has}
 use Rattle.history.specs.History.{log}

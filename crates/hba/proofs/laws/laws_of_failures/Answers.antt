@@ -1,5 +1,4 @@
 -- An error is told by one FIS, with no data; a denial is an error.
-use Rattle.std.proofs.Common.{◌≡◌, Some}
 use Rattle.fis.specs.H2d.{h2d_at}
 use Rattle.history.specs.Decisions.{aborted}
 use Rattle.history.specs.Facts.{facts}
@@ -7,7 +6,7 @@ use Rattle.history.specs.History.{Accept, log, event_by}
 use Rattle.history.proofs.TransferProofs.{service_law}
 use Rattle.history.specs.Tcg.{tcg}
 use Rattle.hba.specs.Engine.{received_at, header_at}
-use Rattle.hba.specs.History.{account, acts_of, regs_of, effect_after}
+use Rattle.hba.specs.History.{acts_of, regs_of}
 use Rattle.hba.specs.Laws.{FailureLaw, DenialLaw}
 use Rattle.hba.proofs.Failures.{fises_failed, data_failed, tells_error, gives_nothing}
 use Rattle.hba.proofs.laws.laws_of_failures.Goals as goal

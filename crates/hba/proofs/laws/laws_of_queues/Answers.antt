@@ -1,12 +1,11 @@
 -- By the operations.
-use Rattle.std.proofs.Common.{◌≡◌, List, refl, length}
+use Rattle.std.proofs.Common.{refl, length}
 use Rattle.fis.specs.H2d.{h2d_at}
 use Rattle.history.specs.Answers.{is_holding}
 use Rattle.history.specs.Facts.{facts}
 use Rattle.history.specs.History.{Accept, Complete, log, event_by}
-use Rattle.history.specs.Opening.{Origin}
 use Rattle.trusted_cmds.specs.Commands.{reading}
-use Rattle.hba.specs.History.{Operation, Wrote, Powered, Signed, Missed, Controlled, Fetched, Completed, account, acts_of, regs_of, effect_after}
+use Rattle.hba.specs.History.{Wrote, Powered, Signed, Missed, Controlled, Fetched, Completed, account, acts_of, regs_of, effect_after}
 use Rattle.hba.specs.Memory.{have_room}
 use Rattle.hba.specs.Laws.{ActiveLaw}
 use Rattle.hba.proofs.Active.{fetched_same, completed_told}

@@ -1,7 +1,5 @@
 -- Each descriptor ends the regions, or adds one.
-use Rattle.std.proofs.Common.{◌≡◌, ◌≤◌, ◌<◌, ◌+◌, ◌*◌, ◌-◌, ℕ, length, Bool, not, true, false, None, Some, sym, ap, ◌∙◌, arith, suc, refl}
-use Rattle.slots.specs.Layout.{part, descriptor_size}
-use Rattle.hba.specs.Memory.{stands, piece_of, regions, AreWithin}
+use Rattle.std.proofs.Common.{◌≡◌, ◌+◌, ◌*◌, ◌-◌, Bool, not, true, false, sym, ◌∙◌, arith, refl}
 use Rattle.hba.proofs.Regions.{stops_nowhere, stops_at_none, stops_behind, goes_on, within_append}
 use Rattle.hba.proofs.window.regions.Goals as goal
 
