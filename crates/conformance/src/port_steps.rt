@@ -4,25 +4,30 @@
 use audit::line_bytes;
 use basics::Bytes;
 use compacket::{Session, frame};
-use drive::{Drive, DriveConfig, RangeRow, ResetKind};
+use drive::{Drive, DriveConfig, RangeRow, ResetKind, SetError};
 use fis::Tag;
-use port::{Answer, Port, ReplyBytes, Request, Step};
+use port::{Answer, Port, PortError, ReplyBytes, Request, Step};
 use std::alloc::{AllocError, Global};
 use std::slice;
-use std::test::Fail;
 
 /// The ComID of a send and of a receive.
 const COM_ID: u16 = 4096;
 
-/// A step, with its tag. Client 1 puts the reads and the writes, each of one sector, and client 2 the rest.
+/// What a client asks of the drive: transfers of one sector, a write of one byte.
+#[derive(Clone, Copy)]
+enum Ask {
+    Read(u64),
+    Write(u64, u8),
+    Send(Session, &'static [u8]),
+    Receive,
+    /// TPER_RESET: one block of zeros to the ComID 0004h of protocol 02h.
+    TperReset,
+}
+
+/// A step: of a put the client and the tag, of the others the tag.
 #[derive(Clone, Copy)]
 enum Row {
-    Read(u8, u64),
-    Write(u8, u64, u8),
-    Send(u8, Session, &'static [u8]),
-    Receive(u8),
-    /// TPER_RESET: one block of zeros to the ComID 0004h of protocol 02h.
-    TperReset(u8),
+    Put(u32, u8, Ask),
     Issue(u8),
     Accept(u8),
     Complete(u8),
@@ -31,13 +36,13 @@ enum Row {
     Take(u32, u8),
 }
 
-/// A send of tokens in a session, in one block.
-fn send(alloc: Global, session: Session, tokens: &[u8]) -> Result<Request, Fail> {
-    if tokens.is_empty() || tokens.len() > 400 {
-        return Err("tokens of one block".into());
+/// A send of tokens in a session, in one block; of no bytes, which no port takes, where there are too few or too many.
+fn send(alloc: Global, session: Session, tokens: &[u8]) -> Result<Request, AllocError> {
+    let mut bytes = Vec::new(alloc);
+    if !tokens.is_empty() && tokens.len() <= 400 {
+        bytes = frame(alloc, COM_ID, session, tokens)?;
+        bytes.resize(512, 0)?;
     }
-    let mut bytes = frame(alloc, COM_ID, session, tokens)?;
-    bytes.resize(512, 0)?;
     Ok(Request::Send {
         protocol: 1,
         com_id: COM_ID,
@@ -45,84 +50,66 @@ fn send(alloc: Global, session: Session, tokens: &[u8]) -> Result<Request, Fail>
     })
 }
 
-fn put(client: u32, tag: u8, request: Request) -> Step {
-    Step::Put {
-        client,
-        tag: Tag::low_bits(tag),
-        request,
-    }
-}
-
-/// The step of a row that puts nothing.
-fn plain_step(row: Row) -> Option<Step> {
-    match row {
-        Row::Issue(tag) => Some(Step::Issue {
-            tag: Tag::low_bits(tag),
-        }),
-        Row::Accept(tag) => Some(Step::Accept {
-            tag: Tag::low_bits(tag),
-        }),
-        Row::Complete(tag) => Some(Step::Complete {
-            tag: Tag::low_bits(tag),
-        }),
-        Row::Recover => Some(Step::Recover),
-        Row::Reset(kind) => Some(Step::Reset { client: 1, kind }),
-        Row::Take(client, tag) => Some(Step::Take {
-            client,
-            tag: Tag::low_bits(tag),
-        }),
-        Row::Read(..) | Row::Write(..) | Row::Send(..) | Row::Receive(_) | Row::TperReset(_) =>
-            None,
-    }
-}
-
-fn step(alloc: Global, row: Row) -> Result<Step, Fail> {
-    match row {
-        Row::Read(tag, lba) => Ok(put(1, tag, Request::Read { lba, count: 1 })),
-        Row::Write(tag, lba, byte) => {
+/// The request that is asked.
+fn request(alloc: Global, ask: Ask) -> Result<Request, AllocError> {
+    match ask {
+        Ask::Read(lba) => Ok(Request::Read { lba, count: 1 }),
+        Ask::Write(lba, byte) => {
             let bytes = Bytes::from_vec(vec![in alloc; byte; 512]?);
-            Ok(put(1, tag, Request::Write { lba, bytes }))
+            Ok(Request::Write { lba, bytes })
         }
-        Row::Send(tag, session, tokens) => Ok(put(2, tag, send(alloc, session, tokens)?)),
-        Row::Receive(tag) => {
-            let request = Request::Receive {
-                protocol: 1,
-                com_id: COM_ID,
-                blocks: 1,
-            };
-            Ok(put(2, tag, request))
-        }
-        Row::TperReset(tag) => {
+        Ask::Send(session, tokens) => send(alloc, session, tokens),
+        Ask::Receive => Ok(Request::Receive {
+            protocol: 1,
+            com_id: COM_ID,
+            blocks: 1,
+        }),
+        Ask::TperReset => {
             let bytes = Bytes::from_vec(vec![in alloc; 0; 512]?);
-            let request = Request::Send {
+            Ok(Request::Send {
                 protocol: 2,
                 com_id: 4,
                 bytes,
-            };
-            Ok(put(2, tag, request))
+            })
         }
-        _ => Ok(plain_step(row).ok_or("a step that puts nothing")?),
     }
 }
 
-/// What tells steps of these lists apart: a letter, the client and the tag.
-fn word(step: &Step) -> (u8, u32, u8) {
-    match *step {
-        Step::Put { client, tag, .. } => (b'P', client, tag.number()),
-        Step::Issue { tag } => (b'I', 0, tag.number()),
-        Step::Accept { tag } => (b'A', 0, tag.number()),
-        Step::Complete { tag } => (b'C', 0, tag.number()),
-        Step::Recover => (b'R', 0, 0),
-        Step::Reset { client, .. } => (b'Z', client, 0),
-        Step::Take { client, tag } => (b'T', client, tag.number()),
+/// The step of a row.
+fn step(alloc: Global, row: Row) -> Result<Step, AllocError> {
+    match row {
+        Row::Put(client, tag, ask) => {
+            let request = request(alloc, ask)?;
+            let tag = Tag::low_bits(tag);
+            Ok(Step::Put {
+                client,
+                tag,
+                request,
+            })
+        }
+        Row::Issue(tag) => Ok(Step::Issue {
+            tag: Tag::low_bits(tag),
+        }),
+        Row::Accept(tag) => Ok(Step::Accept {
+            tag: Tag::low_bits(tag),
+        }),
+        Row::Complete(tag) => Ok(Step::Complete {
+            tag: Tag::low_bits(tag),
+        }),
+        Row::Recover => Ok(Step::Recover),
+        Row::Reset(kind) => Ok(Step::Reset { client: 1, kind }),
+        Row::Take(client, tag) => Ok(Step::Take {
+            client,
+            tag: Tag::low_bits(tag),
+        }),
     }
 }
 
-/// What a list has for a step: one that is played, or a choice among those that are ready.
+/// What a list has for a step: one that is played, or a choice among those that are ready, and the one that it is.
 #[derive(Clone, Copy)]
 enum Next {
     Play(Row),
-    Turn(usize),
+    Turn(usize, Row),
 }
 
 /// What a step replies.
@@ -138,13 +125,12 @@ enum Reply {
     Tokens(&'static [u8]),
 }
 
-/// A list of steps on a port over a drive of 1,000 sectors with some ranges; the steps that are done then, some of their
-/// replies by the numbers of the steps, and the audit log.
+/// A list of steps on a port over a drive of 1,000 sectors with some ranges; some of their replies by the numbers of the
+/// steps, and the audit log.
 #[derive(Clone, Copy)]
 struct List {
     ranges: &'static [RangeRow],
     next: &'static [Next],
-    done: &'static [Row],
     replies: &'static [(usize, Reply)],
     audit: &'static [&'static str],
 }
@@ -209,30 +195,30 @@ const SYNC: &[u8] =
 
 /// A denied read fails the port; after the recovery another client locks a range, and the read that was accepted before
 /// is issued again and denied.
-const BY_TURNS: [Next; 24] = [
-    Next::Play(Row::Read(3, 100)),
-    Next::Play(Row::Read(5, 200)),
+const DENIED_STEPS: [Next; 24] = [
+    Next::Play(Row::Put(1, 3, Ask::Read(100))),
+    Next::Play(Row::Put(1, 5, Ask::Read(200))),
     // Issue 3 and 5; then Issue 3 and Accept 5; then Accept 3 and 5; then Accept 3 and Complete 5
-    Next::Turn(1),
-    Next::Turn(0),
-    Next::Turn(1),
-    Next::Turn(0),
+    Next::Turn(1, Row::Issue(5)),
+    Next::Turn(0, Row::Issue(3)),
+    Next::Turn(1, Row::Accept(5)),
+    Next::Turn(0, Row::Accept(3)),
     // Recover alone
-    Next::Turn(9),
-    Next::Play(Row::Send(0, MANAGER, START)),
+    Next::Turn(9, Row::Recover),
+    Next::Play(Row::Put(2, 0, Ask::Send(MANAGER, START))),
     // Issue 0 and 5; then Accept 0 alone, since no queued command goes beside it
-    Next::Turn(0),
-    Next::Turn(3),
-    Next::Play(Row::Receive(1)),
-    Next::Turn(0),
-    Next::Turn(0),
-    Next::Play(Row::Send(2, FIRST, LOCK)),
-    Next::Turn(0),
-    Next::Turn(0),
+    Next::Turn(0, Row::Issue(0)),
+    Next::Turn(3, Row::Accept(0)),
+    Next::Play(Row::Put(2, 1, Ask::Receive)),
+    Next::Turn(0, Row::Issue(1)),
+    Next::Turn(0, Row::Accept(1)),
+    Next::Play(Row::Put(2, 2, Ask::Send(FIRST, LOCK))),
+    Next::Turn(0, Row::Issue(2)),
+    Next::Turn(0, Row::Accept(2)),
     // Issue 5, Accept 5, Recover, each alone
-    Next::Turn(0),
-    Next::Turn(1),
-    Next::Turn(2),
+    Next::Turn(0, Row::Issue(5)),
+    Next::Turn(1, Row::Accept(5)),
+    Next::Turn(2, Row::Recover),
     Next::Play(Row::Take(1, 3)),
     Next::Play(Row::Take(1, 5)),
     Next::Play(Row::Take(2, 0)),
@@ -240,37 +226,9 @@ const BY_TURNS: [Next; 24] = [
     Next::Play(Row::Take(2, 2)),
 ];
 
-const ALL_LOCKED: [Row; 24] = [
-    Row::Read(3, 100),
-    Row::Read(5, 200),
-    Row::Issue(5),
-    Row::Issue(3),
-    Row::Accept(5),
-    Row::Accept(3),
-    Row::Recover,
-    Row::Send(0, MANAGER, START),
-    Row::Issue(0),
-    Row::Accept(0),
-    Row::Receive(1),
-    Row::Issue(1),
-    Row::Accept(1),
-    Row::Send(2, FIRST, LOCK),
-    Row::Issue(2),
-    Row::Accept(2),
-    Row::Issue(5),
-    Row::Accept(5),
-    Row::Recover,
-    Row::Take(1, 3),
-    Row::Take(1, 5),
-    Row::Take(2, 0),
-    Row::Take(2, 1),
-    Row::Take(2, 2),
-];
-
 const DENIED: List = List {
     ranges: &TWO_RANGES,
-    next: &BY_TURNS,
-    done: &ALL_LOCKED,
+    next: &DENIED_STEPS,
     replies: &[
         (20, Reply::Failed(0x51, 0x04)),
         (21, Reply::Failed(0x51, 0x04)),
@@ -288,38 +246,24 @@ const DENIED: List = List {
 const NO_FRAME: &[u8] = b"\x00";
 
 /// What is not queued waits for all that is.
-const HELD_BY_TURNS: [Next; 10] = [
-    Next::Play(Row::Read(0, 100)),
-    Next::Play(Row::Read(1, 101)),
+const HELD_STEPS: [Next; 10] = [
+    Next::Play(Row::Put(1, 0, Ask::Read(100))),
+    Next::Play(Row::Put(1, 1, Ask::Read(101))),
     // Issue 0 and 1; then Issue 1 and Accept 0; then Issue 1 and Complete 0; then Accept 1 and Complete 0
-    Next::Turn(0),
-    Next::Turn(1),
-    Next::Turn(0),
-    Next::Turn(0),
-    Next::Play(Row::Send(2, MANAGER, NO_FRAME)),
+    Next::Turn(0, Row::Issue(0)),
+    Next::Turn(1, Row::Accept(0)),
+    Next::Turn(0, Row::Issue(1)),
+    Next::Turn(0, Row::Accept(1)),
+    Next::Play(Row::Put(2, 2, Ask::Send(MANAGER, NO_FRAME))),
     // Complete 0 and 1; then Complete 1 alone; then Issue 2 alone
-    Next::Turn(2),
-    Next::Turn(0),
-    Next::Turn(0),
-];
-
-const ALL_HELD: [Row; 10] = [
-    Row::Read(0, 100),
-    Row::Read(1, 101),
-    Row::Issue(0),
-    Row::Accept(0),
-    Row::Issue(1),
-    Row::Accept(1),
-    Row::Send(2, MANAGER, NO_FRAME),
-    Row::Complete(0),
-    Row::Complete(1),
-    Row::Issue(2),
+    Next::Turn(2, Row::Complete(0)),
+    Next::Turn(0, Row::Complete(1)),
+    Next::Turn(0, Row::Issue(2)),
 ];
 
 const HELD: List = List {
     ranges: &[],
-    next: &HELD_BY_TURNS,
-    done: &ALL_HELD,
+    next: &HELD_STEPS,
     replies: &[],
     audit: &[],
 };
@@ -336,40 +280,18 @@ const LET_RESET: &[u8] =
     \xf2\x08\x01\xf3\xf1\xf3\xf1\xf9\xf0\x00\x00\x00\xf1";
 
 /// A reset that a command makes leaves a read that is prepared, which is then served.
-const BY_COMMAND: [Row; 19] = [
-    Row::Send(0, MANAGER, START_SID),
-    Row::Issue(0),
-    Row::Accept(0),
-    Row::Receive(1),
-    Row::Issue(1),
-    Row::Accept(1),
-    Row::Send(2, FIRST, LET_RESET),
-    Row::Issue(2),
-    Row::Accept(2),
-    Row::Read(5, 200),
-    Row::TperReset(3),
-    Row::Issue(3),
-    Row::Accept(3),
-    Row::Take(2, 3),
-    Row::Issue(5),
-    Row::Accept(5),
-    Row::Complete(5),
-    Row::Take(1, 5),
-    Row::Take(2, 2),
-];
-
-const BY_COMMAND_NEXT: [Next; 19] = [
-    Next::Play(Row::Send(0, MANAGER, START_SID)),
+const RESET_STEPS: [Next; 19] = [
+    Next::Play(Row::Put(2, 0, Ask::Send(MANAGER, START_SID))),
     Next::Play(Row::Issue(0)),
     Next::Play(Row::Accept(0)),
-    Next::Play(Row::Receive(1)),
+    Next::Play(Row::Put(2, 1, Ask::Receive)),
     Next::Play(Row::Issue(1)),
     Next::Play(Row::Accept(1)),
-    Next::Play(Row::Send(2, FIRST, LET_RESET)),
+    Next::Play(Row::Put(2, 2, Ask::Send(FIRST, LET_RESET))),
     Next::Play(Row::Issue(2)),
     Next::Play(Row::Accept(2)),
-    Next::Play(Row::Read(5, 200)),
-    Next::Play(Row::TperReset(3)),
+    Next::Play(Row::Put(1, 5, Ask::Read(200))),
+    Next::Play(Row::Put(2, 3, Ask::TperReset)),
     Next::Play(Row::Issue(3)),
     Next::Play(Row::Accept(3)),
     Next::Play(Row::Take(2, 3)),
@@ -383,8 +305,7 @@ const BY_COMMAND_NEXT: [Next; 19] = [
 /// The reset and the Set are done with no bytes, and the read gives a sector.
 const RESET_BY_COMMAND: List = List {
     ranges: &TWO_RANGES,
-    next: &BY_COMMAND_NEXT,
-    done: &BY_COMMAND,
+    next: &RESET_STEPS,
     replies: &[
         (14, Reply::Nothing),
         (18, Reply::Zeros),
@@ -394,75 +315,83 @@ const RESET_BY_COMMAND: List = List {
 };
 
 /// A write that a reset stops moves nothing; a power cycle sets the locks of a range.
-const STOPPED: [Row; 14] = [
-    Row::Write(0, 100, 0xaa),
-    Row::Issue(0),
-    Row::Accept(0),
-    Row::Reset(ResetKind::Hardware),
-    Row::Take(1, 0),
-    Row::Read(0, 100),
-    Row::Issue(0),
-    Row::Accept(0),
-    Row::Complete(0),
-    Row::Take(1, 0),
-    Row::Reset(ResetKind::Power),
-    Row::Read(0, 100),
-    Row::Issue(0),
-    Row::Accept(0),
-];
-
-const STOPPED_BY_TURNS: [Next; 14] = [
-    Next::Play(Row::Write(0, 100, 0xaa)),
-    Next::Turn(0),
-    Next::Turn(7),
+const STOPPED_STEPS: [Next; 14] = [
+    Next::Play(Row::Put(1, 0, Ask::Write(100, 0xaa))),
+    Next::Turn(0, Row::Issue(0)),
+    Next::Turn(7, Row::Accept(0)),
     Next::Play(Row::Reset(ResetKind::Hardware)),
     Next::Play(Row::Take(1, 0)),
-    Next::Play(Row::Read(0, 100)),
-    Next::Turn(0),
-    Next::Turn(0),
-    Next::Turn(0),
+    Next::Play(Row::Put(1, 0, Ask::Read(100))),
+    Next::Turn(0, Row::Issue(0)),
+    Next::Turn(0, Row::Accept(0)),
+    Next::Turn(0, Row::Complete(0)),
     Next::Play(Row::Take(1, 0)),
     Next::Play(Row::Reset(ResetKind::Power)),
-    Next::Play(Row::Read(0, 100)),
-    Next::Turn(0),
-    Next::Turn(0),
+    Next::Play(Row::Put(1, 0, Ask::Read(100))),
+    Next::Turn(0, Row::Issue(0)),
+    Next::Turn(0, Row::Accept(0)),
 ];
 
 const STOPPED_WRITE: List = List {
     ranges: &ONE_RANGE,
-    next: &STOPPED_BY_TURNS,
-    done: &STOPPED,
+    next: &STOPPED_STEPS,
     replies: &[(5, Reply::Reset), (10, Reply::Zeros)],
     audit: &["14 1 deny read 100+1 range 1 ReadLocked"],
 };
 
-/// A port over a drive of 1,000 sectors with these ranges.
-fn port(alloc: Global, rows: &[RangeRow]) -> Result<Port, Fail> {
-    let config = DriveConfig::new(1000, 8, b"OPALMSID").ok_or("limits")?;
-    let drive = Drive::with_ranges(alloc, config, rows)?;
-    Ok(Port::new(alloc, drive)?)
+/// A drive of 1,000 sectors with these ranges.
+fn drive(alloc: Global, rows: &[RangeRow]) -> Result<Drive, SetError> {
+    let config = DriveConfig::new(1000, 8, b"OPALMSID").ok_or(SetError::WrongType)?;
+    Drive::with_ranges(alloc, config, rows)
 }
 
-/// Does what a list has for a step. It tells whether there was one.
-fn go(alloc: Global, port: &mut Port, next: Next) -> Result<bool, Fail> {
+/// A port over it.
+fn port(alloc: Global, rows: &[RangeRow]) -> Result<Port, PortError> {
+    match drive(alloc, rows) {
+        Ok(drive) => Port::new(alloc, drive),
+        Err(_) => Err(PortError::OutOfMemory),
+    }
+}
+
+/// Whether a step is played.
+fn plays(port: &mut Port, step: &Step) -> bool {
+    port.play(slice::from_ref(step)).is_ok()
+}
+
+/// Whether there is a step to choose, and it is done.
+fn turns(port: &mut Port, choice: usize) -> bool {
+    matches!(port.turn(choice), Ok(Some(_)))
+}
+
+/// Whether the last step of a history is this one.
+fn is_last(port: &Port, step: &Step) -> bool {
+    match port.history().last() {
+        Some(entry) => entry.step == *step,
+        None => false,
+    }
+}
+
+/// Does what a list has for a step, and tells whether the step that it should be was done.
+fn goes(alloc: Global, port: &mut Port, next: Next) -> Result<bool, AllocError> {
     match next {
         Next::Play(row) => {
             let step = step(alloc, row)?;
-            port.play(slice::from_ref(&step))?;
-            Ok(true)
+            Ok(plays(port, &step) && is_last(port, &step))
         }
-        Next::Turn(choice) => Ok(port.turn(choice)?.is_some()),
+        Next::Turn(choice, row) => {
+            let step = step(alloc, row)?;
+            Ok(turns(port, choice) && is_last(port, &step))
+        }
     }
 }
 
-/// Whether the history of a port has these steps.
-fn has_done(alloc: Global, port: &Port, rows: &[Row]) -> Result<bool, Fail> {
-    let history = port.history();
-    let mut has = history.len() == rows.len();
-    for (entry, row) in history.iter().zip(rows) {
-        has &= word(&entry.step) == word(&step(alloc, *row)?);
+/// Whether all steps of a list are done, and no other.
+fn go(alloc: Global, port: &mut Port, list: &[Next]) -> bool {
+    let mut are_done = true;
+    for next in list {
+        are_done &= goes(alloc, port, *next) == Ok(true);
     }
-    Ok(has)
+    are_done && port.history().len() == list.len()
 }
 
 /// Whether the audit log of a port has these lines.
@@ -504,35 +433,34 @@ fn has_replied(port: &Port, replies: &[(usize, Reply)]) -> bool {
 }
 
 /// Whether a port that does a list comes to what the list says.
-fn comes_to(alloc: Global, port: &mut Port, list: &List) -> Result<bool, Fail> {
-    let mut goes = true;
-    for next in list.next {
-        goes &= go(alloc, port, *next)?;
-    }
-    let has_done = has_done(alloc, port, list.done)?;
-    let has_told = has_told(alloc, port, list.audit)?;
-    Ok(goes && has_done && has_told && has_replied(port, list.replies))
+fn comes_to(alloc: Global, port: &mut Port, list: &List) -> bool {
+    let has_done = go(alloc, port, list.next);
+    has_done && has_replied(port, list.replies) && has_told(alloc, port, list.audit) == Ok(true)
 }
 
 /// Whether a new port does.
-fn is_right(alloc: Global, list: &List) -> Result<bool, Fail> {
-    let mut port = port(alloc, list.ranges)?;
-    comes_to(alloc, &mut port, list)
+fn is_right(alloc: Global, list: &List) -> bool {
+    match port(alloc, list.ranges) {
+        Ok(mut port) => comes_to(alloc, &mut port, list),
+        Err(_) => false,
+    }
 }
 
-/// Whether each list comes to what it says.
-fn are_right(alloc: Global) -> Result<bool, Fail> {
-    let mut are = true;
-    for list in [DENIED, HELD, RESET_BY_COMMAND, STOPPED_WRITE] {
-        are &= is_right(alloc, &list)?;
+/// The first of the lists that does not come to what it says.
+fn wrong_list(alloc: Global) -> Option<usize> {
+    let lists = [DENIED, HELD, RESET_BY_COMMAND, STOPPED_WRITE];
+    for at in 0..lists.len() {
+        if !is_right(alloc, &lists[at]) {
+            return Some(at);
+        }
     }
-    Ok(are)
+    None
 }
 
 #[test]
-fn lists_of_steps(rt: HostRuntime) -> Result<(), Fail> {
-    assert!(rt; are_right(rt.alloc())?);
-    Ok(())
+fn lists_of_steps(rt: HostRuntime) {
+    let wrong = wrong_list(rt.alloc());
+    assert!(rt; wrong.is_none(), "{wrong:?}");
 }
 
 /// Whether bytes come back from a reply that was made of a vector of them, and it is that which is made of the bytes.
@@ -543,20 +471,16 @@ fn gives_back(alloc: Global, bytes: &[u8]) -> Result<bool, AllocError> {
     Ok(is_same && back.as_slice() == bytes)
 }
 
-#[test]
-fn gives_back_the_bytes_of_a_reply(rt: HostRuntime) -> Result<(), Fail> {
-    let alloc = rt.alloc();
-    let zeros = gives_back(alloc, &[0; 512])?;
-    let others = gives_back(alloc, &[0xaa; 512])?;
-    assert!(rt; zeros && others);
-    Ok(())
+/// Whether the text of an answer is this.
+fn is_printed(alloc: Global) -> Result<bool, AllocError> {
+    let done = Answer::Done(ReplyBytes::new(alloc, &[1, 2])?);
+    let text = format!(in alloc; "{done:?}")?;
+    Ok(text.as_str() == "Done([1, 2])")
 }
 
 #[test]
-fn prints_what_a_client_is_answered(rt: HostRuntime) -> Result<(), Fail> {
-    let alloc = rt.alloc();
-    let done = Answer::Done(ReplyBytes::new(alloc, &[1, 2])?);
-    let text = format!(in alloc; "{done:?}")?;
-    assert!(rt; text.as_str() == "Done([1, 2])");
-    Ok(())
+fn bytes_of_a_reply(rt: HostRuntime) {
+    let zeros = gives_back(rt.alloc(), &[0; 512]) == Ok(true);
+    let others = gives_back(rt.alloc(), &[0xaa; 512]) == Ok(true);
+    assert!(rt; zeros && others && is_printed(rt.alloc()) == Ok(true));
 }

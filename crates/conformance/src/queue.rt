@@ -2,10 +2,9 @@
 //! its answers (Serial ATA, FISes to the host). What is expected was worked out by hand.
 
 use arrayvec::ArrayVec;
-use drive::{Drive, DriveConfig, DriveError, RangeRow, Why, payload_of};
+use drive::{Accepted, Drive, DriveConfig, DriveError, RangeRow, SetError, Why, payload_of};
 use fis::{Fis, Tag};
 use std::alloc::Global;
-use std::test::Fail;
 
 /// What is done to a drive, and what comes of it.
 #[derive(Clone, Copy)]
@@ -18,6 +17,8 @@ enum Row {
     Fis(&'static [u8; 20], Told),
     /// A FIS, and the first bytes of the one that answers it; the others are 0.
     Answer(&'static [u8; 20], [u8; 4]),
+    /// IDENTIFY DEVICE gives its words.
+    Identity,
     /// The command under a tag is completed with data of one byte: its answer is so many bytes, all the same.
     Done(u8, u8, Data),
     /// The command under a tag is completed with zeros, and told by two FISes.
@@ -253,7 +254,7 @@ const MOVED_LATE: [Row; 6] = [
 ];
 
 /// The lists, each for a drive on which nothing was done.
-const LISTS: [&[Row]; 10] = [
+const LISTS: [&[Row]; 11] = [
     &DROPPED,
     &MIXED,
     &MIXED_WRITE,
@@ -264,6 +265,7 @@ const LISTS: [&[Row]; 10] = [
     &ABORTS,
     &ENDS,
     &MOVED_LATE,
+    &[Row::Identity],
 ];
 
 /// Ten sectors of a range with its two enables and its two locks.
@@ -282,7 +284,7 @@ fn range_row(range: u8, start: u64, enables: (bool, bool), locks: (bool, bool)) 
 /// A drive of 1,000 sectors. Range 1 denies reads, range 2 writes; range 3 has locks without their
 /// enables, range 4 both locks with the enable of reads alone, range 5 enables without locks; range 6
 /// denies both, behind range 1.
-fn drive(alloc: Global) -> Result<Drive, Fail> {
+fn drive(alloc: Global) -> Result<Drive, SetError> {
     let rows = [
         range_row(1, 100, (true, false), (true, false)),
         range_row(2, 200, (false, true), (false, true)),
@@ -291,8 +293,8 @@ fn drive(alloc: Global) -> Result<Drive, Fail> {
         range_row(5, 250, (true, true), (false, false)),
         range_row(6, 110, (true, true), (true, true)),
     ];
-    let config = DriveConfig::new(1000, 8, b"OPALMSID").ok_or("limits")?;
-    Ok(Drive::with_ranges(alloc, config, &rows)?)
+    let config = DriveConfig::new(1000, 8, b"OPALMSID").ok_or(SetError::WrongType)?;
+    Drive::with_ranges(alloc, config, &rows)
 }
 
 /// The FIS of a queued command.
@@ -315,8 +317,13 @@ fn is_told(
 ) -> Result<bool, DriveError> {
     let data = vec![in alloc; 0xaa; payload_of(fis)]?;
     let accepted = drive.accept(fis, &data)?;
+    Ok(is_answer(&accepted, told))
+}
+
+/// Whether an answer says so.
+fn is_answer(accepted: &Accepted, told: Told) -> bool {
     let (status, error, denied) = told.words();
-    Ok(accepted.status == status && accepted.error == error && accepted.denied == denied)
+    accepted.status == status && accepted.error == error && accepted.denied == denied
 }
 
 /// Whether a FIS that brings no data is answered by one FIS that begins so, and no data.
@@ -392,81 +399,9 @@ fn failure(drive: &Drive) -> Option<(Option<u8>, u8, u64, u8, u16)> {
     ))
 }
 
-/// Does what a row says, and tells whether that came of it.
-fn is_right(alloc: Global, drive: &mut Drive, row: Row) -> Result<bool, DriveError> {
-    match row {
-        Row::Read(tag, lba, count, told) => {
-            is_told(alloc, drive, &queued(READ, tag, lba, count), told)
-        }
-        Row::Write(tag, lba, count, told) => {
-            is_told(alloc, drive, &queued(WRITE, tag, lba, count), told)
-        }
-        Row::Fis(fis, told) => is_told(alloc, drive, fis, told),
-        Row::Answer(fis, front) => is_answered(drive, fis, front),
-        Row::Done(tag, byte, data) => gives(alloc, drive, tag, byte, data),
-        Row::DoneBy(tag, setup, end) => is_done_by(alloc, drive, tag, setup, end),
-        Row::Free(tag) => Ok(is_free(drive, tag)),
-        Row::Takes(tag, size) => Ok(drive.expects(Tag::low_bits(tag)) == size),
-        Row::Failed(tag, error, lba, device, count) => {
-            Ok(failure(drive) == Some((tag, error, lba, device, count)))
-        }
-        Row::NotFailed => Ok(drive.failure().is_none()),
-    }
-}
-
-/// The first row of a list of which something else came.
-fn other_row(alloc: Global, drive: &mut Drive, rows: &[Row]) -> Result<Option<usize>, Fail> {
-    for (place, row) in rows.iter().enumerate() {
-        if !is_right(alloc, drive, *row)? {
-            return Ok(Some(place));
-        }
-    }
-    Ok(None)
-}
-
-/// The same on a drive on which nothing was done.
-fn wrong_row(alloc: Global, rows: &[Row]) -> Result<Option<usize>, Fail> {
-    let mut drive = drive(alloc)?;
-    other_row(alloc, &mut drive, rows)
-}
-
-/// Whether each first command is answered as it should be.
-fn denies_the_first(alloc: Global) -> Result<bool, Fail> {
-    let mut denies = true;
-    for row in FIRST {
-        denies &= wrong_row(alloc, &[row])?.is_none();
-    }
-    Ok(denies)
-}
-
-/// The first of the lists, and of its rows, of which something else came.
-fn wrong_list(alloc: Global) -> Result<Option<(usize, usize)>, Fail> {
-    for (place, rows) in LISTS.iter().enumerate() {
-        if let Some(row) = wrong_row(alloc, rows)? {
-            return Ok(Some((place, row)));
-        }
-    }
-    Ok(None)
-}
-
-/// What a drive denies first.
-#[test]
-fn denies_the_first_command(rt: HostRuntime) -> Result<(), Fail> {
-    assert!(rt; denies_the_first(rt.alloc())?);
-    Ok(())
-}
-
-/// The rules of the queue.
-#[test]
-fn keeps_the_rules_of_the_queue(rt: HostRuntime) -> Result<(), Fail> {
-    let wrong = wrong_list(rt.alloc())?;
-    assert!(rt; wrong.is_none(), "{wrong:?}");
-    Ok(())
-}
-
 /// Whether IDENTIFY DEVICE of a drive of 1,000 sectors gives the words 48 (trusted computing), 75 and 76 (native command
 /// queuing, 32 deep), 83, and 100 for the sectors, and all others 0.
-fn is_identity(drive: &mut Drive) -> Result<bool, Fail> {
+fn is_identity(drive: &mut Drive) -> Result<bool, DriveError> {
     let mut expected = [0; 512];
     expected[96] = 0x01;
     expected[97] = 0x40;
@@ -482,14 +417,64 @@ fn is_identity(drive: &mut Drive) -> Result<bool, Fail> {
     Ok(accepted.bytes.as_slice() == expected.as_slice())
 }
 
-/// Whether a drive does on which nothing was done.
-fn identifies_itself(alloc: Global) -> Result<bool, Fail> {
-    let mut drive = drive(alloc)?;
-    is_identity(&mut drive)
+/// Does what a row says, and tells whether that came of it.
+fn is_right(alloc: Global, drive: &mut Drive, row: Row) -> Result<bool, DriveError> {
+    match row {
+        Row::Read(tag, lba, count, told) => {
+            is_told(alloc, drive, &queued(READ, tag, lba, count), told)
+        }
+        Row::Write(tag, lba, count, told) => {
+            is_told(alloc, drive, &queued(WRITE, tag, lba, count), told)
+        }
+        Row::Fis(fis, told) => is_told(alloc, drive, fis, told),
+        Row::Answer(fis, front) => is_answered(drive, fis, front),
+        Row::Identity => is_identity(drive),
+        Row::Done(tag, byte, data) => gives(alloc, drive, tag, byte, data),
+        Row::DoneBy(tag, setup, end) => is_done_by(alloc, drive, tag, setup, end),
+        Row::Free(tag) => Ok(is_free(drive, tag)),
+        Row::Takes(tag, size) => Ok(drive.expects(Tag::low_bits(tag)) == size),
+        Row::Failed(tag, error, lba, device, count) => {
+            Ok(failure(drive) == Some((tag, error, lba, device, count)))
+        }
+        Row::NotFailed => Ok(drive.failure().is_none()),
+    }
 }
 
+/// Whether that came of each row of a list.
+fn are_right(alloc: Global, drive: &mut Drive, rows: &[Row]) -> bool {
+    let mut are = true;
+    for row in rows {
+        are &= is_right(alloc, drive, *row) == Ok(true);
+    }
+    are
+}
+
+/// Whether it does on a drive on which nothing was done.
+fn are_right_first(alloc: Global, rows: &[Row]) -> bool {
+    match drive(alloc) {
+        Ok(mut drive) => are_right(alloc, &mut drive, rows),
+        Err(_) => false,
+    }
+}
+
+/// The first of the commands, each the first of a drive, that is answered otherwise; behind these, of the lists.
+fn wrong_list(alloc: Global) -> Option<usize> {
+    for at in 0..FIRST.len() {
+        if !are_right_first(alloc, &[FIRST[at]]) {
+            return Some(at);
+        }
+    }
+    for at in 0..LISTS.len() {
+        if !are_right_first(alloc, LISTS[at]) {
+            return Some(FIRST.len() + at);
+        }
+    }
+    None
+}
+
+/// What a drive denies first, and the rules of the queue.
 #[test]
-fn the_data_of_identify(rt: HostRuntime) -> Result<(), Fail> {
-    assert!(rt; identifies_itself(rt.alloc())?);
-    Ok(())
+fn keeps_the_rules_of_the_queue(rt: HostRuntime) {
+    let wrong = wrong_list(rt.alloc());
+    assert!(rt; wrong.is_none(), "{wrong:?}");
 }
