@@ -123,5 +123,6 @@ acl_in (g ∷ gs) sp object method =
     acl_in gs sp object method
 
 -- the answer is what these grants have
-abbrev pub Answers : List Grant → Sp → Uid → Uid → Option (ArrayVec Uid) → Type 0
-Answers gs sp object method result = option_map (λ v. v.items) result ≡ acl_in gs sp object method
+abbrev pub IsAnsweredByGrants : List Grant → Sp → Uid → Uid → Option (ArrayVec Uid) → Type 0
+IsAnsweredByGrants gs sp object method result = option_map (λ v. v.items) result
+    ≡ acl_in gs sp object method

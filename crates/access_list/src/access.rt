@@ -3,7 +3,7 @@
 ghost use Rattle.std.specs.Prelude.{◌≡◌, ◌<◌, ◌≤◌, ◌==◌, [], ◌∷◌, map, option_map, Some, None, if◌then◌else◌};
 ghost use Rattle.sp_cells.specs.Names.{get, set, ace_admins, ace_anybody_get_common_name, ace_ace_set_boolean_expression};
 ghost use Rattle.sp_cells.specs.Authorities.{authorities_of_locking};
-ghost use Rattle.access_list.specs.Access.{Answers, admin_grants, authority_grants, fixed_ace_gets, user_ace_grants, read_locked_ace_grants, write_locked_ace_grants, done_ace_grants, pin_grants, range_grants, mbr_grants, locking_grants, access_list};
+ghost use Rattle.access_list.specs.Access.{IsAnsweredByGrants, admin_grants, authority_grants, fixed_ace_gets, user_ace_grants, read_locked_ace_grants, write_locked_ace_grants, done_ace_grants, pin_grants, range_grants, mbr_grants, locking_grants, access_list};
 ghost use Rattle.sp_cells.specs.declared.names.Sp.TheVariants.{Admin, Locking};
 
 use arrayvec::ArrayVec;
@@ -12,7 +12,7 @@ use sp_cells::{Sp, Uid};
 /// The ACEs that may allow a method of an object, in their order; None where the method is not offered.
 #[tactic(auto, using(crate::proofs::Joins::joins), unfolding(crate::specs::Access::this_sp_grants))]
 pub fn access_row(sp: Sp, object: Uid, method: Uid) -> Option<ArrayVec<Uid, 4>>
-    ensures { Answers access_list sp object method result }
+    ensures { IsAnsweredByGrants access_list sp object method result }
 {
     if object == Uid::THIS_SP && method == Uid::AUTHENTICATE {
         return Some(one(Uid::ACE_ANYBODY));
@@ -25,7 +25,7 @@ pub fn access_row(sp: Sp, object: Uid, method: Uid) -> Option<ArrayVec<Uid, 4>>
 
 #[tactic(auto, unfolding(crate::specs::Access::admin_grants))]
 fn admin_row(object: Uid, method: Uid) -> Option<ArrayVec<Uid, 4>>
-    ensures { Answers admin_grants Admin object method result }
+    ensures { IsAnsweredByGrants admin_grants Admin object method result }
 {
     match (object, method) {
         (Uid::C_PIN_SID, Uid::GET) => Some(one(Uid::ACE_C_PIN_SID_GET_NOPIN)),
@@ -54,7 +54,7 @@ fn admin_row(object: Uid, method: Uid) -> Option<ArrayVec<Uid, 4>>
 
 #[tactic(auto, using(crate::proofs::Joins::joins))]
 fn locking_row(object: Uid, method: Uid) -> Option<ArrayVec<Uid, 4>>
-    ensures { Answers locking_grants Locking object method result }
+    ensures { IsAnsweredByGrants locking_grants Locking object method result }
 {
     if let Some(aces) = authority_row(object, method) {
         return Some(aces);
@@ -85,7 +85,7 @@ fn locking_row(object: Uid, method: Uid) -> Option<ArrayVec<Uid, 4>>
 
 #[tactic(auto, unfolding(crate::specs::Access::authority_grants, sp_cells::specs::Authorities::authorities_of_locking))]
 fn authority_row(object: Uid, method: Uid) -> Option<ArrayVec<Uid, 4>>
-    ensures { Answers authority_grants Locking object method result }
+    ensures { IsAnsweredByGrants authority_grants Locking object method result }
 {
     let is_class = matches!(object, Uid::ANYBODY | Uid::ADMINS | Uid::USERS);
     let admin = object.admin_number();
@@ -101,7 +101,7 @@ fn authority_row(object: Uid, method: Uid) -> Option<ArrayVec<Uid, 4>>
 
 #[tactic(auto, unfolding(crate::specs::Access::fixed_ace_gets))]
 fn fixed_ace(object: Uid, method: Uid) -> Option<ArrayVec<Uid, 4>>
-    ensures { Answers fixed_ace_gets Locking object method result }
+    ensures { IsAnsweredByGrants fixed_ace_gets Locking object method result }
 {
     if method != Uid::GET {
         return None;
@@ -139,7 +139,7 @@ fn settable(method: Uid) -> Option<ArrayVec<Uid, 4>>
 
 #[tactic(auto, unfolding(crate::specs::Access::user_ace_grants))]
 fn user_ace(object: Uid, method: Uid) -> Option<ArrayVec<Uid, 4>>
-    ensures { Answers user_ace_grants Locking object method result }
+    ensures { IsAnsweredByGrants user_ace_grants Locking object method result }
 {
     object.user_ace_number()?;
     settable(method)
@@ -147,7 +147,7 @@ fn user_ace(object: Uid, method: Uid) -> Option<ArrayVec<Uid, 4>>
 
 #[tactic(auto, unfolding(crate::specs::Access::read_locked_ace_grants))]
 fn read_locked_ace(object: Uid, method: Uid) -> Option<ArrayVec<Uid, 4>>
-    ensures { Answers read_locked_ace_grants Locking object method result }
+    ensures { IsAnsweredByGrants read_locked_ace_grants Locking object method result }
 {
     object.read_locked_ace_number()?;
     settable(method)
@@ -155,7 +155,7 @@ fn read_locked_ace(object: Uid, method: Uid) -> Option<ArrayVec<Uid, 4>>
 
 #[tactic(auto, unfolding(crate::specs::Access::write_locked_ace_grants))]
 fn write_locked_ace(object: Uid, method: Uid) -> Option<ArrayVec<Uid, 4>>
-    ensures { Answers write_locked_ace_grants Locking object method result }
+    ensures { IsAnsweredByGrants write_locked_ace_grants Locking object method result }
 {
     object.write_locked_ace_number()?;
     settable(method)
@@ -163,7 +163,7 @@ fn write_locked_ace(object: Uid, method: Uid) -> Option<ArrayVec<Uid, 4>>
 
 #[tactic(auto, unfolding(crate::specs::Access::done_ace_grants))]
 fn done_ace(object: Uid, method: Uid) -> Option<ArrayVec<Uid, 4>>
-    ensures { Answers done_ace_grants Locking object method result }
+    ensures { IsAnsweredByGrants done_ace_grants Locking object method result }
 {
     match object {
         Uid::ACE_MBR_CONTROL_SET_DONE_TO_DOR => settable(method),
@@ -173,7 +173,7 @@ fn done_ace(object: Uid, method: Uid) -> Option<ArrayVec<Uid, 4>>
 
 #[tactic(auto, unfolding(crate::specs::Access::pin_grants))]
 fn pin_row(object: Uid, method: Uid) -> Option<ArrayVec<Uid, 4>>
-    ensures { Answers pin_grants Locking object method result }
+    ensures { IsAnsweredByGrants pin_grants Locking object method result }
 {
     let admin = object.admin_pin_number();
     let user = object.user_pin_number();
@@ -189,7 +189,7 @@ fn pin_row(object: Uid, method: Uid) -> Option<ArrayVec<Uid, 4>>
 
 #[tactic(auto, unfolding(crate::specs::Access::range_grants))]
 fn range_row(object: Uid, method: Uid) -> Option<ArrayVec<Uid, 4>>
-    ensures { Answers range_grants Locking object method result }
+    ensures { IsAnsweredByGrants range_grants Locking object method result }
 {
     let range = object.range_number()?;
     match method {
@@ -209,7 +209,7 @@ fn range_row(object: Uid, method: Uid) -> Option<ArrayVec<Uid, 4>>
 
 #[tactic(auto, unfolding(crate::specs::Access::mbr_grants))]
 fn mbr_row(object: Uid, method: Uid) -> Option<ArrayVec<Uid, 4>>
-    ensures { Answers mbr_grants Locking object method result }
+    ensures { IsAnsweredByGrants mbr_grants Locking object method result }
 {
     match (object, method) {
         (Uid::MBR_CONTROL | Uid::MBR_TABLE, Uid::GET) => Some(one(Uid::ACE_ANYBODY)),

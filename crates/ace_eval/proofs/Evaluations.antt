@@ -4,12 +4,12 @@ use Rattle.std.proofs.lemmas.List.{drop_all}
 use Rattle.sp_cells.specs.declared.names.Uid.{Uid}
 use Rattle.sp_cells.specs.declared.cells.Element.{Element}
 use Rattle.sp_cells.specs.declared.cells.Element.TheVariants.{Authority, And, Or}
-use Rattle.sp_cells.specs.Expressions.{Tree, leaf, both, either, postorder}
+use Rattle.sp_cells.specs.Expressions.{ExpressionTree, leaf, both, either, postorder}
 use Rattle.ace_eval.specs.Truth.{truth, Holds}
 use Rattle.ace_eval.specs.Evaluation.{step, run, is_true, is_satisfied}
 
 -- a tree that is written out leaves its truth
-pub run-postorder : (held : List Uid) (t : Tree) (rest : List Element) (s : List Bool) → run held (postorder t ++ rest) s ≡ run held rest (truth held t ∷ s)
+pub run-postorder : (held : List Uid) (t : ExpressionTree) (rest : List Element) (s : List Bool) → run held (postorder t ++ rest) s ≡ run held rest (truth held t ∷ s)
 run-postorder held (leaf a) rest s = refl
 run-postorder held (both l r) rest s =
     rw (append_assoc, append_assoc) (run-postorder held l (postorder r ++ And ∷ rest) s ∙ run-postorder held r (And ∷ rest) (truth held l ∷ s))
@@ -17,12 +17,12 @@ run-postorder held (either l r) rest s =
     rw (append_assoc, append_assoc) (run-postorder held l (postorder r ++ Or ∷ rest) s ∙ run-postorder held r (Or ∷ rest) (truth held l ∷ s))
 
 -- the elements that made the waiting trees, the latest first
-pub written : List Tree → List Element
+pub written : List ExpressionTree → List Element
 written [] = []
 written (t ∷ ts) = written ts ++ postorder t
 
 -- what is accepted is a tree
-pub run-sound : (held : List Uid) (es : List Element) (ts : List Tree) (b : Bool) → run held es (map (truth held) ts) ≡ Some (b ∷ []) → (t : Tree) × (written ts ++ es ≡ postorder t) × (truth held t ≡ b)
+pub run-sound : (held : List Uid) (es : List Element) (ts : List ExpressionTree) (b : Bool) → run held es (map (truth held) ts) ≡ Some (b ∷ []) → (t : ExpressionTree) × (written ts ++ es ≡ postorder t) × (truth held t ≡ b)
 unfolding written
 run-sound held [] [] b h = cc
 run-sound held [] (t ∷ []) b h = (t, append-nil ([] ++ postorder t), (cc))
@@ -35,7 +35,7 @@ run-sound held (Or ∷ es) [] b h = cc
 run-sound held (Or ∷ es) (r ∷ []) b h = cc
 run-sound held (Or ∷ es) (r ∷ l ∷ ts) b h = let q = run-sound held es (either l r ∷ ts) b h in (q.0, simp append_assoc (simp append_assoc at q.1), q.2)
 
-run-tree : (held : List Uid) (t : Tree) → run held (postorder t) [] ≡ Some (truth held t ∷ [])
+run-tree : (held : List Uid) (t : ExpressionTree) → run held (postorder t) [] ≡ Some (truth held t ∷ [])
 run-tree held t = rw (← append-nil (postorder t)) (run-postorder held t [] [])
 
 only_true : (held : List Uid) (es : List Element) (o : Option (List Bool)) → run held es [] ≡ o → is_true o ≡ true → Holds held es

@@ -16,7 +16,7 @@ use Rattle.sp_cells.specs.Names.{uid, col}
 use Rattle.sp_cells.specs.Limits.{most_elements}
 use Rattle.sp_cells.specs.Resets.{reset_numbers}
 use Rattle.call_shapes.specs.Named.{values_of}
-use Rattle.call_shapes.specs.CellValues.{uid_tree, uid_in, element_tree, element_in, number_in, each_of, resets_of, expression_of, columns_of}
+use Rattle.call_shapes.specs.CellValues.{uid_tree, uid_in, element_tree, element_in, number_in, each_of, resets_of, expression_of, columns_written}
 use Rattle.call_shapes.specs.Laws.{is_short, is_short_element, RoundTrip}
 
 clash : false ≡ true → ⊥
@@ -96,7 +96,7 @@ round_trip types.Number (Number n) h s = refl
 round_trip types.Flag (Number n) h s = ap (λ t. if t then Some (Number n) else None) h
 round_trip types.Resets (Numbers r) h s = ap (λ ts. resets_of (each_of number_in ts)) (values_back (map number (reset_numbers r))) ∙ ap resets_of (numbers_back (reset_numbers r)) ∙ resets_back r
 round_trip types.Expression (Expr es) h s = expression_back es s
-round_trip types.Columns (Columns cs) h s = ap (λ ts. columns_of (each_of number_in ts)) (values_back (map number (map (λ (c : Column). c.0) cs))) ∙ ap columns_of (numbers_back (map (λ (c : Column). c.0) cs)) ∙ ap (λ l. Some (Columns l)) (columns_back cs)
+round_trip types.Columns (Columns cs) h s = ap (λ ts. columns_written (each_of number_in ts)) (values_back (map number (map (λ (c : Column). c.0) cs))) ∙ ap columns_written (numbers_back (map (λ (c : Column). c.0) cs)) ∙ ap (λ l. Some (Columns l)) (columns_back cs)
 round_trip types.Name (Number n) h s = absurd (clash h)
 round_trip types.Name (Uid u) h s = absurd (clash h)
 round_trip types.Name (Numbers r) h s = absurd (clash h)

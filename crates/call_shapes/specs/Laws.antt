@@ -7,7 +7,7 @@ use Rattle.sp_cells.specs.declared.cells.Element.{Element}
 use Rattle.sp_cells.specs.declared.cells.Element.TheVariants.{Authority, And, Or}
 use Rattle.sp_cells.specs.declared.values.ColumnType.{ColumnType}
 use Rattle.sp_cells.specs.Limits.{most_elements}
-use Rattle.sp_cells.specs.Values.{is_of}
+use Rattle.sp_cells.specs.Values.{is_of_type}
 use Rattle.call_shapes.specs.CellValues.{cell_tree, cell_in}
 
 -- a name has eight bytes
@@ -29,5 +29,6 @@ is_short_cell (Numbers r) = true
 is_short_cell (Columns cs) = true
 
 abbrev pub RoundTrip : Type 0
-RoundTrip = (kind : ColumnType) (cell : Cell) → is_of kind cell ≡ true → is_short_cell cell ≡ true
+RoundTrip = (kind : ColumnType) (cell : Cell) → is_of_type kind cell ≡ true → is_short_cell cell
+    ≡ true
     → cell_in kind (cell_tree cell) ≡ Some cell

@@ -5,7 +5,7 @@ ghost use Rattle.std.specs.Int.{w64, from_be_bytes};
 ghost use Rattle.tcg_tokens.specs.Tree.{tree};
 ghost use Rattle.call_shapes.specs.Named.{options as options_of, pair_of};
 ghost use Rattle.call_shapes.specs.Parameters.{start_row_parameter, end_row_parameter, start_column_parameter, end_column_parameter};
-ghost use Rattle.call_shapes.specs.Asks.{uid_of as uid_of_octets, is_mbr_table as is_mbr_table_of, cellblock, columns_in, rows_in, cells_in, bytes_in, proof_in, attempt_in, without_arguments as without_arguments_of, get_of, set_of, ask_of as ask_by};
+ghost use Rattle.call_shapes.specs.Asks.{uid_of as uid_of_octets, is_mbr_table as is_mbr_table_of, cellblock, columns_asked_in, rows_in, cells_in, bytes_in, proof_in, attempt_in, without_arguments as without_arguments_of, get_of, set_of, ask_of as ask_by};
 
 use crate::named::{
     Assignments, Pair, bytes_or_empty, list_in, number_if_any, number_or, read_assignments,
@@ -103,7 +103,7 @@ fn read_cellblock<'a>(first: u64, last: u64, args: &'a [Value]) -> Option<Pair<'
 
 /// Get of columns.
 fn columns_asked<'a>(args: &'a [Value]) -> Option<Ask<'a>>
-    ensures { result ≡ columns_in
+    ensures { result ≡ columns_asked_in
         (cellblock start_column_parameter end_column_parameter (map tree args.now)) }
 {
     let block = read_cellblock(parameter::START_COLUMN, parameter::END_COLUMN, args)?;

@@ -2,7 +2,7 @@
 use Rattle.std.proofs.Common.{◌≡◌, ℕ, ◌+◌, ◌-◌, ◌^◌, ◌<◌, ◌≤◌, List, [], ◌++◌, length, arith, refl, append_assoc, length-append}
 use Rattle.std.proofs.lemmas.List.{take_at, length-replicate}
 use Rattle.byteorder.specs.Numbers.{big_number-reads_back}
-use Rattle.compacket.specs.Frames.{IsComPacket, IsPacket, IsDataSubpacket, IsFrame, com_packet_length, packet_length, subpacket_length, padded, number_at}
+use Rattle.compacket.specs.Frames.{IsComPacket, IsPacket, IsDataSubpacket, IsFrame, com_packet_length, packet_length, subpacket_length, padded, big_endian_at}
 use Rattle.compacket.specs.Spelling.{com_packet_header, packet_header, subpacket_header, padding, frame_bytes}
 use Rattle.compacket.specs.Frames.{reading}
 use Rattle.compacket.proofs.Readings.{frame_is_read}
@@ -26,9 +26,9 @@ packet_written : (session : Session) (content : List ℕ) (n : ℕ) → session.
 packet_written session content n tsn hsn is long =
     let len : packet_length (packet_header session n ++ content) ≡ n =
     big_number-reads_back 4 n content (omega arith) in
-    let first : number_at 4 (packet_header session n ++ content) 0 ≡ session.tsn =
+    let first : big_endian_at 4 (packet_header session n ++ content) 0 ≡ session.tsn =
     big_number-reads_back 4 session.tsn [] (omega arith) in
-    let second : number_at 4 (packet_header session n ++ content) 4 ≡ session.hsn =
+    let second : big_endian_at 4 (packet_header session n ++ content) 4 ≡ session.hsn =
     big_number-reads_back 4 session.hsn [] (omega arith) in
     record {
       is_whole = rw len (omega arith);

@@ -2,7 +2,7 @@
 use Rattle.std.proofs.Common.{◌≡◌, ℕ, ◌≤◌, List, Option, None, Ok, length, arith, refl}
 use Rattle.std.proofs.lemmas.Bool.Decides.{nat_tests}
 use Rattle.std.proofs.lemmas.Grind.{common_steps}
-use Rattle.compacket.specs.Frames.{Frame, IsComPacket, IsPacket, IsDataSubpacket, IsFrame, com_packet_fault, com_packet_content, com_id_of, session_of, packet_fault, packet_content, subpacket_fault, subpacket_content, or_else, fault_of, frame_in, reading}
+use Rattle.compacket.specs.Frames.{Frame, IsComPacket, IsPacket, IsDataSubpacket, IsFrame, com_packet_fault, com_packet_content, com_id_of, session_of, packet_fault, packet_content, subpacket_fault, subpacket_content, first_fault, fault_of, frame_in, reading}
 use Rattle.compacket.specs.declared.session.Session.{Session}
 use Rattle.compacket.specs.declared.error.FrameError.{FrameError}
 
@@ -15,7 +15,7 @@ packet_passes bytes content session is long = grind (arith, nat_tests, common_st
 subpacket_passes : (bytes payload : List ℕ) → IsDataSubpacket bytes payload → subpacket_fault bytes ≡ None
 subpacket_passes bytes payload is = grind (arith, nat_tests)
 
-no_fault : (a b c : Option FrameError) → a ≡ None → b ≡ None → c ≡ None → or_else a (or_else b c) ≡ None
+no_fault : (a b c : Option FrameError) → a ≡ None → b ≡ None → c ≡ None → first_fault a (first_fault b c) ≡ None
 no_fault a b c p q r = rw (p, q, r) refl
 
 -- A frame has no fault.

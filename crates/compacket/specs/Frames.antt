@@ -13,8 +13,8 @@ pub record Frame : Type 0 where
   pub payload : List ℕ
 
 -- The number in so many bytes from a place on, the highest byte first.
-abbrev pub number_at : ℕ → List ℕ → ℕ → ℕ
-number_at size bytes place = big_number size (drop place bytes)
+abbrev pub big_endian_at : ℕ → List ℕ → ℕ → ℕ
+big_endian_at size bytes place = big_number size (drop place bytes)
 
 -- how many bytes the header of a ComPacket has, that of a packet, that of a subpacket, and all three
 abbrev pub com_packet_header_size : ℕ
@@ -44,22 +44,22 @@ padded n = (n + (padding_unit - 1)) / padding_unit * padding_unit
 -- MinTransfer 4, Length 4. Of a packet header: TSN 4, HSN 4, SeqNumber 4, reserved 2, AckType 2,
 -- Acknowledgement 4, Length 4. Of a subpacket header: reserved 6, Kind 2, Length 4.
 abbrev pub com_id_of : List ℕ → ℕ
-com_id_of com_packet = number_at 2 com_packet 4
+com_id_of com_packet = big_endian_at 2 com_packet 4
 
 abbrev pub com_packet_length : List ℕ → ℕ
-com_packet_length com_packet = number_at 4 com_packet 16
+com_packet_length com_packet = big_endian_at 4 com_packet 16
 
 abbrev pub session_of : List ℕ → Session
-session_of packet = record { tsn = number_at 4 packet 0; hsn = number_at 4 packet 4 }
+session_of packet = record { tsn = big_endian_at 4 packet 0; hsn = big_endian_at 4 packet 4 }
 
 abbrev pub packet_length : List ℕ → ℕ
-packet_length packet = number_at 4 packet 20
+packet_length packet = big_endian_at 4 packet 20
 
 abbrev pub subpacket_kind : List ℕ → ℕ
-subpacket_kind subpacket = number_at 2 subpacket 6
+subpacket_kind subpacket = big_endian_at 2 subpacket 6
 
 abbrev pub subpacket_length : List ℕ → ℕ
-subpacket_length subpacket = number_at 4 subpacket 8
+subpacket_length subpacket = big_endian_at 4 subpacket 8
 
 -- How many bytes each has by the Length in its header, which counts what it carries.
 abbrev pub com_packet_size : List ℕ → ℕ
@@ -138,14 +138,14 @@ subpacket_fault bytes =
     else None)))
 
 -- The first fault, if there is one.
-abbrev pub or_else : Option FrameError → Option FrameError → Option FrameError
-or_else (Some fault) later = Some fault
-or_else None later = later
+abbrev pub first_fault : Option FrameError → Option FrameError → Option FrameError
+first_fault (Some fault) later = Some fault
+first_fault None later = later
 
 abbrev pub fault_of : List ℕ → Option FrameError
 fault_of bytes =
-    or_else (com_packet_fault bytes)
-    (or_else (packet_fault (com_packet_content bytes))
+    first_fault (com_packet_fault bytes)
+    (first_fault (packet_fault (com_packet_content bytes))
     (subpacket_fault (packet_content (com_packet_content bytes))))
 
 -- What bytes without a fault carry.

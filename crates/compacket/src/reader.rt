@@ -1,7 +1,7 @@
 //! Frames as they are read.
 
 ghost use Rattle.std.specs.Prelude.{◌≡◌, ◌+◌, ◌^◌, ◌<◌, ◌≤◌, IfOk, IsOkAnd, MatchResult, Ok, Err, Some, None, length, drop, slice_range};
-ghost use Rattle.compacket.specs.Frames.{Frame, IsComPacket, IsPacket, IsDataSubpacket, IsFrame, reading, fault_of, com_packet_fault, com_packet_content, packet_fault, packet_content, subpacket_fault, subpacket_content, com_id_of, session_of, number_at, com_packet_header_size, packet_header_size, subpacket_header_size, headers_size};
+ghost use Rattle.compacket.specs.Frames.{Frame, IsComPacket, IsPacket, IsDataSubpacket, IsFrame, reading, fault_of, com_packet_fault, com_packet_content, packet_fault, packet_content, subpacket_fault, subpacket_content, com_id_of, session_of, big_endian_at, com_packet_header_size, packet_header_size, subpacket_header_size, headers_size};
 
 use crate::error::FrameError;
 use crate::headers::{
@@ -13,7 +13,7 @@ use byteorder::{BigEndian, ByteOrder};
 
 fn length_at(bytes: &[u8], place: usize) -> usize
     requires { place + 4 ≤ length bytes.now }
-    ensures value { result ≡ number_at 4 bytes.now place }
+    ensures value { result ≡ big_endian_at 4 bytes.now place }
     ensures fits { result < 2 ^ 32 }
 {
     BigEndian::read_u32(&bytes[place..]) as usize

@@ -18,7 +18,7 @@ use Rattle.locking.specs.declared.range.Op.{Op}
 use Rattle.locking.specs.declared.range.Op.TheVariants.{Read, Write}
 use Rattle.locking.specs.Verdict.{verdict_of}
 use Rattle.tcg_tokens.specs.Reading.{reading as message_in}
-use Rattle.shadow_mbr.specs.Stored.{Stored, sector_size, sector_at, zeros}
+use Rattle.shadow_mbr.specs.Stored.{StoredSectors, sector_size, sector_at, zeros}
 use Rattle.transactions.specs.Sights.{look_up, committed_sight}
 use Rattle.trusted_cmds.specs.declared.command.Command.{Command}
 use Rattle.trusted_cmds.specs.declared.command.Command.TheVariants.{ReadQueued, WriteQueued, ReadDma, WriteDma, Send, Receive, Identify, ReadLog10, Flush}
@@ -31,9 +31,9 @@ use Rattle.history.specs.Readers.{waiting, writing}
 use Rattle.history.specs.Facts.{Facts, facts, session_named}
 use Rattle.history.specs.Decisions.{received, aborted}
 use Rattle.history.specs.Tcg.{sent, framed, to_session, to_manager, answers, is_manager, accepted, commanded, data_read, data_of, receive_data, received_bytes}
-use Rattle.history.specs.Answers.{failed, ready, answer_fis, read_by, is_holding, served_fises}
+use Rattle.history.specs.Answers.{errored, ready, answer_fis, read_by, is_holding, served_fises}
 use Rattle.history.specs.History.{Act, log}
-use Rattle.tper.specs.Tper.{Keeps as KeepsTper, IsSent, response_at}
+use Rattle.tper.specs.Tper.{Keeps as KeepsTper, IsToldOfSend, response_at}
 use Rattle.tper.specs.declared.trusted.Sent.{Sent}
 use Rattle.drive.specs.declared.answer.Accepted.{Accepted}
 use Rattle.drive.specs.declared.decision.Denied.{Denied as Denial}
@@ -42,20 +42,20 @@ use Rattle.drive.specs.declared.decision.Decision.TheVariants.{Aborts, FailsQueu
 use Rattle.drive.specs.declared.queue.Queue.{Queue}
 use Rattle.drive.specs.declared.transfer.Held.{Held}
 use Rattle.drive.specs.declared.transfer.Transfer.{Transfer}
-use Rattle.drive.specs.Transfer.{transfer_by, queued_command, unqueued_command, verdict_held, bytes_of, sector_then}
+use Rattle.drive.specs.Transfer.{transfer_by, queued_command, unqueued_command, verdict_held, held_bytes, sector_then}
 use Rattle.drive.specs.Queue.{with_slot, failed_queue, mended_queue}
-use Rattle.drive.specs.Decision.{ranges_of, moves, executed, reason, event_of, CanExecute, IsMoved}
+use Rattle.drive.specs.Decision.{ranges_of, transfer_deed, executed, reason, decision_event, CanExecute, IsMoved}
 use Rattle.std.proofs.lemmas.List.{reverse-append}
-use Rattle.drive.specs.State.{State, seen, Keeps, Agrees, AgreesInOrder}
-use Rattle.drive.specs.Answers.{IsAnswer, IsDone}
+use Rattle.drive.specs.State.{DriveState, kept_facts, KeepsDrive, Agrees, AgreesInOrder}
+use Rattle.drive.specs.Answers.{IsAnswer, IsDoneAndAnswered}
 use Rattle.drive.proofs.Keeping.{seen-is, nothing-keeps, failed-keeps, holds-keeps, moved-keeps, mended-keeps, tper-keeps, sends-of-tper, sends-wipe, sent-deed, IsOfTper}
 
 -- what is sent and received
 
-pub send-keeps : (d e : State) (o : Origin) (acts : List Act) (com_id : ℕ) (r : Result Frame FrameError) (s : Sent)
-    → KeepsTper e.tper o (sent (facts o (log o acts)) com_id r ∷ log o acts) → IsSent (sent (facts o (log o acts)) com_id r) s
+pub send-keeps : (d e : DriveState) (o : Origin) (acts : List Act) (com_id : ℕ) (r : Result Frame FrameError) (s : Sent)
+    → KeepsTper e.tper o (sent (facts o (log o acts)) com_id r ∷ log o acts) → IsToldOfSend (sent (facts o (log o acts)) com_id r) s
     → e.queue ≡ d.queue → ((x : ℕ) → sector_at e.media x ≡ (if s.wipes then zeros else sector_at d.media x))
-    → Keeps d o (log o acts) → Keeps e o (sent (facts o (log o acts)) com_id r ∷ log o acts)
+    → KeepsDrive d o (log o acts) → KeepsDrive e o (sent (facts o (log o acts)) com_id r ∷ log o acts)
 send-keeps d e o acts com_id r s tper is queue media k =
     let f : Facts = facts o (log o acts) in
     tper-keeps d e o (log o acts) (sent f com_id r) (sends-of-tper (sent f com_id r).deed (sent-deed f com_id r)) tper queue
@@ -79,25 +79,25 @@ received-moves : (com_id blocks : ℕ) (w : Option (List ℕ)) (s : ℕ) → wri
 received-moves com_id blocks None s = refl
 received-moves com_id blocks (Some response) s = took-moves com_id (nat_le (length response) (sector_size * blocks)) s
 
-pub receive-keeps : (d e : State) (o : Origin) (past : List Event) (com_id blocks : ℕ) → KeepsTper e.tper o (received com_id blocks (waiting past com_id) ∷ past)
-    → e.queue ≡ d.queue → e.media ≡ d.media → Keeps d o past → Keeps e o (received com_id blocks (waiting past com_id) ∷ past)
+pub receive-keeps : (d e : DriveState) (o : Origin) (past : List Event) (com_id blocks : ℕ) → KeepsTper e.tper o (received com_id blocks (waiting past com_id) ∷ past)
+    → e.queue ≡ d.queue → e.media ≡ d.media → KeepsDrive d o past → KeepsDrive e o (received com_id blocks (waiting past com_id) ∷ past)
 receive-keeps d e o past com_id blocks tper queue media k =
     tper-keeps d e o past (received com_id blocks (waiting past com_id)) (received-of com_id blocks (waiting past com_id)) tper queue
-    (λ s. ap (λ (m : Stored). sector_at m s) media ∙ sym (ap (λ (x : Option (List ℕ)). unwrap_or x (sector_at d.media s)) (received-moves com_id blocks (waiting past com_id) s))) k
+    (λ s. ap (λ (m : StoredSectors). sector_at m s) media ∙ sym (ap (λ (x : Option (List ℕ)). unwrap_or x (sector_at d.media s)) (received-moves com_id blocks (waiting past com_id) s))) k
 
-no-wait : (d : State) (o : Origin) (past : List Event) (com_id : ℕ) → com_id ≡ 1 → Keeps d o past → waiting past com_id ≡ None
+no-wait : (d : DriveState) (o : Origin) (past : List Event) (com_id : ℕ) → com_id ≡ 1 → KeepsDrive d o past → waiting past com_id ≡ None
 no-wait d o past com_id is k = ap (waiting past) is ∙ sym (k.tper.waiting 1)
 
-pub discovery-keeps : (d : State) (o : Origin) (past : List Event) (com_id blocks : ℕ) → com_id ≡ 1 → Keeps d o past → Keeps d o (received com_id blocks (waiting past com_id) ∷ past)
+pub discovery-keeps : (d : DriveState) (o : Origin) (past : List Event) (com_id blocks : ℕ) → com_id ≡ 1 → KeepsDrive d o past → KeepsDrive d o (received com_id blocks (waiting past com_id) ∷ past)
 discovery-keeps d o past com_id blocks is k =
     nothing-keeps d o past (received com_id blocks (waiting past com_id)) (ap (λ (w : Option (List ℕ)). (received com_id blocks w).deed) (no-wait d o past com_id is k)) k
 
-pub discovery-data : (d : State) (o : Origin) (past : List Event) (com_id room : ℕ) → com_id ≡ 1 → Keeps d o past
+pub discovery-data : (d : DriveState) (o : Origin) (past : List Event) (com_id room : ℕ) → com_id ≡ 1 → KeepsDrive d o past
     → sized room (discovery_of (look_up (committed_sight d.tper.store))) ≡ receive_data (facts o past) com_id room
 discovery-data d o past com_id room is k =
-    ap (λ (n : ℕ). receive_data (seen d (facts o past)) n room) (sym is) ∙ ap (λ (f : Facts). receive_data f com_id room) (seen-is d o past k)
+    ap (λ (n : ℕ). receive_data (kept_facts d (facts o past)) n room) (sym is) ∙ ap (λ (f : Facts). receive_data f com_id room) (seen-is d o past k)
 
-pub waiting-data : (d : State) (o : Origin) (past : List Event) (com_id room : ℕ) → (com_id == 1) ≡ false → Keeps d o past
+pub waiting-data : (d : DriveState) (o : Origin) (past : List Event) (com_id room : ℕ) → (com_id == 1) ≡ false → KeepsDrive d o past
     → sized room (received_bytes com_id room (response_at d.tper.waiting com_id)) ≡ receive_data (facts o past) com_id room
 waiting-data d o past com_id room other k =
     sym (ap (λ (b : Bool). if b then sized room (discovery_of (look_up (committed_sight d.tper.store))) else sized room (received_bytes com_id room (response_at d.tper.waiting com_id))) other)
@@ -159,7 +159,7 @@ pub record IsTold (a : Accepted) (status error : ℕ) (held : Bool) (fises : Lis
   pub denied_is : a.denied ≡ denied
 
 failed-answer : (f : Facts) (h : RegH2d) (error : ℕ) (deed : Deed) (denied : Option Why) (a : Accepted) → is_holding deed ≡ false
-    → IsTold a failed error false (answer_fis true failed error ∷ []) [] denied
+    → IsTold a errored error false (answer_fis true errored error ∷ []) [] denied
     → IsAnswer f h (record { failed = Some error; deed = deed; denied = denied }) a
 failed-answer f h error deed denied a free t =
     record { status = t.status_is; error = t.error_is; held = t.held_is ∙ sym free; fises = t.fises_are; bytes = t.bytes_are; denied = t.denied_is }
@@ -177,38 +177,38 @@ served-answer f h ev a command s reads t = record {
 
 -- what each decision comes to
 
-pub aborts-done : (f : Facts) (h : RegH2d) (d : State) (o : Origin) (past : List Event) (payload : List ℕ) (error : ℕ) (denied : Option Denial) (made : Decision) (a : Accepted)
-    → made ≡ Aborts error denied → IsTold a failed error false (answer_fis true failed error ∷ []) [] (reason denied)
-    → Keeps d o past → IsDone f h (event_of f payload made) d o past a
+pub aborts-done : (f : Facts) (h : RegH2d) (d : DriveState) (o : Origin) (past : List Event) (payload : List ℕ) (error : ℕ) (denied : Option Denial) (made : Decision) (a : Accepted)
+    → made ≡ Aborts error denied → IsTold a errored error false (answer_fis true errored error ∷ []) [] (reason denied)
+    → KeepsDrive d o past → IsDoneAndAnswered f h (decision_event f payload made) d o past a
 aborts-done f h d o past payload error denied made a is t k =
-    subst (λ (x : Decision). IsDone f h (event_of f payload x) d o past a) (sym is)
-    (nothing-keeps d o past (event_of f payload (Aborts error denied)) refl k, failed-answer f h error Nothing (reason denied) a refl t)
+    subst (λ (x : Decision). IsDoneAndAnswered f h (decision_event f payload x) d o past a) (sym is)
+    (nothing-keeps d o past (decision_event f payload (Aborts error denied)) refl k, failed-answer f h error Nothing (reason denied) a refl t)
 
-pub fails-done : (f : Facts) (h : RegH2d) (d e : State) (o : Origin) (past : List Event) (payload : List ℕ) (fault : Failure) (denied : Option Denial) (made : Decision) (a : Accepted)
+pub fails-done : (f : Facts) (h : RegH2d) (d e : DriveState) (o : Origin) (past : List Event) (payload : List ℕ) (fault : Failure) (denied : Option Denial) (made : Decision) (a : Accepted)
     → made ≡ FailsQueue fault denied → e ≡ record d { queue = failed_queue fault }
-    → IsTold a failed fault.error false (answer_fis true failed fault.error ∷ []) [] (reason denied)
-    → Keeps d o past → IsDone f h (event_of f payload made) e o past a
+    → IsTold a errored fault.error false (answer_fis true errored fault.error ∷ []) [] (reason denied)
+    → KeepsDrive d o past → IsDoneAndAnswered f h (decision_event f payload made) e o past a
 fails-done f h d e o past payload fault denied made a is to t k =
-    subst (λ (x : Decision). IsDone f h (event_of f payload x) e o past a) (sym is)
-    (failed-keeps d e o past fault (event_of f payload (FailsQueue fault denied)) refl to k, failed-answer f h fault.error _ (reason denied) a refl t)
+    subst (λ (x : Decision). IsDoneAndAnswered f h (decision_event f payload x) e o past a) (sym is)
+    (failed-keeps d e o past fault (decision_event f payload (FailsQueue fault denied)) refl to k, failed-answer f h fault.error _ (reason denied) a refl t)
 
-pub holds-done : (f : Facts) (h : RegH2d) (d e : State) (o : Origin) (past : List Event) (payload : List ℕ) (tag : ℕ) (its : Held) (made : Decision) (a : Accepted)
+pub holds-done : (f : Facts) (h : RegH2d) (d e : DriveState) (o : Origin) (past : List Event) (payload : List ℕ) (tag : ℕ) (its : Held) (made : Decision) (a : Accepted)
     → tag < 32 → made ≡ Holds tag its → e ≡ record d { queue = with_slot tag (Some its) d.queue }
     → reading h ≡ Ok (queued_command its.transfer, Some tag)
     → IsTold a ready 0 true (answer_fis false ready 0 ∷ []) [] None
-    → Keeps d o past → IsDone f h (event_of f payload made) e o past a
+    → KeepsDrive d o past → IsDoneAndAnswered f h (decision_event f payload made) e o past a
 holds-done f h d e o past payload tag its made a small is to reads t k =
-    subst (λ (x : Decision). IsDone f h (event_of f payload x) e o past a) (sym is) (
-      holds-keeps d e o past tag its (event_of f payload (Holds tag its)) small refl to k,
+    subst (λ (x : Decision). IsDoneAndAnswered f h (decision_event f payload x) e o past a) (sym is) (
+      holds-keeps d e o past tag its (decision_event f payload (Holds tag its)) small refl to k,
       record { status = t.status_is; error = t.error_is; held = t.held_is; fises = t.fises_are; bytes = t.bytes_are ∙ sym (ap (data_read f) reads); denied = t.denied_is },
     )
 
-pub executes-done : (f : Facts) (h : RegH2d) (e : State) (o : Origin) (past : List Event) (payload : List ℕ) (command : Command) (made : Decision) (a : Accepted)
+pub executes-done : (f : Facts) (h : RegH2d) (e : DriveState) (o : Origin) (past : List Event) (payload : List ℕ) (command : Command) (made : Decision) (a : Accepted)
     → made ≡ Executes command → (reading h ≡ Ok (command, None)) × CanExecute command
     → IsTold a ready 0 false (served_fises command) (data_of f command) (executed f payload command).denied
-    → Keeps e o (executed f payload command ∷ past) → IsDone f h (event_of f payload made) e o past a
+    → KeepsDrive e o (executed f payload command ∷ past) → IsDoneAndAnswered f h (decision_event f payload made) e o past a
 executes-done f h e o past payload command made a is due t k =
-    subst (λ (x : Decision). IsDone f h (event_of f payload x) e o past a) (sym is)
+    subst (λ (x : Decision). IsDoneAndAnswered f h (decision_event f payload x) e o past a) (sym is)
     (k, served-answer f h (executed f payload command) a command (executed-succeeds f payload command due.1) due.0 t)
 
 -- a command that resets gives no data
@@ -223,67 +223,67 @@ reset-no-data f (WriteQueued lba count) is = absurd cc
 reset-no-data f (ReadDma lba count) is = absurd cc
 reset-no-data f (WriteDma lba count) is = absurd cc
 
-pub restarts-done : (f : Facts) (h : RegH2d) (e : State) (o : Origin) (past : List Event) (payload : List ℕ) (command : Command) (made : Decision) (a : Accepted)
+pub restarts-done : (f : Facts) (h : RegH2d) (e : DriveState) (o : Origin) (past : List Event) (payload : List ℕ) (command : Command) (made : Decision) (a : Accepted)
     → made ≡ Restarts command → (reading h ≡ Ok (command, None)) × (is_programmatic_reset command ≡ true)
     → IsTold a ready 0 false (served_fises command) [] None
-    → Keeps e o (did (WasReset programmatic) ∷ past) → IsDone f h (event_of f payload made) e o past a
+    → KeepsDrive e o (did (WasReset programmatic) ∷ past) → IsDoneAndAnswered f h (decision_event f payload made) e o past a
 restarts-done f h e o past payload command made a is due t k =
     let told : IsTold a ready 0 false (served_fises command) (data_of f command) None =
     record { status_is = t.status_is; error_is = t.error_is; held_is = t.held_is; fises_are = t.fises_are; bytes_are = t.bytes_are ∙ reset-no-data f command due.1; denied_is = t.denied_is } in
-    subst (λ (x : Decision). IsDone f h (event_of f payload x) e o past a) (sym is)
+    subst (λ (x : Decision). IsDoneAndAnswered f h (decision_event f payload x) e o past a) (sym is)
     (k, served-answer f h (did (WasReset programmatic)) a command (refl, refl) due.0 told)
 
 -- the data of an unqueued transfer
-moved-data : (d : State) (f : Facts) (op : Op) (lba count : ℕ) (shadowed : Bool)
+moved-data : (d : DriveState) (f : Facts) (op : Op) (lba count : ℕ) (shadowed : Bool)
     → verdict_of (ranges_of d.tper) op lba count ≡ (if shadowed then Shadow else Serve)
-    → bytes_of (seen d f) (record { transfer = transfer_by op lba count; is_shadowed = shadowed }) ≡ data_of (seen d f) (unqueued_command (transfer_by op lba count))
-moved-data d f Read lba count shadowed v = sym (ap (read_by (seen d f) lba count) v)
+    → held_bytes (kept_facts d f) (record { transfer = transfer_by op lba count; is_shadowed = shadowed }) ≡ data_of (kept_facts d f) (unqueued_command (transfer_by op lba count))
+moved-data d f Read lba count shadowed v = sym (ap (read_by (kept_facts d f) lba count) v)
 moved-data d f Write lba count shadowed v = refl
 
 moved-fises : (op : Op) (lba count : ℕ) → served_fises (unqueued_command (transfer_by op lba count)) ≡ answer_fis true ready 0 ∷ []
 moved-fises Read lba count = refl
 moved-fises Write lba count = refl
 
-moves-succeeds : (op : Op) (lba count : ℕ) (payload : List ℕ) → Succeeds (did (moves (transfer_by op lba count) payload))
+moves-succeeds : (op : Op) (lba count : ℕ) (payload : List ℕ) → Succeeds (did (transfer_deed (transfer_by op lba count) payload))
 moves-succeeds Read lba count payload = (refl, refl)
 moves-succeeds Write lba count payload = (refl, refl)
 
-pub moves-done : (h : RegH2d) (d e : State) (o : Origin) (past : List Event) (payload : List ℕ) (its : Held) (made : Decision) (a : Accepted)
+pub moves-done : (h : RegH2d) (d e : DriveState) (o : Origin) (past : List Event) (payload : List ℕ) (its : Held) (made : Decision) (a : Accepted)
     → made ≡ Moves its → IsMoved d h its → e.tper ≡ d.tper → e.queue ≡ d.queue
     → ((s : ℕ) → sector_at e.media s ≡ sector_then its.transfer payload (sector_at d.media s) s)
-    → IsTold a ready 0 false (answer_fis true ready 0 ∷ []) (bytes_of (seen d (facts o past)) its) None
-    → Keeps d o past → IsDone (facts o past) h (event_of (facts o past) payload made) e o past a
+    → IsTold a ready 0 false (answer_fis true ready 0 ∷ []) (held_bytes (kept_facts d (facts o past)) its) None
+    → KeepsDrive d o past → IsDoneAndAnswered (facts o past) h (decision_event (facts o past) payload made) e o past a
 moves-done h d e o past payload its made a is due tper queue media t k =
     let op : Op = its.transfer.op in
     let lba : ℕ = its.transfer.lba in
     let count : ℕ = its.transfer.count in
-    let same : bytes_of (seen d (facts o past)) its ≡ data_of (facts o past) (unqueued_command its.transfer) =
+    let same : held_bytes (kept_facts d (facts o past)) its ≡ data_of (facts o past) (unqueued_command its.transfer) =
     moved-data d (facts o past) op lba count its.is_shadowed due.verdict ∙ ap (λ (f : Facts). data_of f (unqueued_command its.transfer)) (seen-is d o past k) in
     let told : IsTold a ready 0 false (served_fises (unqueued_command its.transfer)) (data_of (facts o past) (unqueued_command its.transfer)) None =
     record { status_is = t.status_is; error_is = t.error_is; held_is = t.held_is; fises_are = t.fises_are ∙ sym (moved-fises op lba count); bytes_are = t.bytes_are ∙ same; denied_is = t.denied_is } in
-    subst (λ (x : Decision). IsDone (facts o past) h (event_of (facts o past) payload x) e o past a) (sym is) (
-      moved-keeps d e o past op lba count payload (did (moves its.transfer payload)) refl tper queue media k,
-      served-answer (facts o past) h (did (moves its.transfer payload)) a (unqueued_command its.transfer) (moves-succeeds op lba count payload) due.reads told,
+    subst (λ (x : Decision). IsDoneAndAnswered (facts o past) h (decision_event (facts o past) payload x) e o past a) (sym is) (
+      moved-keeps d e o past op lba count payload (did (transfer_deed its.transfer payload)) refl tper queue media k,
+      served-answer (facts o past) h (did (transfer_deed its.transfer payload)) a (unqueued_command its.transfer) (moves-succeeds op lba count payload) due.reads told,
     )
 
 -- what was decided by what is kept is what the past says
-pub event-is : (d : State) (o : Origin) (past : List Event) (fis payload : List ℕ) (h : RegH2d) (made : Decision)
+pub event-is : (d : DriveState) (o : Origin) (past : List Event) (fis payload : List ℕ) (h : RegH2d) (made : Decision)
     → slice_index fis 0 ≡ h2d_type → h ≡ h2d_at fis
-    → ((f : Facts) (p : List ℕ) → event_of (seen d f) p made ≡ commanded (seen d f) h p) → Keeps d o past
-    → event_of (facts o past) payload made ≡ accepted (facts o past) fis payload
+    → ((f : Facts) (p : List ℕ) → decision_event (kept_facts d f) p made ≡ commanded (kept_facts d f) h p) → KeepsDrive d o past
+    → decision_event (facts o past) payload made ≡ accepted (facts o past) fis payload
 event-is d o past fis payload h made kind is decided k =
-    subst (λ (f : Facts). event_of f payload made ≡ commanded f h payload) (seen-is d o past k) (decided (facts o past) payload)
+    subst (λ (f : Facts). decision_event f payload made ≡ commanded f h payload) (seen-is d o past k) (decided (facts o past) payload)
     ∙ accepted-command (facts o past) fis payload h kind is
 
 -- another FIS than a command's
-pub other-done : (d : State) (o : Origin) (past : List Event) (fis payload : List ℕ) (a : Accepted) → (slice_index fis 0 == h2d_type) ≡ false
-    → IsTold a failed aborted false (answer_fis true failed aborted ∷ []) [] None
-    → Keeps d o past → IsDone (facts o past) (h2d_at fis) (accepted (facts o past) fis payload) d o past a
+pub other-done : (d : DriveState) (o : Origin) (past : List Event) (fis payload : List ℕ) (a : Accepted) → (slice_index fis 0 == h2d_type) ≡ false
+    → IsTold a errored aborted false (answer_fis true errored aborted ∷ []) [] None
+    → KeepsDrive d o past → IsDoneAndAnswered (facts o past) (h2d_at fis) (accepted (facts o past) fis payload) d o past a
 other-done d o past fis payload a other t k =
-    subst (λ (ev : Event). IsDone (facts o past) (h2d_at fis) ev d o past a) (accepted-other (facts o past) fis payload other)
+    subst (λ (ev : Event). IsDoneAndAnswered (facts o past) (h2d_at fis) ev d o past a) (accepted-other (facts o past) fis payload other)
     (aborts-done (facts o past) (h2d_at fis) d o past payload aborted None (Aborts aborted None) a refl t k)
 
 -- the newest act comes first, or last
-pub in-order : (d e : State) (o : Origin) (acts : List Act) (act : Act) → (Agrees d o (reverse acts) → Agrees e o (act ∷ reverse acts))
+pub in-order : (d e : DriveState) (o : Origin) (acts : List Act) (act : Act) → (Agrees d o (reverse acts) → Agrees e o (act ∷ reverse acts))
     → AgreesInOrder d o acts → AgreesInOrder e o (acts ++ act ∷ [])
 in-order d e o acts act h k = subst (λ (x : List Act). Agrees e o x) (sym (reverse-append acts (act ∷ []))) (h k)

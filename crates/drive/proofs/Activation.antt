@@ -6,14 +6,14 @@ use Rattle.sp_cells.specs.Names.{locking_sp, admin_pin_uid}
 use Rattle.sp_cells.specs.declared.names.Sp.TheVariants.{Admin, Locking}
 use Rattle.sp_rows.specs.Factory.{admin_sps, admin_authorities, locking_authorities, admin_pins, locking_pins, admin_aces}
 use Rattle.sp_tables.specs.Contents.{factory_contents}
-use Rattle.sp_tables.specs.Faults.{fault_of}
+use Rattle.sp_tables.specs.Faults.{set_fault}
 use Rattle.history.specs.Opening.{life_cycle, pin, manufactured_contents, ActivationLaw}
 
-pub life_cycle_fits : (config : Config) → fault_of (factory_contents config) Admin locking_sp life_cycle ≡ None
+pub life_cycle_fits : (config : Config) → set_fault (factory_contents config) Admin locking_sp life_cycle ≡ None
 unfolding admin_sps
 life_cycle_fits config = refl
 
-pub pin_fits : (config : Config) → length config.msid ≤ 32 → fault_of (manufactured_contents config) Locking (admin_pin_uid 1) (pin config.msid) ≡ None
+pub pin_fits : (config : Config) → length config.msid ≤ 32 → set_fault (manufactured_contents config) Locking (admin_pin_uid 1) (pin config.msid) ≡ None
 unfolding admin_sps admin_authorities locking_authorities admin_pins locking_pins admin_aces
 pin_fits config short = rw (le-leb (length config.msid) 32 short) refl
 

@@ -16,8 +16,8 @@ use Rattle.drive.specs.declared.transfer.Held.{Held}
 use Rattle.drive.specs.declared.transfer.Transfer.{Transfer}
 use Rattle.drive.specs.Transfer.{transfer_by, queued_command, held_command}
 use Rattle.drive.specs.Queue.{slot_at, held_at}
-use Rattle.drive.specs.Decision.{moves}
-use Rattle.drive.specs.State.{State, seen}
+use Rattle.drive.specs.Decision.{transfer_deed}
+use Rattle.drive.specs.State.{DriveState, kept_facts}
 
 -- what is in a slot is held
 pub held-some : (x : Option Held) → is_some (option_map held_command x) ≡ is_some x
@@ -35,11 +35,11 @@ admits-write f h tag lba count c t x is made free = rw (is, made, held-some x, f
 
 -- a transfer that is not queued
 pub unqueued-read : (f : Facts) (payload : List ℕ) (lba count : ℕ) (c : Command) (t : Transfer) → c ≡ ReadDma lba count → t ≡ transfer_by Read lba count
-    → unqueued_transfer f (moves t payload) t.op t.lba t.count ≡ unqueued f payload c
+    → unqueued_transfer f (transfer_deed t payload) t.op t.lba t.count ≡ unqueued f payload c
 unqueued-read f payload lba count c t is made = rw (is, made) refl
 
 pub unqueued-write : (f : Facts) (payload : List ℕ) (lba count : ℕ) (c : Command) (t : Transfer) → c ≡ WriteDma lba count → t ≡ transfer_by Write lba count
-    → unqueued_transfer f (moves t payload) t.op t.lba t.count ≡ unqueued f payload c
+    → unqueued_transfer f (transfer_deed t payload) t.op t.lba t.count ≡ unqueued f payload c
 unqueued-write f payload lba count c t is made = rw (is, made) refl
 
 -- the order of the rules

@@ -13,18 +13,18 @@ use Rattle.history.specs.History.{Act, Complete, log}
 use Rattle.drive.specs.declared.answer.Completed.{Completed}
 use Rattle.drive.specs.declared.error.DriveError.{DriveError}
 use Rattle.drive.specs.declared.transfer.Held.{Held}
-use Rattle.drive.specs.Transfer.{transfer_by, held_command, verdict_held, bytes_of}
+use Rattle.drive.specs.Transfer.{transfer_by, held_command, verdict_held, held_bytes}
 use Rattle.drive.specs.Queue.{slot_at}
-use Rattle.drive.specs.State.{State, seen, Keeps, Agrees, AgreesInOrder}
+use Rattle.drive.specs.State.{DriveState, kept_facts, KeepsDrive, Agrees, AgreesInOrder}
 use Rattle.drive.specs.Answers.{IsCompletion, Finishes, IsFinished}
 use Rattle.drive.proofs.Keeping.{seen-is, completed-keeps}
 use Rattle.drive.proofs.Restarts.{in-order}
 
 -- what is in a slot is what the past says of its tag
-slot-held : (d : State) (o : Origin) (past : List Event) (tag : ℕ) (x : Option Held) → slot_at d.queue.slots tag ≡ x → Keeps d o past → held_in past tag ≡ option_map held_command x
+slot-held : (d : DriveState) (o : Origin) (past : List Event) (tag : ℕ) (x : Option Held) → slot_at d.queue.slots tag ≡ x → KeepsDrive d o past → held_in past tag ≡ option_map held_command x
 slot-held d o past tag x is k = sym (k.held tag) ∙ ap (option_map held_command) is
 
-finished-keeps : (old new : State) (done : Completed) (o : Origin) (acts : List Act) (tag : ℕ) (payload : List ℕ) (x : Option Held) → tag < 32 → slot_at old.queue.slots tag ≡ x
+finished-keeps : (old new : DriveState) (done : Completed) (o : Origin) (acts : List Act) (tag : ℕ) (payload : List ℕ) (x : Option Held) → tag < 32 → slot_at old.queue.slots tag ≡ x
     → IsFinished tag payload x old new done → Agrees old o acts → Agrees new o (Complete tag payload ∷ acts)
 finished-keeps old new done o acts tag payload None small is f k = absurd f
 finished-keeps old new done o acts tag payload (Some its) small is f k =
@@ -33,11 +33,11 @@ finished-keeps old new done o acts tag payload (Some its) small is f k =
 
 -- the bytes of what is held
 data-by : (f : Facts) (op : Op) (lba count : ℕ) (shadowed : Bool)
-    → bytes_of f (record { transfer = transfer_by op lba count; is_shadowed = shadowed }) ≡ completed_data f (Some (held_command (record { transfer = transfer_by op lba count; is_shadowed = shadowed })))
+    → held_bytes f (record { transfer = transfer_by op lba count; is_shadowed = shadowed }) ≡ completed_data f (Some (held_command (record { transfer = transfer_by op lba count; is_shadowed = shadowed })))
 data-by f Read lba count shadowed = refl
 data-by f Write lba count shadowed = refl
 
-finished-answers : (old new : State) (done : Completed) (o : Origin) (acts : List Act) (tag : ℕ) (payload : List ℕ) (x : Option Held) → slot_at old.queue.slots tag ≡ x
+finished-answers : (old new : DriveState) (done : Completed) (o : Origin) (acts : List Act) (tag : ℕ) (payload : List ℕ) (x : Option Held) → slot_at old.queue.slots tag ≡ x
     → IsFinished tag payload x old new done → Agrees old o acts → IsCompletion (facts o (log o acts)) tag (held_in (log o acts) tag) done
 finished-answers old new done o acts tag payload None is f k = absurd f
 finished-answers old new done o acts tag payload (Some its) is f k =
@@ -45,25 +45,25 @@ finished-answers old new done o acts tag payload (Some its) is f k =
     let same : held_in past tag ≡ Some (held_command its) = slot-held old o past tag (Some its) is k in
     record {
       fises = f.fises ∙ ap (completed_fises tag) (sym same);
-      bytes = f.bytes (facts o past) ∙ ap (λ (g : Facts). bytes_of g its) (seen-is old o past k)
+      bytes = f.bytes (facts o past) ∙ ap (λ (g : Facts). held_bytes g its) (seen-is old o past k)
           ∙ data-by (facts o past) its.transfer.op its.transfer.lba its.transfer.count its.is_shadowed
           ∙ ap (completed_data (facts o past)) (sym same);
     }
 
 -- of a completion that may be refused
 
-pub completes : (r : Result Completed DriveError) (old new : State) (tag : ℕ) (payload : List ℕ) → tag < 32 → IfOk r (λ done. IsFinished tag payload (slot_at old.queue.slots tag) old new done)
+pub completes : (r : Result Completed DriveError) (old new : DriveState) (tag : ℕ) (payload : List ℕ) → tag < 32 → IfOk r (λ done. IsFinished tag payload (slot_at old.queue.slots tag) old new done)
     → OnOk r ((o : Origin) (acts : List Act) → Agrees old o acts → Agrees new o (Complete tag payload ∷ acts))
 completes (Ok done) old new tag payload small f = λ o acts k. finished-keeps old new done o acts tag payload (slot_at old.queue.slots tag) small refl f k
 completes (Err e) old new tag payload small f = tt
 
-pub completes-in-order : (r : Result Completed DriveError) (old new : State) (tag : ℕ) (payload : List ℕ) → tag < 32 → IfOk r (λ done. IsFinished tag payload (slot_at old.queue.slots tag) old new done)
+pub completes-in-order : (r : Result Completed DriveError) (old new : DriveState) (tag : ℕ) (payload : List ℕ) → tag < 32 → IfOk r (λ done. IsFinished tag payload (slot_at old.queue.slots tag) old new done)
     → OnOk r ((o : Origin) (acts : List Act) → AgreesInOrder old o acts → AgreesInOrder new o (acts ++ Complete tag payload ∷ []))
 completes-in-order (Ok done) old new tag payload small f = λ o acts k.
     in-order new o acts (Complete tag payload) (finished-keeps old new done o (reverse acts) tag payload (slot_at old.queue.slots tag) small refl f k)
 completes-in-order (Err e) old new tag payload small f = tt
 
-pub complete-answers : (r : Result Completed DriveError) (old new : State) (tag : ℕ) (payload : List ℕ) → IfOk r (λ done. IsFinished tag payload (slot_at old.queue.slots tag) old new done)
+pub complete-answers : (r : Result Completed DriveError) (old new : DriveState) (tag : ℕ) (payload : List ℕ) → IfOk r (λ done. IsFinished tag payload (slot_at old.queue.slots tag) old new done)
     → IfOk r (λ done. (o : Origin) (acts : List Act) → Agrees old o acts → IsCompletion (facts o (log o acts)) tag (held_in (log o acts) tag) done)
 complete-answers (Ok done) old new tag payload f = λ o acts k. finished-answers old new done o acts tag payload (slot_at old.queue.slots tag) refl f k
 complete-answers (Err e) old new tag payload f = tt

@@ -22,21 +22,21 @@ use Rattle.history.specs.Readers.{holding, held, failing, failure, writing, sect
 use Rattle.history.specs.Facts.{Facts, facts, session_named}
 use Rattle.history.specs.KeptStore.{ReadsStore}
 use Rattle.history.proofs.KeptStoreReads.{store_read_law}
-use Rattle.tper.specs.Tper.{Tper, Keeps as KeepsTper, response_at, wipes}
+use Rattle.tper.specs.Tper.{Tper, Keeps as KeepsTper, response_at, deed_wipes}
 use Rattle.tper.proofs.KeptBeside.{spares, kept_beside}
 use Rattle.drive.specs.declared.queue.Queue.{Queue}
 use Rattle.drive.specs.declared.transfer.Held.{Held}
 use Rattle.drive.specs.declared.transfer.Transfer.{Transfer}
 use Rattle.drive.specs.Transfer.{transfer_by, queued_command, held_command, sector_then}
-use Rattle.drive.specs.Decision.{moves}
+use Rattle.drive.specs.Decision.{transfer_deed}
 use Rattle.drive.specs.Queue.{slot_at, held_at, with_slot, failed_queue, mended_queue, empty_queue}
-use Rattle.drive.specs.State.{State, seen, Keeps}
+use Rattle.drive.specs.State.{DriveState, kept_facts, KeepsDrive}
 use Rattle.drive.proofs.Slots.{no_slot, none_length, slot_set}
 
 -- what is kept shows the facts of the past
-pub seen-is : (d : State) (o : Origin) (past : List Event) → Keeps d o past → seen d (facts o past) ≡ facts o past
+pub seen-is : (d : DriveState) (o : Origin) (past : List Event) → KeepsDrive d o past → kept_facts d (facts o past) ≡ facts o past
 seen-is d o past k =
-    ap (λ x. record (seen d g) { sectors = x.sectors; mbr_sectors = x.mbr_sectors }) k.tper.store.config
+    ap (λ x. record (kept_facts d g) { sectors = x.sectors; mbr_sectors = x.mbr_sectors }) k.tper.store.config
     ∙ ap (λ x. record g { rows = x; byte = slice_index d.tper.store.locking.bytes; held = held_at d.queue; failure = d.queue.failure; waiting = response_at d.tper.waiting; sector = sector_at d.media }) reads.rows
     ∙ ap (λ x. record g { byte = x; held = held_at d.queue; failure = d.queue.failure; waiting = response_at d.tper.waiting; sector = sector_at d.media }) reads.bytes
     ∙ ap (λ x. record g { held = x; failure = d.queue.failure; waiting = response_at d.tper.waiting; sector = sector_at d.media }) (fun_ext k.held)
@@ -56,11 +56,11 @@ later None y z = refl
 later (Some w) y z = refl
 
 -- what an event makes of queue and media, beside the TPer's part
-pub keeps-more : (d e : State) (o : Origin) (past : List Event) (ev : Event) → KeepsTper e.tper o (ev ∷ past) → length e.queue.slots ≡ 32
+pub keeps-more : (d e : DriveState) (o : Origin) (past : List Event) (ev : Event) → KeepsTper e.tper o (ev ∷ past) → length e.queue.slots ≡ 32
     → ((tag : ℕ) → held_at e.queue tag ≡ unwrap_or (holding tag ev.deed) (held_at d.queue tag))
     → e.queue.failure ≡ unwrap_or (failing ev.deed) d.queue.failure
     → ((s : ℕ) → sector_at e.media s ≡ unwrap_or (writing s ev.deed) (sector_at d.media s))
-    → Keeps d o past → Keeps e o (ev ∷ past)
+    → KeepsDrive d o past → KeepsDrive e o (ev ∷ past)
 keeps-more d e o past ev tper len hold fail move k = record {
   tper = tper;
   slots = len;
@@ -70,11 +70,11 @@ keeps-more d e o past ev tper len hold fail move k = record {
 }
 
 -- a state with the same TPer, beside a deed that spares it
-spared : (d e : State) (o : Origin) (past : List Event) (ev : Event) → e.tper ≡ d.tper → spares ev.deed ≡ true → Keeps d o past → KeepsTper e.tper o (ev ∷ past)
+spared : (d e : DriveState) (o : Origin) (past : List Event) (ev : Event) → e.tper ≡ d.tper → spares ev.deed ≡ true → KeepsDrive d o past → KeepsTper e.tper o (ev ∷ past)
 spared d e o past ev same h k = subst (λ (t : Tper). KeepsTper t o (ev ∷ past)) (sym same) (kept_beside d.tper o past ev h k.tper)
 
 -- nothing is done
-pub nothing-keeps : (d : State) (o : Origin) (past : List Event) (ev : Event) → ev.deed ≡ Nothing → Keeps d o past → Keeps d o (ev ∷ past)
+pub nothing-keeps : (d : DriveState) (o : Origin) (past : List Event) (ev : Event) → ev.deed ≡ Nothing → KeepsDrive d o past → KeepsDrive d o (ev ∷ past)
 nothing-keeps d o past ev h k =
     keeps-more d d o past ev (spared d d o past ev refl (ap spares h) k) k.slots
     (λ tag. sym (ap (λ (x : Deed). unwrap_or (holding tag x) (held_at d.queue tag)) h))
@@ -82,9 +82,9 @@ nothing-keeps d o past ev h k =
     (λ s. sym (ap (λ (x : Deed). unwrap_or (writing s x) (sector_at d.media s)) h)) k
 
 -- the queue fails
-pub failed-keeps : (d e : State) (o : Origin) (past : List Event) (fault : Failure) (ev : Event) → ev.deed ≡ OfQueue (QueueFailed fault)
-    → e ≡ record d { queue = failed_queue fault } → Keeps d o past → Keeps e o (ev ∷ past)
-failed-keeps d e o past fault ev h is k = subst (λ (x : State). Keeps x o (ev ∷ past)) (sym is) (
+pub failed-keeps : (d e : DriveState) (o : Origin) (past : List Event) (fault : Failure) (ev : Event) → ev.deed ≡ OfQueue (QueueFailed fault)
+    → e ≡ record d { queue = failed_queue fault } → KeepsDrive d o past → KeepsDrive e o (ev ∷ past)
+failed-keeps d e o past fault ev h is k = subst (λ (x : DriveState). KeepsDrive x o (ev ∷ past)) (sym is) (
     keeps-more d (record d { queue = failed_queue fault }) o past ev (spared d d o past ev refl (ap spares h) k) none_length
     (λ tag. ap (option_map held_command) (no_slot tag) ∙ sym (ap (λ (x : Deed). unwrap_or (holding tag x) (held_at d.queue tag)) h))
     (sym (ap (λ (x : Deed). unwrap_or (failing x) d.queue.failure) h))
@@ -96,9 +96,9 @@ set-here true x y = refl
 set-here false x y = refl
 
 -- a transfer is held
-pub holds-keeps : (d e : State) (o : Origin) (past : List Event) (tag : ℕ) (its : Held) (ev : Event) → tag < 32 → ev.deed ≡ OfQueue (HeldDeed tag (held_command its))
-    → e ≡ record d { queue = with_slot tag (Some its) d.queue } → Keeps d o past → Keeps e o (ev ∷ past)
-holds-keeps d e o past tag its ev small h is k = subst (λ (x : State). Keeps x o (ev ∷ past)) (sym is) (
+pub holds-keeps : (d e : DriveState) (o : Origin) (past : List Event) (tag : ℕ) (its : Held) (ev : Event) → tag < 32 → ev.deed ≡ OfQueue (HeldDeed tag (held_command its))
+    → e ≡ record d { queue = with_slot tag (Some its) d.queue } → KeepsDrive d o past → KeepsDrive e o (ev ∷ past)
+holds-keeps d e o past tag its ev small h is k = subst (λ (x : DriveState). KeepsDrive x o (ev ∷ past)) (sym is) (
     keeps-more d (record d { queue = with_slot tag (Some its) d.queue }) o past ev (spared d d o past ev refl (ap spares h) k)
     (length-set d.queue.slots tag (Some its) ∙ k.slots)
     (λ t. ap (option_map held_command) (slot_set d.queue.slots tag t (Some its) (omega (arith, small, k.slots)))
@@ -113,10 +113,10 @@ written-here true x y = refl
 written-here false x y = refl
 
 -- an unqueued transfer
-pub moved-keeps : (d e : State) (o : Origin) (past : List Event) (op : Op) (lba count : ℕ) (payload : List ℕ) (ev : Event)
-    → ev.deed ≡ moves (transfer_by op lba count) payload → e.tper ≡ d.tper → e.queue ≡ d.queue
+pub moved-keeps : (d e : DriveState) (o : Origin) (past : List Event) (op : Op) (lba count : ℕ) (payload : List ℕ) (ev : Event)
+    → ev.deed ≡ transfer_deed (transfer_by op lba count) payload → e.tper ≡ d.tper → e.queue ≡ d.queue
     → ((s : ℕ) → sector_at e.media s ≡ sector_then (transfer_by op lba count) payload (sector_at d.media s) s)
-    → Keeps d o past → Keeps e o (ev ∷ past)
+    → KeepsDrive d o past → KeepsDrive e o (ev ∷ past)
 moved-keeps d e o past Read lba count payload ev h tper queue media k =
     keeps-more d e o past ev (spared d e o past ev tper (ap spares h) k)
     (ap (λ (q : Queue). length q.slots) queue ∙ k.slots)
@@ -133,11 +133,11 @@ moved-keeps d e o past Write lba count payload ev h tper queue media k =
     ∙ sym (ap (λ (x : Deed). unwrap_or (writing s x) (sector_at d.media s)) h)) k
 
 -- a completion
-pub completed-keeps : (d e : State) (o : Origin) (past : List Event) (tag : ℕ) (op : Op) (lba count : ℕ) (payload : List ℕ) (v : Verdict) (ev : Event)
+pub completed-keeps : (d e : DriveState) (o : Origin) (past : List Event) (tag : ℕ) (op : Op) (lba count : ℕ) (payload : List ℕ) (v : Verdict) (ev : Event)
     → tag < 32 → ev ≡ completed tag payload (Some (record { command = queued_command (transfer_by op lba count); verdict = v }))
     → e.tper ≡ d.tper → e.queue ≡ with_slot tag None d.queue
     → ((s : ℕ) → sector_at e.media s ≡ sector_then (transfer_by op lba count) payload (sector_at d.media s) s)
-    → Keeps d o past → Keeps e o (ev ∷ past)
+    → KeepsDrive d o past → KeepsDrive e o (ev ∷ past)
 completed-keeps d e o past tag Read lba count payload v ev small h tper queue media k =
     keeps-more d e o past ev (spared d e o past ev tper (ap (λ (x : Event). spares x.deed) h) k)
     (ap (λ (q : Queue). length q.slots) queue ∙ length-set d.queue.slots tag None ∙ k.slots)
@@ -165,9 +165,9 @@ completed-keeps d e o past tag Write lba count payload v ev small h tper queue m
 abbrev pub IsOfTper : Deed → Type 0
 IsOfTper d = ((tag : ℕ) → holding tag d ≡ None) × (failing d ≡ None)
 
-pub tper-keeps : (d e : State) (o : Origin) (past : List Event) (ev : Event) → IsOfTper ev.deed → KeepsTper e.tper o (ev ∷ past) → e.queue ≡ d.queue
+pub tper-keeps : (d e : DriveState) (o : Origin) (past : List Event) (ev : Event) → IsOfTper ev.deed → KeepsTper e.tper o (ev ∷ past) → e.queue ≡ d.queue
     → ((s : ℕ) → sector_at e.media s ≡ unwrap_or (writing s ev.deed) (sector_at d.media s))
-    → Keeps d o past → Keeps e o (ev ∷ past)
+    → KeepsDrive d o past → KeepsDrive e o (ev ∷ past)
 tper-keeps d e o past ev its tper queue media k =
     keeps-more d e o past ev tper
     (ap (λ (q : Queue). length q.slots) queue ∙ k.slots)
@@ -203,7 +203,7 @@ sends-of-tper (Wrote lba bytes) h = absurd h
 sends-of-tper (Took com_id) h = absurd h
 sends-of-tper (WasReset kind) h = absurd h
 
-pub sends-wipe : (d : Deed) (s : ℕ) (before : List ℕ) → IsSendDeed d → (if wipes d then zeros else before) ≡ unwrap_or (writing s d) before
+pub sends-wipe : (d : Deed) (s : ℕ) (before : List ℕ) → IsSendDeed d → (if deed_wipes d then zeros else before) ≡ unwrap_or (writing s d) before
 sends-wipe Nothing s before h = refl
 sends-wipe (InSession deed response) s before h = wipe-here (wipes_by deed) s deed before refl
 sends-wipe (OfQueue deed) s before h = absurd h
@@ -229,8 +229,8 @@ sent-deed f com_id (Err e) = tt
 sent-deed f com_id (Ok frame) = frame-deed f com_id frame (frame.com_id == com_id)
 
 -- log page 10h is read, which ends a failure
-mended-by : (d : State) (o : Origin) (past : List Event) (x : Option Failure) → failure past ≡ x
-    → Keeps d o past → Keeps (record d { queue = mended_queue d.queue }) o (did (if is_some x then OfQueue QueueMended else Nothing) ∷ past)
+mended-by : (d : DriveState) (o : Origin) (past : List Event) (x : Option Failure) → failure past ≡ x
+    → KeepsDrive d o past → KeepsDrive (record d { queue = mended_queue d.queue }) o (did (if is_some x then OfQueue QueueMended else Nothing) ∷ past)
 mended-by d o past None none k =
     keeps-more d (record d { queue = mended_queue d.queue }) o past (did Nothing) (spared d d o past (did Nothing) refl refl k) k.slots
     (λ tag. refl) (sym (k.failure ∙ none)) (λ s. refl) k
@@ -238,7 +238,7 @@ mended-by d o past (Some fault) some k =
     keeps-more d (record d { queue = mended_queue d.queue }) o past (did (OfQueue QueueMended)) (spared d d o past (did (OfQueue QueueMended)) refl refl k) k.slots
     (λ tag. refl) refl (λ s. refl) k
 
-pub mended-keeps : (d e : State) (o : Origin) (past : List Event) → e ≡ record d { queue = mended_queue d.queue }
-    → Keeps d o past → Keeps e o (did (if is_some (failure past) then OfQueue QueueMended else Nothing) ∷ past)
+pub mended-keeps : (d e : DriveState) (o : Origin) (past : List Event) → e ≡ record d { queue = mended_queue d.queue }
+    → KeepsDrive d o past → KeepsDrive e o (did (if is_some (failure past) then OfQueue QueueMended else Nothing) ∷ past)
 mended-keeps d e o past is k =
-    subst (λ (x : State). Keeps x o (did (if is_some (failure past) then OfQueue QueueMended else Nothing) ∷ past)) (sym is) (mended-by d o past (failure past) refl k)
+    subst (λ (x : DriveState). KeepsDrive x o (did (if is_some (failure past) then OfQueue QueueMended else Nothing) ∷ past)) (sym is) (mended-by d o past (failure past) refl k)

@@ -18,8 +18,8 @@ use Rattle.history.specs.Decisions.{aborted, not_found, fails, fails_queue, hold
 use Rattle.drive.specs.declared.decision.Refusal.{Refusal}
 use Rattle.drive.specs.declared.transfer.Transfer.{Transfer}
 use Rattle.drive.specs.Decision.{ranges_of, Refused, told, by_verdict, policy, policy_on}
-use Rattle.drive.specs.Transfer.{fits, Fits}
-use Rattle.drive.specs.State.{State, seen}
+use Rattle.drive.specs.Transfer.{is_on_drive, StandsOnDrive}
+use Rattle.drive.specs.State.{DriveState, kept_facts}
 
 -- a verdict that permits
 abbrev permitting : Bool → Verdict
@@ -47,13 +47,13 @@ queued-err : (b : Bool) (h : RegH2d) (tag : ℕ) (c : Command) (v : Verdict) (r 
 queued-err true h tag c v r e = queued-by-err h tag c v r e
 queued-err false h tag c v r e = let same : (record { error = not_found; denied = None }) ≡ r = cc in ap (λ (x : Refused). fails_queue (Some tag) x.error h x.denied) same
 
-pub queued_held : (d : State) (f : Facts) (h : RegH2d) (tag : ℕ) (c : Command) (t : Transfer) (s : Bool) → policy_on d t ≡ Ok s
-    → queued_transfer (seen d f) h tag c t.op t.lba t.count ≡ holds tag c (permitting s)
-queued_held d f h tag c t s e = queued-ok (on_drive (seen d f) t.lba t.count) h tag c (verdict_on (seen d f) t.op t.lba t.count) s e
+pub queued_held : (d : DriveState) (f : Facts) (h : RegH2d) (tag : ℕ) (c : Command) (t : Transfer) (s : Bool) → policy_on d t ≡ Ok s
+    → queued_transfer (kept_facts d f) h tag c t.op t.lba t.count ≡ holds tag c (permitting s)
+queued_held d f h tag c t s e = queued-ok (on_drive (kept_facts d f) t.lba t.count) h tag c (verdict_on (kept_facts d f) t.op t.lba t.count) s e
 
-pub queued_refused : (d : State) (f : Facts) (h : RegH2d) (tag : ℕ) (c : Command) (t : Transfer) (r : Refused) → policy_on d t ≡ Err r
-    → queued_transfer (seen d f) h tag c t.op t.lba t.count ≡ fails_queue (Some tag) r.error h r.denied
-queued_refused d f h tag c t r e = queued-err (on_drive (seen d f) t.lba t.count) h tag c (verdict_on (seen d f) t.op t.lba t.count) r e
+pub queued_refused : (d : DriveState) (f : Facts) (h : RegH2d) (tag : ℕ) (c : Command) (t : Transfer) (r : Refused) → policy_on d t ≡ Err r
+    → queued_transfer (kept_facts d f) h tag c t.op t.lba t.count ≡ fails_queue (Some tag) r.error h r.denied
+queued_refused d f h tag c t r e = queued-err (on_drive (kept_facts d f) t.lba t.count) h tag c (verdict_on (kept_facts d f) t.op t.lba t.count) r e
 
 unqueued-by-ok : (deed : Deed) (v : Verdict) (b : Bool) → by_verdict v ≡ Ok b → unqueued_by deed v ≡ did deed
 unqueued-by-ok deed Serve b e = refl
@@ -77,13 +77,13 @@ unqueued-err : (b : Bool) (deed : Deed) (v : Verdict) (r : Refused)
 unqueued-err true deed v r e = unqueued-by-err deed v r e
 unqueued-err false deed v r e = let same : (record { error = not_found; denied = None }) ≡ r = cc in ap (λ (x : Refused). fails x.error x.denied) same
 
-pub unqueued_moved : (d : State) (f : Facts) (deed : Deed) (t : Transfer) (s : Bool) → policy_on d t ≡ Ok s
-    → unqueued_transfer (seen d f) deed t.op t.lba t.count ≡ did deed
-unqueued_moved d f deed t s e = unqueued-ok (on_drive (seen d f) t.lba t.count) deed (verdict_on (seen d f) t.op t.lba t.count) s e
+pub unqueued_moved : (d : DriveState) (f : Facts) (deed : Deed) (t : Transfer) (s : Bool) → policy_on d t ≡ Ok s
+    → unqueued_transfer (kept_facts d f) deed t.op t.lba t.count ≡ did deed
+unqueued_moved d f deed t s e = unqueued-ok (on_drive (kept_facts d f) t.lba t.count) deed (verdict_on (kept_facts d f) t.op t.lba t.count) s e
 
-pub unqueued_refused : (d : State) (f : Facts) (deed : Deed) (t : Transfer) (r : Refused) → policy_on d t ≡ Err r
-    → unqueued_transfer (seen d f) deed t.op t.lba t.count ≡ fails r.error r.denied
-unqueued_refused d f deed t r e = unqueued-err (on_drive (seen d f) t.lba t.count) deed (verdict_on (seen d f) t.op t.lba t.count) r e
+pub unqueued_refused : (d : DriveState) (f : Facts) (deed : Deed) (t : Transfer) (r : Refused) → policy_on d t ≡ Err r
+    → unqueued_transfer (kept_facts d f) deed t.op t.lba t.count ≡ fails r.error r.denied
+unqueued_refused d f deed t r e = unqueued-err (on_drive (kept_facts d f) t.lba t.count) deed (verdict_on (kept_facts d f) t.op t.lba t.count) r e
 
 permitted-by : (v : Verdict) (s : Bool) → by_verdict v ≡ Ok s → v ≡ permitting s
 permitted-by Serve s e = let same : false ≡ s = cc in ap permitting same
@@ -96,8 +96,8 @@ permitted-if true v s e = permitted-by v s e
 permitted-if false v s e = absurd cc
 
 -- what is permitted has the verdict of its shadow flag
-pub permitted : (d : State) (t : Transfer) (s : Bool) → policy_on d t ≡ Ok s → verdict_of (ranges_of d.tper) t.op t.lba t.count ≡ permitting s
-permitted d t s e = permitted-if (fits d.tper.store.config.sectors t) (verdict_of (ranges_of d.tper) t.op t.lba t.count) s e
+pub permitted : (d : DriveState) (t : Transfer) (s : Bool) → policy_on d t ≡ Ok s → verdict_of (ranges_of d.tper) t.op t.lba t.count ≡ permitting s
+permitted d t s e = permitted-if (is_on_drive d.tper.store.config.sectors t) (verdict_of (ranges_of d.tper) t.op t.lba t.count) s e
 
 -- what reads the shadow lies within it
 
@@ -115,16 +115,16 @@ shadowed-few true size = omega arith
 shadowed-few false size = omega arith
 
 fits-shadow : (sectors mbr : ℕ) (look : LookUp) (t : Transfer) (v : Verdict) (s : Bool) → verdict_of (ranges_in mbr look) t.op t.lba t.count ≡ v
-    → by_verdict v ≡ Ok s → s ≡ true → fits mbr t ≡ true
+    → by_verdict v ≡ Ok s → s ≡ true → is_on_drive mbr t ≡ true
 unfolding ranges_in
 fits-shadow sectors mbr look t Serve s e r is = let no : false ≡ true = cc in absurd cc
 fits-shadow sectors mbr look t Shadow s e r is =
     le-leb (t.lba + t.count) mbr (shadow-within (ranges_in mbr look) t.op t.lba t.count mbr (shadowed-few (is_shadow_up look) mbr) e)
 fits-shadow sectors mbr look t (Denied why) s e r is = absurd cc
 
-policy-by : (b : Bool) (sectors mbr : ℕ) (look : LookUp) (t : Transfer) (r : Result Bool Refused) → fits sectors t ≡ b
+policy-by : (b : Bool) (sectors mbr : ℕ) (look : LookUp) (t : Transfer) (r : Result Bool Refused) → is_on_drive sectors t ≡ b
     → r ≡ (if b then by_verdict (verdict_of (ranges_in mbr look) t.op t.lba t.count) else Err (record { error = not_found; denied = None }))
-    → IfOk r (λ s. Fits sectors mbr (record { transfer = t; is_shadowed = s }))
+    → IfOk r (λ s. StandsOnDrive sectors mbr (record { transfer = t; is_shadowed = s }))
 policy-by true sectors mbr look t (Ok s) e h =
     record { on_drive = e; in_shadow = λ is. fits-shadow sectors mbr look t (verdict_of (ranges_in mbr look) t.op t.lba t.count) s refl (sym h) is }
 policy-by true sectors mbr look t (Err x) e h = tt
@@ -132,10 +132,10 @@ policy-by false sectors mbr look t (Ok s) e h = absurd cc
 policy-by false sectors mbr look t (Err x) e h = tt
 
 policy-fits : (sectors mbr : ℕ) (look : LookUp) (t : Transfer) (r : Result Bool Refused) → r ≡ policy sectors (ranges_in mbr look) t
-    → IfOk r (λ s. Fits sectors mbr (record { transfer = t; is_shadowed = s }))
-policy-fits sectors mbr look t r h = policy-by (fits sectors t) sectors mbr look t r refl h
+    → IfOk r (λ s. StandsOnDrive sectors mbr (record { transfer = t; is_shadowed = s }))
+policy-fits sectors mbr look t r h = policy-by (is_on_drive sectors t) sectors mbr look t r refl h
 
 pub told-fits : (sectors mbr : ℕ) (look : LookUp) (t : Transfer) (r : Result Bool Refusal) → told r ≡ policy sectors (ranges_in mbr look) t
-    → IfOk r (λ s. Fits sectors mbr (record { transfer = t; is_shadowed = s }))
+    → IfOk r (λ s. StandsOnDrive sectors mbr (record { transfer = t; is_shadowed = s }))
 told-fits sectors mbr look t (Ok s) h = policy-fits sectors mbr look t (Ok s) h
 told-fits sectors mbr look t (Err x) h = tt

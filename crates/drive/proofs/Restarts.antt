@@ -1,7 +1,7 @@
 -- What a reset leaves, and what a drive starts from.
 use Rattle.std.proofs.Common.{◌≡◌, ℕ, List, [], ◌∷◌, ◌++◌, length, reverse, Option, None, refl, sym, subst, ap, ◌∙◌, option_map}
 use Rattle.std.proofs.lemmas.List.{reverse-append}
-use Rattle.shadow_mbr.specs.Stored.{Stored, sector_at, zeros}
+use Rattle.shadow_mbr.specs.Stored.{StoredSectors, sector_at, zeros}
 use Rattle.history.specs.Opening.{Origin}
 use Rattle.history.specs.Events.{WasReset, Event, did}
 use Rattle.history.specs.History.{Act, log}
@@ -9,7 +9,7 @@ use Rattle.tper.specs.Tper.{Keeps as KeepsTper}
 use Rattle.drive.specs.declared.queue.Queue.{Queue}
 use Rattle.drive.specs.Transfer.{held_command}
 use Rattle.drive.specs.Queue.{held_at, empty_queue}
-use Rattle.drive.specs.State.{State, Keeps, Agrees}
+use Rattle.drive.specs.State.{DriveState, KeepsDrive, Agrees}
 use Rattle.drive.proofs.Slots.{no_slot, none_length}
 use Rattle.drive.proofs.Keeping.{keeps-more}
 
@@ -20,14 +20,14 @@ empty-length : (queue : Queue) → queue ≡ empty_queue → length queue.slots 
 empty-length queue is = ap (λ (q : Queue). length q.slots) is ∙ none_length
 
 -- nothing is held after a reset, and media stay
-pub restart-keeps : (d e : State) (o : Origin) (past : List Event) (kind : ℕ) → KeepsTper e.tper o (did (WasReset kind) ∷ past)
-    → e.queue ≡ empty_queue → e.media ≡ d.media → Keeps d o past → Keeps e o (did (WasReset kind) ∷ past)
+pub restart-keeps : (d e : DriveState) (o : Origin) (past : List Event) (kind : ℕ) → KeepsTper e.tper o (did (WasReset kind) ∷ past)
+    → e.queue ≡ empty_queue → e.media ≡ d.media → KeepsDrive d o past → KeepsDrive e o (did (WasReset kind) ∷ past)
 restart-keeps d e o past kind tper queue media k =
     keeps-more d e o past (did (WasReset kind)) tper (empty-length e.queue queue) (λ tag. empty-held e.queue tag queue)
-    (ap (λ (q : Queue). q.failure) queue) (λ s. ap (λ (m : Stored). sector_at m s) media) k
+    (ap (λ (q : Queue). q.failure) queue) (λ s. ap (λ (m : StoredSectors). sector_at m s) media) k
 
 -- nothing was done
-pub fresh-keeps : (d : State) (o : Origin) → KeepsTper d.tper o [] → d.queue ≡ empty_queue → ((s : ℕ) → sector_at d.media s ≡ zeros) → Keeps d o []
+pub fresh-keeps : (d : DriveState) (o : Origin) → KeepsTper d.tper o [] → d.queue ≡ empty_queue → ((s : ℕ) → sector_at d.media s ≡ zeros) → KeepsDrive d o []
 fresh-keeps d o tper queue media = record {
   tper = tper;
   slots = empty-length d.queue queue;
@@ -37,5 +37,5 @@ fresh-keeps d o tper queue media = record {
 }
 
 -- the newest act is the last of a list in order
-pub in-order : (d : State) (o : Origin) (acts : List Act) (act : Act) → Agrees d o (act ∷ reverse acts) → Agrees d o (reverse (acts ++ act ∷ []))
+pub in-order : (d : DriveState) (o : Origin) (acts : List Act) (act : Act) → Agrees d o (act ∷ reverse acts) → Agrees d o (reverse (acts ++ act ∷ []))
 in-order d o acts act k = subst (λ (past : List Act). Agrees d o past) (sym (reverse-append acts (act ∷ []))) k

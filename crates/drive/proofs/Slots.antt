@@ -5,7 +5,7 @@ use Rattle.std.proofs.lemmas.Grind.{common_steps}
 use Rattle.std.proofs.lemmas.List.{get_or-replicate, get_or_past}
 use Rattle.drive.specs.declared.transfer.Held.{Held}
 use Rattle.drive.specs.declared.queue.Queue.{Queue}
-use Rattle.drive.specs.Transfer.{Fits}
+use Rattle.drive.specs.Transfer.{StandsOnDrive}
 use Rattle.drive.specs.Queue.{slot_at, empty_slots, empty_queue, with_slot, SlotFits, AllFit}
 
 pub no_slot : (t : ℕ) → slot_at empty_slots t ≡ None
@@ -33,7 +33,7 @@ fit_set x tag queue sectors mbr len small its fit = λ t.
     (elim (tag == t) as (λ b. SlotFits sectors mbr (if b then x else slot_at queue.slots t)) [ true ↦ its | false ↦ fit t ])
 
 -- what is held fits with one more, or one less
-pub fit_with : (held : Held) (tag : ℕ) (queue : Queue) (sectors mbr : ℕ) → length queue.slots ≡ 32 → tag < 32 → Fits sectors mbr held → AllFit sectors mbr queue → AllFit sectors mbr (with_slot tag (Some held) queue)
+pub fit_with : (held : Held) (tag : ℕ) (queue : Queue) (sectors mbr : ℕ) → length queue.slots ≡ 32 → tag < 32 → StandsOnDrive sectors mbr held → AllFit sectors mbr queue → AllFit sectors mbr (with_slot tag (Some held) queue)
 fit_with held tag queue sectors mbr len small its fit = fit_set (Some held) tag queue sectors mbr len small its fit
 
 pub fit_without : (tag : ℕ) (queue : Queue) (sectors mbr : ℕ) → length queue.slots ≡ 32 → tag < 32 → AllFit sectors mbr queue → AllFit sectors mbr (with_slot tag None queue)

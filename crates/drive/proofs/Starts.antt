@@ -8,7 +8,7 @@ use Rattle.sp_cells.specs.declared.cells.Cell.{Cell}
 use Rattle.sp_cells.specs.declared.error.SetError.{SetError}
 use Rattle.sp_cells.specs.Names.{range_uid}
 use Rattle.sp_tables.specs.Contents.{Contents, with_row}
-use Rattle.sp_tables.specs.Faults.{fault_of}
+use Rattle.sp_tables.specs.Faults.{set_fault}
 use Rattle.locking.specs.declared.range.RangeRow.{RangeRow}
 use Rattle.history.specs.Opening.{Origin, origin_on, activated_contents, changes_of, row_fault, with_range, unless}
 use Rattle.history.specs.Agreement.{HasNoTries}
@@ -30,12 +30,12 @@ ranged o row i none = record {
 
 -- a row more
 pub range-opens : (tables : Contents) (row : RangeRow) (object : Uid) (changes : List (Column × Cell)) (new : Contents) → object ≡ range_uid row.range → changes ≡ changes_of row
-    → new ≡ with_row Locking object changes tables → fault_of tables Locking object changes ≡ None → IsOpening (origin_on tables) → IsOpening (origin_on new)
+    → new ≡ with_row Locking object changes tables → set_fault tables Locking object changes ≡ None → IsOpening (origin_on tables) → IsOpening (origin_on new)
 range-opens tables row object changes new at is to none i =
     subst (λ (t : Contents). IsOpening (origin_on t))
     (sym (to ∙ ap (λ (u : Uid). with_row Locking u changes tables) at ∙ ap (λ (cs : List (Column × Cell)). with_row Locking (range_uid row.range) cs tables) is))
     (ranged (origin_on tables) row i
-    (ap (λ (cs : List (Column × Cell)). fault_of tables Locking (range_uid row.range) cs) (sym is) ∙ ap (λ (u : Uid). fault_of tables Locking u changes) (sym at) ∙ none))
+    (ap (λ (cs : List (Column × Cell)). set_fault tables Locking (range_uid row.range) cs) (sym is) ∙ ap (λ (u : Uid). set_fault tables Locking u changes) (sym at) ∙ none))
 
 pub opening-no-tries : (o : Origin) → IsOpening o → HasNoTries o
 opening-no-tries o i = opening_law i.config i.rows o i.made

@@ -7,9 +7,9 @@ use Rattle.history.specs.Facts.{Facts}
 use Rattle.history.specs.Answers.{status_of, is_holding, answer_fises, completed_fises, completed_data, fises_of}
 use Rattle.history.specs.Tcg.{answer_data}
 use Rattle.shadow_mbr.specs.Stored.{sector_at}
-use Rattle.drive.specs.Transfer.{queued_command, bytes_of, sector_then}
+use Rattle.drive.specs.Transfer.{queued_command, held_bytes, sector_then}
 use Rattle.drive.specs.Queue.{with_slot}
-use Rattle.drive.specs.State.{State, seen, Keeps}
+use Rattle.drive.specs.State.{DriveState, kept_facts, KeepsDrive}
 use Rattle.drive.specs.declared.transfer.Held.{Held}
 use Rattle.drive.specs.declared.answer.Accepted.{Accepted}
 use Rattle.drive.specs.declared.answer.Completed.{Completed}
@@ -30,20 +30,22 @@ pub record IsCompletion (f : Facts) (tag : ℕ) (held : Option HeldCommand)
   pub bytes : done.bytes.items ≡ completed_data f held
 
 -- The event was done: it is kept, and answered.
-abbrev pub IsDone : Facts → RegH2d → Event → State → Origin → List Event → Accepted → Type 0
-IsDone f h event d o past answer = Keeps d o (event ∷ past) × IsAnswer f h event answer
+abbrev pub IsDoneAndAnswered : Facts → RegH2d → Event → DriveState → Origin → List Event
+    → Accepted → Type 0
+IsDoneAndAnswered f h event d o past answer = KeepsDrive d o (event ∷ past)
+    × IsAnswer f h event answer
 
 -- What a completion of what is in a slot changes and gives: its slot is free, and a write has moved
 -- its bytes.
-pub record Finishes (tag : ℕ) (payload : List ℕ) (held : Held) (old new : State)
+pub record Finishes (tag : ℕ) (payload : List ℕ) (held : Held) (old new : DriveState)
     (done : Completed) : Type 0 where
   pub tper : new.tper ≡ old.tper
   pub queue : new.queue ≡ with_slot tag None old.queue
   pub media : (s : ℕ) → sector_at new.media s
       ≡ sector_then held.transfer payload (sector_at old.media s) s
   pub fises : done.fises.items ≡ fises_of tag (queued_command held.transfer)
-  pub bytes : (f : Facts) → done.bytes.items ≡ bytes_of (seen old f) held
+  pub bytes : (f : Facts) → done.bytes.items ≡ held_bytes (kept_facts old f) held
 
-abbrev pub IsFinished : ℕ → List ℕ → Option Held → State → State → Completed → Type 0
+abbrev pub IsFinished : ℕ → List ℕ → Option Held → DriveState → DriveState → Completed → Type 0
 IsFinished tag payload None old new done = ⊥
 IsFinished tag payload (Some held) old new done = Finishes tag payload held old new done

@@ -19,8 +19,8 @@ use Rattle.history.specs.Facts.{Facts}
 use Rattle.history.specs.Decisions.{aborted, not_found, fails, holds, received, is_session_com_id, discovery_com_id}
 use Rattle.history.specs.Tcg.{sent}
 use Rattle.tper.specs.Tper.{Tper}
-use Rattle.drive.specs.Transfer.{by_op, queued_command, unqueued_command, verdict_held, fits, Fits}
-use Rattle.drive.specs.State.{State}
+use Rattle.drive.specs.Transfer.{by_op, queued_command, unqueued_command, verdict_held, is_on_drive, StandsOnDrive}
+use Rattle.drive.specs.State.{DriveState}
 use Rattle.drive.specs.declared.decision.Decision.{Decision}
 use Rattle.drive.specs.declared.decision.Decision.TheVariants.{Aborts, FailsQueue, Holds, Moves, Restarts, Executes}
 use Rattle.drive.specs.declared.decision.Denied.{Denied as Denial}
@@ -55,22 +55,22 @@ by_verdict (Denied why) = Err (record { error = aborted; denied = Some why })
 
 abbrev pub policy : ℕ → RangeRows → Transfer → Result Bool Refused
 policy sectors ranges transfer =
-    if fits sectors transfer
+    if is_on_drive sectors transfer
     then by_verdict (verdict_of ranges transfer.op transfer.lba transfer.count)
     else Err (record { error = not_found; denied = None })
 
-abbrev pub policy_on : State → Transfer → Result Bool Refused
+abbrev pub policy_on : DriveState → Transfer → Result Bool Refused
 policy_on d transfer = policy d.tper.store.config.sectors (ranges_of d.tper) transfer
 
 -- A permitted transfer, as it is to be moved.
-abbrev pub FitsPolicy : State → Transfer → Bool → Type 0
+abbrev pub FitsPolicy : DriveState → Transfer → Bool → Type 0
 FitsPolicy d transfer is_shadowed =
-    Fits d.tper.store.config.sectors d.tper.store.config.mbr_sectors
+    StandsOnDrive d.tper.store.config.sectors d.tper.store.config.mbr_sectors
     (record { transfer = transfer; is_shadowed = is_shadowed })
 
 -- What an unqueued transfer does at once.
-abbrev pub moves : Transfer → List ℕ → Deed
-moves transfer payload = by_op transfer.op Nothing (Wrote transfer.lba payload)
+abbrev pub transfer_deed : Transfer → List ℕ → Deed
+transfer_deed transfer payload = by_op transfer.op Nothing (Wrote transfer.lba payload)
 
 -- What the other commands do.
 abbrev pub executed : Facts → List ℕ → Command → Event
@@ -82,35 +82,36 @@ executed f payload (ReadLog10 dma) =
 executed f payload _ = did Nothing
 
 -- The event of a decision.
-abbrev pub event_of : Facts → List ℕ → Decision → Event
-event_of f payload (Aborts error denied) = fails error (reason denied)
-event_of f payload (FailsQueue failure denied) = record {
+abbrev pub decision_event : Facts → List ℕ → Decision → Event
+decision_event f payload (Aborts error denied) = fails error (reason denied)
+decision_event f payload (FailsQueue failure denied) = record {
   failed = Some failure.error;
   deed = OfQueue (QueueFailed failure);
   denied = reason denied;
 }
-event_of f payload (Holds tag held) = holds tag (queued_command held.transfer) (verdict_held held)
-event_of f payload (Moves held) = did (moves held.transfer payload)
-event_of f payload (Restarts command) = did (WasReset programmatic)
-event_of f payload (Executes command) = executed f payload command
+decision_event f payload (Holds tag held) = holds tag (queued_command held.transfer)
+    (verdict_held held)
+decision_event f payload (Moves held) = did (transfer_deed held.transfer payload)
+decision_event f payload (Restarts command) = did (WasReset programmatic)
+decision_event f payload (Executes command) = executed f payload command
 
 -- What a decision rests on: the slot, the FIS, and that what is to be done can be done.
 
-pub record IsHeld (d : State) (h : RegH2d) (tag : ℕ) (held : Held) : Type 0 where
+pub record IsHeld (d : DriveState) (h : RegH2d) (tag : ℕ) (held : Held) : Type 0 where
   pub slot : tag < slot_count
   pub reads : reading h ≡ Ok (queued_command held.transfer, Some tag)
-  pub within : Fits d.tper.store.config.sectors d.tper.store.config.mbr_sectors held
+  pub within : StandsOnDrive d.tper.store.config.sectors d.tper.store.config.mbr_sectors held
 
-pub record IsMoved (d : State) (h : RegH2d) (held : Held) : Type 0 where
+pub record IsMoved (d : DriveState) (h : RegH2d) (held : Held) : Type 0 where
   pub reads : reading h ≡ Ok (unqueued_command held.transfer, None)
   pub verdict : verdict_of (ranges_of d.tper) held.transfer.op held.transfer.lba held.transfer.count
       ≡ verdict_held held
-  pub within : Fits d.tper.store.config.sectors d.tper.store.config.mbr_sectors held
+  pub within : StandsOnDrive d.tper.store.config.sectors d.tper.store.config.mbr_sectors held
 
-abbrev pub IsTrusted : Command → Type 0
-IsTrusted (Send protocol com_id blocks dma) = Unit {0}
-IsTrusted (Receive protocol com_id blocks dma) = Unit {0}
-IsTrusted _ = ⊥
+abbrev pub IsTrustedCommand : Command → Type 0
+IsTrustedCommand (Send protocol com_id blocks dma) = Unit {0}
+IsTrustedCommand (Receive protocol com_id blocks dma) = Unit {0}
+IsTrustedCommand _ = ⊥
 
 abbrev pub CanExecute : Command → Type 0
 CanExecute (Send protocol com_id blocks dma) = is_session_com_id com_id ≡ true
@@ -121,7 +122,7 @@ CanExecute (ReadLog10 dma) = Unit {0}
 CanExecute Flush = Unit {0}
 CanExecute _ = ⊥
 
-abbrev pub IsDue : State → RegH2d → Decision → Type 0
+abbrev pub IsDue : DriveState → RegH2d → Decision → Type 0
 IsDue d h (Aborts error denied) = Unit {0}
 IsDue d h (FailsQueue failure denied) = Unit {0}
 IsDue d h (Holds tag held) = IsHeld d h tag held

@@ -3,7 +3,7 @@ use Rattle.std.specs.Prelude.{ℕ, List, replicate, slice_index_or, slice_set, O
 use Rattle.fis.specs.Tags.{slot_count}
 use Rattle.device_data.specs.declared.log_page.Failure.{Failure}
 use Rattle.history.specs.Events.{HeldCommand}
-use Rattle.drive.specs.Transfer.{held_command, Fits}
+use Rattle.drive.specs.Transfer.{held_command, StandsOnDrive}
 use Rattle.drive.specs.declared.transfer.Held.{Held}
 use Rattle.drive.specs.declared.queue.Queue.{Queue}
 
@@ -35,7 +35,7 @@ held_at queue tag = option_map held_command (slot_at queue.slots tag)
 -- The sectors of what is held are on the drive, and those of a shadowed read in the shadow.
 abbrev pub SlotFits : ℕ → ℕ → Option Held → Type 0
 SlotFits sectors mbr_sectors None = Unit {0}
-SlotFits sectors mbr_sectors (Some held) = Fits sectors mbr_sectors held
+SlotFits sectors mbr_sectors (Some held) = StandsOnDrive sectors mbr_sectors held
 
 abbrev pub AllFit : ℕ → ℕ → Queue → Type 0
 AllFit sectors mbr_sectors queue =

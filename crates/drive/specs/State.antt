@@ -2,7 +2,7 @@
 use Rattle.std.specs.Prelude.{◌≡◌, ℕ, List, ◌∷◌, length, reverse, slice_index}
 use Rattle.fis.specs.Tags.{slot_count}
 use Rattle.fis.specs.declared.h2d.RegH2d.{RegH2d}
-use Rattle.shadow_mbr.specs.Stored.{Stored, sector_at}
+use Rattle.shadow_mbr.specs.Stored.{StoredSectors, sector_at}
 use Rattle.transactions.specs.Sights.{look_up, committed_sight}
 use Rattle.history.specs.Opening.{Origin}
 use Rattle.history.specs.Events.{Event}
@@ -14,14 +14,14 @@ use Rattle.drive.specs.declared.queue.Queue.{Queue}
 use Rattle.drive.specs.Queue.{held_at}
 
 -- What contracts see of a drive: the rows, sessions and responses, the queue, and the media.
-pub record State : Type 0 where
+pub record DriveState : Type 0 where
   pub tper : Tper
   pub queue : Queue
-  pub media : Stored
+  pub media : StoredSectors
 
 -- Facts of which the drive shows those that it keeps itself; the sessions are its TPer's.
-abbrev pub seen : State → Facts → Facts
-seen d f = record f {
+abbrev pub kept_facts : DriveState → Facts → Facts
+kept_facts d f = record f {
   sectors = d.tper.store.config.sectors;
   mbr_sectors = d.tper.store.config.mbr_sectors;
   rows = look_up (committed_sight d.tper.store);
@@ -33,7 +33,7 @@ seen d f = record f {
 }
 
 -- It keeps what these events say, part by part.
-pub record Keeps (d : State) (o : Origin) (past : List Event) : Type 0 where
+pub record KeepsDrive (d : DriveState) (o : Origin) (past : List Event) : Type 0 where
   pub tper : KeepsTper d.tper o past
   pub slots : length d.queue.slots ≡ slot_count
   pub held : (tag : ℕ) → held_at d.queue tag ≡ held past tag
@@ -41,9 +41,9 @@ pub record Keeps (d : State) (o : Origin) (past : List Event) : Type 0 where
   pub sectors : (place : ℕ) → sector_at d.media place ≡ sector past place
 
 -- The drive agrees with what it started from and the acts so far, the newest first.
-abbrev pub Agrees : State → Origin → List Act → Type 0
-Agrees d o acts = Keeps d o (log o acts)
+abbrev pub Agrees : DriveState → Origin → List Act → Type 0
+Agrees d o acts = KeepsDrive d o (log o acts)
 
 -- The same for a list whose oldest act comes first.
-abbrev pub AgreesInOrder : State → Origin → List Act → Type 0
+abbrev pub AgreesInOrder : DriveState → Origin → List Act → Type 0
 AgreesInOrder d o acts = Agrees d o (reverse acts)

@@ -50,8 +50,8 @@ abbrev pub payload_size_of : Transfer → ℕ
 payload_size_of transfer = by_op transfer.op 0 (size_of transfer)
 
 -- The bytes that it gives, by the facts then: the sectors of a read, or the shadow's.
-abbrev pub bytes_of : Facts → Held → List ℕ
-bytes_of f held =
+abbrev pub held_bytes : Facts → Held → List ℕ
+held_bytes f held =
     by_op held.transfer.op
     (read_by f held.transfer.lba held.transfer.count (verdict_held held)) []
 
@@ -61,9 +61,9 @@ sector_then transfer payload before sector =
     by_op transfer.op before (sector_after transfer.lba payload before sector)
 
 -- A drive of so many sectors, or a shadow, has each of these.
-abbrev pub fits : ℕ → Transfer → Bool
-fits sectors transfer = nat_le (transfer.lba + transfer.count) sectors
+abbrev pub is_on_drive : ℕ → Transfer → Bool
+is_on_drive sectors transfer = nat_le (transfer.lba + transfer.count) sectors
 
-pub record Fits (sectors mbr_sectors : ℕ) (held : Held) : Type 0 where
-  pub on_drive : fits sectors held.transfer ≡ true
-  pub in_shadow : held.is_shadowed ≡ true → fits mbr_sectors held.transfer ≡ true
+pub record StandsOnDrive (sectors mbr_sectors : ℕ) (held : Held) : Type 0 where
+  pub on_drive : is_on_drive sectors held.transfer ≡ true
+  pub in_shadow : held.is_shadowed ≡ true → is_on_drive mbr_sectors held.transfer ≡ true

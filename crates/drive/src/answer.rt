@@ -1,7 +1,7 @@
 //! What the drive answers (Serial ATA, FISes to the host; ACS-3, Status and Error).
 
 ghost use Rattle.std.specs.Prelude.{◌≡◌, ◌==◌, ◌^◌, ◌<◌, ◌≤◌, ℕ, true, false, [], ◌∷◌, Some, None};
-ghost use Rattle.history.specs.Answers.{answer_fis, pio_fis, served_fises, ready, failed, setup_fis, moved_fis, fises_of};
+ghost use Rattle.history.specs.Answers.{answer_fis, pio_fis, served_fises, ready, errored, setup_fis, moved_fis, fises_of};
 ghost use Rattle.drive.specs.Transfer.{queued_command, by_op, size_of};
 
 use crate::transfer::Transfer;
@@ -54,17 +54,17 @@ const BUSY: u8 = 0xd0;
 impl Accepted {
     /// Whether the command failed: the status is 51h.
     pub fn has_failed(&self) -> bool
-        ensures { result ≡ (self.now.status == failed) }
+        ensures { result ≡ (self.now.status == errored) }
     {
         self.status == FAILED
     }
 
     /// The command failed.
     pub(crate) fn failed(alloc: Global, error: u8, denied: Option<Why>) -> Accepted
-        ensures status { result.status ≡ failed }
+        ensures status { result.status ≡ errored }
         ensures error { result.error ≡ error }
         ensures held { result.held ≡ false }
-        ensures fises { result.fises.items ≡ answer_fis true failed error ∷ [] }
+        ensures fises { result.fises.items ≡ answer_fis true errored error ∷ [] }
         ensures bytes { result.bytes.items ≡ [] }
         ensures denied { result.denied ≡ denied }
     {

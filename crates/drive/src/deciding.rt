@@ -56,16 +56,17 @@ impl Drive {
     ghost use Rattle.trusted_cmds.specs.Commands.{is_queued};
     ghost use Rattle.history.specs.Decisions.{any_below, resets};
     ghost use Rattle.transactions.specs.Sights.{look_up, committed_sight};
-    ghost use Rattle.drive.specs.Decision.{event_of, moves, IsDue, IsTrusted};
-    ghost use Rattle.drive.specs.State.{seen};
+    ghost use Rattle.drive.specs.Decision.{decision_event, transfer_deed, IsDue, IsTrustedCommand};
+    ghost use Rattle.drive.specs.State.{kept_facts};
     ghost use Rattle.drive.specs.Queue.{held_at};
     ghost use Rattle.drive.specs.Transfer.{queued_command, unqueued_command};
 
     /// What the drive does with the command of a FIS.
     #[inline(always)]
     pub(crate) fn decide(&self, h: &RegH2d) -> Decision
-        ensures event { (f : Facts) (payload : List ℕ) → event_of (seen self.now f) payload result
-            ≡ commanded (seen self.now f) h.now payload }
+        ensures event { (f : Facts) (payload : List ℕ) → decision_event
+            (kept_facts self.now f) payload result
+            ≡ commanded (kept_facts self.now f) h.now payload }
         ensures due { IsDue self.now h.now result }
     {
         if !h.is_command {
@@ -91,7 +92,8 @@ impl Drive {
     /// While the queue has failed, log page 10h alone is read.
     fn while_failed(&self, h: &RegH2d) -> Decision
         requires { is_some self.now.queue.failure ≡ true }
-        ensures event { (f : Facts) (payload : List ℕ) → event_of (seen self.now f) payload result
+        ensures event { (f : Facts) (payload : List ℕ) → decision_event
+            (kept_facts self.now f) payload result
             ≡ while_failed (reading h.now) }
         ensures due { IsDue self.now h.now result }
     {
@@ -104,8 +106,9 @@ impl Drive {
     /// A command that the mixing of queues does not refuse. A queued one whose FIS has a fault fails the queue.
     fn known(&self, h: &RegH2d) -> Decision
         requires { self.now.queue.failure ≡ None }
-        ensures event { (f : Facts) (payload : List ℕ) → event_of (seen self.now f) payload result
-            ≡ known (seen self.now f) h.now payload (reading h.now) }
+        ensures event { (f : Facts) (payload : List ℕ) → decision_event
+            (kept_facts self.now f) payload result
+            ≡ known (kept_facts self.now f) h.now payload (reading h.now) }
         ensures due { IsDue self.now h.now result }
     {
         match of_fis(h) {
@@ -120,8 +123,10 @@ impl Drive {
     fn queued(&self, h: &RegH2d, tag: Tag, command: Command) -> Decision
         requires reads { reading h.now ≡ Ok (command, Some tag) }
         requires counted { IsCounted command }
-        ensures event { (f : Facts) (payload : List ℕ) → event_of (seen self.now f) payload result
-            ≡ admitted (seen self.now f) h.now tag command (is_some (held_at self.now.queue tag)) }
+        ensures event { (f : Facts) (payload : List ℕ) → decision_event
+            (kept_facts self.now f) payload result
+            ≡ admitted (kept_facts self.now f) h.now tag command (is_some
+            (held_at self.now.queue tag)) }
         ensures due { IsDue self.now h.now result }
     {
         if self.held(tag).is_some() {
@@ -143,8 +148,9 @@ impl Drive {
     fn queued_transfer(&self, h: &RegH2d, tag: Tag, transfer: Transfer) -> Decision
         requires reads { reading h.now ≡ Ok (queued_command transfer, Some tag) }
         requires slot { tag < slot_count }
-        ensures event { (f : Facts) (payload : List ℕ) → event_of (seen self.now f) payload result
-            ≡ queued_transfer (seen self.now f) h.now tag (queued_command transfer)
+        ensures event { (f : Facts) (payload : List ℕ) → decision_event
+            (kept_facts self.now f) payload result
+            ≡ queued_transfer (kept_facts self.now f) h.now tag (queued_command transfer)
             transfer.op transfer.lba transfer.count }
         ensures due { IsDue self.now h.now result }
     {
@@ -168,8 +174,9 @@ impl Drive {
         requires mended { self.now.queue.failure ≡ None }
         requires reads { reading h.now ≡ Ok (command, None) }
         requires counted { IsCounted command }
-        ensures event { (f : Facts) (payload : List ℕ) → event_of (seen self.now f) payload result
-            ≡ unqueued (seen self.now f) payload command }
+        ensures event { (f : Facts) (payload : List ℕ) → decision_event
+            (kept_facts self.now f) payload result
+            ≡ unqueued (kept_facts self.now f) payload command }
         ensures due { IsDue self.now h.now result }
     {
         match command {
@@ -192,8 +199,9 @@ impl Drive {
     #[tactic(auto, using(crate::proofs::Policies::unqueued_moved, crate::proofs::Policies::unqueued_refused, crate::proofs::Policies::permitted))]
     fn unqueued_transfer(&self, h: &RegH2d, transfer: Transfer) -> Decision
         requires { reading h.now ≡ Ok (unqueued_command transfer, None) }
-        ensures event { (f : Facts) (payload : List ℕ) → event_of (seen self.now f) payload result
-            ≡ unqueued_transfer (seen self.now f) (moves transfer payload)
+        ensures event { (f : Facts) (payload : List ℕ) → decision_event
+            (kept_facts self.now f) payload result
+            ≡ unqueued_transfer (kept_facts self.now f) (transfer_deed transfer payload)
             transfer.op transfer.lba transfer.count }
         ensures due { IsDue self.now h.now result }
     {
@@ -213,10 +221,11 @@ impl Drive {
     /// response waits there is aborted.
     fn trusted(&self, h: &RegH2d, command: Command) -> Decision
         requires reads { reading h.now ≡ Ok (command, None) }
-        requires trusted { IsTrusted command }
+        requires trusted { IsTrustedCommand command }
         requires kept { resets (look_up (committed_sight self.now.tper.store)) command ≡ false }
-        ensures event { (f : Facts) (payload : List ℕ) → event_of (seen self.now f) payload result
-            ≡ unqueued (seen self.now f) payload command }
+        ensures event { (f : Facts) (payload : List ℕ) → decision_event
+            (kept_facts self.now f) payload result
+            ≡ unqueued (kept_facts self.now f) payload command }
         ensures due { IsDue self.now h.now result }
     {
         let is_taken = match command {

@@ -67,9 +67,9 @@ impl Model for Drive {
     ghost use Rattle.std.specs.Prelude.{◌≡◌, ◌≤◌, ◌^◌};
     ghost use Rattle.drive.specs.Decision.{ranges_of};
     ghost use Rattle.drive.specs.Queue.{AllFit};
-    ghost use Rattle.drive.specs.State.{State};
+    ghost use Rattle.drive.specs.State.{DriveState};
 
-    ghost Value = { State };
+    ghost Value = { DriveState };
 
     ghost view = { λ a. record { tper = a.tper; queue = a.queue; media = a.media } };
 
@@ -99,14 +99,14 @@ impl Drive {
     ghost use Rattle.history.specs.Events.{Event, WasReset, did};
     ghost use Rattle.history.specs.Facts.{Facts, facts};
     ghost use Rattle.history.specs.History.{Act, Accept, Complete, Reset, log, event};
-    ghost use Rattle.history.specs.Resets.{kind_of};
+    ghost use Rattle.history.specs.Resets.{reset_kind_number};
     ghost use Rattle.history.specs.Readers.{failure as failure_in, held as held_in, waiting};
     ghost use Rattle.tper.specs.Tper.{response_at};
     ghost use Rattle.drive.specs.Queue.{slot_at, held_at, with_slot, failed_queue, mended_queue, SlotFits};
-    ghost use Rattle.drive.specs.Transfer.{payload_size_of, bytes_of, sector_then, Fits};
-    ghost use Rattle.drive.specs.Decision.{told, policy_on, FitsPolicy, IsDue, event_of};
-    ghost use Rattle.drive.specs.State.{seen, Keeps, Agrees, AgreesInOrder};
-    ghost use Rattle.drive.specs.Answers.{IsAnswer, IsCompletion, IsDone, IsFinished};
+    ghost use Rattle.drive.specs.Transfer.{payload_size_of, held_bytes, sector_then, StandsOnDrive};
+    ghost use Rattle.drive.specs.Decision.{told, policy_on, FitsPolicy, IsDue, decision_event};
+    ghost use Rattle.drive.specs.State.{kept_facts, KeepsDrive, Agrees, AgreesInOrder};
+    ghost use Rattle.drive.specs.Answers.{IsAnswer, IsCompletion, IsDoneAndAnswered, IsFinished};
 
     // What is opened.
 
@@ -236,7 +236,8 @@ impl Drive {
 
     /// Holds a transfer under the tag.
     pub(crate) fn hold(&mut self, tag: Tag, held: Held)
-        requires { Fits self.old.tper.store.config.sectors self.old.tper.store.config.mbr_sectors
+        requires { StandsOnDrive self.old.tper.store.config.sectors
+            self.old.tper.store.config.mbr_sectors
             held }
         ensures { self.new ≡ record self.old { queue = with_slot tag (Some held) self.old.queue } }
     {
@@ -253,10 +254,10 @@ impl Drive {
     /// Moves the data of a transfer, and gives the bytes that were read.
     pub(crate) fn carry_out(&mut self, held: &Held, payload: &[u8]) -> Result<Vec<u8>, AllocError>
         requires length { length payload.now ≡ payload_size_of held.now.transfer }
-        requires fits { Fits self.old.tper.store.config.sectors
+        requires fits { StandsOnDrive self.old.tper.store.config.sectors
             self.old.tper.store.config.mbr_sectors held.now }
         ensures data { IfOk result (λ v. (f : Facts)
-            → v.items ≡ bytes_of (seen self.old f) held.now) }
+            → v.items ≡ held_bytes (kept_facts self.old f) held.now) }
         ensures tper { self.new.tper ≡ self.old.tper }
         ensures queue { self.new.queue ≡ self.old.queue }
         ensures media { OnOk result ((s : ℕ) → sector_at self.new.media s
@@ -283,7 +284,7 @@ impl Drive {
     pub(crate) fn send(&mut self, com_id: u16, payload: &[u8]) -> Result<Option<Why>, AllocError>
         requires { is_session_com_id com_id ≡ true }
         ensures kept { OnOk result ((o : Origin) (acts : List Act) → Agrees self.old o acts
-            → Keeps self.new o (sent (facts o (log o acts)) com_id (frame_in payload.now)
+            → KeepsDrive self.new o (sent (facts o (log o acts)) com_id (frame_in payload.now)
             ∷ log o acts)) }
         ensures denied { IfOk result (λ why. (o : Origin) (acts : List Act) → Agrees self.old o acts
             → why ≡ (sent (facts o (log o acts)) com_id (frame_in payload.now)).denied) }
@@ -301,8 +302,8 @@ impl Drive {
         ensures data { IfOk result (λ v. v.items
             ≡ sized room (received_bytes com_id room (response_at self.old.tper.waiting com_id))) }
         ensures kept { OnOk result ((o : Origin) (past : List Event) (blocks : ℕ)
-            → room ≡ sector_size * blocks → Keeps self.old o past
-            → Keeps self.new o (received com_id blocks (waiting past com_id) ∷ past)) }
+            → room ≡ sector_size * blocks → KeepsDrive self.old o past
+            → KeepsDrive self.new o (received com_id blocks (waiting past com_id) ∷ past)) }
         ensures err { OnErr result (self.new ≡ self.old) }
     {
         let bytes = self.tper.receive(com_id, room)?;
@@ -381,7 +382,7 @@ impl Drive {
     fn take(&mut self, fis: &[u8; H2D_LENGTH], payload: &[u8]) -> Result<Accepted, AllocError>
         requires { length payload.now ≡ payload_of fis.now }
         ensures done { IfOk result (λ a. (o : Origin) (acts : List Act) → Agrees self.old o acts
-            → IsDone (facts o (log o acts)) (h2d_at fis.now)
+            → IsDoneAndAnswered (facts o (log o acts)) (h2d_at fis.now)
             (event o (log o acts) (Accept fis.now payload.now)) self.new o (log o acts) a) }
         ensures err { OnErr result (self.new ≡ self.old) }
     {
@@ -463,17 +464,17 @@ impl Drive {
     /// power cycle makes all Tries 0 too. It takes no memory.
     pub fn reset(&mut self, kind: ResetKind)
         ensures agrees { (o : Origin) (acts : List Act) → Agrees self.old o acts
-            → Agrees self.new o (Reset (kind_of kind) ∷ acts) }
+            → Agrees self.new o (Reset (reset_kind_number kind) ∷ acts) }
         ensures in_order { (o : Origin) (acts : List Act) → AgreesInOrder self.old o acts
-            → AgreesInOrder self.new o (acts ++ Reset (kind_of kind) ∷ []) }
+            → AgreesInOrder self.new o (acts ++ Reset (reset_kind_number kind) ∷ []) }
     {
         self.restart(kind.number());
     }
 
     /// What a reset of this kind makes of each part, whatever was done before.
     pub(crate) fn restart(&mut self, kind: u8)
-        ensures { (o : Origin) (past : List Event) → Keeps self.old o past
-            → Keeps self.new o (did (WasReset kind) ∷ past) }
+        ensures { (o : Origin) (past : List Event) → KeepsDrive self.old o past
+            → KeepsDrive self.new o (did (WasReset kind) ∷ past) }
     {
         self.tper.reset(kind);
         self.queue = Queue::new();

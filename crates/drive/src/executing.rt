@@ -24,9 +24,9 @@ impl Drive {
     ghost use Rattle.history.specs.Readers.{waiting};
     ghost use Rattle.history.specs.Facts.{facts};
     ghost use Rattle.history.specs.History.{Act, log};
-    ghost use Rattle.drive.specs.Decision.{event_of, executed, CanExecute, IsDue};
-    ghost use Rattle.drive.specs.State.{Keeps, Agrees};
-    ghost use Rattle.drive.specs.Answers.{IsDone};
+    ghost use Rattle.drive.specs.Decision.{decision_event, executed, CanExecute, IsDue};
+    ghost use Rattle.drive.specs.State.{KeepsDrive, Agrees};
+    ghost use Rattle.drive.specs.Answers.{IsDoneAndAnswered};
 
     /// Does what was decided on the command of a FIS.
     #[inline(always)]
@@ -39,8 +39,9 @@ impl Drive {
         requires due { IsDue self.old h.now decision }
         requires payload { length payload.now ≡ payload_length h.now }
         ensures done { IfOk result (λ a. (o : Origin) (acts : List Act) → Agrees self.old o acts
-            → IsDone (facts o (log o acts)) h.now
-            (event_of (facts o (log o acts)) payload.now decision) self.new o (log o acts) a) }
+            → IsDoneAndAnswered (facts o (log o acts)) h.now
+            (decision_event (facts o (log o acts)) payload.now decision) self.new o
+            (log o acts) a) }
         ensures err { OnErr result (self.new ≡ self.old) }
     {
         let alloc = self.allocator();
@@ -80,7 +81,7 @@ impl Drive {
     ) -> Result<(Vec<u8>, Option<Why>), AllocError>
         requires { CanExecute command.now }
         ensures kept { OnOk result ((o : Origin) (acts : List Act) → Agrees self.old o acts
-            → Keeps self.new o (executed (facts o (log o acts)) payload.now command.now
+            → KeepsDrive self.new o (executed (facts o (log o acts)) payload.now command.now
             ∷ log o acts)) }
         ensures data { IfOk result (λ r. (o : Origin) (acts : List Act) → Agrees self.old o acts
             → r.0.items ≡ data_of (facts o (log o acts)) command.now) }
@@ -115,8 +116,8 @@ impl Drive {
     fn received(&mut self, com_id: u16, room: usize) -> Result<Vec<u8>, AllocError>
         requires { (is_session_com_id com_id || com_id == discovery_com_id) ≡ true }
         ensures kept { OnOk result ((o : Origin) (past : List Event) (blocks : ℕ)
-            → room ≡ sector_size * blocks → Keeps self.old o past
-            → Keeps self.new o (received com_id blocks (waiting past com_id) ∷ past)) }
+            → room ≡ sector_size * blocks → KeepsDrive self.old o past
+            → KeepsDrive self.new o (received com_id blocks (waiting past com_id) ∷ past)) }
         ensures data { IfOk result (λ v. (o : Origin) (acts : List Act) → Agrees self.old o acts
             → v.items ≡ receive_data (facts o (log o acts)) com_id room) }
         ensures err { OnErr result (self.new ≡ self.old) }

@@ -16,7 +16,7 @@ pub struct Queue {
 
 impl Queue {
     ghost use Rattle.history.specs.Decisions.{any_below};
-    ghost use Rattle.drive.specs.Transfer.{Fits};
+    ghost use Rattle.drive.specs.Transfer.{StandsOnDrive};
     ghost use Rattle.drive.specs.Queue.{slot_at, held_at, empty_queue, failed_queue, mended_queue, with_slot, AllFit};
 
     /// A queue that holds nothing and has not failed.
@@ -56,7 +56,7 @@ impl Queue {
     pub(crate) fn hold(&mut self, tag: Tag, held: Held)
         ensures after { self.new ≡ with_slot tag (Some held) self.old }
         ensures slot { tag < slot_count }
-        ensures fits { (sectors mbr : ℕ) → Fits sectors mbr held
+        ensures fits { (sectors mbr : ℕ) → StandsOnDrive sectors mbr held
             → AllFit sectors mbr self.old → AllFit sectors mbr self.new }
     {
         self.slots[usize::from(tag.number())] = Some(held);

@@ -61,7 +61,7 @@ impl SectorCount {
 }
 
 impl Transfer {
-    ghost use Rattle.drive.specs.Transfer.{transfer_by, size_of, payload_size_of, fits};
+    ghost use Rattle.drive.specs.Transfer.{transfer_by, size_of, payload_size_of, is_on_drive};
 
     /// So many sectors from `lba` on.
     pub(crate) fn by(op: Op, lba: u64, count: u32) -> Transfer
@@ -95,7 +95,7 @@ impl Transfer {
 
     /// Whether a drive of so many sectors has each of these.
     pub(crate) fn fits(&self, sectors: u64) -> bool
-        ensures { result ≡ fits sectors self.now }
+        ensures { result ≡ is_on_drive sectors self.now }
     {
         self.lba <= sectors && u64::from(self.count.number()) <= sectors - self.lba
     }

@@ -27,8 +27,8 @@ IsSpelling bytes (fises.DmaSetup f) = IsDmaSetup bytes f × (length bytes ≡ dm
 IsSpelling bytes (fises.PioSetup f) = IsPioSetup bytes f × (length bytes ≡ pio_setup_length)
 
 -- A register FIS to the host with zeros in all its fields.
-abbrev pub blank : Fis
-blank = fises.D2h (record {
+abbrev pub blank_register_fis : Fis
+blank_register_fis = fises.D2h (record {
   interrupt = false;
   port = 0;
   status = 0;

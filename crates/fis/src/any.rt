@@ -1,7 +1,7 @@
 //! A FIS of any kind that a device sends, or a host.
 
 ghost use Rattle.std.specs.Prelude.{◌≡◌, ◌<◌, ◌≤◌, ◌↔◌, IfOk, OnErr, IsErrOf, Ok, Err, Some, None, length, slice_index};
-ghost use Rattle.fis.specs.Fis.{IsWriting, length_of, least_length, IsUnknown, blank};
+ghost use Rattle.fis.specs.Fis.{IsWriting, length_of, least_length, IsUnknown, blank_register_fis};
 ghost use Rattle.fis.specs.declared.any.Fis.{Fis};
 
 use crate::d2h::{D2H_LENGTH, D2H_TYPE, RegD2h};
@@ -24,7 +24,7 @@ pub enum Fis {
 
 /// A register FIS to the host with zeros in all its fields.
 impl Default for Fis {
-    ghost is_default = { λ f. f ≡ blank };
+    ghost is_default = { λ f. f ≡ blank_register_fis };
 
     fn default() -> Fis {
         Fis::D2h(RegD2h::default())

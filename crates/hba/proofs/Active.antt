@@ -6,7 +6,7 @@ use Rattle.hba_regs.specs.Registers.{Regs, without}
 use Rattle.trusted_cmds.specs.declared.command.Command.{Command}
 use Rattle.trusted_cmds.specs.declared.command.Command.TheVariants.{ReadQueued, WriteQueued, ReadDma, WriteDma, Send, Receive, Identify, ReadLog10, Flush}
 use Rattle.trusted_cmds.specs.declared.command.CommandError.{CommandError}
-use Rattle.history.specs.Answers.{failed, ready, answer_fis, served_fises, fises_read, fises_of, completed_fises, setup_fis, moved_fis}
+use Rattle.history.specs.Answers.{errored, ready, answer_fis, served_fises, fises_read, fises_of, completed_fises, setup_fis, moved_fis}
 use Rattle.history.specs.Events.{HeldCommand}
 use Rattle.port_history.specs.Registers.{raised, with_task, task_error_bit, carried, all_shown}
 use Rattle.hba.specs.declared.registers.Registers.{Registers}
@@ -44,7 +44,7 @@ read_active tag regs (Ok (command, slot)) = served_active tag regs command
 accepted_active : (tag : ℕ) (regs : Regs) (error : Option ℕ) (holds : Bool)
     (read : Result (Command × Option ℕ) CommandError)
     → (all_shown tag regs
-    (if is_some error then answer_fis true failed (unwrap_or error 0) ∷ []
+    (if is_some error then answer_fis true errored (unwrap_or error 0) ∷ []
     else (if holds then answer_fis false ready 0 ∷ [] else fises_read read))).active ≡ regs.active
 accepted_active tag regs (Some error) holds read = refl
 accepted_active tag regs None true read = refl
@@ -59,7 +59,7 @@ served_same false tag fises regs e = refl
 
 pub fetched_same : (room : Bool) (tag : ℕ) (regs : Registers) (error : Option ℕ) (holds : Bool)
     (read : Result (Command × Option ℕ) CommandError) (fises : List Fis)
-    → fises ≡ (if is_some error then answer_fis true failed (unwrap_or error 0) ∷ []
+    → fises ≡ (if is_some error then answer_fis true errored (unwrap_or error 0) ∷ []
     else (if holds then answer_fis false ready 0 ∷ [] else fises_read read))
     → (if room then answered tag fises (fetching tag regs)
     else faulted (fetching tag regs)).port.active ≡ regs.port.active

@@ -2,14 +2,14 @@
 use Rattle.std.proofs.Common.{◌≡◌, ℕ, ◌+◌, ◌-◌, ◌≤◌, ◌<◌, zero, suc, true, false, List, [], ◌∷◌, ◌++◌, Some, None, sym, ◌∙◌, arith, append_assoc, length, length-append, min, nat_eq}
 use Rattle.std.proofs.lemmas.Grind.{common_steps}
 use Rattle.std.proofs.lemmas.List.{append-nil}
-use Rattle.slots.specs.Layout.{part, descriptor_size}
+use Rattle.slots.specs.Layout.{memory_part, descriptor_size}
 use Rattle.hba.specs.Memory.{stands, piece_of, regions, have_room, gathered, AreWithin}
 use Rattle.hba.specs.declared.window.Region.{Region}
 use Rattle.hba.specs.declared.window.Piece.{Piece}
 
 -- the descriptor at an address, as the window has it
 abbrev piece_at : ℕ → List ℕ → ℕ → Rattle.std.specs.Prelude.Option Piece
-piece_at base memory at = piece_of base memory (part memory (at - base) descriptor_size)
+piece_at base memory at = piece_of base memory (memory_part memory (at - base) descriptor_size)
 
 -- Of what is found, with what is left: the next descriptor stands nowhere.
 pub stops_nowhere : (found whole : List Region) (base : ℕ) (memory : List ℕ) (at n : ℕ) → 0 < n
@@ -51,7 +51,7 @@ pub within_append : (size : ℕ) (rs : List Region) (r : Region) → AreWithin s
 within_append size [] r h here = (here, tt)
 within_append size (x ∷ rs) r h here = (h.0, within_append size rs r h.1 here)
 
-part_length : (memory : List ℕ) (at n : ℕ) → at + n ≤ length memory → length (part memory at n) ≡ n
+part_length : (memory : List ℕ) (at n : ℕ) → at + n ≤ length memory → length (memory_part memory at n) ≡ n
 part_length memory at n within = grind (arith, common_steps)
 
 true_zero : (n : ℕ) → nat_eq n 0 ≡ true → n ≡ 0
@@ -64,9 +64,9 @@ gathered_length memory [] n within room = sym (true_zero n room)
 gathered_length memory (r ∷ rs) n within room =
     let rest : length (gathered memory rs (n - r.len)) ≡ n - r.len =
     gathered_length memory rs (n - r.len) within.1 room in
-    let here : length (part memory r.at (min n r.len)) ≡ min n r.len =
+    let here : length (memory_part memory r.at (min n r.len)) ≡ min n r.len =
     part_length memory r.at (min n r.len) (omega (arith, within.0)) in
-    let both : length (part memory r.at (min n r.len) ++ gathered memory rs (n - r.len))
-    ≡ length (part memory r.at (min n r.len)) + length (gathered memory rs (n - r.len)) =
-    length-append (part memory r.at (min n r.len)) (gathered memory rs (n - r.len)) in
+    let both : length (memory_part memory r.at (min n r.len) ++ gathered memory rs (n - r.len))
+    ≡ length (memory_part memory r.at (min n r.len)) + length (gathered memory rs (n - r.len)) =
+    length-append (memory_part memory r.at (min n r.len)) (gathered memory rs (n - r.len)) in
     omega (arith, rest, here, both)

@@ -11,7 +11,7 @@ use Rattle.hba.specs.declared.registers.Registers.{Registers}
 use Rattle.hba.specs.declared.work.Work.{Work}
 use Rattle.hba.specs.History.{State, Operation, AgreesHba, Adds, account, acts_of, regs_of}
 use Rattle.hba.specs.Ready.{ready_on, picked}
-use Rattle.hba.specs.Engine.{operation_by, operation_of, operation_after, Moves, MovesAs, DeniesAs, TurnsBy, TellsDenial, HasRun, Runs}
+use Rattle.hba.specs.Engine.{operation_by, operation_of, operation_after, MovesMemory, MovesAs, DeniesAs, TurnsBy, TellsDenial, HasRun, Runs}
 use Rattle.hba.proofs.Works.{ready_same}
 
 same_operation : (hba : State) (o : Origin) (list : List Operation) (base : ℕ) (memory : List ℕ)
@@ -31,7 +31,7 @@ pub turns : (base : ℕ) (work : Work) (old : State) (before : List ℕ) (new : 
 turns base work old before new after adds moves = λ o list a.
     let e = same_operation old o list base before work a in (
       subst (λ (op : Operation). AgreesHba new o (op ∷ list)) e (adds o list a),
-      subst (λ (op : Operation). Moves o (account o list) base op before after) e (moves o list a),
+      subst (λ (op : Operation). MovesMemory o (account o list) base op before after) e (moves o list a),
     )
 
 pub tells : (base : ℕ) (work : Work) (old : State) (before : List ℕ) (why : Option Why)

@@ -12,12 +12,12 @@ use Rattle.port_history.specs.Steps.{Effect}
 use Rattle.hba.specs.declared.registers.Registers.{Registers}
 use Rattle.hba.specs.declared.window.Region.{Region}
 use Rattle.hba.specs.declared.window.Slot.{Slot}
-use Rattle.hba.specs.Memory.{slot_at, is_command, regions, have_room, gathered, IsPosted, IsDelivered}
+use Rattle.hba.specs.Memory.{command_slot_at, carries_command, regions, have_room, gathered, IsPosted, IsDelivered}
 use Rattle.history.specs.History.{Accept, Complete, log}
 use Rattle.history.specs.Readers.{held}
 use Rattle.history.specs.Opening.{Origin}
 use Rattle.audit.specs.declared.reason.Why.{Why}
-use Rattle.hba.specs.History.{Operation, Signed, Missed, Controlled, Fetched, Completed, Account, State, AgreesHba, account, acts_of, regs_of, effect_after, denied_by}
+use Rattle.hba.specs.History.{Operation, Signed, Missed, Controlled, Fetched, Completed, Account, State, AgreesHba, account, acts_of, regs_of, effect_after, operation_denied}
 use Rattle.hba.specs.Ready.{picked, ready_after}
 
 -- Where the header of a slot stands.
@@ -41,12 +41,12 @@ executing_of base memory tag slot =
 abbrev pub fetched_from : ℕ → List ℕ → ℕ → Option Slot → Operation
 fetched_from base memory tag None = Missed
 fetched_from base memory tag (Some slot) =
-    if is_command slot.fis then executing_of base memory tag slot else Controlled tag
+    if carries_command slot.fis then executing_of base memory tag slot else Controlled tag
 
 -- A fetch of the command under a tag.
 abbrev pub fetching_of : Registers → ℕ → List ℕ → ℕ → Operation
 fetching_of regs base memory tag =
-    fetched_from base memory tag (slot_at base memory (header_at regs tag))
+    fetched_from base memory tag (command_slot_at base memory (header_at regs tag))
 
 -- What is held under a tag, with the data that its completion wants.
 abbrev pub ending_of : ℕ → List ℕ → ℕ → ℕ → Slot → Operation
@@ -60,7 +60,7 @@ completed_from base memory tag n (Some slot) = ending_of base memory tag n slot
 -- A completion of what is held under a tag, which wants so many bytes.
 abbrev pub completing_of : Registers → ℕ → List ℕ → ℕ → ℕ → Operation
 completing_of regs base memory tag n =
-    completed_from base memory tag n (slot_at base memory (header_at regs tag))
+    completed_from base memory tag n (command_slot_at base memory (header_at regs tag))
 
 -- The FISes and the data are those of an act.
 pub record IsEffect (effect : Effect) (sent : List Fis) (given : List ℕ) : Type 0 where
@@ -68,8 +68,8 @@ pub record IsEffect (effect : Effect) (sent : List Fis) (given : List ℕ) : Typ
   pub bytes : given ≡ effect.bytes
 
 -- Where received FISes go: at PxFB, while FRE is set (3.3.3, 3.3.7).
-abbrev pub received_at : Registers → Option ℕ
-received_at regs = if regs.port.receiving then Some regs.port.fis_base else None
+abbrev pub fises_at : Registers → Option ℕ
+fises_at regs = if regs.port.receiving then Some regs.port.fis_base else None
 
 -- The device's first FIS after a reset: ready, with its signature (ACS-3, device signatures).
 abbrev pub signature_fis : Fis
@@ -90,16 +90,16 @@ Delivers base to header places moved effect old new =
 
 -- What an operation of the engine makes of the memory: a command's data, PRDBC and FISes, or the FIS
 -- of a signature; else nothing.
-abbrev pub Moves : Origin → Account → ℕ → Operation → List ℕ → List ℕ → Type 0
-Moves o a base (Fetched tag fis payload places) old new =
-    Delivers base (received_at a.registers) (header_at a.registers tag) places (length payload)
+abbrev pub MovesMemory : Origin → Account → ℕ → Operation → List ℕ → List ℕ → Type 0
+MovesMemory o a base (Fetched tag fis payload places) old new =
+    Delivers base (fises_at a.registers) (header_at a.registers tag) places (length payload)
     (effect_after o a (Accept fis payload)) old new
-Moves o a base (Completed tag payload places) old new =
-    Delivers base (received_at a.registers) (header_at a.registers tag) places (length payload)
+MovesMemory o a base (Completed tag payload places) old new =
+    Delivers base (fises_at a.registers) (header_at a.registers tag) places (length payload)
     (effect_after o a (Complete tag payload)) old new
-Moves o a base Signed old new =
-    IsPosted base (received_at a.registers) old (signature_fis ∷ []) new
-Moves o a base _ old new = new ≡ old
+MovesMemory o a base Signed old new =
+    IsPosted base (fises_at a.registers) old (signature_fis ∷ []) new
+MovesMemory o a base _ old new = new ≡ old
 
 -- What a piece of work is, by the registers, how many bytes a completion of each tag brings, and the
 -- memory.
@@ -123,31 +123,31 @@ operation_after o list base memory work =
 abbrev pub MovesAs : Operation → State → ℕ → List ℕ → List ℕ → Type 0
 MovesAs operation hba base old new =
     (o : Origin) (list : List Operation) → AgreesHba hba o list
-    → Moves o (account o list) base operation old new
+    → MovesMemory o (account o list) base operation old new
 
 -- And this is what denied its command.
 abbrev pub DeniesAs : Operation → State → Option Why → Type 0
 DeniesAs operation hba why =
     (o : Origin) (list : List Operation) → AgreesHba hba o list
-    → why ≡ denied_by o (account o list) operation
+    → why ≡ operation_denied o (account o list) operation
 
 -- A piece of work is done after a list of operations, over the memory.
 pub record IsTurn (o : Origin) (base : ℕ) (list : List Operation) (old : List ℕ) (work : Work)
     (after : List Operation) (new : List ℕ) : Type 0 where
   pub adds : after ≡ operation_after o list base old work ∷ list
-  pub moves : Moves o (account o list) base (operation_after o list base old work) old new
+  pub moves : MovesMemory o (account o list) base (operation_after o list base old work) old new
 
 -- Whatever list the HBA agreed with, the work is done after it.
 abbrev pub TurnsBy : ℕ → Work → State → List ℕ → State → List ℕ → Type 0
 TurnsBy base work old before new after =
     (o : Origin) (list : List Operation) → AgreesHba old o list
     → AgreesHba new o (operation_after o list base before work ∷ list)
-    × Moves o (account o list) base (operation_after o list base before work) before after
+    × MovesMemory o (account o list) base (operation_after o list base before work) before after
 
 abbrev pub TellsDenial : ℕ → Work → State → List ℕ → Option Why → Type 0
 TellsDenial base work old before why =
     (o : Origin) (list : List Operation) → AgreesHba old o list
-    → why ≡ denied_by o (account o list) (operation_after o list base before work)
+    → why ≡ operation_denied o (account o list) (operation_after o list base before work)
 
 -- So many turns, each with the first work that may be done then.
 unfoldable pub HasRun : Origin → ℕ → List Operation → List ℕ → ℕ → List Operation → List ℕ → Type 0

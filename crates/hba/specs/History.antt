@@ -6,12 +6,12 @@ use Rattle.sp_cells.specs.Resets.{power_cycle, hardware}
 use Rattle.history.specs.Facts.{facts}
 use Rattle.history.specs.History.{Act, Accept, Complete, Reset, log}
 use Rattle.history.specs.Opening.{Origin}
-use Rattle.drive.specs.State.{State as DriveState, Agrees}
+use Rattle.drive.specs.State.{DriveState, Agrees}
 use Rattle.audit.specs.declared.reason.Why.{Why}
 use Rattle.port_history.specs.Steps.{Effect, effect_by}
 use Rattle.hba.specs.declared.registers.Registers.{Registers}
 use Rattle.hba.specs.declared.window.Region.{Region}
-use Rattle.hba.specs.Registers.{fresh, written_at, resets}
+use Rattle.hba.specs.Registers.{reset_registers, written_at, write_resets}
 use Rattle.hba.specs.Memory.{have_room}
 use Rattle.hba.specs.Showing.{signed, faulted, controlled, fetching, answered}
 
@@ -45,24 +45,28 @@ served tag act places effect a = record {
       else faulted a.registers);
 }
 
-abbrev pub did : Origin → Account → Operation → Account
-did o a (Wrote offset value) = record {
-  acts = (if resets a.registers offset value then Reset hardware ∷ a.acts else a.acts);
+abbrev pub account_after : Origin → Account → Operation → Account
+account_after o a (Wrote offset value) = record {
+  acts = (if write_resets a.registers offset value then Reset hardware ∷ a.acts else a.acts);
   registers = written_at a.registers offset value;
 }
-did o a Powered = record { acts = Reset power_cycle ∷ a.acts; registers = fresh }
-did o a Signed = record a { registers = signed a.registers }
-did o a Missed = record a { registers = faulted a.registers }
-did o a (Controlled tag) = record a { registers = controlled tag a.registers }
-did o a (Fetched tag fis payload places) =
+account_after o a Powered = record {
+  acts = Reset power_cycle
+      ∷ a.acts;
+  registers = reset_registers;
+}
+account_after o a Signed = record a { registers = signed a.registers }
+account_after o a Missed = record a { registers = faulted a.registers }
+account_after o a (Controlled tag) = record a { registers = controlled tag a.registers }
+account_after o a (Fetched tag fis payload places) =
     served tag (Accept fis payload) places (effect_after o a (Accept fis payload))
     (record a { registers = fetching tag a.registers })
-did o a (Completed tag payload places) =
+account_after o a (Completed tag payload places) =
     served tag (Complete tag payload) places (effect_after o a (Complete tag payload)) a
 
 abbrev pub account : Origin → List Operation → Account
-account o [] = record { acts = []; registers = fresh }
-account o (operation ∷ before) = did o (account o before) operation
+account o [] = record { acts = []; registers = reset_registers }
+account o (operation ∷ before) = account_after o (account o before) operation
 
 abbrev pub acts_of : Origin → List Operation → List Act
 acts_of o list = (account o list).acts
@@ -81,10 +85,10 @@ pub record AgreesHba (hba : State) (o : Origin) (list : List Operation) : Type 0
   pub registers : hba.registers ≡ regs_of o list
 
 -- What denied the command that an operation fetched, if one did.
-abbrev pub denied_by : Origin → Account → Operation → Option Why
-denied_by o a (Fetched tag fis payload places) =
+abbrev pub operation_denied : Origin → Account → Operation → Option Why
+operation_denied o a (Fetched tag fis payload places) =
     (effect_after o a (Accept fis payload)).event.denied
-denied_by o a _ = None
+operation_denied o a _ = None
 
 -- Whatever list the HBA agreed with, it agrees with that list and the operation in front.
 abbrev pub Adds : Operation → State → State → Type 0

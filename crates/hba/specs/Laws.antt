@@ -5,7 +5,7 @@ use Rattle.fis.specs.declared.any.Fis.{Fis}
 use Rattle.hba_regs.specs.Registers.{without}
 use Rattle.locking.specs.declared.range.Op.{Op}
 use Rattle.trusted_cmds.specs.declared.command.Command.{Command}
-use Rattle.history.specs.Answers.{failed, answer_fis, moved_fis}
+use Rattle.history.specs.Answers.{errored, answer_fis, moved_fis}
 use Rattle.history.specs.Decisions.{aborted, on_drive, ranges_in_force}
 use Rattle.history.specs.DenialLaws.{Moves as MovesSectors, IsFree}
 use Rattle.history.specs.Facts.{facts}
@@ -16,14 +16,14 @@ use Rattle.history.specs.TransferLaws.{IsPermitted}
 use Rattle.port_history.specs.Registers.{register_bit, task_error_bit}
 use Rattle.hba.specs.declared.registers.Registers.{Registers}
 use Rattle.hba.specs.declared.window.Region.{Region}
-use Rattle.hba.specs.Engine.{Moves, received_at, header_at}
+use Rattle.hba.specs.Engine.{MovesMemory, fises_at, header_at}
 use Rattle.hba.specs.History.{Operation, Wrote, Powered, Fetched, Completed, account, acts_of, regs_of, effect_after}
-use Rattle.hba.specs.Memory.{counted, IsPosted}
+use Rattle.hba.specs.Memory.{byte_count_told, IsPosted}
 
 -- The registers tell the error: PxTFD has it, PxIS has TFES; PxCI and PxSACT have each bit that they
 -- had, and the port is halted.
 pub record TellsError (error : ℕ) (before after : Registers) : Type 0 where
-  pub status : after.port.status ≡ failed
+  pub status : after.port.status ≡ errored
   pub code : after.port.error ≡ error
   pub raised : after.port.interrupts
       ≡ bit_or (bit_or before.port.interrupts task_error_bit) register_bit
@@ -34,8 +34,8 @@ pub record TellsError (error : ℕ) (before after : Registers) : Type 0 where
 -- No data reach the memory: at most the count of bytes that moved, and the FIS of the error.
 abbrev pub GivesNothing : ℕ → Registers → ℕ → ℕ → ℕ → List ℕ → List ℕ → Type 0
 GivesNothing base regs tag moved error old new =
-    IsPosted base (received_at regs) (counted base (header_at regs tag) moved old)
-    (answer_fis true failed error ∷ []) new
+    IsPosted base (fises_at regs) (byte_count_told base (header_at regs tag) moved old)
+    (answer_fis true errored error ∷ []) new
 
 -- A fetched command fails with an error, in registers and memory.
 pub record FailsSo (o : Origin) (before : List Operation) (tag : ℕ) (fis payload : List ℕ)
@@ -43,20 +43,20 @@ pub record FailsSo (o : Origin) (before : List Operation) (tag : ℕ) (fis paylo
   pub tells : TellsError error (regs_of o before)
       (regs_of o (Fetched tag fis payload places ∷ before))
   pub gives : (base : ℕ) (old new : List ℕ)
-      → Moves o (account o before) base (Fetched tag fis payload places) old new
+      → MovesMemory o (account o before) base (Fetched tag fis payload places) old new
       → GivesNothing base (regs_of o before) tag (length payload) error old new
 
 -- Each command that the drive fails does so.
-abbrev pub FailureLaw : Type 0
-FailureLaw =
+abbrev pub HostFailureLaw : Type 0
+HostFailureLaw =
     (o : Origin) (before : List Operation) (tag : ℕ) (fis payload : List ℕ) (places : List Region)
     (error : ℕ)
     → (effect_after o (account o before) (Accept fis payload)).event.failed ≡ Some error
     → FailsSo o before tag fis payload places error
 
 -- And so each transfer that comes to the policy, of sectors on the drive, where a range denies it.
-abbrev pub DenialLaw : Type 0
-DenialLaw =
+abbrev pub HostDenialLaw : Type 0
+HostDenialLaw =
     (o : Origin) (before : List Operation) (tag : ℕ) (fis payload : List ℕ) (places : List Region)
     (command : Command) (slot : Option ℕ) (op : Op) (lba count : ℕ)
     → let f = facts o (log o (acts_of o before)) in

@@ -5,9 +5,9 @@ use Rattle.byteorder.specs.Endian.{little_bytes}
 use Rattle.fis.specs.Fis.{IsSpelling}
 use Rattle.fis.specs.Types.{h2d_type, h2d_length}
 use Rattle.fis.specs.declared.any.Fis.{Fis}
-use Rattle.slots.specs.Layout.{part, laid, header_size, descriptor_size, received_at, received_place}
-use Rattle.slots.specs.Header.{command_words, fis_words, entries, table_at, table_alignment}
-use Rattle.slots.specs.Table.{address, count}
+use Rattle.slots.specs.Layout.{memory_part, memory_with, header_size, descriptor_size, received_at, received_place}
+use Rattle.slots.specs.Header.{command_words, fis_words, entry_count, table_at, table_alignment}
+use Rattle.slots.specs.Table.{address, byte_count_field}
 use Rattle.hba.specs.declared.window.Region.{Region}
 use Rattle.hba.specs.declared.window.Piece.{Piece}
 use Rattle.hba.specs.declared.window.Slot.{Slot}
@@ -17,29 +17,30 @@ abbrev pub stands : ℕ → List ℕ → ℕ → ℕ → Bool
 stands base memory at n = nat_le base at && nat_le (at + n) (base + length memory)
 
 -- CTBA is a multiple of 128 (4.2.2); CTBAU is not looked at, as CAP.S64A is 0.
-abbrev pub table_of : List ℕ → ℕ
-table_of header = table_at header - table_at header % table_alignment
+abbrev pub command_table_of : List ℕ → ℕ
+command_table_of header = table_at header - table_at header % table_alignment
 
 -- A FIS of the type of a command, whose C bit is set (Serial ATA, Register FIS to the device).
-abbrev pub is_command : List ℕ → Bool
-is_command fis = slice_index fis 0 == h2d_type && nat_le 0x80 (slice_index fis 1)
+abbrev pub carries_command : List ℕ → Bool
+carries_command fis = slice_index fis 0 == h2d_type && nat_le 0x80 (slice_index fis 1)
 
 -- What a header names: its FIS has five words at least (4.2.2, CFL).
 abbrev pub slot_by : ℕ → List ℕ → List ℕ → Option Slot
 slot_by base memory header =
-    if nat_le command_words (fis_words header) && stands base memory (table_of header) h2d_length
+    if nat_le command_words (fis_words header) && stands base memory
+    (command_table_of header) h2d_length
     then Some (record {
-      fis = part memory (table_of header - base) h2d_length;
-      table = table_of header;
-      entries = entries header;
+      fis = memory_part memory (command_table_of header - base) h2d_length;
+      table = command_table_of header;
+      entries = entry_count header;
     })
     else None
 
 -- The command slot whose header stands at an address.
-abbrev pub slot_at : ℕ → List ℕ → ℕ → Option Slot
-slot_at base memory at =
+abbrev pub command_slot_at : ℕ → List ℕ → ℕ → Option Slot
+command_slot_at base memory at =
     if stands base memory at header_size
-    then slot_by base memory (part memory (at - base) header_size) else None
+    then slot_by base memory (memory_part memory (at - base) header_size) else None
 
 -- How many bytes stand in the memory from an address on.
 abbrev pub room_at : ℕ → List ℕ → ℕ → ℕ
@@ -50,7 +51,7 @@ abbrev pub data_at : List ℕ → ℕ
 data_at entry = address entry - address entry % 2
 
 abbrev pub data_len : List ℕ → ℕ
-data_len entry = 2 * (count entry / 2) + 2 * (count entry % 2)
+data_len entry = 2 * (byte_count_field entry / 2) + 2 * (byte_count_field entry % 2)
 
 -- What a descriptor names in the memory: all that it names, or the part that stands there; none
 -- where its first byte stands nowhere.
@@ -77,7 +78,7 @@ abbrev pub regions : ℕ → List ℕ → ℕ → ℕ → List Region
 regions base memory at zero = []
 regions base memory at (suc n) =
     if stands base memory at descriptor_size
-    then then_regions (piece_of base memory (part memory (at - base) descriptor_size))
+    then then_regions (piece_of base memory (memory_part memory (at - base) descriptor_size))
     (regions base memory (at + descriptor_size) n)
     else []
 
@@ -94,13 +95,13 @@ have_room regions n = left_after regions n == 0
 abbrev pub gathered : List ℕ → List Region → ℕ → List ℕ
 gathered memory [] n = []
 gathered memory (region ∷ rest) n =
-    part memory region.at (min n region.len) ++ gathered memory rest (n - region.len)
+    memory_part memory region.at (min n region.len) ++ gathered memory rest (n - region.len)
 
 -- The memory with data laid over regions, one after the other.
 abbrev pub scattered : List ℕ → List Region → List ℕ → List ℕ
 scattered memory [] bytes = memory
 scattered memory (region ∷ rest) bytes =
-    scattered (laid memory region.at (take region.len bytes)) rest (drop region.len bytes)
+    scattered (memory_with memory region.at (take region.len bytes)) rest (drop region.len bytes)
 
 -- Regions of a memory of so many bytes.
 abbrev pub AreWithin : ℕ → List Region → Type 0
@@ -110,7 +111,7 @@ AreWithin size (region ∷ rest) = (region.at + region.len ≤ size) × AreWithi
 -- The memory with bytes at an address, where they stand there.
 abbrev pub laid_at : ℕ → ℕ → List ℕ → List ℕ → List ℕ
 laid_at base at bytes memory =
-    if stands base memory at (length bytes) then laid memory (at - base) bytes else memory
+    if stands base memory at (length bytes) then memory_with memory (at - base) bytes else memory
 
 -- Where a FIS stands among those received (4.2.1).
 abbrev pub offset_of : Fis → ℕ
@@ -129,15 +130,16 @@ IsPosted base to old (fis ∷ later) new =
     × IsPosted base to (posted base to fis bytes old) later new
 
 -- PRDBC, in the header at an address, counts the bytes that moved (4.2.2).
-abbrev pub counted : ℕ → ℕ → ℕ → List ℕ → List ℕ
-counted base header n memory =
+abbrev pub byte_count_told : ℕ → ℕ → ℕ → List ℕ → List ℕ
+byte_count_told base header n memory =
     if stands base memory header header_size
-    then laid memory (header - base + 4) (little_bytes 4 (n % 2 ^ 32)) else memory
+    then memory_with memory (header - base + 4) (little_bytes 4 (n % 2 ^ 32)) else memory
 
 abbrev pub IsDeliveredIf : Bool → ℕ → Option ℕ → ℕ → List Region → ℕ → List Fis → List ℕ
     → List ℕ → List ℕ → Type 0
 IsDeliveredIf true base to header places moved fises bytes old new =
-    IsPosted base to (counted base header (moved + length bytes) (scattered old places bytes)) fises
+    IsPosted base to (byte_count_told base header (moved + length bytes)
+    (scattered old places bytes)) fises
     new
 IsDeliveredIf false base to header places moved fises bytes old new = new ≡ old
 

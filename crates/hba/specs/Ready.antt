@@ -1,7 +1,7 @@
 -- What the engine may do (AHCI 1.3.1, 5.3 and 5.5.1).
 use Rattle.std.specs.Prelude.{ℕ, ◌^◌, ◌%◌, ◌==◌, ◌&&◌, not, zero, suc, Bool, List, [], ◌∷◌, ◌++◌, length, slice_index_or, Option, Some, None, is_some, bit_and, if◌then◌else◌}
 use Rattle.fis.specs.Tags.{slot_count}
-use Rattle.hba_regs.specs.Registers.{has}
+use Rattle.hba_regs.specs.Registers.{has_bits}
 use Rattle.history.specs.History.{log}
 use Rattle.history.specs.Opening.{Origin}
 use Rattle.history.specs.Readers.{held}
@@ -23,11 +23,12 @@ may_sign regs = regs.port.receiving && is_up regs.port.control && not regs.is_si
 -- A command that is issued is fetched while the device is neither busy nor wants data.
 abbrev pub may_fetch : Registers → ℕ → Bool
 may_fetch regs tag =
-    is_working regs && has regs.port.issued (2 ^ tag) && bit_and regs.port.status busy_bits == 0
+    is_working regs && has_bits regs.port.issued (2 ^ tag)
+    && bit_and regs.port.status busy_bits == 0
 
 -- What the drive holds is completed while PxSACT has it.
 abbrev pub may_complete : Registers → ℕ → Bool
-may_complete regs tag = is_working regs && has regs.port.active (2 ^ tag)
+may_complete regs tag = is_working regs && has_bits regs.port.active (2 ^ tag)
 
 abbrev pub is_ready : Registers → (ℕ → Bool) → Work → Bool
 is_ready regs holds works.Signature = may_sign regs

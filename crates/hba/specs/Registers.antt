@@ -4,7 +4,7 @@ use Rattle.std.specs.Prelude.{ℕ, ◌+◌, ◌-◌, ◌*◌, ◌%◌, ◌==◌,
 use Rattle.fis.specs.Bytes.{bit}
 use Rattle.hba_regs.specs.declared.register.Register.{Register}
 use Rattle.hba_regs.specs.declared.register.Register.TheVariants as at
-use Rattle.hba_regs.specs.Registers.{Regs, register_at, word, written, has, start_bit, link_up, disk_signature}
+use Rattle.hba_regs.specs.Registers.{Regs, register_at, word, rewritten, has_bits, start_bit, link_up, disk_signature}
 use Rattle.hba.specs.declared.registers.Registers.{Registers}
 
 -- CAP (3.1.1): one port, 32 slots, PIO blocks of several sectors, AHCI alone, the second
@@ -101,8 +101,8 @@ fresh_port = record {
   issued = 0;
 }
 
-abbrev pub fresh : Registers
-fresh = record {
+abbrev pub reset_registers : Registers
+reset_registers = record {
   port = fresh_port;
   interrupts_enabled = false;
   is_raised = false;
@@ -187,20 +187,20 @@ abbrev pub comes_up : Registers → ℕ → Bool
 comes_up regs value = not (is_up regs.port.control) && is_up value
 
 abbrev pub kept : Registers → Register → ℕ → Registers
-kept regs register value = record regs { port = written regs.port register value }
+kept regs register value = record regs { port = rewritten regs.port register value }
 
 -- What a write makes of a register of the port.
 abbrev pub port_written : Registers → Register → ℕ → Registers
 port_written regs at.InterruptEnable value =
     kept regs at.InterruptEnable (bit_and value enabled_bits)
 port_written regs at.Command value =
-    stopped_if (not (has value start_bit))
-    (overridden (has value override_bit) (kept regs at.Command value))
+    stopped_if (not (has_bits value start_bit))
+    (overridden (has_bits value override_bit) (kept regs at.Command value))
 port_written regs at.SataControl value =
     found_if (comes_up regs value) (lost_if (goes_down regs value)
     (kept regs at.SataControl (bit_and value control_bits)))
 port_written regs at.SataError value =
-    record regs { is_exchanged = regs.is_exchanged && not (has value exchange_bit) }
+    record regs { is_exchanged = regs.is_exchanged && not (has_bits value exchange_bit) }
 port_written regs register value = kept regs register value
 
 abbrev pub port_written_of : Registers → Option Register → ℕ → Registers
@@ -209,13 +209,16 @@ port_written_of regs (Some register) value = port_written regs register value
 
 abbrev pub control_written : Registers → ℕ → Registers
 control_written regs value =
-    if has value reset_bit then fresh
-    else record regs { interrupts_enabled = has value enable_bit }
+    if has_bits value reset_bit then reset_registers
+    else record regs { interrupts_enabled = has_bits value enable_bit }
 
 abbrev pub generic_written : Registers → ℕ → ℕ → Registers
 generic_written regs offset value =
     if offset == 0x04 then control_written regs value
-    else (if offset == 0x08 then record regs { is_raised = regs.is_raised && not (has value 1) }
+    else (if offset == 0x08 then record regs {
+      is_raised = regs.is_raised && not
+          (has_bits value 1);
+    }
     else regs)
 
 -- The registers after a write of a value at an offset.
@@ -226,6 +229,6 @@ written_at regs offset value =
     else generic_written regs offset value)
 
 -- A write of GHC.HR resets the device, and so does one that takes the link down (10.4.2, 10.4.3).
-abbrev pub resets : Registers → ℕ → ℕ → Bool
-resets regs offset value =
-    offset == 0x04 && has value reset_bit || offset == control_at && goes_down regs value
+abbrev pub write_resets : Registers → ℕ → ℕ → Bool
+write_resets regs offset value =
+    offset == 0x04 && has_bits value reset_bit || offset == control_at && goes_down regs value

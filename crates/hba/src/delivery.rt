@@ -3,7 +3,7 @@
 ghost use Rattle.std.specs.Prelude.{◌≡◌, ◌≤◌, ◌<◌, ◌+◌, ◌^◌, ℕ, List, Some, None, length};
 ghost use Rattle.fis.specs.Fis.{IsSpelling};
 ghost use Rattle.hba.specs.Engine.{signature_fis};
-ghost use Rattle.hba.specs.Memory.{laid_at, offset_of, posted, IsPosted, counted, IsDelivered, AreWithin};
+ghost use Rattle.hba.specs.Memory.{laid_at, offset_of, posted, IsPosted, byte_count_told, IsDelivered, AreWithin};
 
 use crate::window::{HEADER, Region, have_room, lay, scatter, stands};
 use byteorder::{ByteOrder, LittleEndian};
@@ -78,7 +78,7 @@ pub(crate) fn signature_fis() -> Fis
 /// Stores PRDBC in the header at an address.
 fn count(base: u32, memory: &mut [u8], header: u64, moved: usize)
     requires { header < 2 ^ 40 }
-    ensures { memory.new ≡ counted base header moved memory.old }
+    ensures { memory.new ≡ byte_count_told base header moved memory.old }
 {
     let mut bytes = [0; 4];
     LittleEndian::write_u32(&mut bytes, (moved % 0x1_0000_0000) as u32);

@@ -15,8 +15,8 @@ impl Hba {
     ghost use Rattle.history.specs.Opening.{Origin};
     ghost use Rattle.history.specs.History.{Accept, Complete};
     ghost use Rattle.drive.specs.Queue.{held_at};
-    ghost use Rattle.hba.specs.History.{Operation, Signed, Fetched, Completed as CompletedTag, AgreesHba, Adds, account, effect_after, denied_by};
-    ghost use Rattle.hba.specs.Engine.{IsEffect, header_at, executing_of, fetching_of, ending_of, completing_of, received_at, signature_fis, operation_of, MovesAs, DeniesAs, TurnsBy, TellsDenial};
+    ghost use Rattle.hba.specs.History.{Operation, Signed, Fetched, Completed as CompletedTag, AgreesHba, Adds, account, effect_after, operation_denied};
+    ghost use Rattle.hba.specs.Engine.{IsEffect, header_at, executing_of, fetching_of, ending_of, completing_of, fises_at, signature_fis, operation_of, MovesAs, DeniesAs, TurnsBy, TellsDenial};
     ghost use Rattle.hba.specs.Ready.{is_ready_on, ready_on, picked};
 
     /// The drive takes the command of a tag.

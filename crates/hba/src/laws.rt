@@ -1,6 +1,6 @@
 //! What follows from the definitions alone.
 
-ghost use Rattle.hba.specs.Laws.{FailureLaw, DenialLaw, ActiveLaw};
+ghost use Rattle.hba.specs.Laws.{HostFailureLaw, HostDenialLaw, ActiveLaw};
 
 /// Laws of the definitions, over every origin and every list of operations.
 ///
@@ -8,8 +8,8 @@ ghost use Rattle.hba.specs.Laws.{FailureLaw, DenialLaw, ActiveLaw};
 /// bits, the port is halted, and no data reach the host's memory. `denied`: so it is for each transfer that comes to the
 /// policy and that a range denies by the rows in force at its fetch.
 pub fn laws_of_failures()
-    ensures failed { FailureLaw }
-    ensures denied { DenialLaw }
+    ensures failed { HostFailureLaw }
+    ensures denied { HostDenialLaw }
 {}
 
 /// The law of queued commands: a bit of PxSACT falls by the Set Device Bits FIS of its own tag alone, but for what the

@@ -130,12 +130,12 @@ impl Registers {
     ghost use Rattle.hba.specs.Ready.{is_working, may_sign, may_fetch, may_complete};
     ghost use Rattle.hba_regs.specs.Registers.{register_at, word_at as port_word_at, written_at as port_written_at};
     ghost use Rattle.hba_regs.specs.declared.register.Register.TheVariants as registers;
-    ghost use Rattle.hba.specs.Engine.{received_at};
-    ghost use Rattle.hba.specs.Registers.{fresh, word_at, generic_word, port_word, port_word_of, interrupts, asks, noted, line, overridden, stopped_if, lost_if, found_if, goes_down, comes_up, port_written, port_written_of, generic_written, written_at, resets};
+    ghost use Rattle.hba.specs.Engine.{fises_at};
+    ghost use Rattle.hba.specs.Registers.{reset_registers, word_at, generic_word, port_word, port_word_of, interrupts, asks, noted, line, overridden, stopped_if, lost_if, found_if, goes_down, comes_up, port_written, port_written_of, generic_written, written_at, write_resets};
 
     /// After a reset of the HBA: the port is stopped, and the link has come up.
     pub fn new() -> Registers
-        ensures { result ≡ fresh }
+        ensures { result ≡ reset_registers }
     {
         Registers {
             port: fresh_port(),
@@ -179,7 +179,7 @@ impl Registers {
 
     /// Where received FISes go: at PxFB, while FRE is set.
     pub(crate) fn received_at(&self) -> Option<u32>
-        ensures { result ≡ received_at self.now }
+        ensures { result ≡ fises_at self.now }
     {
         if self.is_receiving() {
             Some(self.kept_word(PX_FB))
@@ -412,7 +412,7 @@ impl Registers {
 
     /// Whether a write resets the drive.
     pub(crate) fn resets(&self, offset: u32, value: u32) -> bool
-        ensures { result ≡ resets self.now offset value }
+        ensures { result ≡ write_resets self.now offset value }
     {
         offset == 0x04 && value & RESET == RESET
             || offset == PORT + PX_SCTL && self.goes_down(value)

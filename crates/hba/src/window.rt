@@ -1,9 +1,9 @@
 //! Host memory, as bytes that stand at a base address, and what the engine finds there (AHCI 1.3.1, section 4).
 
 ghost use Rattle.std.specs.Prelude.{◌≡◌, ◌≤◌, ◌<◌, ◌+◌, ◌*◌, ◌-◌, ◌^◌, ℕ, IfOk, IfSome, length, true};
-ghost use Rattle.slots.specs.Layout.{part, laid};
-ghost use Rattle.slots.specs.Header.{number_at};
-ghost use Rattle.hba.specs.Memory.{stands, table_of, slot_at, is_command, room_at, data_at, data_len, piece_of, regions, have_room, gathered, scattered, AreWithin};
+ghost use Rattle.slots.specs.Layout.{memory_part, memory_with};
+ghost use Rattle.slots.specs.Header.{little_endian_at};
+ghost use Rattle.hba.specs.Memory.{stands, command_table_of, command_slot_at, carries_command, room_at, data_at, data_len, piece_of, regions, have_room, gathered, scattered, AreWithin};
 
 use byteorder::{ByteOrder, LittleEndian};
 use fis::{H2D_LENGTH, H2D_TYPE};
@@ -53,7 +53,7 @@ pub(crate) fn stands(base: u32, memory: &[u8], at: u64, len: usize) -> bool
 /// The bytes at an address.
 fn bytes_at(base: u32, memory: &[u8], at: u64, len: usize) -> &[u8]
     requires { stands base memory.now at len ≡ true }
-    ensures value { result.now ≡ part memory.now (at - base) len }
+    ensures value { result.now ≡ memory_part memory.now (at - base) len }
     ensures long { length result.now ≡ len }
 {
     let at = (at - u64::from(base)) as usize;
@@ -62,7 +62,7 @@ fn bytes_at(base: u32, memory: &[u8], at: u64, len: usize) -> &[u8]
 
 /// Whether the bytes of a FIS are a command.
 pub(crate) fn is_command(fis: &[u8; H2D_LENGTH]) -> bool
-    ensures { result ≡ is_command fis.now }
+    ensures { result ≡ carries_command fis.now }
 {
     fis[0] == H2D_TYPE && fis[1] >= 0x80
 }
@@ -70,7 +70,7 @@ pub(crate) fn is_command(fis: &[u8; H2D_LENGTH]) -> bool
 /// The command slot whose header stands at an address.
 pub(crate) fn slot_at(base: u32, memory: &[u8], at: u64) -> Option<Slot>
     requires { at < 2 ^ 40 }
-    ensures { result ≡ slot_at base memory.now at }
+    ensures { result ≡ command_slot_at base memory.now at }
 {
     if !stands(base, memory, at, HEADER) {
         return None;
@@ -93,7 +93,7 @@ pub(crate) fn slot_at(base: u32, memory: &[u8], at: u64) -> Option<Slot>
 /// CTBA: where the command table stands.
 fn table_of(header: &[u8]) -> u32
     requires { 32 ≤ length header.now }
-    ensures { result ≡ table_of header.now }
+    ensures { result ≡ command_table_of header.now }
 {
     let at = LittleEndian::read_u32(&header[8..]);
     at - at % 128
@@ -235,7 +235,7 @@ pub(crate) fn gather(
 /// Lays bytes among others from a place on.
 pub(crate) fn lay(memory: &mut [u8], at: usize, bytes: &[u8])
     requires { at + length bytes.now ≤ length memory.old }
-    ensures { memory.new ≡ laid memory.old at bytes.now }
+    ensures { memory.new ≡ memory_with memory.old at bytes.now }
 {
     memory[at..at + bytes.len()].copy_from_slice(bytes);
 }

@@ -78,8 +78,8 @@ pub record Regs : Type 0 where
   pub issued : ℕ
 
 -- Before anything is written: a drive is there and ready, and the port runs. The list stands at 0.
-abbrev pub fresh : Regs
-fresh = record {
+abbrev pub start_registers : Regs
+start_registers = record {
   list_base = 0;
   fis_base = first_fis_base;
   interrupts = 0;
@@ -130,40 +130,40 @@ abbrev pub without : ℕ → ℕ → ℕ
 without bits mask = bit_and bits (bit_not w32 mask)
 
 -- whether a word has the bits of a mask
-abbrev pub has : ℕ → ℕ → Bool
-has bits mask = bit_and bits mask == mask
+abbrev pub has_bits : ℕ → ℕ → Bool
+has_bits bits mask = bit_and bits mask == mask
 
 -- A port that is stopped has no command (3.3.7, ST).
 abbrev pub stopped : Regs → Regs
 stopped regs = record regs { running = false; active = 0; issued = 0 }
 
-abbrev pub started : Regs → Regs
-started regs = record regs { running = true }
+abbrev pub after_start : Regs → Regs
+after_start regs = record regs { running = true }
 
 -- What a write of ST makes of the port.
-abbrev pub run : Bool → Regs → Regs
-run true regs = started regs
-run false regs = stopped regs
+abbrev pub run_if : Bool → Regs → Regs
+run_if true regs = after_start regs
+run_if false regs = stopped regs
 
 -- What a write makes of a register: bits that keep what is written, bits that a written 1 clears,
 -- bits that a written 1 sets while the port runs, and registers that no write changes.
-abbrev pub written : Regs → Register → ℕ → Regs
-written regs ListBase value = record regs { list_base = bit_and value list_base_bits }
-written regs ListBaseUpper value = regs
-written regs FisBase value = record regs { fis_base = bit_and value fis_base_bits }
-written regs FisBaseUpper value = regs
-written regs InterruptStatus value = record regs { interrupts = without regs.interrupts value }
-written regs InterruptEnable value = record regs { enabled = value }
-written regs Command value =
-    run (has value start_bit) (record regs { receiving = has value receive_bit })
-written regs TaskFile value = regs
-written regs Signature value = regs
-written regs SataStatus value = regs
-written regs SataControl value = record regs { control = value }
-written regs SataError value = record regs { link_errors = without regs.link_errors value }
-written regs Active value =
+abbrev pub rewritten : Regs → Register → ℕ → Regs
+rewritten regs ListBase value = record regs { list_base = bit_and value list_base_bits }
+rewritten regs ListBaseUpper value = regs
+rewritten regs FisBase value = record regs { fis_base = bit_and value fis_base_bits }
+rewritten regs FisBaseUpper value = regs
+rewritten regs InterruptStatus value = record regs { interrupts = without regs.interrupts value }
+rewritten regs InterruptEnable value = record regs { enabled = value }
+rewritten regs Command value =
+    run_if (has_bits value start_bit) (record regs { receiving = has_bits value receive_bit })
+rewritten regs TaskFile value = regs
+rewritten regs Signature value = regs
+rewritten regs SataStatus value = regs
+rewritten regs SataControl value = record regs { control = value }
+rewritten regs SataError value = record regs { link_errors = without regs.link_errors value }
+rewritten regs Active value =
     if regs.running then record regs { active = bit_or regs.active value } else regs
-written regs Issue value =
+rewritten regs Issue value =
     if regs.running then record regs { issued = bit_or regs.issued value } else regs
 
 -- whether the host can't write it
@@ -174,13 +174,13 @@ is_read_only SataStatus = true
 is_read_only _ = false
 
 -- Why a write is refused, the first reason first.
-abbrev pub fault_of : Option Register → Option RegError
-fault_of None = Some BadOffset
-fault_of (Some register) = if is_read_only register then Some ReadOnly else None
+abbrev pub write_fault : Option Register → Option RegError
+write_fault None = Some BadOffset
+write_fault (Some register) = if is_read_only register then Some ReadOnly else None
 
 abbrev pub written_of : Regs → Option Register → ℕ → Regs
 written_of regs None value = regs
-written_of regs (Some register) value = written regs register value
+written_of regs (Some register) value = rewritten regs register value
 
 -- The registers after a write of a value at an offset.
 abbrev pub written_at : Regs → ℕ → ℕ → Regs

@@ -26,7 +26,7 @@ pub struct PortRegs {
 }
 
 impl Model for PortRegs {
-    ghost use Rattle.hba_regs.specs.Registers.{Regs, has, start_bit, receive_bit};
+    ghost use Rattle.hba_regs.specs.Registers.{Regs, has_bits, start_bit, receive_bit};
 
     ghost Value = { Regs };
 
@@ -35,8 +35,8 @@ impl Model for PortRegs {
       fis_base = a.fis_base;
       interrupts = a.interrupts.0;
       enabled = a.enabled;
-      running = has a.command.0 start_bit;
-      receiving = has a.command.0 receive_bit;
+      running = has_bits a.command.0 start_bit;
+      receiving = has_bits a.command.0 receive_bit;
       status = a.status;
       error = a.error;
       control = a.control;
@@ -67,11 +67,11 @@ const SATA_STATUS: u32 = 0x0133;
 impl PortRegs {
     ghost use Rattle.std.specs.Prelude.{◌≡◌, ◌+◌, ◌*◌, ◌^◌, ◌↔◌, MatchResult, OnErr, IsErrOf, Some, None, bit_or, if◌then◌else◌};
     ghost use Rattle.hba_regs.specs.declared.register.Register.TheVariants.{Command};
-    ghost use Rattle.hba_regs.specs.Registers.{fresh, word_at, written_at, fault_of, register_at, without, stopped, started, command_word, written};
+    ghost use Rattle.hba_regs.specs.Registers.{start_registers, word_at, written_at, write_fault, register_at, without, stopped, after_start, command_word, rewritten};
 
     /// The registers of a port that runs, with a device that is ready.
     pub fn new() -> PortRegs
-        ensures { result ≡ fresh }
+        ensures { result ≡ start_registers }
     {
         PortRegs {
             list_base: 0,
@@ -128,7 +128,7 @@ impl PortRegs {
     }
 
     fn write_command(&mut self, value: u32)
-        ensures { self.new ≡ written self.old Command value }
+        ensures { self.new ≡ rewritten self.old Command value }
     {
         let asked = PxCmd::from_bits_retain(value);
         self.command = asked;
@@ -143,8 +143,8 @@ impl PortRegs {
     /// The errors come in this order: `BadOffset`, `ReadOnly`.
     pub fn write(&mut self, offset: u32, value: u32) -> Result<(), RegError>
         ensures exact { self.new ≡ written_at self.old offset value }
-        ensures fault { MatchResult result (λ _. fault_of (register_at offset) ≡ None)
-            (λ e. fault_of (register_at offset) ≡ Some e) }
+        ensures fault { MatchResult result (λ _. write_fault (register_at offset) ≡ None)
+            (λ e. write_fault (register_at offset) ≡ Some e) }
         ensures bad { IsErrOf result RegError.BadOffset ↔ (word_at self.old offset ≡ None) }
         ensures err { OnErr result (self.new ≡ self.old) }
     {
@@ -246,7 +246,7 @@ impl PortRegs {
 
     /// Sets ST.
     pub fn start(&mut self)
-        ensures { self.new ≡ started self.old }
+        ensures { self.new ≡ after_start self.old }
     {
         self.command.insert(PxCmd::ST);
     }

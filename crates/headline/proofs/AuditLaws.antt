@@ -23,7 +23,7 @@ use Rattle.port_history.specs.declared.step.Step.{Step}
 use Rattle.port_history.specs.declared.step.Step.TheVariants as steps
 use Rattle.port_history.specs.Refusals.{IsLawful}
 use Rattle.port_history.specs.Requests.{command_fis}
-use Rattle.port_history.specs.Stages.{put_in}
+use Rattle.port_history.specs.Stages.{put_at}
 use Rattle.history.specs.Audit.{line_for}
 use Rattle.port_history.specs.Steps.{Effect, Moment, moment, trace, stage, failed, payload, acceptance, accept_payload, act_of, audit, line_of}
 use Rattle.port_history.proofs.KeptLaw.{kept, accept_is, found, recover_is}
@@ -146,7 +146,7 @@ accepted_act : (o : Origin) (before : List Step) (u : ℕ) (put : Put)
     → act_of (trace o before) (steps.Accept u)
     ≡ Some (AcceptFis (command_fis put.command u) (accept_payload put (payload (trace o before) u)))
 accepted_act o before u put was =
-    ap (λ (p : Option Put). acceptance u p (payload (trace o before) u)) (ap put_in was)
+    ap (λ (p : Option Put). acceptance u p (payload (trace o before) u)) (ap put_at was)
 
 abbrev event_then : Origin → List Step → ℕ → Put → Event
 event_then o before u put =

@@ -17,7 +17,7 @@ use Rattle.history.specs.Facts.{Facts}
 use Rattle.history.specs.Decisions.{not_found, fails, fails_queue, on_drive, verdict_on, holds, queued_by, unqueued_by, unqueued_of, known_of}
 use Rattle.port_history.specs.declared.request.Answer.{Answer}
 use Rattle.port_history.specs.declared.request.Answer.TheVariants as answers
-use Rattle.port_history.specs.Stages.{is_queued}
+use Rattle.port_history.specs.Stages.{is_queued_command}
 use Rattle.port_history.specs.Steps.{answered_with}
 use Rattle.port_history.proofs.Fises.{read_as}
 use Rattle.headline.specs.Transfers.{Transfer, transfer_of}
@@ -89,7 +89,7 @@ pub record IsTakenTransfer (tag : ℕ) (command : Command) (f : Facts) (h : RegH
   pub taken : IsTaken tag command f x h e
 
 pub queued_taken : (items : Items) (f : Facts) (h : RegH2d) (bytes : List ℕ) (command : Command) (tag : ℕ)
-    → is_queued command ≡ true → f.held tag ≡ None
+    → is_queued_command command ≡ true → f.held tag ≡ None
     → IsTakenTransfer tag command f h (known_of items f h bytes (Ok (read_as command, tag_with command tag)))
 queued_taken items f h bytes (ReadQueued lba count) tag queued free = record {
   x = record { op = Read; lba = lba; count = count };
@@ -127,7 +127,7 @@ same e = cc
 
 -- the answer of a command that is executed whole, where it is a transfer
 pub executed_is : (items : Items) (f : Facts) (payload : List ℕ) (command : Command) (tag : ℕ) (x : Transfer)
-    → is_queued command ≡ false → transfer_of command ≡ Some x
+    → is_queued_command command ≡ false → transfer_of command ≡ Some x
     → executed (unqueued_of items f payload (read_as command)) (data_read_of items f (Ok (read_as command, tag_with command tag)))
     ≡ answer_to f f x
 executed_is items f payload (ReadQueued lba count) tag x unqueued_is is = absurd cc

@@ -9,7 +9,7 @@ use Rattle.history.specs.Items.{Items}
 use Rattle.history.specs.History.{Act, event_of, event_in}
 use Rattle.history.specs.NoTrace.{emptied, is_commit, Aborts, further}
 use Rattle.history.specs.Opening.{Origin}
-use Rattle.history.specs.Readers.{is_start, living, starts, gains, turns, open_on, own_changes, if_open, open_changes, only_on, unless_open, brought, changes, tries_then, writing, holding, failing, waits}
+use Rattle.history.specs.Readers.{is_start, living, starts, gains, turns, open_on, own_changes, if_open, open_changes, only_on, unless_any_open, brought, changes, tries_then, writing, holding, failing, waits}
 use Rattle.history.proofs.Emptied.{every-since, every-since-more, tries-emptied, open_on-emptied, open_changes-emptied, changes-emptied}
 use Rattle.history.proofs.NoTraceLaws.{Read, Alike, read-emptied, open_changes-more, facts-alike}
 use Rattle.history.proofs.Words.{latest-here, sp-is}
@@ -45,7 +45,7 @@ read_more e es fs h = record {
 
 brought_alike : (s : Sp) (es fs : List Event) → open_on fs s ≡ open_on es s → (d : Deed)
     → (is_commit d ≡ true → open_changes fs s ≡ open_changes es s) → brought fs s d ≡ brought es s d
-brought_alike s es fs same (InSession (Changed t c) r) own = ap (λ x. only_on s t (unless_open x c)) same
+brought_alike s es fs same (InSession (Changed t c) r) own = ap (λ x. only_on s t (unless_any_open x c)) same
 brought_alike s es fs same (InSession (Committed t) r) own = ap (only_on s t) (own refl)
 brought_alike s es fs same _ own = refl
 

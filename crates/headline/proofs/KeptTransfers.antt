@@ -24,7 +24,7 @@ use Rattle.port_history.specs.declared.step.Step.{Step}
 use Rattle.port_history.specs.declared.step.Step.TheVariants as steps
 use Rattle.port_history.specs.Refusals.{AreLawful}
 use Rattle.port_history.specs.Requests.{command_fis}
-use Rattle.port_history.specs.Stages.{is_queued, to, accepted_stage}
+use Rattle.port_history.specs.Stages.{is_queued_command, to, accepted_stage}
 use Rattle.port_history.specs.Steps.{Effect, Moment, events, stage, failed, is_tag, payload, put_of, answer, accept_payload, executed_answer, trace_of}
 use Rattle.port_history.proofs.Acted.{IsExecuted, event_is, reads_bytes}
 use Rattle.port_history.proofs.Fises.{read_as}
@@ -107,7 +107,7 @@ and_false false = refl
 
 -- the event of a queued command
 pub queued_event : (items : Items) (o : Origin) (ms : List Moment) (u : ℕ) (put : Put) → u < 32 → Kept ms
-    → failed ms ≡ None → stage ms u ≡ Issued put → is_queued put.command ≡ true
+    → failed ms ≡ None → stage ms u ≡ Issued put → is_queued_command put.command ≡ true
     → IsTakenTransfer u put.command (facts o (events ms)) (fis_of put.command u)
     (accepted_effect items o ms u put).event
 queued_event items o ms u put lu k mended was queued =
@@ -123,16 +123,16 @@ queued_event items o ms u put lu k mended was queued =
 
 failed_by_event : (ms : List Moment) (u : ℕ) (put : Put) (e : Effect) (x : Event) → e.event ≡ x
     → failed (accept_moment u put e ∷ ms)
-    ≡ unwrap_or (if is_queued put.command && is_some x.failed then Some (Some u) else None) (failed ms)
+    ≡ unwrap_or (if is_queued_command put.command && is_some x.failed then Some (Some u) else None) (failed ms)
 failed_by_event ms u put e x is =
     ap
-    (λ (y : Event). unwrap_or (if is_queued put.command && is_some y.failed then Some (Some u) else None)
+    (λ (y : Event). unwrap_or (if is_queued_command put.command && is_some y.failed then Some (Some u) else None)
     (failed ms))
     is
 
 queued_self : (items : Items) (o : Origin) (before : List Step) (u : ℕ) (put : Put) (e : Effect)
     → failed (trace_of items o before) ≡ None → stage (trace_of items o before) u ≡ Issued put
-    → is_queued put.command ≡ true
+    → is_queued_command put.command ≡ true
     → IsTakenTransfer u put.command (facts_after items o before) (fis_of put.command u) e.event
     → AtMoment (trace_of items o before) (accept_moment u put e) u
     (facts_after items o (if u == u then before else before_acceptance before u))
@@ -186,7 +186,7 @@ queued_self items o before u put e mended was queued taken = by_event taken.take
         })
 
 queued_other : (items : Items) (o : Origin) (before : List Step) (u : ℕ) (put : Put) (e : Effect)
-    → failed (trace_of items o before) ≡ None → is_queued put.command ≡ true
+    → failed (trace_of items o before) ≡ None → is_queued_command put.command ≡ true
     → IsTakenTransfer u put.command (facts_after items o before) (fis_of put.command u) e.event
     → (t : ℕ) → (u == t) ≡ false → ComesAt items o before t
     → AtMoment (trace_of items o before) (accept_moment u put e) t
@@ -227,11 +227,11 @@ queued_other items o before u put e mended queued taken t apart k = by_event tak
 
 -- a command that is executed whole
 known_unqueued : (items : Items) (f : Facts) (h : _) (bytes : List ℕ) (command : Command) (tag : ℕ)
-    → is_queued command ≡ false
+    → is_queued_command command ≡ false
     → known_of items f h bytes (Ok (read_as command, tag_with command tag)) ≡ unqueued_of items f bytes (read_as command)
 known_unqueued items f h bytes command tag e = by_command command e
   where
-    by_command : (c : Command) → is_queued c ≡ false
+    by_command : (c : Command) → is_queued_command c ≡ false
         → known_of items f h bytes (Ok (read_as c, tag_with c tag)) ≡ unqueued_of items f bytes (read_as c)
     by_command (commands.ReadQueued lba count) e = absurd (cc)
     by_command (commands.WriteQueued lba count) e = absurd (cc)
@@ -244,19 +244,19 @@ known_unqueued items f h bytes command tag e = by_command command e
     by_command commands.Flush e = refl
 
 pub unqueued_event : (items : Items) (o : Origin) (ms : List Moment) (u : ℕ) (put : Put) → u < 32 → Kept ms
-    → failed ms ≡ None → stage ms u ≡ Issued put → is_queued put.command ≡ false
+    → failed ms ≡ None → stage ms u ≡ Issued put → is_queued_command put.command ≡ false
     → (accepted_effect items o ms u put).event
     ≡ unqueued_of items (facts o (events ms)) (accept_payload put (payload ms u)) (read_as put.command)
 unqueued_event items o ms u put lu k mended was unqueued_is =
     event_is items o (events ms) put.command u (accept_payload put (payload ms u)) lu
     (fit_issued ms u put k was).sized (mended_queue ms k mended)
-    (ap (λ (b : Bool). b && not (is_queued put.command)) (idle o ms u put lu k was unqueued_is))
+    (ap (λ (b : Bool). b && not (is_queued_command put.command)) (idle o ms u put lu k was unqueued_is))
     ∙ known_unqueued items (facts o (events ms)) (fis_of put.command u) (accept_payload put (payload ms u))
     put.command u unqueued_is
 
 -- its answer
 pub executed_now : (items : Items) (o : Origin) (ms : List Moment) (u : ℕ) (put : Put) → u < 32 → Kept ms
-    → failed ms ≡ None → stage ms u ≡ Issued put → is_queued put.command ≡ false
+    → failed ms ≡ None → stage ms u ≡ Issued put → is_queued_command put.command ≡ false
     → executed_answer (Some (accepted_effect items o ms u put))
     ≡ Some (Some (executed (unqueued_of items (facts o (events ms)) (accept_payload put (payload ms u)) (read_as put.command))
     (data_read_of items (facts o (events ms)) (Ok (read_as put.command, tag_with put.command u)))))
@@ -273,7 +273,7 @@ executed_now items o ms u put lu k mended was unqueued_is =
 
 unqueued_self : (items : Items) (o : Origin) (before : List Step) (u : ℕ) (put : Put) → u < 32
     → Kept (trace_of items o before) → failed (trace_of items o before) ≡ None
-    → stage (trace_of items o before) u ≡ Issued put → is_queued put.command ≡ false
+    → stage (trace_of items o before) u ≡ Issued put → is_queued_command put.command ≡ false
     → AtMoment (trace_of items o before) (accept_moment u put (accepted_effect items o (trace_of items o before) u put)) u
     (facts_after items o (if u == u then before else before_acceptance before u))
     (facts_after items o (if u == u then before else before_move before u))
@@ -315,7 +315,7 @@ unqueued_self items o before u put lu k mended was unqueued_is =
         inr (ap Some (executed_is items f (accept_payload put (payload ms u)) put.command u x unqueued_is is))
 
 unqueued_other : (items : Items) (o : Origin) (before : List Step) (u : ℕ) (put : Put) (e : Effect)
-    → failed (trace_of items o before) ≡ None → is_queued put.command ≡ false
+    → failed (trace_of items o before) ≡ None → is_queued_command put.command ≡ false
     → IsExecuted (events (trace_of items o before)) put.command e
     → (t : ℕ) → (u == t) ≡ false → ComesAt items o before t
     → AtMoment (trace_of items o before) (accept_moment u put e) t
@@ -338,8 +338,8 @@ comes_accept : (items : Items) (still : IsQuiet items) (o : Origin) (before : Li
     → stage (trace_of items o before) u ≡ Issued put → ((t : ℕ) → ComesAt items o before t) → (t : ℕ)
     → ComesAt items o (steps.Accept u ∷ before) t
 comes_accept items still o before u put lu k mended was all =
-    split items o (steps.Accept u ∷ before) u (self (is_queued put.command) refl)
-    (λ t apart. other (is_queued put.command) refl t apart)
+    split items o (steps.Accept u ∷ before) u (self (is_queued_command put.command) refl)
+    (λ t apart. other (is_queued_command put.command) refl t apart)
   where
     ms : List Moment
     ms = trace_of items o before
@@ -347,7 +347,7 @@ comes_accept items still o before u put lu k mended was all =
     e : Effect
     e = accepted_effect items o ms u put
 
-    self : (b : Bool) → is_queued put.command ≡ b → ComesAt items o (steps.Accept u ∷ before) u
+    self : (b : Bool) → is_queued_command put.command ≡ b → ComesAt items o (steps.Accept u ∷ before) u
     self true queued =
         subst (λ (m : Moment). AtMoment ms m u
         (facts_after items o (if u == u then before else before_acceptance before u))
@@ -361,7 +361,7 @@ comes_accept items still o before u put lu k mended was all =
         (sym (accept_is items o ms u put was))
         (unqueued_self items o before u put lu k mended was unqueued_is)
 
-    other : (b : Bool) → is_queued put.command ≡ b → (t : ℕ) → (u == t) ≡ false
+    other : (b : Bool) → is_queued_command put.command ≡ b → (t : ℕ) → (u == t) ≡ false
         → ComesAt items o (steps.Accept u ∷ before) t
     other true queued t apart =
         subst (λ (m : Moment). AtMoment ms m t

@@ -27,7 +27,7 @@ use Rattle.port_history.specs.declared.stages.Stage.TheVariants.{Free, Prepared,
 use Rattle.port_history.specs.declared.step.Step.{Step}
 use Rattle.port_history.specs.declared.step.Step.TheVariants as steps
 use Rattle.port_history.specs.Refusals.{AreLawful}
-use Rattle.port_history.specs.Stages.{is_queued, is_pending, to, recovered, after_reset}
+use Rattle.port_history.specs.Stages.{is_queued_command, is_pending, to, recovered, stage_after_reset}
 use Rattle.port_history.specs.Steps.{Effect, Moment, events, stage, failed, is_tag, payload, put_of, answer, accept_payload, recovered_answer, trace_of}
 use Rattle.port_history.proofs.Fises.{read_as, brought}
 use Rattle.port_history.proofs.Kept.{Kept, accept_moment, complete_moment, accepted_moves, executed_moves}
@@ -121,7 +121,7 @@ landed_recover true f after content a (Answered put) k =
 landed_recover false f after content a (Answered put) k = k
 
 landed_reset : (after : List Event) (content : List ℕ) (a : Option Answer) (s : Stage) → Landed after content a s
-    → Landed after content (unwrap_or (if is_pending s then Some (Some answers.Reset) else None) a) (after_reset s)
+    → Landed after content (unwrap_or (if is_pending s then Some (Some answers.Reset) else None) a) (stage_after_reset s)
 landed_reset after content a Free k = record { it = tt }
 landed_reset after content a (Prepared put) k = record { it = not_done after put.command content _ was_reset }
 landed_reset after content a (Issued put) k = record { it = not_done after put.command content _ was_reset }
@@ -166,7 +166,7 @@ wrote_lands past lba count content true Shadow long given bytes e =
     λ k below. lands_at (did (Wrote lba content)) past lba k count content refl long below
 
 executed_lands : (items : Items) (f : Facts) (past : List Event) (content given : List ℕ) (command : Command)
-    → is_queued command ≡ false → length content ≡ brought command
+    → is_queued_command command ≡ false → length content ≡ brought command
     → HasLanded (unqueued_of items f content (read_as command) ∷ past) command content
     (Some (executed (unqueued_of items f content (read_as command)) given))
 executed_lands items f past content given (commands.ReadQueued lba count) unqueued_is long = absurd (cc)
@@ -185,7 +185,7 @@ executed_lands items f past content given commands.Flush unqueued_is long = tt
 
 -- a completion
 completed_lands : (u : ℕ) (past : List Event) (content : List ℕ) (a : Option Answer) (command : Command)
-    → is_queued command ≡ true → length content ≡ brought command
+    → is_queued_command command ≡ true → length content ≡ brought command
     → HasLanded (completed_by u content command ∷ past) command content a
 completed_lands u past content a (commands.ReadQueued lba count) queued long = λ w. absurd (no_write w)
   where
@@ -214,7 +214,7 @@ AtMoment ms m u = Landed (events (m ∷ ms)) (payload (m ∷ ms) u) (answer (m �
 accept_self : (items : Items) (o : Origin) (before : List Step) (u : ℕ) (put : Put) → u < 32 → Kept (trace_of items o before)
     → failed (trace_of items o before) ≡ None → stage (trace_of items o before) u ≡ Issued put
     → AtMoment (trace_of items o before) (accept_moment u put (accepted_effect items o (trace_of items o before) u put)) u
-accept_self items o before u put lu k mended was = by_kind (is_queued put.command) refl
+accept_self items o before u put lu k mended was = by_kind (is_queued_command put.command) refl
   where
     ms : List Moment
     ms = trace_of items o before
@@ -225,10 +225,10 @@ accept_self items o before u put lu k mended was = by_kind (is_queued put.comman
     e : Effect
     e = accepted_effect items o ms u put
 
-    bytes_are : is_queued put.command ≡ false → accept_payload put (payload ms u) ≡ payload ms u
+    bytes_are : is_queued_command put.command ≡ false → accept_payload put (payload ms u) ≡ payload ms u
     bytes_are unqueued_is = ap (λ (b : Bool). if b then [] else payload ms u) unqueued_is
 
-    by_kind : (b : Bool) → is_queued put.command ≡ b → AtMoment ms (accept_moment u put e) u
+    by_kind : (b : Bool) → is_queued_command put.command ≡ b → AtMoment ms (accept_moment u put e) u
     by_kind true queued =
         landed_by {s = Accepted put} refl refl refl
         (sym (accepted_moves ms u u put was queued) ∙ this_if (u == u) (Accepted put) (stage ms u) (itself u))

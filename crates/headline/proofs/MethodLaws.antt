@@ -44,7 +44,7 @@ use Rattle.port_history.specs.declared.step.Step.{Step}
 use Rattle.port_history.specs.declared.step.Step.TheVariants as steps
 use Rattle.port_history.specs.Refusals.{IsLawful}
 use Rattle.port_history.specs.Requests.{command_fis}
-use Rattle.port_history.specs.Stages.{is_queued}
+use Rattle.port_history.specs.Stages.{is_queued_command}
 use Rattle.port_history.specs.Steps.{Effect, Moment, trace, stage, failed, payload, accept_payload}
 use Rattle.port_history.proofs.Acted.{reads_bytes, commands_of}
 use Rattle.port_history.proofs.Fises.{fis_back, read_as}
@@ -94,8 +94,8 @@ looked o before u put com_id blocks lu k mended was sends of_sessions = record {
     ms : List Moment
     ms = trace o before
 
-    unqueued : is_queued put.command ≡ false
-    unqueued = ap is_queued sends
+    unqueued : is_queued_command put.command ≡ false
+    unqueued = ap is_queued_command sends
 
 trusted_now : (blocks : ℕ) (s w : Bool) → 0 < blocks → s ≡ true → w ≡ false
     → (is_trusted 1 blocks && s && not w) ≡ true
@@ -143,7 +143,7 @@ called o before step session object method args h c = record {
 
     data_of : accept_payload c.put (payload (trace o before) c.tag) ≡ payload (trace o before) c.tag
     data_of =
-        ap (λ (command : Command). if is_queued command then [] else payload (trace o before) c.tag) c.sends
+        ap (λ (command : Command). if is_queued_command command then [] else payload (trace o before) c.tag) c.sends
 
 -- and its event is the step's
 event_is_here : (o : Origin) (before : List Step) (step : Step) (u : ℕ) (put : Put)

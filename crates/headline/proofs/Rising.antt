@@ -10,7 +10,7 @@ use Rattle.sp_cells.specs.declared.cells.Cell.{Cell}
 use Rattle.sp_cells.specs.Flat.{LookUp}
 use Rattle.methods.specs.Kinds.{kind_of}
 use Rattle.methods.specs.Columns.{columns_of}
-use Rattle.methods.specs.Listed.{is_listed, shown, listed_among, listed}
+use Rattle.methods.specs.Listed.{is_listed, shown_column, listed_among, listed}
 use Rattle.methods.specs.Laws.{is_below, are_rising}
 use Rattle.methods.proofs.ListLaws.{rise_law}
 
@@ -38,7 +38,7 @@ record Rises (from to : List Column) : Type 0 where
 
 with_shown : (k : Column) (x : Option Cell) (ks : List Column) (rest : List (Column × Cell))
     → is_below k.0 ks ≡ true → Rises ks (names rest)
-    → Rises (k ∷ ks) (names (shown k x ++ rest))
+    → Rises (k ∷ ks) (names (shown_column k x ++ rest))
 with_shown k None ks rest over h = record {
   all = h.all;
   first = λ n low. below n k.0 low (names rest) (h.first k.0 over);
@@ -53,7 +53,7 @@ without : (k : Column) (ks : List Column) (rest : List (Column × Cell)) → is_
 without k ks rest over h = with_shown k None ks rest over h
 
 among : (test : Column → Bool) (cell : Column → Option Cell) (ks : List Column) → are_rising ks ≡ true
-    → Rises ks (names (flat_map (λ (k : Column). shown k (cell k)) (filter test ks)))
+    → Rises ks (names (flat_map (λ (k : Column). shown_column k (cell k)) (filter test ks)))
 among test cell [] h = record { all = refl; first = λ n low. refl }
 among test cell (k ∷ ks) h =
     let p = both (is_below k.0 ks) (are_rising ks) h in
@@ -63,8 +63,8 @@ among test cell (k ∷ ks) h =
     rest = filter test ks
 
     by_test : (b : Bool) → is_below k.0 ks ≡ true
-        → Rises ks (names (flat_map (λ (k : Column). shown k (cell k)) rest))
-        → Rises (k ∷ ks) (names (flat_map (λ (k : Column). shown k (cell k)) (cond b (k ∷ rest) rest)))
+        → Rises ks (names (flat_map (λ (k : Column). shown_column k (cell k)) rest))
+        → Rises (k ∷ ks) (names (flat_map (λ (k : Column). shown_column k (cell k)) (cond b (k ∷ rest) rest)))
     by_test true over g = with_shown k (cell k) ks _ over g
     by_test false over g = without k ks _ over g
 

@@ -26,7 +26,7 @@ use Rattle.port_history.specs.declared.stages.Stage.TheVariants.{Free, Prepared,
 use Rattle.port_history.specs.declared.step.Step.{Step}
 use Rattle.port_history.specs.declared.step.Step.TheVariants as steps
 use Rattle.port_history.specs.Refusals.{AreLawful}
-use Rattle.port_history.specs.Stages.{is_queued, is_pending, to, recovered, after_reset}
+use Rattle.port_history.specs.Stages.{is_queued_command, is_pending, to, recovered, stage_after_reset}
 use Rattle.port_history.specs.Steps.{Effect, Moment, event_before, events, stage, failed, is_tag, payload, put_of, answer, accept_payload, recovered_answer, executed_answer, trace_of}
 use Rattle.port_history.proofs.Fises.{read_as}
 use Rattle.port_history.proofs.Kept.{Kept, accept_moment, complete_moment, accepted_moves, executed_moves}
@@ -129,7 +129,7 @@ unmoved_recover false f e own a (Answered put) quiet apart k =
 
 unmoved_reset : (e : Event) (own : List Event) (a : Option Answer) (s : Stage)
     → ((place : ℕ) → writing place e.deed ≡ None) → Unmoved own a s
-    → Unmoved (e ∷ own) (unwrap_or (if is_pending s then Some (Some answers.Reset) else None) a) (after_reset s)
+    → Unmoved (e ∷ own) (unwrap_or (if is_pending s then Some (Some answers.Reset) else None) a) (stage_after_reset s)
 unmoved_reset e own a Free quiet k = record { it = tt }
 unmoved_reset e own a (Prepared put) quiet k =
     record { it = never (e ∷ own) put.command _ (and_then e own quiet k.it) }
@@ -171,7 +171,7 @@ write_quiet lba content given true Serve undone place = absurd (undone (given, r
 write_quiet lba content given true Shadow undone place = absurd (undone (given, refl))
 
 executed_unmoved : (items : Items) (f : Facts) (own : List Event) (content given : List ℕ) (command : Command)
-    → is_queued command ≡ false → MoveNothing own
+    → is_queued_command command ≡ false → MoveNothing own
     → IsUnmoved (unqueued_of items f content (read_as command) ∷ own) command
     (Some (executed (unqueued_of items f content (read_as command)) given))
 executed_unmoved items f own content given (commands.ReadQueued lba count) unqueued_is k = absurd (cc)
@@ -191,7 +191,7 @@ executed_unmoved items f own content given commands.Flush unqueued_is k = tt
 
 -- A completion.
 completed_unmoved : (u : ℕ) (own : List Event) (content bytes : List ℕ) (command : Command)
-    → is_queued command ≡ true → MoveNothing own
+    → is_queued_command command ≡ true → MoveNothing own
     → IsUnmoved (completed_by u content command ∷ own) command (Some (answers.Done bytes))
 completed_unmoved u own content bytes (commands.ReadQueued lba count) queued k =
     λ undone. and_then (completed_by u content (commands.ReadQueued lba count)) own (λ place. refl) k
@@ -228,7 +228,7 @@ accept_self : (items : Items) (o : Origin) (before : List Step) (u : ℕ) (put :
     → MoveNothing (own_past items o before u)
     → AtMoment (own_past items o before u) (trace_of items o before)
     (accept_moment u put (accepted_effect items o (trace_of items o before) u put)) u
-accept_self items o before u put lu k mended was own_quiet = by_kind (is_queued put.command) refl
+accept_self items o before u put lu k mended was own_quiet = by_kind (is_queued_command put.command) refl
   where
     ms : List Moment
     ms = trace_of items o before
@@ -242,7 +242,7 @@ accept_self items o before u put lu k mended was own_quiet = by_kind (is_queued 
     e : Effect
     e = accepted_effect items o ms u put
 
-    by_kind : (b : Bool) → is_queued put.command ≡ b → AtMoment own ms (accept_moment u put e) u
+    by_kind : (b : Bool) → is_queued_command put.command ≡ b → AtMoment own ms (accept_moment u put e) u
     by_kind true queued =
         let q = queued_event items o ms u put lu k mended was queued in
         unmoved_by {s = Accepted put} refl refl

@@ -12,7 +12,7 @@ use Rattle.port_history.specs.declared.request.Answer.TheVariants as answers
 use Rattle.port_history.specs.declared.stages.Put.{Put}
 use Rattle.port_history.specs.declared.stages.Stage.{Stage}
 use Rattle.port_history.specs.declared.stages.Stage.TheVariants.{Free, Prepared, Issued, Accepted, Answered}
-use Rattle.port_history.specs.Stages.{to, recovered, after_reset, is_pending}
+use Rattle.port_history.specs.Stages.{to, recovered, stage_after_reset, is_pending}
 use Rattle.port_history.specs.Steps.{is_tag, recovered_answer}
 use Rattle.headline.specs.Transfers.{Transfer, transfer_of}
 use Rattle.headline.proofs.Came.{answer_to}
@@ -141,7 +141,7 @@ stopped f g command = by_transfer (transfer_of command)
 
 pub comes_reset : (tag : ℕ) (u : Option ℕ) (failing failing' : Option Failure) (h h' : Option HeldCommand) (f g : Facts) (a : Option Answer) (s : Stage)
     → Comes tag u failing h f g a s
-    → Comes tag None failing' h' f g (unwrap_or (if is_pending s then Some (Some answers.Reset) else None) a) (after_reset s)
+    → Comes tag None failing' h' f g (unwrap_or (if is_pending s then Some (Some answers.Reset) else None) a) (stage_after_reset s)
 comes_reset tag u failing failing' h h' f g a Free k = record { it = tt }
 comes_reset tag u failing failing' h h' f g a (Prepared put) k = record { it = (refl, stopped f g put.command) }
 comes_reset tag u failing failing' h h' f g a (Issued put) k = record { it = (refl, stopped f g put.command) }

@@ -21,7 +21,7 @@ use Rattle.call_shapes.specs.declared.ask.Ask.TheVariants.{GetCells, GetBytes, S
 use Rattle.methods.specs.Laws.{IsAmong, IsListed, are_rising, IsGranted, takes_effect}
 use Rattle.methods.specs.Listed.{cell_value}
 use Rattle.methods.specs.Said.{reply_of}
-use Rattle.sessions.specs.Attempts.{failure as failure_of, credential}
+use Rattle.sessions.specs.Attempts.{attempt_failure as failure_of, credential}
 use Rattle.sessions.specs.Starts.{is_in_use}
 use Rattle.methods.specs.Effects.{sp_of_row}
 use Rattle.sessions.specs.Deeds.{Setting, Sets, Outcome, says, Attempt, SessionDeed, Unchanged, Tried, Changed, Activated, Reverted, Begun}

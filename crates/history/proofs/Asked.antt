@@ -13,7 +13,7 @@ use Rattle.tcg_tokens.specs.Tree.{Tree, Trees}
 use Rattle.tcg_tokens.specs.Tree as tree
 use Rattle.call_shapes.specs.Parameters.{start_row_parameter, end_row_parameter, start_column_parameter, end_column_parameter, where_parameter, values_parameter, proof_parameter}
 use Rattle.call_shapes.specs.Named.{values_of, list_in, assignments, value_of, options, number_or, number_if_any, bytes_or_empty}
-use Rattle.call_shapes.specs.Asks.{uid_of, is_mbr_table, cellblock, columns_between, columns_in, is_ordered, rows_between, rows_in, cells_of, cells_to_set, cells_in, bytes_to_set, bytes_in, proof_of, proof_in, attempt_in, without_arguments, get_of, set_of, ask_of}
+use Rattle.call_shapes.specs.Asks.{uid_of, is_mbr_table, cellblock, columns_between, columns_asked_in, is_ordered, rows_between, rows_in, cells_of, cells_to_set, cells_in, bytes_to_set, bytes_in, proof_of, proof_in, attempt_in, without_arguments, get_of, set_of, ask_of}
 use Rattle.call_shapes.specs.declared.ask.Ask.{Ask}
 use Rattle.call_shapes.specs.declared.ask.Ask.TheVariants.{GetCells, GetBytes, SetCells, SetBytes, Authenticate, Activate, Revert, Other}
 use Rattle.methods.specs.Judgement.{asked}
@@ -51,7 +51,7 @@ gives-if p true x y h g = h
 gives-if p false x y h g = g
 
 -- Get
-columns-gives : (p : Ask → Bool) (x : Option (List (ℕ × Tree))) → ((first last : ℕ) → p (GetCells first last) ≡ true) → Gives p (columns_in x)
+columns-gives : (p : Ask → Bool) (x : Option (List (ℕ × Tree))) → ((first last : ℕ) → p (GetCells first last) ≡ true) → Gives p (columns_asked_in x)
 columns-gives p None h = gives-none p
 columns-gives p (Some ps) h = between (number_or 0 (value_of start_column_parameter ps)) (number_or (2 ^ 64 - 1) (value_of end_column_parameter ps))
   where

@@ -4,7 +4,7 @@ use Rattle.audit.specs.declared.reason.Why.{Why}
 use Rattle.audit.specs.declared.reason.AuditLine.{AuditLine}
 use Rattle.history.specs.Opening.{Origin}
 use Rattle.methods.specs.Laws.{IsAmong}
-use Rattle.history.specs.Audit.{ClientAct, event_of, line_for, audit, IsLineOf, AuditLaw}
+use Rattle.history.specs.Audit.{ClientAct, event_of, line_for, audit_of_acts, IsLineOf, ActAuditLaw}
 
 none-some : {A : Type 0} {x : A} → None ≡ Some x → ⊥
 none-some h = cc
@@ -41,9 +41,9 @@ older-is : (o : Origin) (c : ClientAct) (before : List ClientAct) (line : AuditL
 older-is o c before line w =
     record { later = c ∷ w.later; one = w.one; before = w.before; place = ap (λ xs. c ∷ xs) w.place; step = w.step; client = w.client; denied = w.denied }
 
-line-is : (o : Origin) (made : List ClientAct) (line : AuditLine) → IsAmong (audit o made) line → IsLineOf o made line
+line-is : (o : Origin) (made : List ClientAct) (line : AuditLine) → IsAmong (audit_of_acts o made) line → IsLineOf o made line
 line-is o [] line h = absurd h
-line-is o (c ∷ before) line h = elim (among-cases (line_for (length before + 1) c.0 (event_of o c before).denied) (audit o before) line h) [
+line-is o (c ∷ before) line h = elim (among-cases (line_for (length before + 1) c.0 (event_of o c before).denied) (audit_of_acts o before) line h) [
   | inl here ↦ newest-is o c before line (event_of o c before).denied refl here
   | inr rest ↦ older-is o c before line (line-is o before line rest)
 ]
@@ -58,11 +58,11 @@ newest-in o c before line (Some why) is step client denied = inl (same-line line
     some-same : {x y : Why} → Some x ≡ Some y → x ≡ y
     some-same h = cc
 
-is-line : (o : Origin) (made : List ClientAct) (line : AuditLine) (later : List ClientAct) (one : ClientAct) (before : List ClientAct) → made ≡ later ++ one ∷ before → line.step ≡ length before + 1 → line.client ≡ one.0 → (event_of o one before).denied ≡ Some line.why → IsAmong (audit o made) line
+is-line : (o : Origin) (made : List ClientAct) (line : AuditLine) (later : List ClientAct) (one : ClientAct) (before : List ClientAct) → made ≡ later ++ one ∷ before → line.step ≡ length before + 1 → line.client ≡ one.0 → (event_of o one before).denied ≡ Some line.why → IsAmong (audit_of_acts o made) line
 is-line o made line [] one before place step client denied =
-    rw place (among-left (line_for (length before + 1) one.0 (event_of o one before).denied) (audit o before) line (newest-in o one before line (event_of o one before).denied refl step client denied))
+    rw place (among-left (line_for (length before + 1) one.0 (event_of o one before).denied) (audit_of_acts o before) line (newest-in o one before line (event_of o one before).denied refl step client denied))
 is-line o made line (c ∷ later) one before place step client denied =
-    rw place (among-right (line_for (length (later ++ one ∷ before) + 1) c.0 (event_of o c (later ++ one ∷ before)).denied) (audit o (later ++ one ∷ before)) line (is-line o (later ++ one ∷ before) line later one before refl step client denied))
+    rw place (among-right (line_for (length (later ++ one ∷ before) + 1) c.0 (event_of o c (later ++ one ∷ before)).denied) (audit_of_acts o (later ++ one ∷ before)) line (is-line o (later ++ one ∷ before) line later one before refl step client denied))
 
-pub audit_law : AuditLaw
+pub audit_law : ActAuditLaw
 audit_law o made line = (line-is o made line, λ w. is-line o made line w.later w.one w.before w.place w.step w.client w.denied)

@@ -18,7 +18,7 @@ use Rattle.methods.specs.Kinds.{kind_of}
 use Rattle.methods.specs.Columns.{columns_of}
 use Rattle.methods.specs.Effects.{ask_at}
 use Rattle.methods.specs.Grants.{why_denied, unless_allowed, denial as denial_of, wanted, first_some}
-use Rattle.methods.specs.Listed.{is_asked, shown, listed_among, listed, cell_value}
+use Rattle.methods.specs.Listed.{is_asked, shown_column, listed_among, listed, cell_value}
 use Rattle.methods.specs.Judgement.{Standing, denial, gives, does_ask, does, unless_denied, judged}
 use Rattle.sp_cells.specs.Names.{get}
 use Rattle.sp_cells.specs.Flat.{LookUp}
@@ -78,7 +78,7 @@ denial-alike look sp object method held other h (k ∷ ks) =
 listed-alike : (look : LookUp) (sp : Sp) (object : Uid) (first last : ℕ) (held other : List Uid) → SameHeld held other → listed look sp object first last other ≡ listed look sp object first last held
 unfolding listed_among
 listed-alike look sp object first last held other h =
-    ap (λ p. flat_map (λ k. shown k (look sp object k)) (filter p (columns_of (kind_of sp object)))) (fun_ext (λ k. ap (λ x. is_asked first last k && is_some x) (entry-alike look sp object get (Some k) held other h)))
+    ap (λ p. flat_map (λ k. shown_column k (look sp object k)) (filter p (columns_of (kind_of sp object)))) (fun_ext (λ k. ap (λ x. is_asked first last k && is_some x) (entry-alike look sp object get (Some k) held other h)))
 
 done-alike : (s : Standing) (other : List Uid) → SameHeld s.held other → (object : Uid) (ask : Ask) → does_ask (with_held s other) object ask ≡ does_ask s object ask
 done-alike s other h object (GetCells a b) = ap (λ values. gives (list (trees_of (map cell_value values)) ∷ [])) (listed-alike s.rows s.sp object a b s.held other h)

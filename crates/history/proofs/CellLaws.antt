@@ -19,7 +19,7 @@ use Rattle.sp_cells.specs.Flat.{PlacedCell, sp_eq, cell_at}
 use Rattle.sp_rows.specs.Items.{Item, on, with_item, with_items}
 use Rattle.sp_rows.specs.Factory.{admin_factory, locking_factory, admin_sps, admin_authorities, locking_authorities, admin_pins, locking_pins, locking_ranges, locking_mbr_controls, admin_aces, authority_aces, pin_aces, range_aces, mbr_aces}
 use Rattle.sp_tables.specs.AtReset.{has_kind}
-use Rattle.sp_tables.specs.Contents.{Contents, factory_contents, look_up, flat}
+use Rattle.sp_tables.specs.Contents.{Contents, factory_contents, cells_look_up, flat}
 use Rattle.sp_tables.specs.Looks.{RowLook, put_in, puts_in}
 use Rattle.sp_tables.specs.Tries.{is_tries}
 use Rattle.locking.specs.declared.range.RangeRow.{RangeRow}
@@ -66,7 +66,7 @@ tries-none count rows o c h = none-if (is_tries o c) _ (rows o c) (mapped-none (
 
 pub cell_law : CellLaw
 cell_law o past sp object column h =
-    let after : rows_after o past sp object column ≡ None = changes-none (factory_rows o sp) (look_up o.tables sp) (changes past sp) object column h.factory h.opened in
+    let after : rows_after o past sp object column ≡ None = changes-none (factory_rows o sp) (cells_look_up o.tables sp) (changes past sp) object column h.factory h.opened in
     let within : rows_within o past sp object column ≡ None = changes-none (factory_rows o sp) (rows_after o past sp) (open_changes past sp) object column h.factory after in
     record {
       rows = tries-none (tries past sp) (rows_after o past sp) object column after;
@@ -113,7 +113,7 @@ record AreFew (t : Contents) : Type 0 where
   admin : are_few t.admin ≡ true
   locking : are_few t.locking ≡ true
 
-tables-lack : (t : Contents) → AreFew t → (sp : Sp) (object : Uid) (column : Column) → credential_column.0 < column.0 → look_up t sp object column ≡ None
+tables-lack : (t : Contents) → AreFew t → (sp : Sp) (object : Uid) (column : Column) → credential_column.0 < column.0 → cells_look_up t sp object column ≡ None
 tables-lack t h sp object column lt =
     lacks (flat t) sp object column lt
     (list_all-append (λ e. nat_le e.column.0 credential_column.0) (on Admin t.admin) (on Locking t.locking)
@@ -189,7 +189,7 @@ rows-new (row ∷ rows) o made new h = by_fault (row_fault o row) h (rows-new ro
 nowhere : (o : Origin) → IsOfFactory o → AreFew o.tables → (column : Column) → credential_column.0 < column.0 → HasNoColumn o column
 nowhere o new h column lt sp object = record {
   opened = tables-lack o.tables h sp object column lt;
-  factory = ap (λ (t : Contents). look_up t sp object column) new ∙ tables-lack (factory_contents o.tables.config) (factory-few o.tables.config) sp object column lt;
+  factory = ap (λ (t : Contents). cells_look_up t sp object column) new ∙ tables-lack (factory_contents o.tables.config) (factory-few o.tables.config) sp object column lt;
 }
 
 pub column_law : ColumnLaw

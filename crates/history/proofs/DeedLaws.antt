@@ -18,7 +18,7 @@ use Rattle.tcg_tokens.specs.Tree.{Tree, Trees}
 use Rattle.history.specs.Opening.{Origin}
 use Rattle.sessions.specs.Deeds.{Sets, Begun, Setting, cells_set, bytes_set, SessionDeed, Unchanged, Started, Tried, Changed, Began, Committed, Aborted, Ended, Activated, Reverted, Outcome, says}
 use Rattle.sp_cells.specs.ColumnNames.{pin_column}
-use Rattle.sessions.specs.Attempts.{failure as failure_of}
+use Rattle.sessions.specs.Attempts.{attempt_failure as failure_of}
 use Rattle.call_shapes.specs.Asks.{uid_of}
 use Rattle.call_shapes.specs.Statuses.{fail, success}
 use Rattle.sessions.specs.Properties.{properties_message}
@@ -29,7 +29,7 @@ use Rattle.methods.specs.Kinds.{kind_of}
 use Rattle.methods.specs.Columns.{set_types_of}
 use Rattle.methods.specs.Settings.{cells_for, setting_of_cells, cells_of_ask, bytes_of_ask, setting}
 use Rattle.sessions.specs.Made.{is_within}
-use Rattle.methods.specs.Said.{reply_of, refusal}
+use Rattle.methods.specs.Said.{reply_of, refusal_of}
 use Rattle.call_shapes.specs.Limits.{most_response}
 use Rattle.methods.specs.Effects.{has_ask, last_row, unless_fault, sp_of_row}
 use Rattle.sp_cells.specs.declared.values.ColumnType.{ColumnType}
@@ -38,7 +38,7 @@ use Rattle.sessions.specs.declared.opening.Opening.{Opening}
 use Rattle.sessions.specs.declared.opening.StartVerdict.{StartVerdict}
 use Rattle.sessions.specs.declared.opening.StartVerdict.TheVariants.{Refused, Attempted}
 use Rattle.sessions.specs.Live.{Live, lives_on}
-use Rattle.sessions.specs.Starts.{opening_of, is_in_use, sp_named, is_full, verdict_on}
+use Rattle.sessions.specs.Starts.{opening_of, is_in_use, sp_named, is_full, opening_verdict_on}
 use Rattle.call_shapes.specs.Named.{values_of}
 use Rattle.sp_cells.specs.Flat.{LookUp, sp_eq}
 use Rattle.call_shapes.specs.declared.ask.Ask.{Ask}
@@ -46,7 +46,7 @@ use Rattle.call_shapes.specs.declared.ask.Ask.TheVariants.{GetCells, GetBytes, S
 use Rattle.history.specs.Events.{Deed, Nothing, InSession, OfQueue, Wrote, Took, WasReset, Event}
 use Rattle.history.specs.Readers.{living, lives_by, restores, session_on, open_on, is_of, in_force}
 use Rattle.history.specs.Facts.{facts, numbered, live, has_open, standing}
-use Rattle.history.specs.Tcg.{start_verdict, deed_of_start, start_deed, started, is_method_of_manager, to_manager, judgement_on, begins_on, ended_by, ends_on, in_session}
+use Rattle.history.specs.Tcg.{start_verdict, deed_of_start, start_deed, started, is_method_of_manager, to_manager, judgement_on, begins_on, transaction_end, ends_on, in_session}
 use Rattle.methods.specs.Calls.{tried_in, outcome_of}
 use Rattle.history.specs.Deeds.{IsIn, is_set_in_admin, is_of_row, is_inside, CanDo, DeedLaw}
 use Rattle.history.proofs.Words.{latest-here, latest-skip, sp-is, sp-same}
@@ -357,7 +357,7 @@ judged-can o past s h object method args (Reverts sp) is = record { session = s;
     outside : (s.sp ≡ Admin) × (has_open (facts o past) s ≡ false)
     outside = reverts-outside (standing (facts o past) s) object method sp (granted (standing (facts o past) s) object method args 4 (Reverts sp) (asked s.sp object method args) refl is refl)
 
-ended-can : (o : Origin) (past : List Event) (s : Begun) → session_on past s.sp ≡ Some s → is_of s.number (open_on past s.sp) ≡ true → (n : ℕ) → CanDo o past (ended_by s.sp n).deed
+ended-can : (o : Origin) (past : List Event) (s : Begun) → session_on past s.sp ≡ Some s → is_of s.number (open_on past s.sp) ≡ true → (n : ℕ) → CanDo o past (transaction_end s.sp n).deed
 ended-can o past s h own zero = record { session = s; lives = record { lives = h; on = refl }; own = own }
 ended-can o past s h own (suc n) = record { session = s; lives = record { lives = h; on = refl }; own = own }
 
@@ -420,7 +420,7 @@ begins-new look l sp sp' x true false true is lives h = cc
 begins-new look l sp sp' x true false false is lives h =
     let same : sp' ≡ sp = cc in (ap (λ s. lives_on s l) (sym same) ∙ lives, ap (is_in_use look) (sym same) ∙ is)
 
-start-new : (look : LookUp) (l : Live) (opening : Opening) (sp : Sp) (x : Option Sp) → verdict_on look l opening x ≡ Attempted sp None → (lives_on sp l ≡ false) × (is_in_use look sp ≡ true)
+start-new : (look : LookUp) (l : Live) (opening : Opening) (sp : Sp) (x : Option Sp) → opening_verdict_on look l opening x ≡ Attempted sp None → (lives_on sp l ≡ false) × (is_in_use look sp ≡ true)
 start-new look l opening sp None h = cc
 start-new look l opening sp (Some sp') h = begins-new look l sp sp' (failure_of look sp' opening.authority opening.proof) (is_in_use look sp') (lives_on sp' l) (is_full l) refl refl h
 
@@ -442,7 +442,7 @@ either-can o past false x y h g = g
 manager-can : (o : Origin) (past : List Event) (com_id : ℕ) (read : Result Message TokenError) → CanDo o past (to_manager (facts o past) com_id read).deed
 manager-can o past com_id (Ok (call object method args status)) =
     either-can o past (is_method_of_manager properties (uid_of object) (uid_of method)) (says Unchanged (properties_message (values_of args))) _ tt
-    (either-can o past (is_method_of_manager start_session (uid_of object) (uid_of method)) (started (facts o past) com_id (values_of args)) (says Unchanged (refusal fail)) (started-can o past com_id (opening_of (values_of args))) tt)
+    (either-can o past (is_method_of_manager start_session (uid_of object) (uid_of method)) (started (facts o past) com_id (values_of args)) (says Unchanged (refusal_of fail)) (started-can o past com_id (opening_of (values_of args))) tt)
 manager-can o past com_id (Ok (reply results status)) = tt
 manager-can o past com_id (Ok (begin n)) = tt
 manager-can o past com_id (Ok (end n)) = tt

@@ -22,7 +22,7 @@ use Rattle.trusted_cmds.specs.declared.command.Command.TheVariants.{ReadQueued, 
 use Rattle.trusted_cmds.specs.declared.command.CommandError.{CommandError}
 use Rattle.locking.specs.declared.ranges.Verdict.{Verdict}
 use Rattle.locking.specs.declared.ranges.Verdict.TheVariants.{Serve, Shadow, Denied}
-use Rattle.sessions.specs.Attempts.{failure as failure_of}
+use Rattle.sessions.specs.Attempts.{attempt_failure as failure_of}
 use Rattle.call_shapes.specs.Asks.{uid_of}
 use Rattle.sp_cells.specs.Names.{properties, start_session}
 use Rattle.sessions.specs.Deeds.{Begun, Setting, Unchanged, says}
@@ -34,7 +34,7 @@ use Rattle.sessions.specs.declared.opening.StartVerdict.TheVariants.{Refused, At
 use Rattle.sessions.specs.Starts.{opening_of, host_of, denied_with}
 use Rattle.call_shapes.specs.Named.{values_of}
 use Rattle.call_shapes.specs.Carried.{is_carried}
-use Rattle.methods.specs.Said.{reply_of, refusal}
+use Rattle.methods.specs.Said.{reply_of, refusal_of}
 use Rattle.call_shapes.specs.Limits.{most_response}
 use Rattle.methods.specs.Effects.{ask_at, last_row, sp_of_row}
 use Rattle.methods.specs.Judgement.{asked, Standing, Judgement, Refuses, Gives, Makes, Attempts, Activates, Reverts, denial, gives, listing, table_size, bytes_between, rows_given, to_set, makes, unless_open, does_ask, does, unless_denied, judged}
@@ -93,8 +93,8 @@ start-denied f act why d =
     ap (λ (e : Event). e.denied) (sent_law f act d.com_id d.frame d.sent)
     ∙ ap (λ b. (cond b (answers d.com_id d.frame.session (to_manager f d.com_id (message_in d.frame.payload))) (to_session f d.com_id d.frame.session d.frame.payload (session_named f d.com_id d.frame.session))).denied) d.manager
     ∙ ap (λ r. (to_manager f d.com_id r).denied) d.calls
-    ∙ ap (λ b. (cond b (says Unchanged (properties_message (values_of d.args))) (cond (is_method_of_manager start_session o m) (started f d.com_id (values_of d.args)) (says Unchanged (refusal fail)))).denied) d.no_properties
-    ∙ ap (λ b. (cond b (started f d.com_id (values_of d.args)) (says Unchanged (refusal fail))).denied) d.starts
+    ∙ ap (λ b. (cond b (says Unchanged (properties_message (values_of d.args))) (cond (is_method_of_manager start_session o m) (started f d.com_id (values_of d.args)) (says Unchanged (refusal_of fail)))).denied) d.no_properties
+    ∙ ap (λ b. (cond b (started f d.com_id (values_of d.args)) (says Unchanged (refusal_of fail))).denied) d.starts
     ∙ ap (λ x. (started_by f d.com_id (host_of (values_of d.args)) x).denied) d.shaped
     ∙ ap (λ v. denied_with (Some d.opening) v) d.fails
     ∙ ap (λ y. Some y) (sym d.why_is)
@@ -202,7 +202,7 @@ session-is f act why com_id frame sent no_manager session named (Err e) is h = a
 -- the session manager
 called-is : (f : Facts) (act : Act) (why : Why) (com_id : ℕ) (frame : Frame) → IsSent f act com_id frame → is_manager frame.session ≡ true → (object method : List ℕ) (args : Trees) (status : List ℕ) → message_in frame.payload ≡ Ok (call object method args status)
     → (p q : Bool) → is_method_of_manager properties (uid_of object) (uid_of method) ≡ p → is_method_of_manager start_session (uid_of object) (uid_of method) ≡ q
-    → (cond p (says Unchanged (properties_message (values_of args))) (cond q (started f com_id (values_of args)) (says Unchanged (refusal fail)))).denied ≡ Some why → IsDenied f act why
+    → (cond p (says Unchanged (properties_message (values_of args))) (cond q (started f com_id (values_of args)) (says Unchanged (refusal_of fail)))).denied ≡ Some why → IsDenied f act why
 called-is f act why com_id frame sent manager object method args status calls true q is_p is_q h = absurd (nothing h)
 called-is f act why com_id frame sent manager object method args status calls false false is_p is_q h = absurd (nothing h)
 called-is f act why com_id frame sent manager object method args status calls false true is_p is_q h = by_opening (opening_of (values_of args)) refl h

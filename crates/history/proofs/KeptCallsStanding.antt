@@ -11,7 +11,7 @@ use Rattle.ace_eval.specs.Truth.{has}
 use Rattle.transactions.specs.Stored.{Transaction, Part, Stored, part, is_open}
 use Rattle.transactions.specs.Sights.{side_at, side_for, latest_side, look_up, sight_of, latest_look}
 use Rattle.sessions.specs.Live.{Holder, Live, session_at, holder_on}
-use Rattle.methods.specs.Effects.{held_of, held_in, seen_by, is_inside}
+use Rattle.methods.specs.Effects.{held_of, held_in, seen_by, has_transaction}
 use Rattle.history.specs.Opening.{Origin}
 use Rattle.history.specs.Changes.{with_tries}
 use Rattle.methods.specs.Judgement.{Standing}
@@ -139,7 +139,7 @@ open-same : (p : Option Transaction) (n : ℕ) → is_open p n ≡ is_of n (opti
 open-same None n = refl
 open-same (Some t) n = refl
 
-inside-same : (o : Origin) (past : List Event) (s : Stored) (session : Begun) → KeepsStore s o past → is_inside s (id_of session) ≡ is_of session.number (open_on past session.sp)
+inside-same : (o : Origin) (past : List Event) (s : Stored) (session : Begun) → KeepsStore s o past → has_transaction s (id_of session) ≡ is_of session.number (open_on past session.sp)
 inside-same o past s session store = open-same (part s session.sp).pending session.number ∙ ap (is_of session.number) (store.parts session.sp).transaction
 
 -- What a change is judged by is what the session sees.

@@ -17,11 +17,11 @@ use Rattle.transactions.specs.Stored.{Stored}
 use Rattle.sessions.specs.declared.opening.Opening.{Opening}
 use Rattle.sessions.specs.declared.opening.StartVerdict.{StartVerdict}
 use Rattle.sessions.specs.declared.opening.StartVerdict.TheVariants.{Refused, Attempted}
-use Rattle.sessions.specs.Attempts.{failure as failure_of, credential}
-use Rattle.sessions.specs.Answers.{in_force as rows_in_force, up}
+use Rattle.sessions.specs.Attempts.{attempt_failure as failure_of, credential}
+use Rattle.sessions.specs.Answers.{rows_in_force, up}
 use Rattle.sessions.specs.Gains.{first_held}
 use Rattle.sessions.specs.Live.{Holder, Live, session_at, lives_on, AreNumbered}
-use Rattle.sessions.specs.Starts.{opening_of, sp_named, is_in_use, is_full, verdict_on, verdict, host_of, reply_to, denied_with, stored_by, stored_with, begun_by, begun_with, next_by}
+use Rattle.sessions.specs.Starts.{opening_of, sp_named, is_in_use, is_full, opening_verdict_on, verdict, host_of, reply_to, denied_with, stored_by, stored_with, begun_by, begun_with, next_by}
 use Rattle.history.specs.Opening.{Origin}
 use Rattle.sessions.specs.Deeds.{Begun, wipes_by}
 use Rattle.history.specs.Events.{Event}
@@ -113,7 +113,7 @@ record Alike (l m : Live) : Type 0 where
 alike-facts : (o : Origin) (past : List Event) (l : Live) → KeepsSessions l past → AreNumbered l → Alike l (live (facts o past))
 alike-facts o past l k are = record { lives = λ sp. lives-past past l sp k are ∙ sym (lives-facts o past l sp k); next = k.next }
 
-verdict-on : (look : LookUp) (l m : Live) (opening : Opening) → Alike l m → (named : Option Sp) → verdict_on look l opening named ≡ verdict_on look m opening named
+verdict-on : (look : LookUp) (l m : Live) (opening : Opening) → Alike l m → (named : Option Sp) → opening_verdict_on look l opening named ≡ opening_verdict_on look m opening named
 verdict-on look l m opening alike None = refl
 verdict-on look l m opening alike (Some sp) =
     let attempts : StartVerdict = Attempted sp (failure_of look sp opening.authority opening.proof) in
@@ -132,7 +132,7 @@ by-tests false true c s sp g f l is h = cc
 by-tests false false true s sp g f l is h = cc
 by-tests false false false s sp g f l is h = let same : s ≡ sp = cc in ap (λ x. lives_on x l) (sym same) ∙ is
 
-free-by : (look : LookUp) (l : Live) (opening : Opening) (sp : Sp) (f : Option AttemptFailure) (named : Option Sp) → verdict_on look l opening named ≡ Attempted sp f → lives_on sp l ≡ false
+free-by : (look : LookUp) (l : Live) (opening : Opening) (sp : Sp) (f : Option AttemptFailure) (named : Option Sp) → opening_verdict_on look l opening named ≡ Attempted sp f → lives_on sp l ≡ false
 free-by look l opening sp f None h = cc
 free-by look l opening sp f (Some s) h = by-tests (not (is_in_use look s)) (lives_on s l) (is_full l) s sp (failure_of look s opening.authority opening.proof) f l refl h
 

@@ -6,8 +6,8 @@ use Rattle.std.proofs.lemmas.Bool.Decides.{nat_tests}
 use Rattle.std.proofs.lemmas.List.{get_or_past}
 use Rattle.sp_cells.specs.declared.names.Sp.{Sp}
 use Rattle.sp_cells.specs.declared.names.Sp.TheVariants.{Locking}
-use Rattle.shadow_mbr.specs.Stored.{Stored as Mbr, sector_size, byte_at, byte_after}
-use Rattle.transactions.specs.Bytes.{bytes_from, bytes_in, laid, written, blank}
+use Rattle.shadow_mbr.specs.Stored.{StoredSectors as Mbr, sector_size, byte_at, byte_after}
+use Rattle.transactions.specs.Bytes.{bytes_from, mbr_table_bytes, laid, written, blank}
 use Rattle.transactions.specs.Stored.{Transaction, Part, bytes_seen, part_begin, part_commit}
 use Rattle.transactions.proofs.ByteLemmas.{length-from}
 use Rattle.sessions.specs.Deeds.{Setting, cells_set, bytes_set, Change, Sets, Changed, Began, Committed}
@@ -15,7 +15,7 @@ use Rattle.sessions.specs.Made.{part_with, bytes_with}
 use Rattle.history.specs.Opening.{Origin}
 use Rattle.history.specs.Changes.{byte_in}
 use Rattle.history.specs.Events.{Response, InSession, Event}
-use Rattle.history.specs.Readers.{turns, begins, changes_on, brought, own_changes, if_open, open_on, open_changes, unless_open, changes}
+use Rattle.history.specs.Readers.{turns, begins, changes_on, brought, own_changes, if_open, open_on, open_changes, unless_any_open, changes}
 use Rattle.history.specs.KeptStore.{KeepsBytes}
 use Rattle.history.proofs.Words.{sp-same}
 use Rattle.history.proofs.Emptied.{every-since-more}
@@ -58,8 +58,8 @@ blank-at [] i = refl
 blank-at (b ∷ bs) zero = refl
 blank-at (b ∷ bs) (suc i) = blank-at bs i
 
-pub in-length : (mbr : Mbr) → length (bytes_in mbr) ≡ sector_size * mbr.sectors
-unfolding bytes_in
+pub in-length : (mbr : Mbr) → length (mbr_table_bytes mbr) ≡ sector_size * mbr.sectors
+unfolding mbr_table_bytes
 in-length mbr = length-from (byte_at mbr) 0 (sector_size * mbr.sectors)
 
 from-zeros : (holds : ℕ → ℕ) → ((place : ℕ) → holds place ≡ 0) → (place n i : ℕ) → slice_index (bytes_from holds place n) i ≡ 0
@@ -67,8 +67,8 @@ from-zeros holds h place zero i = refl
 from-zeros holds h place (suc n) zero = h place
 from-zeros holds h place (suc n) (suc i) = from-zeros holds h (suc place) n i
 
-pub in-zeros : (mbr : Mbr) → ((place : ℕ) → byte_at mbr place ≡ 0) → (i : ℕ) → slice_index (bytes_in mbr) i ≡ 0
-unfolding bytes_in
+pub in-zeros : (mbr : Mbr) → ((place : ℕ) → byte_at mbr place ≡ 0) → (i : ℕ) → slice_index (mbr_table_bytes mbr) i ≡ 0
+unfolding mbr_table_bytes
 in-zeros mbr h i = from-zeros (byte_at mbr) h 0 (sector_size * mbr.sectors) i
 
 -- the changes of an SP
@@ -153,12 +153,12 @@ set-by : (p : Part) (o : Origin) (e : Event) (past : List Event) (st : Setting) 
     → (x : Option Transaction) → p.pending ≡ x → (y : Option ℕ) → open_on past Locking ≡ y → (x ≡ None → y ≡ None) → ((t : Transaction) → x ≡ Some t → y ≡ Some t.tsn) → KeepsBytes (part_with st p x) o (e ∷ past)
 set-by p o e past st r h fits is None shut y opens none some =
     closed-bytes (part_with st p None) o (e ∷ past) (Sets st ∷ changes past Locking) shut
-    (all-by e past Locking (Sets st ∷ []) (ap (brought past Locking) is ∙ ap (λ z. unless_open z (Sets st)) (opens ∙ none refl)))
+    (all-by e past Locking (Sets st ∷ []) (ap (brought past Locking) is ∙ ap (λ z. unless_any_open z (Sets st)) (opens ∙ none refl)))
     (with-length st p.bytes ∙ h.size)
     (with-at st p.bytes (changes past Locking) (rw h.size fits) h.bytes)
 set-by p o e past st r h fits is (Some t) has y opens none some =
     let owner : open_on past Locking ≡ Some t.tsn = opens ∙ some t refl in
-    let all : changes (e ∷ past) Locking ≡ changes past Locking = all-by e past Locking [] (ap (brought past Locking) is ∙ ap (λ z. unless_open z (Sets st)) owner) in
+    let all : changes (e ∷ past) Locking ≡ changes past Locking = all-by e past Locking [] (ap (brought past Locking) is ∙ ap (λ z. unless_any_open z (Sets st)) owner) in
     let own : open_changes (e ∷ past) Locking ≡ Sets st ∷ open_changes past Locking = own-inside e past Locking (Sets st) r t.tsn is owner in
     let long : length t.bytes ≡ sector_size * o.tables.config.mbr_sectors = h.size_within t has in
     record {

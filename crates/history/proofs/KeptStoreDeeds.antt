@@ -16,7 +16,7 @@ use Rattle.sp_cells.specs.Limits.{manufactured, manufactured_inactive}
 use Rattle.sp_cells.specs.Ranges.{number}
 use Rattle.sp_rows.specs.Items.{item_at, with_item}
 use Rattle.sp_rows.specs.Factory.{admin_factory, locking_factory}
-use Rattle.sp_tables.specs.Contents.{Contents, items_of, factory_contents, look_up}
+use Rattle.sp_tables.specs.Contents.{Contents, items_of, factory_contents, cells_look_up}
 use Rattle.sp_tables.specs.Looks.{put_in}
 use Rattle.sp_tables.specs.AtReset.{locking_tries_after}
 use Rattle.sp_tables.specs.Tries.{is_tries}
@@ -26,9 +26,9 @@ use Rattle.audit.specs.declared.reason.AttemptFailure.{AttemptFailure}
 use Rattle.audit.specs.declared.reason.AttemptFailure.TheVariants.{WrongPin, LockedOut, Disabled, Unknown}
 use Rattle.audit.specs.declared.reason.Why.{Why}
 use Rattle.transactions.specs.Bytes.{blank}
-use Rattle.transactions.specs.Stored.{Transaction, Part, Stored, part, at_part, part_begin, part_commit, part_close, part_tries, part_put, part_of, reverted, after_reset}
+use Rattle.transactions.specs.Stored.{Transaction, Part, Stored, part, at_part, part_begin, part_commit, part_close, part_tries, part_put, part_from, reverted, after_reset}
 use Rattle.transactions.specs.Sights.{activated_with, with_pin}
-use Rattle.sessions.specs.Answers.{in_force as rows_in_force, up}
+use Rattle.sessions.specs.Answers.{rows_in_force, up}
 use Rattle.sessions.specs.Deeds.{Setting, cells_set, bytes_set, Sets, Restores, Resets, Begun, Attempt, Unchanged, Started, Tried, Changed, Began, Committed, Aborted, Ended, Activated, Reverted}
 use Rattle.sessions.specs.Made.{part_with, StoresChange, with_count, CanSet}
 use Rattle.history.specs.Opening.{Origin, factory_origin}
@@ -248,15 +248,15 @@ factory-clean : (config : Config) (sp : Sp) (object : Uid) (column : Column) →
 factory-clean config sp = no-tries-in (factory_origin config) (factory_law config) sp
 
 new-rows : (o : Origin) → HasKnownRows o → (sp : Sp) → factory_rows o sp ≡ item_at (items_of (factory_contents o.tables.config) sp)
-new-rows o known sp = ap (λ (t : Contents). look_up t sp) known.factory ∙ look_up-sp (factory_contents o.tables.config) sp
+new-rows o known sp = ap (λ (t : Contents). cells_look_up t sp) known.factory ∙ look_up-sp (factory_contents o.tables.config) sp
 
-locking-part : (s : Stored) (o : Origin) (e : Event) (past : List Event) → KeepsStore s o past → turns Locking e.deed ≡ Some None → brought past Locking e.deed ≡ Restores ∷ [] → ((u : Uid) → tries (e ∷ past) Locking u ≡ 0) → KeepsPart (part_of locking_factory (blank s.locking.bytes)) o (e ∷ past) Locking
+locking-part : (s : Stored) (o : Origin) (e : Event) (past : List Event) → KeepsStore s o past → turns Locking e.deed ≡ Some None → brought past Locking e.deed ≡ Restores ∷ [] → ((u : Uid) → tries (e ∷ past) Locking u ≡ 0) → KeepsPart (part_from locking_factory (blank s.locking.bytes)) o (e ∷ past) Locking
 locking-part s o e past h turn bring zeros =
     restored-part locking_factory (blank s.locking.bytes) o (e ∷ past) Locking (turned Locking e past None turn) (rows-by o e past Locking (Restores ∷ []) bring ∙ new-rows o h.known Locking) zeros (factory-clean s.config Locking)
 
-locking-bytes : (s : Stored) (o : Origin) (e : Event) (past : List Event) → KeepsStore s o past → brought past Locking e.deed ≡ Restores ∷ [] → KeepsBytes (part_of locking_factory (blank s.locking.bytes)) o (e ∷ past)
+locking-bytes : (s : Stored) (o : Origin) (e : Event) (past : List Event) → KeepsStore s o past → brought past Locking e.deed ≡ Restores ∷ [] → KeepsBytes (part_from locking_factory (blank s.locking.bytes)) o (e ∷ past)
 locking-bytes s o e past h bring =
-    closed-bytes (part_of locking_factory (blank s.locking.bytes)) o (e ∷ past) (Restores ∷ changes past Locking) refl (ap (λ cs. cs ++ changes past Locking) bring) (blank-length s.locking.bytes ∙ h.bytes.size) (λ place. blank-at s.locking.bytes place)
+    closed-bytes (part_from locking_factory (blank s.locking.bytes)) o (e ∷ past) (Restores ∷ changes past Locking) refl (ap (λ cs. cs ++ changes past Locking) bring) (blank-length s.locking.bytes ∙ h.bytes.size) (λ place. blank-at s.locking.bytes place)
 
 reverted-kept : (s : Stored) (o : Origin) (past : List Event) (x : Option ℕ) (w : Option Why) (sp : Sp) (wipes : Bool) (r : Response) → KeepsStore s o past → KeepsStore (reverted sp s) o (doing x w (InSession (Reverted sp wipes) r) ∷ past)
 reverted-kept s o past x w Admin wipes r h = record { config = h.config; known = h.known; parts = parts; bytes = locking-bytes s o e past h refl }

@@ -13,15 +13,15 @@ use Rattle.sp_cells.specs.Config.{Config}
 use Rattle.sp_cells.specs.Names.{admin_pin_uid, locking_sp, range_uid}
 use Rattle.sp_rows.specs.Items.{Item, item_at, with_items}
 use Rattle.sp_rows.specs.Factory.{admin_factory, locking_factory, admin_sps, admin_authorities, locking_authorities, admin_pins, locking_pins, locking_ranges, locking_mbr_controls, admin_aces, authority_aces, pin_aces, range_aces, mbr_aces}
-use Rattle.sp_tables.specs.Contents.{Contents, items_of, look_up}
+use Rattle.sp_tables.specs.Contents.{Contents, items_of, cells_look_up}
 use Rattle.sp_tables.specs.Looks.{RowLook}
 use Rattle.sp_tables.specs.Tries.{is_tries}
 use Rattle.sp_tables.proofs.LookLemmas.{look_up-sp, item_at-puts}
 use Rattle.locking.specs.declared.range.RangeRow.{RangeRow}
 use Rattle.shadow_mbr.specs.Stored.{sector_size}
 use Rattle.transactions.specs.Resets.{is_range}
-use Rattle.transactions.specs.Bytes.{bytes_in}
-use Rattle.transactions.specs.Stored.{part_of, part, new_store}
+use Rattle.transactions.specs.Bytes.{mbr_table_bytes}
+use Rattle.transactions.specs.Stored.{part_from, part, new_store}
 use Rattle.history.specs.Opening.{Origin, origin_on, factory_origin, life_cycle, pin, activated_origin, changes_of, row_fault, with_range, unless, origin_after}
 use Rattle.history.specs.Readers.{open_on, tries, rows_after}
 use Rattle.history.specs.Events.{Event}
@@ -34,14 +34,14 @@ use Rattle.history.proofs.KeptStoreBytes.{closed-bytes, in-length, in-zeros}
 
 -- the parts of tables
 pub restored-part : (items : List Item) (bytes : List ℕ) (o : Origin) (past : List Event) (sp : Sp) → open_on past sp ≡ None → rows_after o past sp ≡ item_at items → ((object : Uid) → tries past sp object ≡ 0)
-    → ((object : Uid) (column : Column) → is_tries object column ≡ true → item_at items object column ≡ option_map (λ _. Number 0) (item_at items object column)) → KeepsPart (part_of items bytes) o past sp
+    → ((object : Uid) (column : Column) → is_tries object column ≡ true → item_at items object column ≡ option_map (λ _. Number 0) (item_at items object column)) → KeepsPart (part_from items bytes) o past sp
 restored-part items bytes o past sp closed same none clean =
-    closed-part (part_of items bytes) o past sp refl closed (item_at items) same (without-shows items)
+    closed-part (part_from items bytes) o past sp refl closed (item_at items) same (without-shows items)
     (λ object column. among-shows items 0 clean object column ∙ ap (λ n. cond (is_tries object column) (option_map (λ _. Number n) (item_at items object column)) None) (sym (none object)))
 
 pub no-tries-in : (o : Origin) → HasNoTries o → (sp : Sp) (object : Uid) (column : Column) → is_tries object column ≡ true → item_at (items_of o.tables sp) object column ≡ option_map (λ _. Number 0) (item_at (items_of o.tables sp) object column)
 no-tries-in o h sp object column is =
-    let same : look_up o.tables sp object column ≡ item_at (items_of o.tables sp) object column = ap (λ r. r object column) (look_up-sp o.tables sp) in
+    let same : cells_look_up o.tables sp object column ≡ item_at (items_of o.tables sp) object column = ap (λ r. r object column) (look_up-sp o.tables sp) in
     sym same ∙ h sp object column is ∙ ap (option_map (λ _. Number 0)) same
 
 pub store_opening_law : StoreOpeningLaw
@@ -49,7 +49,7 @@ store_opening_law tables mbr clean known size zeros = record {
   config = refl;
   known = known;
   parts = parts;
-  bytes = closed-bytes (part_of tables.locking (bytes_in mbr)) o [] [] refl refl (in-length mbr ∙ ap (λ n. sector_size * n) size) (in-zeros mbr zeros);
+  bytes = closed-bytes (part_from tables.locking (mbr_table_bytes mbr)) o [] [] refl refl (in-length mbr ∙ ap (λ n. sector_size * n) size) (in-zeros mbr zeros);
 }
   where
     o : Origin
@@ -57,7 +57,7 @@ store_opening_law tables mbr clean known size zeros = record {
 
     parts : (sp : Sp) → KeepsPart (part (new_store tables mbr) sp) o [] sp
     parts Admin = restored-part tables.admin [] o [] Admin refl (look_up-sp tables Admin) (λ object. refl) (no-tries-in o clean Admin)
-    parts Locking = restored-part tables.locking (bytes_in mbr) o [] Locking refl (look_up-sp tables Locking) (λ object. refl) (no-tries-in o clean Locking)
+    parts Locking = restored-part tables.locking (mbr_table_bytes mbr) o [] Locking refl (look_up-sp tables Locking) (λ object. refl) (no-tries-in o clean Locking)
 
 -- rows that a test finds nowhere
 abbrev lack : (Uid → Column → Bool) → List Item → Bool
@@ -127,7 +127,7 @@ known-rows o new h = record {
   locks = λ object column is. ap (λ (r : RowLook). r object column) (look_up-sp o.tables Admin) ∙ h.locks object column is;
 }
   where
-    by_sp : (sp : Sp) (object : Uid) (column : Column) → is_tries object column ≡ true → is_cleared sp object ≡ false → look_up o.tables sp object column ≡ None
+    by_sp : (sp : Sp) (object : Uid) (column : Column) → is_tries object column ≡ true → is_cleared sp object ≡ false → cells_look_up o.tables sp object column ≡ None
     by_sp Admin object column is apart = ap (λ (r : RowLook). r object column) (look_up-sp o.tables Admin) ∙ h.admin object column is apart
     by_sp Locking object column is apart = ap (λ (r : RowLook). r object column) (look_up-sp o.tables Locking) ∙ h.locking object column is apart
 

@@ -6,7 +6,7 @@ use Rattle.sp_cells.specs.declared.names.Uid.{Uid}
 use Rattle.sp_cells.specs.declared.names.Sp.{Sp}
 use Rattle.sp_rows.specs.Items.{Item, item_at}
 use Rattle.sp_tables.specs.Looks.{RowLook}
-use Rattle.transactions.specs.Stored.{Transaction, Part, rows_seen, part_begin, part_commit}
+use Rattle.transactions.specs.Stored.{Transaction, Part, rows_of_part, part_begin, part_commit}
 use Rattle.sessions.specs.Deeds.{Setting, Sets, Changed, Began, Committed}
 use Rattle.sessions.specs.Made.{part_with}
 use Rattle.history.specs.Opening.{Origin}
@@ -119,8 +119,8 @@ set-part p o e past sp st r h is same stays = set-by p o e past sp st r h is sam
 abbrev opened : Part → Transaction → Part
 opened p t = record p { pending = Some t }
 
-pub seen-own : (p : Part) (t : Transaction) → p.pending ≡ Some t → rows_seen p t.tsn ≡ t.rows
-seen-own p t has = ap (λ x. rows_seen (record p { pending = x }) t.tsn) has ∙ ap (λ b. cond b t.rows p.rows) (eq-eqb t.tsn t.tsn refl)
+pub seen-own : (p : Part) (t : Transaction) → p.pending ≡ Some t → rows_of_part p t.tsn ≡ t.rows
+seen-own p t has = ap (λ x. rows_of_part (record p { pending = x }) t.tsn) has ∙ ap (λ b. cond b t.rows p.rows) (eq-eqb t.tsn t.tsn refl)
 
 pub committed-part : (p : Part) (o : Origin) (e : Event) (past : List Event) (sp : Sp) (t : Transaction) (r : Response) → KeepsPart p o past sp → e.deed ≡ InSession (Committed sp) r → p.pending ≡ Some t → ((u : Uid) → tries (e ∷ past) sp u ≡ tries past sp u) → KeepsPart (part_commit t.tsn p) o (e ∷ past) sp
 committed-part p o e past sp t r h is has same =

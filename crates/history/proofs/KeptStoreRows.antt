@@ -12,7 +12,7 @@ use Rattle.sp_cells.specs.ColumnNames.{lock_on_reset_column, mbr_done_column, mb
 use Rattle.sp_rows.specs.Items.{Item, item_at, with_item, with_items}
 use Rattle.sp_tables.specs.AtReset.{has_kind, locking_after}
 use Rattle.sp_tables.specs.Looks.{RowLook, put_in, puts_in}
-use Rattle.sp_tables.specs.Tries.{is_pin, is_tries, without_tries, tries_among}
+use Rattle.sp_tables.specs.Tries.{is_pin_row, is_tries, without_tries, tries_among}
 use Rattle.sp_tables.proofs.ChangeLemmas.{item_at-with_item}
 use Rattle.sp_tables.proofs.LookLemmas.{item_at-put, item_at-puts}
 use Rattle.transactions.specs.Resets.{is_range, is_lock, locks_seen, done_seen}
@@ -120,7 +120,7 @@ no-tries true = refl
 no-tries false = refl
 
 but-lock : (rows : RowLook) (o : Uid) → but_tries rows o lock_on_reset_column ≡ rows o lock_on_reset_column
-but-lock rows o = ap (λ b. cond b None (rows o lock_on_reset_column)) (no-tries (is_pin o))
+but-lock rows o = ap (λ b. cond b None (rows o lock_on_reset_column)) (no-tries (is_pin_row o))
 
 but-locks : (kind : ℕ) (rows : RowLook) → locks_seen (RANGES + 1) kind (but_tries rows) ≡ but_tries (locks_seen (RANGES + 1) kind rows)
 but-locks kind rows = fun_ext (λ o. fun_ext (λ c.
@@ -138,7 +138,7 @@ reset-shows kind items rows h o c =
 -- Tries that are counted in one row
 pub column-is : (o : Uid) (c : Column) (b : Bool) → (tries_column.0 == c.0) ≡ b → is_tries o c ≡ true → b ≡ true
 column-is o c true same h = refl
-column-is o c false same h = by_pin (is_pin o) (c.0 == tries_column.0) refl h
+column-is o c false same h = by_pin (is_pin_row o) (c.0 == tries_column.0) refl h
   where
     by_pin : (p q : Bool) → (c.0 == tries_column.0) ≡ q → (p && q) ≡ true → false ≡ true
     by_pin true true is g = sym same ∙ ap (λ n. tries_column.0 == n) (eqb-true c.0 tries_column.0 is)

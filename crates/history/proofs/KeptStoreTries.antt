@@ -13,16 +13,16 @@ use Rattle.sp_cells.specs.declared.cells.Cell.TheVariants.{Number}
 use Rattle.sp_cells.specs.Flat.{LookUp}
 use Rattle.sp_cells.specs.Names.{uid, c_pin_sid, c_pin_msid, admin_pin_uid, user_pin_uid, mbr_control}
 use Rattle.sp_cells.specs.ColumnNames.{tries_column, lock_on_reset_column, mbr_done_column, mbr_done_on_reset_column}
-use Rattle.sp_cells.specs.Ranges.{number, number_in}
+use Rattle.sp_cells.specs.Ranges.{number, cell_number}
 use Rattle.sp_rows.specs.Items.{Item, item_at, with_item}
-use Rattle.sp_tables.specs.Contents.{Contents, factory_contents, look_up}
+use Rattle.sp_tables.specs.Contents.{Contents, factory_contents, cells_look_up}
 use Rattle.sp_tables.specs.AtReset.{has_kind, admin_tries_after, locking_tries_after}
 use Rattle.sp_tables.specs.Looks.{RowLook}
 use Rattle.sp_tables.specs.Tries.{is_tries, family_cleared, admin_cleared, locking_cleared}
 use Rattle.sp_tables.proofs.ChangeLemmas.{item_at-with_item}
 use Rattle.transactions.specs.Resets.{is_range, is_lock, locks_seen, done_seen}
 use Rattle.transactions.specs.Stored.{Stored}
-use Rattle.sessions.specs.Answers.{up, in_force as rows_in_force}
+use Rattle.sessions.specs.Answers.{up, rows_in_force}
 use Rattle.history.specs.Opening.{Origin}
 use Rattle.history.specs.Changes.{reset_rows}
 use Rattle.history.specs.Events.{Event, since, count}
@@ -36,8 +36,8 @@ use Rattle.history.proofs.KeptStoreReads.{in_force-read}
 use Rattle.history.proofs.KeptStoreOpenings.{factory-has-known}
 
 -- the rows that a Revert brings back
-new-rows : (o : Origin) → HasKnownRows o → (sp : Sp) (object : Uid) (column : Column) → factory_rows o sp object column ≡ look_up (factory_contents o.tables.config) sp object column
-new-rows o known sp object column = ap (λ (t : Contents). look_up t sp object column) known.factory
+new-rows : (o : Origin) → HasKnownRows o → (sp : Sp) (object : Uid) (column : Column) → factory_rows o sp object column ≡ cells_look_up (factory_contents o.tables.config) sp object column
+new-rows o known sp object column = ap (λ (t : Contents). cells_look_up t sp object column) known.factory
 
 -- no row but those that a power cycle clears counts, after any acts
 pub unknown-none : (o : Origin) (past : List Event) (sp : Sp) (object : Uid) (column : Column) → HasKnownRows o → is_tries object column ≡ true → is_cleared sp object ≡ false → rows_after o past sp object column ≡ None
@@ -60,7 +60,7 @@ pub one_more-up : (past : List Event) (sp : Sp) (row : Uid) → one_more (tries 
 one_more-up past sp row = up-same (tries past sp row) (tries past sp row == most_tries) (few-tries past sp row) refl
 
 -- what a store reads of a row that counts
-number-by : (b : Bool) (n : ℕ) (x : Option Cell) → b ≡ true → is_some x ≡ true → number_in (cond b (option_map (λ _. Number n) x) x) ≡ n
+number-by : (b : Bool) (n : ℕ) (x : Option Cell) → b ≡ true → is_some x ≡ true → cell_number (cond b (option_map (λ _. Number n) x) x) ≡ n
 number-by true n (Some v) is some = refl
 number-by true n None is some = cc
 number-by false n x is some = cc
@@ -73,9 +73,9 @@ column-same u k is = let e : (tries_column.0 == k.0) ≡ true = column-is u k (t
 
 pub counted-number : (s : Stored) (o : Origin) (past : List Event) (sp : Sp) (row u : Uid) (k : Column) → KeepsStore s o past → (row.0 == u.0) ≡ true → is_tries u k ≡ true → is_some (rows_after o past sp u k) ≡ true → number (rows_in_force s) sp row tries_column ≡ tries past sp u
 counted-number s o past sp row u k h same is some =
-    ap (λ (look : LookUp). number_in (look sp row tries_column)) (in_force-read s o past h)
-    ∙ ap (λ (r : Uid). number_in (in_force o past sp r tries_column)) (ap uid (eqb-true row.0 u.0 same))
-    ∙ ap (λ c. number_in (in_force o past sp u c)) (sym (column-same u k is))
+    ap (λ (look : LookUp). cell_number (look sp row tries_column)) (in_force-read s o past h)
+    ∙ ap (λ (r : Uid). cell_number (in_force o past sp r tries_column)) (ap uid (eqb-true row.0 u.0 same))
+    ∙ ap (λ c. cell_number (in_force o past sp u c)) (sym (column-same u k is))
     ∙ number-by (is_tries u k) (tries past sp u) (rows_after o past sp u k) is some
 
 -- rows that are cleared one after another

@@ -9,7 +9,7 @@ use Rattle.audit.specs.declared.reason.AttemptFailure.{AttemptFailure}
 use Rattle.tcg_tokens.specs.declared.error.TokenError.{TokenError}
 use Rattle.tcg_tokens.specs.Message.{Message, call, reply, end_session, begin, end}
 use Rattle.sp_cells.specs.ColumnNames.{pin_column, try_limit_column, tries_column, is_class_column, enabled_column}
-use Rattle.sessions.specs.Attempts.{failure as failure_of, credential, is_pin, is_used_up}
+use Rattle.sessions.specs.Attempts.{attempt_failure as failure_of, credential, is_pin, is_used_up}
 use Rattle.call_shapes.specs.Asks.{uid_of}
 use Rattle.sessions.specs.Deeds.{Begun, SessionDeed, Unchanged, Tried, Activated, Outcome, says}
 use Rattle.call_shapes.specs.Statuses.{fail}
@@ -19,13 +19,13 @@ use Rattle.sessions.specs.declared.opening.Opening.{Opening}
 use Rattle.sessions.specs.declared.opening.StartVerdict.{StartVerdict}
 use Rattle.sessions.specs.declared.opening.StartVerdict.TheVariants.{Refused, Attempted}
 use Rattle.sessions.specs.Live.{Live, lives_on}
-use Rattle.sessions.specs.Starts.{opening_of, is_in_use, sp_named, is_full, verdict_on}
+use Rattle.sessions.specs.Starts.{opening_of, is_in_use, sp_named, is_full, opening_verdict_on}
 use Rattle.call_shapes.specs.Named.{values_of}
 use Rattle.sp_cells.specs.Flat.{LookUp}
 use Rattle.history.specs.Facts.{live, has_open, Facts}
 use Rattle.history.specs.Tcg.{start_verdict, deed_of_start, start_deed, started, is_method_of_manager, to_manager, judgement_on, begins_on, ends_on, in_session}
 use Rattle.methods.specs.Calls.{outcome_of}
-use Rattle.methods.specs.Said.{refusal}
+use Rattle.methods.specs.Said.{refusal_of}
 use Rattle.history.proofs.Items.{item-from}
 use Rattle.sp_cells.specs.Ranges.{number}
 use Rattle.audit.specs.declared.reason.AttemptFailure.TheVariants.{WrongPin, LockedOut, Disabled, Unknown}
@@ -58,7 +58,7 @@ attempted-by look l opening sp s g f true false false is h =
     let other : g ≡ f = cc in
     ap (λ x. failure_of look x opening.authority opening.proof) (sym same) ∙ sym is ∙ other
 
-attempted : (look : LookUp) (l : Live) (opening : Opening) (sp : Sp) (f : Option AttemptFailure) (named : Option Sp) → verdict_on look l opening named ≡ Attempted sp f → failure_of look sp opening.authority opening.proof ≡ f
+attempted : (look : LookUp) (l : Live) (opening : Opening) (sp : Sp) (f : Option AttemptFailure) (named : Option Sp) → opening_verdict_on look l opening named ≡ Attempted sp f → failure_of look sp opening.authority opening.proof ≡ f
 attempted look l opening sp f None h = cc
 attempted look l opening sp f (Some s) h = attempted-by look l opening sp s (failure_of look s opening.authority opening.proof) f (is_in_use look s) (lives_on s l) (is_full l) refl h
 
@@ -83,7 +83,7 @@ either-below f false x y h g = g
 manager-below : (f : Facts) (com_id : ℕ) (read : Result Message TokenError) → Below f (to_manager f com_id read).deed
 manager-below f com_id (Ok (call object method args status)) =
     either-below f (is_method_of_manager properties (uid_of object) (uid_of method)) (says Unchanged (properties_message (values_of args))) _ tt
-    (either-below f (is_method_of_manager start_session (uid_of object) (uid_of method)) (started f com_id (values_of args)) (says Unchanged (refusal fail)) (started-below f com_id (opening_of (values_of args))) tt)
+    (either-below f (is_method_of_manager start_session (uid_of object) (uid_of method)) (started f com_id (values_of args)) (says Unchanged (refusal_of fail)) (started-below f com_id (opening_of (values_of args))) tt)
 manager-below f com_id (Ok (reply results status)) = tt
 manager-below f com_id (Ok (begin n)) = tt
 manager-below f com_id (Ok (end n)) = tt

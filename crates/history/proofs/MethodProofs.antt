@@ -14,7 +14,7 @@ use Rattle.audit.specs.declared.reason.AttemptFailure.{AttemptFailure}
 use Rattle.audit.specs.declared.reason.AttemptFailure.TheVariants.{WrongPin, LockedOut, Disabled, Unknown}
 use Rattle.audit.specs.declared.reason.Why.{Why}
 use Rattle.audit.specs.declared.reason.Why.TheVariants.{NoEntryHolds, NoAccessRow}
-use Rattle.sessions.specs.Attempts.{failure as failure_of}
+use Rattle.sessions.specs.Attempts.{attempt_failure as failure_of}
 use Rattle.call_shapes.specs.Asks.{uid_of}
 use Rattle.sessions.specs.Deeds.{Begun}
 use Rattle.sp_cells.specs.declared.names.Sp.{Sp}
@@ -38,7 +38,7 @@ use Rattle.history.specs.Decisions.{admitted, fails_queue, refuses, aborted, whi
 use Rattle.history.specs.Tcg.{answers, to_manager, to_session, in_session, framed, sent, send, tcg}
 use Rattle.methods.specs.Calls.{outcome_of, tried_in}
 use Rattle.history.specs.History.{Act, event_by, event_in}
-use Rattle.history.specs.MethodLaws.{EffectLaw, IsLookedAt, IsSent, CallLaw}
+use Rattle.history.specs.MethodLaws.{ActEffectLaw, IsLookedAt, IsSent, CallLaw}
 use Rattle.sp_cells.specs.Resets.{programmatic}
 
 none-some : {A : Type 0} {x : A} → None ≡ Some x → ⊥
@@ -176,7 +176,7 @@ effect-back f session object method ask None is valid same = denial-none (standi
 effect-back f session object method ask (Some why) is valid same =
     absurd (clash (sym (effect-reason f session.sp (does (standing f session) object ask) valid) ∙ ap reason_of (sym same) ∙ denial-access (standing f session) object method ask why is))
 
-pub effect_law : EffectLaw
+pub effect_law : ActEffectLaw
 effect_law f act session object method args c ask shaped valid =
     let s = standing f session in let o = uid_of object in let m = uid_of method in
     let answer : Judgement → Event = λ j. answers c.com_id c.frame.session (outcome_of f.rows session.sp j) in

@@ -16,8 +16,8 @@ use Rattle.sp_cells.specs.Flat.{PlacedCell, sp_eq, cell_at}
 use Rattle.sp_cells.specs.Names.{c_pin_table, range_base, locking_sp, range_uid, admin_pin_uid}
 use Rattle.sp_rows.specs.Items.{Item, on, with_item, with_items}
 use Rattle.sp_rows.specs.Factory.{admin_factory, locking_factory, admin_sps, admin_authorities, locking_authorities, admin_pins, locking_pins, locking_ranges, locking_mbr_controls, admin_aces, authority_aces, pin_aces, range_aces, mbr_aces}
-use Rattle.sp_tables.specs.Contents.{Contents, look_up, flat}
-use Rattle.sp_tables.specs.Tries.{is_pin, is_tries, names_tries}
+use Rattle.sp_tables.specs.Contents.{Contents, cells_look_up, flat}
+use Rattle.sp_tables.specs.Tries.{is_pin_row, is_tries, names_tries}
 use Rattle.locking.specs.declared.range.RangeRow.{RangeRow}
 use Rattle.history.specs.Opening.{Origin, factory_origin, life_cycle, pin, activated_origin, changes_of, row_fault, with_range, unless, origin_after}
 use Rattle.history.specs.Changes.{with_tries}
@@ -120,11 +120,11 @@ items-clean items object (p ∷ ps) h clean =
 no-pin-above : (n : ℕ) → ((range_base + n) / 0x100000000 == c_pin_table) ≡ false
 no-pin-above n = grind (arith, nat_tests)
 
-range-no-pin : (n : ℕ) → is_pin (range_uid n) ≡ false
+range-no-pin : (n : ℕ) → is_pin_row (range_uid n) ≡ false
 range-no-pin zero = refl
 range-no-pin (suc n) = no-pin-above (suc n)
 
-no-tries : (object : Uid) (changes : List (Column × Cell)) → is_pin object ≡ false → names_tries object changes ≡ false
+no-tries : (object : Uid) (changes : List (Column × Cell)) → is_pin_row object ≡ false → names_tries object changes ≡ false
 no-tries object [] h = refl
 no-tries object (p ∷ ps) h = ap (λ b. (b && (p.0.0 == 6)) || names_tries object ps) h ∙ no-tries object ps h
 
@@ -176,10 +176,10 @@ pub opening_law : OpeningLaw
 opening_law config rows o h = clean-tables o (rows-clean rows (activated_origin config) o (activated-clean config) h)
 
 -- without acts, what is in force is what it started from
-rows-same : (o : Origin) → HasNoTries o → (sp : Sp) (object : Uid) (column : Column) → look_up o.tables sp object column ≡ with_tries (λ row. 0) (look_up o.tables sp) object column
+rows-same : (o : Origin) → HasNoTries o → (sp : Sp) (object : Uid) (column : Column) → cells_look_up o.tables sp object column ≡ with_tries (λ row. 0) (cells_look_up o.tables sp) object column
 rows-same o h sp object column = by_tries (is_tries object column) refl
   where
-    by_tries : (b : Bool) → is_tries object column ≡ b → look_up o.tables sp object column ≡ cond b (option_map (λ _. Number 0) (look_up o.tables sp object column)) (look_up o.tables sp object column)
+    by_tries : (b : Bool) → is_tries object column ≡ b → cells_look_up o.tables sp object column ≡ cond b (option_map (λ _. Number 0) (cells_look_up o.tables sp object column)) (cells_look_up o.tables sp object column)
     by_tries true is = h sp object column is
     by_tries false is = refl
 

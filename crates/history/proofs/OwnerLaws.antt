@@ -10,9 +10,9 @@ use Rattle.sp_cells.specs.declared.cells.Cell.{Cell}
 use Rattle.sp_cells.specs.Names.{c_pin_sid, tper_info, locking_sp, mbr_control}
 use Rattle.sp_cells.specs.declared.cells.Cell.TheVariants.{Number}
 use Rattle.sp_cells.specs.Flat.{sp_eq}
-use Rattle.sp_cells.specs.Ranges.{number_in}
+use Rattle.sp_cells.specs.Ranges.{cell_number}
 use Rattle.sp_cells.specs.ColumnNames.{life_cycle_state_column, mbr_done_on_reset_column}
-use Rattle.sp_tables.specs.Contents.{look_up}
+use Rattle.sp_tables.specs.Contents.{cells_look_up}
 use Rattle.history.specs.Opening.{Origin}
 use Rattle.sp_tables.specs.Looks.{RowLook, put_in, puts_in}
 use Rattle.sp_cells.specs.declared.names.TheConstants.{RANGES}
@@ -22,7 +22,7 @@ use Rattle.sessions.specs.Deeds.{cells_set, bytes_set, Change, Sets, Restores, R
 use Rattle.history.specs.Changes.{reset_rows, apply, apply_all}
 use Rattle.sessions.specs.Starts.{is_in_use}
 use Rattle.history.specs.Events.{Response, Deed, Nothing, InSession, OfQueue, Wrote, Took, WasReset, Event}
-use Rattle.history.specs.Readers.{restores, living, session_on, open_on, is_of, in_force, turns, begins, changes_on, own_changes, if_open, open_changes, only_on, unless_open, brought, changes, factory_rows}
+use Rattle.history.specs.Readers.{restores, living, session_on, open_on, is_of, in_force, turns, begins, changes_on, own_changes, if_open, open_changes, only_on, unless_any_open, brought, changes, factory_rows}
 use Rattle.history.specs.History.{Act, event, log}
 use Rattle.history.specs.Deeds.{IsNew, is_set_in_admin, is_of_row, Begins, Changes, IsOutside, CanDo, OwnerLaw, LifeLaw, ActivateLaw, RevertLaw}
 use Rattle.history.proofs.Words.{latest-here, latest-skip, sp-is}
@@ -265,7 +265,7 @@ changes-spare factory rows (c ∷ cs) ds h =
     change-spares factory (apply_all factory (cs ++ ds) rows) c parts.0 ∙ changes-spare factory rows cs ds parts.1
 
 state-kept : (o : Origin) (e : Event) (es : List Event) → list_all spares (brought es Admin e.deed) ≡ true → is_in_use (in_force o (e ∷ es)) Locking ≡ is_in_use (in_force o es) Locking
-state-kept o e es h = ap (λ cell. number_in cell == 9) (changes-spare (factory_rows o Admin) (look_up o.tables Admin) (brought es Admin e.deed) (changes es Admin) h)
+state-kept o e es h = ap (λ cell. cell_number cell == 9) (changes-spare (factory_rows o Admin) (cells_look_up o.tables Admin) (brought es Admin e.deed) (changes es Admin) h)
 
 -- what an event brings to the Admin SP, but for an Activate and a Revert
 open-spare : (x : Option ℕ) (own : List Change) → list_all spares own ≡ true → list_all spares (if_open x own) ≡ true
@@ -276,7 +276,7 @@ only-spare : (t : Sp) (xs : List Change) → (t ≡ Admin → list_all spares xs
 only-spare Admin xs h = h refl
 only-spare Locking xs h = refl
 
-set-spare : (x : Option ℕ) (c : Change) → spares c ≡ true → list_all spares (unless_open x c) ≡ true
+set-spare : (x : Option ℕ) (c : Change) → spares c ≡ true → list_all spares (unless_any_open x c) ≡ true
 set-spare None c h = ap (λ b. b && true) h
 set-spare (Some n) c h = refl
 
@@ -288,7 +288,7 @@ is_activation _ = false
 brought-spare : (o : Origin) (es : List Event) (d : Deed) → ((x : SessionDeed) (r : Response) → d ≡ InSession x r → CanDo o es x) → list_all spares (own_changes es Admin) ≡ true → is_activation d ≡ false → list_all spares (brought es Admin d) ≡ true
 brought-spare o es (InSession (Changed t c) r) can own h =
     let set : Changes o es t c = can (Changed t c) r refl in
-    only-spare t (unless_open (open_on es Admin) c) (λ admin. set-spare (open_on es Admin) c (row-spares c (set.row admin)))
+    only-spare t (unless_any_open (open_on es Admin) c) (λ admin. set-spare (open_on es Admin) c (row-spares c (set.row admin)))
 brought-spare o es (InSession (Committed t) r) can own h = only-spare t (open_changes es Admin) (λ admin. open-spare (open_on es Admin) (own_changes es Admin) own)
 brought-spare o es (InSession Unchanged r) can own h = refl
 brought-spare o es (InSession (Started session row) r) can own h = refl

@@ -16,7 +16,7 @@ use Rattle.history.specs.Opening.{Origin}
 use Rattle.sp_tables.specs.Looks.{RowLook, puts_in}
 use Rattle.history.specs.Changes.{apply, apply_all, reset_rows}
 use Rattle.history.specs.Events.{Response, InSession, WasReset, Event, since, every, count}
-use Rattle.history.specs.Readers.{is_start, living, session_on, next_number, starts, gains, authorities, turns, begins, changes_on, open_on, own_changes, if_open, open_changes, unless_open, brought, changes, factory_rows, rows_after, rows_within}
+use Rattle.history.specs.Readers.{is_start, living, session_on, next_number, starts, gains, authorities, turns, begins, changes_on, open_on, own_changes, if_open, open_changes, unless_any_open, brought, changes, factory_rows, rows_after, rows_within}
 use Rattle.history.proofs.Words.{latest-here, latest-skip, sp-same}
 use Rattle.history.proofs.Emptied.{every-since-more}
 
@@ -47,12 +47,12 @@ begun-within o e es s n r is =
 
 -- a Set outside of a transaction changes the rows in force
 pub set-outside : (o : Origin) (e : Event) (es : List Event) (s : Sp) (c : Change) (r : Response) → e.deed ≡ InSession (Changed s c) r → open_on es s ≡ None → rows_after o (e ∷ es) s ≡ apply (factory_rows o s) c (rows_after o es s)
-set-outside o e es s c r is closed = rows-by o e es s (c ∷ []) (ap (brought es s) is ∙ ap (λ b. cond b (unless_open (open_on es s) c) []) (sp-same s) ∙ ap (λ x. unless_open x c) closed)
+set-outside o e es s c r is closed = rows-by o e es s (c ∷ []) (ap (brought es s) is ∙ ap (λ b. cond b (unless_any_open (open_on es s) c) []) (sp-same s) ∙ ap (λ x. unless_any_open x c) closed)
 
 -- inside, its view alone
 pub set-inside : (o : Origin) (e : Event) (es : List Event) (s : Sp) (c : Change) (r : Response) (n : ℕ) → e.deed ≡ InSession (Changed s c) r → open_on es s ≡ Some n → (rows_after o (e ∷ es) s ≡ rows_after o es s) × (rows_within o (e ∷ es) s ≡ apply (factory_rows o s) c (rows_within o es s))
 set-inside o e es s c r n is opens =
-    let same : rows_after o (e ∷ es) s ≡ rows_after o es s = rows-by o e es s [] (ap (brought es s) is ∙ ap (λ b. cond b (unless_open (open_on es s) c) []) (sp-same s) ∙ ap (λ x. unless_open x c) opens) in
+    let same : rows_after o (e ∷ es) s ≡ rows_after o es s = rows-by o e es s [] (ap (brought es s) is ∙ ap (λ b. cond b (unless_any_open (open_on es s) c) []) (sp-same s) ∙ ap (λ x. unless_any_open x c) opens) in
     let still : open_on (e ∷ es) s ≡ Some n = unturned s e es (ap (turns s) is) ∙ opens in
     let own : own_changes (e ∷ es) s ≡ c ∷ own_changes es s =
     every-since-more (changes_on s) (begins s) e es false (ap (begins s) is)

@@ -10,7 +10,7 @@ use Rattle.sessions.specs.Deeds.{cells_set, bytes_set, Change, Sets, Restores, R
 use Rattle.history.specs.Changes.{byte_then, byte_in}
 use Rattle.history.specs.Opening.{Origin}
 use Rattle.history.specs.Events.{Response, Deed, Nothing, InSession, OfQueue, Wrote, Took, WasReset, Event}
-use Rattle.history.specs.Readers.{changes_on, begins, open_on, own_changes, if_open, open_changes, only_on, unless_open, pin_change, brought, changes, is_of}
+use Rattle.history.specs.Readers.{changes_on, begins, open_on, own_changes, if_open, open_changes, only_on, unless_any_open, pin_change, brought, changes, is_of}
 use Rattle.history.specs.History.{Act, event, log}
 use Rattle.history.specs.Deeds.{is_inside, Changes, CanDo}
 use Rattle.history.specs.Bounds.{TableLaw}
@@ -50,7 +50,7 @@ only-inside : (size : ℕ) (t : Sp) (xs : List Change) → (t ≡ Locking → ar
 only-inside size Locking xs h = h refl
 only-inside size Admin xs h = refl
 
-set-inside : (size : ℕ) (x : Option ℕ) (c : Change) → is_inside size Locking c ≡ true → are_inside size (unless_open x c) ≡ true
+set-inside : (size : ℕ) (x : Option ℕ) (c : Change) → is_inside size Locking c ≡ true → are_inside size (unless_any_open x c) ≡ true
 set-inside size None c h = ap (λ b. b && true) h
 set-inside size (Some n) c h = refl
 
@@ -61,7 +61,7 @@ pin-inside size (Some pin) = refl
 brought-inside : (o : Origin) (es : List Event) (d : Deed) → ((x : SessionDeed) (r : Response) → d ≡ InSession x r → CanDo o es x) → are_inside (size_of o) (own_changes es Locking) ≡ true → are_inside (size_of o) (brought es Locking d) ≡ true
 brought-inside o es (InSession (Changed t c) r) can own =
     let set : Changes o es t c = can (Changed t c) r refl in
-    only-inside (size_of o) t (unless_open (open_on es Locking) c) (λ locking. set-inside (size_of o) (open_on es Locking) c (ap (λ x. is_inside (size_of o) x c) (sym locking) ∙ set.inside))
+    only-inside (size_of o) t (unless_any_open (open_on es Locking) c) (λ locking. set-inside (size_of o) (open_on es Locking) c (ap (λ x. is_inside (size_of o) x c) (sym locking) ∙ set.inside))
 brought-inside o es (InSession (Committed t) r) can own = only-inside (size_of o) t (open_changes es Locking) (λ locking. open-inside (size_of o) (open_on es Locking) (own_changes es Locking) own)
 brought-inside o es (InSession Unchanged r) can own = refl
 brought-inside o es (InSession (Started session row) r) can own = refl

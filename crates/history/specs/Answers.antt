@@ -80,8 +80,8 @@ completed_data f (Some h) = held_data f h
 abbrev pub ready : ℕ
 ready = 0x50
 
-abbrev pub failed : ℕ
-failed = 0x51
+abbrev pub errored : ℕ
+errored = 0x51
 
 abbrev pub data_requested : ℕ
 data_requested = 0x58
@@ -91,7 +91,7 @@ busy = 0xd0
 
 abbrev pub status_of : Option ℕ → ℕ
 status_of None = ready
-status_of (Some error) = failed
+status_of (Some error) = errored
 
 -- A register FIS with bit I, the status and the error; its other fields are 0.
 abbrev pub answer_fis : Bool → ℕ → ℕ → Fis
@@ -141,7 +141,7 @@ is_holding _ = false
 
 abbrev pub answer_fises : RegH2d → Event → List Fis
 answer_fises h event =
-    if is_some event.failed then answer_fis true failed (unwrap_or event.failed 0) ∷ []
+    if is_some event.failed then answer_fis true errored (unwrap_or event.failed 0) ∷ []
     else (if is_holding event.deed then answer_fis false ready 0 ∷ [] else fises_read (reading h))
 
 abbrev pub accepted_fises : List ℕ → Event → List Fis

@@ -12,22 +12,22 @@ use Rattle.methods.specs.Laws.{IsAmong}
 abbrev pub ClientAct : Type 0
 ClientAct = ℕ × Act
 
-abbrev pub acts_of : List ClientAct → List Act
-acts_of made = map (λ c. c.1) made
+abbrev pub audited_acts : List ClientAct → List Act
+audited_acts made = map (λ c. c.1) made
 
 -- What an act did, after those before it.
 abbrev pub event_of : Origin → ClientAct → List ClientAct → Event
-event_of o c before = event o (log o (acts_of before)) c.1
+event_of o c before = event o (log o (audited_acts before)) c.1
 
 abbrev pub line_for : ℕ → ℕ → Option Why → List AuditLine
 line_for step client None = []
 line_for step client (Some why) = record { step = step; client = client; why = why } ∷ []
 
 -- Acts are counted from 1.
-abbrev pub audit : Origin → List ClientAct → List AuditLine
-audit o [] = []
-audit o (c ∷ before) =
-    line_for (length before + 1) c.0 (event_of o c before).denied ++ audit o before
+abbrev pub audit_of_acts : Origin → List ClientAct → List AuditLine
+audit_of_acts o [] = []
+audit_of_acts o (c ∷ before) =
+    line_for (length before + 1) c.0 (event_of o c before).denied ++ audit_of_acts o before
 
 -- The line of a denied act: with its number, its client and what denied it.
 pub record IsLineOf (o : Origin) (made : List ClientAct) (line : AuditLine) : Type 0 where
@@ -40,7 +40,7 @@ pub record IsLineOf (o : Origin) (made : List ClientAct) (line : AuditLine) : Ty
   pub denied : (event_of o one before).denied ≡ Some line.why
 
 -- The lines are those of the denied acts, and no others.
-abbrev pub AuditLaw : Type 0
-AuditLaw =
+abbrev pub ActAuditLaw : Type 0
+ActAuditLaw =
     (o : Origin) (made : List ClientAct) (line : AuditLine)
-    → IsAmong (audit o made) line ↔ IsLineOf o made line
+    → IsAmong (audit_of_acts o made) line ↔ IsLineOf o made line

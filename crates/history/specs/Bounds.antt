@@ -6,7 +6,7 @@ use Rattle.sp_cells.specs.declared.names.Uid.{Uid}
 use Rattle.sp_cells.specs.declared.names.Column.{Column}
 use Rattle.sp_cells.specs.ColumnNames.{credential_column}
 use Rattle.sp_cells.specs.Config.{Config}
-use Rattle.sp_tables.specs.Contents.{look_up}
+use Rattle.sp_tables.specs.Contents.{cells_look_up}
 use Rattle.shadow_mbr.specs.Stored.{sector_size, zeros}
 use Rattle.locking.specs.declared.range.RangeRow.{RangeRow}
 use Rattle.history.specs.Opening.{Origin, factory_origin, origin_with}
@@ -20,7 +20,7 @@ use Rattle.history.specs.History.{Act, Accept, Complete, Reset, log}
 -- Neither what a drive starts from nor a new drive has a cell there: then there is none after any
 -- events.
 pub record IsNowhere (o : Origin) (sp : Sp) (object : Uid) (column : Column) : Type 0 where
-  pub opened : look_up o.tables sp object column ≡ None
+  pub opened : cells_look_up o.tables sp object column ≡ None
   pub factory : factory_rows o sp object column ≡ None
 
 pub record HasNone (o : Origin) (past : List Event) (sp : Sp) (object : Uid)

@@ -14,7 +14,7 @@ use Rattle.compacket.specs.Frames.{Frame}
 use Rattle.trusted_cmds.specs.declared.command.Command.{Command}
 use Rattle.trusted_cmds.specs.declared.command.Command.TheVariants.{ReadQueued, WriteQueued, ReadDma, WriteDma}
 use Rattle.locking.specs.declared.ranges.Verdict.TheVariants.{Denied}
-use Rattle.sessions.specs.Attempts.{failure as failure_of}
+use Rattle.sessions.specs.Attempts.{attempt_failure as failure_of}
 use Rattle.call_shapes.specs.Asks.{uid_of}
 use Rattle.sp_cells.specs.Names.{properties, start_session}
 use Rattle.sessions.specs.Deeds.{Begun}

@@ -9,10 +9,10 @@ use Rattle.sp_cells.specs.declared.names.TheConstants.{USERS, ADMINS, RANGES}
 use Rattle.sp_cells.specs.Config.{Config}
 use Rattle.sp_cells.specs.Names.{c_pin_sid, c_pin_msid, admin_pin_uid, user_pin_uid, mbr_control}
 use Rattle.sp_rows.specs.Items.{item_at}
-use Rattle.sp_tables.specs.Contents.{Contents, factory_contents, look_up as cells_of}
+use Rattle.sp_tables.specs.Contents.{Contents, factory_contents, cells_look_up as cells_of}
 use Rattle.sp_tables.specs.Looks.{RowLook}
 use Rattle.sp_tables.specs.Tries.{is_tries}
-use Rattle.shadow_mbr.specs.Stored.{Stored as Bytes, sector_size, byte_at}
+use Rattle.shadow_mbr.specs.Stored.{StoredSectors as Bytes, sector_size, byte_at}
 use Rattle.transactions.specs.Stored.{Transaction, Part, Stored, part, bytes_seen, new_store, after_reset}
 use Rattle.transactions.specs.Resets.{is_range}
 use Rattle.transactions.specs.Sights.{look_up, committed_sight, side_at, side_for}

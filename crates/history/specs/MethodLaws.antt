@@ -65,8 +65,8 @@ CallLaw =
 
 -- And so, act by act: of a call of the right shape with valid values, the act does and answers what
 -- its ask comes to exactly where it is granted.
-abbrev pub EffectLaw : Type 0
-EffectLaw =
+abbrev pub ActEffectLaw : Type 0
+ActEffectLaw =
     (f : Facts) (act : Act) (session : Begun) (object method : List ℕ) (args : Trees)
     (c : IsCall f act session object method args) (ask : Ask)
     → asked session.sp (uid_of object) (uid_of method) args ≡ Some ask

@@ -3,7 +3,7 @@
 use Rattle.std.specs.Prelude.{◌≡◌, ℕ, Bool, true, false, List, [], ◌∷◌, ◌++◌, Option, Some, None, Result, Ok, Err}
 use Rattle.sp_cells.specs.Config.{Config, IsWithinLimits}
 use Rattle.sp_tables.specs.Contents.{Contents, factory_contents, with_row}
-use Rattle.sp_tables.specs.Faults.{fault_of}
+use Rattle.sp_tables.specs.Faults.{set_fault}
 use Rattle.sp_cells.specs.Limits.{manufactured}
 use Rattle.sp_cells.specs.Names.{locking_sp, range_uid, admin_pin_uid}
 use Rattle.sp_cells.specs.ColumnNames.{life_cycle_state_column, pin_column, range_start_column, range_length_column, read_lock_enabled_column, write_lock_enabled_column, read_locked_column, write_locked_column}
@@ -61,7 +61,7 @@ changes_of row =
 
 -- Why the cells of a range are not set.
 abbrev pub row_fault : Origin → RangeRow → Option SetError
-row_fault o row = fault_of o.tables Locking (range_uid row.range) (changes_of row)
+row_fault o row = set_fault o.tables Locking (range_uid row.range) (changes_of row)
 
 -- What a drive starts from once they are set.
 abbrev pub with_range : RangeRow → Origin → Origin
@@ -86,8 +86,8 @@ origin_with config rows = origin_after rows (activated_origin config)
 abbrev pub ActivationLaw : Type 0
 ActivationLaw =
     (config : Config) → IsWithinLimits config.sectors config.mbr_sectors config.msid
-    → (fault_of (factory_contents config) Admin locking_sp life_cycle ≡ None)
-    × (fault_of (manufactured_contents config) Locking (admin_pin_uid 1) (pin config.msid) ≡ None)
+    → (set_fault (factory_contents config) Admin locking_sp life_cycle ≡ None)
+    × (set_fault (manufactured_contents config) Locking (admin_pin_uid 1) (pin config.msid) ≡ None)
 
 -- A row behind others is set where it has no fault, and else decides.
 abbrev pub RowLaw : Type 0

@@ -12,7 +12,7 @@ use Rattle.sp_cells.specs.Limits.{manufactured, manufactured_inactive}
 use Rattle.sp_cells.specs.Names.{locking_sp, admin_pin_uid}
 use Rattle.sp_cells.specs.Flat.{LookUp, sp_eq}
 use Rattle.sp_cells.specs.ColumnNames.{life_cycle_state_column, pin_column}
-use Rattle.sp_tables.specs.Contents.{look_up}
+use Rattle.sp_tables.specs.Contents.{cells_look_up}
 use Rattle.sp_tables.specs.AtReset.{is_power_cycle}
 use Rattle.audit.specs.declared.reason.AttemptFailure.{AttemptFailure}
 use Rattle.audit.specs.declared.reason.AttemptFailure.TheVariants.{WrongPin, LockedOut, Disabled, Unknown}
@@ -141,9 +141,9 @@ open_changes past sp = if_open (open_on past sp) (own_changes past sp)
 abbrev pub only_on : Sp → Sp → List Change → List Change
 only_on sp named changes = if sp_eq named sp then changes else []
 
-abbrev pub unless_open : Option ℕ → Change → List Change
-unless_open None change = change ∷ []
-unless_open (Some number) change = []
+abbrev pub unless_any_open : Option ℕ → Change → List Change
+unless_any_open None change = change ∷ []
+unless_any_open (Some number) change = []
 
 abbrev pub state_change : ℕ → List Change
 state_change state = Sets (cells_set locking_sp ((life_cycle_state_column, Number state) ∷ [])) ∷ []
@@ -166,7 +166,7 @@ restoring Locking Admin = state_change manufactured_inactive
 
 abbrev pub brought_by : List Event → Sp → SessionDeed → List Change
 brought_by past sp (Changed changed change) =
-    only_on sp changed (unless_open (open_on past sp) change)
+    only_on sp changed (unless_any_open (open_on past sp) change)
 brought_by past sp (Committed committed) = only_on sp committed (open_changes past sp)
 brought_by past sp (Activated pin) = activation pin sp
 brought_by past sp (Reverted reverted wipes) = restoring reverted sp
@@ -225,10 +225,10 @@ tries (event ∷ before) sp row = tries_then sp row event.deed (tries before sp 
 -- SSC 2.01, section 4.3.5.4).
 
 abbrev pub factory_rows : Origin → LookUp
-factory_rows o = look_up o.factory
+factory_rows o = cells_look_up o.factory
 
 abbrev pub rows_after : Origin → List Event → Sp → RowLook
-rows_after o past sp = apply_all (factory_rows o sp) (changes past sp) (look_up o.tables sp)
+rows_after o past sp = apply_all (factory_rows o sp) (changes past sp) (cells_look_up o.tables sp)
 
 -- With the Sets of the transaction that is open on an SP.
 abbrev pub rows_within : Origin → List Event → Sp → RowLook

@@ -5,6 +5,6 @@ use Rattle.history.specs.declared.reset.ResetKind.{ResetKind}
 use Rattle.history.specs.declared.reset.ResetKind.TheVariants.{Power, Hardware}
 
 -- The number of a kind of reset (Core 2.01, reset_type).
-abbrev pub kind_of : ResetKind → ℕ
-kind_of Power = power_cycle
-kind_of Hardware = hardware
+abbrev pub reset_kind_number : ResetKind → ℕ
+reset_kind_number Power = power_cycle
+reset_kind_number Hardware = hardware

@@ -28,7 +28,7 @@ use Rattle.sessions.specs.declared.opening.StartVerdict.TheVariants.{Refused, At
 use Rattle.sessions.specs.Gains.{first_held}
 use Rattle.sessions.specs.Starts.{opening_of, verdict, host_of, reply_to, denied_with}
 use Rattle.sessions.specs.Properties.{properties_message}
-use Rattle.methods.specs.Said.{refusal}
+use Rattle.methods.specs.Said.{refusal_of}
 use Rattle.methods.specs.Judgement.{Judgement, asked, judged}
 use Rattle.methods.specs.Calls.{outcome_of}
 use Rattle.history.specs.Events.{Nothing, InSession, Event, did}
@@ -96,12 +96,12 @@ abbrev pub called_manager : Facts → ℕ → Uid → Uid → List Tree → Outc
 called_manager f com_id object method args =
     if is_method_of_manager properties object method then says Unchanged (properties_message args)
     else (if is_method_of_manager start_session object method then started f com_id args
-    else says Unchanged (refusal fail))
+    else says Unchanged (refusal_of fail))
 
 abbrev pub to_manager : Facts → ℕ → Result Message TokenError → Outcome
 to_manager f com_id (Ok (call object method args status)) =
     called_manager f com_id (uid_of object) (uid_of method) (values_of args)
-to_manager f com_id _ = says Unchanged (refusal fail)
+to_manager f com_id _ = says Unchanged (refusal_of fail)
 
 -- A session.
 
@@ -114,12 +114,12 @@ abbrev pub begins_on : Sp → ℕ → Option ℕ → Outcome
 begins_on sp number None = says (Began sp number) (begin 0)
 begins_on sp number (Some owner) = says Unchanged (begin transaction_failure)
 
-abbrev pub ended_by : Sp → ℕ → Outcome
-ended_by sp zero = says (Committed sp) (end 0)
-ended_by sp (suc n) = says (Aborted sp) (end 1)
+abbrev pub transaction_end : Sp → ℕ → Outcome
+transaction_end sp zero = says (Committed sp) (end 0)
+transaction_end sp (suc n) = says (Aborted sp) (end 1)
 
 abbrev pub ends_on : Sp → ℕ → Bool → Outcome
-ends_on sp number true = ended_by sp number
+ends_on sp number true = transaction_end sp number
 ends_on sp number false = says Unchanged (end transaction_failure)
 
 abbrev pub in_session : Facts → Begun → Result Message TokenError → Outcome
@@ -128,8 +128,8 @@ in_session f session (Ok (call object method args status)) =
 in_session f session (Ok (begin n)) = begins_on session.sp session.number (f.open_on session.sp)
 in_session f session (Ok (end n)) = ends_on session.sp n (has_open f session)
 in_session f session (Ok end_session) = says (Ended session.sp) end_session
-in_session f session (Ok (reply results status)) = says Unchanged (refusal fail)
-in_session f session (Err e) = says Unchanged (refusal fail)
+in_session f session (Ok (reply results status)) = says Unchanged (refusal_of fail)
+in_session f session (Err e) = says Unchanged (refusal_of fail)
 
 abbrev pub is_manager : Session → Bool
 is_manager session = session.tsn == 0 && session.hsn == 0

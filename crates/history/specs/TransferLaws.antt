@@ -89,7 +89,8 @@ HeldLaw =
 
 -- A transfer, queued or not, that comes to the policy is served exactly where it is permitted, and
 -- else aborted.
-pub record IsServed (items : Items) (f : Facts) (act : Act) (op : Op) (lba count : ℕ) : Type 0 where
+pub record ServesAct (items : Items) (f : Facts) (act : Act) (op : Op)
+    (lba count : ℕ) : Type 0 where
   pub served : ((event_in items f act).failed ≡ None)
       ↔ IsPermitted (ranges_in_force f) op lba count
   pub denied : (IsPermitted (ranges_in_force f) op lba count → ⊥)
@@ -100,7 +101,7 @@ ServiceLaw =
     (items : Items) (f : Facts) (act : Act) (command : Command) (tag : Option ℕ) (op : Op)
     (lba count : ℕ) → IsLookedAt f act command tag → Moves command tag op lba count → IsFree f tag
     → on_drive f lba count ≡ true
-    → IsServed items f act op lba count
+    → ServesAct items f act op lba count
 
 -- Nothing is held under a tag that no slot has.
 abbrev pub TagLaw : Type 0

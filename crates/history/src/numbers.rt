@@ -6,7 +6,7 @@ ghost use Rattle.sp_cells.specs.Resets.{power_cycle, hardware, programmatic};
 ghost use Rattle.device_data.specs.Discovery.{first_com_id};
 ghost use Rattle.history.specs.Decisions.{aborted, not_found, last_com_id, discovery_com_id};
 ghost use Rattle.history.specs.Readers.{first_number};
-ghost use Rattle.history.specs.Resets.{kind_of};
+ghost use Rattle.history.specs.Resets.{reset_kind_number};
 ghost use Rattle.history.specs.declared.reset.ResetKind.TheVariants.{Power, Hardware};
 
 /// The numbers of this drive.
@@ -20,7 +20,7 @@ pub fn laws_of_numbers()
     ensures discovery { discovery_com_id ≡ 0x0001 }
     ensures reset { (reset_protocol ≡ 0x02) × (reset_com_id ≡ 0x0004) }
     ensures kinds { (power_cycle ≡ 0) × (hardware ≡ 1) × (programmatic ≡ 3) }
-    ensures asked { (kind_of Power ≡ 0) × (kind_of Hardware ≡ 1) }
+    ensures asked { (reset_kind_number Power ≡ 0) × (reset_kind_number Hardware ≡ 1) }
     ensures sessions { first_number ≡ 0x1000 }
     ensures errors { (aborted ≡ 0x04) × (not_found ≡ 0x10) }
 {}

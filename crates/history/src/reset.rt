@@ -1,7 +1,7 @@
 //! The kinds of reset (TCG Storage, "Reset types").
 
 ghost use Rattle.std.specs.Prelude.{◌≡◌};
-ghost use Rattle.history.specs.Resets.{kind_of};
+ghost use Rattle.history.specs.Resets.{reset_kind_number};
 
 /// A reset, as the LockOnReset and DoneOnReset columns name it.
 #[derive(Clone, Copy, Debug, PartialEq, Eq)]
@@ -15,7 +15,7 @@ pub enum ResetKind {
 impl ResetKind {
     /// The number that those columns have for it.
     pub fn number(self) -> u8
-        ensures { result ≡ kind_of self }
+        ensures { result ≡ reset_kind_number self }
     {
         match self {
             ResetKind::Power => 0,

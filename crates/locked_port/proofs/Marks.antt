@@ -2,7 +2,7 @@
 use Rattle.std.proofs.Common.{◌≡◌, ◌≢◌, ℕ, ◌<◌, ◌≤◌, ◌+◌, ◌⊎◌, inl, inr, length, true, false, Bool, List, refl, sym, ◌∙◌, ap, subst, set, get_or, length-set, arith}
 use Rattle.std.proofs.lemmas.Bool.{cases_eq, cases_order}
 use Rattle.std.proofs.lemmas.List.{get_or_default, get_or-set_same, get_or-set_other}
-use Rattle.locked_port.specs.Receipts.{IsNew, AreThere, AreOnly}
+use Rattle.locked_port.specs.Receipts.{HasOwnNumber, AreThere, AreOnly}
 use Rattle.locked_port.specs.declared.ticket.Receipt.{Receipt}
 
 -- the number of a receipt, whatever stands for none
@@ -36,7 +36,7 @@ only_past first at xs marks only p is =
 
 -- Within a window, no two of the first so many receipts have one number.
 abbrev pub AreNew : ℕ → ℕ → List Receipt → ℕ → Type 0
-AreNew first size xs many = (j : ℕ) (d : Receipt) → j < many → first < (get_or xs j d).number → (get_or xs j d).number ≤ first + size → IsNew xs j
+AreNew first size xs many = (j : ℕ) (d : Receipt) → j < many → first < (get_or xs j d).number → (get_or xs j d).number ≤ first + size → HasOwnNumber xs j
 
 pub new_past : (first size at : ℕ) (xs : List Receipt) (d0 : Receipt) → at < length xs
     → ((get_or xs at d0).number ≤ first) ⊎ (first + size < (get_or xs at d0).number) → AreNew first size xs at → AreNew first size xs (at + 1)
@@ -87,7 +87,7 @@ pub new_more : (first at place : ℕ) (xs : List Receipt) (d0 : Receipt) (old : 
 new_more first at place xs d0 old in_xs in_old at_place unmarked there new j d lt above below =
     elim (before_or_last j at lt) [
       | inl before ↦ new j d before above below
-      | inr last ↦ subst (λ (k : ℕ). IsNew xs k) (sym last) (λ i e before same.
+      | inr last ↦ subst (λ (k : ℕ). HasOwnNumber xs k) (sym last) (λ i e before same.
           let f = number_at xs at e d0 in_xs in
           let g : (get_or xs i e).number ≡ first + place + 1 = same ∙ f ∙ at_place in
           let marked = there i place e before in_old g in

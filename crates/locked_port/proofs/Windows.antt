@@ -2,7 +2,7 @@
 use Rattle.std.proofs.Common.{◌≡◌, ℕ, Bool, ◌<◌, ◌≤◌, ◌+◌, ◌-◌, ◌*◌, ◌⊎◌, inl, inr, length, true, List, Some, slice_get, slice_index_or, All, sym, subst, arith}
 use Rattle.std.proofs.lemmas.Bool.{cases_lt}
 use Rattle.std.proofs.lemmas.Option.{slice_get_within}
-use Rattle.locked_port.specs.Receipts.{IsNew, IsNamed, IsShown, AreApart, AreNamed, AreApartIn, AreNamedIn, AreOnly, AreMarked}
+use Rattle.locked_port.specs.Receipts.{HasOwnNumber, IsNamed, IsShown, HaveOwnNumbers, AreNamed, AreApartIn, AreNamedIn, AreOnly, AreMarked}
 use Rattle.locked_port.specs.Counts.{is_client}
 use Rattle.port_history.specs.declared.step.Entry.{Entry}
 use Rattle.locked_port.specs.declared.ticket.Receipt.{Receipt}
@@ -38,7 +38,7 @@ all_windows place history receipts enough below = (
 )
 
 -- receipts that the history shows have numbers of it
-pub apart_of_shown : (history : List Entry) (receipts : List Receipt) → All (IsShown history) receipts → AreApartIn 0 (length history) receipts → AreApart receipts
+pub apart_of_shown : (history : List Entry) (receipts : List Receipt) → All (IsShown history) receipts → AreApartIn 0 (length history) receipts → HaveOwnNumbers receipts
 apart_of_shown history receipts shown apart i j d before within =
     let here = shown j d within in
     let above : 0 < (slice_index_or receipts j d).number = here.0 in

@@ -6,14 +6,14 @@ use Rattle.port_history.specs.declared.stages.Put.{Put}
 use Rattle.port_history.specs.declared.stages.Stage.{Stage}
 use Rattle.port_history.specs.Refusals.{most_steps}
 use Rattle.port_history.specs.Requests.{no_bytes}
-use Rattle.port_history.specs.Stages.{put_in, is_answered}
+use Rattle.port_history.specs.Stages.{put_at, is_answered}
 use Rattle.port_history.specs.Steps.{Moment, stage, answer}
 use Rattle.locked_port.specs.declared.ticket.Receipt.{Receipt}
 use Rattle.locked_port.specs.declared.ticket.Ticket.{Ticket}
 
 -- The history has no room.
-abbrev pub is_full : List Moment → Bool
-is_full before = not (nat_lt (length before) most_steps)
+abbrev pub is_trace_full : List Moment → Bool
+is_trace_full before = not (nat_lt (length before) most_steps)
 
 -- Whether the slot's command is answered, where it is the very Put of the ticket, and the client's.
 abbrev pub awaited_put : ℕ → Ticket → Bool → Option Put → Result Bool PortError
@@ -24,11 +24,12 @@ awaited_put client ticket answered (Some put) =
 
 abbrev pub awaited_at : Bool → ℕ → Ticket → Stage → Result Bool PortError
 awaited_at full client ticket stage =
-    if full then Err HistoryFull else awaited_put client ticket (is_answered stage) (put_in stage)
+    if full then Err HistoryFull else awaited_put client ticket (is_answered stage) (put_at stage)
 
 -- Whether its answer has come, after these steps, or why none is to come.
 abbrev pub awaited : List Moment → ℕ → Ticket → Result Bool PortError
-awaited before client ticket = awaited_at (is_full before) client ticket (stage before ticket.tag)
+awaited before client ticket = awaited_at (is_trace_full before) client ticket
+    (stage before ticket.tag)
 
 -- A Take in answer to this is refused with its refusal, and for want of memory only where the answer
 -- has come.
@@ -37,8 +38,8 @@ IsWaitRefused awaits error = ((error ≡ OutOfMemory) × (awaits ≡ Ok true)) �
 
 -- The receipt of a Take of the tag, made after these steps: its number is the next one, and the reply
 -- what the tag is answered.
-abbrev pub IsTaken : List Moment → ℕ → Receipt → Type 0
-IsTaken before tag r =
+abbrev pub IsReceiptOfTake : List Moment → ℕ → Receipt → Type 0
+IsReceiptOfTake before tag r =
     (r.number ≡ 1 + length before) × (r.reply ≡ unwrap_or (answer before tag) no_bytes)
 
 -- The errors of a submit, by whether its request has a size that a port takes.

@@ -31,8 +31,8 @@ pub record Frees (tag : ℕ) (old new : Hand) : Type 0 where
   pub gone : bit_at new.tags tag ≡ 0
   pub others : (k : ℕ) → k ≢ tag → bit_at new.tags k ≡ bit_at old.tags k
 
-abbrev pub count_of : Hand → ℕ
-count_of h = h.count
+abbrev pub hand_count : Hand → ℕ
+hand_count h = h.count
 
 -- The passes 1 to n, none of which was used, or holds a tag.
 abbrev pub hands : ℕ → List Hand

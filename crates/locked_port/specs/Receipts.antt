@@ -5,13 +5,13 @@ use Rattle.locked_port.specs.Counts.{is_client}
 use Rattle.locked_port.specs.declared.ticket.Receipt.{Receipt}
 
 -- No earlier receipt has the number of the one at this place.
-abbrev pub IsNew : List Receipt → ℕ → Type 0
-IsNew receipts at = (i : ℕ) (d : Receipt) → i < at
+abbrev pub HasOwnNumber : List Receipt → ℕ → Type 0
+HasOwnNumber receipts at = (i : ℕ) (d : Receipt) → i < at
     → (slice_index_or receipts i d).number ≢ (slice_index_or receipts at d).number
 
 -- The numbers differ from one another.
-abbrev pub AreApart : List Receipt → Type 0
-AreApart receipts = AllPairs (λ r s. r.number ≢ s.number) receipts
+abbrev pub HaveOwnNumbers : List Receipt → Type 0
+HaveOwnNumbers receipts = AllPairs (λ r s. r.number ≢ s.number) receipts
 
 -- The step and the reply stand in the history at the number, which counts from 1.
 abbrev pub IsShown : List Entry → Receipt → Type 0
@@ -32,7 +32,7 @@ abbrev pub AreApartIn : ℕ → ℕ → List Receipt → Type 0
 AreApartIn first size receipts = (j : ℕ) (d : Receipt) → j < length receipts
     → first < (slice_index_or receipts j d).number
     → (slice_index_or receipts j d).number ≤ first + size
-    → IsNew receipts j
+    → HasOwnNumber receipts j
 
 -- and each client step has a receipt.
 abbrev pub AreNamedIn : ℕ → ℕ → List Entry → List Receipt → Type 0

@@ -1,7 +1,7 @@
 //! What lies under the lock.
 
 ghost use Rattle.std.specs.Prelude.{◌≡◌, true, IfErr};
-ghost use Rattle.port_history.specs.Stages.{put_in};
+ghost use Rattle.port_history.specs.Stages.{put_at};
 ghost use Rattle.locked_port.specs.Awaits.{awaited_at, is_of_wait};
 ghost use Rattle.locked_port.specs.Counts.{Stands, client_steps};
 
@@ -25,7 +25,7 @@ pub(crate) struct Desk<L: PortName> {
 
 /// The Put of a slot that is not free.
 fn put_in(stage: Stage) -> Option<Put>
-    ensures { result ≡ put_in stage }
+    ensures { result ≡ put_at stage }
 {
     match stage {
         Stage::Free => None,
@@ -60,13 +60,13 @@ impl<L: PortName> Desk<L> {
     ghost use Rattle.history.specs.Opening.{Origin};
     ghost use Rattle.port_history.specs.declared.step.Step.{Step};
     ghost use Rattle.port_history.specs.declared.step.Step.TheVariants as steps;
-    ghost use Rattle.port_history.specs.Ready.{with_step, chosen, ready};
+    ghost use Rattle.port_history.specs.Ready.{with_step, chosen, engine_ready};
     ghost use Rattle.port_history.specs.Refusals.{refusal, IsRefusedBy};
     ghost use Rattle.port_history.specs.Requests.{is_sized};
     ghost use Rattle.port_history.specs.Steps.{trace};
     ghost use Rattle.port.specs.Agreement.{PortAgrees};
     ghost use Rattle.port.specs.Answers.{stage_at};
-    ghost use Rattle.locked_port.specs.Awaits.{is_full, awaited, IsTaken, IsWaitRefused, is_of_submit, is_of_wait, is_of_engine};
+    ghost use Rattle.locked_port.specs.Awaits.{is_trace_full, awaited, IsReceiptOfTake, IsWaitRefused, is_of_submit, is_of_wait, is_of_engine};
 
     /// A port over the book that counted its client steps.
     pub(crate) fn new(port: Port, book: Book<L>) -> Desk<L>
@@ -102,7 +102,7 @@ impl<L: PortName> Desk<L> {
     /// Whether the history has no room: a reset is refused for nothing else.
     fn is_full(&self) -> bool
         ensures { (o : Origin) (list : List Step) → PortAgrees self.now.port o list
-            → result ≡ is_full (trace o list) }
+            → result ≡ is_trace_full (trace o list) }
     {
         let reset = Step::Reset {
             client: 0,
@@ -173,7 +173,7 @@ impl<L: PortName> Desk<L> {
             (λ o. MatchOption o (self.new.port ≡ self.old.port)
             (λ r. (r.step ≡ steps.Take client ticket.now.tag) × (ticket.now.number < r.number)
             × ((o : Origin) (list : List Step) → PortAgrees self.old.port o list
-            → IsTaken (trace o list) ticket.now.tag r
+            → IsReceiptOfTake (trace o list) ticket.now.tag r
             × PortAgrees self.new.port o (r.step ∷ list))))
             (λ _. self.new.port ≡ self.old.port) }
         ensures told { (o : Origin) (list : List Step) → PortAgrees self.old.port o list
@@ -237,8 +237,8 @@ impl<L: PortName> Desk<L> {
     pub(crate) fn ready(&self) -> Result<ArrayVec<EngineStep, SLOT_COUNT>, PortError>
         ensures steps { (o : Origin) (list : List Step) → PortAgrees self.now.port o list
             → MatchResult result
-            (λ steps. (is_full (trace o list) ≡ false) × (steps.items ≡ ready o list))
-            (λ e. (is_full (trace o list) ≡ true) × (e ≡ PortError.HistoryFull)) }
+            (λ steps. (is_trace_full (trace o list) ≡ false) × (steps.items ≡ engine_ready o list))
+            (λ e. (is_trace_full (trace o list) ≡ true) × (e ≡ PortError.HistoryFull)) }
         ensures errors { IfErr result (λ e. is_of_engine e ≡ true) }
     {
         if self.is_full() {
@@ -255,7 +255,7 @@ impl<L: PortName> Desk<L> {
     pub(crate) fn turn(&mut self, choice: usize) -> Result<(), PortError>
         ensures step { MatchResult result
             (λ _. (o : Origin) (list : List Step) → PortAgrees self.old.port o list
-            → PortAgrees self.new.port o (with_step (chosen choice (ready o list)) list))
+            → PortAgrees self.new.port o (with_step (chosen choice (engine_ready o list)) list))
             (λ _. self.new.port ≡ self.old.port) }
         ensures memory { IfErr result (λ e. (o : Origin) (list : List Step)
             → PortAgrees self.old.port o list → e ≡ PortError.OutOfMemory) }

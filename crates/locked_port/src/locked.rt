@@ -41,7 +41,7 @@ impl<L: PortName> LockedPort<L> {
     ghost use Rattle.port_history.specs.Requests.{is_sized};
     ghost use Rattle.locked_port.specs.Awaits.{is_of_submit, is_of_wait, is_of_engine};
     ghost use Rattle.locked_port.specs.Counts.{Stands, client_steps};
-    ghost use Rattle.locked_port.specs.Hands.{hands, counted, count_of, Claims, Frees};
+    ghost use Rattle.locked_port.specs.Hands.{hands, counted, hand_count, Claims, Frees};
 
     /// Puts a port under a lock: with the passes of the clients 1 to `clients`, and behind them one for the engine.
     ///
@@ -245,7 +245,8 @@ impl<L: PortName> LockedPort<L> {
         ensures missing { IsOk result ↔ (vec_len passes ≡ L.passes) }
         ensures back { IfErr result (λ back. back ≡ (self, passes)) }
         ensures stands { IfOk result (λ closed. Stands closed.port closed.client_steps) }
-        ensures steps { IfOk result (λ closed. closed.client_steps ≡ sum_by count_of passes.items) }
+        ensures steps { IfOk result (λ closed. closed.client_steps
+            ≡ sum_by hand_count passes.items) }
     {
         if passes.len() != self.clients as usize + 1 {
             return Err((self, passes));

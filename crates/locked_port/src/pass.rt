@@ -1,7 +1,7 @@
 //! Passes: the right to act as one client, or as the engine.
 
 ghost use Rattle.std.specs.Prelude.{◌≡◌, ◌<◌, vec_len, sum_by};
-ghost use Rattle.locked_port.specs.Hands.{count_of};
+ghost use Rattle.locked_port.specs.Hands.{hand_count};
 
 use crate::desk::Desk;
 use crate::ticket::{Receipt, Ticket};
@@ -54,7 +54,7 @@ impl<L: PortName> Pass<L> {
     ghost use Rattle.port_history.specs.Requests.{is_sized};
     ghost use Rattle.port_history.specs.Steps.{trace};
     ghost use Rattle.port.specs.Agreement.{PortAgrees};
-    ghost use Rattle.locked_port.specs.Awaits.{awaited, IsTaken, IsWaitRefused, is_of_submit, is_of_wait};
+    ghost use Rattle.locked_port.specs.Awaits.{awaited, IsReceiptOfTake, IsWaitRefused, is_of_submit, is_of_wait};
     ghost use Rattle.locked_port.specs.Hands.{hand, hands, counted, Claims, Frees};
 
     /// The client: 1 and up, and the engine's one behind the last client's.
@@ -162,7 +162,8 @@ impl<L: PortName> Pass<L> {
         ensures step { MatchResult result
             (λ o. MatchOption o (desk.new.port ≡ desk.old.port)
             (λ r. (o : Origin) (list : List Step) → PortAgrees desk.old.port o list
-            → IsTaken (trace o list) ticket.now.tag r × PortAgrees desk.new.port o (r.step ∷ list)))
+            → IsReceiptOfTake (trace o list) ticket.now.tag r × PortAgrees desk.new.port o (r.step
+            ∷ list)))
             (λ _. desk.new.port ≡ desk.old.port) }
         ensures told { (o : Origin) (list : List Step) → PortAgrees desk.old.port o list
             → MatchResult result
@@ -180,7 +181,7 @@ impl<L: PortName> Pass<L> {
 /// The shares of all passes in one.
 pub(crate) fn gather<L: PortName>(mut passes: Vec<Pass<L>>) -> Share<L>
     requires { 0 < vec_len passes }
-    ensures { (result.parts ≡ vec_len passes) × (result.amount ≡ sum_by count_of passes.items) }
+    ensures { (result.parts ≡ vec_len passes) × (result.amount ≡ sum_by hand_count passes.items) }
 {
     let Some(
         Pass {

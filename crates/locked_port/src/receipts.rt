@@ -2,7 +2,7 @@
 
 ghost use Rattle.std.specs.Prelude.{◌≡◌, ◌+◌, ◌^◌, ◌<◌, ◌≤◌, ◌⊎◌, ◌↔◌, length, true, false, IsTrue, All, MatchOption};
 ghost use Rattle.locked_port.specs.Counts.{is_client};
-ghost use Rattle.locked_port.specs.Receipts.{AreApart, IsShown, AreNamed, AreApartIn, AreNamedIn, AreThere, AreOnly, AreMarked};
+ghost use Rattle.locked_port.specs.Receipts.{HaveOwnNumbers, IsShown, AreNamed, AreApartIn, AreNamedIn, AreThere, AreOnly, AreMarked};
 
 use crate::ticket::Receipt;
 use port::{Entry, Step};
@@ -14,7 +14,7 @@ const WINDOW: usize = 65_536;
 /// takes no memory, and goes over the receipts once for each window of the history, which has 17 at most in a port.
 #[tactic(auto, using(crate::proofs::Windows::apart_of_shown))]
 pub fn check_receipts(history: &[Entry], receipts: &[Receipt]) -> bool
-    ensures { IsTrue result ↔ (AreApart receipts.now × All (IsShown history.now) receipts.now
+    ensures { IsTrue result ↔ (HaveOwnNumbers receipts.now × All (IsShown history.now) receipts.now
         × AreNamed history.now receipts.now) }
 {
     are_shown(history, receipts) && are_matched(history, receipts)
@@ -132,7 +132,7 @@ fn is_matched<const SIZE: usize>(history: &[Entry], receipts: &[Receipt], first:
 fn are_matched(history: &[Entry], receipts: &[Receipt]) -> bool
     ensures apart { IsTrue result → AreApartIn 0 (length history.now) receipts.now }
     ensures named { IsTrue result → AreNamed history.now receipts.now }
-    ensures only { AreApart receipts.now → AreNamed history.now receipts.now → IsTrue result }
+    ensures only { HaveOwnNumbers receipts.now → AreNamed history.now receipts.now → IsTrue result }
 {
     for window in 0..history.len() / WINDOW + 1 {
         if !is_matched::<WINDOW>(history, receipts, WINDOW * window) {

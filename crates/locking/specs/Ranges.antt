@@ -21,9 +21,9 @@ row_of look_up range = record {
   write_locked = write_locked look_up range == 1;
 }
 
-abbrev pub rows_from : LookUp → ℕ → ℕ → List RangeRow
-rows_from look_up first zero = []
-rows_from look_up first (suc n) = row_of look_up first ∷ rows_from look_up (suc first) n
+abbrev pub range_rows_from : LookUp → ℕ → ℕ → List RangeRow
+range_rows_from look_up first zero = []
+range_rows_from look_up first (suc n) = row_of look_up first ∷ range_rows_from look_up (suc first) n
 
 -- The shadow MBR is up: it is enabled, and not done.
 abbrev pub is_shadow_up : LookUp → Bool
@@ -39,6 +39,6 @@ shadowed_sectors size look_up = if is_shadow_up look_up then size else 0
 unfoldable pub ranges_in : ℕ → LookUp → RangeRows
 ranges_in size look_up = record {
   global = row_of look_up 0;
-  numbered = rows_from look_up 1 RANGES;
+  numbered = range_rows_from look_up 1 RANGES;
   shadowed = shadowed_sectors size look_up;
 }

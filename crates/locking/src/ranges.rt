@@ -3,7 +3,7 @@
 ghost use Rattle.std.specs.Prelude.{◌≡◌, ◌≤◌, ℕ};
 ghost use Rattle.sp_cells.specs.Ranges.{of_range};
 ghost use Rattle.sp_cells.specs.declared.names.TheConstants.{RANGES};
-ghost use Rattle.locking.specs.Ranges.{row_of, rows_from, shadowed_sectors};
+ghost use Rattle.locking.specs.Ranges.{row_of, range_rows_from, shadowed_sectors};
 ghost use Rattle.locking.specs.Verdict.{why_of, shadow_why, denial_why, verdict_by, verdict_inside};
 
 use crate::numbered::NumberedRanges;
@@ -261,7 +261,7 @@ fn shadowed_sectors<R: Rows>(rows: &R) -> u64
 
 /// Makes these the numbered ranges that the rows describe.
 fn fill<R: Rows>(numbered: &mut NumberedRanges, rows: &R)
-    ensures { numbered.new ≡ rows_from (R.look_up rows.now) 1 RANGES }
+    ensures { numbered.new ≡ range_rows_from (R.look_up rows.now) 1 RANGES }
 {
     // No two of them have a sector in common: the rows say so once one is read.
     let _ = rows.cell(Sp::Locking, Uid::range(0), Column::RANGE_START);

@@ -10,17 +10,17 @@ use Rattle.audit.specs.declared.reason.AttemptFailure.{AttemptFailure}
 use Rattle.audit.specs.declared.reason.AttemptFailure.TheVariants.{WrongPin, LockedOut, Disabled, Unknown}
 use Rattle.transactions.specs.declared.change.SessionId.{SessionId}
 use Rattle.transactions.specs.Stored.{Stored}
-use Rattle.sessions.specs.Answers.{in_force, after_attempt, gaining_if}
-use Rattle.sessions.specs.Attempts.{uid_in, credential}
+use Rattle.sessions.specs.Answers.{rows_in_force, after_attempt, gaining_if}
+use Rattle.sessions.specs.Attempts.{object_named, credential}
 use Rattle.sessions.specs.Deeds.{gains_of}
 use Rattle.sessions.specs.Gains.{with_authority, gained}
 use Rattle.sessions.specs.Known.{is_known}
-use Rattle.sessions.specs.Live.{Holder, Live, session_at, holder_on, AreApart}
+use Rattle.sessions.specs.Live.{Holder, Live, session_at, holder_on, AreOnOwnSps}
 use Rattle.sessions.specs.Made.{StoresAttempt, with_each, gains_on}
-use Rattle.methods.specs.Effects.{holder_of}
+use Rattle.methods.specs.Effects.{live_holder}
 
 -- the store
-pub attempt-stores : (s : Stored) (sp : Sp) (authority : Uid) (x : Option AttemptFailure) → StoresAttempt sp (credential (in_force s) sp authority) x s (after_attempt sp authority x s)
+pub attempt-stores : (s : Stored) (sp : Sp) (authority : Uid) (x : Option AttemptFailure) → StoresAttempt sp (credential (rows_in_force s) sp authority) x s (after_attempt sp authority x s)
 attempt-stores s sp authority None = refl
 attempt-stores s sp authority (Some LockedOut) = refl
 attempt-stores s sp authority (Some WrongPin) = refl
@@ -83,7 +83,7 @@ gained-at rows session authority x n (Some h) alone = by_number x (session.tsn =
     by_number : (x : Option AttemptFailure) (b : Bool) → sp_eq h.sp session.sp ≡ b → cond b (gaining_if rows authority x (Some h)) (Some h) ≡ gains_on session.sp (gains_of rows session.sp authority x) (Some h)
     by_number x false is = sym (ap (λ b. cond b (Some (record h { held = with_each (gains_of rows session.sp authority x) h.held })) (Some h)) is)
     by_number None true is =
-        ap (λ held. Some (record h { held = held })) (gained-each h.sp authority (uid_in (rows h.sp authority class_column)) h.held)
+        ap (λ held. Some (record h { held = held })) (gained-each h.sp authority (object_named (rows h.sp authority class_column)) h.held)
         ∙ ap (λ sp. Some (record h { held = with_each (gained rows sp authority []) h.held })) (sp-is h.sp session.sp is)
         ∙ sym (ap (λ b. cond b (Some (record h { held = with_each (gained rows session.sp authority []) h.held })) (Some h)) is)
     by_number (Some e) true is = sym (ap (λ b. cond b (Some h) (Some h)) is)
@@ -107,7 +107,7 @@ its-holder sp (Some g) lives = by_sp (sp_eq g.sp sp) refl
     by_sp true is = (g, refl, sp-is g.sp sp is)
     by_sp false is = absurd (lives (ap (λ b. cond b (Some g) None) is))
 
-pub alone-at : (l : Live) (session : SessionId) → AreApart l.sessions → (holder_of l session ≡ None → ⊥) → (n : ℕ) → IsAlone session n (session_at l n)
+pub alone-at : (l : Live) (session : SessionId) → AreOnOwnSps l.sessions → (live_holder l session ≡ None → ⊥) → (n : ℕ) → IsAlone session n (session_at l n)
 alone-at l session apart lives n h is =
     let its = its-holder session.sp (session_at l session.tsn) lives in by_number its.0 its.1 its.2 (session.tsn == n) refl
   where

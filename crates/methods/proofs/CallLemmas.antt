@@ -12,16 +12,16 @@ use Rattle.tcg_tokens.specs.Tree.{Tree}
 use Rattle.tcg_tokens.specs.Message.{message}
 use Rattle.transactions.specs.declared.change.SessionId.{SessionId}
 use Rattle.transactions.specs.Stored.{Stored}
-use Rattle.sessions.specs.Answers.{in_force, attempt, after_attempt, gaining_if}
+use Rattle.sessions.specs.Answers.{rows_in_force, attempt, after_attempt, gaining_if}
 use Rattle.sessions.specs.Deeds.{Setting}
-use Rattle.sessions.specs.Live.{Live, session_at, AreApart}
+use Rattle.sessions.specs.Live.{Live, session_at, AreOnOwnSps}
 use Rattle.sessions.specs.Made.{CanSet, set_stored, StoresAs}
 use Rattle.methods.specs.declared.kinds.Handler.TheVariants as handlers
 use Rattle.methods.specs.declared.outcome.Outcome.{Outcome}
 use Rattle.methods.specs.declared.outcome.MethodFault.{MethodFault}
 use Rattle.methods.specs.Kinds.{kind_of}
 use Rattle.methods.specs.Said.{done, attempt_reply, attempt_denied}
-use Rattle.methods.specs.Effects.{has_ask, handles, holder_of, last_row}
+use Rattle.methods.specs.Effects.{has_ask, handles, live_holder, last_row}
 use Rattle.methods.specs.Judgement.{Standing, Judgement, Refuses, Attempts, gives, bytes_between, rows_given, bytes_given, to_set, makes, does_ask, does}
 use Rattle.methods.specs.Calls.{outcome_in, Fulfils, Tells}
 use Rattle.methods.proofs.AttemptLemmas.{attempt-stores, gained-at, alone-at}
@@ -63,10 +63,10 @@ set-made x set session out s t l is can answer denied wipe changes store =
     })
 
 -- an attempt
-pub attempts : (authority : Uid) (pin : List ℕ) (session : SessionId) (out : Outcome) (s t : Stored) (l m : Live) → AreApart l.sessions → (holder_of l session ≡ None → ⊥)
+pub attempts : (authority : Uid) (pin : List ℕ) (session : SessionId) (out : Outcome) (s t : Stored) (l m : Live) → AreOnOwnSps l.sessions → (live_holder l session ≡ None → ⊥)
     → message out.reply ≡ attempt_reply (attempt s session.sp authority pin) → out.denied ≡ attempt_denied session.sp authority (attempt s session.sp authority pin) → out.wipe ≡ false
     → (out.changes ≡ false → t ≡ s) → t ≡ after_attempt session.sp authority (attempt s session.sp authority pin) s
-    → m.next ≡ l.next → ((n : ℕ) → session_at m n ≡ (if session.tsn == n then gaining_if (in_force s) authority (attempt s session.sp authority pin) (session_at l n) else session_at l n))
+    → m.next ≡ l.next → ((n : ℕ) → session_at m n ≡ (if session.tsn == n then gaining_if (rows_in_force s) authority (attempt s session.sp authority pin) (session_at l n) else session_at l n))
     → Fulfils (outcome_in s session (Attempts authority pin)) out s t l m
 attempts authority pin session out s t l m apart lives answer denied wipe unchanged store next points =
     let x : Option AttemptFailure = attempt s session.sp authority pin in
@@ -78,7 +78,7 @@ attempts authority pin session out s t l m apart lives answer denied wipe unchan
         store = subst (λ (u : Stored). StoresAs (outcome_in s session (Attempts authority pin)).deed s u) (sym store) (attempt-stores s session.sp authority x);
         sessions = record {
           next = next;
-          at = λ n. points n ∙ gained-at (in_force s) session authority x n (session_at l n) (alone-at l session apart lives n);
+          at = λ n. points n ∙ gained-at (rows_in_force s) session authority x n (session_at l n) (alone-at l session apart lives n);
         };
       };
       unchanged = unchanged;

@@ -19,14 +19,14 @@ use Rattle.call_shapes.specs.declared.ask.Ask.{Ask}
 use Rattle.call_shapes.specs.declared.ask.Ask.TheVariants.{GetCells, GetBytes, SetCells, SetBytes, Authenticate, Activate, Revert, Other}
 use Rattle.call_shapes.specs.Named.{list_in, value_of, options, number_or, number_if_any, bytes_or_empty, assignments}
 use Rattle.call_shapes.specs.Parameters.{start_row_parameter, end_row_parameter, start_column_parameter, end_column_parameter, where_parameter, values_parameter, proof_parameter}
-use Rattle.call_shapes.specs.Asks.{uid_of, is_mbr_table, cellblock, columns_between, columns_in, is_ordered, rows_between, rows_in, cells_of, cells_to_set, cells_in, bytes_to_set, bytes_in, proof_of, proof_in, attempt_in, without_arguments, get_of, set_of, ask_of}
+use Rattle.call_shapes.specs.Asks.{uid_of, is_mbr_table, cellblock, columns_between, columns_asked_in, is_ordered, rows_between, rows_in, cells_of, cells_to_set, cells_in, bytes_to_set, bytes_in, proof_of, proof_in, attempt_in, without_arguments, get_of, set_of, ask_of}
 use Rattle.methods.specs.declared.kinds.Kind.{Kind}
 use Rattle.methods.specs.declared.kinds.Kind.TheVariants as kinds
 use Rattle.methods.specs.Kinds.{kind_of}
 use Rattle.methods.specs.Columns.{columns_of}
 use Rattle.methods.specs.Effects.{has_ask}
 use Rattle.methods.specs.Laws.{IsAmong}
-use Rattle.methods.specs.Cases.{CaseLaw, ColumnLaw, HasCell, new_cells}
+use Rattle.methods.specs.Cases.{CaseLaw, KindColumnLaw, HasCell, new_cells}
 
 -- ---- what is asked, by its shape alone
 
@@ -147,7 +147,7 @@ columns_between_fit None last = tt
 columns_between_fit (Some first) None = tt
 columns_between_fit (Some first) (Some last) = only_if _ (Some (GetCells first last)) (GetCells 0 0) refl
 
-columns_fit : (o : Option (List (ℕ × Tree))) → Fits (columns_in o) (GetCells 0 0)
+columns_fit : (o : Option (List (ℕ × Tree))) → Fits (columns_asked_in o) (GetCells 0 0)
 columns_fit None = tt
 columns_fit (Some ps) = columns_between_fit (number_or 0 (value_of start_column_parameter ps)) (number_or (2 ^ 64 - 1) (value_of end_column_parameter ps))
 
@@ -367,7 +367,7 @@ each : (sp : Sp) (is : List Item) (object : Uid) (k : Column) → are_whole sp i
 each sp [] object k all some at = absurd (clash some)
 each sp (i ∷ is) object k all some at = each_step sp i is object k (is_here object uid_column i) refl all some at (λ all' some'. each sp is object k all' some' at)
 
-pub columns_of_rows : ColumnLaw
+pub columns_of_rows : KindColumnLaw
 columns_of_rows config sp object k = record {
   alone = alone sp (new_cells config sp) object k (all_stand config sp);
   each = each sp (new_cells config sp) object k (all_whole config sp);

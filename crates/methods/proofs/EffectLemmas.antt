@@ -11,7 +11,7 @@ use Rattle.transactions.specs.Stored.{Stored, Part, Transaction, part_set, at_pa
 use Rattle.transactions.specs.Changes.{fault_of_change}
 use Rattle.methods.specs.Settings.{setting}
 use Rattle.sessions.specs.Deeds.{Setting}
-use Rattle.methods.specs.Changes.{setting_seen, object_of}
+use Rattle.methods.specs.Changes.{setting_seen, changed_object}
 use Rattle.transactions.specs.Bytes.{bytes_from}
 use Rattle.methods.specs.Effects.{fault_of_set, has_set, is_told, stored_after, unless_fault, held_of}
 use Rattle.sessions.specs.Made.{part_with, set_stored}
@@ -58,7 +58,7 @@ fault_made (Cells object cells) sp s =
 fault_made (Mbr at bytes) sp s = refl
 
 -- where the object's kind has Set, it is the change that may have a fault
-fault_here : (s : Stored) (session : SessionId) (change : Change) → has_set (kind_of session.sp (object_of change)) ≡ true → fault_of_set s session change ≡ fault_of_change s session.sp change
+fault_here : (s : Stored) (session : SessionId) (change : Change) → has_set (kind_of session.sp (changed_object change)) ≡ true → fault_of_set s session change ≡ fault_of_change s session.sp change
 fault_here s session change e = rw e refl
 
 fault_as : (s : Stored) (session : SessionId) (object : Uid) (ask : Ask) (change : Change) → has_set (kind_of session.sp object) ≡ true → Some (setting_seen change) ≡ setting session.sp s.config.mbr_sectors object (kind_of session.sp object) ask → fault_of_set s session change ≡ fault_by s.config.sectors (latest_look s session.sp) session.sp (setting_seen change)

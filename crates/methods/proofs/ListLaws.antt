@@ -14,7 +14,7 @@ use Rattle.ace_eval.proofs.AceLemmas.{some_ace, no_ace}
 use Rattle.methods.specs.declared.kinds.Kind.TheVariants as kinds
 use Rattle.methods.specs.Kinds.{kind_of}
 use Rattle.methods.specs.Columns.{columns_of}
-use Rattle.methods.specs.Listed.{is_listed, shown, listed_among, listed}
+use Rattle.methods.specs.Listed.{is_listed, shown_column, listed_among, listed}
 use Rattle.methods.specs.Laws.{IsAmong, IsListed, ListLaw, RiseLaw}
 
 clash : false ≡ true → ⊥
@@ -66,12 +66,12 @@ filter_in test (x ∷ xs) y (inl h) g = rw (ap test h ∙ g) (inl h)
 filter_in test (x ∷ xs) y (inr h) g = filter_step test x xs y (test x) (filter_in test xs y h g)
 
 -- a column and what stands there
-shown_is : (k n : Column) (cell : Cell) (x : Option Cell) → IsAmong {A = Column × Cell} (shown k x) (n, cell) → (k ≡ n) × (x ≡ Some cell)
+shown_is : (k n : Column) (cell : Cell) (x : Option Cell) → IsAmong {A = Column × Cell} (shown_column k x) (n, cell) → (k ≡ n) × (x ≡ Some cell)
 shown_is k n cell None h = absurd h
 shown_is k n cell (Some v) (inl h) = (ap (λ (p : Column × Cell). p.0) h, ap (λ (p : Column × Cell). Some p.1) h)
 shown_is k n cell (Some v) (inr h) = absurd h
 
-shown_in : (k : Column) (cell : Cell) (x : Option Cell) → x ≡ Some cell → IsAmong {A = Column × Cell} (shown k x) (k, cell)
+shown_in : (k : Column) (cell : Cell) (x : Option Cell) → x ≡ Some cell → IsAmong {A = Column × Cell} (shown_column k x) (k, cell)
 shown_in k cell None h = absurd (cc)
 shown_in k cell (Some v) h = inl (ap (λ (c : Option Cell). (k, at_some c)) h) where
   at_some : Option Cell → Cell
@@ -104,7 +104,7 @@ of_le a b h = grind (arith, nat_tests)
 listed_is : (look : LookUp) (sp : Sp) (object : Uid) (first last : ℕ) (held : List Uid) (k : Column) (cell : Cell) → IsAmong {A = Column × Cell} (listed look sp object first last held) (k, cell) → IsListed look sp object first last held k cell
 unfolding listed_among
 listed_is look sp object first last held k cell h =
-    let w = in_flat {B = Column × Cell} (λ n. shown n (look sp object n)) (filter (is_listed look sp object first last held) (columns_of (kind_of sp object))) (k, cell) h in
+    let w = in_flat {B = Column × Cell} (λ n. shown_column n (look sp object n)) (filter (is_listed look sp object first last held) (columns_of (kind_of sp object))) (k, cell) h in
     let x = shown_is w.0 k cell (look sp object w.0) w.2 in
     let f = in_filter (is_listed look sp object first last held) (columns_of (kind_of sp object)) w.0 w.1 in
     here w.0 x.0 f.0 f.1 x.1
@@ -117,7 +117,7 @@ listed_is look sp object first last held k cell h =
 is_listed_there : (look : LookUp) (sp : Sp) (object : Uid) (first last : ℕ) (held : List Uid) (k : Column) (cell : Cell) → IsListed look sp object first last held k cell → IsAmong {A = Column × Cell} (listed look sp object first last held) (k, cell)
 unfolding listed_among
 is_listed_there look sp object first last held k cell w =
-    flat_in {B = Column × Cell} (λ n. shown n (look sp object n)) (filter (is_listed look sp object first last held) (columns_of (kind_of sp object))) k (k, cell)
+    flat_in {B = Column × Cell} (λ n. shown_column n (look sp object n)) (filter (is_listed look sp object first last held) (columns_of (kind_of sp object))) k (k, cell)
     (filter_in (is_listed look sp object first last held) (columns_of (kind_of sp object)) k w.known (all_three (nat_le first k.0) (nat_le k.0 last) (is_some (ace_of look sp object get (Some k) held)) (of_le first k.0 w.from) (of_le k.0 last w.to) (there_ace look sp object k held (ace_of look sp object get (Some k) held) refl w.ace)))
     (shown_in k cell (look sp object k) w.in_view)
 

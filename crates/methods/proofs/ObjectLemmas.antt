@@ -18,7 +18,7 @@ use Rattle.methods.specs.Effects.{has_set}
 use Rattle.methods.specs.Settings.{setting, setting_of_cells, cells_of_ask, cells_for, bytes_of_ask}
 use Rattle.sessions.specs.Deeds.{cells_set, bytes_set}
 use Rattle.sessions.specs.Made.{is_within}
-use Rattle.methods.specs.Changes.{setting_seen, object_of}
+use Rattle.methods.specs.Changes.{setting_seen, changed_object}
 
 -- cells that are set are of the object
 cells_there : (object o : Uid) (cells : List (Column × Cell)) (c : Option (List (Column × Cell))) → setting_of_cells object c ≡ Some (cells_set o cells) → object ≡ o
@@ -92,7 +92,7 @@ bytes_of_locking n object at bs (Some kinds.TperInfo) ask e = no_bytes object at
 bytes_of_locking n object at bs None ask e = no_bytes object at bs (set_types_of None) ask e
 
 -- where the object that a call names has Set, the object of what it sets has it
-pub set_there : (sp : Sp) (n : ℕ) (object : Uid) (ask : Ask) (change : Change) → Some (setting_seen change) ≡ setting sp n object (kind_of sp object) ask → has_set (kind_of sp object) ≡ true → has_set (kind_of sp (object_of change)) ≡ true
+pub set_there : (sp : Sp) (n : ℕ) (object : Uid) (ask : Ask) (change : Change) → Some (setting_seen change) ≡ setting sp n object (kind_of sp object) ask → has_set (kind_of sp object) ≡ true → has_set (kind_of sp (changed_object change)) ≡ true
 set_there sp n object ask (Cells o cells) e h = ap (λ u. has_set (kind_of sp u)) (sym (cells_of_object sp n object o cells.items (kind_of sp object) ask (sym e))) ∙ h
 set_there Admin n object ask (Mbr at bs) e h = absurd (bytes_of_locking n object at bs.items (kind_of Admin object) ask (sym e))
 set_there Locking n object ask (Mbr at bs) e h = refl

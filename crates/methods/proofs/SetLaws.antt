@@ -17,11 +17,11 @@ use Rattle.methods.specs.declared.kinds.Kind.{Kind}
 use Rattle.methods.specs.declared.kinds.Kind.TheVariants as kinds
 use Rattle.methods.specs.Kinds.{kind_of}
 use Rattle.methods.specs.Columns.{columns_in, set_types_of}
-use Rattle.methods.specs.Settings.{setting, setting_of_cells, cells_of_ask, cells_for, cell_for, cell_as, with_column}
+use Rattle.methods.specs.Settings.{setting, setting_of_cells, cells_of_ask, cells_for, cell_for, cell_as, placed_cell}
 use Rattle.sessions.specs.Deeds.{Setting, cells_set}
 use Rattle.methods.specs.Effects.{unless_fault}
 use Rattle.methods.specs.Judgement.{Standing, fault_by, valid}
-use Rattle.methods.specs.Laws.{IsAmong, SetsOnly, SetLaw, PinLaw, StoreLaw, set_columns_of}
+use Rattle.methods.specs.Laws.{IsAmong, SetsOnly, SetLaw, PinLaw, SettingLaw, set_columns_of}
 use Rattle.methods.proofs.ObjectLemmas.{no_cells}
 
 -- an element of what a function gives of a list is given by it
@@ -50,7 +50,7 @@ typed_column (p ∷ ps) k kind is = typed_step p ps k kind (p.0.0 == k.0) refl i
 same_parts : (p q : Column × Cell) → Some p ≡ Some q → (p.0 ≡ q.0) × (Some p.1 ≡ Some q.1)
 same_parts p q is = (let same : p ≡ q = cc in (ap (λ (x : Column × Cell). x.0) same, ap (λ (x : Column × Cell). Some x.1) same))
 
-with_there : (n k : Column) (cell : Cell) (o : Option Cell) → with_column n o ≡ Some (k, cell) → (n ≡ k) × (o ≡ Some cell)
+with_there : (n k : Column) (cell : Cell) (o : Option Cell) → placed_cell n o ≡ Some (k, cell) → (n ≡ k) × (o ≡ Some cell)
 with_there n k cell None is = (cc, cc)
 with_there n k cell (Some c) is = same_parts (n, c) (k, cell) is
 
@@ -119,5 +119,5 @@ valid_there : (s : Standing) (o : Option Setting) (st : Setting) → valid s o �
 valid_there s None st is = is
 valid_there s (Some asked) st is = fault_there (fault_by s.sectors s.newest s.sp asked) st asked is
 
-pub store_law : StoreLaw
+pub store_law : SettingLaw
 store_law s object ask st is = valid_there s (setting s.sp s.mbr_sectors object (kind_of s.sp object) ask) st is

@@ -16,15 +16,15 @@ use Rattle.transactions.specs.Stored.{Stored}
 use Rattle.transactions.specs.Sights.{sight_of, latest_look}
 use Rattle.call_shapes.specs.Asks.{ask_of, uid_of}
 use Rattle.call_shapes.specs.Statuses.{success}
-use Rattle.sessions.specs.Answers.{in_force}
-use Rattle.sessions.specs.Attempts.{failure as failure_of}
+use Rattle.sessions.specs.Answers.{rows_in_force}
+use Rattle.sessions.specs.Attempts.{attempt_failure as failure_of}
 use Rattle.sessions.specs.Deeds.{Unchanged, Changed, Sets, Activated, Reverted, Outcome, says, gains_of, tried}
 use Rattle.sessions.specs.Live.{Live}
 use Rattle.sessions.specs.Made.{Meets}
 use Rattle.sessions.specs.Starts.{is_in_use}
 use Rattle.methods.specs.declared.outcome.Outcome.{Outcome as Answered}
-use Rattle.methods.specs.Said.{reply_of, refusal, done, attempt_reply, attempt_denied}
-use Rattle.methods.specs.Effects.{held_in, seen_by, is_inside}
+use Rattle.methods.specs.Said.{reply_of, refusal_of, done, attempt_reply, attempt_denied}
+use Rattle.methods.specs.Effects.{held_in, seen_by, has_transaction}
 use Rattle.methods.specs.Judgement.{Standing, Judgement, Refuses, Gives, Makes, Attempts, Activates, Reverts, judged}
 
 -- what the rules ask of a session that holds these authorities, of what is kept
@@ -37,7 +37,7 @@ standing_on s session held = record {
   sp = session.sp;
   newest = latest_look s session.sp;
   held = held;
-  is_open = is_inside s session;
+  is_open = has_transaction s session;
 }
 
 -- with those that it holds
@@ -68,7 +68,7 @@ activates rows =
 -- what a judgement does, and how it is answered, by the rows in force
 abbrev pub outcome_of : LookUp → Sp → Judgement → Outcome
 outcome_of rows sp (Refuses status denied) =
-    record { deed = Unchanged; said = refusal status; denied = denied }
+    record { deed = Unchanged; said = refusal_of status; denied = denied }
 outcome_of rows sp (Gives results) = says Unchanged (reply_of results success)
 outcome_of rows sp (Makes setting) = says (Changed sp (Sets setting)) done
 outcome_of rows sp (Attempts authority pin) =
@@ -78,7 +78,7 @@ outcome_of rows sp (Reverts reverted) = says (Reverted reverted (is_in_use rows 
 
 -- in a session, by those that are kept
 abbrev pub outcome_in : Stored → SessionId → Judgement → Outcome
-outcome_in s session judgement = outcome_of (in_force s) session.sp judgement
+outcome_in s session judgement = outcome_of (rows_in_force s) session.sp judgement
 
 -- what is answered, and what is made of the store and of the sessions, is what an outcome says
 pub record Fulfils (outcome : Outcome) (out : Answered) (s t : Stored) (l m : Live) : Type 0 where

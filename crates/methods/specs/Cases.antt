@@ -38,6 +38,6 @@ pub record HasColumnsOfKind (sp : Sp) (items : List Item) (object : Uid) (k : Co
       → HasCell items object k
 
 -- so it is of a new drive
-abbrev pub ColumnLaw : Type 0
-ColumnLaw = (config : Config) (sp : Sp) (object : Uid) (k : Column)
+abbrev pub KindColumnLaw : Type 0
+KindColumnLaw = (config : Config) (sp : Sp) (object : Uid) (k : Column)
     → HasColumnsOfKind sp (new_cells config sp) object k

@@ -20,7 +20,7 @@ use Rattle.methods.specs.declared.kinds.Kind.TheVariants as kinds
 use Rattle.methods.specs.declared.kinds.Handler.{Handler}
 use Rattle.methods.specs.declared.kinds.Handler.TheVariants as handlers
 use Rattle.methods.specs.Kinds.{kind_of}
-use Rattle.methods.specs.Changes.{object_of}
+use Rattle.methods.specs.Changes.{changed_object}
 use Rattle.sessions.specs.Deeds.{Setting}
 
 -- a kind of object has a method in this shape
@@ -68,8 +68,8 @@ abbrev pub ask_at : Sp → Uid → Ask → Ask
 ask_at sp object ask = cased (kind_of sp object) ask
 
 -- a session, where it lives on its SP
-abbrev pub holder_of : Live → SessionId → Option Holder
-holder_of live session = holder_on session.sp (session_at live session.tsn)
+abbrev pub live_holder : Live → SessionId → Option Holder
+live_holder live session = holder_on session.sp (session_at live session.tsn)
 
 -- the authorities that it holds; none where it does not live
 abbrev pub held_of : Option Holder → List Uid
@@ -77,15 +77,15 @@ held_of None = []
 held_of (Some h) = h.held
 
 abbrev pub held_in : Live → SessionId → List Uid
-held_in live session = held_of (holder_of live session)
+held_in live session = held_of (live_holder live session)
 
 -- the rows that a session sees
 abbrev pub seen_by : Stored → SessionId → LookUp
 seen_by s session = look_up (sight_of s session)
 
 -- the session has a transaction open
-abbrev pub is_inside : Stored → SessionId → Bool
-is_inside s session = is_open (part s session.sp).pending session.tsn
+abbrev pub has_transaction : Stored → SessionId → Bool
+has_transaction s session = is_open (part s session.sp).pending session.tsn
 
 -- the last one that is read, where none is named
 abbrev pub last_row : ℕ → Option ℕ → ℕ
@@ -94,7 +94,7 @@ last_row size (Some last) = last
 
 -- why a Set does not make a change: the object's kind has no Set, or the change has a fault
 abbrev pub fault_of_set : Stored → SessionId → Change → Option SetError
-fault_of_set s session change = if has_set (kind_of session.sp (object_of change))
+fault_of_set s session change = if has_set (kind_of session.sp (changed_object change))
     then fault_of_change s session.sp change else Some faults.NoCell
 
 -- the store after a change that has this fault, or none

@@ -131,7 +131,7 @@ PinLaw = (sp : Sp) (mbr_sectors : ℕ) (object target : Uid) (ask : Ask)
     → SetsOnly object (pin_column ∷ []) target cells
 
 -- what is stored is what the call sets
-abbrev pub StoreLaw : Type 0
-StoreLaw = (s : Standing) (object : Uid) (ask : Ask) (set : Setting)
+abbrev pub SettingLaw : Type 0
+SettingLaw = (s : Standing) (object : Uid) (ask : Ask) (set : Setting)
     → to_set s object ask ≡ Some set
     → setting s.sp s.mbr_sectors object (kind_of s.sp object) ask ≡ Some set

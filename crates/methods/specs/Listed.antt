@@ -23,15 +23,15 @@ is_listed look sp object first last held k =
     is_asked first last k && is_some (ace_of look sp object get (Some k) held)
 
 -- a column with its value, where there is one
-abbrev pub shown : Column → Option Cell → List (Column × Cell)
-shown k None = []
-shown k (Some value) = (k, value) ∷ []
+abbrev pub shown_column : Column → Option Cell → List (Column × Cell)
+shown_column k None = []
+shown_column k (Some value) = (k, value) ∷ []
 
 -- those of these columns that are listed and exist, each with its value
 unfoldable pub listed_among : LookUp → Sp → Uid → (first last : ℕ) → List Uid → List Column
     → List (Column × Cell)
 listed_among look sp object first last held columns =
-    flat_map (λ k. shown k (look sp object k))
+    flat_map (λ k. shown_column k (look sp object k))
     (filter (is_listed look sp object first last held) columns)
 
 -- the columns of the object that Get lists, rising, each with its value

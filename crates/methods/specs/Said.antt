@@ -13,8 +13,8 @@ use Rattle.call_shapes.specs.Statuses.{success, authority_locked_out}
 abbrev pub reply_of : List Tree → ℕ → Message
 reply_of results status = reply (trees_of results) (status ∷ 0 ∷ 0 ∷ [])
 
-abbrev pub refusal : ℕ → Message
-refusal status = reply_of [] status
+abbrev pub refusal_of : ℕ → Message
+refusal_of status = reply_of [] status
 
 abbrev pub done : Message
 done = reply_of [] success
@@ -22,7 +22,7 @@ done = reply_of [] success
 -- the answer to an attempt that fails so, or is right; and what denied it
 abbrev pub attempt_reply : Option AttemptFailure → Message
 attempt_reply None = reply_of (number 1 ∷ []) success
-attempt_reply (Some LockedOut) = refusal authority_locked_out
+attempt_reply (Some LockedOut) = refusal_of authority_locked_out
 attempt_reply (Some WrongPin) = reply_of (number 0 ∷ []) success
 attempt_reply (Some Disabled) = reply_of (number 0 ∷ []) success
 attempt_reply (Some Unknown) = reply_of (number 0 ∷ []) success

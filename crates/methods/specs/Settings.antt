@@ -24,13 +24,13 @@ abbrev pub cell_as : Option ColumnType → Tree → Option Cell
 cell_as None t = None
 cell_as (Some kind) t = cell_in kind t
 
-abbrev pub with_column : Column → Option Cell → Option (Column × Cell)
-with_column k None = None
-with_column k (Some cell) = Some (k, cell)
+abbrev pub placed_cell : Column → Option Cell → Option (Column × Cell)
+placed_cell k None = None
+placed_cell k (Some cell) = Some (k, cell)
 
 -- the cell that is assigned to a column, by the types that the columns take
 abbrev pub cell_for : List (Column × ColumnType) → ℕ × Tree → Option (Column × Cell)
-cell_for types p = with_column (col p.0) (cell_as (type_at types (col p.0)) p.1)
+cell_for types p = placed_cell (col p.0) (cell_as (type_at types (col p.0)) p.1)
 
 -- the cells that are assigned, in their order, where each column takes its value
 unfoldable pub cells_for : List (Column × ColumnType) → List (ℕ × Tree)

@@ -3,7 +3,7 @@
 ghost use Rattle.std.specs.Prelude.{◌≡◌, ◌≢◌, ◌↔◌, true, Err, Some, None, IfOk, OnErr, IfSome, is_some, map};
 ghost use Rattle.tcg_tokens.specs.Tree.{tree};
 ghost use Rattle.methods.specs.Grants.{denied as denied_by};
-ghost use Rattle.methods.specs.Effects.{seen_by, holder_of, held_in, has_ask, handles};
+ghost use Rattle.methods.specs.Effects.{seen_by, live_holder, held_in, has_ask, handles};
 ghost use Rattle.methods.specs.Judgement.{denial, does, judged};
 ghost use Rattle.methods.specs.Calls.{standing_in, judged_with, judged_call, outcome_in, Fulfils};
 ghost use Rattle.methods.specs.declared.outcome.MethodFault.TheVariants as faults;
@@ -51,13 +51,14 @@ fn perform(
     object: Uid,
     ask: &Ask,
 ) -> Result<Outcome, MethodFault>
-    requires lives { holder_of sessions.old session ≢ None }
+    requires lives { live_holder sessions.old session ≢ None }
     ensures fulfils { IfOk result (λ out.
         Fulfils (outcome_in store.old session
         (does (standing_in store.old sessions.old session) object ask.now))
         out store.old store.new sessions.old sessions.new) }
     ensures err { OnErr result ((store.new ≡ store.old) × (sessions.new ≡ sessions.old)) }
-    ensures no_session { (result ≡ Err faults.NoSession) → (holder_of sessions.old session ≡ None) }
+    ensures no_session { (result ≡ Err faults.NoSession) → (live_holder sessions.old session
+        ≡ None) }
 {
     let Some(handler) = handler_of(kind_of(session.sp, object), ask) else {
         return Ok(refused(alloc, status::FAIL, None));
@@ -123,13 +124,14 @@ fn call_asked(
     method: Uid,
     ask: &Ask,
 ) -> Result<Outcome, MethodFault>
-    requires lives { holder_of sessions.old session ≢ None }
+    requires lives { live_holder sessions.old session ≢ None }
     ensures fulfils { IfOk result (λ out.
         Fulfils (outcome_in store.old session
         (judged (standing_in store.old sessions.old session) object method (Some ask.now)))
         out store.old store.new sessions.old sessions.new) }
     ensures err { OnErr result ((store.new ≡ store.old) × (sessions.new ≡ sessions.old)) }
-    ensures no_session { (result ≡ Err faults.NoSession) → (holder_of sessions.old session ≡ None) }
+    ensures no_session { (result ≡ Err faults.NoSession) → (live_holder sessions.old session
+        ≡ None) }
 {
     match denied_in(store, sessions, session, object, method, ask) {
         Some(why) => Ok(refused(alloc, status::NOT_AUTHORIZED, Some(why))),
@@ -147,13 +149,14 @@ fn called(
     method: Uid,
     args: &[Value],
 ) -> Result<Outcome, MethodFault>
-    requires lives { holder_of sessions.old session ≢ None }
+    requires lives { live_holder sessions.old session ≢ None }
     ensures fulfils { IfOk result (λ out.
         Fulfils (outcome_in store.old session
         (judged_with store.old sessions.old session object method (map tree args.now)))
         out store.old store.new sessions.old sessions.new) }
     ensures err { OnErr result ((store.new ≡ store.old) × (sessions.new ≡ sessions.old)) }
-    ensures no_session { (result ≡ Err faults.NoSession) → (holder_of sessions.old session ≡ None) }
+    ensures no_session { (result ≡ Err faults.NoSession) → (live_holder sessions.old session
+        ≡ None) }
 {
     match read_ask(alloc, session.sp, object, method, args)? {
         Some(ask) => call_asked(alloc, store, sessions, session, object, method, &ask),
@@ -178,7 +181,8 @@ pub fn invoke(
         (judged_call store.old sessions.old session call.now))
         out store.old store.new sessions.old sessions.new) }
     ensures err { OnErr result ((store.new ≡ store.old) × (sessions.new ≡ sessions.old)) }
-    ensures no_session { (result ≡ Err faults.NoSession) ↔ (holder_of sessions.old session ≡ None) }
+    ensures no_session { (result ≡ Err faults.NoSession) ↔ (live_holder sessions.old session
+        ≡ None) }
 {
     if sessions.authorities(session).is_none() {
         return Err(MethodFault::NoSession);

@@ -7,7 +7,7 @@ ghost use Rattle.transactions.specs.Sights.{sight_of, is_manufactured};
 ghost use Rattle.sessions.specs.Live.{Live};
 ghost use Rattle.methods.specs.Kinds.{kind_of as kind_of_object};
 ghost use Rattle.methods.specs.Changes.{setting_seen};
-ghost use Rattle.methods.specs.Effects.{holder_of, is_inside, has_set, sp_of_row as sp_of};
+ghost use Rattle.methods.specs.Effects.{live_holder, has_transaction, has_set, sp_of_row as sp_of};
 ghost use Rattle.methods.specs.Judgement.{Attempts, Activates, Reverts, list_given, listing, gives, bytes_given, to_set, makes, unless_open};
 ghost use Rattle.methods.specs.Calls.{standing_on, standing_in, outcome_in, Tells, Fulfils};
 ghost use Rattle.methods.specs.declared.outcome.MethodFault.TheVariants as faults;
@@ -61,7 +61,8 @@ pub(crate) fn read_cells(
         Fulfils (outcome_in store.now session
         (gives (listing (standing_in store.now sessions.now session) object first last)))
         out store.now store.now sessions.now sessions.now) }
-    ensures no_session { (result ≡ Err faults.NoSession) ↔ (holder_of sessions.now session ≡ None) }
+    ensures no_session { (result ≡ Err faults.NoSession) ↔ (live_holder sessions.now session
+        ≡ None) }
 {
     let Some(held) = sessions.authorities(session) else {
         return Err(MethodFault::NoSession);
@@ -186,7 +187,7 @@ pub(crate) fn authenticate(
     authority: Uid,
     proof: &[u8],
 ) -> Result<Outcome, MethodFault>
-    requires lives { holder_of sessions.old session ≢ None }
+    requires lives { live_holder sessions.old session ≢ None }
     ensures fulfils { IfOk result (λ out.
         Fulfils (outcome_in store.old session (Attempts authority proof.now))
         out store.old store.new sessions.old sessions.new) }
@@ -219,7 +220,7 @@ pub(crate) fn activate(
 ) -> Result<Outcome, MethodFault>
     ensures fulfils { (l : Live) → IfOk result (λ out.
         Fulfils (outcome_in store.old session
-        (unless_open (is_inside store.old session) Activates))
+        (unless_open (has_transaction store.old session) Activates))
         out store.old store.new l l) }
     ensures err { OnErr result (store.new ≡ store.old) }
     ensures memory { IfErr result (λ e. e ≡ faults.OutOfMemory) }
@@ -264,7 +265,7 @@ pub(crate) fn revert(
 ) -> Result<Outcome, MethodFault>
     ensures fulfils { IfOk result (λ out.
         Fulfils (outcome_in store.old session
-        (unless_open (is_inside store.old session) (Reverts (sp_of object))))
+        (unless_open (has_transaction store.old session) (Reverts (sp_of object))))
         out store.old store.new sessions.old sessions.new) }
     ensures err { OnErr result ((store.new ≡ store.old) × (sessions.new ≡ sessions.old)) }
     ensures memory { IfErr result (λ e. e ≡ faults.OutOfMemory) }

@@ -5,7 +5,7 @@ ghost use Rattle.std.specs.List.{flat_map};
 ghost use Rattle.tcg_tokens.specs.Tree.{tree, number, named};
 ghost use Rattle.call_shapes.specs.CellValues.{cell_tree};
 ghost use Rattle.methods.specs.Columns.{columns_in};
-ghost use Rattle.methods.specs.Listed.{is_listed as is_listed_by, shown, listed_among, listed, cell_value};
+ghost use Rattle.methods.specs.Listed.{is_listed as is_listed_by, shown_column, listed_among, listed, cell_value};
 
 use crate::cases::method_cases;
 use crate::grants::denial;
@@ -65,7 +65,7 @@ fn show<R: Rows>(
 ) -> Result<(), AllocError>
     ensures { OnOk result (map tree values.new.items
         ≡ map tree values.old.items
-        ++ map cell_value (shown column (R.look_up rows.now sp object column))) }
+        ++ map cell_value (shown_column column (R.look_up rows.now sp object column))) }
 {
     if let Some(cell) = rows.cell(sp, object, column) {
         let value = value_of(alloc, cell)?;

@@ -4,7 +4,7 @@ ghost use Rattle.std.specs.Prelude.{◌≡◌, true, false, [], ◌∷◌, map, 
 ghost use Rattle.tcg_tokens.specs.Tree.{tree, number};
 ghost use Rattle.tcg_tokens.specs.Message.{message};
 ghost use Rattle.call_shapes.specs.Statuses.{success};
-ghost use Rattle.methods.specs.Said.{reply_of, refusal};
+ghost use Rattle.methods.specs.Said.{reply_of, refusal_of};
 ghost use Rattle.methods.specs.Judgement.{Refuses, gives};
 ghost use Rattle.methods.specs.Calls.{Tells};
 
@@ -86,7 +86,7 @@ pub(crate) fn said(results: Vec<Value>, denied: Option<Why>, wipe: bool) -> Outc
 
 /// A refusal, which changes nothing.
 pub(crate) fn refused(alloc: Global, status: u64, denied: Option<Why>) -> Outcome
-    ensures reply { message result.reply ≡ refusal status }
+    ensures reply { message result.reply ≡ refusal_of status }
     ensures denied { result.denied ≡ denied }
     ensures wipe { result.wipe ≡ false }
     ensures changes { result.changes ≡ false }

@@ -49,25 +49,25 @@ opalport_line =
     tokens_line.top
 
 -- what words ask for, by the texts as they are written
-pub data Asked : Type 0 where
-  run : Text → Text → Text → Asked
-  level0 : Text → Text → Text → Asked
-  threads : Text → Text → Asked
-  tokens : Text → Asked
+pub data Wanted : Type 0 where
+  run : Text → Text → Text → Wanted
+  level0 : Text → Text → Text → Wanted
+  threads : Text → Text → Wanted
+  tokens : Text → Wanted
 
 -- what a request asks for
-abbrev pub asked : Request → Asked
-asked (Run drive) = run drive.sectors.now drive.shadow.now drive.msid.now
-asked (Level0 drive) = level0 drive.sectors.now drive.shadow.now drive.msid.now
-asked (Threads load) = threads load.clients.now load.rounds.now
-asked (Tokens hex) = tokens hex.now
+abbrev pub wanted_by : Request → Wanted
+wanted_by (Run drive) = run drive.sectors.now drive.shadow.now drive.msid.now
+wanted_by (Level0 drive) = level0 drive.sectors.now drive.shadow.now drive.msid.now
+wanted_by (Threads load) = threads load.clients.now load.rounds.now
+wanted_by (Tokens hex) = tokens hex.now
 
 -- the text of an argument; one that is required or has a default has one
 abbrev pub text_of : Text → List Row → Text
 text_of id rows = unwrap_or (first_of id rows) []
 
 -- what a subcommand with these arguments asks for
-abbrev pub asked_of : Text × List Row → Option Asked
+abbrev pub asked_of : Text × List Row → Option Wanted
 asked_of (name, rows) =
     if bytes_eq name (codes "run")
     then Some (run (text_of (codes "sectors") rows) (text_of (codes "shadow") rows)
@@ -81,5 +81,5 @@ asked_of (name, rows) =
     else None
 
 -- what the words of a command line ask for, where they are one
-abbrev pub asked_by : List Text → Option Asked
+abbrev pub asked_by : List Text → Option Wanted
 asked_by words = option_and_then asked_of (subcommand_of opalport_line words)

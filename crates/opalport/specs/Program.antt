@@ -4,7 +4,7 @@ use Rattle.std.specs.Io.KnownBytes.{Appends}
 use Rattle.hex.specs.Hex.{decode_of}
 use Rattle.hex.specs.declared.error.FromHexError.{FromHexError}
 use Rattle.sp_cells.specs.Config.{Config, IsWithinLimits}
-use Rattle.port_threads.specs.Loads.{WritesLoad, IsFirstFault}
+use Rattle.port_threads.specs.Loads.{WritesLoad, IsFirstLoadFault}
 use Rattle.port_threads.specs.Works.{Ran}
 use Rattle.port_threads.specs.declared.load.LoadFault.{LoadFault}
 use Rattle.tool.specs.OptionTexts.{WritesConfig}
@@ -14,11 +14,11 @@ use Rattle.tool.specs.TokenLines.{token_text}
 use Rattle.clap.specs.Words.{IsAmong, Kinds, Text, fault_of}
 use Rattle.clap.specs.declared.error.kind.ErrorKind.{ErrorKind}
 use Rattle.clap.specs.declared.error.kind.ErrorKind.TheVariants.{DisplayHelp, DisplayVersion}
-use Rattle.opalport.specs.CommandLine.{Asked, run, level0, threads, tokens, asked_by, opalport_line}
+use Rattle.opalport.specs.CommandLine.{Wanted, run, level0, threads, tokens, asked_by, opalport_line}
 
 -- the texts write a configuration within the limits
-abbrev pub Opens : Text → Text → Text → Type 0
-Opens sectors shadow msid =
+abbrev pub WritesLimitedConfig : Text → Text → Text → Type 0
+WritesLimitedConfig sectors shadow msid =
     (config : Config) × WritesConfig sectors shadow msid config
     × IsWithinLimits config.sectors config.mbr_sectors config.msid
 
@@ -30,7 +30,7 @@ RunEnds sectors shadow msid input status old new =
     ((config : Config) × WritesConfig sectors shadow msid config
     × IsWithinLimits config.sectors config.mbr_sectors config.msid
     × ScriptYields config input status old new)
-    ⊎ ((Opens sectors shadow msid → ⊥) × (status ≡ 2) × (new ≡ old))
+    ⊎ ((WritesLimitedConfig sectors shadow msid → ⊥) × (status ≡ 2) × (new ≡ old))
 
 -- the discovery of a new drive is printed with status 0; where the options open no drive, the status is 2, and nothing
 -- is printed
@@ -39,14 +39,14 @@ Level0Ends sectors shadow msid status old new =
     ((config : Config) × WritesConfig sectors shadow msid config
     × IsWithinLimits config.sectors config.mbr_sectors config.msid
     × (status ≡ 0) × Appends old new (level0_text config))
-    ⊎ ((Opens sectors shadow msid → ⊥) × (status ≡ 2) × (new ≡ old))
+    ⊎ ((WritesLimitedConfig sectors shadow msid → ⊥) × (status ≡ 2) × (new ≡ old))
 
 -- the clients ran, and what they tell is printed; where the texts write no load, the status is 2, and nothing is printed
 abbrev pub ThreadsEnd : Text → Text → ℕ → Option (List ℕ) → Option (List ℕ) → Type 0
 ThreadsEnd clients_text rounds_text status old new =
     ((clients : ℕ) × (rounds : ℕ) × WritesLoad clients_text rounds_text clients rounds
     × Ran clients rounds status old new)
-    ⊎ ((fault : LoadFault) × IsFirstFault clients_text rounds_text fault × (status ≡ 2)
+    ⊎ ((fault : LoadFault) × IsFirstLoadFault clients_text rounds_text fault × (status ≡ 2)
     × (new ≡ old))
 
 -- the item is printed with status 0; where the text is no hex, the status is 2, and nothing is printed
@@ -57,13 +57,13 @@ TokensEnd hex status old new =
     ⊎ ((e : FromHexError) × (decode_of hex ≡ Err e) × (status ≡ 2) × (new ≡ old))
 
 -- help and the version have status 0; any other fault of the words has status 2, and nothing is printed
-pub record Told (kind : ErrorKind) (status : ℕ) (old new : Option (List ℕ)) : Type 0 where
+pub record EndsByWords (kind : ErrorKind) (status : ℕ) (old new : Option (List ℕ)) : Type 0 where
   pub help : kind ≡ DisplayHelp → status ≡ 0
   pub version : kind ≡ DisplayVersion → status ≡ 0
   pub fault : kind ≢ DisplayHelp → kind ≢ DisplayVersion → (status ≡ 2) × (new ≡ old)
 
 -- the words ask for something, and this is how it ends
-abbrev pub Serves : Option Asked → Option (List ℕ) → ℕ → Option (List ℕ) → Option (List ℕ) → Type 0
+abbrev pub Serves : Option Wanted → Option (List ℕ) → ℕ → Option (List ℕ) → Option (List ℕ) → Type 0
 Serves None input status old new = status ≡ 2
 Serves (Some (run sectors shadow msid)) input status old new =
     RunEnds sectors shadow msid input status old new
@@ -75,7 +75,8 @@ Serves (Some (tokens hex)) input status old new = TokensEnd hex status old new
 
 -- the words are no command line, and one of their faults is told
 abbrev pub Refuses : Kinds → ℕ → Option (List ℕ) → Option (List ℕ) → Type 0
-Refuses kinds status old new = (kind : ErrorKind) × IsAmong kind kinds × Told kind status old new
+Refuses kinds status old new = (kind : ErrorKind) × IsAmong kind kinds
+    × EndsByWords kind status old new
 
 -- how the program ends on these words and this input, where the writer's bytes were the old ones and are the new ones
 abbrev pub Ends : List Text → Option (List ℕ) → ℕ → Option (List ℕ) → Option (List ℕ) → Type 0

@@ -2,7 +2,7 @@
 
 ghost use Rattle.std.specs.Prelude.{◌≡◌, IfOk, false, map, option_map, option_and_then, string_bytes, codes};
 ghost use Rattle.clap.specs.Words.{FailsBy, app_of, fault_of, found_of, rows_of, rule_of, subcommand_rows_of};
-ghost use Rattle.opalport.specs.CommandLine.{top_line, option_rule, drive_line, threads_line, tokens_line, opalport_line, text_of, asked, asked_of, asked_by};
+ghost use Rattle.opalport.specs.CommandLine.{top_line, option_rule, drive_line, threads_line, tokens_line, opalport_line, text_of, wanted_by, asked_of, asked_by};
 
 use clap::{Arg, ArgMatches, Command, Error};
 use std::alloc::{AllocError, Global};
@@ -208,7 +208,8 @@ fn load_texts<'a>(matches: &ArgMatches<'a>) -> LoadTexts<'a>
 
 /// What the matches of a command line ask for.
 fn request_in<'a>(matches: &ArgMatches<'a>) -> Option<Request<'a>>
-    ensures { option_map asked result ≡ option_and_then asked_of (subcommand_rows_of matches.now) }
+    ensures { option_map wanted_by result ≡ option_and_then asked_of
+        (subcommand_rows_of matches.now) }
 {
     let (name, matches) = matches.subcommand()?;
     match name {
@@ -226,7 +227,7 @@ fn request_in<'a>(matches: &ArgMatches<'a>) -> Option<Request<'a>>
 ///
 /// The words ask for help, are no command line, or an allocation was refused.
 pub fn request_of<'a>(alloc: Global, words: &'a [String]) -> Result<Option<Request<'a>>, Error>
-    ensures asks { IfOk result (λ request. option_map asked request
+    ensures asks { IfOk result (λ request. option_map wanted_by request
         ≡ asked_by (map string_bytes words.now)) }
     ensures fails { FailsBy (fault_of opalport_line (map string_bytes words.now)) result }
 {

@@ -2,7 +2,7 @@
 
 ghost use Rattle.std.specs.Prelude.{◌≡◌, ◌≢◌, ◌≤◌, IfOk, map, string_bytes};
 ghost use Rattle.clap.specs.Words.{kind_of};
-ghost use Rattle.opalport.specs.Program.{Told, RunEnds, Level0Ends, ThreadsEnd, TokensEnd, Ends};
+ghost use Rattle.opalport.specs.Program.{EndsByWords, RunEnds, Level0Ends, ThreadsEnd, TokensEnd, Ends};
 
 use crate::command_line::{DriveTexts, LoadTexts, Request, request_of};
 use crate::error::ProgramError;
@@ -112,7 +112,8 @@ fn tell<W: Write, E: Write>(
     output: &mut W,
     faults: &mut E,
 ) -> Result<u8, RunError>
-    ensures told { IfOk result (λ status. Told (kind_of error.now) status (W.contents output.old)
+    ensures told { IfOk result (λ status. EndsByWords (kind_of error.now) status
+        (W.contents output.old)
         (W.contents output.new)) }
     ensures memory { IfOk result (λ _. kind_of error.now ≢ ErrorKind.OutOfMemory) }
 {

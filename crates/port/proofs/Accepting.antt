@@ -12,7 +12,7 @@ use Rattle.slots.proofs.Held.{held as held_slot}
 use Rattle.slots.specs.Fetch.{fetched}
 use Rattle.slots.specs.Layout.{buffer_size}
 use Rattle.slots.specs.declared.fetched.Fetched.{Fetched}
-use Rattle.history.specs.Answers.{payload_of, failed as failed_status, status_of, accepted_fises}
+use Rattle.history.specs.Answers.{payload_of, errored as failed_status, status_of, accepted_fises}
 use Rattle.history.specs.Tcg.{accepted_data}
 use Rattle.history.specs.Events.{Event}
 use Rattle.history.specs.Facts.{Facts, facts}
@@ -31,16 +31,16 @@ use Rattle.port_history.specs.declared.step.Step.TheVariants as steps
 use Rattle.port_history.specs.Refusals.{refusal}
 use Rattle.port_history.specs.Registers.{registers, all_shown, restarted_if}
 use Rattle.port_history.specs.Requests.{command_fis, to_device, bytes_moved}
-use Rattle.port_history.specs.Stages.{is_queued, is_queued_put, to, put_in, accepted_stage}
+use Rattle.port_history.specs.Stages.{is_queued_command, is_queued_put, to, put_at, accepted_stage}
 use Rattle.history.specs.Audit.{line_for}
-use Rattle.port_history.specs.Steps.{Effect, Moment, moment, effect_by, acceptance, accept_payload, act_of, act_before, event_before, executed_answer, answered_with, failing_by, has_failed, trace, events, acts, sent, stage, failed, payload, answer, audit}
+use Rattle.port_history.specs.Steps.{Effect, Moment, moment, effect_by, acceptance, accept_payload, act_of, act_before, event_before, executed_answer, answered_with, failing_by, has_failed, trace, events, acts, sent_fises, stage, failed, payload, answer, audit}
 use Rattle.port_history.proofs.Tests.{none_holds, issued_is, none_is}
 use Rattle.port.specs.declared.outcome.Outcome.{Outcome}
 use Rattle.port.specs.declared.outcome.Outcome.TheVariants as outcomes
 use Rattle.port.specs.Agreement.{PortAgrees, TagAgrees, IsLaidAt}
-use Rattle.port.specs.Answers.{answer_in, outcome_at, stage_at, front}
+use Rattle.port.specs.Answers.{answer_in, outcome_at, stage_at, buffer_front}
 use Rattle.port.specs.Host.{IsLaid, IsReceived, fetched_of}
-use Rattle.port.specs.State.{State, IsAccepted, entry_of, failed_then, outcome_then, executed_outcome, fails}
+use Rattle.port.specs.State.{PortState, IsAccepted, entry_of, failed_then, outcome_then, executed_outcome, has_error_status}
 use Rattle.port.proofs.Agreeing.{itself, tests_of, stage_here, stage_there, outcome_here, outcome_there, one_entry, tag_same, count_is}
 use Rattle.port.proofs.Lawful.{is_command_fis, issued_moves, issued_length, issued_small, accepted_fits}
 use Rattle.port.proofs.Memory.{IsSameSlot, same_received, same_but_done, laid_same, answer_same}
@@ -64,7 +64,7 @@ status_fails None = refl
 status_fails (Some error) = refl
 
 pub answer_fails : (f : Facts) (fis : List ℕ) (e : Event) (a : DriveAccepted) → IsAnswer f (h2d_at fis) e a
-    → fails a ≡ is_some e.failed
+    → has_error_status a ≡ is_some e.failed
 answer_fails f fis e a answer = ap (λ (n : ℕ). n == failed_status) answer.status ∙ status_fails e.failed
 
 failed_now : (b : Bool) (tag : ℕ) (x : Option ℕ)
@@ -74,9 +74,9 @@ failed_now false tag x = refl
 
 -- the data that came in are those of the event, as far as the buffer has room
 executed : (memory given bytes content : List ℕ) (tag : ℕ) (a : DriveAccepted) (x : Option ℕ)
-    → a.status ≡ status_of x → a.error ≡ unwrap_or x 0 → fails a ≡ is_some x
-    → front memory tag (length bytes) ≡ content
-    → answer_in memory tag (Some (executed_outcome (fails a) a.status a.error (length bytes)))
+    → a.status ≡ status_of x → a.error ≡ unwrap_or x 0 → has_error_status a ≡ is_some x
+    → buffer_front memory tag (length bytes) ≡ content
+    → answer_in memory tag (Some (executed_outcome (has_error_status a) a.status a.error (length bytes)))
     ≡ Some (answered_with x content)
 executed memory given bytes content tag a None status error failing is =
     ap (λ (b : Bool). answer_in memory tag (Some (executed_outcome b a.status a.error (length bytes)))) failing
@@ -92,7 +92,7 @@ lines_back n client None = refl
 lines_back n client (Some why) = refl
 
 -- the log with the line of an act
-pub one_line : (port : State) (o : Origin) (list : List Step) (now : List AuditLine) (client : ℕ)
+pub one_line : (port : PortState) (o : Origin) (list : List Step) (now : List AuditLine) (client : ℕ)
     (why told : Option Why) → PortAgrees port o list
     → now ≡ port.audit ++ line_for (1 + length port.history) client why → why ≡ told
     → now ≡ reverse (line_for (1 + length (trace o list)) client told ++ audit (trace o list))
@@ -119,10 +119,10 @@ accept_is o ms tag put was =
       step = steps.Accept tag;
       served = p;
       effect = option_map (effect_by (facts o (events ms))) (acceptance tag p (payload ms tag));
-    }) (ap put_in was)
+    }) (ap put_at was)
 
 -- what an acceptance rests on
-record Accepting (old new : State) (o : Origin) (list : List Step) (tag : ℕ) (put : Put) (e : Effect) : Type 0 where
+record Accepting (old new : PortState) (o : Origin) (list : List Step) (tag : ℕ) (put : Put) (e : Effect) : Type 0 where
   below : tag < 32
   agrees : PortAgrees old o list
   made : IsAccepted old new tag (command_fis put.command tag)
@@ -133,8 +133,8 @@ record Accepting (old new : State) (o : Origin) (list : List Step) (tag : ℕ) (
   bytes_are : made.answer.bytes.items ≡ e.bytes
   fits : length e.bytes ≤ buffer_size
 
-accept_answers : (old new : State) (o : Origin) (list : List Step) (tag : ℕ) (put : Put) (e : Effect)
-    (w : Accepting old new o list tag put e) (queued : Bool) → is_queued w.made.put.command ≡ queued
+accept_answers : (old new : PortState) (o : Origin) (list : List Step) (tag : ℕ) (put : Put) (e : Effect)
+    (w : Accepting old new o list tag put e) (queued : Bool) → is_queued_command w.made.put.command ≡ queued
     → answer_in new.memory tag
     (outcome_then queued w.made.answer (length w.made.bytes) (outcome_at old.outcomes tag))
     ≡ unwrap_or (if queued then None else executed_answer (Some e)) (answer (trace o list) tag)
@@ -149,8 +149,8 @@ accept_answers old new o list tag put e w false is =
     (w.made.memory.filled is
     ∙ w.made.memory.whole (omega (arith, ap length w.bytes_are, w.fits)) ∙ w.bytes_are)
 
-accept_laid : (old new : State) (o : Origin) (list : List Step) (tag : ℕ) (put : Put) (e : Effect)
-    (w : Accepting old new o list tag put e) (queued : Bool) → is_queued w.made.put.command ≡ queued
+accept_laid : (old new : PortState) (o : Origin) (list : List Step) (tag : ℕ) (put : Put) (e : Effect)
+    (w : Accepting old new o list tag put e) (queued : Bool) → is_queued_command w.made.put.command ≡ queued
     → IsLaidAt new.memory tag (if queued then Accepted put else Answered put) (payload (trace o list) tag)
 accept_laid old new o list tag put e w true is =
     laid_same old.memory new.memory tag (Issued put) (payload (trace o list) tag)
@@ -159,7 +159,7 @@ accept_laid old new o list tag put e w true is =
     (w.agrees.tags tag w.below).laid)
 accept_laid old new o list tag put e w false is = tt
 
-accept_tag : (old new : State) (o : Origin) (list : List Step) (tag : ℕ) (put : Put) (e : Effect)
+accept_tag : (old new : PortState) (o : Origin) (list : List Step) (tag : ℕ) (put : Put) (e : Effect)
     → Accepting old new o list tag put e
     → TagAgrees new (accept_moment tag put e ∷ trace o list) tag
 accept_tag old new o list tag put e w =
@@ -167,7 +167,7 @@ accept_tag old new o list tag put e w =
     let s = w.made in
     let h = w.agrees in
     let lt = w.below in
-    let queued_is : is_queued s.put.command ≡ is_queued put.command = ap (λ (p : Put). is_queued p.command) w.same in
+    let queued_is : is_queued_command s.put.command ≡ is_queued_command put.command = ap (λ (p : Put). is_queued_command p.command) w.same in
     rw (itself tag) (record {
       stands =
           stage_here old.slots new.slots tag (accepted_stage s.put) (omega (arith, h.slots, lt)) s.slots
@@ -175,12 +175,12 @@ accept_tag old new o list tag put e w =
       answers =
           ap (answer_in new.memory tag) (outcome_here old.outcomes new.outcomes tag _ (omega (arith, h.outcomes, lt)) s.outcomes)
           ∙ ap (λ (b : Bool). answer_in new.memory tag (outcome_then b s.answer (length s.bytes) (outcome_at old.outcomes tag))) queued_is
-          ∙ accept_answers old new o list tag put e w (is_queued put.command) queued_is;
+          ∙ accept_answers old new o list tag put e w (is_queued_command put.command) queued_is;
       laid = subst (λ (x : Stage). IsLaidAt new.memory tag x (payload ms tag)) (sym (ap (to accepted_stage) w.was))
-          (accept_laid old new o list tag put e w (is_queued put.command) queued_is);
+          (accept_laid old new o list tag put e w (is_queued_command put.command) queued_is);
     })
 
-accept_other : (old new : State) (o : Origin) (list : List Step) (tag t : ℕ) (put : Put) (e : Effect)
+accept_other : (old new : PortState) (o : Origin) (list : List Step) (tag t : ℕ) (put : Put) (e : Effect)
     → Accepting old new o list tag put e → t < 32 → (tag ≡ t → ⊥)
     → TagAgrees new (accept_moment tag put e ∷ trace o list) t
 accept_other old new o list tag t put e w below other =
@@ -193,41 +193,41 @@ accept_other old new o list tag t put e w below other =
     (outcome_there old.outcomes new.outcomes tag t _ (omega (arith, h.outcomes, lt)) other s.outcomes)
     refl refl refl (h.tags t below))
 
-accept_failure : (old new : State) (o : Origin) (list : List Step) (tag : ℕ) (put : Put) (e : Effect)
+accept_failure : (old new : PortState) (o : Origin) (list : List Step) (tag : ℕ) (put : Put) (e : Effect)
     → Accepting old new o list tag put e
     → new.failed ≡ failed (accept_moment tag put e ∷ trace o list)
 accept_failure old new o list tag put e w =
     let s = w.made in
     let f = facts o (events (trace o list)) in
     s.failed
-    ∙ ap (λ (p : Put). failed_then (is_queued p.command) (fails s.answer) tag old.failed) w.same
-    ∙ ap (λ (b : Bool). failed_then (is_queued put.command) b tag old.failed)
+    ∙ ap (λ (p : Put). failed_then (is_queued_command p.command) (has_error_status s.answer) tag old.failed) w.same
+    ∙ ap (λ (b : Bool). failed_then (is_queued_command put.command) b tag old.failed)
     (answer_fails f (command_fis put.command tag) e.event s.answer w.event_is)
-    ∙ ap (failed_then (is_queued put.command) (is_some e.event.failed) tag) w.agrees.failure
-    ∙ failed_now (is_queued put.command && is_some e.event.failed) tag (failed (trace o list))
+    ∙ ap (failed_then (is_queued_command put.command) (is_some e.event.failed) tag) w.agrees.failure
+    ∙ failed_now (is_queued_command put.command && is_some e.event.failed) tag (failed (trace o list))
 
-accept_regs : (old new : State) (o : Origin) (list : List Step) (tag : ℕ) (put : Put) (e : Effect)
+accept_regs : (old new : PortState) (o : Origin) (list : List Step) (tag : ℕ) (put : Put) (e : Effect)
     → Accepting old new o list tag put e
     → new.regs ≡ registers (accept_moment tag put e ∷ trace o list)
 accept_regs old new o list tag put e w =
     let s = w.made in
     let f = facts o (events (trace o list)) in
     s.regs
-    ∙ ap (λ (p : Put). restarted_if (not (is_queued p.command) && fails s.answer) (all_shown tag old.regs s.answer.fises.items)) w.same
-    ∙ ap (λ (b : Bool). restarted_if (not (is_queued put.command) && b) (all_shown tag old.regs s.answer.fises.items))
+    ∙ ap (λ (p : Put). restarted_if (not (is_queued_command p.command) && has_error_status s.answer) (all_shown tag old.regs s.answer.fises.items)) w.same
+    ∙ ap (λ (b : Bool). restarted_if (not (is_queued_command put.command) && b) (all_shown tag old.regs s.answer.fises.items))
     (answer_fails f (command_fis put.command tag) e.event s.answer w.event_is)
-    ∙ ap (λ (r : Regs). restarted_if (not (is_queued put.command) && is_some e.event.failed) (all_shown tag r s.answer.fises.items)) w.agrees.regs
-    ∙ ap (λ (xs : List Fis). restarted_if (not (is_queued put.command) && is_some e.event.failed) (all_shown tag (registers (trace o list)) xs)) w.fises_are
+    ∙ ap (λ (r : Regs). restarted_if (not (is_queued_command put.command) && is_some e.event.failed) (all_shown tag r s.answer.fises.items)) w.agrees.regs
+    ∙ ap (λ (xs : List Fis). restarted_if (not (is_queued_command put.command) && is_some e.event.failed) (all_shown tag (registers (trace o list)) xs)) w.fises_are
 
 -- the payload stands in the buffer
 brought : (memory bytes : List ℕ) (tag : ℕ) (put : Put) (queued : Bool) (n : ℕ)
-    → n ≡ length (if queued then [] else bytes) → front memory tag (length bytes) ≡ bytes
-    → front memory tag n ≡ (if queued then [] else bytes)
-brought memory bytes tag put true n size stands = ap (front memory tag) size
-brought memory bytes tag put false n size stands = ap (front memory tag) size ∙ stands
+    → n ≡ length (if queued then [] else bytes) → buffer_front memory tag (length bytes) ≡ bytes
+    → buffer_front memory tag n ≡ (if queued then [] else bytes)
+brought memory bytes tag put true n size stands = ap (buffer_front memory tag) size
+brought memory bytes tag put false n size stands = ap (buffer_front memory tag) size ∙ stands
 
 -- Accept: an issued command is fetched as it was laid.
-pub fetched_is : (port : State) (o : Origin) (list : List Step) (tag : ℕ) (put : Put) → tag < 32
+pub fetched_is : (port : PortState) (o : Origin) (list : List Step) (tag : ℕ) (put : Put) → tag < 32
     → PortAgrees port o list → stage (trace o list) tag ≡ Issued put
     → fetched port.memory tag ≡ Ok (fetched_of put tag)
 fetched_is port o list tag put lt h was =
@@ -238,13 +238,13 @@ fetched_is port o list tag put lt h was =
     (bytes_moved put.command) lt refl (is_command_fis put.command tag) (omega arith)
     (issued_moves o list tag put h.lawful was) l.slot
 
-pub fetches : (port : State) (o : Origin) (list : List Step) (tag : ℕ) (put : Put) → tag < 32
+pub fetches : (port : PortState) (o : Origin) (list : List Step) (tag : ℕ) (put : Put) → tag < 32
     → PortAgrees port o list → stage (trace o list) tag ≡ Issued put
     → (f : Fetched) × (fetched port.memory tag ≡ Ok f) × (payload_of f.fis ≤ buffer_size)
 fetches port o list tag put lt h was =
     (fetched_of put tag, fetched_is port o list tag put lt h was, issued_small o list tag put lt h.lawful was)
 
-pub accept_agrees : (old new : State) (o : Origin) (list : List Step) (tag : ℕ) → tag < 32
+pub accept_agrees : (old new : PortState) (o : Origin) (list : List Step) (tag : ℕ) → tag < 32
     → PortAgrees old o list → refusal (trace o list) (steps.Accept tag) ≡ None
     → ((f : Fetched) → fetched old.memory tag ≡ Ok f → IsAccepted old new tag f.fis)
     → PortAgrees new o (steps.Accept tag ∷ list)
@@ -261,8 +261,8 @@ accept_agrees old new o list tag lt h lawful made =
     let same : s.put ≡ put = issued_same s.put put (sym s.was ∙ (h.tags tag lt).stands ∙ was) in
     let l : IsLaid old.memory tag put.command (payload ms tag) =
     subst (λ (x : Stage). IsLaidAt old.memory tag x (payload ms tag)) was (h.tags tag lt).laid in
-    let payload_is : front old.memory tag (payload_of fis) ≡ accept_payload put (payload ms tag) =
-    brought old.memory (payload ms tag) tag put (is_queued put.command) (payload_of fis)
+    let payload_is : buffer_front old.memory tag (payload_of fis) ≡ accept_payload put (payload ms tag) =
+    brought old.memory (payload ms tag) tag put (is_queued_command put.command) (payload_of fis)
     (issued_length o list tag put lt h.lawful was) l.buffer in
     let act : Act = AcceptFis fis (accept_payload put (payload ms tag)) in
     let e : Effect = effect_by (facts o (events ms)) act in
@@ -271,7 +271,7 @@ accept_agrees old new o list tag lt h lawful made =
     (subst (λ (xs : List ℕ). IsAnswer (facts o (log o (acts o list))) (h2d_at fis) (event o (log o (acts o list)) (AcceptFis fis xs)) s.answer) payload_is
     (s.took.answers o (acts o list) h.drive)) in
     let moment_is : moment o ms step ≡ accept_moment tag put e = accept_is o ms tag put was in
-    let act_is : act_of ms step ≡ Some act = ap (λ (x : Option Put). acceptance tag x (payload ms tag)) (ap put_in was) in
+    let act_is : act_of ms step ≡ Some act = ap (λ (x : Option Put). acceptance tag x (payload ms tag)) (ap put_at was) in
     let w : Accepting old new o list tag put e = record {
       below = lt;
       agrees = h;
@@ -295,8 +295,8 @@ accept_agrees old new o list tag lt h lawful made =
         | inr other ↦ accept_other old new o list tag t put e w below other
       ]);
       regs = accept_regs old new o list tag put e w ∙ sym (ap (λ (m : Moment). registers (m ∷ ms)) moment_is);
-      received = subst (λ (m : Moment). IsReceived new.memory (sent (m ∷ ms))) (sym moment_is)
-          (subst (λ (xs : List Fis). IsReceived new.memory (reverse xs ++ sent ms)) answered.fises (s.received (sent ms) h.received));
+      received = subst (λ (m : Moment). IsReceived new.memory (sent_fises (m ∷ ms))) (sym moment_is)
+          (subst (λ (xs : List Fis). IsReceived new.memory (reverse xs ++ sent_fises ms)) answered.fises (s.received (sent_fises ms) h.received));
       history = one_entry old o list step new.history (entry_of step) h s.history refl;
       log =
           one_line old o list new.audit put.client s.answer.denied e.event.denied h

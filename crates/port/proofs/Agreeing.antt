@@ -7,7 +7,7 @@ use Rattle.fis.specs.declared.any.Fis.{Fis}
 use Rattle.hba_regs.specs.Registers.{Regs}
 use Rattle.history.specs.Decisions.{any_below}
 use Rattle.history.specs.Opening.{Origin}
-use Rattle.drive.specs.State.{Agrees as DriveAgrees, State as DriveState}
+use Rattle.drive.specs.State.{Agrees as DriveAgrees, DriveState}
 use Rattle.port_history.specs.declared.error.PortError.{PortError}
 use Rattle.port_history.specs.declared.request.Answer.{Answer}
 use Rattle.port_history.specs.declared.request.Request.{Request}
@@ -18,8 +18,8 @@ use Rattle.port_history.specs.declared.step.Entry.{Entry}
 use Rattle.port_history.specs.declared.step.Step.{Step}
 use Rattle.port_history.specs.declared.step.Step.TheVariants as steps
 use Rattle.port_history.specs.Requests.{no_bytes}
-use Rattle.port_history.specs.Stages.{is_queued, is_queued_put, to, put_in, is_out, keeps_back, mixes_put}
-use Rattle.port_history.specs.Steps.{Moment, moment, trace, acts, sent, stage, failed, put_of, payload, answer, entry, entries}
+use Rattle.port_history.specs.Stages.{is_queued_command, is_queued_put, to, put_at, is_out, keeps_back, mixes_put}
+use Rattle.port_history.specs.Steps.{Moment, moment, trace, acts, sent_fises, stage, failed, put_of, payload, answer, entry, entries}
 use Rattle.port_history.specs.Refusals.{most_steps, refusal, refusal_by, tests, has_slot}
 use Rattle.port_history.specs.Registers.{registers, with_issue}
 use Rattle.port_history.proofs.Tests.{none_holds, free_is}
@@ -27,7 +27,7 @@ use Rattle.port.specs.declared.outcome.Outcome.{Outcome}
 use Rattle.port.specs.Agreement.{PortAgrees, TagStands, TagAgrees, IsLaidAt}
 use Rattle.port.specs.Answers.{answer_in, outcome_at, stage_at, taken}
 use Rattle.port.specs.Host.{IsReceived}
-use Rattle.port.specs.State.{State, IsFresh, IsPut, IsIssued, IsTaken, entry_of, is_full, refusal_on}
+use Rattle.port.specs.State.{PortState, IsFresh, IsPut, IsIssued, IsTaken, entry_of, is_history_full, refusal_on}
 use Rattle.port.proofs.Memory.{IsSameSlot, same_refl, same_but_slot, laid_same, answer_same, received_same, received_but_slot}
 use Rattle.port.proofs.Slots.{stage_set, outcome_set}
 use Rattle.port.proofs.Tests.{any_below-agree}
@@ -41,11 +41,11 @@ length_entries : (o : Origin) (list : List Step) → length (entries o list) ≡
 length_entries o [] = refl
 length_entries o (step ∷ before) = omega (arith, length_entries o before)
 
-pub count_is : (port : State) (o : Origin) (list : List Step) → PortAgrees port o list → length port.history ≡ length (trace o list)
+pub count_is : (port : PortState) (o : Origin) (list : List Step) → PortAgrees port o list → length port.history ≡ length (trace o list)
 count_is port o list h = ap length h.history ∙ length-reverse (entries o list) ∙ length_entries o list ∙ sym (length_trace o list)
 
 -- a history and a log of one more
-pub one_entry : (port : State) (o : Origin) (list : List Step) (step : Step) (now : List Entry) (e : Entry) → PortAgrees port o list → now ≡ port.history ++ e ∷ [] → e ≡ entry (trace o list) step → now ≡ reverse (entries o (step ∷ list))
+pub one_entry : (port : PortState) (o : Origin) (list : List Step) (step : Step) (now : List Entry) (e : Entry) → PortAgrees port o list → now ≡ port.history ++ e ∷ [] → e ≡ entry (trace o list) step → now ≡ reverse (entries o (step ∷ list))
 one_entry port o list step now e h is same =
     is ∙ ap (λ (x : Entry). port.history ++ x ∷ []) same ∙ ap (λ (xs : List Entry). xs ++ entry (trace o list) step ∷ []) h.history ∙ sym (reverse-append (entry (trace o list) step ∷ []) (entries o list))
 
@@ -53,23 +53,23 @@ one_entry port o list step now e h is same =
 mixes_agree : (p q : ℕ → Stage) (x : Option Put) → ((t : ℕ) → t < 32 → p t ≡ q t) → mixes_put p x ≡ mixes_put q x
 mixes_agree p q None same = refl
 mixes_agree p q (Some put) same =
-    ap (λ (b : Bool). if is_queued put.command then b else any_below (λ t. is_out (p t)) 32) (any_below-agree (λ t. keeps_back put.number (p t)) (λ t. keeps_back put.number (q t)) 32 (λ t lt. ap (keeps_back put.number) (same t lt)))
-    ∙ ap (λ (b : Bool). if is_queued put.command then any_below (λ t. keeps_back put.number (q t)) 32 else b) (any_below-agree (λ t. is_out (p t)) (λ t. is_out (q t)) 32 (λ t lt. ap is_out (same t lt)))
+    ap (λ (b : Bool). if is_queued_command put.command then b else any_below (λ t. is_out (p t)) 32) (any_below-agree (λ t. keeps_back put.number (p t)) (λ t. keeps_back put.number (q t)) 32 (λ t lt. ap (keeps_back put.number) (same t lt)))
+    ∙ ap (λ (b : Bool). if is_queued_command put.command then any_below (λ t. keeps_back put.number (q t)) 32 else b) (any_below-agree (λ t. is_out (p t)) (λ t. is_out (q t)) 32 (λ t lt. ap is_out (same t lt)))
 
 refusal_agree : (full full' failure failure' : Bool) (p q : ℕ → Stage) (step : Step) → full ≡ full' → failure ≡ failure' → ((t : ℕ) → t < 32 → p t ≡ q t) → has_slot step ≡ true → refusal_by full failure p step ≡ refusal_by full' failure' q step
 refusal_agree full full' failure failure' p q (steps.Put client t request) e f same lt = rw (e, same t (ltb-true t 32 lt)) refl
-refusal_agree full full' failure failure' p q (steps.Issue t) e f same lt = rw (e, f, mixes_agree p q (put_in (p t)) same, same t (ltb-true t 32 lt)) refl
+refusal_agree full full' failure failure' p q (steps.Issue t) e f same lt = rw (e, f, mixes_agree p q (put_at (p t)) same, same t (ltb-true t 32 lt)) refl
 refusal_agree full full' failure failure' p q (steps.Accept t) e f same lt = rw (e, f, same t (ltb-true t 32 lt)) refl
 refusal_agree full full' failure failure' p q (steps.Complete t) e f same lt = rw (e, f, same t (ltb-true t 32 lt)) refl
 refusal_agree full full' failure failure' p q steps.Recover e f same lt = rw (e, f) refl
 refusal_agree full full' failure failure' p q (steps.Reset client kind) e f same lt = rw e refl
 refusal_agree full full' failure failure' p q (steps.Take client t) e f same lt = rw (e, same t (ltb-true t 32 lt)) refl
 
-pub same_refusal : (port : State) (o : Origin) (list : List Step) (step : Step)
+pub same_refusal : (port : PortState) (o : Origin) (list : List Step) (step : Step)
     → PortAgrees port o list → has_slot step ≡ true
     → refusal_on port step ≡ refusal (trace o list) step
 same_refusal port o list step h lt =
-    refusal_agree (is_full port) (not (nat_lt (length (trace o list)) most_steps)) (is_some port.failed)
+    refusal_agree (is_history_full port) (not (nat_lt (length (trace o list)) most_steps)) (is_some port.failed)
     (is_some (failed (trace o list))) (stage_at port.slots) (stage (trace o list)) step
     (ap (λ (n : ℕ). not (nat_lt n most_steps)) (count_is port o list h)) (ap is_some h.failure)
     (λ t below. (h.tags t below).stands) lt
@@ -120,12 +120,12 @@ tests_of ms step =
 pub same_memory : (old new : List ℕ) (t : ℕ) → new ≡ old → IsSameSlot old new t
 same_memory old new t e = subst (λ (m : List ℕ). IsSameSlot old m t) (sym e) (same_refl old t)
 
-pub received_kept : (old new : List ℕ) (sent : List Fis) → new ≡ old → IsReceived old sent
-    → IsReceived new sent
-received_kept old new sent e h = subst (λ (m : List ℕ). IsReceived m sent) (sym e) h
+pub received_kept : (old new : List ℕ) (sent_fises : List Fis) → new ≡ old → IsReceived old sent_fises
+    → IsReceived new sent_fises
+received_kept old new sent_fises e h = subst (λ (m : List ℕ). IsReceived m sent_fises) (sym e) h
 
 -- Put
-put_tag : (old new : State) (o : Origin) (list : List Step) (client tag : ℕ) (request : Request)
+put_tag : (old new : PortState) (o : Origin) (list : List Step) (client tag : ℕ) (request : Request)
     → tag < 32 → PortAgrees old o list → IsPut old new client tag request
     → stage (trace o list) tag ≡ Free
     → TagAgrees new (moment o (trace o list) (steps.Put client tag request) ∷ trace o list) tag
@@ -138,7 +138,7 @@ put_tag old new o list client tag request lt h s free =
       laid = s.laid;
     })
 
-pub put_agrees : (old new : State) (o : Origin) (list : List Step) (client tag : ℕ)
+pub put_agrees : (old new : PortState) (o : Origin) (list : List Step) (client tag : ℕ)
     (request : Request) → tag < 32 → PortAgrees old o list
     → IsPut old new client tag request → refusal (trace o list) (steps.Put client tag request) ≡ None
     → PortAgrees new o (steps.Put client tag request ∷ list)
@@ -161,13 +161,13 @@ put_agrees old new o list client tag request lt h s lawful =
             refl refl refl (h.tags t below))
       ];
       regs = s.regs ∙ h.regs;
-      received = received_same old.memory new.memory (sent ms) (received_but_slot old.memory new.memory tag lt s.elsewhere) h.received;
+      received = received_same old.memory new.memory (sent_fises ms) (received_but_slot old.memory new.memory tag lt s.elsewhere) h.received;
       history = one_entry old o list step new.history (entry_of step) h s.history refl;
       log = s.audit ∙ h.log;
     }
 
 -- Issue
-issue_tag : (old new : State) (o : Origin) (list : List Step) (tag : ℕ) → tag < 32
+issue_tag : (old new : PortState) (o : Origin) (list : List Step) (tag : ℕ) → tag < 32
     → PortAgrees old o list → IsIssued old new tag
     → TagAgrees new (moment o (trace o list) (steps.Issue tag) ∷ trace o list) tag
 issue_tag old new o list tag lt h s =
@@ -185,7 +185,7 @@ issue_tag old new o list tag lt h s =
           (subst (λ (x : Stage). IsLaidAt old.memory tag x (payload ms tag)) was k.laid));
     })
 
-pub issue_agrees : (old new : State) (o : Origin) (list : List Step) (tag : ℕ) → tag < 32
+pub issue_agrees : (old new : PortState) (o : Origin) (list : List Step) (tag : ℕ) → tag < 32
     → PortAgrees old o list → refusal (trace o list) (steps.Issue tag) ≡ None
     → IsIssued old new tag → PortAgrees new o (steps.Issue tag ∷ list)
 issue_agrees old new o list tag lt h lawful s =
@@ -206,9 +206,9 @@ issue_agrees old new o list tag lt h lawful s =
             refl refl refl (h.tags t below))
       ];
       regs =
-          s.regs ∙ ap (λ (r : Regs). with_issue tag (is_queued s.put.command) r) h.regs
-          ∙ sym (ap (λ (x : Stage). with_issue tag (is_queued_put (put_in x)) (registers ms)) was);
-      received = received_kept old.memory new.memory (sent ms) s.memory h.received;
+          s.regs ∙ ap (λ (r : Regs). with_issue tag (is_queued_command s.put.command) r) h.regs
+          ∙ sym (ap (λ (x : Stage). with_issue tag (is_queued_put (put_at x)) (registers ms)) was);
+      received = received_kept old.memory new.memory (sent_fises ms) s.memory h.received;
       history = one_entry old o list step new.history (entry_of step) h s.history refl;
       log = s.audit ∙ h.log;
     }
@@ -219,7 +219,7 @@ taken_is : (memory : List ℕ) (tag : ℕ) (outcome : Option Outcome)
 taken_is memory tag None = refl
 taken_is memory tag (Some outcome) = refl
 
-pub taken_answer : (port : State) (o : Origin) (list : List Step) (tag : ℕ) → tag < 32
+pub taken_answer : (port : PortState) (o : Origin) (list : List Step) (tag : ℕ) → tag < 32
     → PortAgrees port o list
     → taken port.memory tag (outcome_at port.outcomes tag)
     ≡ unwrap_or (answer (trace o list) tag) no_bytes
@@ -227,7 +227,7 @@ taken_answer port o list tag lt h =
     taken_is port.memory tag (outcome_at port.outcomes tag)
     ∙ ap (λ (a : Option Answer). unwrap_or a no_bytes) (h.tags tag lt).answers
 
-take_tag : (old new : State) (o : Origin) (list : List Step) (client tag : ℕ) → tag < 32
+take_tag : (old new : PortState) (o : Origin) (list : List Step) (client tag : ℕ) → tag < 32
     → PortAgrees old o list → IsTaken old new client tag
     → TagAgrees new (moment o (trace o list) (steps.Take client tag) ∷ trace o list) tag
 take_tag old new o list client tag lt h s =
@@ -237,7 +237,7 @@ take_tag old new o list client tag lt h s =
       laid = tt;
     })
 
-pub take_agrees : (old new : State) (o : Origin) (list : List Step) (client tag : ℕ) → tag < 32
+pub take_agrees : (old new : PortState) (o : Origin) (list : List Step) (client tag : ℕ) → tag < 32
     → PortAgrees old o list → refusal (trace o list) (steps.Take client tag) ≡ None
     → IsTaken old new client tag → PortAgrees new o (steps.Take client tag ∷ list)
 take_agrees old new o list client tag lt h lawful s =
@@ -257,13 +257,13 @@ take_agrees old new o list client tag lt h lawful s =
             refl refl refl (h.tags t below))
       ];
       regs = s.regs ∙ h.regs;
-      received = received_kept old.memory new.memory (sent ms) s.memory h.received;
+      received = received_kept old.memory new.memory (sent_fises ms) s.memory h.received;
       history = one_entry old o list step new.history _ h s.history (ap (λ (a : Answer). record { step = step; reply = a }) (taken_answer old o list tag lt h));
       log = s.audit ∙ h.log;
     }
 
 -- A port that did nothing.
-pub fresh_agrees : (port : State) (drive : DriveState) (o : Origin) → IsFresh port drive
+pub fresh_agrees : (port : PortState) (drive : DriveState) (o : Origin) → IsFresh port drive
     → DriveAgrees drive o [] → PortAgrees port o []
 fresh_agrees port drive o f h = record {
   lawful = tt;

@@ -11,33 +11,33 @@ use Rattle.port_history.specs.Steps.{trace, answer}
 use Rattle.port_history.specs.Refusals.{refusal, has_slot, IsRefusedBy, IsTold}
 use Rattle.history.specs.Tcg.{tcg}
 use Rattle.history.proofs.QuietProofs.{tcg_quiet}
-use Rattle.port.specs.State.{State, refusal_on}
+use Rattle.port.specs.State.{PortState, refusal_on}
 use Rattle.port.specs.Answers.{taken}
 use Rattle.port.specs.Agreement.{PortAgrees}
 use Rattle.port.proofs.Agreeing.{same_refusal, count_is, taken_answer}
 use Rattle.headline.specs.Transfers.{IsServedAnswer}
 use Rattle.headline.proofs.TransferLaws.{taken_law}
 
-pub refused_call : {A : Type 0} (port : State) (o : Origin) (list : List Step) (step : Step) (r : Result A PortError) → has_slot step ≡ true → PortAgrees port o list → IsRefusedBy (refusal_on port step) r → IsRefusedBy (refusal (trace o list) step) r
+pub refused_call : {A : Type 0} (port : PortState) (o : Origin) (list : List Step) (step : Step) (r : Result A PortError) → has_slot step ≡ true → PortAgrees port o list → IsRefusedBy (refusal_on port step) r → IsRefusedBy (refusal (trace o list) step) r
 refused_call port o list step r slot h told = subst (λ (x : Option PortError). IsRefusedBy x r) (same_refusal port o list step h slot) told
 
-pub numbered : (r : Result ℕ PortError) (old : State) → IfOk r (λ n. n ≡ 1 + length old.history) → IfOk r (λ n. (o : Origin) (list : List Step) → PortAgrees old o list → n ≡ 1 + length (trace o list))
+pub numbered : (r : Result ℕ PortError) (old : PortState) → IfOk r (λ n. n ≡ 1 + length old.history) → IfOk r (λ n. (o : Origin) (list : List Step) → PortAgrees old o list → n ≡ 1 + length (trace o list))
 numbered (Ok n) old e = λ o list h. e ∙ ap (λ (k : ℕ). 1 + k) (count_is old o list h)
 numbered (Err error) old e = tt
 
-pub agrees_call : {A : Type 0} (Made : Type 0) (old new : State) (step : Step) (r : Result A PortError) → has_slot step ≡ true → IsRefusedBy (refusal_on old step) r → OnOk r Made
+pub agrees_call : {A : Type 0} (Made : Type 0) (old new : PortState) (step : Step) (r : Result A PortError) → has_slot step ≡ true → IsRefusedBy (refusal_on old step) r → OnOk r Made
     → ((o : Origin) (list : List Step) → PortAgrees old o list → refusal (trace o list) step ≡ None → Made → PortAgrees new o (step ∷ list))
     → OnOk r ((o : Origin) (list : List Step) → PortAgrees old o list → PortAgrees new o (step ∷ list))
 agrees_call Made old new step (Ok a) slot told made keep = λ o list h. keep o list h (sym (same_refusal old o list step h slot) ∙ told) made
 agrees_call Made old new step (Err error) slot told made keep = tt
 
-pub answered_call : (r : Result (ℕ × Answer) PortError) (old : State) (tag : ℕ) → tag < 32 → IfOk r (λ x. (x.0 ≡ 1 + length old.history) × (x.1 ≡ taken old.memory tag (outcome_at old.outcomes tag)))
+pub answered_call : (r : Result (ℕ × Answer) PortError) (old : PortState) (tag : ℕ) → tag < 32 → IfOk r (λ x. (x.0 ≡ 1 + length old.history) × (x.1 ≡ taken old.memory tag (outcome_at old.outcomes tag)))
     → IfOk r (λ x. (o : Origin) (list : List Step) → PortAgrees old o list → (x.0 ≡ 1 + length (trace o list)) × (x.1 ≡ unwrap_or (answer (trace o list) tag) no_bytes))
 answered_call (Ok x) old tag lt e = λ o list h. (e.0 ∙ ap (λ (k : ℕ). 1 + k) (count_is old o list h), e.1 ∙ taken_answer old o list tag lt h)
 answered_call (Err error) old tag lt e = tt
 
 -- and so it is served where it is allowed
-pub served_call : (r : Result (ℕ × Answer) PortError) (old : State) (tag : ℕ)
+pub served_call : (r : Result (ℕ × Answer) PortError) (old : PortState) (tag : ℕ)
     → IfOk r (λ x. (o : Origin) (list : List Step) → PortAgrees old o list → (x.0 ≡ 1 + length (trace o list)) × (x.1 ≡ unwrap_or (answer (trace o list) tag) no_bytes))
     → IfOk r (λ x. (o : Origin) (list : List Step) → PortAgrees old o list → IsServedAnswer tcg o list tag x.1)
 served_call (Ok x) old tag e = λ o list h.
@@ -45,7 +45,7 @@ served_call (Ok x) old tag e = λ o list h.
 served_call (Err error) old tag e = tt
 
 -- the same where the private step tells its refusals of a port that agrees
-pub agrees_where : {A : Type 0} (Made : Type 0) (old new : State) (step : Step) (r : Result A PortError) → has_slot step ≡ true → ((o : Origin) (list : List Step) → PortAgrees old o list → IsRefusedBy (refusal_on old step) r) → OnOk r Made
+pub agrees_where : {A : Type 0} (Made : Type 0) (old new : PortState) (step : Step) (r : Result A PortError) → has_slot step ≡ true → ((o : Origin) (list : List Step) → PortAgrees old o list → IsRefusedBy (refusal_on old step) r) → OnOk r Made
     → ((o : Origin) (list : List Step) → PortAgrees old o list → refusal (trace o list) step ≡ None → Made → PortAgrees new o (step ∷ list))
     → OnOk r ((o : Origin) (list : List Step) → PortAgrees old o list → PortAgrees new o (step ∷ list))
 agrees_where Made old new step (Ok a) slot told made keep = λ o list h. keep o list h (sym (same_refusal old o list step h slot) ∙ told o list h) made

@@ -27,13 +27,13 @@ use Rattle.port_history.specs.declared.step.Step.{Step}
 use Rattle.port_history.specs.declared.step.Step.TheVariants as steps
 use Rattle.port_history.specs.Refusals.{refusal}
 use Rattle.port_history.specs.Registers.{registers, all_shown}
-use Rattle.port_history.specs.Stages.{put_in, to}
-use Rattle.port_history.specs.Steps.{Effect, Moment, moment, effect_by, line_of, trace, events, acts, sent, stage, failed, payload, audit}
+use Rattle.port_history.specs.Stages.{put_at, to}
+use Rattle.port_history.specs.Steps.{Effect, Moment, moment, effect_by, line_of, trace, events, acts, sent_fises, stage, failed, payload, audit}
 use Rattle.port_history.proofs.Tests.{none_holds, accepted_is, none_is}
 use Rattle.port.specs.Agreement.{PortAgrees, TagAgrees, IsLaidAt}
-use Rattle.port.specs.Answers.{answer_in, front}
+use Rattle.port.specs.Answers.{answer_in, buffer_front}
 use Rattle.port.specs.Host.{IsLaid, IsReceived}
-use Rattle.port.specs.State.{State, IsCompleted, IsReady, entry_of}
+use Rattle.port.specs.State.{PortState, IsCompleted, IsReady, entry_of}
 use Rattle.port.proofs.Agreeing.{itself, tests_of, stage_here, stage_there, outcome_here, outcome_there, one_entry, tag_same}
 use Rattle.port.proofs.Accepting.{events_are}
 use Rattle.port.proofs.Lawful.{accepted_held, completed_length, completed_small, completed_fits}
@@ -53,9 +53,9 @@ complete_is o ms tag put was =
       step = steps.Complete tag;
       served = p;
       effect = Some (effect_by (facts o (events ms)) (CompleteTag tag (payload ms tag)));
-    }) (ap put_in was)
+    }) (ap put_at was)
 
-complete_tag : (old new : State) (o : Origin) (list : List Step) (tag : ℕ) (put : Put) (e : Effect)
+complete_tag : (old new : PortState) (o : Origin) (list : List Step) (tag : ℕ) (put : Put) (e : Effect)
     → tag < 32 → PortAgrees old o list → (s : IsCompleted old new tag) → s.put ≡ put
     → stage (trace o list) tag ≡ Accepted put → s.bytes ≡ e.bytes
     → TagAgrees new (complete_moment tag put e ∷ trace o list) tag
@@ -96,12 +96,12 @@ no_line n tag put bytes (Some h) fises content = by_command h.command
     by_command Flush = refl
 
 -- what the drive holds is what the past holds
-held_now : (port : State) (o : Origin) (list : List Step) (tag : ℕ) → PortAgrees port o list
+held_now : (port : PortState) (o : Origin) (list : List Step) (tag : ℕ) → PortAgrees port o list
     → held_at port.drive.queue tag ≡ held (events (trace o list)) tag
 held_now port o list tag h =
     h.drive.held tag ∙ ap (λ (past : List Event). held past tag) (sym (events_are o list))
 
-pub complete_agrees : (old new : State) (o : Origin) (list : List Step) (tag : ℕ) → tag < 32
+pub complete_agrees : (old new : PortState) (o : Origin) (list : List Step) (tag : ℕ) → tag < 32
     → PortAgrees old o list → refusal (trace o list) (steps.Complete tag) ≡ None
     → IsCompleted old new tag → PortAgrees new o (steps.Complete tag ∷ list)
 complete_agrees old new o list tag lt h lawful s =
@@ -115,8 +115,8 @@ complete_agrees old new o list tag lt h lawful s =
     let same : s.put ≡ put = accepted_same s.put put (sym s.was ∙ (h.tags tag lt).stands ∙ was) in
     let l : IsLaid old.memory tag put.command (payload ms tag) =
     subst (λ (x : Stage). IsLaidAt old.memory tag x (payload ms tag)) was (h.tags tag lt).laid in
-    let payload_is : front old.memory tag (expected (held_at old.drive.queue tag)) ≡ payload ms tag =
-    ap (front old.memory tag) (ap expected (held_now old o list tag h) ∙ completed_length o list tag put h.lawful mended was)
+    let payload_is : buffer_front old.memory tag (expected (held_at old.drive.queue tag)) ≡ payload ms tag =
+    ap (buffer_front old.memory tag) (ap expected (held_now old o list tag h) ∙ completed_length o list tag put h.lawful mended was)
     ∙ l.buffer in
     let act : Act = CompleteTag tag (payload ms tag) in
     let e : Effect = effect_by (facts o (events ms)) act in
@@ -144,7 +144,7 @@ complete_agrees old new o list tag lt h lawful s =
           s.regs ∙ ap (λ (r : Regs). all_shown tag r s.done.fises.items) h.regs
           ∙ ap (all_shown tag (registers ms)) answered.fises;
       received =
-          subst (λ (xs : List Fis). IsReceived new.memory (reverse xs ++ sent ms)) answered.fises (s.received (sent ms) h.received);
+          subst (λ (xs : List Fis). IsReceived new.memory (reverse xs ++ sent_fises ms)) answered.fises (s.received (sent_fises ms) h.received);
       history = one_entry old o list step new.history (entry_of step) h s.history refl;
       log =
           s.audit ∙ h.log
@@ -155,7 +155,7 @@ complete_agrees old new o list tag lt h lawful s =
 none_not : (x : Option HeldCommand) → x ≡ None → option_map (λ (h : HeldCommand). h.command) x ≡ None
 none_not x e = ap (option_map (λ (h : HeldCommand). h.command)) e
 
-pub ready : (port : State) (o : Origin) (list : List Step) (tag : ℕ) (put : Put) → tag < 32
+pub ready : (port : PortState) (o : Origin) (list : List Step) (tag : ℕ) (put : Put) → tag < 32
     → PortAgrees port o list → failed (trace o list) ≡ None → stage (trace o list) tag ≡ Accepted put
     → IsReady port tag
 ready port o list tag put lt h mended was = record {

@@ -22,7 +22,7 @@ use Rattle.port_history.specs.declared.stages.Stage.TheVariants.{Issued, Accepte
 use Rattle.port_history.specs.declared.step.Step.{Step}
 use Rattle.port_history.specs.Refusals.{IsLawful}
 use Rattle.port_history.specs.Requests.{command_fis, log_fis, bytes_moved, blocks_moved}
-use Rattle.port_history.specs.Stages.{is_queued}
+use Rattle.port_history.specs.Stages.{is_queued_command}
 use Rattle.port_history.specs.Steps.{Effect, Moment, effect_by, accept_payload, trace, events, stage, failed, payload}
 use Rattle.port_history.proofs.Acted.{IsHeldOrFailed, IsHeld, IsFailed, IsExecuted, held_effect, failed_effect, mended_effect, executed_bytes, mends}
 use Rattle.port_history.proofs.FedProofs.{accept_fed, expected-brought}
@@ -81,7 +81,7 @@ issued_small o list tag put lt lawful was =
       arith,
       fis_brings put.command tag,
       payload_is put.command tag fit.sized.counted fit.sized.most,
-      unqueued_small (is_queued put.command) (brought put.command) (brought_small put.command fit.sized.most),
+      unqueued_small (is_queued_command put.command) (brought put.command) (brought_small put.command fit.sized.most),
     )
 
 no_bytes_fit : (e : Effect) (bytes : List ℕ) → bytes ≡ [] → e.bytes ≡ bytes → length e.bytes ≤ buffer_size
@@ -96,7 +96,7 @@ held_or_failed_fits tag c e (IsFailed error denied is) =
 
 accepted_fits_by : (o : Origin) (list : List Step) (tag : ℕ) (put : Put) → tag < 32
     → IsLawful o list → failed (trace o list) ≡ None → stage (trace o list) tag ≡ Issued put
-    → (queued : Bool) → is_queued put.command ≡ queued
+    → (queued : Bool) → is_queued_command put.command ≡ queued
     → length (accepted_effect tcg o (trace o list) tag put).bytes ≤ buffer_size
 accepted_fits_by o list tag put lt lawful mended was true queued =
     held_or_failed_fits tag put.command (accepted_effect tcg o (trace o list) tag put)
@@ -113,7 +113,7 @@ pub accepted_fits : (o : Origin) (list : List Step) (tag : ℕ) (put : Put) → 
     (AcceptFis (command_fis put.command tag) (accept_payload put (payload (trace o list) tag)))).bytes
     ≤ buffer_size
 accepted_fits o list tag put lt lawful mended was =
-    accepted_fits_by o list tag put lt lawful mended was (is_queued put.command) refl
+    accepted_fits_by o list tag put lt lawful mended was (is_queued_command put.command) refl
 
 -- an accepted command
 pub accepted_held : (o : Origin) (list : List Step) (tag : ℕ) (put : Put) → IsLawful o list

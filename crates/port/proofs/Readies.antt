@@ -15,26 +15,26 @@ use Rattle.port_history.specs.declared.step.Step.{Step}
 use Rattle.port_history.specs.declared.step.Step.TheVariants as steps
 use Rattle.port_history.specs.Stages.{mixes}
 use Rattle.port.specs.Answers.{stage_at}
-use Rattle.port.specs.State.{State, is_full, refusal_on}
+use Rattle.port.specs.State.{PortState, is_history_full, refusal_on}
 use Rattle.port_history.specs.Refusals.{first_refusal, IsRefusedBy}
-use Rattle.port_history.specs.Ready.{those, count, ready_steps, chosen, as_step}
+use Rattle.port_history.specs.Ready.{those, count_passing, ready_steps, chosen, as_step}
 use Rattle.port_history.specs.declared.step.EngineStep.TheVariants as engine
 
 abbrev pub one : Bool → ℕ
 one b = if b then 1 else 0
 
-pub count_next : (p : ℕ → Bool) (n : ℕ) → count p (suc n) ≡ count p n + one (p n)
-unfolding count
+pub count_next : (p : ℕ → Bool) (n : ℕ) → count_passing p (suc n) ≡ count_passing p n + one (p n)
+unfolding count_passing
 count_next p n = refl
 
-pub count_none : (p : ℕ → Bool) (n : ℕ) → ((t : ℕ) → p t ≡ false) → count p n ≡ 0
-unfolding count
+pub count_none : (p : ℕ → Bool) (n : ℕ) → ((t : ℕ) → p t ≡ false) → count_passing p n ≡ 0
+unfolding count_passing
 count_none p zero e = refl
 count_none p (suc n) e = rw (e n) (omega (arith, count_none p n e))
 
 -- one that passes is not yet counted
-pub not_counted : (p : ℕ → Bool) (n i : ℕ) → i < n → p i ≡ true → count p i + 1 ≤ count p n
-unfolding count
+pub not_counted : (p : ℕ → Bool) (n i : ℕ) → i < n → p i ≡ true → count_passing p i + 1 ≤ count_passing p n
+unfolding count_passing
 not_counted p zero i lt e = absurd (omega (arith, lt))
 not_counted p (suc n) i lt e = elim (cases_lt i n) [
   | inl below ↦ omega (arith, not_counted p n i below e)
@@ -42,8 +42,8 @@ not_counted p (suc n) i lt e = elim (cases_lt i n) [
 ]
 
 -- of three kinds of which no tag is two
-pub three : (p q r : ℕ → Bool) (n : ℕ) → ((t : ℕ) → one (p t) + one (q t) + one (r t) ≤ 1) → count p n + count q n + count r n ≤ n
-unfolding count
+pub three : (p q r : ℕ → Bool) (n : ℕ) → ((t : ℕ) → one (p t) + one (q t) + one (r t) ≤ 1) → count_passing p n + count_passing q n + count_passing r n ≤ n
+unfolding count_passing
 three p q r zero apart = omega arith
 three p q r (suc n) apart = omega (arith, three p q r n apart, apart n)
 
@@ -51,10 +51,10 @@ last_length : (k m : ℕ) (step : EngineStep) (b : Bool) → k ≡ m → k + len
 last_length k m step true e = omega (arith, e)
 last_length k m step false e = omega (arith, e)
 
-pub length_those : (step : ℕ → EngineStep) (p : ℕ → Bool) (n : ℕ) → length (those step p n) ≡ count p n
-unfolding count those
+pub length_those : (step : ℕ → EngineStep) (p : ℕ → Bool) (n : ℕ) → length (those step p n) ≡ count_passing p n
+unfolding count_passing those
 length_those step p zero = refl
-length_those step p (suc n) = length-append (those step p n) (if p n then step n ∷ [] else []) ∙ last_length (length (those step p n)) (count p n) (step n) (p n) (length_those step p n)
+length_those step p (suc n) = length-append (those step p n) (if p n then step n ∷ [] else []) ∙ last_length (length (those step p n)) (count_passing p n) (step n) (p n) (length_those step p n)
 
 pub kinds : (full failure mixed : Bool) (s : Stage)
     → one (is_none (first_refusal ((full, HistoryFull) ∷ (failure, Failed) ∷ (not (is_prepared s), NotPrepared) ∷ (mixed, Queue) ∷ [])))
@@ -87,16 +87,16 @@ pub as_long : (first now : List EngineStep) (step : ℕ → EngineStep) (p : ℕ
 as_long first now step p n e fails =
     e ∙ ap (λ (xs : List EngineStep). first ++ xs) (sym (those_next step p n ∙ ap (λ (b : Bool). those step p n ++ (if b then step n ∷ [] else [])) fails ∙ append-nil (those step p n)))
 
-abbrev pub allows : State → (ℕ → Step) → ℕ → Bool
+abbrev pub allows : PortState → (ℕ → Step) → ℕ → Bool
 allows port step t = is_none (refusal_on port (step t))
 
-apart : (port : State) (t : ℕ) → one (allows port steps.Issue t) + one (allows port steps.Accept t) + one (allows port steps.Complete t) ≤ 1
-apart port t = kinds (is_full port) (is_some port.failed) (mixes (stage_at port.slots) (stage_at port.slots t)) (stage_at port.slots t)
+apart : (port : PortState) (t : ℕ) → one (allows port steps.Issue t) + one (allows port steps.Accept t) + one (allows port steps.Complete t) ≤ 1
+apart port t = kinds (is_history_full port) (is_some port.failed) (mixes (stage_at port.slots) (stage_at port.slots t)) (stage_at port.slots t)
 
-pub sum_small : (port : State) → count (allows port steps.Issue) 32 + count (allows port steps.Accept) 32 + count (allows port steps.Complete) 32 ≤ 32
+pub sum_small : (port : PortState) → count_passing (allows port steps.Issue) 32 + count_passing (allows port steps.Accept) 32 + count_passing (allows port steps.Complete) 32 ≤ 32
 sum_small port = three (allows port steps.Issue) (allows port steps.Accept) (allows port steps.Complete) 32 (apart port)
 
-pub count_of_list : (first now : List EngineStep) (step : ℕ → EngineStep) (p : ℕ → Bool) (n : ℕ) → now ≡ first ++ those step p n → length now ≡ length first + count p n
+pub count_of_list : (first now : List EngineStep) (step : ℕ → EngineStep) (p : ℕ → Bool) (n : ℕ) → now ≡ first ++ those step p n → length now ≡ length first + count_passing p n
 count_of_list first now step p n e = ap length e ∙ length-append first (those step p n) ∙ ap (λ (k : ℕ). length first + k) (length_those step p n)
 
 -- a port that may recover may do nothing else
@@ -105,9 +105,9 @@ alone true failure rest e = absurd cc
 alone false true rest e = refl
 alone false false rest e = absurd cc
 
-pub sum_alone : (port : State) → is_none (refusal_on port steps.Recover) ≡ true → count (allows port steps.Issue) 32 + count (allows port steps.Accept) 32 + count (allows port steps.Complete) 32 ≡ 0
+pub sum_alone : (port : PortState) → is_none (refusal_on port steps.Recover) ≡ true → count_passing (allows port steps.Issue) 32 + count_passing (allows port steps.Accept) 32 + count_passing (allows port steps.Complete) 32 ≡ 0
 sum_alone port e =
-    let f = alone (is_full port) (is_some port.failed) in
+    let f = alone (is_history_full port) (is_some port.failed) in
     omega (
       arith,
       count_none (allows port steps.Issue) 32 (λ t. f ((not (is_prepared (stage_at port.slots t)), NotPrepared) ∷ (mixes (stage_at port.slots) (stage_at port.slots t), Queue) ∷ []) e),

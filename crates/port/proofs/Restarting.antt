@@ -24,15 +24,15 @@ use Rattle.port_history.specs.declared.step.Step.TheVariants as steps
 use Rattle.port_history.specs.Refusals.{refusal}
 use Rattle.port_history.specs.Registers.{registers, all_shown, restarted, reset_regs}
 use Rattle.port_history.specs.Requests.{log_fis}
-use Rattle.port_history.specs.Stages.{recovered, after_reset, is_pending}
+use Rattle.port_history.specs.Stages.{recovered, stage_after_reset, is_pending}
 use Rattle.history.specs.Audit.{line_for}
-use Rattle.port_history.specs.Steps.{Effect, effect_by, recovered_answer, is_tag, trace, events, acts, sent, stage, failed, payload, answer, audit}
+use Rattle.port_history.specs.Steps.{Effect, effect_by, recovered_answer, is_tag, trace, events, acts, sent_fises, stage, failed, payload, answer, audit}
 use Rattle.port_history.proofs.Tests.{none_holds}
 use Rattle.port.specs.declared.outcome.Outcome.{Outcome}
 use Rattle.port.specs.Agreement.{PortAgrees, IsLaidAt}
 use Rattle.port.specs.Answers.{answer_in, outcome_at, outcome_after_reset, outcome_recovered}
 use Rattle.port.specs.Host.{IsReceived}
-use Rattle.port.specs.State.{State, IsRecovered, IsReset, named_in, entry_of}
+use Rattle.port.specs.State.{PortState, IsRecovered, IsReset, named_in, entry_of}
 use Rattle.port.proofs.Accepting.{events_are}
 use Rattle.port.proofs.Agreeing.{tests_of, one_entry, received_kept}
 use Rattle.port.proofs.Lawful.{Recovery, recovery}
@@ -59,7 +59,7 @@ answer_recovered memory t true status error x a fl is_status is_error e =
     ∙ ap (λ (n : ℕ). Some (answers.Failed (status_of (Some fl.error)) n)) is_error
 answer_recovered memory t false status error x a fl is_status is_error e = e
 
-pub recover_agrees : (old new : State) (o : Origin) (list : List Step) → PortAgrees old o list
+pub recover_agrees : (old new : PortState) (o : Origin) (list : List Step) → PortAgrees old o list
     → refusal (trace o list) steps.Recover ≡ None → IsRecovered old new
     → PortAgrees new o (steps.Recover ∷ list)
 recover_agrees old new o list h lawful s =
@@ -98,7 +98,7 @@ recover_agrees old new o list h lawful s =
       regs =
           s.regs ∙ ap (λ (g : Regs). all_shown 0 (restarted g) s.answer.fises.items) h.regs
           ∙ ap (all_shown 0 (restarted (registers ms))) answered.fises;
-      received = subst (λ (xs : List Fis). IsReceived new.memory (reverse xs ++ sent ms)) answered.fises (s.received (sent ms) h.received);
+      received = subst (λ (xs : List Fis). IsReceived new.memory (reverse xs ++ sent_fises ms)) answered.fises (s.received (sent_fises ms) h.received);
       history = one_entry old o list step new.history (entry_of step) h s.history refl;
       log =
           s.audit ∙ h.log
@@ -106,7 +106,7 @@ recover_agrees old new o list h lawful s =
     }
 
 laid_reset : (memory : List ℕ) (t : ℕ) (s : Stage) (bytes : List ℕ)
-    → IsLaidAt memory t (after_reset s) bytes
+    → IsLaidAt memory t (stage_after_reset s) bytes
 laid_reset memory t Free bytes = tt
 laid_reset memory t (Prepared put) bytes = tt
 laid_reset memory t (Issued put) bytes = tt
@@ -120,7 +120,7 @@ reset_answer : (memory : List ℕ) (t : ℕ) (b : Bool) (outcome : Option Outcom
 reset_answer memory t true outcome a e = refl
 reset_answer memory t false outcome a e = e
 
-pub reset_agrees : (old new : State) (o : Origin) (list : List Step) (client : ℕ) (kind : ResetKind)
+pub reset_agrees : (old new : PortState) (o : Origin) (list : List Step) (client : ℕ) (kind : ResetKind)
     → PortAgrees old o list → refusal (trace o list) (steps.Reset client kind) ≡ None
     → IsReset old new client kind → PortAgrees new o (steps.Reset client kind ∷ list)
 reset_agrees old new o list client kind h lawful s =
@@ -135,7 +135,7 @@ reset_agrees old new o list client kind h lawful s =
       tags = λ t below.
           let x = h.tags t below in
           record {
-            stands = s.slots t below ∙ ap after_reset x.stands;
+            stands = s.slots t below ∙ ap stage_after_reset x.stands;
             answers =
                 ap (λ (m : List ℕ). answer_in m t (outcome_at new.outcomes t)) s.memory
                 ∙ ap (answer_in old.memory t) (s.outcomes t below ∙ ap (λ (z : Stage). outcome_after_reset (is_pending z) (outcome_at old.outcomes t)) x.stands)
@@ -143,7 +143,7 @@ reset_agrees old new o list client kind h lawful s =
             laid = laid_reset new.memory t (stage ms t) (payload ms t);
           };
       regs = s.regs ∙ ap reset_regs h.regs;
-      received = received_kept old.memory new.memory (sent ms) s.memory h.received;
+      received = received_kept old.memory new.memory (sent_fises ms) s.memory h.received;
       history = one_entry old o list step new.history (entry_of step) h s.history refl;
       log = s.audit ∙ h.log;
     }

@@ -5,7 +5,7 @@ use Rattle.history.specs.Opening.{Origin}
 use Rattle.drive.specs.State.{Agrees as DriveAgrees}
 use Rattle.port_history.specs.Refusals.{IsLawful, IsRefusedBy, refusal}
 use Rattle.port_history.specs.Registers.{registers}
-use Rattle.port_history.specs.Steps.{Moment, trace, acts, sent, stage, failed, payload, answer, audit, entries}
+use Rattle.port_history.specs.Steps.{Moment, trace, acts, sent_fises, stage, failed, payload, answer, audit, entries}
 use Rattle.port_history.specs.declared.error.PortError.{PortError}
 use Rattle.port_history.specs.declared.request.Answer.{Answer}
 use Rattle.port_history.specs.declared.stages.Stage.{Stage}
@@ -13,7 +13,7 @@ use Rattle.port_history.specs.declared.stages.Stage.TheVariants.{Free, Prepared,
 use Rattle.port_history.specs.declared.step.Step.{Step}
 use Rattle.port.specs.Answers.{answer_in, outcome_at, stage_at}
 use Rattle.port.specs.Host.{IsLaid, IsReceived}
-use Rattle.port.specs.State.{State}
+use Rattle.port.specs.State.{PortState}
 use Rattle.port.specs.declared.outcome.Outcome.{Outcome}
 
 abbrev pub IsLaidAt : List ℕ → ℕ → Stage → List ℕ → Type 0
@@ -30,13 +30,13 @@ pub record TagStands (tag : ℕ) (memory : List ℕ) (slot : Stage) (outcome : O
   pub answers : answer_in memory tag outcome ≡ its_answer
   pub laid : IsLaidAt memory tag its_stage bytes
 
-abbrev pub TagAgrees : State → List Moment → ℕ → Type 0
+abbrev pub TagAgrees : PortState → List Moment → ℕ → Type 0
 TagAgrees port ms tag =
     TagStands tag port.memory (stage_at port.slots tag) (outcome_at port.outcomes tag)
     (stage ms tag) (answer ms tag) (payload ms tag)
 
 -- The port stands as a lawful list of steps, the newest first, leaves it, part by part.
-pub record PortAgrees (port : State) (o : Origin) (steps : List Step) : Type 0 where
+pub record PortAgrees (port : PortState) (o : Origin) (steps : List Step) : Type 0 where
   pub lawful : IsLawful o steps
   pub drive : DriveAgrees port.drive o (acts o steps)
   pub slots : length port.slots ≡ slot_count
@@ -44,12 +44,13 @@ pub record PortAgrees (port : State) (o : Origin) (steps : List Step) : Type 0 w
   pub failure : port.failed ≡ failed (trace o steps)
   pub tags : (tag : ℕ) → tag < slot_count → TagAgrees port (trace o steps) tag
   pub regs : port.regs ≡ registers (trace o steps)
-  pub received : IsReceived port.memory (sent (trace o steps))
+  pub received : IsReceived port.memory (sent_fises (trace o steps))
   pub history : port.history ≡ reverse (entries o steps)
   pub log : port.audit ≡ reverse (audit (trace o steps))
 
 -- Of steps, the oldest first, those before a place are done, and the one there is refused.
-pub record IsStopped (port : State) (o : Origin) (steps : List Step) (at : ℕ) (error : PortError)
+pub record IsStopped (port : PortState) (o : Origin) (steps : List Step) (at : ℕ)
+    (error : PortError)
     (list : List Step) : Type 0 where
   pub within : at < length steps
   pub before : PortAgrees port o (reverse (take at steps) ++ list)
@@ -61,17 +62,17 @@ pub record IsStopped (port : State) (o : Origin) (steps : List Step) (at : ℕ) 
 -- refused, the port agrees with one step more; the number that it gives is that of the step; and it
 -- is refused as the rules say.
 
-abbrev pub MakesStep : {A E : Type 0} → State → State → Step → Result A E → Type 0
+abbrev pub MakesStep : {A E : Type 0} → PortState → PortState → Step → Result A E → Type 0
 MakesStep old new step result =
     OnOk result ((o : Origin) (list : List Step) → PortAgrees old o list
     → PortAgrees new o (step ∷ list))
 
-abbrev pub NumbersStep : {E : Type 0} → State → Result ℕ E → Type 0
+abbrev pub NumbersStep : {E : Type 0} → PortState → Result ℕ E → Type 0
 NumbersStep old result =
     IfOk result (λ n. (o : Origin) (list : List Step) → PortAgrees old o list
     → n ≡ 1 + length (trace o list))
 
-abbrev pub RefusesStep : {A : Type 0} → State → Step → Result A PortError → Type 0
+abbrev pub RefusesStep : {A : Type 0} → PortState → Step → Result A PortError → Type 0
 RefusesStep old step result =
     (o : Origin) (list : List Step) → PortAgrees old o list
     → IsRefusedBy (refusal (trace o list) step) result

@@ -1,6 +1,6 @@
 -- What a tag is answered, by its outcome and its buffer.
 use Rattle.std.specs.Prelude.{ℕ, Bool, List, take, slice_index_or, Option, Some, None, unwrap_or, if◌then◌else◌}
-use Rattle.slots.specs.Layout.{part, buffer_place, buffer_size}
+use Rattle.slots.specs.Layout.{memory_part, buffer_place, buffer_size}
 use Rattle.port_history.specs.declared.request.Answer.{Answer}
 use Rattle.port_history.specs.declared.request.Answer.TheVariants as answers
 use Rattle.port_history.specs.declared.stages.Stage.{Stage}
@@ -16,12 +16,12 @@ abbrev pub outcome_at : List (Option Outcome) → ℕ → Option Outcome
 outcome_at outcomes tag = slice_index_or outcomes tag None
 
 -- The first bytes of a slot's buffer.
-abbrev pub front : List ℕ → ℕ → ℕ → List ℕ
-front memory tag n = take n (part memory (buffer_place tag) buffer_size)
+abbrev pub buffer_front : List ℕ → ℕ → ℕ → List ℕ
+buffer_front memory tag n = take n (memory_part memory (buffer_place tag) buffer_size)
 
 -- The answer that an outcome stands for: its data are in the slot's buffer.
 abbrev pub answer_of : List ℕ → ℕ → Outcome → Answer
-answer_of memory tag (Done n) = answers.Done (front memory tag n)
+answer_of memory tag (Done n) = answers.Done (buffer_front memory tag n)
 answer_of memory tag (Failed status error) = answers.Failed status error
 answer_of memory tag Reset = answers.Reset
 

@@ -28,15 +28,15 @@ pub struct Built {
 
 impl Model for Built {
     ghost use Rattle.std.specs.Prelude.{◌≡◌, true};
-    ghost use Rattle.port_history.specs.Requests.{is_sized, command_of, command_fis};
-    ghost use Rattle.port.specs.Built.{Asked};
+    ghost use Rattle.port_history.specs.Requests.{is_sized, request_command, command_fis};
+    ghost use Rattle.port.specs.Built.{BuiltRequest};
 
-    ghost Value = { Asked };
+    ghost Value = { BuiltRequest };
 
     ghost view = { λ b. record { tag = b.tag; request = b.request } };
 
     ghost invariant = { λ b. (is_sized b.request ≡ true)
-        × (b.fis ≡ command_fis (command_of b.request) b.tag) };
+        × (b.fis ≡ command_fis (request_command b.request) b.tag) };
 }
 
 impl Built {

@@ -37,7 +37,7 @@ impl Port {
     ghost use Rattle.port_history.specs.Steps.{trace};
     ghost use Rattle.port.specs.Agreement.{PortAgrees};
     ghost use Rattle.port.specs.Answers.{stage_at};
-    ghost use Rattle.port.specs.State.{is_full, refusal_on};
+    ghost use Rattle.port.specs.State.{is_history_full, refusal_on};
 
     /// Whether the step would not be refused for another cause than memory.
     pub fn may(&self, step: &Step) -> bool
@@ -67,8 +67,8 @@ impl Port {
 
     /// There is room for a step.
     fn room(&self) -> Result<(), PortError>
-        ensures { MatchResult result (λ _. is_full self.now ≡ false)
-            (λ e. (is_full self.now ≡ true) × (e ≡ PortError.HistoryFull)) }
+        ensures { MatchResult result (λ _. is_history_full self.now ≡ false)
+            (λ e. (is_history_full self.now ≡ true) × (e ≡ PortError.HistoryFull)) }
     {
         if self.history.len() >= MOST_STEPS {
             return Err(PortError::HistoryFull);
@@ -78,9 +78,10 @@ impl Port {
 
     /// There is room for a step, and no command has failed.
     fn running(&self) -> Result<(), PortError>
-        ensures { MatchResult result (λ _. (is_full self.now ≡ false) × (self.now.failed ≡ None))
-            (λ e. ((is_full self.now ≡ true) × (e ≡ PortError.HistoryFull))
-            ⊎ ((is_full self.now ≡ false) × (is_some self.now.failed ≡ true)
+        ensures { MatchResult result (λ _. (is_history_full self.now ≡ false) × (self.now.failed
+            ≡ None))
+            (λ e. ((is_history_full self.now ≡ true) × (e ≡ PortError.HistoryFull))
+            ⊎ ((is_history_full self.now ≡ false) × (is_some self.now.failed ≡ true)
             × (e ≡ PortError.Failed))) }
     {
         self.room()?;

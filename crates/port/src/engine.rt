@@ -12,7 +12,7 @@ impl Port {
     ghost use Rattle.port_history.specs.declared.step.EngineStep.TheVariants as engine;
     ghost use Rattle.port_history.specs.declared.step.Step.{Step};
     ghost use Rattle.port_history.specs.declared.step.Step.TheVariants as steps;
-    ghost use Rattle.port_history.specs.Ready.{those, ready_steps, ready, chosen, with_step, as_step, count};
+    ghost use Rattle.port_history.specs.Ready.{those, ready_steps, engine_ready, chosen, with_step, as_step, count_passing};
     ghost use Rattle.port_history.specs.Refusals.{refusal, IsRefusedBy};
     ghost use Rattle.port_history.specs.Steps.{trace};
     ghost use Rattle.port.specs.Agreement.{PortAgrees, IsStopped, MakesStep, NumbersStep, RefusesStep};
@@ -88,16 +88,17 @@ impl Port {
     /// `OutOfMemory`. The port is then as before.
     pub fn turn(&mut self, choice: usize) -> Result<Option<u64>, PortError>
         ensures agrees { OnOk result ((o : Origin) (list : List Step) → PortAgrees self.old o list
-            → PortAgrees self.new o (with_step (chosen choice (ready o list)) list)) }
+            → PortAgrees self.new o (with_step (chosen choice (engine_ready o list)) list)) }
         ensures number { IfOk result (λ n. (o : Origin) (list : List Step)
             → PortAgrees self.old o list
-            → n ≡ option_map (λ _. 1 + length (trace o list)) (chosen choice (ready o list))) }
+            → n ≡ option_map (λ _. 1 + length (trace o list)) (chosen choice
+            (engine_ready o list))) }
         ensures idle { (o : Origin) (list : List Step) → PortAgrees self.old o list
-            → ready o list ≡ []
+            → engine_ready o list ≡ []
             → (result ≡ Ok None) × (self.new ≡ self.old) }
         ensures none { (o : Origin) (list : List Step) → PortAgrees self.old o list
             → result ≡ Ok None
-            → ready o list ≡ [] }
+            → engine_ready o list ≡ [] }
         ensures memory { IfErr result (λ e. (o : Origin) (list : List Step)
             → PortAgrees self.old o list
             → e ≡ PortError.OutOfMemory) }
@@ -113,7 +114,7 @@ impl Port {
     /// The step at `choice`, modulo their number, of those that are ready.
     fn pick(&self, choice: usize) -> Option<EngineStep>
         ensures { (o : Origin) (list : List Step) → PortAgrees self.now o list
-            → result ≡ chosen choice (ready o list) }
+            → result ≡ chosen choice (engine_ready o list) }
     {
         let ready = self.ready();
         let steps = ready.as_slice();
@@ -141,7 +142,7 @@ impl Port {
     /// The steps that the engine may do now: Issue, Accept, Complete and Recover, each by tag.
     pub fn ready(&self) -> ArrayVec<EngineStep, SLOT_COUNT>
         ensures { (o : Origin) (list : List Step) → PortAgrees self.now o list
-            → result.items ≡ ready o list }
+            → result.items ≡ engine_ready o list }
     {
         self.engine_steps()
     }
@@ -176,7 +177,7 @@ impl Port {
     /// Adds the tags that the device may take.
     fn add_accepts(&self, ready: &mut ArrayVec<EngineStep, SLOT_COUNT>)
         requires { length ready.old.items
-            ≡ count (λ t. is_none (refusal_on self.now (steps.Issue t))) slot_count }
+            ≡ count_passing (λ t. is_none (refusal_on self.now (steps.Issue t))) slot_count }
         ensures { ready.new.items ≡ ready.old.items
             ++ those engine.Accept (λ t. is_none (refusal_on self.now (steps.Accept t)))
             slot_count }
@@ -192,8 +193,8 @@ impl Port {
     /// Adds the tags that the device may complete.
     fn add_completes(&self, ready: &mut ArrayVec<EngineStep, SLOT_COUNT>)
         requires { length ready.old.items
-            ≡ count (λ t. is_none (refusal_on self.now (steps.Issue t))) slot_count
-            + count (λ t. is_none (refusal_on self.now (steps.Accept t))) slot_count }
+            ≡ count_passing (λ t. is_none (refusal_on self.now (steps.Issue t))) slot_count
+            + count_passing (λ t. is_none (refusal_on self.now (steps.Accept t))) slot_count }
         ensures { ready.new.items ≡ ready.old.items
             ++ those engine.Complete (λ t. is_none (refusal_on self.now (steps.Complete t)))
             slot_count }

@@ -2,10 +2,10 @@
 
 ghost use Rattle.std.specs.Prelude.{◌≡◌, ◌≤◌, ◌<◌, ◌^◌, ℕ, List, IfOk, IfSome, length, false, true};
 ghost use Rattle.fis.specs.Tags.{slot_count};
-ghost use Rattle.slots.specs.Layout.{laid, part, buffer_place, buffer_size};
+ghost use Rattle.slots.specs.Layout.{memory_with, memory_part, buffer_place, buffer_size};
 ghost use Rattle.trusted_cmds.specs.Commands.{lba_of, IsCounted};
 ghost use Rattle.port_history.specs.Requests.{command_fis, log_fis, to_device, bytes_moved};
-ghost use Rattle.port.specs.Answers.{front, answer_of};
+ghost use Rattle.port.specs.Answers.{buffer_front, answer_of};
 ghost use Rattle.port.specs.Host.{IsLaid, AreSameButReceived, AreSameButBuffer, AreSameButSlot};
 ghost use Rattle.port.specs.State.{Receives, IsFilled};
 
@@ -28,7 +28,7 @@ pub(crate) fn receive(memory: &mut PortMemory, fises: &[Fis])
 
 /// The first bytes of a slot's buffer, or all of them where there are not so many.
 pub(crate) fn front(memory: &PortMemory, tag: Tag, len: usize) -> &[u8]
-    ensures value { result.now ≡ front memory.now tag len }
+    ensures value { result.now ≡ buffer_front memory.now tag len }
     ensures len { len ≤ buffer_size → length result.now ≡ len }
 {
     let buffer = memory.buffer(tag);
@@ -67,7 +67,7 @@ pub(crate) fn take_in(
 /// Stores data in a slot's buffer.
 fn fill(memory: &mut PortMemory, tag: Tag, bytes: &[u8])
     requires { length bytes.now ≤ buffer_size }
-    ensures filled { front memory.new tag (length bytes.now) ≡ bytes.now }
+    ensures filled { buffer_front memory.new tag (length bytes.now) ≡ bytes.now }
     ensures elsewhere { AreSameButBuffer memory.old memory.new tag }
 {
     write_buffer(memory, tag, bytes);
@@ -75,8 +75,8 @@ fn fill(memory: &mut PortMemory, tag: Tag, bytes: &[u8])
 
 fn write_buffer(memory: &mut PortMemory, tag: Tag, bytes: &[u8])
     requires { length bytes.now ≤ buffer_size }
-    ensures exact { memory.new ≡ laid memory.old (buffer_place tag) bytes.now }
-    ensures long { length (part memory.old (buffer_place tag) buffer_size) ≡ buffer_size }
+    ensures exact { memory.new ≡ memory_with memory.old (buffer_place tag) bytes.now }
+    ensures long { length (memory_part memory.old (buffer_place tag) buffer_size) ≡ buffer_size }
 {
     overlay(memory.buffer_mut(tag), bytes);
 }
@@ -84,7 +84,7 @@ fn write_buffer(memory: &mut PortMemory, tag: Tag, bytes: &[u8])
 /// Lays bytes over the first ones.
 fn overlay(buffer: &mut [u8], bytes: &[u8])
     requires { length bytes.now ≤ length buffer.old }
-    ensures { buffer.new ≡ laid buffer.old 0 bytes.now }
+    ensures { buffer.new ≡ memory_with buffer.old 0 bytes.now }
 {
     buffer[..bytes.len()].copy_from_slice(bytes);
 }

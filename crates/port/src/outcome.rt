@@ -2,7 +2,7 @@
 
 ghost use Rattle.std.specs.Prelude.{◌≡◌};
 ghost use Rattle.port.specs.Answers.{outcome_after_reset, outcome_recovered};
-ghost use Rattle.port.specs.State.{fails, executed_outcome, outcome_then};
+ghost use Rattle.port.specs.State.{has_error_status, executed_outcome, outcome_then};
 
 use drive::Accepted;
 
@@ -19,7 +19,8 @@ pub enum Outcome {
 
 /// The outcome of a command that was executed whole, with so many bytes for the host.
 fn executed(answer: &Accepted, len: usize) -> Outcome
-    ensures { result ≡ executed_outcome (fails answer.now) answer.now.status answer.now.error len }
+    ensures { result ≡ executed_outcome
+        (has_error_status answer.now) answer.now.status answer.now.error len }
 {
     let (status, error) = (answer.status, answer.error);
     if answer.has_failed() {

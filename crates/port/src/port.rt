@@ -27,9 +27,9 @@ pub struct Port {
 }
 
 impl Model for Port {
-    ghost use Rattle.port.specs.State.{State};
+    ghost use Rattle.port.specs.State.{PortState};
 
-    ghost Value = { State };
+    ghost Value = { PortState };
 
     ghost view = { λ p. record {
       drive = p.drive;

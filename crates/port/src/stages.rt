@@ -3,7 +3,7 @@
 ghost use Rattle.std.specs.Prelude.{◌≡◌, ◌<◌, ◌==◌, ℕ, List, length, slice_index, Option, Some, None};
 ghost use Rattle.fis.specs.Tags.{slot_count};
 ghost use Rattle.history.specs.Decisions.{any_below};
-ghost use Rattle.port_history.specs.Stages.{keeps_back, is_out, mixes_put, recovered, after_reset, is_pending, accepted_stage};
+ghost use Rattle.port_history.specs.Stages.{keeps_back, is_out, mixes_put, recovered, stage_after_reset, is_pending, accepted_stage};
 ghost use Rattle.port_history.specs.Steps.{is_tag};
 ghost use Rattle.port.specs.Answers.{stage_at, outcome_at, outcome_after_reset, outcome_recovered};
 ghost use Rattle.port.specs.State.{failed_then, named_in};
@@ -163,7 +163,7 @@ fn recovered(has_failed: bool, stage: Stage) -> Stage
 
 /// The stage after a reset.
 fn after_reset(stage: Stage) -> Stage
-    ensures { result ≡ after_reset stage }
+    ensures { result ≡ stage_after_reset stage }
 {
     match stage {
         Stage::Prepared(put) | Stage::Issued(put) | Stage::Accepted(put) => Stage::Answered(put),
@@ -208,7 +208,7 @@ pub(crate) fn reset_slots(
     outcomes: &mut [Option<Outcome>; SLOT_COUNT],
 )
     ensures stages { (tag : ℕ) → tag < slot_count → stage_at slots.new tag
-        ≡ after_reset (stage_at slots.old tag) }
+        ≡ stage_after_reset (stage_at slots.old tag) }
     ensures len { (length slots.new ≡ slot_count) × (length outcomes.new ≡ slot_count) }
     ensures outcomes { (tag : ℕ) → tag < slot_count → outcome_at outcomes.new tag
         ≡ outcome_after_reset (is_pending (stage_at slots.old tag)) (outcome_at outcomes.old tag) }

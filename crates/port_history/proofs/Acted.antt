@@ -22,10 +22,10 @@ use Rattle.history.specs.Quiet.{is_quiet, IsQuiet}
 use Rattle.history.specs.Facts.{Facts, facts}
 use Rattle.history.specs.Decisions.{not_found, aborted, fails, refuses, fails_queue, on_drive, verdict_on, holds, queued_by, admitted, unqueued_by, is_trusted, is_session_com_id, discovery_com_id, received, is_busy, resets, unqueued_of, known_of, commanded_of}
 use Rattle.history.specs.Tcg.{data_read}
-use Rattle.history.specs.Answers.{answer_fis, pio_fis, ready, failed, is_holding, answer_fises, fises_read, answer_data_of, data_read_of}
+use Rattle.history.specs.Answers.{answer_fis, pio_fis, ready, errored, is_holding, answer_fises, fises_read, answer_data_of, data_read_of}
 use Rattle.history.specs.History.{Accept as AcceptFis, event_by, event_in}
 use Rattle.port_history.specs.Requests.{command_fis, log_fis, blocks_moved, bytes_moved}
-use Rattle.port_history.specs.Stages.{is_queued}
+use Rattle.port_history.specs.Stages.{is_queued_command}
 use Rattle.port_history.specs.Steps.{Effect, effect_by, effect_in}
 use Rattle.port_history.proofs.Fises.{fis_back, reads, read_as}
 use Rattle.port_history.proofs.Sizes.{sector_length, data-fits}
@@ -62,7 +62,7 @@ commands_of (ReadLog10 dma) tag = refl
 commands_of Flush tag = refl
 
 code_of : (command : Command) (tag : ℕ)
-    → is_queued_code (fis_of command tag).command ≡ is_queued command
+    → is_queued_code (fis_of command tag).command ≡ is_queued_command command
 code_of (ReadQueued lba count) tag = refl
 code_of (WriteQueued lba count) tag = refl
 code_of (ReadDma lba count) tag = refl
@@ -104,7 +104,7 @@ comes-to items f h payload commands mended unmixed =
 -- A FIS of the port comes to its command: past the failure of the queue and the mixing of queues.
 pub event_is : (items : Items) (o : Origin) (past : List Event) (command : Command) (tag : ℕ) (bytes : List ℕ)
     → tag < 32 → IsSized command → failure past ≡ None
-    → (is_busy (facts o past) && not (is_queued command)) ≡ false
+    → (is_busy (facts o past) && not (is_queued_command command)) ≡ false
     → event_in items (facts o past) (AcceptFis (command_fis command tag) bytes)
     ≡ known_of items (facts o past) (fis_of command tag) bytes
     (Ok (read_as command, tag_with command tag))
@@ -147,7 +147,7 @@ held_effect tag command v = record {
 abbrev pub failed_effect : ℕ → Command → ℕ → Option Why → Effect
 failed_effect tag command error denied = record {
   event = fails_queue (Some tag) error (fis_of command tag) denied;
-  fises = answer_fis true failed error ∷ [];
+  fises = answer_fis true errored error ∷ [];
   bytes = [];
 }
 
@@ -174,7 +174,7 @@ placed-either h tag command v true = queued_by-either h tag command v
 placed-either h tag command v false = EventFailed not_found None refl
 
 known-either : (items : Items) (f : Facts) (h : RegH2d) (bytes : List ℕ) (command : Command) (tag : ℕ)
-    → is_queued command ≡ true → f.held tag ≡ None
+    → is_queued_command command ≡ true → f.held tag ≡ None
     → IsEither tag command h (known_of items f h bytes (Ok (read_as command, tag_with command tag)))
 known-either items f h bytes (ReadQueued lba count) tag queued free =
     rw (free) (placed-either h tag (ReadQueued lba count) (verdict_on f Read lba count)
@@ -191,7 +191,7 @@ known-either items f h bytes (ReadLog10 dma) tag queued free = absurd cc
 known-either items f h bytes Flush tag queued free = absurd cc
 
 -- no data come with a tag
-no-data : (items : Items) (f : Facts) (command : Command) (tag : ℕ) → is_queued command ≡ true
+no-data : (items : Items) (f : Facts) (command : Command) (tag : ℕ) → is_queued_command command ≡ true
     → data_read_of items f (Ok (read_as command, tag_with command tag)) ≡ []
 no-data items f (ReadQueued lba count) tag queued = refl
 no-data items f (WriteQueued lba count) tag queued = refl
@@ -205,7 +205,7 @@ no-data items f Flush tag queued = absurd cc
 
 -- The FIS of a queued command, on a free tag.
 pub queued_effect : (items : Items) (o : Origin) (past : List Event) (command : Command) (tag : ℕ) (bytes : List ℕ)
-    → tag < 32 → IsSized command → is_queued command ≡ true → failure past ≡ None
+    → tag < 32 → IsSized command → is_queued_command command ≡ true → failure past ≡ None
     → held past tag ≡ None
     → IsHeldOrFailed tag command
     (effect_in items (facts o past) (AcceptFis (command_fis command tag) bytes))
@@ -219,7 +219,7 @@ queued_effect items o past command tag bytes lt sized queued mended free =
     fis : List ℕ
     fis = command_fis command tag
 
-    unmixed : (is_busy f && not (is_queued command)) ≡ false
+    unmixed : (is_busy f && not (is_queued_command command)) ≡ false
     unmixed = ap (λ (b : Bool). is_busy f && not b) queued ∙ and-false (is_busy f)
       where
         and-false : (b : Bool) → (b && false) ≡ false
@@ -263,7 +263,7 @@ is_of_queue (Took com_id) = false
 is_of_queue (WasReset kind) = false
 
 abbrev pub executed_fis : Command → Option ℕ → Fis
-executed_fis command (Some error) = answer_fis true failed error
+executed_fis command (Some error) = answer_fis true errored error
 executed_fis Identify None = pio_fis true ready
 executed_fis command None = answer_fis true ready 0
 
@@ -358,7 +358,7 @@ failure_stays (Took com_id) past quiet none = refl
 failure_stays (WasReset kind) past quiet none = sym none
 
 known-unqueued : (items : Items) (f : Facts) (h : RegH2d) (bytes : List ℕ) (command : Command) (tag : ℕ)
-    → is_queued command ≡ false
+    → is_queued_command command ≡ false
     → known_of items f h bytes (Ok (read_as command, tag_with command tag))
     ≡ unqueued_of items f bytes (read_as command)
 known-unqueued items f h bytes (ReadQueued lba count) tag unqueued = absurd cc
@@ -371,7 +371,7 @@ known-unqueued items f h bytes Identify tag unqueued = refl
 known-unqueued items f h bytes (ReadLog10 dma) tag unqueued = refl
 known-unqueued items f h bytes Flush tag unqueued = refl
 
-served-fis : (command : Command) (tag : ℕ) → is_queued command ≡ false → is_asked command ≡ true
+served-fis : (command : Command) (tag : ℕ) → is_queued_command command ≡ false → is_asked command ≡ true
     → fises_read (Ok (read_as command, tag_with command tag)) ≡ executed_fis command None ∷ []
 served-fis (ReadQueued lba count) tag unqueued asked = absurd cc
 served-fis (WriteQueued lba count) tag unqueued asked = absurd cc
@@ -386,7 +386,7 @@ served-fis (ReadLog10 dma) tag unqueued asked = absurd cc
 served-fis Flush tag unqueued asked = refl
 
 failed-fis : (command : Command) (error : ℕ)
-    → answer_fis true failed error ∷ [] ≡ executed_fis command (Some error) ∷ []
+    → answer_fis true errored error ∷ [] ≡ executed_fis command (Some error) ∷ []
 failed-fis (ReadQueued lba count) error = refl
 failed-fis (WriteQueued lba count) error = refl
 failed-fis (ReadDma lba count) error = refl
@@ -397,7 +397,7 @@ failed-fis Identify error = refl
 failed-fis (ReadLog10 dma) error = refl
 failed-fis Flush error = refl
 
-read-data : (f : Facts) (command : Command) (tag : ℕ) → is_queued command ≡ false
+read-data : (f : Facts) (command : Command) (tag : ℕ) → is_queued_command command ≡ false
     → ((s : ℕ) → length (f.sector s) ≡ 512)
     → length (data_read f (Ok (read_as command, tag_with command tag))) ≤ bytes_moved command
 read-data f (ReadQueued lba count) tag unqueued whole = absurd cc
@@ -414,7 +414,7 @@ read-data f Flush tag unqueued whole = data-fits f Flush whole
 
 fises-by : (command : Command) (fis : List ℕ) (read : List Fis) (d : Deed) (e : Option ℕ)
     → is_holding d ≡ false → read ≡ executed_fis command None ∷ []
-    → (if is_some e then answer_fis true failed (unwrap_or e 0) ∷ []
+    → (if is_some e then answer_fis true errored (unwrap_or e 0) ∷ []
     else (if is_holding d then answer_fis false ready 0 ∷ [] else read))
     ≡ executed_fis command e ∷ []
 fises-by command fis read d (Some error) quiet is = failed-fis command error
@@ -428,7 +428,7 @@ bytes-by read n None le = le
 
 -- The FIS of a command that is not queued, while nothing is held.
 pub executed_effect : (items : Items) (still : IsQuiet items) (o : Origin) (past : List Event) (command : Command) (tag : ℕ)
-    (bytes : List ℕ) → tag < 32 → IsSized command → is_queued command ≡ false
+    (bytes : List ℕ) → tag < 32 → IsSized command → is_queued_command command ≡ false
     → failure past ≡ None → is_busy (facts o past) ≡ false
     → ((t : ℕ) → held past t ≡ None)
     → IsExecuted past command (effect_in items (facts o past) (AcceptFis (command_fis command tag) bytes))
@@ -452,7 +452,7 @@ executed_effect items still o past command tag bytes lt sized unqueued_is mended
     is : event_in items f (AcceptFis fis bytes) ≡ unqueued_of items f bytes (read_as command)
     is =
         event_is items o past command tag bytes lt sized mended
-        (ap (λ (b : Bool). b && not (is_queued command)) idle)
+        (ap (λ (b : Bool). b && not (is_queued_command command)) idle)
         ∙ known-unqueued items f (fis_of command tag) bytes command tag unqueued_is
 
     quiet : is_of_queue (event_in items f (AcceptFis fis bytes)).deed ≡ false
@@ -460,7 +460,7 @@ executed_effect items still o past command tag bytes lt sized unqueued_is mended
 
 -- By the items of this drive it gives no more data than it asks for.
 pub executed_bytes : (o : Origin) (past : List Event) (command : Command) (tag : ℕ)
-    (bytes : List ℕ) → tag < 32 → IsSized command → is_queued command ≡ false
+    (bytes : List ℕ) → tag < 32 → IsSized command → is_queued_command command ≡ false
     → length (effect_by (facts o past) (AcceptFis (command_fis command tag) bytes)).bytes
     ≤ bytes_moved command
 executed_bytes o past command tag bytes lt sized unqueued_is =

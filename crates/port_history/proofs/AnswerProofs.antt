@@ -8,7 +8,7 @@ use Rattle.port_history.specs.declared.stages.Put.{Put}
 use Rattle.port_history.specs.declared.stages.Stage.{Stage}
 use Rattle.port_history.specs.declared.stages.Stage.TheVariants.{Free, Prepared, Issued, Accepted, Answered}
 use Rattle.port_history.specs.declared.step.Step.TheVariants as steps
-use Rattle.port_history.specs.Stages.{is_queued, is_answered, is_pending, to, accepted_stage, recovered, after_reset}
+use Rattle.port_history.specs.Stages.{is_queued_command, is_answered, is_pending, to, accepted_stage, recovered, stage_after_reset}
 use Rattle.port_history.specs.Steps.{Effect, Moment, trace_of, stage, failed, is_tag, answer, executed_answer, recovered_answer}
 use Rattle.port_history.specs.Laws.{AnswerLaw}
 use Rattle.port_history.proofs.Tests.{some_is, was_true, none_holds, tests_of, issued_is}
@@ -41,10 +41,10 @@ issued true s x had is = absurd (clash (sym is ∙ issued_unanswered s))
 issued false s x had is = had is
 
 -- what an acceptance answers
-accepted_here : (put : Put) (e : Effect) (b : Bool) → is_queued put.command ≡ b
+accepted_here : (put : Put) (e : Effect) (b : Bool) → is_queued_command put.command ≡ b
     → (x : Option Answer)
     → is_answered (accepted_stage put) ≡ true
-    → is_some (unwrap_or (if is_queued put.command then None else executed_answer (Some e)) x)
+    → is_some (unwrap_or (if is_queued_command put.command then None else executed_answer (Some e)) x)
     ≡ true
 accepted_here put e true queued x is =
     absurd (clash (sym is
@@ -59,12 +59,12 @@ accepted_other : (u tag : ℕ) (b : Bool) → (u == tag) ≡ b → (put : Put) (
     → (u ≡ tag → s ≡ Issued put) → (x : Option Answer)
     → (is_answered s ≡ true → is_some x ≡ true)
     → is_answered (if b then to accepted_stage s else s) ≡ true
-    → is_some (unwrap_or (if b then (if is_queued put.command then None
+    → is_some (unwrap_or (if b then (if is_queued_command put.command then None
     else executed_answer (Some e)) else None) x)
     ≡ true
 accepted_other u tag false at put e s was x had is = had is
 accepted_other u tag true at put e s was x had is =
-    accepted_here put e (is_queued put.command) refl x
+    accepted_here put e (is_queued_command put.command) refl x
     (sym (ap (λ (y : Stage). is_answered (to accepted_stage y)) (was (eqb-true u tag at))) ∙ is)
 
 completed : (b : Bool) (next s : Stage) (bytes : List ℕ) (x : Option Answer)
@@ -87,7 +87,7 @@ recovered_one true f s x had is = refl
 recovered_one false f s x had is = had (still_answered s is)
 
 stopped : (s : Stage) (x : Option Answer) → (is_answered s ≡ true → is_some x ≡ true)
-    → is_answered (after_reset s) ≡ true
+    → is_answered (stage_after_reset s) ≡ true
     → is_some (unwrap_or (if is_pending s then Some (Some answers.Reset) else None) x) ≡ true
 stopped Free x had is = absurd cc
 stopped (Prepared put) x had is = refl

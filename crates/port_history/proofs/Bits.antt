@@ -6,8 +6,8 @@ use Rattle.std.proofs.lemmas.Nat.Bits.{bit_at_or, bit_at_and, bit_at-pow_same, b
 use Rattle.hba_regs.specs.Registers.{Regs, without}
 use Rattle.trusted_cmds.specs.declared.command.Command.{Command}
 use Rattle.trusted_cmds.specs.declared.command.Command.TheVariants.{ReadQueued, WriteQueued, ReadDma, WriteDma, Send, Receive, Identify, ReadLog10, Flush}
-use Rattle.history.specs.Answers.{answer_fis, pio_fis, setup_fis, moved_fis, fises_of, ready, failed}
-use Rattle.port_history.specs.Stages.{is_queued}
+use Rattle.history.specs.Answers.{answer_fis, pio_fis, setup_fis, moved_fis, fises_of, ready, errored}
+use Rattle.port_history.specs.Stages.{is_queued_command}
 use Rattle.port_history.specs.Registers.{raised, with_task, no_more_issued, shown, all_shown, task_error_bit, register_bit, pio_setup_bit, device_bits_bit, carried}
 use Rattle.port_history.proofs.Acted.{executed_fis}
 
@@ -86,10 +86,10 @@ ready-words tag regs interrupt =
 
 -- one that does not
 pub failed-words : (tag : ℕ) (regs : Regs) (error : ℕ)
-    → HasWords (shown tag regs (answer_fis true failed error)) regs.active regs.issued
+    → HasWords (shown tag regs (answer_fis true errored error)) regs.active regs.issued
 failed-words tag regs error =
-    raised-words register_bit true (with_task failed error regs) regs.active regs.issued
-    (task-words failed error regs)
+    raised-words register_bit true (with_task errored error regs) regs.active regs.issued
+    (task-words errored error regs)
 
 pio-words : (tag : ℕ) (regs : Regs)
     → HasWords (shown tag regs (pio_fis true ready)) regs.active (without regs.issued (2 ^ tag))
@@ -136,7 +136,7 @@ pair-words tag regs to_host count =
       issued_is = h.issued_is;
     }
 
-pub completed-words : (tag : ℕ) (regs : Regs) (command : Command) → is_queued command ≡ true
+pub completed-words : (tag : ℕ) (regs : Regs) (command : Command) → is_queued_command command ≡ true
     → HasWords (all_shown tag regs (fises_of tag command)) (without regs.active (2 ^ tag))
     regs.issued
 completed-words tag regs (ReadQueued lba count) queued = pair-words tag regs true (512 * count)

@@ -16,7 +16,7 @@ use Rattle.port_history.specs.declared.stages.Put.{Put}
 use Rattle.port_history.specs.declared.step.Step.{Step}
 use Rattle.port_history.specs.declared.step.Step.TheVariants as steps
 use Rattle.port_history.specs.Requests.{command_fis}
-use Rattle.port_history.specs.Stages.{is_queued, put_in}
+use Rattle.port_history.specs.Stages.{is_queued_command, put_at}
 use Rattle.port_history.specs.Steps.{effect_by, trace, events, event_before, stage, failed, payload, acceptance, accept_payload, act_of, act_before, acts}
 use Rattle.port_history.specs.Refusals.{IsLawful}
 use Rattle.port_history.specs.Laws.{FedLaw}
@@ -63,12 +63,12 @@ length-brought false command bytes e = e
 pub accept_fed : (put : Put) (u : ℕ) (bytes : List ℕ) → IsFit put.command bytes
     → length (accept_payload put bytes) ≡ payload_of (command_fis put.command u)
 accept_fed put u bytes fit =
-    length-brought (is_queued put.command) put.command bytes fit.brings
+    length-brought (is_queued_command put.command) put.command bytes fit.brings
     ∙ sym (fis_brings put.command u
     ∙ payload_is put.command u fit.sized.counted fit.sized.most)
 
 -- what comes with the completion of one
-pub expected-brought : (command : Command) → is_queued command ≡ true
+pub expected-brought : (command : Command) → is_queued_command command ≡ true
     → expected_by command ≡ brought command
 expected-brought (ReadQueued lba count) queued = refl
 expected-brought (WriteQueued lba count) queued = refl
@@ -90,7 +90,7 @@ step_fed o (steps.Accept u) before h =
     let t = none_holds (tests_of ms (steps.Accept u)) h.1 in
     let p = issued_is (stage ms u) t.1.1.0 in
     subst (λ (x : Option Put). IsFedBy (facts o (events ms)) (acceptance u x (payload ms u)))
-    (sym (ap put_in p.1))
+    (sym (ap put_at p.1))
     (accept_fed p.0 u (payload ms u) (fit_issued ms u p.0 (kept tcg tcg_quiet o before h.2) p.1))
 step_fed o (steps.Complete u) before h =
     let ms = trace o before in

@@ -11,7 +11,7 @@ use Rattle.trusted_cmds.specs.Commands.{reading, fis_with, fis_of, tag_with, pay
 use Rattle.history.specs.Answers.{payload_of}
 use Rattle.history.proofs.Payloads.{payload-of-command}
 use Rattle.port_history.specs.Requests.{fis_bytes, command_fis, log_fis, to_device, blocks_moved, bytes_moved}
-use Rattle.port_history.specs.Stages.{is_queued}
+use Rattle.port_history.specs.Stages.{is_queued_command}
 
 -- a list of 20 bytes
 listed : (xs : List ℕ) → length xs ≡ 20
@@ -174,7 +174,7 @@ reads (ReadLog10 true) tag lt counted most = refl
 reads (ReadLog10 false) tag lt counted most = refl
 reads Flush tag lt counted most = refl
 
-pub read_as-queued : (command : Command) → is_queued (read_as command) ≡ is_queued command
+pub read_as-queued : (command : Command) → is_queued_command (read_as command) ≡ is_queued_command command
 read_as-queued (ReadQueued lba count) = refl
 read_as-queued (WriteQueued lba count) = refl
 read_as-queued (ReadDma lba count) = refl
@@ -203,7 +203,7 @@ brought command = if to_device command then bytes_moved command else 0
 
 -- As many as its FIS asks for, where it is not queued.
 pub payload_is : (command : Command) (tag : ℕ) → IsCounted command → blocks_moved command ≤ 256
-    → payload_length (fis_of command tag) ≡ (if is_queued command then 0 else brought command)
+    → payload_length (fis_of command tag) ≡ (if is_queued_command command then 0 else brought command)
 payload_is (ReadQueued lba count) tag counted most = refl
 payload_is (WriteQueued lba count) tag counted most = refl
 payload_is (ReadDma lba count) tag counted most = refl

@@ -10,7 +10,7 @@ use Rattle.locking.specs.declared.ranges.Verdict.{Verdict}
 use Rattle.trusted_cmds.specs.declared.command.Command.{Command}
 use Rattle.trusted_cmds.specs.declared.command.Command.TheVariants as commands
 use Rattle.trusted_cmds.specs.Commands.{lba_of}
-use Rattle.history.specs.Resets.{kind_of}
+use Rattle.history.specs.Resets.{reset_kind_number}
 use Rattle.history.specs.declared.reset.ResetKind.{ResetKind}
 use Rattle.history.specs.Events.{HeldCommand, Event, WasReset, did, or_else, latest}
 use Rattle.history.specs.Decisions.{any_below, completed_by, holds}
@@ -22,8 +22,8 @@ use Rattle.port_history.specs.declared.stages.Stage.{Stage}
 use Rattle.port_history.specs.declared.stages.Stage.TheVariants.{Free, Prepared, Issued, Accepted, Answered}
 use Rattle.port_history.specs.declared.step.Step.{Step}
 use Rattle.port_history.specs.declared.step.Step.TheVariants as steps
-use Rattle.port_history.specs.Requests.{is_sized, is_address, are_blocks, are_whole, command_of, payload_of}
-use Rattle.port_history.specs.Stages.{is_queued, to, put_in, is_out, accepted_stage, recovered, after_reset, keeps_back, mixes, mixes_put}
+use Rattle.port_history.specs.Requests.{is_sized, is_address, are_blocks, are_whole, request_command, request_payload}
+use Rattle.port_history.specs.Stages.{is_queued_command, to, put_at, is_out, accepted_stage, recovered, stage_after_reset, keeps_back, mixes, mixes_put}
 use Rattle.port_history.specs.Steps.{Effect, Moment, events, stage, failed, is_tag, put_of, payload}
 use Rattle.port_history.proofs.Fises.{brought}
 use Rattle.port_history.proofs.Acted.{IsSized, IsExecuted, held_effect, failed_effect, mended_effect}
@@ -46,7 +46,7 @@ pub record IsFit (command : Command) (bytes : List ℕ) : Type 0 where
 
 -- What is accepted and not answered is queued.
 pub record IsHere (command : Command) (bytes : List ℕ) : Type 0 where
-  pub queued : is_queued command ≡ true
+  pub queued : is_queued_command command ≡ true
   pub fit : IsFit command bytes
 
 abbrev pub FitsStage : Stage → List ℕ → Type 0
@@ -60,7 +60,7 @@ FitsStage (Answered put) bytes = IsFit put.command bytes
 abbrev pub is_single : Stage → Bool
 is_single Free = false
 is_single (Prepared put) = false
-is_single (Issued put) = not (is_queued put.command)
+is_single (Issued put) = not (is_queued_command put.command)
 is_single (Accepted put) = false
 is_single (Answered put) = false
 
@@ -196,7 +196,7 @@ an-address : (lba : ℕ) → nat_lt lba (2 ^ 48) ≡ true → lba < 2 ^ 48
 an-address lba e = grind (arith, nat_tests)
 
 fit_of : (request : Request) → is_sized request ≡ true
-    → IsFit (command_of request) (payload_of request)
+    → IsFit (request_command request) (request_payload request)
 fit_of (Read lba count) e =
     let p = both (are_blocks count) (is_address lba) e in
     let n = are-blocks count p.0 in
@@ -329,7 +329,7 @@ single_out (Issued put) e = refl
 single_out (Accepted put) e = absurd cc
 single_out (Answered put) e = absurd cc
 
-alone_queued : (u : ℕ) (stages : ℕ → Stage) (put : Put) → is_queued put.command ≡ true
+alone_queued : (u : ℕ) (stages : ℕ → Stage) (put : Put) → is_queued_command put.command ≡ true
     → any_below (λ tag. keeps_back put.number (stages tag)) slot_count ≡ false → AreAlone stages
     → AreAlone (λ t. if u == t then Issued put else stages t)
 alone_queued u stages put queued unmixed alone tag other lt lo single apart =
@@ -364,9 +364,9 @@ alone_single u stages put unmixed tag other lt lo single apart =
 
 alone_issue : (u : ℕ) (stages : ℕ → Stage) (put : Put) → mixes_put stages (Some put) ≡ false
     → AreAlone stages → AreAlone (λ t. if u == t then Issued put else stages t)
-alone_issue u stages put unmixed alone = by_kind (is_queued put.command) refl
+alone_issue u stages put unmixed alone = by_kind (is_queued_command put.command) refl
   where
-    by_kind : (b : Bool) → is_queued put.command ≡ b
+    by_kind : (b : Bool) → is_queued_command put.command ≡ b
         → AreAlone (λ t. if u == t then Issued put else stages t)
     by_kind true is =
         alone_queued u stages put is
@@ -382,7 +382,7 @@ alone_issue u stages put unmixed alone = by_kind (is_queued put.command) refl
 
 pub kept_issue : (ms : List Moment) (u : ℕ) (put : Put) → u < 32 → Kept ms → stage ms u ≡ Prepared put
     → mixes (stage ms) (stage ms u) ≡ false
-    → Kept (quiet_moment (steps.Issue u) (put_in (stage ms u)) ∷ ms)
+    → Kept (quiet_moment (steps.Issue u) (put_at (stage ms u)) ∷ ms)
 kept_issue ms u put lu k was unmixed = record {
   queue = λ t.
       k.queue t
@@ -429,13 +429,13 @@ abbrev pub accept_moment : ℕ → Put → Effect → Moment
 accept_moment u put e = record { step = steps.Accept u; served = Some put; effect = Some e }
 
 -- the stage of a command that the device has taken
-queued_here : (s : Stage) (put : Put) → s ≡ Issued put → is_queued put.command ≡ true
+queued_here : (s : Stage) (put : Put) → s ≡ Issued put → is_queued_command put.command ≡ true
     → to accepted_stage s ≡ Accepted put
 queued_here s put e queued =
     ap (to accepted_stage) e
     ∙ ap (λ (b : Bool). if b then Accepted put else Answered put) queued
 
-unqueued_here : (s : Stage) (put : Put) → s ≡ Issued put → is_queued put.command ≡ false
+unqueued_here : (s : Stage) (put : Put) → s ≡ Issued put → is_queued_command put.command ≡ false
     → to accepted_stage s ≡ Answered put
 unqueued_here s put e unqueued =
     ap (to accepted_stage) e
@@ -443,7 +443,7 @@ unqueued_here s put e unqueued =
 
 -- the stages after a queued command is accepted
 pub accepted_moves : (ms : List Moment) (u t : ℕ) (put : Put) → stage ms u ≡ Issued put
-    → is_queued put.command ≡ true
+    → is_queued_command put.command ≡ true
     → (if u == t then Accepted put else stage ms t)
     ≡ (if u == t then to accepted_stage (stage ms t) else stage ms t)
 accepted_moves ms u t put was queued =
@@ -452,7 +452,7 @@ accepted_moves ms u t put was queued =
 
 -- and after another one
 pub executed_moves : (ms : List Moment) (u t : ℕ) (put : Put) → stage ms u ≡ Issued put
-    → is_queued put.command ≡ false
+    → is_queued_command put.command ≡ false
     → (if u == t then Answered put else stage ms t)
     ≡ (if u == t then to accepted_stage (stage ms t) else stage ms t)
 executed_moves ms u t put was unqueued =
@@ -464,7 +464,7 @@ fit_here : (ms : List Moment) (u : ℕ) (put : Put) → Kept ms → stage ms u �
 fit_here ms u put k was = subst (λ (s : Stage). FitsStage s (payload ms u)) was (k.fit u)
 
 accept_fit : (ms : List Moment) (u : ℕ) (put : Put) → Kept ms → stage ms u ≡ Issued put
-    → is_queued put.command ≡ true → (t : ℕ)
+    → is_queued_command put.command ≡ true → (t : ℕ)
     → FitsStage (if u == t then to accepted_stage (stage ms t) else stage ms t) (payload ms t)
 accept_fit ms u put k was queued t =
     subst (λ (s : Stage). FitsStage s (payload ms t)) (accepted_moves ms u t put was queued)
@@ -472,7 +472,7 @@ accept_fit ms u put k was queued t =
     (record { queued = queued; fit = fit_here ms u put k was }) (k.fit t))
 
 accept_alone : (ms : List Moment) (u : ℕ) (put : Put) → u < 32 → Kept ms
-    → stage ms u ≡ Issued put → is_queued put.command ≡ true
+    → stage ms u ≡ Issued put → is_queued_command put.command ≡ true
     → AreAlone (λ t. if u == t then to accepted_stage (stage ms t) else stage ms t)
 accept_alone ms u put lu k was queued =
     alone_same (λ t. if u == t then Accepted put else stage ms t) (λ t. if u == t
@@ -481,7 +481,7 @@ accept_alone ms u put lu k was queued =
     (alone_move u (stage ms) (Accepted put) lu refl (λ e. ap is_out was) k.alone)
 
 accept_slots : (ms : List Moment) (u : ℕ) (put : Put) → u < 32 → Kept ms
-    → stage ms u ≡ Issued put → is_queued put.command ≡ true → (t : ℕ)
+    → stage ms u ≡ Issued put → is_queued_command put.command ≡ true → (t : ℕ)
     → is_out (if u == t then to accepted_stage (stage ms t) else stage ms t) ≡ true → t < 32
 accept_slots ms u put lu k was queued t e =
     out_move u t (stage ms) (Accepted put) lu (k.slots t)
@@ -499,7 +499,7 @@ held_now u t command v past =
 
 pub failed_held : (ms : List Moment) (u : ℕ) (put : Put) (v : Verdict)
     → failed (accept_moment u put (held_effect u put.command v) ∷ ms) ≡ failed ms
-failed_held ms u put v = by_kind (is_queued put.command)
+failed_held ms u put v = by_kind (is_queued_command put.command)
   where
     by_kind : (b : Bool) → unwrap_or (if b && false then Some (Some u) else None) (failed ms)
         ≡ failed ms
@@ -507,13 +507,13 @@ failed_held ms u put v = by_kind (is_queued put.command)
     by_kind false = refl
 
 pub failed_failed : (ms : List Moment) (u : ℕ) (put : Put) (error : ℕ) (denied : Option Why)
-    → is_queued put.command ≡ true
+    → is_queued_command put.command ≡ true
     → failed (accept_moment u put (failed_effect u put.command error denied) ∷ ms) ≡ Some u
 failed_failed ms u put error denied queued =
     ap (λ (b : Bool). unwrap_or (if b && true then Some (Some u) else None) (failed ms)) queued
 
 pub failed_executed : (ms : List Moment) (u : ℕ) (put : Put) (e : Effect)
-    → is_queued put.command ≡ false → failed (accept_moment u put e ∷ ms) ≡ failed ms
+    → is_queued_command put.command ≡ false → failed (accept_moment u put e ∷ ms) ≡ failed ms
 failed_executed ms u put e unqueued =
     ap
     (λ (b : Bool). unwrap_or (if b && is_some e.event.failed then Some (Some u) else None)
@@ -521,7 +521,7 @@ failed_executed ms u put e unqueued =
     unqueued
 
 pub kept_held : (ms : List Moment) (u : ℕ) (put : Put) (v : Verdict) → u < 32 → Kept ms
-    → failed ms ≡ None → stage ms u ≡ Issued put → is_queued put.command ≡ true
+    → failed ms ≡ None → stage ms u ≡ Issued put → is_queued_command put.command ≡ true
     → Kept (accept_moment u put (held_effect u put.command v) ∷ ms)
 kept_held ms u put v lu k mended was queued =
     let m : Moment = accept_moment u put (held_effect u put.command v) in
@@ -549,7 +549,7 @@ kept_held ms u put v lu k mended was queued =
     ]
 
 pub kept_failed : (ms : List Moment) (u : ℕ) (put : Put) (error : ℕ) (denied : Option Why)
-    → u < 32 → Kept ms → stage ms u ≡ Issued put → is_queued put.command ≡ true
+    → u < 32 → Kept ms → stage ms u ≡ Issued put → is_queued_command put.command ≡ true
     → Kept (accept_moment u put (failed_effect u put.command error denied) ∷ ms)
 kept_failed ms u put error denied lu k was queued =
     let m : Moment = accept_moment u put (failed_effect u put.command error denied) in
@@ -567,7 +567,7 @@ kept_failed ms u put error denied lu k was queued =
     same_tag t e = cc
 
 pub kept_executed : (ms : List Moment) (u : ℕ) (put : Put) (e : Effect) → u < 32 → Kept ms
-    → stage ms u ≡ Issued put → is_queued put.command ≡ false
+    → stage ms u ≡ Issued put → is_queued_command put.command ≡ false
     → IsExecuted (events ms) put.command e
     → Kept (accept_moment u put e ∷ ms)
 kept_executed ms u put e lu k was unqueued done =
@@ -725,14 +725,14 @@ kept_recover ms f found k was = record {
 
 -- Reset.
 
-reset_quiet : (s : Stage) → held_by None (after_reset s) ≡ None
+reset_quiet : (s : Stage) → held_by None (stage_after_reset s) ≡ None
 reset_quiet Free = refl
 reset_quiet (Prepared put) = refl
 reset_quiet (Issued put) = refl
 reset_quiet (Accepted put) = refl
 reset_quiet (Answered put) = refl
 
-reset_fit : (s : Stage) (bytes : List ℕ) → FitsStage s bytes → FitsStage (after_reset s) bytes
+reset_fit : (s : Stage) (bytes : List ℕ) → FitsStage s bytes → FitsStage (stage_after_reset s) bytes
 reset_fit Free bytes h = h
 reset_fit (Prepared put) bytes h = h
 reset_fit (Issued put) bytes h = h
@@ -740,7 +740,7 @@ reset_fit (Accepted put) bytes h = h.fit
 reset_fit (Answered put) bytes h = h
 
 -- nothing is out after a reset
-pub reset_in : (s : Stage) → is_out (after_reset s) ≡ false
+pub reset_in : (s : Stage) → is_out (stage_after_reset s) ≡ false
 reset_in Free = refl
 reset_in (Prepared put) = refl
 reset_in (Issued put) = refl
@@ -748,7 +748,7 @@ reset_in (Accepted put) = refl
 reset_in (Answered put) = refl
 
 abbrev pub reset_effect : ResetKind → Effect
-reset_effect kind = record { event = did (WasReset (kind_of kind)); fises = []; bytes = [] }
+reset_effect kind = record { event = did (WasReset (reset_kind_number kind)); fises = []; bytes = [] }
 
 abbrev pub reset_moment : ℕ → ResetKind → Moment
 reset_moment client kind = record {

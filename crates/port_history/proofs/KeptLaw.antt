@@ -23,7 +23,7 @@ use Rattle.port_history.specs.declared.stages.Stage.TheVariants.{Free, Prepared,
 use Rattle.port_history.specs.declared.step.Step.{Step}
 use Rattle.port_history.specs.declared.step.Step.TheVariants as steps
 use Rattle.port_history.specs.Requests.{command_fis, log_fis, bytes_moved, most_blocks}
-use Rattle.port_history.specs.Stages.{is_queued, is_out, put_in}
+use Rattle.port_history.specs.Stages.{is_queued_command, is_out, put_at}
 use Rattle.port_history.specs.Steps.{Effect, Moment, trace, events, stage, failed, payload, acceptance, accept_payload, effect_in, moment_of, trace_of}
 use Rattle.port_history.specs.Refusals.{AreLawful}
 use Rattle.port_history.specs.Laws.{NeverMixes, FailureLaw, IsUnmixed}
@@ -53,7 +53,7 @@ accept_is items o ms u put was =
       effect = option_map
           (effect_in items (facts o (events ms))) (acceptance u p (payload ms u));
     })
-    (ap put_in was)
+    (ap put_at was)
 
 pub complete_is : (items : Items) (o : Origin) (ms : List Moment) (u : ℕ) (put : Put) → stage ms u ≡ Accepted put
     → moment_of items o ms (steps.Complete u) ≡ complete_moment u put (completed_effect items o ms u)
@@ -65,7 +65,7 @@ complete_is items o ms u put was =
       effect = Some
           (completed_effect items o ms u);
     })
-    (ap put_in was)
+    (ap put_at was)
 
 -- What the queue keeps, of a port that has not failed.
 
@@ -98,7 +98,7 @@ in_quiet None (Answered put) e = refl
 
 -- where a command is issued that is not queued, nothing is held
 pub nothing_held : (ms : List Moment) (u : ℕ) (put : Put) → u < 32 → Kept ms
-    → stage ms u ≡ Issued put → is_queued put.command ≡ false → (t : ℕ)
+    → stage ms u ≡ Issued put → is_queued_command put.command ≡ false → (t : ℕ)
     → held (events ms) t ≡ None
 nothing_held ms u put lu k was unqueued t =
     elim (cases_eq u t) [
@@ -117,7 +117,7 @@ nothing_held ms u put lu k was unqueued t =
         in_quiet (failed ms) (stage ms t) (k.alone u t lu (k.slots t is) single apart)
 
 pub idle : (o : Origin) (ms : List Moment) (u : ℕ) (put : Put) → u < 32 → Kept ms
-    → stage ms u ≡ Issued put → is_queued put.command ≡ false
+    → stage ms u ≡ Issued put → is_queued_command put.command ≡ false
     → is_busy (facts o (events ms)) ≡ false
 idle o ms u put lu k was unqueued =
     none_below (λ t. is_some (held (events ms) t)) 32
@@ -133,7 +133,7 @@ fit_accepted ms u put k was = subst (λ (s : Stage). FitsStage s (payload ms u))
 
 -- An issued command of the queue is held, or fails the queue by its tag.
 pub queued_comes : (items : Items) (o : Origin) (ms : List Moment) (u : ℕ) (put : Put) → u < 32 → Kept ms
-    → failed ms ≡ None → stage ms u ≡ Issued put → is_queued put.command ≡ true
+    → failed ms ≡ None → stage ms u ≡ Issued put → is_queued_command put.command ≡ true
     → IsHeldOrFailed u put.command (accepted_effect items o ms u put)
 queued_comes items o ms u put lu k mended was queued =
     queued_effect items o (events ms) put.command u (accept_payload put (payload ms u)) lu
@@ -141,7 +141,7 @@ queued_comes items o ms u put lu k mended was queued =
 
 -- Another one is executed.
 pub unqueued_comes : (items : Items) (still : IsQuiet items) (o : Origin) (ms : List Moment) (u : ℕ) (put : Put) → u < 32 → Kept ms
-    → failed ms ≡ None → stage ms u ≡ Issued put → is_queued put.command ≡ false
+    → failed ms ≡ None → stage ms u ≡ Issued put → is_queued_command put.command ≡ false
     → IsExecuted (events ms) put.command (accepted_effect items o ms u put)
 unqueued_comes items still o ms u put lu k mended was unqueued =
     executed_effect items still o (events ms) put.command u (accept_payload put (payload ms u)) lu
@@ -151,15 +151,15 @@ unqueued_comes items still o ms u put lu k mended was unqueued =
 kept_accept : (items : Items) (still : IsQuiet items) (o : Origin) (ms : List Moment) (u : ℕ) (put : Put) → u < 32 → Kept ms
     → failed ms ≡ None → stage ms u ≡ Issued put → Kept (moment_of items o ms (steps.Accept u) ∷ ms)
 kept_accept items still o ms u put lu k mended was =
-    rw (accept_is items o ms u put was) (by_kind (is_queued put.command) refl)
+    rw (accept_is items o ms u put was) (by_kind (is_queued_command put.command) refl)
   where
-    by_effect : (e : Effect) → is_queued put.command ≡ true → IsHeldOrFailed u put.command e
+    by_effect : (e : Effect) → is_queued_command put.command ≡ true → IsHeldOrFailed u put.command e
         → Kept (accept_moment u put e ∷ ms)
     by_effect e queued (IsHeld v made) = rw made (kept_held ms u put v lu k mended was queued)
     by_effect e queued (IsFailed error denied made) =
         rw made (kept_failed ms u put error denied lu k was queued)
 
-    by_kind : (b : Bool) → is_queued put.command ≡ b
+    by_kind : (b : Bool) → is_queued_command put.command ≡ b
         → Kept (accept_moment u put (accepted_effect items o ms u put) ∷ ms)
     by_kind true queued =
         by_effect (accepted_effect items o ms u put) queued
@@ -245,7 +245,7 @@ most command n sized le = omega (arith, sized.most, le)
 pub accepted_bytes : (o : Origin) (ms : List Moment) (u : ℕ) (put : Put) → u < 32 → Kept ms
     → failed ms ≡ None → stage ms u ≡ Issued put
     → length (accepted_effect tcg o ms u put).bytes ≤ sector_size * most_blocks
-accepted_bytes o ms u put lu k mended was = by_kind (is_queued put.command) refl
+accepted_bytes o ms u put lu k mended was = by_kind (is_queued_command put.command) refl
   where
     by_effect : (e : Effect) → IsHeldOrFailed u put.command e
         → length e.bytes ≤ sector_size * most_blocks
@@ -254,7 +254,7 @@ accepted_bytes o ms u put lu k mended was = by_kind (is_queued put.command) refl
     by_effect e (IsFailed error denied made) =
         subst (λ (x : Effect). length x.bytes ≤ sector_size * most_blocks) (sym made) (omega arith)
 
-    by_kind : (b : Bool) → is_queued put.command ≡ b
+    by_kind : (b : Bool) → is_queued_command put.command ≡ b
         → length (accepted_effect tcg o ms u put).bytes ≤ sector_size * most_blocks
     by_kind true queued =
         by_effect (accepted_effect tcg o ms u put) (queued_comes tcg o ms u put lu k mended was queued)
@@ -361,7 +361,7 @@ never_mixes o (steps.Accept u) before h fis bytes e =
     let p = issued_is (stage ms u) t.1.1.0 in
     let same : command_fis p.0.command u ≡ fis =
     same_fis (command_fis p.0.command u) (accept_payload p.0 (payload ms u)) fis bytes
-    (ap (λ (x : Option Put). acceptance u x (payload ms u)) (ap put_in (sym p.1)) ∙ e) in
+    (ap (λ (x : Option Put). acceptance u x (payload ms u)) (ap put_at (sym p.1)) ∙ e) in
     inl (subst (λ (xs : List ℕ). IsUnmixed o (events ms) xs) same
     (unmixed_fis o ms u p.0 (ltb-true u 32 h.0) (kept tcg tcg_quiet o before h.2)
     (none_is (failed ms) t.1.0) p.1))

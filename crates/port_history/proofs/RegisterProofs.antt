@@ -10,7 +10,7 @@ use Rattle.hba_regs.specs.Registers.{Regs, without}
 use Rattle.audit.specs.declared.reason.Why.{Why}
 use Rattle.locking.specs.declared.ranges.Verdict.{Verdict}
 use Rattle.history.specs.Opening.{Origin}
-use Rattle.history.specs.Answers.{answer_fis, ready, failed as failed_status}
+use Rattle.history.specs.Answers.{answer_fis, ready, errored as failed_status}
 use Rattle.history.specs.Tcg.{tcg}
 use Rattle.history.proofs.QuietProofs.{tcg_quiet}
 use Rattle.port_history.specs.declared.stages.Put.{Put}
@@ -18,7 +18,7 @@ use Rattle.port_history.specs.declared.stages.Stage.{Stage}
 use Rattle.port_history.specs.declared.stages.Stage.TheVariants.{Free, Prepared, Issued, Accepted, Answered}
 use Rattle.port_history.specs.declared.step.Step.{Step}
 use Rattle.port_history.specs.declared.step.Step.TheVariants as steps
-use Rattle.port_history.specs.Stages.{is_queued, is_queued_put, is_active, is_issued, is_out, put_in, to, recovered, after_reset}
+use Rattle.port_history.specs.Stages.{is_queued_command, is_queued_put, is_active, is_issued, is_out, put_at, to, recovered, stage_after_reset}
 use Rattle.port_history.specs.Steps.{Effect, Moment, trace, events, stage, failed, is_tag, has_failed}
 use Rattle.port_history.specs.Registers.{registers, with_issue, all_shown, shown, restarted_if}
 use Rattle.port_history.specs.Refusals.{IsLawful}
@@ -60,7 +60,7 @@ moved-bits active issued u tag stages next f a i h =
 -- the bits of a tag that is not issued, nor accepted
 no-bits : (tag : ℕ) (s : Stage) → is_out s ≡ false → AreBits 0 0 tag s None
 no-bits tag s none = record {
-  of_active = bit_at-zero tag ∙ sym (ap (λ (b : Bool). bit (b && is_queued_put (put_in s))) none);
+  of_active = bit_at-zero tag ∙ sym (ap (λ (b : Bool). bit (b && is_queued_put (put_at s))) none);
   of_issued = bit_at-zero tag ∙ sym (ap (λ (b : Bool). bit (b || false)) (in-issued s none));
 }
   where
@@ -99,20 +99,20 @@ by-tag P u tag stages next here apart =
 -- Issue.
 issue-bits : (active issued u tag : ℕ) (put : Put) (stages : ℕ → Stage) (f : Option ℕ)
     → stages u ≡ Prepared put → AreBits active issued tag (stages tag) f
-    → AreBits (if is_queued put.command then bit_or active (2 ^ u) else active)
+    → AreBits (if is_queued_command put.command then bit_or active (2 ^ u) else active)
     (bit_or issued (2 ^ u)) tag (if u == tag then Issued put else stages tag) f
 issue-bits active issued u tag put stages f was h =
     by-tag
-    (λ (k : ℕ) (s : Stage). AreBits (if is_queued put.command then bit_or active (2 ^ u)
+    (λ (k : ℕ) (s : Stage). AreBits (if is_queued_command put.command then bit_or active (2 ^ u)
     else active) (bit_or issued (2 ^ u)) k s f)
     u tag stages (Issued put)
     (λ same. record {
-      of_active = by_kind (is_queued put.command) (at-it active issued u tag stages
+      of_active = by_kind (is_queued_command put.command) (at-it active issued u tag stages
           (Prepared put) f same was h).of_active;
       of_issued = or_same issued u;
     })
     (λ other. record {
-      of_active = apart (is_queued put.command) other;
+      of_active = apart (is_queued_command put.command) other;
       of_issued = or_other issued u tag other ∙ h.of_issued;
     })
   where
@@ -165,7 +165,7 @@ failing-bits active issued u tag put stages was h =
 
 -- where it is executed
 executed-bits : (active issued u tag : ℕ) (put : Put) (stages : ℕ → Stage) → u < 32 → tag < 32
-    → stages u ≡ Issued put → is_queued put.command ≡ false
+    → stages u ≡ Issued put → is_queued_command put.command ≡ false
     → AreBits active issued tag (stages tag) None
     → AreBits active (without issued (2 ^ u)) tag (if u == tag then Answered put else stages tag)
     None
@@ -211,15 +211,15 @@ bits_issue o ms u tag put was h =
     (λ (x : Option Put). AreBits (with_issue u (is_queued_put x) (registers ms)).active
     (with_issue u (is_queued_put x) (registers ms)).issued tag (if u == tag
     then to Issued (stage ms tag) else stage ms tag) (failed ms))
-    (sym (ap put_in was))
+    (sym (ap put_at was))
     (subst
-    (λ (s : Stage). AreBits (if is_queued put.command then bit_or (registers ms).active (2 ^ u)
+    (λ (s : Stage). AreBits (if is_queued_command put.command then bit_or (registers ms).active (2 ^ u)
     else (registers ms).active) (bit_or (registers ms).issued (2 ^ u)) tag s (failed ms))
     (moves (to Issued) u tag (stage ms) (Issued put) (ap (to Issued) was))
     (issue-bits (registers ms).active (registers ms).issued u tag put (stage ms) (failed ms) was h))
 
 bits_held : (ms : List Moment) (u tag : ℕ) (put : Put) (v : Verdict) → u < 32 → tag < 32
-    → failed ms ≡ None → stage ms u ≡ Issued put → is_queued put.command ≡ true → BitsOf ms tag
+    → failed ms ≡ None → stage ms u ≡ Issued put → is_queued_command put.command ≡ true → BitsOf ms tag
     → BitsOf (accept_moment u put (held_effect u put.command v) ∷ ms) tag
 bits_held ms u tag put v lu lt mended was queued h =
     let m : Moment = accept_moment u put (held_effect u put.command v) in
@@ -242,7 +242,7 @@ bits_held ms u tag put v lu lt mended was queued h =
     (subst (λ (f : Option ℕ). AreBits regs.active regs.issued tag (stage ms tag) f) mended h))))
 
 bits_failed : (ms : List Moment) (u tag : ℕ) (put : Put) (error : ℕ) (denied : Option Why)
-    → failed ms ≡ None → stage ms u ≡ Issued put → is_queued put.command ≡ true → BitsOf ms tag
+    → failed ms ≡ None → stage ms u ≡ Issued put → is_queued_command put.command ≡ true → BitsOf ms tag
     → BitsOf (accept_moment u put (failed_effect u put.command error denied) ∷ ms) tag
 bits_failed ms u tag put error denied mended was queued h =
     let m : Moment = accept_moment u put (failed_effect u put.command error denied) in
@@ -265,7 +265,7 @@ bits_failed ms u tag put error denied mended was queued h =
     (subst (λ (f : Option ℕ). AreBits regs.active regs.issued tag (stage ms tag) f) mended h))))
 
 executed-regs : (ms : List Moment) (u : ℕ) (put : Put) (e : Effect) (x : Option ℕ)
-    → is_queued put.command ≡ false → IsExecuted (events ms) put.command e
+    → is_queued_command put.command ≡ false → IsExecuted (events ms) put.command e
     → e.event.failed ≡ x
     → registers (accept_moment u put e ∷ ms)
     ≡ restarted_if (is_some x) (shown u (registers ms) (executed_fis put.command x))
@@ -283,7 +283,7 @@ executed-regs ms u put e x unqueued done is =
     is
 
 bits_executed : (ms : List Moment) (u tag : ℕ) (put : Put) (e : Effect) → u < 32 → tag < 32
-    → Kept ms → failed ms ≡ None → stage ms u ≡ Issued put → is_queued put.command ≡ false
+    → Kept ms → failed ms ≡ None → stage ms u ≡ Issued put → is_queued_command put.command ≡ false
     → IsExecuted (events ms) put.command e → BitsOf ms tag → BitsOf (accept_moment u put e ∷ ms) tag
 bits_executed ms u tag put e lu lt k mended was unqueued done h =
     by_answer e.event.failed refl
@@ -331,12 +331,12 @@ bits_accept : (o : Origin) (ms : List Moment) (u tag : ℕ) (put : Put) → u < 
     → BitsOf (Rattle.port_history.specs.Steps.moment o ms (steps.Accept u) ∷ ms) tag
 bits_accept o ms u tag put lu lt k mended was h =
     subst (λ (m : Moment). BitsOf (m ∷ ms) tag) (sym (accept_is tcg o ms u put was))
-    (by_kind (is_queued put.command) refl)
+    (by_kind (is_queued_command put.command) refl)
   where
     e : Effect
     e = accepted_effect tcg o ms u put
 
-    by_effect : is_queued put.command ≡ true → IsHeldOrFailed u put.command e
+    by_effect : is_queued_command put.command ≡ true → IsHeldOrFailed u put.command e
         → BitsOf (accept_moment u put e ∷ ms) tag
     by_effect queued (IsHeld v made) =
         subst (λ (x : Effect). BitsOf (accept_moment u put x ∷ ms) tag) (sym made)
@@ -345,7 +345,7 @@ bits_accept o ms u tag put lu lt k mended was h =
         subst (λ (x : Effect). BitsOf (accept_moment u put x ∷ ms) tag) (sym made)
         (bits_failed ms u tag put error denied mended was queued h)
 
-    by_kind : (b : Bool) → is_queued put.command ≡ b → BitsOf (accept_moment u put e ∷ ms) tag
+    by_kind : (b : Bool) → is_queued_command put.command ≡ b → BitsOf (accept_moment u put e ∷ ms) tag
     by_kind true queued = by_effect queued (queued_comes tcg o ms u put lu k mended was queued)
     by_kind false unqueued =
         bits_executed ms u tag put e lu lt k mended was unqueued
@@ -404,7 +404,7 @@ bits o (steps.Recover ∷ before) h tag lt =
     (no-bits tag (recovered (is_tag tag (failed ms)) (stage ms tag))
     (recovered_in (is_tag tag (failed ms)) (stage ms tag)))
 bits o (steps.Reset client kind ∷ before) h tag lt =
-    no-bits tag (after_reset (stage (trace o before) tag)) (reset_in (stage (trace o before) tag))
+    no-bits tag (stage_after_reset (stage (trace o before) tag)) (reset_in (stage (trace o before) tag))
 bits o (steps.Take client u ∷ before) h tag lt =
     let ms = trace o before in
     let t = none_holds (tests_of ms (steps.Take client u)) h.1 in

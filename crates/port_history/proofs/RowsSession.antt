@@ -14,7 +14,7 @@ use Rattle.device_data.specs.ErrorLog.{sized}
 use Rattle.shadow_mbr.specs.Stored.{zeros, sectors_from}
 use Rattle.tcg_tokens.specs.Lex.{first_lexeme}
 use Rattle.tcg_tokens.specs.Message.{Message}
-use Rattle.tcg_tokens.specs.Reading.{expect, number_at, uid_at, values_up_to, list_with, list_value_with, named_with, value_of, list_at, status_at, call_at, reply_at, message_at, reading as message_in}
+use Rattle.tcg_tokens.specs.Reading.{expect, number_at, uid_at, values_up_to, list_with, list_value_with, named_with, value_after_token, list_at, status_at, call_at, reply_at, message_at, reading as message_in}
 use Rattle.tcg_tokens.specs.Spelling.{number_spelling, bytes_spelling, item_spelling_of}
 use Rattle.tcg_tokens.specs.Tree as tree
 use Rattle.transactions.specs.Resets.{is_range}
@@ -54,10 +54,10 @@ locks =
 row_last : audit (trace locked (Accept 5 ∷ Issue 5 ∷ locks)) ≡
     (record { step = 18; client = 1; why = ReadLocked 200 1 2 })
     ∷ (record { step = 6; client = 1; why = ReadLocked 100 1 1 }) ∷ []
-unfolding locked told brings locks admin_sps admin_authorities locking_authorities admin_pins locking_pins locking_ranges locking_mbr_controls admin_aces authority_aces pin_aces range_aces mbr_aces this_sp_grants admin_grants authority_grants fixed_ace_gets user_ace_grants read_locked_ace_grants write_locked_ace_grants done_ace_grants pin_grants range_grants mbr_grants first_lexeme expect number_at uid_at values_up_to list_with list_value_with named_with value_of list_at status_at call_at reply_at message_at message_in number_spelling bytes_spelling any_below ranges_in verdict_of is_range listed_among cells_for zeros sectors_from authorities_of_locking any_to
+unfolding locked told brings locks admin_sps admin_authorities locking_authorities admin_pins locking_pins locking_ranges locking_mbr_controls admin_aces authority_aces pin_aces range_aces mbr_aces this_sp_grants admin_grants authority_grants fixed_ace_gets user_ace_grants read_locked_ace_grants write_locked_ace_grants done_ace_grants pin_grants range_grants mbr_grants first_lexeme expect number_at uid_at values_up_to list_with list_value_with named_with value_after_token list_at status_at call_at reply_at message_at message_in number_spelling bytes_spelling any_below ranges_in verdict_of is_range listed_among cells_for zeros sectors_from authorities_of_locking any_to
 row_last = refl
 
 -- Each step is lawful.
 row_lawful : are_lawful locked (Accept 5 ∷ Issue 5 ∷ locks) ≡ true
-unfolding are_lawful locked told brings locks admin_sps admin_authorities locking_authorities admin_pins locking_pins locking_ranges locking_mbr_controls admin_aces authority_aces pin_aces range_aces mbr_aces this_sp_grants admin_grants authority_grants fixed_ace_gets user_ace_grants read_locked_ace_grants write_locked_ace_grants done_ace_grants pin_grants range_grants mbr_grants first_lexeme expect number_at uid_at values_up_to list_with list_value_with named_with value_of list_at status_at call_at reply_at message_at message_in number_spelling bytes_spelling any_below ranges_in verdict_of is_range listed_among cells_for zeros sectors_from authorities_of_locking any_to
+unfolding are_lawful locked told brings locks admin_sps admin_authorities locking_authorities admin_pins locking_pins locking_ranges locking_mbr_controls admin_aces authority_aces pin_aces range_aces mbr_aces this_sp_grants admin_grants authority_grants fixed_ace_gets user_ace_grants read_locked_ace_grants write_locked_ace_grants done_ace_grants pin_grants range_grants mbr_grants first_lexeme expect number_at uid_at values_up_to list_with list_value_with named_with value_after_token list_at status_at call_at reply_at message_at message_in number_spelling bytes_spelling any_below ranges_in verdict_of is_range listed_among cells_for zeros sectors_from authorities_of_locking any_to
 row_lawful = refl

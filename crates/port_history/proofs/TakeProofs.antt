@@ -14,7 +14,7 @@ use Rattle.port_history.specs.declared.stages.Stage.TheVariants.{Free, Prepared,
 use Rattle.port_history.specs.declared.step.Step.{Step}
 use Rattle.port_history.specs.declared.step.Step.TheVariants as steps
 use Rattle.port_history.specs.Requests.{no_bytes}
-use Rattle.port_history.specs.Stages.{is_queued, put_in, to, accepted_stage, recovered, after_reset, is_answered, is_put_by}
+use Rattle.port_history.specs.Stages.{is_queued_command, put_at, to, accepted_stage, recovered, stage_after_reset, is_answered, is_put_by}
 use Rattle.port_history.specs.Steps.{trace, stage, failed, is_tag, answer}
 use Rattle.port_history.specs.Refusals.{first_refusal, most_steps}
 use Rattle.port_history.specs.Laws.{owner, TakeLaw, OwnLaw}
@@ -23,7 +23,7 @@ use Rattle.port_history.proofs.Tests.{some_is, was_true, none_holds, tests_of}
 
 -- The client of a stage's Put.
 abbrev client_in : Stage → Option ℕ
-client_in s = option_map (λ (put : Put). put.client) (put_in s)
+client_in s = option_map (λ (put : Put). put.client) (put_at s)
 
 -- a Put and a Take say it anew, of their slot
 said_anew : (b : Bool) (next s : Stage) (x : Option ℕ) → client_in s ≡ x
@@ -49,10 +49,10 @@ accepted_keeps : (b : Bool) (s : Stage)
     → client_in (if b then to accepted_stage s else s) ≡ client_in s
 accepted_keeps false s = refl
 accepted_keeps true Free = refl
-accepted_keeps true (Prepared put) = queued_or_not put (is_queued put.command)
-accepted_keeps true (Issued put) = queued_or_not put (is_queued put.command)
-accepted_keeps true (Accepted put) = queued_or_not put (is_queued put.command)
-accepted_keeps true (Answered put) = queued_or_not put (is_queued put.command)
+accepted_keeps true (Prepared put) = queued_or_not put (is_queued_command put.command)
+accepted_keeps true (Issued put) = queued_or_not put (is_queued_command put.command)
+accepted_keeps true (Accepted put) = queued_or_not put (is_queued_command put.command)
+accepted_keeps true (Answered put) = queued_or_not put (is_queued_command put.command)
 
 completed_keeps : (b : Bool) (s : Stage) → client_in (if b then to Answered s else s) ≡ client_in s
 completed_keeps false s = refl
@@ -71,7 +71,7 @@ recovered_keeps true (Accepted put) = refl
 recovered_keeps false (Accepted put) = refl
 recovered_keeps fails (Answered put) = refl
 
-reset_keeps : (s : Stage) → client_in (after_reset s) ≡ client_in s
+reset_keeps : (s : Stage) → client_in (stage_after_reset s) ≡ client_in s
 reset_keeps Free = refl
 reset_keeps (Prepared put) = refl
 reset_keeps (Issued put) = refl
@@ -101,7 +101,7 @@ owner_is o (steps.Take client u ∷ before) tag =
     (owner_is o before tag)
 
 -- a stage is put by a client where that is its client
-put_by_client : (client : ℕ) (s : Stage) → is_put_by client (put_in s) ≡ true
+put_by_client : (client : ℕ) (s : Stage) → is_put_by client (put_at s) ≡ true
     → client_in s ≡ Some client
 put_by_client client Free is = absurd cc
 put_by_client client (Prepared put) is = ap Some (eqb-true put.client client is)
@@ -113,7 +113,7 @@ same_client : (a client : ℕ) → Some a ≡ Some client → (a == client) ≡ 
 same_client a client is = let e : a ≡ client = cc in eq-eqb a client e
 
 client_put_by : (client : ℕ) (s : Stage) → client_in s ≡ Some client
-    → is_put_by client (put_in s) ≡ true
+    → is_put_by client (put_at s) ≡ true
 client_put_by client Free is = absurd cc
 client_put_by client (Prepared put) is = same_client put.client client is
 client_put_by client (Issued put) is = same_client put.client client is
@@ -125,7 +125,7 @@ take_law o client tag before h =
     let ms = trace o before in
     let t = none_holds (tests_of ms (steps.Take client tag)) h.1 in
     let answered = was_true (is_answered (stage ms tag)) t.1.0 in
-    let mine = was_true (is_put_by client (put_in (stage ms tag))) t.1.1.0 in
+    let mine = was_true (is_put_by client (put_at (stage ms tag))) t.1.1.0 in
     let a = some_is (answer ms tag) (answer_law tcg tcg_quiet o before h.2 tag answered) in
     record {
       owns = sym (owner_is o before tag) ∙ put_by_client client (stage ms tag) mine;
@@ -150,7 +150,7 @@ own_law o client tag before lawful within room owns answered =
     let ms = trace o before in (
       is_below tag slot_count within,
       unrefused (nat_lt (length ms) most_steps) (is_answered (stage ms tag))
-          (is_put_by client (put_in (stage ms tag))) (is_below (length ms) most_steps room) answered
+          (is_put_by client (put_at (stage ms tag))) (is_below (length ms) most_steps room) answered
           (client_put_by client (stage ms tag) (owner_is o before tag ∙ owns)),
       lawful,
     )

@@ -21,10 +21,10 @@ use Rattle.port_history.specs.declared.request.Answer.{Answer}
 use Rattle.port_history.specs.declared.step.Step.{Step}
 use Rattle.port_history.specs.declared.step.Step.TheVariants as steps
 use Rattle.port_history.specs.Refusals.{AreLawful, IsLawful, most_steps}
-use Rattle.port_history.specs.Ready.{ready}
+use Rattle.port_history.specs.Ready.{engine_ready}
 use Rattle.port_history.specs.Registers.{registers}
 use Rattle.port_history.specs.Requests.{log_fis}
-use Rattle.port_history.specs.Stages.{is_active, is_answered, is_issued, is_queued}
+use Rattle.port_history.specs.Stages.{is_active, is_answered, is_issued, is_queued_command}
 use Rattle.port_history.specs.Steps.{Moment, trace_of, trace, events, acts, stage, failed, is_tag, answer, act_of, reply}
 
 -- A FIS comes past the rules that stand before addresses, policy and security protocols: the queue
@@ -37,8 +37,8 @@ pub record IsUnmixed (o : Origin) (past : List Event) (fis : List ℕ) : Type 0 
   pub kind : slice_index fis 0 ≡ h2d_type
   pub carries : reading (h2d_at fis) ≡ Rattle.std.specs.Prelude.Ok (command, tag_with command tag)
   pub is_command : (h2d_at fis).is_command ≡ true
-  pub free : is_queued command ≡ true → held past tag ≡ None
-  pub alone : is_queued command ≡ false → is_busy (facts o past) ≡ false
+  pub free : is_queued_command command ≡ true → held past tag ≡ None
+  pub alone : is_queued_command command ≡ false → is_busy (facts o past) ≡ false
 
 -- Or it reads the log page of a queue that has failed.
 pub record IsRecovery (past : List Event) (fis : List ℕ) : Type 0 where
@@ -125,4 +125,4 @@ FedLaw = (o : Origin) (list : List Step) → IsLawful o list → AreFed o (acts 
 -- Where the history is full the engine may do nothing.
 abbrev pub FullLaw : Type 0
 FullLaw =
-    (o : Origin) (list : List Step) → most_steps ≤ length (trace o list) → ready o list ≡ []
+    (o : Origin) (list : List Step) → most_steps ≤ length (trace o list) → engine_ready o list ≡ []

@@ -23,8 +23,8 @@ ready_steps may =
     ++ (if may steps.Recover then engine.Recover ∷ [] else [])
 
 -- The lawful steps of the engine, after a list of steps.
-abbrev pub ready : Origin → List Step → List EngineStep
-ready o list = ready_steps (λ step. is_none (refusal (trace o list) step))
+abbrev pub engine_ready : Origin → List Step → List EngineStep
+engine_ready o list = ready_steps (λ step. is_none (refusal (trace o list) step))
 
 -- The one at a choice, modulo their number; none where there is none.
 abbrev pub chosen : ℕ → List EngineStep → Option EngineStep
@@ -42,6 +42,6 @@ with_step None list = list
 with_step (Some step) list = as_step step ∷ list
 
 -- How many of the tags below n pass.
-unfoldable pub count : (ℕ → Bool) → ℕ → ℕ
-count passes zero = 0
-count passes (suc n) = count passes n + (if passes n then 1 else 0)
+unfoldable pub count_passing : (ℕ → Bool) → ℕ → ℕ
+count_passing passes zero = 0
+count_passing passes (suc n) = count_passing passes n + (if passes n then 1 else 0)

@@ -11,7 +11,7 @@ use Rattle.port_history.specs.declared.stages.Stage.{Stage}
 use Rattle.port_history.specs.declared.step.Step.{Step}
 use Rattle.port_history.specs.declared.step.Step.TheVariants as steps
 use Rattle.port_history.specs.Requests.{is_sized}
-use Rattle.port_history.specs.Stages.{put_in, is_free, is_prepared, is_issued, is_accepted, is_answered, mixes, is_put_by}
+use Rattle.port_history.specs.Stages.{put_at, is_free, is_prepared, is_issued, is_accepted, is_answered, mixes, is_put_by}
 use Rattle.port_history.specs.Steps.{Moment, trace_of, stage, failed}
 
 -- The number by which a refusal is told.
@@ -53,7 +53,7 @@ tests full failed stages steps.Recover = (full, HistoryFull) ∷ (not failed, No
 tests full failed stages (steps.Reset client kind) = (full, HistoryFull) ∷ []
 tests full failed stages (steps.Take client tag) = (full, HistoryFull)
     ∷ (not (is_answered (stages tag)), NotAnswered)
-    ∷ (not (is_put_by client (put_in (stages tag))), NotYours) ∷ []
+    ∷ (not (is_put_by client (put_at (stages tag))), NotYours) ∷ []
 
 -- The first refusal that applies, memory apart.
 abbrev pub refusal_by : Bool → Bool → (ℕ → Stage) → Step → Option PortError

@@ -3,12 +3,12 @@
 use Rattle.std.specs.Prelude.{ℕ, ◌^◌, ◌%◌, ◌==◌, ◌&&◌, not, Bool, List, [], ◌∷◌, bit_and, bit_or, Option, if◌then◌else◌}
 use Rattle.fis.specs.declared.any.Fis.{Fis}
 use Rattle.fis.specs.declared.any.Fis.TheVariants as fises
-use Rattle.hba_regs.specs.Registers.{Regs, fresh, ready, without, started, stopped}
+use Rattle.hba_regs.specs.Registers.{Regs, start_registers, ready, without, after_start, stopped}
 use Rattle.port_history.specs.declared.stages.Put.{Put}
 use Rattle.port_history.specs.declared.step.Step.{Step}
 use Rattle.port_history.specs.declared.step.Step.TheVariants as steps
 use Rattle.port_history.specs.Stages.{is_queued_put}
-use Rattle.port_history.specs.Steps.{Effect, Moment, fises_of, has_failed}
+use Rattle.port_history.specs.Steps.{Effect, Moment, step_fises, has_failed}
 
 -- Bits of PxIS (3.3.5): a register FIS, a PIO Setup FIS, a DMA Setup FIS, a Set Device Bits FIS,
 -- each with its bit I; and a status with ERR.
@@ -91,7 +91,7 @@ with_issue tag queued regs = record regs {
 
 -- The port stops and starts: no command is issued.
 abbrev pub restarted : Regs → Regs
-restarted regs = started (stopped regs)
+restarted regs = after_start (stopped regs)
 
 -- It does so after a command that is not queued has failed.
 abbrev pub restarted_if : Bool → Regs → Regs
@@ -100,11 +100,11 @@ restarted_if fails regs = if fails then restarted regs else regs
 abbrev pub accepted_regs : ℕ → Option Put → Option Effect → Regs → Regs
 accepted_regs tag served effect regs =
     restarted_if (not (is_queued_put served) && has_failed effect)
-    (all_shown tag regs (fises_of effect))
+    (all_shown tag regs (step_fises effect))
 
 -- The log is read under tag 0, when no command is issued.
 abbrev pub recovered_regs : Option Effect → Regs → Regs
-recovered_regs effect regs = all_shown 0 (restarted regs) (fises_of effect)
+recovered_regs effect regs = all_shown 0 (restarted regs) (step_fises effect)
 
 -- After a reset the device is ready.
 abbrev pub reset_regs : Regs → Regs
@@ -114,12 +114,12 @@ abbrev pub regs_after : Option Put → Option Effect → Step → Regs → Regs
 regs_after served effect (steps.Put client slot request) regs = regs
 regs_after served effect (steps.Issue slot) regs = with_issue slot (is_queued_put served) regs
 regs_after served effect (steps.Accept slot) regs = accepted_regs slot served effect regs
-regs_after served effect (steps.Complete slot) regs = all_shown slot regs (fises_of effect)
+regs_after served effect (steps.Complete slot) regs = all_shown slot regs (step_fises effect)
 regs_after served effect steps.Recover regs = recovered_regs effect regs
 regs_after served effect (steps.Reset client kind) regs = reset_regs regs
 regs_after served effect (steps.Take client slot) regs = regs
 
 -- The registers after a list of steps.
 abbrev pub registers : List Moment → Regs
-registers [] = fresh
+registers [] = start_registers
 registers (m ∷ before) = regs_after m.served m.effect m.step (registers before)

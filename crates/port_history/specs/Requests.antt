@@ -21,26 +21,26 @@ abbrev pub blocks_in : List ℕ → ℕ
 blocks_in bytes = length bytes / sector_size
 
 -- The command of a request: trusted commands in their forms by DMA.
-abbrev pub command_of : Request → Command
-command_of (Read lba count) = commands.ReadQueued lba count
-command_of (ReadDma lba count) = commands.ReadDma lba count
-command_of (Write lba bytes) = commands.WriteQueued lba (blocks_in bytes)
-command_of (WriteDma lba bytes) = commands.WriteDma lba (blocks_in bytes)
-command_of (Send protocol com_id bytes) = commands.Send protocol com_id (blocks_in bytes) true
-command_of (Receive protocol com_id blocks) = commands.Receive protocol com_id blocks true
-command_of Identify = commands.Identify
-command_of Flush = commands.Flush
+abbrev pub request_command : Request → Command
+request_command (Read lba count) = commands.ReadQueued lba count
+request_command (ReadDma lba count) = commands.ReadDma lba count
+request_command (Write lba bytes) = commands.WriteQueued lba (blocks_in bytes)
+request_command (WriteDma lba bytes) = commands.WriteDma lba (blocks_in bytes)
+request_command (Send protocol com_id bytes) = commands.Send protocol com_id (blocks_in bytes) true
+request_command (Receive protocol com_id blocks) = commands.Receive protocol com_id blocks true
+request_command Identify = commands.Identify
+request_command Flush = commands.Flush
 
 -- The data that go to the device.
-abbrev pub payload_of : Request → List ℕ
-payload_of (Read lba count) = []
-payload_of (ReadDma lba count) = []
-payload_of (Write lba bytes) = bytes
-payload_of (WriteDma lba bytes) = bytes
-payload_of (Send protocol com_id bytes) = bytes
-payload_of (Receive protocol com_id blocks) = []
-payload_of Identify = []
-payload_of Flush = []
+abbrev pub request_payload : Request → List ℕ
+request_payload (Read lba count) = []
+request_payload (ReadDma lba count) = []
+request_payload (Write lba bytes) = bytes
+request_payload (WriteDma lba bytes) = bytes
+request_payload (Send protocol com_id bytes) = bytes
+request_payload (Receive protocol com_id blocks) = []
+request_payload Identify = []
+request_payload Flush = []
 
 -- 1 to 256 whole blocks, from an address of 48 bits on.
 abbrev pub is_address : ℕ → Bool

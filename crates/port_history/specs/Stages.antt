@@ -9,20 +9,20 @@ use Rattle.port_history.specs.declared.stages.Stage.{Stage}
 use Rattle.port_history.specs.declared.stages.Stage.TheVariants.{Free, Prepared, Issued, Accepted, Answered}
 
 -- The commands of the queue.
-abbrev pub is_queued : Command → Bool
-is_queued (ReadQueued lba count) = true
-is_queued (WriteQueued lba count) = true
-is_queued (ReadDma lba count) = false
-is_queued (WriteDma lba count) = false
-is_queued (Send protocol com_id blocks dma) = false
-is_queued (Receive protocol com_id blocks dma) = false
-is_queued Identify = false
-is_queued (ReadLog10 dma) = false
-is_queued Flush = false
+abbrev pub is_queued_command : Command → Bool
+is_queued_command (ReadQueued lba count) = true
+is_queued_command (WriteQueued lba count) = true
+is_queued_command (ReadDma lba count) = false
+is_queued_command (WriteDma lba count) = false
+is_queued_command (Send protocol com_id blocks dma) = false
+is_queued_command (Receive protocol com_id blocks dma) = false
+is_queued_command Identify = false
+is_queued_command (ReadLog10 dma) = false
+is_queued_command Flush = false
 
 abbrev pub is_queued_put : Option Put → Bool
 is_queued_put None = false
-is_queued_put (Some put) = is_queued put.command
+is_queued_put (Some put) = is_queued_command put.command
 
 -- The same Put at another stage.
 abbrev pub to : (Put → Stage) → Stage → Stage
@@ -32,12 +32,12 @@ to stage (Issued put) = stage put
 to stage (Accepted put) = stage put
 to stage (Answered put) = stage put
 
-abbrev pub put_in : Stage → Option Put
-put_in Free = None
-put_in (Prepared put) = Some put
-put_in (Issued put) = Some put
-put_in (Accepted put) = Some put
-put_in (Answered put) = Some put
+abbrev pub put_at : Stage → Option Put
+put_at Free = None
+put_at (Prepared put) = Some put
+put_at (Issued put) = Some put
+put_at (Accepted put) = Some put
+put_at (Answered put) = Some put
 
 abbrev pub is_free : Stage → Bool
 is_free Free = true
@@ -79,7 +79,7 @@ abbrev pub is_out : Stage → Bool
 is_out stage = is_issued stage || is_accepted stage
 
 abbrev pub is_active : Stage → Bool
-is_active stage = is_out stage && is_queued_put (put_in stage)
+is_active stage = is_out stage && is_queued_put (put_at stage)
 
 -- A reset stops it.
 abbrev pub is_pending : Stage → Bool
@@ -87,7 +87,7 @@ is_pending stage = is_prepared stage || is_out stage
 
 -- The device has accepted a command: a queued one is held until its completion, any other is done.
 abbrev pub accepted_stage : Put → Stage
-accepted_stage put = if is_queued put.command then Accepted put else Answered put
+accepted_stage put = if is_queued_command put.command then Accepted put else Answered put
 
 -- A recovery answers the command that failed, and gives the others that are out back to the port,
 -- with their numbers.
@@ -99,19 +99,19 @@ recovered has_failed (Accepted put) = if has_failed then Answered put else Prepa
 recovered has_failed (Answered put) = Answered put
 
 -- A reset answers all that wait.
-abbrev pub after_reset : Stage → Stage
-after_reset Free = Free
-after_reset (Prepared put) = Answered put
-after_reset (Issued put) = Answered put
-after_reset (Accepted put) = Answered put
-after_reset (Answered put) = Answered put
+abbrev pub stage_after_reset : Stage → Stage
+stage_after_reset Free = Free
+stage_after_reset (Prepared put) = Answered put
+stage_after_reset (Issued put) = Answered put
+stage_after_reset (Accepted put) = Answered put
+stage_after_reset (Answered put) = Answered put
 
 -- A command that is not queued keeps a queued one back while it is issued, and while it is prepared
 -- and was put before.
 abbrev pub keeps_back : ℕ → Stage → Bool
 keeps_back number Free = false
-keeps_back number (Prepared put) = not (is_queued put.command) && nat_lt put.number number
-keeps_back number (Issued put) = not (is_queued put.command)
+keeps_back number (Prepared put) = not (is_queued_command put.command) && nat_lt put.number number
+keeps_back number (Issued put) = not (is_queued_command put.command)
 keeps_back number (Accepted put) = false
 keeps_back number (Answered put) = false
 
@@ -120,11 +120,12 @@ keeps_back number (Answered put) = false
 abbrev pub mixes_put : (ℕ → Stage) → Option Put → Bool
 mixes_put stages None = false
 mixes_put stages (Some put) =
-    if is_queued put.command then any_below (λ tag. keeps_back put.number (stages tag)) slot_count
+    if is_queued_command put.command then any_below (λ tag. keeps_back put.number
+    (stages tag)) slot_count
     else any_below (λ tag. is_out (stages tag)) slot_count
 
 abbrev pub mixes : (ℕ → Stage) → Stage → Bool
-mixes stages stage = mixes_put stages (put_in stage)
+mixes stages stage = mixes_put stages (put_at stage)
 
 abbrev pub is_put_by : ℕ → Option Put → Bool
 is_put_by client None = false

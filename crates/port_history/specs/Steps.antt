@@ -4,7 +4,7 @@ use Rattle.std.specs.Prelude.{ℕ, ◌+◌, ◌&&◌, ◌==◌, Bool, false, ◌
 use Rattle.audit.specs.declared.reason.AuditLine.{AuditLine}
 use Rattle.device_data.specs.declared.log_page.Failure.{Failure}
 use Rattle.fis.specs.declared.any.Fis.{Fis}
-use Rattle.history.specs.Resets.{kind_of}
+use Rattle.history.specs.Resets.{reset_kind_number}
 use Rattle.history.specs.Answers.{status_of, accepted_fises, accepted_data_of, completed_fises, completed_data}
 use Rattle.history.specs.Items.{Items}
 use Rattle.history.specs.Tcg.{tcg}
@@ -23,8 +23,8 @@ use Rattle.port_history.specs.declared.stages.Stage.TheVariants.{Free, Prepared,
 use Rattle.port_history.specs.declared.step.Entry.{Entry}
 use Rattle.port_history.specs.declared.step.Step.{Step}
 use Rattle.port_history.specs.declared.step.Step.TheVariants as steps
-use Rattle.port_history.specs.Requests.{command_of, payload_of, command_fis, log_fis, no_bytes}
-use Rattle.port_history.specs.Stages.{is_queued, is_queued_put, to, put_in, accepted_stage, recovered, after_reset, is_pending}
+use Rattle.port_history.specs.Requests.{request_command, request_payload, command_fis, log_fis, no_bytes}
+use Rattle.port_history.specs.Stages.{is_queued_command, is_queued_put, to, put_at, accepted_stage, recovered, stage_after_reset, is_pending}
 
 -- What an act does on the drive, and what it gives: its event, its FISes in their order, and its
 -- data.
@@ -48,14 +48,14 @@ abbrev pub events : List Moment → List Event
 events [] = []
 events (m ∷ before) = event_before m.effect (events before)
 
-abbrev pub fises_of : Option Effect → List Fis
-fises_of None = []
-fises_of (Some e) = e.fises
+abbrev pub step_fises : Option Effect → List Fis
+step_fises None = []
+step_fises (Some e) = e.fises
 
 -- The FISes that the drive sent, the newest first.
-abbrev pub sent : List Moment → List Fis
-sent [] = []
-sent (m ∷ before) = reverse (fises_of m.effect) ++ sent before
+abbrev pub sent_fises : List Moment → List Fis
+sent_fises [] = []
+sent_fises (m ∷ before) = reverse (step_fises m.effect) ++ sent_fises before
 
 -- The command failed, by its event.
 abbrev pub has_failed : Option Effect → Bool
@@ -85,7 +85,7 @@ is_tag tag (Some failed_tag) = failed_tag == tag
 
 abbrev pub put_of : ℕ → ℕ → Request → Put
 put_of number client request =
-    record { client = client; number = number; command = command_of request }
+    record { client = client; number = number; command = request_command request }
 
 -- The stage of a tag after a step, by the step's number, the tag that had failed, and the stage
 -- before.
@@ -99,7 +99,7 @@ stage_after number failed tag (steps.Accept slot) stage =
 stage_after number failed tag (steps.Complete slot) stage =
     if slot == tag then to Answered stage else stage
 stage_after number failed tag steps.Recover stage = recovered (is_tag tag failed) stage
-stage_after number failed tag (steps.Reset client kind) stage = after_reset stage
+stage_after number failed tag (steps.Reset client kind) stage = stage_after_reset stage
 stage_after number failed tag (steps.Take client slot) stage = if slot == tag then Free else stage
 
 -- The stage of a tag, with its latest Put.
@@ -111,7 +111,7 @@ stage (m ∷ before) tag =
 -- The data of a tag's latest Put.
 abbrev pub payload_by : ℕ → Step → Option (List ℕ)
 payload_by tag (steps.Put client slot request) =
-    if slot == tag then Some (payload_of request) else None
+    if slot == tag then Some (request_payload request) else None
 payload_by tag (steps.Issue slot) = None
 payload_by tag (steps.Accept slot) = None
 payload_by tag (steps.Complete slot) = None
@@ -126,16 +126,16 @@ payload (m ∷ before) tag = unwrap_or (payload_by tag m.step) (payload before t
 -- The Put whose command a step of the engine serves.
 abbrev pub served_by : (ℕ → Stage) → Step → Option Put
 served_by stages (steps.Put client slot request) = None
-served_by stages (steps.Issue slot) = put_in (stages slot)
-served_by stages (steps.Accept slot) = put_in (stages slot)
-served_by stages (steps.Complete slot) = put_in (stages slot)
+served_by stages (steps.Issue slot) = put_at (stages slot)
+served_by stages (steps.Accept slot) = put_at (stages slot)
+served_by stages (steps.Complete slot) = put_at (stages slot)
 served_by stages steps.Recover = None
 served_by stages (steps.Reset client kind) = None
 served_by stages (steps.Take client slot) = None
 
 -- A queued command brings its data with its completion, any other with its FIS.
 abbrev pub accept_payload : Put → List ℕ → List ℕ
-accept_payload put bytes = if is_queued put.command then [] else bytes
+accept_payload put bytes = if is_queued_command put.command then [] else bytes
 
 abbrev pub acceptance : ℕ → Option Put → List ℕ → Option Act
 acceptance slot None bytes = None
@@ -149,7 +149,7 @@ act_by served payloads (steps.Issue slot) = None
 act_by served payloads (steps.Accept slot) = acceptance slot served (payloads slot)
 act_by served payloads (steps.Complete slot) = Some (CompleteTag slot (payloads slot))
 act_by served payloads steps.Recover = Some (AcceptFis log_fis [])
-act_by served payloads (steps.Reset client kind) = Some (ResetDrive (kind_of kind))
+act_by served payloads (steps.Reset client kind) = Some (ResetDrive (reset_kind_number kind))
 act_by served payloads (steps.Take client slot) = None
 
 abbrev pub act_of : List Moment → Step → Option Act

@@ -2,7 +2,7 @@
 
 ghost use Rattle.std.specs.Prelude.{◌≡◌, ◌≤◌, ◌<◌, ◌^◌, ◌/◌, ◌*◌, ◌&&◌, ℕ, List, IfOk, IfSome, MatchOption, true, length};
 ghost use Rattle.trusted_cmds.specs.Commands.{lba_of, IsCounted, sector_size};
-ghost use Rattle.port_history.specs.Requests.{no_bytes, is_address, are_blocks, are_whole, is_sized, command_of, payload_of, most_blocks, bytes_moved};
+ghost use Rattle.port_history.specs.Requests.{no_bytes, is_address, are_blocks, are_whole, is_sized, request_command, request_payload, most_blocks, bytes_moved};
 ghost use Rattle.port_history.specs.declared.request.Answer.TheVariants as answers;
 
 use crate::reply::ReplyBytes;
@@ -165,11 +165,11 @@ impl Request {
     /// The command that asks it.
     pub fn command(&self) -> Command
         requires { is_sized self.now ≡ true }
-        ensures value { result ≡ command_of self.now }
+        ensures value { result ≡ request_command self.now }
         ensures address { IfSome (lba_of result) (λ lba. lba < 2 ^ 48) }
         ensures counted { IsCounted result }
         ensures fits { bytes_moved result ≤ sector_size * most_blocks }
-        ensures payload { length (payload_of self.now) ≤ sector_size * most_blocks }
+        ensures payload { length (request_payload self.now) ≤ sector_size * most_blocks }
     {
         match *self {
             Request::Read { lba, count } => Command::ReadQueued { lba, count },
@@ -209,7 +209,7 @@ impl Request {
 
     /// The data that go to the device.
     pub fn payload(&self) -> &[u8]
-        ensures { result.now ≡ payload_of self.now }
+        ensures { result.now ≡ request_payload self.now }
     {
         match *self {
             Request::Write { ref bytes, .. }

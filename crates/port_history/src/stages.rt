@@ -1,7 +1,7 @@
 //! The stages of a slot.
 
 ghost use Rattle.std.specs.Prelude.{◌≡◌};
-ghost use Rattle.port_history.specs.Stages.{is_queued};
+ghost use Rattle.port_history.specs.Stages.{is_queued_command};
 
 use trusted_cmds::Command;
 
@@ -30,7 +30,7 @@ pub enum Stage {
 
 /// Whether a command goes through the queue.
 pub fn is_queued(command: Command) -> bool
-    ensures { result ≡ is_queued command }
+    ensures { result ≡ is_queued_command command }
 {
     match command {
         Command::ReadQueued { .. } | Command::WriteQueued { .. } => true,

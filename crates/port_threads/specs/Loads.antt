@@ -34,8 +34,8 @@ WritesLoad clients_text rounds_text clients rounds =
     × (from_1_to most_rounds rounds_text ≡ Some rounds)
 
 -- the fault is the first one of the texts
-abbrev pub IsFirstFault : List ℕ → List ℕ → LoadFault → Type 0
-IsFirstFault clients_text rounds_text Clients = from_1_to most_clients clients_text ≡ None
-IsFirstFault clients_text rounds_text Rounds =
+abbrev pub IsFirstLoadFault : List ℕ → List ℕ → LoadFault → Type 0
+IsFirstLoadFault clients_text rounds_text Clients = from_1_to most_clients clients_text ≡ None
+IsFirstLoadFault clients_text rounds_text Rounds =
     (is_some (from_1_to most_clients clients_text) ≡ true)
     × (from_1_to most_rounds rounds_text ≡ None)

@@ -56,7 +56,7 @@ fn from_1_to(most: u64, text: &[u8]) -> Option<u64>
 
 impl Load {
     ghost use Rattle.std.specs.Prelude.{◌≡◌, ◌+◌, IfOk, IfErr};
-    ghost use Rattle.port_threads.specs.Loads.{default_clients, default_rounds, WritesLoad, IsFirstFault};
+    ghost use Rattle.port_threads.specs.Loads.{default_clients, default_rounds, WritesLoad, IsFirstLoadFault};
 
     /// The load that stands where none is given.
     pub(crate) fn usual() -> Load
@@ -73,7 +73,7 @@ impl Load {
     pub fn parse(clients: &[u8], rounds: &[u8]) -> Result<Load, LoadFault>
         ensures read { IfOk result (λ load. WritesLoad clients.now rounds.now load.clients
             load.rounds) }
-        ensures fault { IfErr result (λ fault. IsFirstFault clients.now rounds.now fault) }
+        ensures fault { IfErr result (λ fault. IsFirstLoadFault clients.now rounds.now fault) }
     {
         let Some(clients) = from_1_to(u64::from(MOST_CLIENTS), clients) else {
             return Err(LoadFault::Clients);

@@ -5,7 +5,7 @@ ghost use Rattle.locked_port.specs.Counts.{Stands};
 ghost use Rattle.port_threads.specs.declared.error.LoadError.{LoadError};
 ghost use Rattle.port_threads.specs.Loads.{default_clients, default_rounds};
 ghost use Rattle.port_threads.specs.Rounds.{steps_of_round, Made, AreOf, rounds_of, receipts_of};
-ghost use Rattle.port_threads.specs.Works.{IsTold, Ran, is_right};
+ghost use Rattle.port_threads.specs.Works.{AreFactsOf, Ran, are_facts_right};
 
 use crate::error::LoadError;
 use crate::facts::{Facts, facts_text};
@@ -249,7 +249,7 @@ fn facts_of<L: PortName + Send + Sync, R: Threads + Wait + Sync>(
     requires name { blank.name ≡ L.name }
     requires parts { (blank.parts ≡ L.parts) × (blank.parts ≡ load.now.clients + 1)
         × (L.passes ≡ L.parts) }
-    ensures told { IfOk result (λ facts. IsTold load.now.clients load.now.rounds facts) }
+    ensures told { IfOk result (λ facts. AreFactsOf load.now.clients load.now.rounds facts) }
     ensures errors { IfErr result
         (λ error. (error ≡ LoadError.Memory) ⊎ (error ≡ LoadError.Thread)) }
 {
@@ -272,7 +272,7 @@ fn facts_of<L: PortName + Send + Sync, R: Threads + Wait + Sync>(
 
 /// Whether all rounds were made, no client step is beside them, and the receipts are those of the history.
 fn is_right(load: &Load, facts: &Facts) -> bool
-    ensures { result ≡ is_right load.now.clients load.now.rounds facts.now }
+    ensures { result ≡ are_facts_right load.now.clients load.now.rounds facts.now }
 {
     let rounds = u64::from(load.clients) * u64::from(load.rounds);
     facts.rounds == rounds && facts.client_steps == STEPS_OF_ROUND * rounds && facts.receipts

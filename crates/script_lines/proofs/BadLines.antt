@@ -1,15 +1,15 @@
 -- What is wrong with a text is what is wrong with the words that it spells.
 use Rattle.std.proofs.Common.{◌≡◌, ℕ, ◌==◌, Bool, true, false, List, [], ◌∷◌, length, refl, ap, ◌∙◌, Option, Some, None, Result, Ok, Err, if◌then◌else◌}
 use Rattle.locking.specs.declared.range.RangeRow.{RangeRow}
-use Rattle.script_lines.specs.Words.{word, after_words, first_word, after_word}
+use Rattle.script_lines.specs.Words.{nth_word, after_words, first_word, after_word}
 use Rattle.script_lines.specs.Verbs.{verb_of}
-use Rattle.script_lines.specs.Fields.{◌>>=◌, or_fault, number_in}
+use Rattle.script_lines.specs.Fields.{◌>>=◌, or_fault, number_of_field}
 use Rattle.script_lines.specs.Groups.{range_in, transfer_in, dma_transfer_in}
 use Rattle.script_lines.specs.Lines.{ended, range_line, read_line, write_line, read_dma_line, write_dma_line, call_line, send_line, receive_line, log_line, reset_line, tper_reset_line, verb_line}
 use Rattle.script_lines.specs.PortLines.{transfer_words, slot_in, read_words, write_words, read_dma_words, write_dma_words, call_words, send_words, receive_words, request_words, range_words, put_words, issue_words, accept_words, complete_words, recover_words, reset_words, take_words, port_verb_words, port_verb_of, port_line_of}
 use Rattle.script_lines.specs.PortLines as port
-use Rattle.script_lines.specs.Spellings.{Spells}
-use Rattle.script_lines.specs.Faults.{none_left, any_left, range_fields, reset_fields, fields_of, behind, in_line, request_fields, in_named_request, in_request_of, in_request, step_fields, behind_step, in_port_line, fault_in}
+use Rattle.script_lines.specs.Spellings.{IsMadeOfWords}
+use Rattle.script_lines.specs.Faults.{none_left, any_left, range_fields, reset_fields, fields_of, fault_behind, in_line, request_fields, in_named_request, in_request_of, in_request, step_fields, behind_step, in_port_line, fault_in}
 use Rattle.script_lines.specs.Laws.{BadLineLaw, BadPortLineLaw}
 use Rattle.script_lines.specs.declared.fault.LineFault.{LineFault}
 use Rattle.script_lines.specs.declared.fault.LineFault.TheVariants.{UnknownWord, UnknownStep, UnknownRequest, Extra}
@@ -39,35 +39,35 @@ end_is text line = end_by (length (first_word text) == 0) line
 range_is : {A : Type 0} (text : List ℕ) (g : RangeRow → Result A LineFault) (rest : List ℕ → Option LineFault)
     → ((row : RangeRow) → fault_in (g row) ≡ rest (after_words 7 text)) → fault_in (range_in text >>= g) ≡ in_text range_fields rest text
 range_is text g rest next =
-    with_number_in fields.Range (word 0 text) _ g _ (λ range.
-    with_number_in fields.Start (word 1 text) _ g _ (λ start.
-    with_number_in fields.Length (word 2 text) _ g _ (λ len.
-    with_flag_in fields.ReadLockEnabled (word 3 text) _ g _ (λ read_enabled.
-    with_flag_in fields.WriteLockEnabled (word 4 text) _ g _ (λ write_enabled.
-    with_flag_in fields.ReadLocked (word 5 text) _ g _ (λ read_locked.
-    with_flag_in fields.WriteLocked (word 6 text) _ g _ (λ write_locked. next _)))))))
+    with_number_in fields.Range (nth_word 0 text) _ g _ (λ range.
+    with_number_in fields.Start (nth_word 1 text) _ g _ (λ start.
+    with_number_in fields.Length (nth_word 2 text) _ g _ (λ len.
+    with_flag_in fields.ReadLockEnabled (nth_word 3 text) _ g _ (λ read_enabled.
+    with_flag_in fields.WriteLockEnabled (nth_word 4 text) _ g _ (λ write_enabled.
+    with_flag_in fields.ReadLocked (nth_word 5 text) _ g _ (λ read_locked.
+    with_flag_in fields.WriteLocked (nth_word 6 text) _ g _ (λ write_locked. next _)))))))
 
 transfer_is : {A : Type 0} (text : List ℕ) (g : Transfer → Result A LineFault) (others : List Field) (rest : List ℕ → Option LineFault)
     → ((t : Transfer) → fault_in (g t) ≡ in_text others rest (after_words 4 text))
     → fault_in (transfer_in text >>= g) ≡ in_text (fields.Client ∷ fields.Tag ∷ fields.Address ∷ fields.Count ∷ others) rest text
 transfer_is text g others rest next =
-    with_number_in fields.Client (word 0 text) _ g _ (λ client.
-    with_number_in fields.Tag (word 1 text) _ g _ (λ tag.
-    with_number_in fields.Address (word 2 text) _ g _ (λ lba.
-    with_number_in fields.Count (word 3 text) _ g _ (λ count. next _))))
+    with_number_in fields.Client (nth_word 0 text) _ g _ (λ client.
+    with_number_in fields.Tag (nth_word 1 text) _ g _ (λ tag.
+    with_number_in fields.Address (nth_word 2 text) _ g _ (λ lba.
+    with_number_in fields.Count (nth_word 3 text) _ g _ (λ count. next _))))
 
 dma_is : {A : Type 0} (text : List ℕ) (g : DmaTransfer → Result A LineFault) (others : List Field) (rest : List ℕ → Option LineFault)
     → ((t : DmaTransfer) → fault_in (g t) ≡ in_text others rest (after_words 3 text))
     → fault_in (dma_transfer_in text >>= g) ≡ in_text (fields.Client ∷ fields.DmaAddress ∷ fields.DmaCount ∷ others) rest text
 dma_is text g others rest next =
-    with_number_in fields.Client (word 0 text) _ g _ (λ client.
-    with_number_in fields.DmaAddress (word 1 text) _ g _ (λ lba.
-    with_number_in fields.DmaCount (word 2 text) _ g _ (λ count. next _)))
+    with_number_in fields.Client (nth_word 0 text) _ g _ (λ client.
+    with_number_in fields.DmaAddress (nth_word 1 text) _ g _ (λ lba.
+    with_number_in fields.DmaCount (nth_word 2 text) _ g _ (λ count. next _)))
 
 reset_is : {A : Type 0} (text : List ℕ) (f : ℕ → Result A LineFault) (rest : List ℕ → Option LineFault)
     → ((client : ℕ) → fault_in (f client) ≡ in_text (fields.ResetKind ∷ []) rest (after_word text))
-    → fault_in (number_in fields.Client (word 0 text) >>= f) ≡ in_text reset_fields rest text
-reset_is text f rest next = with_number fields.Client (word 0 text) f _ next
+    → fault_in (number_of_field fields.Client (nth_word 0 text) >>= f) ≡ in_text reset_fields rest text
+reset_is text f rest next = with_number fields.Client (nth_word 0 text) f _ next
 
 -- each line
 range_line_is : (text : List ℕ) → fault_in (range_line text) ≡ in_text range_fields none_text text
@@ -78,45 +78,45 @@ read_line_is text = transfer_is text _ [] none_text (λ t. end_is (after_words 4
 
 write_line_is : (text : List ℕ) → fault_in (write_line text) ≡ in_text (fields_of verbs.Write) none_text text
 write_line_is text =
-    transfer_is text _ (fields.Byte ∷ []) none_text (λ t. with_byte fields.Byte (word 4 text) _ _ (λ byte. end_is (after_words 5 text) (lines.Write t byte)))
+    transfer_is text _ (fields.Byte ∷ []) none_text (λ t. with_byte fields.Byte (nth_word 4 text) _ _ (λ byte. end_is (after_words 5 text) (lines.Write t byte)))
 
 read_dma_line_is : (text : List ℕ) → fault_in (read_dma_line text) ≡ in_text (fields_of verbs.ReadDma) none_text text
 read_dma_line_is text = dma_is text _ [] none_text (λ t. end_is (after_words 3 text) (lines.ReadDma t))
 
 write_dma_line_is : (text : List ℕ) → fault_in (write_dma_line text) ≡ in_text (fields_of verbs.WriteDma) none_text text
 write_dma_line_is text =
-    dma_is text _ (fields.DmaByte ∷ []) none_text (λ t. with_byte fields.DmaByte (word 3 text) _ _ (λ byte. end_is (after_words 4 text) (lines.WriteDma t byte)))
+    dma_is text _ (fields.DmaByte ∷ []) none_text (λ t. with_byte fields.DmaByte (nth_word 3 text) _ _ (λ byte. end_is (after_words 4 text) (lines.WriteDma t byte)))
 
 call_line_is : (text : List ℕ) → fault_in (call_line text) ≡ in_text (fields_of verbs.Call) none_text text
 call_line_is text =
-    with_number fields.Client (word 0 text) _ _ (λ client.
-    with_number fields.ComId (word 1 text) _ _ (λ com_id.
-    with_number_in fields.TperSession (word 2 text) _ _ _ (λ tsn.
-    with_number_in fields.HostSession (word 3 text) _ _ _ (λ hsn.
-    with_hex fields.Tokens (word 4 text) _ _ (λ tokens. end_is (after_words 5 text) (lines.Call client com_id _ tokens))))))
+    with_number fields.Client (nth_word 0 text) _ _ (λ client.
+    with_number fields.ComId (nth_word 1 text) _ _ (λ com_id.
+    with_number_in fields.TperSession (nth_word 2 text) _ _ _ (λ tsn.
+    with_number_in fields.HostSession (nth_word 3 text) _ _ _ (λ hsn.
+    with_hex fields.Tokens (nth_word 4 text) _ _ (λ tokens. end_is (after_words 5 text) (lines.Call client com_id _ tokens))))))
 
 send_line_is : (text : List ℕ) → fault_in (send_line text) ≡ in_text (fields_of verbs.Send) none_text text
 send_line_is text =
-    with_number fields.Client (word 0 text) _ _ (λ client.
-    with_number fields.ComId (word 1 text) _ _ (λ com_id.
-    with_hex fields.ComPacket (word 2 text) _ _ (λ packet. end_is (after_words 3 text) (lines.Send client com_id packet))))
+    with_number fields.Client (nth_word 0 text) _ _ (λ client.
+    with_number fields.ComId (nth_word 1 text) _ _ (λ com_id.
+    with_hex fields.ComPacket (nth_word 2 text) _ _ (λ packet. end_is (after_words 3 text) (lines.Send client com_id packet))))
 
 receive_line_is : (text : List ℕ) → fault_in (receive_line text) ≡ in_text (fields_of verbs.Receive) none_text text
 receive_line_is text =
-    with_number fields.Client (word 0 text) _ _ (λ client.
-    with_number fields.ComId (word 1 text) _ _ (λ com_id.
-    with_number fields.Blocks (word 2 text) _ _ (λ blocks. end_is (after_words 3 text) (lines.Receive client com_id blocks))))
+    with_number fields.Client (nth_word 0 text) _ _ (λ client.
+    with_number fields.ComId (nth_word 1 text) _ _ (λ com_id.
+    with_number fields.Blocks (nth_word 2 text) _ _ (λ blocks. end_is (after_words 3 text) (lines.Receive client com_id blocks))))
 
 log_line_is : (text : List ℕ) → fault_in (log_line text) ≡ in_text (fields_of verbs.Log) none_text text
-log_line_is text = with_number fields.Client (word 0 text) _ _ (λ client. end_is (after_words 1 text) (lines.Log client))
+log_line_is text = with_number fields.Client (nth_word 0 text) _ _ (λ client. end_is (after_words 1 text) (lines.Log client))
 
 reset_line_is : (text : List ℕ) → fault_in (reset_line text) ≡ in_text reset_fields none_text text
 reset_line_is text =
-    with_number fields.Client (word 0 text) _ _ (λ client.
-    with_flag_in fields.ResetKind (word 1 text) _ _ _ (λ hardware. end_is (after_words 2 text) (lines.Reset client _)))
+    with_number fields.Client (nth_word 0 text) _ _ (λ client.
+    with_flag_in fields.ResetKind (nth_word 1 text) _ _ _ (λ hardware. end_is (after_words 2 text) (lines.Reset client _)))
 
 tper_reset_line_is : (text : List ℕ) → fault_in (tper_reset_line text) ≡ in_text (fields_of verbs.TperReset) none_text text
-tper_reset_line_is text = with_number fields.Client (word 0 text) _ _ (λ client. end_is (after_words 1 text) (lines.TperReset client))
+tper_reset_line_is text = with_number fields.Client (nth_word 0 text) _ _ (λ client. end_is (after_words 1 text) (lines.TperReset client))
 
 -- what may stand behind the fields of a line
 abbrev any_text : List ℕ → Option LineFault
@@ -129,7 +129,7 @@ abbrev behind_text : Verb → List ℕ → Option LineFault
 behind_text verbs.Expect = any_text
 behind_text verb = none_text
 
-behind_is : (verb : Verb) → Agree (behind_text verb) (behind verb)
+behind_is : (verb : Verb) → Agree (behind_text verb) (fault_behind verb)
 behind_is verbs.Range = none_is
 behind_is verbs.Read = none_is
 behind_is verbs.Write = none_is
@@ -157,11 +157,11 @@ verb_is verbs.Reset text = reset_line_is text
 verb_is verbs.TperReset text = tper_reset_line_is text
 verb_is verbs.Expect text = refl
 
-line_by : (v : Option Verb) (words : List (List ℕ)) (text : List ℕ) → Spells words text
+line_by : (v : Option Verb) (words : List (List ℕ)) (text : List ℕ) → IsMadeOfWords words text
     → fault_in (or_fault UnknownWord v >>= λ verb. verb_line verb text) ≡ in_line v words
 line_by None words text s = refl
 line_by (Some verb) words text s =
-    verb_is verb text ∙ text_is (fields_of verb) (behind_text verb) (behind verb) (behind_is verb) words text s
+    verb_is verb text ∙ text_is (fields_of verb) (behind_text verb) (fault_behind verb) (behind_is verb) words text s
 
 pub bad_line_law : BadLineLaw
 bad_line_law text [] s =
@@ -183,15 +183,15 @@ at_is : {A : Type 0} (text : List ℕ) (g : ℕ × ℕ → Result A LineFault) (
     → ((at : ℕ × ℕ) → fault_in (g at) ≡ in_text others rest (after_words 2 text))
     → fault_in (transfer_words text >>= g) ≡ in_text (fields.PutAddress ∷ fields.PutCount ∷ others) rest text
 at_is text g others rest next =
-    with_number_in fields.PutAddress (word 0 text) _ g _ (λ lba.
-    with_number_in fields.PutCount (word 1 text) _ g _ (λ count. next _))
+    with_number_in fields.PutAddress (nth_word 0 text) _ g _ (λ lba.
+    with_number_in fields.PutCount (nth_word 1 text) _ g _ (λ count. next _))
 
 read_words_are : (text : List ℕ) → fault_in (read_words text) ≡ in_text (fields.PutAddress ∷ fields.PutCount ∷ []) none_text text
 read_words_are text = at_is text _ [] none_text (λ at. then_none (after_words 2 text) _)
 
 write_words_are : (text : List ℕ) → fault_in (write_words text) ≡ in_text (fields.PutAddress ∷ fields.PutCount ∷ fields.PutByte ∷ []) none_text text
 write_words_are text =
-    at_is text _ (fields.PutByte ∷ []) none_text (λ at. with_byte fields.PutByte (word 2 text) _ _ (λ byte. then_none (after_words 3 text) _))
+    at_is text _ (fields.PutByte ∷ []) none_text (λ at. with_byte fields.PutByte (nth_word 2 text) _ _ (λ byte. then_none (after_words 3 text) _))
 
 read_dma_words_are : (text : List ℕ) → fault_in (read_dma_words text) ≡ in_text (fields.PutAddress ∷ fields.PutCount ∷ []) none_text text
 read_dma_words_are text = at_is text _ [] none_text (λ at. then_none (after_words 2 text) _)
@@ -199,25 +199,25 @@ read_dma_words_are text = at_is text _ [] none_text (λ at. then_none (after_wor
 write_dma_words_are : (text : List ℕ)
     → fault_in (write_dma_words text) ≡ in_text (fields.PutAddress ∷ fields.PutCount ∷ fields.PutByte ∷ []) none_text text
 write_dma_words_are text =
-    at_is text _ (fields.PutByte ∷ []) none_text (λ at. with_byte fields.PutByte (word 2 text) _ _ (λ byte. then_none (after_words 3 text) _))
+    at_is text _ (fields.PutByte ∷ []) none_text (λ at. with_byte fields.PutByte (nth_word 2 text) _ _ (λ byte. then_none (after_words 3 text) _))
 
 call_words_are : (text : List ℕ)
     → fault_in (call_words text) ≡ in_text (fields.PutComId ∷ fields.PutTperSession ∷ fields.PutHostSession ∷ fields.PutTokens ∷ []) none_text text
 call_words_are text =
-    with_number fields.PutComId (word 0 text) _ _ (λ com_id.
-    with_number fields.PutTperSession (word 1 text) _ _ (λ tsn.
-    with_number fields.PutHostSession (word 2 text) _ _ (λ hsn.
-    with_hex fields.PutTokens (word 3 text) _ _ (λ tokens. then_none (after_words 4 text) _))))
+    with_number fields.PutComId (nth_word 0 text) _ _ (λ com_id.
+    with_number fields.PutTperSession (nth_word 1 text) _ _ (λ tsn.
+    with_number fields.PutHostSession (nth_word 2 text) _ _ (λ hsn.
+    with_hex fields.PutTokens (nth_word 3 text) _ _ (λ tokens. then_none (after_words 4 text) _))))
 
 send_words_are : (text : List ℕ) → fault_in (send_words text) ≡ in_text (fields.PutComId ∷ fields.PutComPacket ∷ []) none_text text
 send_words_are text =
-    with_number fields.PutComId (word 0 text) _ _ (λ com_id.
-    with_hex fields.PutComPacket (word 1 text) _ _ (λ packet. then_none (after_words 2 text) _))
+    with_number fields.PutComId (nth_word 0 text) _ _ (λ com_id.
+    with_hex fields.PutComPacket (nth_word 1 text) _ _ (λ packet. then_none (after_words 2 text) _))
 
 receive_words_are : (text : List ℕ) → fault_in (receive_words text) ≡ in_text (fields.PutComId ∷ fields.PutBlocks ∷ []) none_text text
 receive_words_are text =
-    with_number fields.PutComId (word 0 text) _ _ (λ com_id.
-    with_number fields.PutBlocks (word 1 text) _ _ (λ blocks. then_none (after_words 2 text) _))
+    with_number fields.PutComId (nth_word 0 text) _ _ (λ com_id.
+    with_number fields.PutBlocks (nth_word 1 text) _ _ (λ blocks. then_none (after_words 2 text) _))
 
 -- a request
 abbrev named_text : Option (List Field) → List ℕ → Option LineFault
@@ -275,27 +275,27 @@ range_words_are text = range_is text _ none_text (λ row. then_none (after_words
 
 put_words_are : (text : List ℕ) → fault_in (put_words text) ≡ in_text (fields.Client ∷ fields.Tag ∷ []) request_text text
 put_words_are text =
-    with_number fields.Client (word 0 text) _ _ (λ client.
-    with_number fields.Tag (word 1 text) _ _ (λ tag. then_request (verb_of (word 2 text)) (after_words 3 text) client tag))
+    with_number fields.Client (nth_word 0 text) _ _ (λ client.
+    with_number fields.Tag (nth_word 1 text) _ _ (λ tag. then_request (verb_of (nth_word 2 text)) (after_words 3 text) client tag))
 
 issue_words_are : (text : List ℕ) → fault_in (issue_words text) ≡ in_text (fields.Slot ∷ []) none_text text
-issue_words_are text = with_number fields.Slot (word 0 text) _ _ (λ tag. then_none (after_words 1 text) _)
+issue_words_are text = with_number fields.Slot (nth_word 0 text) _ _ (λ tag. then_none (after_words 1 text) _)
 
 accept_words_are : (text : List ℕ) → fault_in (accept_words text) ≡ in_text (fields.Slot ∷ []) none_text text
-accept_words_are text = with_number fields.Slot (word 0 text) _ _ (λ tag. then_none (after_words 1 text) _)
+accept_words_are text = with_number fields.Slot (nth_word 0 text) _ _ (λ tag. then_none (after_words 1 text) _)
 
 complete_words_are : (text : List ℕ) → fault_in (complete_words text) ≡ in_text (fields.Slot ∷ []) none_text text
-complete_words_are text = with_number fields.Slot (word 0 text) _ _ (λ tag. then_none (after_words 1 text) _)
+complete_words_are text = with_number fields.Slot (nth_word 0 text) _ _ (λ tag. then_none (after_words 1 text) _)
 
 reset_words_are : (text : List ℕ) → fault_in (reset_words text) ≡ in_text reset_fields none_text text
 reset_words_are text =
-    with_number fields.Client (word 0 text) _ _ (λ client.
-    with_flag_in fields.ResetKind (word 1 text) _ _ _ (λ hardware. then_none (after_words 2 text) _))
+    with_number fields.Client (nth_word 0 text) _ _ (λ client.
+    with_flag_in fields.ResetKind (nth_word 1 text) _ _ _ (λ hardware. then_none (after_words 2 text) _))
 
 take_words_are : (text : List ℕ) → fault_in (take_words text) ≡ in_text (fields.Client ∷ fields.Tag ∷ []) none_text text
 take_words_are text =
-    with_number fields.Client (word 0 text) _ _ (λ client.
-    with_number fields.Tag (word 1 text) _ _ (λ tag. then_none (after_words 2 text) _))
+    with_number fields.Client (nth_word 0 text) _ _ (λ client.
+    with_number fields.Tag (nth_word 1 text) _ _ (λ tag. then_none (after_words 2 text) _))
 
 abbrev step_text : PortVerb → List ℕ → Option LineFault
 step_text steps.Put = request_text
@@ -324,7 +324,7 @@ step_is steps.Reset text = reset_words_are text
 step_is steps.Take text = take_words_are text
 step_is steps.Expect text = refl
 
-port_line_by : (v : Option PortVerb) (words : List (List ℕ)) (text : List ℕ) → Spells words text
+port_line_by : (v : Option PortVerb) (words : List (List ℕ)) (text : List ℕ) → IsMadeOfWords words text
     → fault_in (or_fault UnknownStep v >>= λ verb. port_verb_words verb text) ≡ in_port_line v words
 port_line_by None words text s = refl
 port_line_by (Some verb) words text s =

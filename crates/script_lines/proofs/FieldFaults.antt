@@ -4,13 +4,13 @@ use Rattle.std.specs.Prelude.{IsOk, is_some}
 use Rattle.std.specs.Str.Parse.{digits_value}
 use Rattle.std.proofs.lemmas.Bool.Decides.{nat_tests}
 use Rattle.script_lines.specs.Words.{first_word, after_word}
-use Rattle.script_lines.specs.Spellings.{Spells}
+use Rattle.script_lines.specs.Spellings.{IsMadeOfWords}
 use Rattle.hex.specs.Hex.{decode_of, decode_sized}
 use Rattle.hex.specs.declared.error.FromHexError.{FromHexError}
 use Rattle.hex.proofs.HexLemmas.{decode_of-ok, decode_sized-ok, decode_sized-twice}
 use Rattle.script_lines.specs.Numbers.{is_numeral}
 use Rattle.script_lines.specs.Hexes.{bytes_up_to, is_hex_up_to}
-use Rattle.script_lines.specs.Fields.{◌>>=◌, or_fault, most_of, number_in, flag_of, flag_in, byte_or_fault, byte_in, hex_in}
+use Rattle.script_lines.specs.Fields.{◌>>=◌, or_fault, most_of, number_of_field, is_flag_set, flag_in, byte_or_fault, byte_of_field, hex_in}
 use Rattle.script_lines.specs.Faults.{takes, in_fields, none_left, fault_in}
 use Rattle.script_lines.specs.declared.fault.LineFault.{LineFault}
 use Rattle.script_lines.specs.declared.fault.LineFault.TheVariants.{Missing, Wrong, Extra}
@@ -45,7 +45,7 @@ is_there word some = grind (arith, nat_tests, some)
 
 -- what two readings of what is left say alike
 abbrev pub Agree : (List ℕ → Option LineFault) → (List (List ℕ) → Option LineFault) → Type 0
-Agree in_rest in_words = (words : List (List ℕ)) (text : List ℕ) → Spells words text → in_rest text ≡ in_words words
+Agree in_rest in_words = (words : List (List ℕ)) (text : List ℕ) → IsMadeOfWords words text → in_rest text ≡ in_words words
 
 pub text_is : (list : List Field) (in_rest : List ℕ → Option LineFault) (in_words : List (List ℕ) → Option LineFault) → Agree in_rest in_words
     → Agree (in_text list in_rest) (in_fields list in_words)
@@ -94,16 +94,16 @@ number_by field true taken value = refl
 number_by field false true value = refl
 number_by field false false value = refl
 
-pub number_is : (field : Field) (word : List ℕ) → fault_in (number_in field word) ≡ number_fault field word
+pub number_is : (field : Field) (word : List ℕ) → fault_in (number_of_field field word) ≡ number_fault field word
 number_is field word =
     number_by field (length word == 0) (is_numeral word && nat_le (digits_value 10 word) (most_of field)) (digits_value 10 word)
 
-flag_by : (r : Result ℕ LineFault) → fault_in (flag_of r) ≡ fault_in r
+flag_by : (r : Result ℕ LineFault) → fault_in (is_flag_set r) ≡ fault_in r
 flag_by (Ok number) = refl
 flag_by (Err fault) = refl
 
 pub flag_is : (field : Field) (word : List ℕ) → fault_in (flag_in field word) ≡ number_fault field word
-flag_is field word = flag_by (number_in field word) ∙ number_is field word
+flag_is field word = flag_by (number_of_field field word) ∙ number_is field word
 
 -- a word as hex text
 abbrev pub hex_fault : Field → ℕ → List ℕ → Option LineFault
@@ -165,19 +165,19 @@ one_read word true h some =
     ap was_read same ∙ read_is (decode_of word) (is_decoded 1 word h)
 one_read word false h some = not_read word (decode_sized word 1) refl h
 
-pub byte_is : (field : Field) (word : List ℕ) → fault_in (byte_in field word) ≡ hex_fault field 1 word
+pub byte_is : (field : Field) (word : List ℕ) → fault_in (byte_of_field field word) ≡ hex_fault field 1 word
 byte_is field word =
     byte_by field (length word == 0) (is_hex_up_to 1 word) (decode_sized word 1) (one_read word (is_hex_up_to 1 word) refl)
 
 -- a step that reads one word, and the others
 pub with_number : {A : Type 0} (field : Field) (word : List ℕ) (f : ℕ → Result A LineFault) (later : Option LineFault)
-    → ((x : ℕ) → fault_in (f x) ≡ later) → fault_in (number_in field word >>= f) ≡ or_else (number_fault field word) later
-with_number field word f later next = bound (number_in field word) f (number_fault field word) later (number_is field word) next
+    → ((x : ℕ) → fault_in (f x) ≡ later) → fault_in (number_of_field field word >>= f) ≡ or_else (number_fault field word) later
+with_number field word f later next = bound (number_of_field field word) f (number_fault field word) later (number_is field word) next
 
 pub with_number_in : {A B : Type 0} (field : Field) (word : List ℕ) (f : ℕ → Result A LineFault) (g : A → Result B LineFault) (later : Option LineFault)
-    → ((x : ℕ) → fault_in (f x >>= g) ≡ later) → fault_in ((number_in field word >>= f) >>= g) ≡ or_else (number_fault field word) later
+    → ((x : ℕ) → fault_in (f x >>= g) ≡ later) → fault_in ((number_of_field field word >>= f) >>= g) ≡ or_else (number_fault field word) later
 with_number_in field word f g later next =
-    bound_in (number_in field word) f g (number_fault field word) later (number_is field word) next
+    bound_in (number_of_field field word) f g (number_fault field word) later (number_is field word) next
 
 pub with_flag_in : {A B : Type 0} (field : Field) (word : List ℕ) (f : Bool → Result A LineFault) (g : A → Result B LineFault) (later : Option LineFault)
     → ((x : Bool) → fault_in (f x >>= g) ≡ later) → fault_in ((flag_in field word >>= f) >>= g) ≡ or_else (number_fault field word) later
@@ -185,8 +185,8 @@ with_flag_in field word f g later next =
     bound_in (flag_in field word) f g (number_fault field word) later (flag_is field word) next
 
 pub with_byte : {A : Type 0} (field : Field) (word : List ℕ) (f : ℕ → Result A LineFault) (later : Option LineFault)
-    → ((x : ℕ) → fault_in (f x) ≡ later) → fault_in (byte_in field word >>= f) ≡ or_else (hex_fault field 1 word) later
-with_byte field word f later next = bound (byte_in field word) f (hex_fault field 1 word) later (byte_is field word) next
+    → ((x : ℕ) → fault_in (f x) ≡ later) → fault_in (byte_of_field field word >>= f) ≡ or_else (hex_fault field 1 word) later
+with_byte field word f later next = bound (byte_of_field field word) f (hex_fault field 1 word) later (byte_is field word) next
 
 pub with_hex : {A : Type 0} (field : Field) (word : List ℕ) (f : List ℕ → Result A LineFault) (later : Option LineFault)
     → ((x : List ℕ) → fault_in (f x) ≡ later) → fault_in (hex_in field word >>= f) ≡ or_else (hex_fault field (most_of field) word) later

@@ -4,8 +4,8 @@ use Rattle.std.specs.Prelude.{codes}
 use Rattle.script_lines.specs.Words.{first_word, after_word}
 use Rattle.script_lines.specs.Verbs.{verb_of}
 use Rattle.script_lines.specs.Fields.{or_fault, ◌>>=◌}
-use Rattle.script_lines.specs.Lines.{verb_line, line_of}
-use Rattle.script_lines.specs.Spellings.{Spells}
+use Rattle.script_lines.specs.Lines.{verb_line, line_said}
+use Rattle.script_lines.specs.Spellings.{IsMadeOfWords}
 use Rattle.script_lines.specs.Says.{verb_name, Number, Byte, Bytes, range_items, transfer_items, dma_items, com_items, call_items, reset_number, Says}
 use Rattle.script_lines.specs.Laws.{GoodLineLaw}
 use Rattle.script_lines.specs.declared.fault.LineFault.TheVariants.{UnknownWord}
@@ -23,7 +23,7 @@ known_verb None verb h = cc h
 known_verb (Some v) verb h = let same : v ≡ verb = cc in ap Some same
 
 -- from the words that were read
-says : (line : Line) (w : List ℕ) (ws : List (List ℕ)) (rest : List ℕ) → w ≡ verb_name (verb_of_line line) → Spells ws rest → ReadBy line rest
+says : (line : Line) (w : List ℕ) (ws : List (List ℕ)) (rest : List ℕ) → w ≡ verb_name (verb_of_line line) → IsMadeOfWords ws rest → ReadBy line rest
     → Says line (w ∷ ws)
 says (lines.Range row) w ws rest is s h = named (codes "range") (range_items row) w ws rest is s h
 says (lines.Read t) w ws rest is s h = named (codes "read") (transfer_items t []) w ws rest is s h
@@ -42,14 +42,14 @@ says (lines.Reset client kind) w ws rest is s h =
 says (lines.TperReset client) w ws rest is s h = named (codes "tper") (Number fields.Client client ∷ []) w ws rest is s h
 says lines.Expect w ws rest is s h = (ws, ap (λ x. x ∷ ws) is)
 
-split : (line : Line) (ws : List (List ℕ)) (text : List ℕ) → Spells ws text → first_word text ≡ verb_name (verb_of_line line) → ReadBy line (after_word text)
+split : (line : Line) (ws : List (List ℕ)) (text : List ℕ) → IsMadeOfWords ws text → first_word text ≡ verb_name (verb_of_line line) → ReadBy line (after_word text)
     → Says line ws
 split line [] text s name h = absurd (no_name (verb_of_line line) (sym (none_first text s) ∙ name))
 split line (w ∷ ws) text s name h =
     let rest = after_is text w s.0 s.1 in
     says line w ws s.0 (sym (first_is text w s.0 s.1) ∙ name) s.2 (rw rest at h)
 
-says_back : (text : List ℕ) (ws : List (List ℕ)) (line : Line) → Spells ws text → line_of text ≡ Ok line → Says line ws
+says_back : (text : List ℕ) (ws : List (List ℕ)) (line : Line) → IsMadeOfWords ws text → line_said text ≡ Ok line → Says line ws
 says_back text ws line s h =
     let a = bind_ok (or_fault UnknownWord (verb_of (first_word text))) _ line h in
     let verb = known_verb (verb_of (first_word text)) a.0 a.1 in
@@ -57,7 +57,7 @@ says_back text ws line s h =
     split line ws text s (name_is (first_word text) a.0 verb ∙ ap verb_name b.0) b.1
 
 -- from the words that a line has
-read : (line : Line) (ws : List (List ℕ)) (text : List ℕ) → Spells ws text → Says line ws
+read : (line : Line) (ws : List (List ℕ)) (text : List ℕ) → IsMadeOfWords ws text → Says line ws
     → (first_word text ≡ verb_name (verb_of_line line)) × ReadBy line (after_word text)
 read (lines.Range row) ws text s h = name_then (codes "range") (range_items row) ws text s h
 read (lines.Read t) ws text s h = name_then (codes "read") (transfer_items t []) ws text s h
@@ -76,7 +76,7 @@ read (lines.Reset client kind) ws text s h =
 read (lines.TperReset client) ws text s h = name_then (codes "tper") (Number fields.Client client ∷ []) ws text s h
 read lines.Expect ws text s h = ((name_first (codes "expect") h.0 ws text s h.1).0, tt)
 
-says_known : (text : List ℕ) (ws : List (List ℕ)) (line : Line) → Spells ws text → Says line ws → line_of text ≡ Ok line
+says_known : (text : List ℕ) (ws : List (List ℕ)) (line : Line) → IsMadeOfWords ws text → Says line ws → line_said text ≡ Ok line
 says_known text ws line s h =
     let r = read line ws text s h in
     ap (λ (w : List ℕ). or_fault UnknownWord (verb_of w) >>= λ verb. verb_line verb (after_word text)) r.0

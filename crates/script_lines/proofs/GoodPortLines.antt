@@ -6,7 +6,7 @@ use Rattle.std.proofs.lemmas.Slice.Eq.{bytes_eq-Decides}
 use Rattle.script_lines.specs.Words.{first_word, after_word}
 use Rattle.script_lines.specs.Fields.{or_fault, ◌>>=◌}
 use Rattle.script_lines.specs.PortLines.{port_words, port_verb_among, port_verb_of, port_verb_words, port_line_of}
-use Rattle.script_lines.specs.Spellings.{Spells}
+use Rattle.script_lines.specs.Spellings.{IsMadeOfWords}
 use Rattle.script_lines.specs.Says.{Number, range_items, reset_number}
 use Rattle.script_lines.specs.PortSays.{put_items, slot_items, PortSays}
 use Rattle.script_lines.specs.Laws.{GoodPortLineLaw}
@@ -78,7 +78,7 @@ known_verb None verb h = cc h
 known_verb (Some v) verb h = let same : v ≡ verb = cc in ap Some same
 
 -- from the words that were read
-says : (line : PortLine) (w : List ℕ) (ws : List (List ℕ)) (rest : List ℕ) → w ≡ step_name (step_of line) → Spells ws rest → PortReadBy line rest
+says : (line : PortLine) (w : List ℕ) (ws : List (List ℕ)) (rest : List ℕ) → w ≡ step_name (step_of line) → IsMadeOfWords ws rest → PortReadBy line rest
     → PortSays line (w ∷ ws)
 says (lines.Range row) w ws rest is s h = named (codes "range") (range_items row) w ws rest is s h
 says (lines.Put client tag request) w ws rest is s h = named (codes "put") (put_items client tag request) w ws rest is s h
@@ -92,14 +92,14 @@ says (lines.Take client tag) w ws rest is s h =
     named (codes "take") (Number fields.Client client ∷ Number fields.Tag tag ∷ []) w ws rest is s h
 says lines.Expect w ws rest is s h = (ws, ap (λ x. x ∷ ws) is)
 
-split : (line : PortLine) (ws : List (List ℕ)) (text : List ℕ) → Spells ws text → first_word text ≡ step_name (step_of line) → PortReadBy line (after_word text)
+split : (line : PortLine) (ws : List (List ℕ)) (text : List ℕ) → IsMadeOfWords ws text → first_word text ≡ step_name (step_of line) → PortReadBy line (after_word text)
     → PortSays line ws
 split line [] text s name h = absurd (no_name (step_of line) (sym (none_first text s) ∙ name))
 split line (w ∷ ws) text s name h =
     let rest = after_is text w s.0 s.1 in
     says line w ws s.0 (sym (first_is text w s.0 s.1) ∙ name) s.2 (rw rest at h)
 
-says_back : (text : List ℕ) (ws : List (List ℕ)) (line : PortLine) → Spells ws text → port_line_of text ≡ Ok line → PortSays line ws
+says_back : (text : List ℕ) (ws : List (List ℕ)) (line : PortLine) → IsMadeOfWords ws text → port_line_of text ≡ Ok line → PortSays line ws
 says_back text ws line s h =
     let a = bind_ok (or_fault UnknownStep (port_verb_of (first_word text))) _ line h in
     let verb = known_verb (port_verb_of (first_word text)) a.0 a.1 in
@@ -107,7 +107,7 @@ says_back text ws line s h =
     split line ws text s (name_is (first_word text) a.0 verb ∙ ap step_name b.0) b.1
 
 -- from the words that a line has
-read : (line : PortLine) (ws : List (List ℕ)) (text : List ℕ) → Spells ws text → PortSays line ws
+read : (line : PortLine) (ws : List (List ℕ)) (text : List ℕ) → IsMadeOfWords ws text → PortSays line ws
     → (first_word text ≡ step_name (step_of line)) × PortReadBy line (after_word text)
 read (lines.Range row) ws text s h = name_then (codes "range") (range_items row) ws text s h
 read (lines.Put client tag request) ws text s h = name_then (codes "put") (put_items client tag request) ws text s h
@@ -121,7 +121,7 @@ read (lines.Take client tag) ws text s h =
     name_then (codes "take") (Number fields.Client client ∷ Number fields.Tag tag ∷ []) ws text s h
 read lines.Expect ws text s h = ((name_first (codes "expect") h.0 ws text s h.1).0, tt)
 
-says_known : (text : List ℕ) (ws : List (List ℕ)) (line : PortLine) → Spells ws text → PortSays line ws → port_line_of text ≡ Ok line
+says_known : (text : List ℕ) (ws : List (List ℕ)) (line : PortLine) → IsMadeOfWords ws text → PortSays line ws → port_line_of text ≡ Ok line
 says_known text ws line s h =
     let r = read line ws text s h in
     ap (λ (w : List ℕ). or_fault UnknownStep (port_verb_of w) >>= λ verb. port_verb_words verb (after_word text)) r.0

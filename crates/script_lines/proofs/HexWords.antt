@@ -7,7 +7,7 @@ use Rattle.hex.specs.declared.error.FromHexError.{FromHexError}
 use Rattle.hex.proofs.HexLemmas.{decode_of-even, decode_of-ok, decode_sized-ok, decode_sized-twice}
 use Rattle.hex.proofs.Pairs.{cons_byte, decode_pairs-ok_pair}
 use Rattle.script_lines.specs.Hexes.{at_most}
-use Rattle.script_lines.specs.Fields.{most_of, or_fault, byte_or_fault, byte_in, hex_in}
+use Rattle.script_lines.specs.Fields.{most_of, or_fault, byte_or_fault, byte_of_field, hex_in}
 use Rattle.script_lines.specs.Says.{WritesByte, WritesBytes}
 use Rattle.script_lines.specs.declared.fault.LineFault.TheVariants.{Missing, Wrong}
 use Rattle.script_lines.specs.declared.field.Field.{Field}
@@ -118,7 +118,7 @@ one_alone [] byte len is = absurd (omega arith)
 one_alone (b ∷ []) byte len is = ap (λ x. x ∷ []) is
 one_alone (b ∷ c ∷ cs) byte len is = absurd (omega arith)
 
-pub byte_is : (field : Field) (word : List ℕ) (byte : ℕ) → byte_in field word ≡ Ok byte → WritesBytes (byte ∷ []) word
+pub byte_is : (field : Field) (word : List ℕ) (byte : ℕ) → byte_of_field field word ≡ Ok byte → WritesBytes (byte ∷ []) word
 byte_is field word byte h =
     let t = one_tested field (length word == 0) (decode_sized word 1) byte h in
     let len = decode_sized-ok word 1 t.0 t.1 in
@@ -127,7 +127,7 @@ byte_is field word byte h =
     let alone = one_alone t.0 byte (omega (arith, len, more)) t.2 in
     is_decoded (byte ∷ []) word (of ∙ ap Ok alone)
 
-pub is_byte : (field : Field) (word : List ℕ) (byte : ℕ) → WritesBytes (byte ∷ []) word → byte_in field word ≡ Ok byte
+pub is_byte : (field : Field) (word : List ℕ) (byte : ℕ) → WritesBytes (byte ∷ []) word → byte_of_field field word ≡ Ok byte
 is_byte field word byte w =
     let len = twice (byte ∷ []) word w in
     let there : (length word == 0) ≡ false = grind (arith, nat_tests, len) in

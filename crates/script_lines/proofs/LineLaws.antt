@@ -1,6 +1,6 @@
 -- Texts that spell the same words say the same line.
 use Rattle.std.proofs.Common.{◌≡◌, ℕ, suc, List, refl, sym, ap, ◌∙◌, Option, None, Some}
-use Rattle.script_lines.specs.Words.{first_word, after_word, word}
+use Rattle.script_lines.specs.Words.{first_word, after_word, nth_word}
 use Rattle.script_lines.specs.Fields.{or_fault, ◌>>=◌}
 use Rattle.script_lines.specs.Lines.{verb_line, range_line, read_line, write_line, read_dma_line, write_dma_line, call_line, send_line, receive_line, log_line, reset_line, tper_reset_line}
 use Rattle.script_lines.specs.Verbs.{verb_of}
@@ -12,7 +12,7 @@ use Rattle.script_lines.proofs.SpellingLaws.{word_law}
 
 -- the same word at each number
 abbrev pub SameWords : List ℕ → List ℕ → Type 0
-SameWords a b = (k : ℕ) → word k a ≡ word k b
+SameWords a b = (k : ℕ) → nth_word k a ≡ nth_word k b
 
 pub same_words : (a b : List ℕ) → SpellTheSame a b → SameWords a b
 same_words a b s k = word_law a s.0 s.1 k ∙ sym (word_law b s.0 s.2 k)

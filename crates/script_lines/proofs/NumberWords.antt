@@ -9,7 +9,7 @@ use Rattle.std.proofs.lemmas.Bool.Decides.{nat_tests}
 use Rattle.std.proofs.lemmas.Fmt.{digits_decimal, digits_value-decimal, decimal_nonempty, decimal-digits_value}
 use Rattle.std.proofs.lemmas.Str.Parse.{IsNumeralModel, numerals_by_value, tells_all_ascii_digits}
 use Rattle.script_lines.specs.Numbers.{is_numeral}
-use Rattle.script_lines.specs.Fields.{most_of, or_fault, number_in}
+use Rattle.script_lines.specs.Fields.{most_of, or_fault, number_of_field}
 use Rattle.script_lines.specs.Says.{WritesNumber}
 use Rattle.script_lines.specs.declared.fault.LineFault.TheVariants.{Missing, Wrong}
 use Rattle.script_lines.specs.declared.field.Field.{Field}
@@ -93,7 +93,7 @@ tested field false true true value number h = (refl, refl, cc)
 tested field false true false value number h = cc h
 tested field false false fits value number h = cc h
 
-pub number_is : (field : Field) (word : List ℕ) (number : ℕ) → number_in field word ≡ Ok number
+pub number_is : (field : Field) (word : List ℕ) (number : ℕ) → number_of_field field word ≡ Ok number
     → WritesNumber number word × (number ≤ most_of field)
 number_is field word number h =
     let t = tested field (length word == 0) (is_numeral word) (nat_le (digits_value 10 word) (most_of field)) (digits_value 10 word) number h in
@@ -104,13 +104,13 @@ number_is field word number h =
     rw (← t.2) (written word parts.1 some (omega arith), fits)
 
 pub is_number : (field : Field) (word : List ℕ) (number : ℕ) → WritesNumber number word × (number ≤ most_of field)
-    → number_in field word ≡ Ok number
+    → number_of_field field word ≡ Ok number
 is_number field word number h =
     let small = most_small field in
     let r = reads_behind h.0.0 number (omega (arith, h.1, small)) in
-    ap (number_in field) h.0.1 ∙ passed (replicate h.0.0 48 ++ decimal number) r.0 r.1 r.2
+    ap (number_of_field field) h.0.1 ∙ passed (replicate h.0.0 48 ++ decimal number) r.0 r.1 r.2
   where
-    passed : (text : List ℕ) → AreDigits text → 0 < length text → digits_value 10 text ≡ number → number_in field text ≡ Ok number
+    passed : (text : List ℕ) → AreDigits text → 0 < length text → digits_value 10 text ≡ number → number_of_field field text ≡ Ok number
     passed text all some value =
         let there : (length text == 0) ≡ false = grind (arith, nat_tests, some) in
         let fits : nat_le number (most_of field) ≡ true = grind (arith, nat_tests, h.1) in

@@ -8,7 +8,7 @@ use Rattle.std.proofs.lemmas.Bool.{cases_Bool, and_parts}
 use Rattle.std.proofs.lemmas.Bool.Decides.{nat_tests}
 use Rattle.std.proofs.lemmas.List.{drop_more, take_all}
 use Rattle.std.proofs.Math.ListN.{get_or}
-use Rattle.script_lines.specs.Words.{is_blank, word_length, front}
+use Rattle.script_lines.specs.Words.{is_space, word_length, before_blank}
 use Rattle.script_lines.specs.Numbers.{number_up_to}
 
 -- the number that so many bytes write, where they are digits
@@ -18,20 +18,20 @@ numbered most len digits value = if (not (len == 0) && digits) && nat_le value m
 -- what a text says behind so many digits that write a number
 abbrev pub read_on : ℕ → ℕ → ℕ → List ℕ → Option (ℕ × ℕ)
 read_on most end number text =
-    numbered most (end + word_length text) (all_ascii_digits (front text)) (digits_value_after 10 number (front text))
+    numbered most (end + word_length text) (all_ascii_digits (before_blank text)) (digits_value_after 10 number (before_blank text))
 
 -- A digit is no blank, and its value is what it says.
-not_blank : (c : ℕ) → is_ascii_digit c ≡ true → is_blank c ≡ false
+not_blank : (c : ℕ) → is_ascii_digit c ≡ true → is_space c ≡ false
 not_blank c digit = grind (arith, nat_tests, digit)
 
 value_of_digit : (c : ℕ) → is_ascii_digit c ≡ true → digit_value c ≡ c - 48
 value_of_digit c digit = grind (arith, nat_tests, digit)
 
 -- What stands before a blank grows by a byte that is none.
-length_step : (c : ℕ) (cs : List ℕ) → is_blank c ≡ false → word_length (c ∷ cs) ≡ suc (word_length cs)
+length_step : (c : ℕ) (cs : List ℕ) → is_space c ≡ false → word_length (c ∷ cs) ≡ suc (word_length cs)
 length_step c cs other = rw other refl
 
-front_step : (c : ℕ) (cs : List ℕ) → is_blank c ≡ false → front (c ∷ cs) ≡ c ∷ front cs
+front_step : (c : ℕ) (cs : List ℕ) → is_space c ≡ false → before_blank (c ∷ cs) ≡ c ∷ before_blank cs
 front_step c cs other = rw other refl
 
 same : (most : ℕ) {l m : ℕ} {d e : Bool} {v w : ℕ} → l ≡ m → d ≡ e → v ≡ w → numbered most l d v ≡ numbered most m e w
@@ -44,8 +44,8 @@ step most end number c cs digit =
     let longer = length_step c cs none in
     let more = front_step c cs none in
     same most (omega (arith, longer))
-    (ap all_ascii_digits more ∙ ap (λ d. d && all_ascii_digits (front cs)) digit)
-    (ap (digits_value_after 10 number) more ∙ ap (λ v. digits_value_after 10 (number * 10 + v) (front cs)) (value_of_digit c digit))
+    (ap all_ascii_digits more ∙ ap (λ d. d && all_ascii_digits (before_blank cs)) digit)
+    (ap (digits_value_after 10 number) more ∙ ap (λ v. digits_value_after 10 (number * 10 + v) (before_blank cs)) (value_of_digit c digit))
 
 -- More digits write no smaller number.
 grows : (number : ℕ) (digits : List ℕ) → number ≤ digits_value_after 10 number digits
@@ -56,10 +56,10 @@ none_over : (most len value : ℕ) (digits : Bool) → most < value → numbered
 none_over most len value digits over = grind (arith, nat_tests, over)
 
 -- the text before a blank is as long as it says
-front_length : (text : List ℕ) → length (front text) ≡ word_length text
+front_length : (text : List ℕ) → length (before_blank text) ≡ word_length text
 front_length [] = refl
 front_length (c ∷ cs) =
-    elim (cases_Bool (is_blank c)) [
+    elim (cases_Bool (is_space c)) [
       | inl blank ↦ rw blank refl
       | inr other ↦
           let rest = front_length cs in
@@ -75,25 +75,25 @@ with_length true value len = refl
 with_length false value len = refl
 
 -- What is read from the start on.
-begins : (most : ℕ) (text : List ℕ) → read_on most 0 0 text ≡ option_map (of_length (word_length text)) (number_up_to most (front text))
+begins : (most : ℕ) (text : List ℕ) → read_on most 0 0 text ≡ option_map (of_length (word_length text)) (number_up_to most (before_blank text))
 begins most text =
     let len = front_length text in
-    let start : 0 + word_length text ≡ length (front text) = omega (arith, len) in
-    let tests : Bool = (not (length (front text) == 0) && all_ascii_digits (front text)) && nat_le (digits_value 10 (front text)) most in
+    let start : 0 + word_length text ≡ length (before_blank text) = omega (arith, len) in
+    let tests : Bool = (not (length (before_blank text) == 0) && all_ascii_digits (before_blank text)) && nat_le (digits_value 10 (before_blank text)) most in
     same most start refl refl
-    ∙ ap (λ l. if tests then Some (of_length l (digits_value 10 (front text))) else None) len
-    ∙ sym (with_length tests (digits_value 10 (front text)) (word_length text))
+    ∙ ap (λ l. if tests then Some (of_length l (digits_value 10 (before_blank text))) else None) len
+    ∙ sym (with_length tests (digits_value 10 (before_blank text)) (word_length text))
 
 -- A number that is too large for 64 bits is too large.
 pub too_large : (most i number : ℕ) (text : List ℕ) → most < 2 ^ 64 → i < length text → is_ascii_digit (get_or text i 0) ≡ true
     → 2 ^ 64 ≤ number * 10 + (get_or text i 0 - 48)
     → read_on most i number (drop i text) ≡ read_on most 0 0 text
-    → None ≡ option_map (of_length (word_length text)) (number_up_to most (front text))
+    → None ≡ option_map (of_length (word_length text)) (number_up_to most (before_blank text))
 too_large most i number text fits within digit over read =
     let c : ℕ = get_or text i 0 in
     let cs : List ℕ = drop (i + 1) text in
-    let more = grows (number * 10 + (c - 48)) (front cs) in
-    sym (none_over most (i + 1 + word_length cs) (digits_value_after 10 (number * 10 + (c - 48)) (front cs)) (all_ascii_digits (front cs)) (omega (arith, more, over, fits)))
+    let more = grows (number * 10 + (c - 48)) (before_blank cs) in
+    sym (none_over most (i + 1 + word_length cs) (digits_value_after 10 (number * 10 + (c - 48)) (before_blank cs)) (all_ascii_digits (before_blank cs)) (omega (arith, more, over, fits)))
     ∙ sym (step most i number c cs digit) ∙ ap (read_on most i number) (sym (drop_more text i 0 within)) ∙ read ∙ begins most text
 
 pub not_added : (value : ℕ) (r : Option ℕ) → r ≡ (if nat_le value (2 ^ 64 - 1) then Some value else None) → r ≡ None → 2 ^ 64 ≤ value
@@ -122,20 +122,20 @@ no_digits : (most : ℕ) (text : List ℕ) → all_ascii_digits text ≡ false �
 no_digits most text other = grind (arith, nat_tests, other)
 
 -- What is no number up to a blank is none.
-pub none_in_front : (most : ℕ) (text : List ℕ) → option_map (of_length (word_length text)) (number_up_to most (front text)) ≡ None → None ≡ number_up_to most text
+pub none_in_front : (most : ℕ) (text : List ℕ) → option_map (of_length (word_length text)) (number_up_to most (before_blank text)) ≡ None → None ≡ number_up_to most text
 none_in_front most text none =
     elim (cases_Bool (all_ascii_digits text)) [
       | inl all ↦
-          let whole : front text ≡ text = ap (λ n. take n text) (digits_only text all) ∙ take_all (length text) text (omega arith) in
+          let whole : before_blank text ≡ text = ap (λ n. take n text) (digits_only text all) ∙ take_all (length text) text (omega arith) in
           sym (unmapped (word_length text) (number_up_to most text) (rw whole at none))
       | inr other ↦ no_digits most text other
     ]
 
 -- What stands behind a number makes it none.
-pub ends_early : (most : ℕ) (text : List ℕ) (p : ℕ × ℕ) → option_map (of_length (word_length text)) (number_up_to most (front text)) ≡ Some p
+pub ends_early : (most : ℕ) (text : List ℕ) (p : ℕ × ℕ) → option_map (of_length (word_length text)) (number_up_to most (before_blank text)) ≡ Some p
     → (p.1 ≡ length text → ⊥) → None ≡ number_up_to most text
 ends_early most text p some other =
     elim (cases_Bool (all_ascii_digits text)) [
-      | inl all ↦ absurd (other (mapped (word_length text) p (number_up_to most (front text)) some ∙ digits_only text all))
+      | inl all ↦ absurd (other (mapped (word_length text) p (number_up_to most (before_blank text)) some ∙ digits_only text all))
       | inr not_all ↦ no_digits most text not_all
     ]

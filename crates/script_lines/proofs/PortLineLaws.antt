@@ -3,7 +3,7 @@ use Rattle.std.proofs.Common.{◌≡◌, ℕ, suc, List, refl, ap, ◌∙◌, Op
 use Rattle.std.specs.Prelude.{codes}
 use Rattle.std.specs.Str.{bytes_eq}
 use Rattle.script_lines.specs.Words.{first_word, after_word, after_words}
-use Rattle.script_lines.specs.Fields.{or_fault, ◌>>=◌, number_in}
+use Rattle.script_lines.specs.Fields.{or_fault, ◌>>=◌, number_of_field}
 use Rattle.script_lines.specs.PortLines.{request_words, put_words, port_verb_words, port_verb_of, read_words, write_words, read_dma_words, write_dma_words, call_words, send_words, receive_words, range_words, issue_words, accept_words, complete_words, recover_words, reset_words, take_words}
 use Rattle.script_lines.specs.Verbs.{verb_of}
 use Rattle.script_lines.specs.declared.field.Field.TheVariants as fields
@@ -57,8 +57,8 @@ request_same verbs.Expect a b w = refl
 -- a `put` line by its first words and what the others say
 abbrev put_of : List ℕ → List ℕ → List ℕ → (Verb → Result PutRequest LineFault) → Result PortLine LineFault
 put_of client_word tag_word name says = do
-  client ← number_in fields.Client client_word
-  tag ← number_in fields.Tag tag_word
+  client ← number_of_field fields.Client client_word
+  tag ← number_of_field fields.Tag tag_word
   verb ← or_fault UnknownRequest (verb_of name)
   request ← says verb
   Ok (lines.Put client tag request)

@@ -2,12 +2,12 @@
 use Rattle.std.proofs.Common.{◌≡◌, ℕ, ◌==◌, Bool, true, false, List, [], ◌∷◌, length, refl, ap, ◌∙◌, Option, None, Some, Result, Ok, Err, if◌then◌else◌}
 use Rattle.std.specs.Prelude.{⊤}
 use Rattle.locking.specs.declared.range.RangeRow.{RangeRow}
-use Rattle.script_lines.specs.Words.{first_word, after_words, word}
+use Rattle.script_lines.specs.Words.{first_word, after_words, nth_word}
 use Rattle.script_lines.specs.Verbs.{verb_of}
-use Rattle.script_lines.specs.Fields.{or_fault, number_in, byte_in, hex_in, ◌>>=◌}
+use Rattle.script_lines.specs.Fields.{or_fault, number_of_field, byte_of_field, hex_in, ◌>>=◌}
 use Rattle.script_lines.specs.Groups.{range_in, reset_in}
 use Rattle.script_lines.specs.PortLines.{none_left, slot_in, transfer_words, read_words, write_words, read_dma_words, write_dma_words, call_words, send_words, receive_words, request_words, range_words, put_words, issue_words, accept_words, complete_words, recover_words, reset_words, take_words, port_verb_words}
-use Rattle.script_lines.specs.Says.{Item, Number, Byte, range_items, reset_number}
+use Rattle.script_lines.specs.Says.{SaidWord, Number, Byte, range_items, reset_number}
 use Rattle.script_lines.specs.PortSays.{request_verb, request_items, sector_items, put_items, slot_items}
 use Rattle.script_lines.specs.declared.fault.LineFault.{LineFault}
 use Rattle.script_lines.specs.declared.fault.LineFault.TheVariants.{Extra, UnknownRequest}
@@ -36,11 +36,11 @@ none_known : (rest : List ℕ) → first_word rest ≡ [] → none_left rest ≡
 none_known rest h = rw h refl
 
 -- first sector and count
-sectors_back : (rest : List ℕ) (at : ℕ × ℕ) (more : List Item) → transfer_words rest ≡ Ok at → ReadEach more (after_words 2 rest)
+sectors_back : (rest : List ℕ) (at : ℕ × ℕ) (more : List SaidWord) → transfer_words rest ≡ Ok at → ReadEach more (after_words 2 rest)
     → ReadEach (sector_items at.0 at.1 more) rest
 sectors_back rest at more h later =
-    let a = bind_ok (number_in fields.PutAddress (word 0 rest)) _ at h in
-    let b = bind_ok (number_in fields.PutCount (word 1 rest)) _ at a.2 in
+    let a = bind_ok (number_of_field fields.PutAddress (nth_word 0 rest)) _ at h in
+    let b = bind_ok (number_of_field fields.PutCount (nth_word 1 rest)) _ at a.2 in
     let is = ok_is _ at b.2 in
     rw (← is) (a.1, (b.1, later))
 
@@ -65,7 +65,7 @@ read_dma_back rest request h =
 write_back : (rest : List ℕ) (request : PutRequest) → write_words rest ≡ Ok request → AsksBack verbs.Write request rest
 write_back rest request h =
     let g = bind_ok (transfer_words rest) _ request h in
-    let b = bind_ok (byte_in fields.PutByte (word 2 rest)) _ request g.2 in
+    let b = bind_ok (byte_of_field fields.PutByte (nth_word 2 rest)) _ request g.2 in
     let n = bind_ok (none_left (after_words 3 rest)) _ request b.2 in
     let is = ok_is _ request n.2 in
     rw (← is) (refl, sectors_back rest g.0 (Byte fields.PutByte b.0 ∷ []) g.1 (b.1, none_back (after_words 3 rest) n.0 n.1))
@@ -73,33 +73,33 @@ write_back rest request h =
 write_dma_back : (rest : List ℕ) (request : PutRequest) → write_dma_words rest ≡ Ok request → AsksBack verbs.WriteDma request rest
 write_dma_back rest request h =
     let g = bind_ok (transfer_words rest) _ request h in
-    let b = bind_ok (byte_in fields.PutByte (word 2 rest)) _ request g.2 in
+    let b = bind_ok (byte_of_field fields.PutByte (nth_word 2 rest)) _ request g.2 in
     let n = bind_ok (none_left (after_words 3 rest)) _ request b.2 in
     let is = ok_is _ request n.2 in
     rw (← is) (refl, sectors_back rest g.0 (Byte fields.PutByte b.0 ∷ []) g.1 (b.1, none_back (after_words 3 rest) n.0 n.1))
 
 call_back : (rest : List ℕ) (request : PutRequest) → call_words rest ≡ Ok request → AsksBack verbs.Call request rest
 call_back rest request h =
-    let a = bind_ok (number_in fields.PutComId (word 0 rest)) _ request h in
-    let b = bind_ok (number_in fields.PutTperSession (word 1 rest)) _ request a.2 in
-    let c = bind_ok (number_in fields.PutHostSession (word 2 rest)) _ request b.2 in
-    let d = bind_ok (hex_in fields.PutTokens (word 3 rest)) _ request c.2 in
+    let a = bind_ok (number_of_field fields.PutComId (nth_word 0 rest)) _ request h in
+    let b = bind_ok (number_of_field fields.PutTperSession (nth_word 1 rest)) _ request a.2 in
+    let c = bind_ok (number_of_field fields.PutHostSession (nth_word 2 rest)) _ request b.2 in
+    let d = bind_ok (hex_in fields.PutTokens (nth_word 3 rest)) _ request c.2 in
     let n = bind_ok (none_left (after_words 4 rest)) _ request d.2 in
     let is = ok_is _ request n.2 in
     rw (← is) (refl, (a.1, (b.1, (c.1, (d.1, none_back (after_words 4 rest) n.0 n.1)))))
 
 send_back : (rest : List ℕ) (request : PutRequest) → send_words rest ≡ Ok request → AsksBack verbs.Send request rest
 send_back rest request h =
-    let a = bind_ok (number_in fields.PutComId (word 0 rest)) _ request h in
-    let b = bind_ok (hex_in fields.PutComPacket (word 1 rest)) _ request a.2 in
+    let a = bind_ok (number_of_field fields.PutComId (nth_word 0 rest)) _ request h in
+    let b = bind_ok (hex_in fields.PutComPacket (nth_word 1 rest)) _ request a.2 in
     let n = bind_ok (none_left (after_words 2 rest)) _ request b.2 in
     let is = ok_is _ request n.2 in
     rw (← is) (refl, (a.1, (b.1, none_back (after_words 2 rest) n.0 n.1)))
 
 receive_back : (rest : List ℕ) (request : PutRequest) → receive_words rest ≡ Ok request → AsksBack verbs.Receive request rest
 receive_back rest request h =
-    let a = bind_ok (number_in fields.PutComId (word 0 rest)) _ request h in
-    let b = bind_ok (number_in fields.PutBlocks (word 1 rest)) _ request a.2 in
+    let a = bind_ok (number_of_field fields.PutComId (nth_word 0 rest)) _ request h in
+    let b = bind_ok (number_of_field fields.PutBlocks (nth_word 1 rest)) _ request a.2 in
     let n = bind_ok (none_left (after_words 2 rest)) _ request b.2 in
     let is = ok_is _ request n.2 in
     rw (← is) (refl, (a.1, (b.1, none_back (after_words 2 rest) n.0 n.1)))
@@ -166,13 +166,13 @@ range_back rest line h =
 
 put_back : (rest : List ℕ) (line : PortLine) → put_words rest ≡ Ok line → PortBack steps.Put line rest
 put_back rest line h =
-    let a = bind_ok (number_in fields.Client (word 0 rest)) _ line h in
-    let b = bind_ok (number_in fields.Tag (word 1 rest)) _ line a.2 in
-    let v = bind_ok (or_fault UnknownRequest (verb_of (word 2 rest))) _ line b.2 in
+    let a = bind_ok (number_of_field fields.Client (nth_word 0 rest)) _ line h in
+    let b = bind_ok (number_of_field fields.Tag (nth_word 1 rest)) _ line a.2 in
+    let v = bind_ok (or_fault UnknownRequest (verb_of (nth_word 2 rest))) _ line b.2 in
     let r = bind_ok (request_words v.0 (after_words 3 rest)) _ line v.2 in
     let is = ok_is _ line r.2 in
     let asked = request_back v.0 (after_words 3 rest) r.0 r.1 in
-    let name = fault_back (verb_of (word 2 rest)) v.0 v.1 ∙ ap Some asked.0 in
+    let name = fault_back (verb_of (nth_word 2 rest)) v.0 v.1 ∙ ap Some asked.0 in
     rw (← is) (refl, (a.1, (b.1, (name, asked.1))))
 
 issue_back : (rest : List ℕ) (line : PortLine) → issue_words rest ≡ Ok line → PortBack steps.Issue line rest
@@ -204,16 +204,16 @@ recover_back rest line h =
 
 reset_line_back : (rest : List ℕ) (line : PortLine) → reset_words rest ≡ Ok line → PortBack steps.Reset line rest
 reset_line_back rest line h =
-    let a = bind_ok (number_in fields.Client (word 0 rest)) _ line h in
-    let k = bind_ok (reset_in (word 1 rest)) _ line a.2 in
+    let a = bind_ok (number_of_field fields.Client (nth_word 0 rest)) _ line h in
+    let k = bind_ok (reset_in (nth_word 1 rest)) _ line a.2 in
     let n = bind_ok (none_left (after_words 2 rest)) _ line k.2 in
     let is = ok_is _ line n.2 in
-    rw (← is) (refl, (a.1, (reset_back (word 1 rest) k.0 k.1, none_back (after_words 2 rest) n.0 n.1)))
+    rw (← is) (refl, (a.1, (reset_back (nth_word 1 rest) k.0 k.1, none_back (after_words 2 rest) n.0 n.1)))
 
 take_back : (rest : List ℕ) (line : PortLine) → take_words rest ≡ Ok line → PortBack steps.Take line rest
 take_back rest line h =
-    let a = bind_ok (number_in fields.Client (word 0 rest)) _ line h in
-    let b = bind_ok (number_in fields.Tag (word 1 rest)) _ line a.2 in
+    let a = bind_ok (number_of_field fields.Client (nth_word 0 rest)) _ line h in
+    let b = bind_ok (number_of_field fields.Tag (nth_word 1 rest)) _ line a.2 in
     let n = bind_ok (none_left (after_words 2 rest)) _ line b.2 in
     let is = ok_is _ line n.2 in
     rw (← is) (refl, (a.1, (b.1, none_back (after_words 2 rest) n.0 n.1)))
@@ -247,8 +247,8 @@ put_known rest client tag request h =
 
 reset_line_known : (rest : List ℕ) (client : ℕ) (kind : Reset) → PortReadBy (lines.Reset client kind) rest → reset_words rest ≡ Ok (lines.Reset client kind)
 reset_line_known rest client kind h =
-    let k = reset_known (word 1 rest) kind h.1.0 in
-    ap (λ (r : Result ℕ LineFault). r >>= λ client. reset_in (word 1 rest) >>= λ kind. none_left (after_words 2 rest) >>= λ _. Ok (lines.Reset client kind)) h.0
+    let k = reset_known (nth_word 1 rest) kind h.1.0 in
+    ap (λ (r : Result ℕ LineFault). r >>= λ client. reset_in (nth_word 1 rest) >>= λ kind. none_left (after_words 2 rest) >>= λ _. Ok (lines.Reset client kind)) h.0
     ∙ ap (λ (r : Result Reset LineFault). r >>= λ kind. none_left (after_words 2 rest) >>= λ _. Ok (lines.Reset client kind)) k
     ∙ ap (λ (r : Result (Unit {0}) LineFault). r >>= λ _. Ok (lines.Reset client kind)) (none_known (after_words 2 rest) h.1.1)
 

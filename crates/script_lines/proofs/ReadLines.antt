@@ -5,11 +5,11 @@ use Rattle.std.proofs.lemmas.Bool.{eqb-true}
 use Rattle.std.proofs.lemmas.Bool.Decides.{nat_tests}
 use Rattle.compacket.specs.declared.session.Session.{Session}
 use Rattle.locking.specs.declared.range.RangeRow.{RangeRow}
-use Rattle.script_lines.specs.Words.{first_word, after_words, word}
-use Rattle.script_lines.specs.Fields.{most_of, number_in, flag_in, flag_of, byte_in, hex_in, ◌>>=◌}
-use Rattle.script_lines.specs.Groups.{range_in, transfer_in, dma_transfer_in, session_in, reset_in, reset_of}
+use Rattle.script_lines.specs.Words.{first_word, after_words, nth_word}
+use Rattle.script_lines.specs.Fields.{most_of, number_of_field, flag_in, is_flag_set, byte_of_field, hex_in, ◌>>=◌}
+use Rattle.script_lines.specs.Groups.{range_in, transfer_in, dma_transfer_in, session_in, reset_in, reset_named}
 use Rattle.script_lines.specs.Lines.{ended, verb_line, range_line, read_line, write_line, read_dma_line, write_dma_line, call_line, send_line, receive_line, log_line, reset_line, tper_reset_line}
-use Rattle.script_lines.specs.Says.{Item, Number, Byte, Bytes, flag, range_items, transfer_items, dma_items, com_items, call_items, reset_number}
+use Rattle.script_lines.specs.Says.{SaidWord, Number, Byte, Bytes, flag_number, range_items, transfer_items, dma_items, com_items, call_items, reset_number}
 use Rattle.script_lines.specs.declared.fault.LineFault.{LineFault}
 use Rattle.script_lines.specs.declared.fault.LineFault.TheVariants.{Extra}
 use Rattle.script_lines.specs.declared.field.Field.{Field}
@@ -54,91 +54,91 @@ ended_known : (rest : List ℕ) (line : Line) → first_word rest ≡ [] → end
 ended_known rest line h = rw h refl
 
 -- a flag is the number 0 or 1
-flag_is : (number : ℕ) (b : Bool) → number ≤ 1 → (number == 1) ≡ b → number ≡ flag b
+flag_is : (number : ℕ) (b : Bool) → number ≤ 1 → (number == 1) ≡ b → number ≡ flag_number b
 flag_is number true le is = grind (arith, nat_tests, is)
 flag_is number false le is = grind (arith, nat_tests, is, le)
 
-flag_cases : (field : Field) (w : List ℕ) (r : Result ℕ LineFault) (b : Bool) → most_of field ≡ 1 → number_in field w ≡ r → flag_of r ≡ Ok b → number_in field w ≡ Ok (flag b)
+flag_cases : (field : Field) (w : List ℕ) (r : Result ℕ LineFault) (b : Bool) → most_of field ≡ 1 → number_of_field field w ≡ r → is_flag_set r ≡ Ok b → number_of_field field w ≡ Ok (flag_number b)
 flag_cases field w (Err e) b one is h = cc h
 flag_cases field w (Ok number) b one is h =
     let le = (number_is field w number is).1 in
     let same = flag_is number b (omega (arith, le, one)) (ok_is (number == 1) b h) in
     is ∙ ap Ok same
 
-flag_back : (field : Field) (w : List ℕ) (b : Bool) → most_of field ≡ 1 → flag_in field w ≡ Ok b → number_in field w ≡ Ok (flag b)
-flag_back field w b one h = flag_cases field w (number_in field w) b one refl h
+flag_back : (field : Field) (w : List ℕ) (b : Bool) → most_of field ≡ 1 → flag_in field w ≡ Ok b → number_of_field field w ≡ Ok (flag_number b)
+flag_back field w b one h = flag_cases field w (number_of_field field w) b one refl h
 
-flag_known : (field : Field) (w : List ℕ) (b : Bool) → number_in field w ≡ Ok (flag b) → flag_in field w ≡ Ok b
-flag_known field w true h = ap flag_of h
-flag_known field w false h = ap flag_of h
+flag_known : (field : Field) (w : List ℕ) (b : Bool) → number_of_field field w ≡ Ok (flag_number b) → flag_in field w ≡ Ok b
+flag_known field w true h = ap is_flag_set h
+flag_known field w false h = ap is_flag_set h
 
-reset_flag : (b : Bool) → reset_number (reset_of b) ≡ flag b
+reset_flag : (b : Bool) → reset_number (reset_named b) ≡ flag_number b
 reset_flag false = refl
 reset_flag true = refl
 
-pub reset_back : (w : List ℕ) (kind : Reset) → reset_in w ≡ Ok kind → number_in fields.ResetKind w ≡ Ok (reset_number kind)
+pub reset_back : (w : List ℕ) (kind : Reset) → reset_in w ≡ Ok kind → number_of_field fields.ResetKind w ≡ Ok (reset_number kind)
 reset_back w kind h =
     let b = bind_ok (flag_in fields.ResetKind w) _ kind h in
-    let is : reset_of b.0 ≡ kind = ok_is (reset_of b.0) kind b.2 in
+    let is : reset_named b.0 ≡ kind = ok_is (reset_named b.0) kind b.2 in
     flag_back fields.ResetKind w b.0 refl b.1 ∙ ap Ok (sym (reset_flag b.0) ∙ ap reset_number is)
 
-pub reset_known : (w : List ℕ) (kind : Reset) → number_in fields.ResetKind w ≡ Ok (reset_number kind) → reset_in w ≡ Ok kind
-reset_known w resets.Power h = ap (λ (r : Result Bool LineFault). r >>= λ b. Ok (reset_of b)) (flag_known fields.ResetKind w false h)
-reset_known w resets.Hardware h = ap (λ (r : Result Bool LineFault). r >>= λ b. Ok (reset_of b)) (flag_known fields.ResetKind w true h)
+pub reset_known : (w : List ℕ) (kind : Reset) → number_of_field fields.ResetKind w ≡ Ok (reset_number kind) → reset_in w ≡ Ok kind
+reset_known w resets.Power h = ap (λ (r : Result Bool LineFault). r >>= λ b. Ok (reset_named b)) (flag_known fields.ResetKind w false h)
+reset_known w resets.Hardware h = ap (λ (r : Result Bool LineFault). r >>= λ b. Ok (reset_named b)) (flag_known fields.ResetKind w true h)
 
 -- groups of words
-transfer_back : (rest : List ℕ) (t : Transfer) (more : List Item) → transfer_in rest ≡ Ok t → ReadEach more (after_words 4 rest) → ReadEach (transfer_items t more) rest
+transfer_back : (rest : List ℕ) (t : Transfer) (more : List SaidWord) → transfer_in rest ≡ Ok t → ReadEach more (after_words 4 rest) → ReadEach (transfer_items t more) rest
 transfer_back rest t more h later =
-    let a = bind_ok (number_in fields.Client (word 0 rest)) _ t h in
-    let b = bind_ok (number_in fields.Tag (word 1 rest)) _ t a.2 in
-    let c = bind_ok (number_in fields.Address (word 2 rest)) _ t b.2 in
-    let d = bind_ok (number_in fields.Count (word 3 rest)) _ t c.2 in
+    let a = bind_ok (number_of_field fields.Client (nth_word 0 rest)) _ t h in
+    let b = bind_ok (number_of_field fields.Tag (nth_word 1 rest)) _ t a.2 in
+    let c = bind_ok (number_of_field fields.Address (nth_word 2 rest)) _ t b.2 in
+    let d = bind_ok (number_of_field fields.Count (nth_word 3 rest)) _ t c.2 in
     let is = ok_is _ t d.2 in
     rw (← is) (a.1, (b.1, (c.1, (d.1, later))))
 
-transfer_known : (rest : List ℕ) (t : Transfer) (more : List Item) → ReadEach (transfer_items t more) rest → transfer_in rest ≡ Ok t
+transfer_known : (rest : List ℕ) (t : Transfer) (more : List SaidWord) → ReadEach (transfer_items t more) rest → transfer_in rest ≡ Ok t
 transfer_known rest t more h = rw (h.0, h.1.0, h.1.1.0, h.1.1.1.0) refl
 
-dma_back : (rest : List ℕ) (t : DmaTransfer) (more : List Item) → dma_transfer_in rest ≡ Ok t → ReadEach more (after_words 3 rest) → ReadEach (dma_items t more) rest
+dma_back : (rest : List ℕ) (t : DmaTransfer) (more : List SaidWord) → dma_transfer_in rest ≡ Ok t → ReadEach more (after_words 3 rest) → ReadEach (dma_items t more) rest
 dma_back rest t more h later =
-    let a = bind_ok (number_in fields.Client (word 0 rest)) _ t h in
-    let b = bind_ok (number_in fields.DmaAddress (word 1 rest)) _ t a.2 in
-    let c = bind_ok (number_in fields.DmaCount (word 2 rest)) _ t b.2 in
+    let a = bind_ok (number_of_field fields.Client (nth_word 0 rest)) _ t h in
+    let b = bind_ok (number_of_field fields.DmaAddress (nth_word 1 rest)) _ t a.2 in
+    let c = bind_ok (number_of_field fields.DmaCount (nth_word 2 rest)) _ t b.2 in
     let is = ok_is _ t c.2 in
     rw (← is) (a.1, (b.1, (c.1, later)))
 
-dma_known : (rest : List ℕ) (t : DmaTransfer) (more : List Item) → ReadEach (dma_items t more) rest → dma_transfer_in rest ≡ Ok t
+dma_known : (rest : List ℕ) (t : DmaTransfer) (more : List SaidWord) → ReadEach (dma_items t more) rest → dma_transfer_in rest ≡ Ok t
 dma_known rest t more h = rw (h.0, h.1.0, h.1.1.0) refl
 
 pub row_back : (rest : List ℕ) (row : RangeRow) → range_in rest ≡ Ok row → first_word (after_words 7 rest) ≡ [] → ReadEach (range_items row) rest
 row_back rest row h end =
-    let a = bind_ok (number_in fields.Range (word 0 rest)) _ row h in
-    let b = bind_ok (number_in fields.Start (word 1 rest)) _ row a.2 in
-    let c = bind_ok (number_in fields.Length (word 2 rest)) _ row b.2 in
-    let d = bind_ok (flag_in fields.ReadLockEnabled (word 3 rest)) _ row c.2 in
-    let e = bind_ok (flag_in fields.WriteLockEnabled (word 4 rest)) _ row d.2 in
-    let f = bind_ok (flag_in fields.ReadLocked (word 5 rest)) _ row e.2 in
-    let g = bind_ok (flag_in fields.WriteLocked (word 6 rest)) _ row f.2 in
+    let a = bind_ok (number_of_field fields.Range (nth_word 0 rest)) _ row h in
+    let b = bind_ok (number_of_field fields.Start (nth_word 1 rest)) _ row a.2 in
+    let c = bind_ok (number_of_field fields.Length (nth_word 2 rest)) _ row b.2 in
+    let d = bind_ok (flag_in fields.ReadLockEnabled (nth_word 3 rest)) _ row c.2 in
+    let e = bind_ok (flag_in fields.WriteLockEnabled (nth_word 4 rest)) _ row d.2 in
+    let f = bind_ok (flag_in fields.ReadLocked (nth_word 5 rest)) _ row e.2 in
+    let g = bind_ok (flag_in fields.WriteLocked (nth_word 6 rest)) _ row f.2 in
     let is = ok_is _ row g.2 in
-    let j = flag_back fields.ReadLockEnabled (word 3 rest) d.0 refl d.1 in
-    let k = flag_back fields.WriteLockEnabled (word 4 rest) e.0 refl e.1 in
-    let l = flag_back fields.ReadLocked (word 5 rest) f.0 refl f.1 in
-    let m = flag_back fields.WriteLocked (word 6 rest) g.0 refl g.1 in
+    let j = flag_back fields.ReadLockEnabled (nth_word 3 rest) d.0 refl d.1 in
+    let k = flag_back fields.WriteLockEnabled (nth_word 4 rest) e.0 refl e.1 in
+    let l = flag_back fields.ReadLocked (nth_word 5 rest) f.0 refl f.1 in
+    let m = flag_back fields.WriteLocked (nth_word 6 rest) g.0 refl g.1 in
     rw (← is) (a.1, (b.1, (c.1, (j, (k, (l, (m, end)))))))
 
 pub row_known : (rest : List ℕ) (row : RangeRow) → ReadEach (range_items row) rest → range_in rest ≡ Ok row
 row_known rest row h =
-    let d = flag_known fields.ReadLockEnabled (word 3 rest) row.read_enabled h.1.1.1.0 in
-    let e = flag_known fields.WriteLockEnabled (word 4 rest) row.write_enabled h.1.1.1.1.0 in
-    let f = flag_known fields.ReadLocked (word 5 rest) row.read_locked h.1.1.1.1.1.0 in
-    let g = flag_known fields.WriteLocked (word 6 rest) row.write_locked h.1.1.1.1.1.1.0 in
+    let d = flag_known fields.ReadLockEnabled (nth_word 3 rest) row.read_enabled h.1.1.1.0 in
+    let e = flag_known fields.WriteLockEnabled (nth_word 4 rest) row.write_enabled h.1.1.1.1.0 in
+    let f = flag_known fields.ReadLocked (nth_word 5 rest) row.read_locked h.1.1.1.1.1.0 in
+    let g = flag_known fields.WriteLocked (nth_word 6 rest) row.write_locked h.1.1.1.1.1.1.0 in
     rw (h.0, h.1.0, h.1.1.0, d, e, f, g) refl
 
-session_back : (rest : List ℕ) (s : Session) (more : List Item) → session_in rest ≡ Ok s → ReadEach more (after_words 2 rest)
+session_back : (rest : List ℕ) (s : Session) (more : List SaidWord) → session_in rest ≡ Ok s → ReadEach more (after_words 2 rest)
     → ReadEach (Number fields.TperSession s.tsn ∷ Number fields.HostSession s.hsn ∷ more) rest
 session_back rest s more h later =
-    let a = bind_ok (number_in fields.TperSession (word 0 rest)) _ s h in
-    let b = bind_ok (number_in fields.HostSession (word 1 rest)) _ s a.2 in
+    let a = bind_ok (number_of_field fields.TperSession (nth_word 0 rest)) _ s h in
+    let b = bind_ok (number_of_field fields.HostSession (nth_word 1 rest)) _ s a.2 in
     let is = ok_is _ s b.2 in
     rw (← is) (a.1, (b.1, later))
 
@@ -199,15 +199,15 @@ read_known rest t h =
 write_back : (rest : List ℕ) (line : Line) → write_line rest ≡ Ok line → Back verbs.Write line rest
 write_back rest line h =
     let g = bind_ok (transfer_in rest) _ line h in
-    let b = bind_ok (byte_in fields.Byte (word 4 rest)) _ line g.2 in
+    let b = bind_ok (byte_of_field fields.Byte (nth_word 4 rest)) _ line g.2 in
     let end = ended_back (after_words 5 rest) (lines.Write g.0 b.0) line b.2 in
     rw (← end.1) (refl, transfer_back rest g.0 (Byte fields.Byte b.0 ∷ []) g.1 (b.1, end.0))
 
 write_known : (rest : List ℕ) (t : Transfer) (byte : ℕ) → ReadBy (lines.Write t byte) rest → write_line rest ≡ Ok (lines.Write t byte)
 write_known rest t byte h =
     let g = transfer_known rest t (Byte fields.Byte byte ∷ []) h in
-    let b : byte_in fields.Byte (word 4 rest) ≡ Ok byte = h.1.1.1.1.0 in
-    ap (λ (r : Result Transfer LineFault). r >>= λ t. byte_in fields.Byte (word 4 rest) >>= λ byte. ended (after_words 5 rest) (lines.Write t byte)) g
+    let b : byte_of_field fields.Byte (nth_word 4 rest) ≡ Ok byte = h.1.1.1.1.0 in
+    ap (λ (r : Result Transfer LineFault). r >>= λ t. byte_of_field fields.Byte (nth_word 4 rest) >>= λ byte. ended (after_words 5 rest) (lines.Write t byte)) g
     ∙ ap (λ (r : Result ℕ LineFault). r >>= λ byte. ended (after_words 5 rest) (lines.Write t byte)) b
     ∙ ended_known (after_words 5 rest) (lines.Write t byte) h.1.1.1.1.1
 
@@ -225,24 +225,24 @@ read_dma_known rest t h =
 write_dma_back : (rest : List ℕ) (line : Line) → write_dma_line rest ≡ Ok line → Back verbs.WriteDma line rest
 write_dma_back rest line h =
     let g = bind_ok (dma_transfer_in rest) _ line h in
-    let b = bind_ok (byte_in fields.DmaByte (word 3 rest)) _ line g.2 in
+    let b = bind_ok (byte_of_field fields.DmaByte (nth_word 3 rest)) _ line g.2 in
     let end = ended_back (after_words 4 rest) (lines.WriteDma g.0 b.0) line b.2 in
     rw (← end.1) (refl, dma_back rest g.0 (Byte fields.DmaByte b.0 ∷ []) g.1 (b.1, end.0))
 
 write_dma_known : (rest : List ℕ) (t : DmaTransfer) (byte : ℕ) → ReadBy (lines.WriteDma t byte) rest → write_dma_line rest ≡ Ok (lines.WriteDma t byte)
 write_dma_known rest t byte h =
     let g = dma_known rest t (Byte fields.DmaByte byte ∷ []) h in
-    let b : byte_in fields.DmaByte (word 3 rest) ≡ Ok byte = h.1.1.1.0 in
-    ap (λ (r : Result DmaTransfer LineFault). r >>= λ t. byte_in fields.DmaByte (word 3 rest) >>= λ byte. ended (after_words 4 rest) (lines.WriteDma t byte)) g
+    let b : byte_of_field fields.DmaByte (nth_word 3 rest) ≡ Ok byte = h.1.1.1.0 in
+    ap (λ (r : Result DmaTransfer LineFault). r >>= λ t. byte_of_field fields.DmaByte (nth_word 3 rest) >>= λ byte. ended (after_words 4 rest) (lines.WriteDma t byte)) g
     ∙ ap (λ (r : Result ℕ LineFault). r >>= λ byte. ended (after_words 4 rest) (lines.WriteDma t byte)) b
     ∙ ended_known (after_words 4 rest) (lines.WriteDma t byte) h.1.1.1.1
 
 call_back : (rest : List ℕ) (line : Line) → call_line rest ≡ Ok line → Back verbs.Call line rest
 call_back rest line h =
-    let a = bind_ok (number_in fields.Client (word 0 rest)) _ line h in
-    let b = bind_ok (number_in fields.ComId (word 1 rest)) _ line a.2 in
+    let a = bind_ok (number_of_field fields.Client (nth_word 0 rest)) _ line h in
+    let b = bind_ok (number_of_field fields.ComId (nth_word 1 rest)) _ line a.2 in
     let s = bind_ok (session_in (after_words 2 rest)) _ line b.2 in
-    let x = bind_ok (hex_in fields.Tokens (word 4 rest)) _ line s.2 in
+    let x = bind_ok (hex_in fields.Tokens (nth_word 4 rest)) _ line s.2 in
     let end = ended_back (after_words 5 rest) (lines.Call a.0 b.0 s.0 x.0) line x.2 in
     rw (← end.1) (refl, (a.1, (b.1, session_back (after_words 2 rest) s.0 (Bytes fields.Tokens x.0 ∷ []) s.1 (x.1, end.0))))
 
@@ -253,9 +253,9 @@ call_known rest client com_id session tokens h =
 
 send_back : (rest : List ℕ) (line : Line) → send_line rest ≡ Ok line → Back verbs.Send line rest
 send_back rest line h =
-    let a = bind_ok (number_in fields.Client (word 0 rest)) _ line h in
-    let b = bind_ok (number_in fields.ComId (word 1 rest)) _ line a.2 in
-    let x = bind_ok (hex_in fields.ComPacket (word 2 rest)) _ line b.2 in
+    let a = bind_ok (number_of_field fields.Client (nth_word 0 rest)) _ line h in
+    let b = bind_ok (number_of_field fields.ComId (nth_word 1 rest)) _ line a.2 in
+    let x = bind_ok (hex_in fields.ComPacket (nth_word 2 rest)) _ line b.2 in
     let end = ended_back (after_words 3 rest) (lines.Send a.0 b.0 x.0) line x.2 in
     rw (← end.1) (refl, (a.1, (b.1, (x.1, end.0))))
 
@@ -266,9 +266,9 @@ send_known rest client com_id packet h =
 
 receive_back : (rest : List ℕ) (line : Line) → receive_line rest ≡ Ok line → Back verbs.Receive line rest
 receive_back rest line h =
-    let a = bind_ok (number_in fields.Client (word 0 rest)) _ line h in
-    let b = bind_ok (number_in fields.ComId (word 1 rest)) _ line a.2 in
-    let c = bind_ok (number_in fields.Blocks (word 2 rest)) _ line b.2 in
+    let a = bind_ok (number_of_field fields.Client (nth_word 0 rest)) _ line h in
+    let b = bind_ok (number_of_field fields.ComId (nth_word 1 rest)) _ line a.2 in
+    let c = bind_ok (number_of_field fields.Blocks (nth_word 2 rest)) _ line b.2 in
     let end = ended_back (after_words 3 rest) (lines.Receive a.0 b.0 c.0) line c.2 in
     rw (← end.1) (refl, (a.1, (b.1, (c.1, end.0))))
 
@@ -279,7 +279,7 @@ receive_known rest client com_id blocks h =
 
 log_back : (rest : List ℕ) (line : Line) → log_line rest ≡ Ok line → Back verbs.Log line rest
 log_back rest line h =
-    let a = bind_ok (number_in fields.Client (word 0 rest)) _ line h in
+    let a = bind_ok (number_of_field fields.Client (nth_word 0 rest)) _ line h in
     let end = ended_back (after_words 1 rest) (lines.Log a.0) line a.2 in
     rw (← end.1) (refl, (a.1, end.0))
 
@@ -288,22 +288,22 @@ log_known rest client h = rw h.0 (ended_known (after_words 1 rest) (lines.Log cl
 
 reset_line_back : (rest : List ℕ) (line : Line) → reset_line rest ≡ Ok line → Back verbs.Reset line rest
 reset_line_back rest line h =
-    let a = bind_ok (number_in fields.Client (word 0 rest)) _ line h in
-    let k = bind_ok (reset_in (word 1 rest)) _ line a.2 in
-    let kind = reset_back (word 1 rest) k.0 k.1 in
+    let a = bind_ok (number_of_field fields.Client (nth_word 0 rest)) _ line h in
+    let k = bind_ok (reset_in (nth_word 1 rest)) _ line a.2 in
+    let kind = reset_back (nth_word 1 rest) k.0 k.1 in
     let end = ended_back (after_words 2 rest) (lines.Reset a.0 k.0) line k.2 in
     rw (← end.1) (refl, (a.1, (kind, end.0)))
 
 reset_line_known : (rest : List ℕ) (client : ℕ) (kind : Reset) → ReadBy (lines.Reset client kind) rest → reset_line rest ≡ Ok (lines.Reset client kind)
 reset_line_known rest client kind h =
-    let k = reset_known (word 1 rest) kind h.1.0 in
-    ap (λ (r : Result ℕ LineFault). r >>= λ client. reset_in (word 1 rest) >>= λ kind. ended (after_words 2 rest) (lines.Reset client kind)) h.0
+    let k = reset_known (nth_word 1 rest) kind h.1.0 in
+    ap (λ (r : Result ℕ LineFault). r >>= λ client. reset_in (nth_word 1 rest) >>= λ kind. ended (after_words 2 rest) (lines.Reset client kind)) h.0
     ∙ ap (λ (r : Result Reset LineFault). r >>= λ kind. ended (after_words 2 rest) (lines.Reset client kind)) k
     ∙ ended_known (after_words 2 rest) (lines.Reset client kind) h.1.1
 
 tper_back : (rest : List ℕ) (line : Line) → tper_reset_line rest ≡ Ok line → Back verbs.TperReset line rest
 tper_back rest line h =
-    let a = bind_ok (number_in fields.Client (word 0 rest)) _ line h in
+    let a = bind_ok (number_of_field fields.Client (nth_word 0 rest)) _ line h in
     let end = ended_back (after_words 1 rest) (lines.TperReset a.0) line a.2 in
     rw (← end.1) (refl, (a.1, end.0))
 

@@ -8,12 +8,12 @@ use Rattle.std.proofs.lemmas.List.Sums.{list_all-from_AllPass}
 use Rattle.hex.specs.Hex.{decode_of, is_hex_digit}
 use Rattle.hex.specs.declared.error.FromHexError.{FromHexError}
 use Rattle.hex.proofs.HexLemmas.{decode_of-ok}
-use Rattle.script_lines.specs.Words.{is_blank, skip_blanks, word_length, first_word, after_word}
+use Rattle.script_lines.specs.Words.{is_space, skip_blanks, word_length, first_word, after_word}
 use Rattle.script_lines.specs.Hexes.{at_most, bytes_up_to}
 use Rattle.script_lines.specs.Fields.{most_of, hex_in}
 use Rattle.script_lines.specs.declared.field.Field.{Field}
 
-not_blank : (c : ℕ) → is_hex_digit c ≡ true → is_blank c ≡ false
+not_blank : (c : ℕ) → is_hex_digit c ≡ true → is_space c ≡ false
 not_blank c digit = grind (arith, nat_tests, digit)
 
 whole_length : (text : List ℕ) → list_all is_hex_digit text ≡ true → word_length text ≡ length text

@@ -30,10 +30,10 @@ takes field word = is_numeral word && nat_le (digits_value 10 word) (most_of fie
 -- what is wrong with words that stand for these fields, and with those behind them
 abbrev pub in_fields : List Field → (List (List ℕ) → Option LineFault) → List (List ℕ)
     → Option LineFault
-in_fields [] behind words = behind words
-in_fields (field ∷ others) behind [] = Some (Missing field)
-in_fields (field ∷ others) behind (word ∷ words) =
-    if takes field word then in_fields others behind words else Some (Wrong field)
+in_fields [] fault_behind words = fault_behind words
+in_fields (field ∷ others) fault_behind [] = Some (Missing field)
+in_fields (field ∷ others) fault_behind (word ∷ words) =
+    if takes field word then in_fields others fault_behind words else Some (Wrong field)
 
 -- no word may be left
 abbrev pub none_left : List (List ℕ) → Option LineFault
@@ -77,14 +77,14 @@ fields_of verbs.TperReset = fields.Client ∷ []
 fields_of verbs.Expect = []
 
 -- behind `expect` any words may stand
-abbrev pub behind : Verb → List (List ℕ) → Option LineFault
-behind verbs.Expect = any_left
-behind verb = none_left
+abbrev pub fault_behind : Verb → List (List ℕ) → Option LineFault
+fault_behind verbs.Expect = any_left
+fault_behind verb = none_left
 
 -- what is wrong with the words behind a name that is one of a line
 abbrev pub in_line : Option Verb → List (List ℕ) → Option LineFault
 in_line None words = Some UnknownWord
-in_line (Some verb) words = in_fields (fields_of verb) (behind verb) words
+in_line (Some verb) words = in_fields (fields_of verb) (fault_behind verb) words
 
 -- what is wrong with the words of a line
 abbrev pub wrong_in : List (List ℕ) → Option LineFault

@@ -70,24 +70,24 @@ Ok x >>= f = f x
 Err e >>= f = Err e
 
 -- a word as the number of a field
-abbrev pub number_in : Field → List ℕ → Result ℕ LineFault
-number_in field word =
+abbrev pub number_of_field : Field → List ℕ → Result ℕ LineFault
+number_of_field field word =
     if_present field word (or_fault (Wrong field) (number_up_to (most_of field) word))
 
-abbrev pub flag_of : Result ℕ LineFault → Result Bool LineFault
-flag_of (Ok number) = Ok (number == 1)
-flag_of (Err fault) = Err fault
+abbrev pub is_flag_set : Result ℕ LineFault → Result Bool LineFault
+is_flag_set (Ok number) = Ok (number == 1)
+is_flag_set (Err fault) = Err fault
 
 abbrev pub flag_in : Field → List ℕ → Result Bool LineFault
-flag_in field word = flag_of (number_in field word)
+flag_in field word = is_flag_set (number_of_field field word)
 
 -- a byte written as two hex digits
 abbrev pub byte_or_fault : Field → Result (List ℕ) FromHexError → Result ℕ LineFault
 byte_or_fault field (Ok bytes) = Ok (slice_index bytes 0)
 byte_or_fault field (Err error) = Err (Wrong field)
 
-abbrev pub byte_in : Field → List ℕ → Result ℕ LineFault
-byte_in field word = if_present field word (byte_or_fault field (decode_sized word 1))
+abbrev pub byte_of_field : Field → List ℕ → Result ℕ LineFault
+byte_of_field field word = if_present field word (byte_or_fault field (decode_sized word 1))
 
 -- bytes written in hex text, at most as many as the field holds
 abbrev pub hex_in : Field → List ℕ → Result (List ℕ) LineFault

@@ -13,9 +13,9 @@
 --   tper C                               client C sends one block of zeros as the command that resets the drive
 --   expect TEXT                          the last printed line is TEXT, byte for byte
 use Rattle.std.specs.Prelude.{ℕ, ◌==◌, ◌<◌, ◌≤◌, ⊤, length, drop, if◌then◌else◌, List, Result, Ok, Err}
-use Rattle.script_lines.specs.Words.{word, after_words, first_word, after_word}
+use Rattle.script_lines.specs.Words.{nth_word, after_words, first_word, after_word}
 use Rattle.script_lines.specs.Verbs.{verb_of}
-use Rattle.script_lines.specs.Fields.{◌>>=◌, or_fault, number_in, byte_in, hex_in, most_call_bytes, most_send_bytes}
+use Rattle.script_lines.specs.Fields.{◌>>=◌, or_fault, number_of_field, byte_of_field, hex_in, most_call_bytes, most_send_bytes}
 use Rattle.script_lines.specs.Groups.{transfer_in, dma_transfer_in, range_in, session_in, reset_in}
 use Rattle.script_lines.specs.declared.fault.LineFault.{LineFault}
 use Rattle.script_lines.specs.declared.fault.LineFault.TheVariants.{UnknownWord, Extra}
@@ -39,7 +39,7 @@ read_line rest = transfer_in rest >>= λ transfer. ended (after_words 4 rest) (l
 abbrev pub write_line : List ℕ → Result Line LineFault
 write_line rest = do
   transfer ← transfer_in rest
-  byte ← byte_in fields.Byte (word 4 rest)
+  byte ← byte_of_field fields.Byte (nth_word 4 rest)
   ended (after_words 5 rest) (lines.Write transfer byte)
 
 abbrev pub read_dma_line : List ℕ → Result Line LineFault
@@ -49,44 +49,45 @@ read_dma_line rest =
 abbrev pub write_dma_line : List ℕ → Result Line LineFault
 write_dma_line rest = do
   transfer ← dma_transfer_in rest
-  byte ← byte_in fields.DmaByte (word 3 rest)
+  byte ← byte_of_field fields.DmaByte (nth_word 3 rest)
   ended (after_words 4 rest) (lines.WriteDma transfer byte)
 
 abbrev pub call_line : List ℕ → Result Line LineFault
 call_line rest = do
-  client ← number_in fields.Client (word 0 rest)
-  com_id ← number_in fields.ComId (word 1 rest)
+  client ← number_of_field fields.Client (nth_word 0 rest)
+  com_id ← number_of_field fields.ComId (nth_word 1 rest)
   session ← session_in (after_words 2 rest)
-  tokens ← hex_in fields.Tokens (word 4 rest)
+  tokens ← hex_in fields.Tokens (nth_word 4 rest)
   ended (after_words 5 rest) (lines.Call client com_id session tokens)
 
 abbrev pub send_line : List ℕ → Result Line LineFault
 send_line rest = do
-  client ← number_in fields.Client (word 0 rest)
-  com_id ← number_in fields.ComId (word 1 rest)
-  packet ← hex_in fields.ComPacket (word 2 rest)
+  client ← number_of_field fields.Client (nth_word 0 rest)
+  com_id ← number_of_field fields.ComId (nth_word 1 rest)
+  packet ← hex_in fields.ComPacket (nth_word 2 rest)
   ended (after_words 3 rest) (lines.Send client com_id packet)
 
 abbrev pub receive_line : List ℕ → Result Line LineFault
 receive_line rest = do
-  client ← number_in fields.Client (word 0 rest)
-  com_id ← number_in fields.ComId (word 1 rest)
-  blocks ← number_in fields.Blocks (word 2 rest)
+  client ← number_of_field fields.Client (nth_word 0 rest)
+  com_id ← number_of_field fields.ComId (nth_word 1 rest)
+  blocks ← number_of_field fields.Blocks (nth_word 2 rest)
   ended (after_words 3 rest) (lines.Receive client com_id blocks)
 
 abbrev pub log_line : List ℕ → Result Line LineFault
-log_line rest = number_in fields.Client (word 0 rest) >>= λ client. ended (after_words 1 rest)
+log_line rest = number_of_field fields.Client (nth_word 0 rest) >>= λ client. ended
+    (after_words 1 rest)
     (lines.Log client)
 
 abbrev pub reset_line : List ℕ → Result Line LineFault
 reset_line rest = do
-  client ← number_in fields.Client (word 0 rest)
-  kind ← reset_in (word 1 rest)
+  client ← number_of_field fields.Client (nth_word 0 rest)
+  kind ← reset_in (nth_word 1 rest)
   ended (after_words 2 rest) (lines.Reset client kind)
 
 abbrev pub tper_reset_line : List ℕ → Result Line LineFault
 tper_reset_line rest =
-    number_in fields.Client (word 0 rest) >>= λ client. ended (after_words 1 rest)
+    number_of_field fields.Client (nth_word 0 rest) >>= λ client. ended (after_words 1 rest)
     (lines.TperReset client)
 
 abbrev pub verb_line : Verb → List ℕ → Result Line LineFault
@@ -104,16 +105,17 @@ verb_line verbs.TperReset rest = tper_reset_line rest
 verb_line verbs.Expect rest = Ok lines.Expect
 
 -- what a line says, or what is wrong with it
-abbrev pub line_of : List ℕ → Result Line LineFault
-line_of text = or_fault UnknownWord (verb_of (first_word text)) >>= λ verb. verb_line verb
+abbrev pub line_said : List ℕ → Result Line LineFault
+line_said text = or_fault UnknownWord (verb_of (first_word text)) >>= λ verb. verb_line verb
     (after_word text)
 
 -- the bytes of a line, of which there is one at least, are not too many
-abbrev pub Fits : Line → Type 0
-Fits (lines.Call client com_id session tokens) =
+abbrev pub HasBytesWithinLimits : Line → Type 0
+HasBytesWithinLimits (lines.Call client com_id session tokens) =
     (0 < length tokens) × (length tokens ≤ most_call_bytes)
-Fits (lines.Send client com_id packet) = (0 < length packet) × (length packet ≤ most_send_bytes)
-Fits _ = ⊤
+HasBytesWithinLimits (lines.Send client com_id packet) = (0 < length packet) ×
+    (length packet ≤ most_send_bytes)
+HasBytesWithinLimits _ = ⊤
 
 -- the text that an `expect` line asks for: all that stands behind the word and one blank
 abbrev pub expected_text : List ℕ → List ℕ

@@ -15,9 +15,9 @@
 --   expect TEXT                          the last printed line is TEXT, byte for byte
 use Rattle.std.specs.Prelude.{ℕ, Bool, ◌==◌, ◌&&◌, ◌<◌, ◌≤◌, ⊤, codes, length, if◌then◌else◌, List, [], ◌∷◌, Option, Some, None, Result, Ok, Err}
 use Rattle.std.specs.Str.{bytes_eq}
-use Rattle.script_lines.specs.Words.{word, after_words, first_word, after_word}
+use Rattle.script_lines.specs.Words.{nth_word, after_words, first_word, after_word}
 use Rattle.script_lines.specs.Verbs.{verb_of}
-use Rattle.script_lines.specs.Fields.{◌>>=◌, or_fault, number_in, byte_in, hex_in, most_call_bytes, most_send_bytes}
+use Rattle.script_lines.specs.Fields.{◌>>=◌, or_fault, number_of_field, byte_of_field, hex_in, most_call_bytes, most_send_bytes}
 use Rattle.script_lines.specs.Groups.{range_in, reset_in}
 use Rattle.script_lines.specs.declared.fault.LineFault.{LineFault}
 use Rattle.script_lines.specs.declared.fault.LineFault.TheVariants.{UnknownStep, UnknownRequest, Extra}
@@ -36,13 +36,13 @@ abbrev pub none_left : List ℕ → Result (Unit {0}) LineFault
 none_left rest = if length (first_word rest) == 0 then Ok tt else Err Extra
 
 abbrev pub slot_in : List ℕ → Result ℕ LineFault
-slot_in rest = number_in fields.Slot (word 0 rest)
+slot_in rest = number_of_field fields.Slot (nth_word 0 rest)
 
 -- where a transfer begins, and its count
 abbrev pub transfer_words : List ℕ → Result (ℕ × ℕ) LineFault
 transfer_words rest = do
-  lba ← number_in fields.PutAddress (word 0 rest)
-  count ← number_in fields.PutCount (word 1 rest)
+  lba ← number_of_field fields.PutAddress (nth_word 0 rest)
+  count ← number_of_field fields.PutCount (nth_word 1 rest)
   Ok (lba, count)
 
 -- what the words behind `put C T` and the name of a request say
@@ -55,7 +55,7 @@ read_words rest = do
 abbrev pub write_words : List ℕ → Result PutRequest LineFault
 write_words rest = do
   at ← transfer_words rest
-  byte ← byte_in fields.PutByte (word 2 rest)
+  byte ← byte_of_field fields.PutByte (nth_word 2 rest)
   _ ← none_left (after_words 3 rest)
   Ok (requests.Write at.0 at.1 byte)
 
@@ -68,30 +68,30 @@ read_dma_words rest = do
 abbrev pub write_dma_words : List ℕ → Result PutRequest LineFault
 write_dma_words rest = do
   at ← transfer_words rest
-  byte ← byte_in fields.PutByte (word 2 rest)
+  byte ← byte_of_field fields.PutByte (nth_word 2 rest)
   _ ← none_left (after_words 3 rest)
   Ok (requests.WriteDma at.0 at.1 byte)
 
 abbrev pub call_words : List ℕ → Result PutRequest LineFault
 call_words rest = do
-  com_id ← number_in fields.PutComId (word 0 rest)
-  tsn ← number_in fields.PutTperSession (word 1 rest)
-  hsn ← number_in fields.PutHostSession (word 2 rest)
-  tokens ← hex_in fields.PutTokens (word 3 rest)
+  com_id ← number_of_field fields.PutComId (nth_word 0 rest)
+  tsn ← number_of_field fields.PutTperSession (nth_word 1 rest)
+  hsn ← number_of_field fields.PutHostSession (nth_word 2 rest)
+  tokens ← hex_in fields.PutTokens (nth_word 3 rest)
   _ ← none_left (after_words 4 rest)
   Ok (requests.Call com_id (record { tsn = tsn; hsn = hsn }) tokens)
 
 abbrev pub send_words : List ℕ → Result PutRequest LineFault
 send_words rest = do
-  com_id ← number_in fields.PutComId (word 0 rest)
-  packet ← hex_in fields.PutComPacket (word 1 rest)
+  com_id ← number_of_field fields.PutComId (nth_word 0 rest)
+  packet ← hex_in fields.PutComPacket (nth_word 1 rest)
   _ ← none_left (after_words 2 rest)
   Ok (requests.Send com_id packet)
 
 abbrev pub receive_words : List ℕ → Result PutRequest LineFault
 receive_words rest = do
-  com_id ← number_in fields.PutComId (word 0 rest)
-  blocks ← number_in fields.PutBlocks (word 1 rest)
+  com_id ← number_of_field fields.PutComId (nth_word 0 rest)
+  blocks ← number_of_field fields.PutBlocks (nth_word 1 rest)
   _ ← none_left (after_words 2 rest)
   Ok (requests.Receive com_id blocks)
 
@@ -119,9 +119,9 @@ range_words rest = do
 
 abbrev pub put_words : List ℕ → Result PortLine LineFault
 put_words rest = do
-  client ← number_in fields.Client (word 0 rest)
-  tag ← number_in fields.Tag (word 1 rest)
-  verb ← or_fault UnknownRequest (verb_of (word 2 rest))
+  client ← number_of_field fields.Client (nth_word 0 rest)
+  tag ← number_of_field fields.Tag (nth_word 1 rest)
+  verb ← or_fault UnknownRequest (verb_of (nth_word 2 rest))
   request ← request_words verb (after_words 3 rest)
   Ok (lines.Put client tag request)
 
@@ -150,15 +150,15 @@ recover_words rest = do
 
 abbrev pub reset_words : List ℕ → Result PortLine LineFault
 reset_words rest = do
-  client ← number_in fields.Client (word 0 rest)
-  kind ← reset_in (word 1 rest)
+  client ← number_of_field fields.Client (nth_word 0 rest)
+  kind ← reset_in (nth_word 1 rest)
   _ ← none_left (after_words 2 rest)
   Ok (lines.Reset client kind)
 
 abbrev pub take_words : List ℕ → Result PortLine LineFault
 take_words rest = do
-  client ← number_in fields.Client (word 0 rest)
-  tag ← number_in fields.Tag (word 1 rest)
+  client ← number_of_field fields.Client (nth_word 0 rest)
+  tag ← number_of_field fields.Tag (nth_word 1 rest)
   _ ← none_left (after_words 2 rest)
   Ok (lines.Take client tag)
 
@@ -188,12 +188,12 @@ port_words =
     ∷ []
 
 abbrev pub port_verb_among : List (List ℕ × PortVerb) → List ℕ → Option PortVerb
-port_verb_among [] word = None
-port_verb_among (named ∷ others) word =
-    if bytes_eq word named.0 then Some named.1 else port_verb_among others word
+port_verb_among [] nth_word = None
+port_verb_among (named ∷ others) nth_word =
+    if bytes_eq nth_word named.0 then Some named.1 else port_verb_among others nth_word
 
 abbrev pub port_verb_of : List ℕ → Option PortVerb
-port_verb_of word = port_verb_among port_words word
+port_verb_of nth_word = port_verb_among port_words nth_word
 
 -- what a line of a port script says, or what is wrong with it
 abbrev pub port_line_of : List ℕ → Result PortLine LineFault

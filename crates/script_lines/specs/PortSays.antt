@@ -1,6 +1,6 @@
 -- The words of a good line of a port script: its name, and then one word for each thing that it says.
 use Rattle.std.specs.Prelude.{◌≡◌, ℕ, List, [], ◌∷◌, codes}
-use Rattle.script_lines.specs.Says.{Item, Name, Number, Byte, Bytes, Are, range_items, reset_number}
+use Rattle.script_lines.specs.Says.{SaidWord, Name, Number, Byte, Bytes, Are, range_items, reset_number}
 use Rattle.script_lines.specs.declared.field.Field.TheVariants as fields
 use Rattle.script_lines.specs.declared.verb.Verb.{Verb}
 use Rattle.script_lines.specs.declared.verb.Verb.TheVariants as verbs
@@ -20,11 +20,11 @@ request_verb (requests.Send com_id packet) = verbs.Send
 request_verb (requests.Receive com_id blocks) = verbs.Receive
 
 -- first sector and count, and what else
-abbrev pub sector_items : ℕ → ℕ → List Item → List Item
+abbrev pub sector_items : ℕ → ℕ → List SaidWord → List SaidWord
 sector_items lba count more = Number fields.PutAddress lba ∷ Number fields.PutCount count ∷ more
 
 -- and what is said of it
-abbrev pub request_items : PutRequest → List Item
+abbrev pub request_items : PutRequest → List SaidWord
 request_items (requests.Read lba count) = sector_items lba count []
 request_items (requests.Write lba count byte) =
     sector_items lba count (Byte fields.PutByte byte ∷ [])
@@ -42,12 +42,12 @@ request_items (requests.Send com_id packet) =
 request_items (requests.Receive com_id blocks) =
     Number fields.PutComId com_id ∷ Number fields.PutBlocks blocks ∷ []
 
-abbrev pub put_items : ℕ → ℕ → PutRequest → List Item
+abbrev pub put_items : ℕ → ℕ → PutRequest → List SaidWord
 put_items client tag request =
     Number fields.Client client ∷ Number fields.Tag tag ∷ Name (request_verb request)
     ∷ request_items request
 
-abbrev pub slot_items : ℕ → List Item
+abbrev pub slot_items : ℕ → List SaidWord
 slot_items tag = Number fields.Slot tag ∷ []
 
 -- these words say a line; behind `expect` any words may stand

@@ -47,59 +47,59 @@ verb_name verbs.TperReset = codes "tper"
 verb_name verbs.Expect = codes "expect"
 
 -- what one word says: a verb by its name, or a number, a byte or some bytes, each of a field
-pub data Item : Type 0 where
-  Name : Verb → Item
-  Number : Field → ℕ → Item
-  Byte : Field → ℕ → Item
-  Bytes : Field → List ℕ → Item
+pub data SaidWord : Type 0 where
+  Name : Verb → SaidWord
+  Number : Field → ℕ → SaidWord
+  Byte : Field → ℕ → SaidWord
+  Bytes : Field → List ℕ → SaidWord
 
 -- a word writes it, and the field holds it
-abbrev pub Writes : Item → List ℕ → Type 0
-Writes (Name verb) word = word ≡ verb_name verb
-Writes (Number field number) word = WritesNumber number word × (number ≤ most_of field)
-Writes (Byte field byte) word = WritesBytes (byte ∷ []) word
-Writes (Bytes field bytes) word =
+abbrev pub WritesWord : SaidWord → List ℕ → Type 0
+WritesWord (Name verb) word = word ≡ verb_name verb
+WritesWord (Number field number) word = WritesNumber number word × (number ≤ most_of field)
+WritesWord (Byte field byte) word = WritesBytes (byte ∷ []) word
+WritesWord (Bytes field bytes) word =
     WritesBytes bytes word × (0 < length bytes) × (length bytes ≤ most_of field)
 
 -- as many words as items, and each writes its item
-abbrev pub WriteEach : List Item → List (List ℕ) → Type 0
+abbrev pub WriteEach : List SaidWord → List (List ℕ) → Type 0
 WriteEach [] [] = ⊤
 WriteEach [] (word ∷ words) = ⊥
 WriteEach (item ∷ items) [] = ⊥
-WriteEach (item ∷ items) (word ∷ words) = Writes item word × WriteEach items words
+WriteEach (item ∷ items) (word ∷ words) = WritesWord item word × WriteEach items words
 
 -- 1 for yes
-abbrev pub flag : Bool → ℕ
-flag false = 0
-flag true = 1
+abbrev pub flag_number : Bool → ℕ
+flag_number false = 0
+flag_number true = 1
 
-abbrev pub range_items : RangeRow → List Item
+abbrev pub range_items : RangeRow → List SaidWord
 range_items row =
     Number fields.Range row.range
     ∷ Number fields.Start row.start
     ∷ Number fields.Length row.length
-    ∷ Number fields.ReadLockEnabled (flag row.read_enabled)
-    ∷ Number fields.WriteLockEnabled (flag row.write_enabled)
-    ∷ Number fields.ReadLocked (flag row.read_locked)
-    ∷ Number fields.WriteLocked (flag row.write_locked)
+    ∷ Number fields.ReadLockEnabled (flag_number row.read_enabled)
+    ∷ Number fields.WriteLockEnabled (flag_number row.write_enabled)
+    ∷ Number fields.ReadLocked (flag_number row.read_locked)
+    ∷ Number fields.WriteLocked (flag_number row.write_locked)
     ∷ []
 
 -- client, tag, first sector and count, and what else
-abbrev pub transfer_items : Transfer → List Item → List Item
+abbrev pub transfer_items : Transfer → List SaidWord → List SaidWord
 transfer_items t more =
     Number fields.Client t.client ∷ Number fields.Tag t.tag ∷ Number fields.Address t.lba
     ∷ Number fields.Count t.count ∷ more
 
-abbrev pub dma_items : DmaTransfer → List Item → List Item
+abbrev pub dma_items : DmaTransfer → List SaidWord → List SaidWord
 dma_items t more =
     Number fields.Client t.client ∷ Number fields.DmaAddress t.lba ∷ Number fields.DmaCount t.count
     ∷ more
 
 -- a client and a ComID, and what else
-abbrev pub com_items : ℕ → ℕ → List Item → List Item
+abbrev pub com_items : ℕ → ℕ → List SaidWord → List SaidWord
 com_items client com_id more = Number fields.Client client ∷ Number fields.ComId com_id ∷ more
 
-abbrev pub call_items : Session → List ℕ → List Item
+abbrev pub call_items : Session → List ℕ → List SaidWord
 call_items session tokens =
     Number fields.TperSession session.tsn ∷ Number fields.HostSession session.hsn
     ∷ Bytes fields.Tokens tokens ∷ []
@@ -109,7 +109,7 @@ reset_number resets.Power = 0
 reset_number resets.Hardware = 1
 
 -- the first word is a name, and the others write these items
-abbrev pub Are : List ℕ → List Item → List (List ℕ) → Type 0
+abbrev pub Are : List ℕ → List SaidWord → List (List ℕ) → Type 0
 Are name items words = (others : List (List ℕ)) × (words ≡ name ∷ others) × WriteEach items others
 
 -- these words say a line; behind `expect` any words may stand

@@ -19,7 +19,7 @@ abbrev pub IsApart : List ℕ → Type 0
 IsApart rest = 0 < length rest → IsBlank (slice_index rest 0)
 
 -- a text is blanks, or nothing, and then this word, and then this rest
-pub record Begins (text word rest : List ℕ) : Type 0 where
+pub record BeginsWithWord (text word rest : List ℕ) : Type 0 where
   pub gap : List ℕ
   pub is : text ≡ gap ++ (word ++ rest)
   pub blanks : AreBlanks gap
@@ -27,6 +27,7 @@ pub record Begins (text word rest : List ℕ) : Type 0 where
   pub apart : IsApart rest
 
 -- a text spells these words in this order, and no others
-abbrev pub Spells : List (List ℕ) → List ℕ → Type 0
-Spells [] text = AreBlanks text
-Spells (word ∷ words) text = (rest : List ℕ) × Begins text word rest × Spells words rest
+abbrev pub IsMadeOfWords : List (List ℕ) → List ℕ → Type 0
+IsMadeOfWords [] text = AreBlanks text
+IsMadeOfWords (word ∷ words) text = (rest : List ℕ) × BeginsWithWord text word rest
+    × IsMadeOfWords words rest

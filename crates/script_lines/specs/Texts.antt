@@ -29,8 +29,8 @@ done_text = codes "ok"
 abbrev pub hex_text : List ℕ → List ℕ
 hex_text bytes = codes "data " ++ encode_lower bytes
 
-abbrev pub failure_text : ℕ → ℕ → List ℕ
-failure_text status error =
+abbrev pub command_failure_text : ℕ → ℕ → List ℕ
+command_failure_text status error =
     codes "fail " ++ encode_lower (status ∷ []) ++ codes " " ++ encode_lower (error ∷ [])
 
 abbrev pub audit_text : AuditLine → List ℕ
@@ -67,4 +67,4 @@ denial_lines step client (Some why) =
 -- what a command that failed prints
 abbrev pub refusal_lines : ℕ → ℕ → ℕ → ℕ → Option Why → List (List ℕ)
 refusal_lines step client status error denied =
-    failure_text status error ∷ denial_lines step client denied
+    command_failure_text status error ∷ denial_lines step client denied

@@ -88,13 +88,13 @@ pub enum Line<'a> {
 impl<'a> Words<'a> {
     ghost use Rattle.std.specs.Prelude.{◌≡◌, ◌<◌, ◌≤◌, length, IfOk, OnOk};
     ghost use Rattle.script_lines.specs.Words.{first_word, after_word, after_words};
-    ghost use Rattle.script_lines.specs.Fields.{most_of, number_in, flag_in, byte_in, hex_in};
+    ghost use Rattle.script_lines.specs.Fields.{most_of, number_of_field, flag_in, byte_of_field, hex_in};
     ghost use Rattle.script_lines.specs.Groups.{range_in, transfer_in, dma_transfer_in, session_in, reset_in};
-    ghost use Rattle.script_lines.specs.Lines.{Fits, ended, verb_line, range_line, read_line, write_line, read_dma_line, write_dma_line, call_line, send_line, receive_line, log_line, reset_line, tper_reset_line};
+    ghost use Rattle.script_lines.specs.Lines.{HasBytesWithinLimits, ended, verb_line, range_line, read_line, write_line, read_dma_line, write_dma_line, call_line, send_line, receive_line, log_line, reset_line, tper_reset_line};
 
     /// The next word as the number of a field.
     pub(crate) fn number(&mut self, field: Field) -> Result<u64, LineFault>
-        ensures value { result ≡ number_in field (first_word self.old.rest.now) }
+        ensures value { result ≡ number_of_field field (first_word self.old.rest.now) }
         ensures most { IfOk result (λ n. n ≤ most_of field) }
         ensures rest { OnOk result (self.new.rest.now ≡ after_word self.old.rest.now) }
     {
@@ -119,7 +119,7 @@ impl<'a> Words<'a> {
 
     /// The next word as a byte of two hex digits.
     pub(crate) fn byte(&mut self, field: Field) -> Result<u8, LineFault>
-        ensures value { result ≡ byte_in field (first_word self.old.rest.now) }
+        ensures value { result ≡ byte_of_field field (first_word self.old.rest.now) }
         ensures rest { self.new.rest.now ≡ after_word self.old.rest.now }
     {
         let word = self.next_word();
@@ -234,9 +234,9 @@ impl<'a> Words<'a> {
 
     /// The line, where no word is left.
     fn ended(&mut self, line: Line<'a>) -> Result<Line<'a>, LineFault>
-        requires { Fits line }
+        requires { HasBytesWithinLimits line }
         ensures exact { result ≡ ended self.old.rest.now line.entry }
-        ensures fits { IfOk result Fits }
+        ensures fits { IfOk result HasBytesWithinLimits }
     {
         if self.next_word().is_empty() {
             Ok(line)
@@ -247,7 +247,7 @@ impl<'a> Words<'a> {
 
     fn range_line(&mut self) -> Result<Line<'a>, LineFault>
         ensures exact { result ≡ range_line self.old.rest.now }
-        ensures fits { IfOk result Fits }
+        ensures fits { IfOk result HasBytesWithinLimits }
     {
         let row = self.range()?;
         self.ended(Line::Range(row))
@@ -255,7 +255,7 @@ impl<'a> Words<'a> {
 
     fn read_line(&mut self) -> Result<Line<'a>, LineFault>
         ensures exact { result ≡ read_line self.old.rest.now }
-        ensures fits { IfOk result Fits }
+        ensures fits { IfOk result HasBytesWithinLimits }
     {
         let transfer = self.transfer()?;
         self.ended(Line::Read(transfer))
@@ -263,7 +263,7 @@ impl<'a> Words<'a> {
 
     fn write_line(&mut self) -> Result<Line<'a>, LineFault>
         ensures exact { result ≡ write_line self.old.rest.now }
-        ensures fits { IfOk result Fits }
+        ensures fits { IfOk result HasBytesWithinLimits }
     {
         let transfer = self.transfer()?;
         let byte = self.byte(Field::Byte)?;
@@ -272,7 +272,7 @@ impl<'a> Words<'a> {
 
     fn read_dma_line(&mut self) -> Result<Line<'a>, LineFault>
         ensures exact { result ≡ read_dma_line self.old.rest.now }
-        ensures fits { IfOk result Fits }
+        ensures fits { IfOk result HasBytesWithinLimits }
     {
         let transfer = self.dma_transfer()?;
         self.ended(Line::ReadDma(transfer))
@@ -280,7 +280,7 @@ impl<'a> Words<'a> {
 
     fn write_dma_line(&mut self) -> Result<Line<'a>, LineFault>
         ensures exact { result ≡ write_dma_line self.old.rest.now }
-        ensures fits { IfOk result Fits }
+        ensures fits { IfOk result HasBytesWithinLimits }
     {
         let transfer = self.dma_transfer()?;
         let byte = self.byte(Field::DmaByte)?;
@@ -289,7 +289,7 @@ impl<'a> Words<'a> {
 
     fn call_line(&mut self) -> Result<Line<'a>, LineFault>
         ensures exact { result ≡ call_line self.old.rest.now }
-        ensures fits { IfOk result Fits }
+        ensures fits { IfOk result HasBytesWithinLimits }
     {
         let client = self.number(Field::Client)? as u32;
         let com_id = self.number(Field::ComId)? as u16;
@@ -305,7 +305,7 @@ impl<'a> Words<'a> {
 
     fn send_line(&mut self) -> Result<Line<'a>, LineFault>
         ensures exact { result ≡ send_line self.old.rest.now }
-        ensures fits { IfOk result Fits }
+        ensures fits { IfOk result HasBytesWithinLimits }
     {
         let client = self.number(Field::Client)? as u32;
         let com_id = self.number(Field::ComId)? as u16;
@@ -319,7 +319,7 @@ impl<'a> Words<'a> {
 
     fn receive_line(&mut self) -> Result<Line<'a>, LineFault>
         ensures exact { result ≡ receive_line self.old.rest.now }
-        ensures fits { IfOk result Fits }
+        ensures fits { IfOk result HasBytesWithinLimits }
     {
         let client = self.number(Field::Client)? as u32;
         let com_id = self.number(Field::ComId)? as u16;
@@ -333,7 +333,7 @@ impl<'a> Words<'a> {
 
     fn log_line(&mut self) -> Result<Line<'a>, LineFault>
         ensures exact { result ≡ log_line self.old.rest.now }
-        ensures fits { IfOk result Fits }
+        ensures fits { IfOk result HasBytesWithinLimits }
     {
         let client = self.number(Field::Client)? as u32;
         self.ended(Line::Log { client })
@@ -341,7 +341,7 @@ impl<'a> Words<'a> {
 
     fn reset_line(&mut self) -> Result<Line<'a>, LineFault>
         ensures exact { result ≡ reset_line self.old.rest.now }
-        ensures fits { IfOk result Fits }
+        ensures fits { IfOk result HasBytesWithinLimits }
     {
         let client = self.number(Field::Client)? as u32;
         let kind = self.reset()?;
@@ -350,7 +350,7 @@ impl<'a> Words<'a> {
 
     fn tper_reset_line(&mut self) -> Result<Line<'a>, LineFault>
         ensures exact { result ≡ tper_reset_line self.old.rest.now }
-        ensures fits { IfOk result Fits }
+        ensures fits { IfOk result HasBytesWithinLimits }
     {
         let client = self.number(Field::Client)? as u32;
         self.ended(Line::TperReset { client })
@@ -359,7 +359,7 @@ impl<'a> Words<'a> {
     /// What stands behind the verb.
     fn line(&mut self, verb: Verb) -> Result<Line<'a>, LineFault>
         ensures exact { result ≡ verb_line verb self.old.rest.now }
-        ensures fits { IfOk result Fits }
+        ensures fits { IfOk result HasBytesWithinLimits }
     {
         match verb {
             Verb::Range => self.range_line(),
@@ -380,7 +380,7 @@ impl<'a> Words<'a> {
 
 impl<'a> Line<'a> {
     ghost use Rattle.std.specs.Prelude.{◌≡◌, IfOk};
-    ghost use Rattle.script_lines.specs.Lines.{line_of, Fits};
+    ghost use Rattle.script_lines.specs.Lines.{line_said, HasBytesWithinLimits};
 
     /// Reads a line, which has no line feed.
     ///
@@ -388,8 +388,8 @@ impl<'a> Line<'a> {
     ///
     /// The first thing that is wrong with the line.
     pub fn parse(text: &'a [u8]) -> Result<Line<'a>, LineFault>
-        ensures exact { result ≡ line_of text.now }
-        ensures fits { IfOk result Fits }
+        ensures exact { result ≡ line_said text.now }
+        ensures fits { IfOk result HasBytesWithinLimits }
     {
         let mut words = Words::new(text);
         let verb = verb_of(words.next_word()).ok_or(LineFault::UnknownWord)?;

@@ -22,7 +22,7 @@ pub struct Report {
 impl Report {
     ghost use Rattle.std.specs.Prelude.{◌≡◌, ◌++◌, ◌∷◌, [], ℕ, List, Option, OnOk, option_map};
     ghost use Rattle.std.specs.Io.KnownBytes.{Appends};
-    ghost use Rattle.script_lines.specs.Texts.{done_text, data_text, hex_text, failure_text, audit_text, refusal_lines, refused_text, reset_text, Prints};
+    ghost use Rattle.script_lines.specs.Texts.{done_text, data_text, hex_text, command_failure_text, audit_text, refusal_lines, refused_text, reset_text, Prints};
 
     /// Nothing is printed.
     pub fn new(alloc: Global) -> Report
@@ -97,7 +97,7 @@ impl Report {
     ///
     /// Want of memory: then the line may be pending in part.
     pub fn print_failure(&mut self, status: u8, error: u8) -> Result<(), AllocError>
-        ensures { OnOk result (Prints self.old self.new (failure_text status error ∷ [])) }
+        ensures { OnOk result (Prints self.old self.new (command_failure_text status error ∷ [])) }
     {
         self.last.clear();
         self.last.extend_from_slice(b"fail ")?;

@@ -12,16 +12,16 @@ use Rattle.transactions.specs.Stored.{Stored, at_part, part_tries}
 use Rattle.transactions.specs.Sights.{look_up, committed_sight}
 use Rattle.sessions.specs.declared.answers.AuthAnswer.{AuthAnswer}
 use Rattle.sessions.specs.declared.answers.AuthAnswer.TheVariants as answers
-use Rattle.sessions.specs.Attempts.{credential, failure}
+use Rattle.sessions.specs.Attempts.{credential, attempt_failure}
 use Rattle.sessions.specs.Live.{Holder, gaining}
 
 -- the rows in force
-abbrev pub in_force : Stored → LookUp
-in_force s = look_up (committed_sight s)
+abbrev pub rows_in_force : Stored → LookUp
+rows_in_force s = look_up (committed_sight s)
 
 -- how an attempt fails by the rows in force; None where it is right
 abbrev pub attempt : Stored → Sp → Uid → List ℕ → Option AttemptFailure
-attempt s sp authority proof = failure (in_force s) sp authority proof
+attempt s sp authority proof = attempt_failure (rows_in_force s) sp authority proof
 
 -- one more; the largest number of 64 bits stays
 abbrev pub up : ℕ → ℕ
@@ -35,15 +35,16 @@ answer_to sp authority (Some Disabled) = answers.Wrong (AttemptFailed sp authori
 answer_to sp authority (Some Unknown) = answers.Wrong (AttemptFailed sp authority Unknown)
 
 -- the Tries of the authority's PIN row
-abbrev pub with_tries : Sp → Uid → ℕ → Stored → Stored
-with_tries sp authority n s = at_part sp (part_tries (credential (in_force s) sp authority) n) s
+abbrev pub stored_tries : Sp → Uid → ℕ → Stored → Stored
+stored_tries sp authority n s = at_part sp (part_tries (credential
+    (rows_in_force s) sp authority) n) s
 
 -- a wrong PIN counts one more, a right one starts anew; an authority with no C_PIN row counts nothing
 abbrev pub after_attempt : Sp → Uid → Option AttemptFailure → Stored → Stored
-after_attempt sp authority None s = with_tries sp authority 0 s
+after_attempt sp authority None s = stored_tries sp authority 0 s
 after_attempt sp authority (Some WrongPin) s =
-    with_tries sp authority
-    (up (number (in_force s) sp (credential (in_force s) sp authority) tries_column)) s
+    stored_tries sp authority
+    (up (number (rows_in_force s) sp (credential (rows_in_force s) sp authority) tries_column)) s
 after_attempt sp authority (Some LockedOut) s = s
 after_attempt sp authority (Some Disabled) s = s
 after_attempt sp authority (Some Unknown) s = s

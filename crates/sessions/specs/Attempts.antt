@@ -15,13 +15,13 @@ use Rattle.audit.specs.declared.reason.AttemptFailure.TheVariants.{WrongPin, Loc
 use Rattle.sessions.specs.Known.{is_known}
 
 -- the object that a cell names; no object where it names none
-abbrev pub uid_in : Option Cell → UidType
-uid_in (Some (Uid u)) = u
-uid_in _ = none
+abbrev pub object_named : Option Cell → UidType
+object_named (Some (Uid u)) = u
+object_named _ = none
 
 -- the PIN row of an authority
 abbrev pub credential : LookUp → Sp → UidType → UidType
-credential look sp authority = uid_in (look sp authority credential_column)
+credential look sp authority = object_named (look sp authority credential_column)
 
 -- the bytes are the PIN
 abbrev pub is_pin : List ℕ → Option Cell → Bool
@@ -39,8 +39,8 @@ pin_failure look sp pin proof =
     if is_pin proof (look sp pin pin_column) then None else Some WrongPin
 
 -- how an attempt fails; None where it is right. Anybody needs no PIN
-abbrev pub failure : LookUp → Sp → UidType → List ℕ → Option AttemptFailure
-failure look sp authority proof =
+abbrev pub attempt_failure : LookUp → Sp → UidType → List ℕ → Option AttemptFailure
+attempt_failure look sp authority proof =
     if not (is_known sp authority) || (number look sp authority is_class_column == 1)
     then Some Unknown else
     if not (number look sp authority enabled_column == 1) then Some Disabled else

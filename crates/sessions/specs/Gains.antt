@@ -7,7 +7,7 @@ use Rattle.sp_cells.specs.ColumnNames.{class_column}
 use Rattle.sp_cells.specs.Flat.{LookUp}
 use Rattle.ace_eval.specs.Truth.{has}
 use Rattle.sessions.specs.Known.{is_known}
-use Rattle.sessions.specs.Attempts.{uid_in}
+use Rattle.sessions.specs.Attempts.{object_named}
 
 -- one more, where it is an authority of the SP and not held yet
 abbrev pub with_authority : Sp → Uid → List Uid → List Uid
@@ -16,7 +16,7 @@ with_authority sp authority held = if is_known sp authority
 
 -- an authority and the class that its row names
 abbrev pub gained : LookUp → Sp → Uid → List Uid → List Uid
-gained look sp authority held = with_authority sp (uid_in (look sp authority class_column))
+gained look sp authority held = with_authority sp (object_named (look sp authority class_column))
     (with_authority sp authority held)
 
 -- those of a new session: everyone's, and what signed it

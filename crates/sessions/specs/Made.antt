@@ -17,7 +17,7 @@ use Rattle.tcg_tokens.specs.Message.{Message}
 use Rattle.transactions.specs.Bytes.{written}
 use Rattle.transactions.specs.Stored.{Transaction, Part, Stored, part, at_part, part_begin, part_commit, part_close, part_tries, reverted}
 use Rattle.transactions.specs.Sights.{activated_with}
-use Rattle.sessions.specs.Answers.{in_force, up}
+use Rattle.sessions.specs.Answers.{rows_in_force, up}
 use Rattle.sessions.specs.Deeds.{Setting, cells_set, bytes_set, Change, Sets, Restores, Resets, Begun, holder_of, SessionDeed, Unchanged, Started, Tried, Changed, Began, Committed, Aborted, Ended, Activated, Reverted, wipes_by, Outcome}
 use Rattle.sessions.specs.Live.{Holder, Live, session_at, unless_on}
 
@@ -63,7 +63,7 @@ with_count sp row n s = at_part sp (part_tries row n) s
 abbrev pub StoresAttempt : Sp → Uid → Option AttemptFailure → Stored → Stored → Type 0
 StoresAttempt sp row None s t = t ≡ with_count sp row 0 s
 StoresAttempt sp row (Some WrongPin) s t =
-    t ≡ with_count sp row (up (number (in_force s) sp row tries_column)) s
+    t ≡ with_count sp row (up (number (rows_in_force s) sp row tries_column)) s
 StoresAttempt sp row (Some LockedOut) s t = t ≡ s
 StoresAttempt sp row (Some Disabled) s t = t ≡ s
 StoresAttempt sp row (Some Unknown) s t = t ≡ s

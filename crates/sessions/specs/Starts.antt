@@ -22,10 +22,10 @@ use Rattle.call_shapes.specs.Statuses.{success, not_authorized, sp_busy, no_sess
 use Rattle.sessions.specs.declared.opening.Opening.{Opening}
 use Rattle.sessions.specs.declared.opening.StartVerdict.{StartVerdict}
 use Rattle.sessions.specs.declared.opening.StartVerdict.TheVariants.{Refused, Attempted}
-use Rattle.sessions.specs.Attempts.{failure}
+use Rattle.sessions.specs.Attempts.{attempt_failure}
 use Rattle.sessions.specs.Live.{Live, Holder, lives_on, session_at}
 use Rattle.sessions.specs.Gains.{first_held}
-use Rattle.sessions.specs.Answers.{in_force, after_attempt}
+use Rattle.sessions.specs.Answers.{rows_in_force, after_attempt}
 use Rattle.transactions.specs.Stored.{Stored}
 
 -- the authority that signs: Anybody where none is named, and then there is no challenge
@@ -82,18 +82,18 @@ is_in_use look sp = number_at look Admin (row_of_sp sp) life_cycle_state_column 
 abbrev pub is_full : Live → Bool
 is_full l = nat_lt 0xffffffff l.next
 
-abbrev pub verdict_on : LookUp → Live → Opening → Option Sp → StartVerdict
-verdict_on look l o None = Refused invalid_parameter
-verdict_on look l o (Some sp) =
+abbrev pub opening_verdict_on : LookUp → Live → Opening → Option Sp → StartVerdict
+opening_verdict_on look l o None = Refused invalid_parameter
+opening_verdict_on look l o (Some sp) =
     if not (is_in_use look sp) then Refused invalid_parameter else
     if lives_on sp l then Refused sp_busy else
     if is_full l then Refused no_sessions_available else
-    Attempted sp (failure look sp o.authority o.proof)
+    Attempted sp (attempt_failure look sp o.authority o.proof)
 
 -- what comes of a StartSession: a refusal, or an attempt on its authority
 abbrev pub verdict : LookUp → Live → Option Opening → StartVerdict
 verdict look l None = Refused invalid_parameter
-verdict look l (Some o) = verdict_on look l o (sp_named o.spid)
+verdict look l (Some o) = opening_verdict_on look l o (sp_named o.spid)
 
 -- the number that a host gave, or 0 where it gave none of 32 bits
 abbrev pub host_among : Option ℕ → ℕ
@@ -111,16 +111,16 @@ sync_message host tsn status =
     (trees_of (number host ∷ number tsn ∷ [])) (status ∷ 0 ∷ 0 ∷ [])
 
 -- the status of an attempt that fails so
-abbrev pub status_of : AttemptFailure → ℕ
-status_of LockedOut = authority_locked_out
-status_of WrongPin = not_authorized
-status_of Disabled = not_authorized
-status_of Unknown = not_authorized
+abbrev pub attempt_status : AttemptFailure → ℕ
+attempt_status LockedOut = authority_locked_out
+attempt_status WrongPin = not_authorized
+attempt_status Disabled = not_authorized
+attempt_status Unknown = not_authorized
 
 -- the answer, why it was denied, and what is left
 abbrev pub reply_to : ℕ → ℕ → StartVerdict → Message
 reply_to host tsn (Refused status) = sync_message host 0 status
-reply_to host tsn (Attempted sp (Some f)) = sync_message host 0 (status_of f)
+reply_to host tsn (Attempted sp (Some f)) = sync_message host 0 (attempt_status f)
 reply_to host tsn (Attempted sp None) = sync_message host tsn success
 
 abbrev pub denied_by : Uid → StartVerdict → Option Why
@@ -166,11 +166,11 @@ begun_with look com_id (Some o) v is_next before = begun_by look com_id o v is_n
 
 -- what comes of one that has its shape, by the rows in force
 abbrev pub opening_verdict : Stored → Live → Opening → StartVerdict
-opening_verdict s l o = verdict (in_force s) l (Some o)
+opening_verdict s l o = verdict (rows_in_force s) l (Some o)
 
 -- what a StartSession with these arguments comes to, by the rows in force and the sessions that live
 abbrev pub start_verdict : Stored → Live → List Tree → StartVerdict
-start_verdict s l args = verdict (in_force s) l (opening_of args)
+start_verdict s l args = verdict (rows_in_force s) l (opening_of args)
 
 -- its answer, why it was denied, the store and the session of each number after it, and the next number
 abbrev pub start_reply : Stored → Live → List Tree → Message
@@ -183,7 +183,7 @@ abbrev pub start_stored : Stored → Live → List Tree → Stored
 start_stored s l args = stored_with (opening_of args) (start_verdict s l args) s
 
 abbrev pub start_at : Stored → Live → ℕ → List Tree → ℕ → Option Holder
-start_at s l com_id args n = begun_with (in_force s) com_id (opening_of args)
+start_at s l com_id args n = begun_with (rows_in_force s) com_id (opening_of args)
     (start_verdict s l args) (l.next == n) (session_at l n)
 
 abbrev pub start_next : Stored → Live → List Tree → ℕ

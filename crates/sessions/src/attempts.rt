@@ -2,7 +2,7 @@
 
 ghost use Rattle.std.specs.Prelude.{◌≡◌, ◌<◌, ◌==◌, ◌≤◌, None, Some, option_copied};
 ghost use Rattle.sessions.specs.Known.{is_known as is_known_to};
-ghost use Rattle.sessions.specs.Attempts.{uid_in as uid_in_cell, credential as credential_of, is_pin as is_pin_of, is_used_up as is_used_up_by, pin_failure as pin_failure_of, failure as failure_of};
+ghost use Rattle.sessions.specs.Attempts.{object_named as uid_in_cell, credential as credential_of, is_pin as is_pin_of, is_used_up as is_used_up_by, pin_failure as pin_failure_of, attempt_failure as failure_of};
 ghost use Rattle.sp_cells.specs.ColumnNames.{pin_column};
 
 use audit::AttemptFailure;

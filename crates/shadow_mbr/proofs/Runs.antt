@@ -4,7 +4,7 @@ use Rattle.std.specs.Prelude.{is_some, IfSome, IsTrue, ◌↔◌}
 use Rattle.std.proofs.lemmas.List.{places, length-set, get_or-set_same, get_or-set_other}
 use Rattle.std.proofs.lemmas.Bool.{cases_eq}
 use Rattle.std.proofs.Common.{inl, inr}
-use Rattle.shadow_mbr.specs.Stored.{Stored, HaveBlocks, has_byte, block_in, byte_in, byte_after, zeros}
+use Rattle.shadow_mbr.specs.Stored.{StoredSectors, HaveBlocks, has_byte, block_in, kept_byte, byte_after, zeros}
 use Rattle.shadow_mbr.specs.Places.{place_at, block_at, blocks_of, blocks_after, AreOwn}
 use Rattle.shadow_mbr.proofs.Blocks.{put_bytes, same_none, whole_block}
 use Rattle.shadow_mbr.proofs.Touched.{touched, all_touched, between, is_between}
@@ -26,7 +26,7 @@ own_put ps blocks q v own below size = record {
       ];
 }
 
-written_one : (ps : List (ℕ × ℕ)) (blocks : List (List ℕ)) (q p : ℕ) (bytes : List ℕ) → AreOwn ps blocks → place_at ps (p / 512) ≡ Some q → p % 512 + length bytes ≤ 512 → AreOwn ps (blocks_after blocks q (p % 512) bytes) × ((place : ℕ) → byte_in (blocks_of ps (blocks_after blocks q (p % 512) bytes)) place ≡ byte_after p bytes (byte_in (blocks_of ps blocks) place) place)
+written_one : (ps : List (ℕ × ℕ)) (blocks : List (List ℕ)) (q p : ℕ) (bytes : List ℕ) → AreOwn ps blocks → place_at ps (p / 512) ≡ Some q → p % 512 + length bytes ≤ 512 → AreOwn ps (blocks_after blocks q (p % 512) bytes) × ((place : ℕ) → kept_byte (blocks_of ps (blocks_after blocks q (p % 512) bytes)) place ≡ byte_after p bytes (kept_byte (blocks_of ps blocks) place) place)
 written_one ps blocks q p bytes own there fits = (
   own_put ps blocks q _ own (own.below (p / 512) q there) (put_length (block_at blocks q) bytes (p % 512) (own.whole q (own.below (p / 512) q there)) fits),
   sector_written (record { sectors = 0; kept = blocks_of ps blocks }) (record { sectors = 0; kept = blocks_of ps (blocks_after blocks q (p % 512) bytes) }) p bytes fits
@@ -35,7 +35,7 @@ written_one ps blocks q p bytes own there fits = (
 )
 
 -- A piece that is written into the block of its sector, which has one.
-pub piece_written : (ps : List (ℕ × ℕ)) (first blocks new : List (List ℕ)) (o : Option ℕ) (p : ℕ) (bytes : List ℕ) → AreOwn ps blocks → o ≡ place_at ps (p / 512) → is_some (block_in (blocks_of ps first) (p / 512)) ≡ true → p % 512 + length bytes ≤ 512 → IfSome o (λ q. new ≡ blocks_after blocks q (p % 512) bytes) → AreOwn ps new × ((place : ℕ) → byte_in (blocks_of ps new) place ≡ byte_after p bytes (byte_in (blocks_of ps blocks) place) place)
+pub piece_written : (ps : List (ℕ × ℕ)) (first blocks new : List (List ℕ)) (o : Option ℕ) (p : ℕ) (bytes : List ℕ) → AreOwn ps blocks → o ≡ place_at ps (p / 512) → is_some (block_in (blocks_of ps first) (p / 512)) ≡ true → p % 512 + length bytes ≤ 512 → IfSome o (λ q. new ≡ blocks_after blocks q (p % 512) bytes) → AreOwn ps new × ((place : ℕ) → kept_byte (blocks_of ps new) place ≡ byte_after p bytes (kept_byte (blocks_of ps blocks) place) place)
 piece_written ps first blocks new None p bytes own at kept fits is = absurd (let no = sym (same_none ps first (p / 512) None at) ∙ kept in cc)
 piece_written ps first blocks new (Some q) p bytes own at kept fits is = rw is (written_one ps blocks q p bytes own (sym at) fits)
 

@@ -4,7 +4,7 @@ use Rattle.std.specs.Prelude.{slice_range}
 use Rattle.std.proofs.lemmas.Bool.{cases_lt}
 use Rattle.std.proofs.lemmas.Bool.Decides.{nat_tests}
 use Rattle.std.proofs.lemmas.List.{get_or-take, get_or-drop, length-take-le, length-drop, ext_get_or, take-append-drop, drop-drop}
-use Rattle.shadow_mbr.specs.Stored.{Stored, sector_at, byte_at, byte_after, sector_after, sectors_from}
+use Rattle.shadow_mbr.specs.Stored.{StoredSectors, sector_at, byte_at, byte_after, sector_after, sectors_from}
 use Rattle.shadow_mbr.proofs.Writes.{byte_inside, byte_outside}
 
 -- The byte at a place of a sector.
@@ -14,11 +14,11 @@ sector_place s i below = omega arith
 byte_place : (s i : ℕ) → i < 512 → (512 * s + i) % 512 ≡ i
 byte_place s i below = omega arith
 
-byte_of_sector : (stored : Stored) (s i : ℕ) → i < 512 → byte_at stored (512 * s + i) ≡ get_or (sector_at stored s) i 0
+byte_of_sector : (stored : StoredSectors) (s i : ℕ) → i < 512 → byte_at stored (512 * s + i) ≡ get_or (sector_at stored s) i 0
 byte_of_sector stored s i below = rw (sector_place s i below, byte_place s i below) refl
 
 -- So many bytes that are those of a sector are the sector.
-sector_by_bytes : (stored : Stored) (s : ℕ) (xs : List ℕ) → length xs ≡ 512 → length (sector_at stored s) ≡ 512 → ((i : ℕ) → i < 512 → get_or xs i 0 ≡ byte_at stored (512 * s + i)) → xs ≡ sector_at stored s
+sector_by_bytes : (stored : StoredSectors) (s : ℕ) (xs : List ℕ) → length xs ≡ 512 → length (sector_at stored s) ≡ 512 → ((i : ℕ) → i < 512 → get_or xs i 0 ≡ byte_at stored (512 * s + i)) → xs ≡ sector_at stored s
 sector_by_bytes stored s xs size whole same =
     ext_get_or 0 xs (sector_at stored s) (size ∙ sym whole)
     (λ i below. let inside : i < 512 = omega arith in same i inside ∙ byte_of_sector stored s i inside)
@@ -31,7 +31,7 @@ part_byte : (at i : ℕ) (xs : List ℕ) → i < 512 → get_or (take 512 (drop 
 part_byte at i xs below = get_or-take 512 (drop at xs) i 0 below ∙ get_or-drop at xs i 0
 
 -- The sectors that were read, by the bytes.
-read_chunk : (stored : Stored) (lba k : ℕ) (buffer : List ℕ) → length buffer % 512 ≡ 0 → ((s : ℕ) → length (sector_at stored s) ≡ 512) → ((j : ℕ) → j < length buffer → get_or buffer j 0 ≡ byte_at stored (512 * lba + j)) → 512 * k < length buffer → take 512 (drop (512 * k) buffer) ≡ sector_at stored (lba + k)
+read_chunk : (stored : StoredSectors) (lba k : ℕ) (buffer : List ℕ) → length buffer % 512 ≡ 0 → ((s : ℕ) → length (sector_at stored s) ≡ 512) → ((j : ℕ) → j < length buffer → get_or buffer j 0 ≡ byte_at stored (512 * lba + j)) → 512 * k < length buffer → take 512 (drop (512 * k) buffer) ≡ sector_at stored (lba + k)
 read_chunk stored lba k buffer is whole same below =
     let within : 512 * k + 512 ≤ length buffer = omega arith in
     sector_by_bytes stored (lba + k) (take 512 (drop (512 * k) buffer)) (part_size (512 * k) buffer within) (whole (lba + k))
@@ -39,7 +39,7 @@ read_chunk stored lba k buffer is whole same below =
     let place : 512 * lba + (512 * k + i) ≡ 512 * (lba + k) + i = omega arith in
     part_byte (512 * k) i buffer inside ∙ same (512 * k + i) (omega arith) ∙ ap (byte_at stored) place)
 
-pub read_chunks : (stored : Stored) (lba : ℕ) (buffer : List ℕ) → length buffer % 512 ≡ 0 → ((s : ℕ) → length (sector_at stored s) ≡ 512) → ((j : ℕ) → j < length buffer → get_or buffer j 0 ≡ byte_at stored (512 * lba + j)) → (k : ℕ) → 512 * k < length buffer → slice_range buffer (512 * k) (512 * k + 512) ≡ sector_at stored (lba + k)
+pub read_chunks : (stored : StoredSectors) (lba : ℕ) (buffer : List ℕ) → length buffer % 512 ≡ 0 → ((s : ℕ) → length (sector_at stored s) ≡ 512) → ((j : ℕ) → j < length buffer → get_or buffer j 0 ≡ byte_at stored (512 * lba + j)) → (k : ℕ) → 512 * k < length buffer → slice_range buffer (512 * k) (512 * k + 512) ≡ sector_at stored (lba + k)
 read_chunks stored lba buffer is whole same k below =
     let size : 512 * k + 512 - 512 * k ≡ 512 = omega arith in
     rw size (read_chunk stored lba k buffer is whole same below)
@@ -65,7 +65,7 @@ chunks_are holds lba (suc n) xs size each =
     ∙ ap (λ ys. ys ++ drop 512 xs) first
     ∙ ap (λ ys. holds lba ++ ys) (chunks_are holds (lba + 1) n (drop 512 xs) left later)
 
-pub read_exact : (stored : Stored) (lba : ℕ) (buffer : List ℕ) (n : ℕ) → length buffer % 512 ≡ 0 → n ≡ length buffer → ((s : ℕ) → length (sector_at stored s) ≡ 512) → ((j : ℕ) → j < length buffer → get_or buffer j 0 ≡ byte_at stored (512 * lba + j)) → buffer ≡ sectors_from (sector_at stored) lba (n / 512)
+pub read_exact : (stored : StoredSectors) (lba : ℕ) (buffer : List ℕ) (n : ℕ) → length buffer % 512 ≡ 0 → n ≡ length buffer → ((s : ℕ) → length (sector_at stored s) ≡ 512) → ((j : ℕ) → j < length buffer → get_or buffer j 0 ≡ byte_at stored (512 * lba + j)) → buffer ≡ sectors_from (sector_at stored) lba (n / 512)
 read_exact stored lba buffer n is same_size whole same =
     chunks_are (sector_at stored) lba (n / 512) buffer (omega arith)
     (λ k below. read_chunk stored lba k buffer is whole same (omega arith))
@@ -78,7 +78,7 @@ after_outside : (lba s : ℕ) (bytes before : List ℕ) → (s < lba) ⊎ (lba +
 after_outside lba s bytes before out = grind (arith, nat_tests)
 
 -- The sectors after a write, by the bytes.
-pub write_sectors : (old new : Stored) (lba : ℕ) (bytes : List ℕ) → length bytes % 512 ≡ 0 → ((s : ℕ) → length (sector_at old s) ≡ 512) → ((s : ℕ) → length (sector_at new s) ≡ 512) → ((p : ℕ) → byte_at new p ≡ byte_after (512 * lba) bytes (byte_at old p) p) → (s : ℕ) → sector_at new s ≡ sector_after lba bytes (sector_at old s) s
+pub write_sectors : (old new : StoredSectors) (lba : ℕ) (bytes : List ℕ) → length bytes % 512 ≡ 0 → ((s : ℕ) → length (sector_at old s) ≡ 512) → ((s : ℕ) → length (sector_at new s) ≡ 512) → ((p : ℕ) → byte_at new p ≡ byte_after (512 * lba) bytes (byte_at old p) p) → (s : ℕ) → sector_at new s ≡ sector_after lba bytes (sector_at old s) s
 write_sectors old new lba bytes is whole_old whole_new same s =
     let n : ℕ = length bytes / 512 in
     let outside : (s < lba) ⊎ (lba + n ≤ s) → sector_at new s ≡ sector_after lba bytes (sector_at old s) s =

@@ -4,7 +4,7 @@ use Rattle.std.proofs.lemmas.Bool.{cases_lt, cases_eq}
 use Rattle.std.proofs.lemmas.Bool.Decides.{nat_tests}
 use Rattle.std.proofs.lemmas.List.{places, get_or-take, get_or-drop, length-take-le}
 use Rattle.std.specs.Prelude.{if◌then◌else◌}
-use Rattle.shadow_mbr.specs.Stored.{Stored, sector_at, byte_at, byte_after}
+use Rattle.shadow_mbr.specs.Stored.{StoredSectors, sector_at, byte_at, byte_after}
 
 -- A byte inside what was written, before it and behind it.
 pub byte_inside : (at : ℕ) (bytes : List ℕ) (before place : ℕ) → at ≤ place → place < at + length bytes → byte_after at bytes before place ≡ get_or bytes (place - at) 0
@@ -109,7 +109,7 @@ part_written p place before bytes old same fits whole is =
     (cases_lt place p)
 
 -- A write within one sector, by its bytes.
-pub sector_written : (old new : Stored) (p : ℕ) (bytes : List ℕ) → p % 512 + length bytes ≤ 512 → ((s : ℕ) → length (sector_at old s) ≡ 512) → ((s : ℕ) → sector_at new s ≡ (if s == p / 512 then take (p % 512) (sector_at old s) ++ bytes ++ drop (p % 512 + length bytes) (sector_at old s) else sector_at old s)) → (place : ℕ) → byte_at new place ≡ byte_after p bytes (byte_at old place) place
+pub sector_written : (old new : StoredSectors) (p : ℕ) (bytes : List ℕ) → p % 512 + length bytes ≤ 512 → ((s : ℕ) → length (sector_at old s) ≡ 512) → ((s : ℕ) → sector_at new s ≡ (if s == p / 512 then take (p % 512) (sector_at old s) ++ bytes ++ drop (p % 512 + length bytes) (sector_at old s) else sector_at old s)) → (place : ℕ) → byte_at new place ≡ byte_after p bytes (byte_at old place) place
 sector_written old new p bytes fits whole is place =
     let s : ℕ = place / 512 in
     let before : List ℕ = sector_at old s in

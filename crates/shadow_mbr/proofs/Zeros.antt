@@ -3,7 +3,7 @@ use Rattle.std.proofs.Common.{◌≡◌, ℕ, ◌^◌, ◌<◌, ◌≤◌, List,
 use Rattle.std.proofs.lemmas.Bool.{cases_lt}
 use Rattle.std.proofs.lemmas.List.{get_or-replicate, get_or_past}
 use Rattle.std.specs.List.Sorted.{IsStrictlySortedBy}
-use Rattle.shadow_mbr.specs.Stored.{Stored, zeros, byte_at, IsSound}
+use Rattle.shadow_mbr.specs.Stored.{StoredSectors, zeros, byte_at, IsSound}
 
 pub length_zeros : length zeros ≡ 512
 unfolding zeros
@@ -23,5 +23,5 @@ zero_byte i =
     (cases_lt i 512)
 
 -- Where none is kept, each byte is zero.
-pub blank_byte : (stored : Stored) → stored.kept ≡ [] → (place : ℕ) → byte_at stored place ≡ 0
+pub blank_byte : (stored : StoredSectors) → stored.kept ≡ [] → (place : ℕ) → byte_at stored place ≡ 0
 blank_byte stored none place = rw none (zero_byte (place % 512))

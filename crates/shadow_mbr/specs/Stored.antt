@@ -7,7 +7,7 @@ use Rattle.std.specs.Map.{lookup, keys_of}
 use Rattle.std.specs.Ordering.{nat_cmp}
 
 -- How many sectors there are, and the sectors that are kept, by their numbers.
-pub record Stored : Type 0 where
+pub record StoredSectors : Type 0 where
   pub sectors : ℕ
   pub kept : List (ℕ × List ℕ)
 
@@ -24,20 +24,20 @@ abbrev pub block_in : List (ℕ × List ℕ) → ℕ → Option (List ℕ)
 block_in kept sector = lookup (is_at (nat_cmp sector)) kept
 
 -- what is kept of a sector
-abbrev pub kept_at : Stored → ℕ → Option (List ℕ)
+abbrev pub kept_at : StoredSectors → ℕ → Option (List ℕ)
 kept_at stored sector = block_in stored.kept sector
 
 -- What a sector holds: the bytes that are kept, else zeros.
-abbrev pub sector_at : Stored → ℕ → List ℕ
+abbrev pub sector_at : StoredSectors → ℕ → List ℕ
 sector_at stored sector = unwrap_or (kept_at stored sector) zeros
 
 -- What a place holds: a byte of its sector.
-abbrev pub byte_at : Stored → ℕ → ℕ
+abbrev pub byte_at : StoredSectors → ℕ → ℕ
 byte_at stored place = slice_index (sector_at stored (place / sector_size)) (place % sector_size)
 
 -- What a place holds where these sectors are kept.
-abbrev pub byte_in : List (ℕ × List ℕ) → ℕ → ℕ
-byte_in kept place =
+abbrev pub kept_byte : List (ℕ × List ℕ) → ℕ → ℕ
+kept_byte kept place =
     slice_index (unwrap_or (block_in kept (place / sector_size)) zeros) (place % sector_size)
 
 -- The byte at a place after bytes were written from `at` on, where it was `before`.
@@ -60,7 +60,7 @@ sectors_from holds lba zero = []
 sectors_from holds lba (suc n) = holds lba ++ sectors_from holds (lba + 1) n
 
 -- The sector of each of so many bytes from `at` on is kept.
-abbrev pub AreKept : Stored → ℕ → ℕ → Type 0
+abbrev pub AreKept : StoredSectors → ℕ → ℕ → Type 0
 AreKept stored at len =
     (place : ℕ) → at ≤ place → place < at + len
     → is_some (kept_at stored (place / sector_size)) ≡ true
@@ -78,7 +78,7 @@ has_byte at len sector =
     && nat_lt at (sector_size * sector + sector_size)
 
 -- The sectors from the first to before the end that are not kept are listed.
-abbrev pub ListsMissing : Stored → ℕ → ℕ → List ℕ → Type 0
+abbrev pub ListsMissing : StoredSectors → ℕ → ℕ → List ℕ → Type 0
 ListsMissing stored first end sectors =
     (sector : ℕ) → list_any (nat_eq sector) sectors
     ≡ (nat_le first sector && nat_lt sector end && not (is_some (kept_at stored sector)))
@@ -89,7 +89,7 @@ sector_limit = 2 ^ 48
 
 -- There are no more sectors than a drive can have, the sectors that are kept ascend, and each
 -- sector is whole.
-pub record IsSound (stored : Stored) : Type 0 where
+pub record IsSound (stored : StoredSectors) : Type 0 where
   pub few : stored.sectors ≤ sector_limit
   pub sorted : IsStrictlySortedBy nat_cmp (keys_of stored.kept)
   pub whole : (sector : ℕ) → length (sector_at stored sector) ≡ sector_size

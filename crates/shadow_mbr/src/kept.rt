@@ -5,7 +5,7 @@ ghost use Rattle.std.specs.List.{list_any};
 ghost use Rattle.std.specs.List.Sorted.{IsStrictlySortedBy};
 ghost use Rattle.std.specs.Map.{keys_of};
 ghost use Rattle.std.specs.Ordering.{nat_cmp};
-ghost use Rattle.shadow_mbr.specs.Stored.{sector_size, zeros, HaveBlocks, byte_in, byte_after};
+ghost use Rattle.shadow_mbr.specs.Stored.{sector_size, zeros, HaveBlocks, kept_byte, byte_after};
 ghost use Rattle.shadow_mbr.specs.Places.{place_at, block_at, blocks_of, blocks_after, AreOwn, AddsPlaces};
 
 use crate::piece::{SECTOR, piece_len, sectors_of};
@@ -103,8 +103,8 @@ fn write_blocks(finder: &mut Finder<'_>, blocks: &mut Vec<Block>, at: u64, bytes
     requires own { AreOwn finder.old blocks.old.items }
     requires kept { HaveBlocks (blocks_of finder.old blocks.old.items) at (length bytes.now) }
     ensures own { AreOwn finder.old blocks.new.items }
-    ensures bytes { (p : ℕ) → byte_in (blocks_of finder.old blocks.new.items) p
-        ≡ byte_after at bytes.now (byte_in (blocks_of finder.old blocks.old.items) p) p }
+    ensures bytes { (p : ℕ) → kept_byte (blocks_of finder.old blocks.new.items) p
+        ≡ byte_after at bytes.now (kept_byte (blocks_of finder.old blocks.old.items) p) p }
 {
     let mut done = 0;
     while done < bytes.len() {
@@ -159,7 +159,7 @@ impl Kept {
     ghost use Rattle.std.specs.List.Sorted.{IsStrictlySortedBy};
     ghost use Rattle.std.specs.Map.{keys_of};
     ghost use Rattle.std.specs.Ordering.{nat_cmp};
-    ghost use Rattle.shadow_mbr.specs.Stored.{sector_size, zeros, block_in, HaveBlocks, byte_in, byte_after, sectors_from};
+    ghost use Rattle.shadow_mbr.specs.Stored.{sector_size, zeros, block_in, HaveBlocks, kept_byte, byte_after, sectors_from};
 
     pub(crate) fn new(alloc: Global) -> Kept
         ensures { result ≡ [] }
@@ -236,8 +236,8 @@ impl Kept {
         requires inside { at + length bytes.now < 2 ^ 64 }
         requires kept { HaveBlocks self.old at (length bytes.now) }
         ensures kept { (s : ℕ) → is_some (block_in self.new s) ≡ is_some (block_in self.old s) }
-        ensures bytes { (p : ℕ) → byte_in self.new p
-            ≡ byte_after at bytes.now (byte_in self.old p) p }
+        ensures bytes { (p : ℕ) → kept_byte self.new p
+            ≡ byte_after at bytes.now (kept_byte self.old p) p }
         ensures whole { (s : ℕ) → length (unwrap_or (block_in self.new s) zeros) ≡ sector_size }
         ensures sorted { IsStrictlySortedBy nat_cmp (keys_of self.new) }
     {
@@ -252,7 +252,7 @@ impl Kept {
         ensures covered { IsTrue result ↔ HaveBlocks self.old at (length bytes.now) }
         ensures kept { (s : ℕ) → is_some (block_in self.new s) ≡ is_some (block_in self.old s) }
         ensures bytes { result ≡ true → (p : ℕ)
-            → byte_in self.new p ≡ byte_after at bytes.now (byte_in self.old p) p }
+            → kept_byte self.new p ≡ byte_after at bytes.now (kept_byte self.old p) p }
         ensures misses { result ≡ false → self.new ≡ self.old }
         ensures whole { (s : ℕ) → length (unwrap_or (block_in self.new s) zeros) ≡ sector_size }
         ensures sorted { IsStrictlySortedBy nat_cmp (keys_of self.new) }

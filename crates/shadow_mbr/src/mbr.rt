@@ -11,9 +11,9 @@ pub struct Mbr {
 }
 
 impl Model for Mbr {
-    ghost use Rattle.shadow_mbr.specs.Stored.{Stored, IsSound};
+    ghost use Rattle.shadow_mbr.specs.Stored.{StoredSectors, IsSound};
 
-    ghost Value = { Stored };
+    ghost Value = { StoredSectors };
 
     ghost view = { λ a. a.held };
 

@@ -14,9 +14,9 @@ pub struct Media {
 }
 
 impl Model for Media {
-    ghost use Rattle.shadow_mbr.specs.Stored.{Stored, IsSound};
+    ghost use Rattle.shadow_mbr.specs.Stored.{StoredSectors, IsSound};
 
-    ghost Value = { Stored };
+    ghost Value = { StoredSectors };
 
     ghost view = { λ a. a.held };
 

@@ -19,9 +19,9 @@ pub(crate) struct Sectors {
 
 impl Model for Sectors {
     ghost use Rattle.std.specs.Prelude.{◌≡◌, ℕ, ◌≤◌, ◌^◌, length};
-    ghost use Rattle.shadow_mbr.specs.Stored.{Stored, IsSound};
+    ghost use Rattle.shadow_mbr.specs.Stored.{StoredSectors, IsSound};
 
-    ghost Value = { Stored };
+    ghost Value = { StoredSectors };
 
     ghost view = { λ a. record { sectors = a.sectors; kept = a.kept } };
 

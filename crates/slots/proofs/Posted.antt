@@ -3,14 +3,14 @@ use Rattle.std.proofs.Common.{◌≡◌, ℕ, ◌+◌, ◌≤◌, List, length, 
 use Rattle.fis.specs.declared.any.Fis.{Fis}
 use Rattle.fis.specs.declared.any.Fis.TheVariants as fises
 use Rattle.fis.specs.Fis.{IsSpelling}
-use Rattle.slots.specs.Layout.{memory_size, received_place, fis_length, part, laid}
-use Rattle.slots.specs.Fetch.{AreApart}
+use Rattle.slots.specs.Layout.{memory_size, received_place, fis_length, memory_part, memory_with}
+use Rattle.slots.specs.Fetch.{IsApartFromParts}
 use Rattle.slots.proofs.Splices.{apart, whole}
 
-narrower : (place n at m : ℕ) → 0x400 ≤ at → at + m ≤ 0x500 → AreApart place n 0x400 0x100 → AreApart place n at m
+narrower : (place n at m : ℕ) → 0x400 ≤ at → at + m ≤ 0x500 → IsApartFromParts place n 0x400 0x100 → IsApartFromParts place n at m
 narrower place n at m low high = ⊎_elim (λ h. inl (omega arith)) (λ h. inr (omega arith))
 
-pub posted_apart : (memory : List ℕ) (f : Fis) (bytes : List ℕ) → IsSpelling bytes f → length memory ≡ memory_size → (place n : ℕ) → AreApart place n 0x400 0x100 → part (laid memory (received_place f) bytes) place n ≡ part memory place n
+pub posted_apart : (memory : List ℕ) (f : Fis) (bytes : List ℕ) → IsSpelling bytes f → length memory ≡ memory_size → (place n : ℕ) → IsApartFromParts place n 0x400 0x100 → memory_part (memory_with memory (received_place f) bytes) place n ≡ memory_part memory place n
 posted_apart memory (fises.H2d f) bytes spelled long place n h = apart memory bytes 0x460 20 place n spelled.1 (omega (arith, long)) (narrower place n 0x460 20 (omega arith) (omega arith) h)
 posted_apart memory (fises.D2h f) bytes spelled long place n h = apart memory bytes 0x440 20 place n spelled.1 (omega (arith, long)) (narrower place n 0x440 20 (omega arith) (omega arith) h)
 posted_apart memory (fises.SetDeviceBits f) bytes spelled long place n h = apart memory bytes 0x458 8 place n spelled.1 (omega (arith, long)) (narrower place n 0x458 8 (omega arith) (omega arith) h)
@@ -31,11 +31,11 @@ spelled_length (fises.SetDeviceBits f) bytes spelled = spelled.1
 spelled_length (fises.DmaSetup f) bytes spelled = spelled.1
 spelled_length (fises.PioSetup f) bytes spelled = spelled.1
 
-pub posted_stands : (memory : List ℕ) (f : Fis) (bytes : List ℕ) → IsSpelling bytes f → length memory ≡ memory_size → IsSpelling (part (laid memory (received_place f) bytes) (received_place f) (fis_length f)) f
+pub posted_stands : (memory : List ℕ) (f : Fis) (bytes : List ℕ) → IsSpelling bytes f → length memory ≡ memory_size → IsSpelling (memory_part (memory_with memory (received_place f) bytes) (received_place f) (fis_length f)) f
 posted_stands memory f bytes spelled long =
     subst (λ (xs : List ℕ). IsSpelling xs f)
     (sym (whole memory bytes (received_place f) (fis_length f) (omega (arith, reaches f memory long)) (spelled_length f bytes spelled))) spelled
 
-pub posted_beside : (memory : List ℕ) (f : Fis) (bytes : List ℕ) → IsSpelling bytes f → length memory ≡ memory_size → (place n : ℕ) → AreApart place n (received_place f) (fis_length f) → part (laid memory (received_place f) bytes) place n ≡ part memory place n
+pub posted_beside : (memory : List ℕ) (f : Fis) (bytes : List ℕ) → IsSpelling bytes f → length memory ≡ memory_size → (place n : ℕ) → IsApartFromParts place n (received_place f) (fis_length f) → memory_part (memory_with memory (received_place f) bytes) place n ≡ memory_part memory place n
 posted_beside memory f bytes spelled long place n h =
     apart memory bytes (received_place f) (fis_length f) place n (spelled_length f bytes spelled) (reaches f memory long) h

@@ -6,8 +6,8 @@ use Rattle.fis.specs.Types.{h2d_length}
 use Rattle.slots.specs.Layout.{memory_size, descriptors_at, descriptor_size}
 
 -- The number in so many bytes from a place on, the lowest first.
-abbrev pub number_at : ℕ → List ℕ → ℕ → ℕ
-number_at size bytes place = little_number size (drop place bytes)
+abbrev pub little_endian_at : ℕ → List ℕ → ℕ → ℕ
+little_endian_at size bytes place = little_number size (drop place bytes)
 
 -- how many words of four bytes a command FIS has
 abbrev pub command_words : ℕ
@@ -24,8 +24,8 @@ write_bit = 64
 -- The writing: the words of a command FIS, W where the data go to the device, so many entries,
 -- the place of the command table, and zeros.
 abbrev pub header_bytes : Bool → ℕ → ℕ → List ℕ
-header_bytes write entries table =
-    little_bytes 2 (command_words + write_bit * bit write) ++ little_bytes 2 entries
+header_bytes write entry_count table =
+    little_bytes 2 (command_words + write_bit * bit write) ++ little_bytes 2 entry_count
     ++ little_bytes 4 0
     ++ little_bytes 4 table ++ little_bytes 4 0 ++ little_bytes 16 0
 
@@ -42,18 +42,18 @@ abbrev pub is_write : List ℕ → Bool
 is_write header = slice_index header 0 / write_bit % 2 == 1
 
 -- PRDTL: how many entries the table has
-abbrev pub entries : List ℕ → ℕ
-entries header = number_at 2 header 2
+abbrev pub entry_count : List ℕ → ℕ
+entry_count header = little_endian_at 2 header 2
 
 -- CTBA and CTBAU: where the command table stands
 abbrev pub table_at : List ℕ → ℕ
-table_at header = number_at 4 header 8
+table_at header = little_endian_at 4 header 8
 
 abbrev pub table_upper : List ℕ → ℕ
-table_upper header = number_at 4 header 12
+table_upper header = little_endian_at 4 header 12
 
 -- The table stands at a multiple of the alignment and in the memory, its entries included.
 abbrev pub has_table : List ℕ → Bool
 has_table header =
     table_at header % table_alignment == 0 && table_upper header == 0
-    && nat_le (table_at header + descriptors_at + descriptor_size * entries header) memory_size
+    && nat_le (table_at header + descriptors_at + descriptor_size * entry_count header) memory_size

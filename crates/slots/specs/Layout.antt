@@ -21,8 +21,8 @@ received_size = 0x100
 abbrev pub tables_at : ℕ
 tables_at = 0x800
 
-abbrev pub table_size : ℕ
-table_size = 0x100
+abbrev pub command_table_size : ℕ
+command_table_size = 0x100
 
 -- In a table the descriptors of the data stand at an offset of their own (4.2.3).
 abbrev pub descriptors_at : ℕ
@@ -46,7 +46,7 @@ abbrev pub header_place : ℕ → ℕ
 header_place tag = header_size * tag
 
 abbrev pub table_place : ℕ → ℕ
-table_place tag = tables_at + table_size * tag
+table_place tag = tables_at + command_table_size * tag
 
 abbrev pub buffer_place : ℕ → ℕ
 buffer_place tag = buffers_at + buffer_size * tag
@@ -60,15 +60,15 @@ received_place (fises.SetDeviceBits f) = received_at + 0x58
 received_place (fises.H2d f) = received_at + 0x60
 
 -- so many bytes from a place on
-abbrev pub part : List ℕ → ℕ → ℕ → List ℕ
-part memory at len = slice_range memory at (at + len)
+abbrev pub memory_part : List ℕ → ℕ → ℕ → List ℕ
+memory_part memory at len = slice_range memory at (at + len)
 
 -- The memory with bytes laid from a place on, and all else as it was.
-abbrev pub laid : List ℕ → ℕ → List ℕ → List ℕ
-laid memory at bytes = take at memory ++ bytes ++ drop (at + length bytes) memory
+abbrev pub memory_with : List ℕ → ℕ → List ℕ → List ℕ
+memory_with memory at bytes = take at memory ++ bytes ++ drop (at + length bytes) memory
 
-unfoldable pub zeros : ℕ → List ℕ
-zeros n = replicate n 0
+unfoldable pub zero_bytes : ℕ → List ℕ
+zero_bytes n = replicate n 0
 
 -- How many bytes a FIS has.
 abbrev pub fis_length : Fis → ℕ

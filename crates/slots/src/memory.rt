@@ -41,8 +41,8 @@ fn zeros(alloc: Global, len: usize) -> Result<Vec<u8>, AllocError>
 impl PortMemory {
     ghost use Rattle.std.specs.Prelude.{◌≡◌, ◌+◌, ◌*◌, ◌≤◌, ◌<◌, ◌%◌, ◌^◌, ◌↔◌, ℕ, List, Bool, true, IfOk, IfSome, IsSome, Ok, Some, None, length, slice_index, if◌then◌else◌};
     ghost use Rattle.fis.specs.Tags.{slot_count};
-    ghost use Rattle.slots.specs.Layout.{memory_size, header_size, received_at, received_size, table_size, buffer_size, descriptors_at, descriptor_size, laid, part, header_place, table_place, buffer_place, received_place, fis_length};
-    ghost use Rattle.slots.specs.Fetch.{fetched, placed, transfer, command_fis, Holds, AreApart};
+    ghost use Rattle.slots.specs.Layout.{memory_size, header_size, received_at, received_size, command_table_size, buffer_size, descriptors_at, descriptor_size, memory_with, memory_part, header_place, table_place, buffer_place, received_place, fis_length};
+    ghost use Rattle.slots.specs.Fetch.{fetched, placed, transfer, table_fis, HoldsCommand, IsApartFromParts};
     ghost use Rattle.slots.specs.Table.{is_command, descriptors};
     ghost use Rattle.fis.specs.Types.{h2d_length};
     ghost use Rattle.fis.specs.Fis.{IsSpelling};
@@ -72,7 +72,7 @@ impl PortMemory {
 
     pub fn part(&self, at: usize, len: usize) -> &[u8]
         requires { at + len ≤ memory_size }
-        ensures value { result.now ≡ part self.now at len }
+        ensures value { result.now ≡ memory_part self.now at len }
         ensures len { length result.now ≡ len }
     {
         &self.bytes[at..at + len]
@@ -81,20 +81,20 @@ impl PortMemory {
     fn part_mut(&mut self, at: usize, len: usize) -> &mut [u8]
         requires { at + len ≤ memory_size }
         ensures* writes_back { sem 𝓛 (LendsPart self.entry at result) }
-        ensures value { result.now ≡ part self.old at len }
+        ensures value { result.now ≡ memory_part self.old at len }
         ensures len { length result.now ≡ len }
         ensures whole { (bytes : List ℕ) → length bytes ≡ len
-            → with_part self.old at bytes ≡ laid self.old at bytes }
+            → with_part self.old at bytes ≡ memory_with self.old at bytes }
         ensures inside { (i : ℕ) (bytes : List ℕ) → i + length bytes ≤ len
-            → with_part self.old at (laid (part self.old at len) i bytes)
-            ≡ laid self.old (at + i) bytes }
+            → with_part self.old at (memory_with (memory_part self.old at len) i bytes)
+            ≡ memory_with self.old (at + i) bytes }
     {
         self.bytes.slice_mut(at..at + len)
     }
 
     fn lay(&mut self, at: usize, bytes: &[u8])
         requires { at + length bytes.now ≤ memory_size }
-        ensures { self.new ≡ laid self.old at bytes.now }
+        ensures { self.new ≡ memory_with self.old at bytes.now }
     {
         parts::lay(&mut self.bytes, at, bytes);
     }
@@ -106,10 +106,10 @@ impl PortMemory {
         ensures exact { self.new ≡ placed self.old tag command.now write len }
 
         // The slot holds the command then, and no other byte changes.
-        ensures holds { Holds self.new tag command.now write len }
-        ensures elsewhere { (place n : ℕ) → AreApart place n (header_place tag) header_size
-            → AreApart place n (table_place tag) table_size
-            → part self.new place n ≡ part self.old place n }
+        ensures holds { HoldsCommand self.new tag command.now write len }
+        ensures elsewhere { (place n : ℕ) → IsApartFromParts place n (header_place tag) header_size
+            → IsApartFromParts place n (table_place tag) command_table_size
+            → memory_part self.new place n ≡ memory_part self.old place n }
     {
         self.lay_command(tag, command, write, len);
     }
@@ -161,7 +161,7 @@ impl PortMemory {
     /// The FIS in a command table, or `None` where it is no command.
     fn command_fis(&self, table: usize) -> Option<[u8; H2D_LENGTH]>
         requires { table + descriptors_at ≤ memory_size }
-        ensures { result ≡ command_fis self.now table }
+        ensures { result ≡ table_fis self.now table }
     {
         let bytes = self.part(table, H2D_LENGTH);
         if !is_command(bytes) {
@@ -181,7 +181,7 @@ impl PortMemory {
         // What was placed is fetched, as long as the slot holds it.
         ensures held { (command : List ℕ) (write : Bool) (len : ℕ) → length command ≡ h2d_length
             → is_command command ≡ true → len % 2 ≡ 0 → len ≤ buffer_size
-            → Holds self.now tag command write len
+            → HoldsCommand self.now tag command write len
             → result ≡ Ok (record { fis = command; write = write; len = len }) }
     {
         self.read_slot(tag)
@@ -213,25 +213,25 @@ impl PortMemory {
     /// Stores a FIS of the device where the port receives one of its type.
     pub fn post(&mut self, fis: &Fis)
         ensures exact { (bytes : List ℕ) × IsSpelling bytes fis.now
-            × (self.new ≡ laid self.old (received_place fis.now) bytes) }
+            × (self.new ≡ memory_with self.old (received_place fis.now) bytes) }
 
         // No byte outside the received FISes changes.
-        ensures elsewhere { (place n : ℕ) → AreApart place n received_at received_size
-            → part self.new place n ≡ part self.old place n }
+        ensures elsewhere { (place n : ℕ) → IsApartFromParts place n received_at received_size
+            → memory_part self.new place n ≡ memory_part self.old place n }
 
         // The FIS stands at its place, and the others stay.
         ensures stands { IsSpelling
-            (part self.new (received_place fis.now) (fis_length fis.now)) fis.now }
+            (memory_part self.new (received_place fis.now) (fis_length fis.now)) fis.now }
         ensures beside { (place n : ℕ)
-            → AreApart place n (received_place fis.now) (fis_length fis.now)
-            → part self.new place n ≡ part self.old place n }
+            → IsApartFromParts place n (received_place fis.now) (fis_length fis.now)
+            → memory_part self.new place n ≡ memory_part self.old place n }
     {
         self.store(fis);
     }
 
     fn store(&mut self, fis: &Fis)
         ensures exact { (bytes : List ℕ) × IsSpelling bytes fis.now
-            × (self.new ≡ laid self.old (received_place fis.now) bytes) }
+            × (self.new ≡ memory_with self.old (received_place fis.now) bytes) }
         ensures memory_len { length self.old ≡ memory_size }
     {
         self.is_whole();
@@ -240,7 +240,7 @@ impl PortMemory {
 
     /// The data of a slot.
     pub fn buffer(&self, tag: Tag) -> &[u8]
-        ensures value { result.now ≡ part self.now (buffer_place tag) buffer_size }
+        ensures value { result.now ≡ memory_part self.now (buffer_place tag) buffer_size }
         ensures len { length result.now ≡ buffer_size }
     {
         self.part(buffer_place(tag), BUFFER)
@@ -249,17 +249,18 @@ impl PortMemory {
     /// The data of a slot, to be changed.
     pub fn buffer_mut(&mut self, tag: Tag) -> &mut [u8]
         ensures* writes_back { sem 𝓛 (LendsPart self.entry (buffer_place tag) result) }
-        ensures value { result.now ≡ part self.old (buffer_place tag) buffer_size }
+        ensures value { result.now ≡ memory_part self.old (buffer_place tag) buffer_size }
         ensures len { length result.now ≡ buffer_size }
 
         // The slice keeps its length, so that no byte outside the buffer changes. What is written
         // into the slice from a place on stands in the memory.
         ensures whole { (bytes : List ℕ) → length bytes ≡ buffer_size
-            → with_part self.old (buffer_place tag) bytes ≡ laid self.old (buffer_place tag) bytes }
+            → with_part self.old (buffer_place tag) bytes ≡ memory_with self.old
+            (buffer_place tag) bytes }
         ensures inside { (i : ℕ) (bytes : List ℕ) → i + length bytes ≤ buffer_size
             → with_part self.old (buffer_place tag)
-            (laid (part self.old (buffer_place tag) buffer_size) i bytes)
-            ≡ laid self.old (buffer_place tag + i) bytes }
+            (memory_with (memory_part self.old (buffer_place tag) buffer_size) i bytes)
+            ≡ memory_with self.old (buffer_place tag + i) bytes }
     {
         self.part_mut(buffer_place(tag), BUFFER)
     }

@@ -1,9 +1,9 @@
 //! Command headers, tables and descriptors as bytes (AHCI 1.3.1, 4.2.2 and 4.2.3).
 
 ghost use Rattle.std.specs.Prelude.{◌≡◌, ◌≤◌, ◌<◌, ◌+◌, ◌*◌, ◌-◌, ◌^◌, length};
-ghost use Rattle.slots.specs.Layout.{header_size, table_size, descriptor_size, zeros, laid, table_place, buffer_place};
-ghost use Rattle.slots.specs.Header.{header_bytes, fis_words, is_write, entries, table_at, table_upper, has_table, entries_for};
-ghost use Rattle.slots.specs.Table.{entry_bytes, table_bytes, address, upper, descriptor_range, count, is_sound};
+ghost use Rattle.slots.specs.Layout.{header_size, command_table_size, descriptor_size, zero_bytes, memory_with, table_place, buffer_place};
+ghost use Rattle.slots.specs.Header.{header_bytes, fis_words, is_write, entry_count, table_at, table_upper, has_table, entries_for};
+ghost use Rattle.slots.specs.Table.{entry_bytes, table_bytes, address, upper, descriptor_range, byte_count_field, is_sound};
 
 use crate::layout::{DESCRIPTOR, DESCRIPTORS, HEADER, MEMORY, TABLE, buffer_place, table_place};
 use byteorder::{ByteOrder, LittleEndian};
@@ -24,7 +24,7 @@ const DESCRIPTOR_RANGE: u32 = 0x40_0000;
 /// Lays bytes among others from a place on.
 pub(crate) fn lay(memory: &mut [u8], at: usize, bytes: &[u8])
     requires { at + length bytes.now ≤ length memory.old }
-    ensures { memory.new ≡ laid memory.old at bytes.now }
+    ensures { memory.new ≡ memory_with memory.old at bytes.now }
 {
     memory[at..at + bytes.len()].copy_from_slice(bytes);
 }
@@ -57,7 +57,7 @@ fn entry(tag: Tag, len: u32) -> [u8; DESCRIPTOR]
 
 #[tactic(auto, unfolding(crate::specs::Layout::zeros))]
 fn zeros() -> [u8; TABLE]
-    ensures { result ≡ zeros table_size }
+    ensures { result ≡ zero_bytes command_table_size }
 {
     [0; TABLE]
 }
@@ -90,7 +90,7 @@ pub(crate) fn is_write(header: &[u8]) -> bool
 
 pub(crate) fn entries(header: &[u8]) -> usize
     requires { header_size ≤ length header.now }
-    ensures value { result ≡ entries header.now }
+    ensures value { result ≡ entry_count header.now }
     ensures fits { result < 2 ^ 16 }
 {
     usize::from(LittleEndian::read_u16(&header[2..]))
@@ -140,7 +140,7 @@ fn upper(entry: &[u8]) -> u32
 /// How many bytes the descriptor is of.
 pub(crate) fn count(entry: &[u8]) -> u64
     requires { descriptor_size ≤ length entry.now }
-    ensures value { result ≡ count entry.now }
+    ensures value { result ≡ byte_count_field entry.now }
     ensures fits { result ≤ descriptor_range }
 {
     u64::from(LittleEndian::read_u32(&entry[12..]) % DESCRIPTOR_RANGE) + 1

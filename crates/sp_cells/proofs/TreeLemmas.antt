@@ -3,10 +3,10 @@ use Rattle.std.proofs.Common.{suc, ◌≡◌, Bool, true, false, ◌&&◌, List,
 use Rattle.std.proofs.lemmas.Bool.Decides.{nat_tests}
 use Rattle.sp_cells.specs.declared.cells.Element.{Element}
 use Rattle.sp_cells.specs.declared.cells.Element.TheVariants.{Authority, And, Or}
-use Rattle.sp_cells.specs.Expressions.{Tree, leaf, both, either, postorder, WritesTree, completes}
+use Rattle.sp_cells.specs.Expressions.{ExpressionTree, leaf, both, either, postorder, WritesTree, completes}
 
 -- a tree that is written out waits as one
-pub completes-postorder : (t : Tree) (rest : List Element) (n : ℕ) → completes n (postorder t ++ rest) ≡ completes (suc n) rest
+pub completes-postorder : (t : ExpressionTree) (rest : List Element) (n : ℕ) → completes n (postorder t ++ rest) ≡ completes (suc n) rest
 completes-postorder (leaf a) rest n = refl
 completes-postorder (both l r) rest n =
     let step : completes (suc (suc n)) (And ∷ rest) ≡ completes (suc n) rest = grind (arith, nat_tests) in
@@ -16,7 +16,7 @@ completes-postorder (either l r) rest n =
     rw (append_assoc, append_assoc) (completes-postorder l (postorder r ++ Or ∷ rest) n ∙ completes-postorder r (Or ∷ rest) (suc n) ∙ step)
 
 -- the elements that made the waiting trees, the latest first
-pub written : List Tree → List Element
+pub written : List ExpressionTree → List Element
 written [] = []
 written (t ∷ ts) = written ts ++ postorder t
 
@@ -24,7 +24,7 @@ both_true : (a b : Bool) → (a && b) ≡ true → b ≡ true
 both_true true b h = h
 both_true false b h = cc
 
-pub completes-sound : (es : List Element) (ts : List Tree) → completes (length ts) es ≡ true → (t : Tree) × (written ts ++ es ≡ postorder t)
+pub completes-sound : (es : List Element) (ts : List ExpressionTree) → completes (length ts) es ≡ true → (t : ExpressionTree) × (written ts ++ es ≡ postorder t)
 unfolding written
 completes-sound [] [] h = cc
 completes-sound [] (t ∷ []) h = (t, append-nil ([] ++ postorder t))

@@ -10,8 +10,8 @@ number_behind base count object =
     if nat_lt base object.0 && nat_le object.0 (base + count) then Some (object.0 - base) else None
 
 -- the same with a row of number 0, which has a name of its own
-abbrev pub number_from : (zeroth base count : ℕ) → Uid → Option ℕ
-number_from zeroth base count object =
+abbrev pub member_number_from : (zeroth base count : ℕ) → Uid → Option ℕ
+member_number_from zeroth base count object =
     if object.0 == zeroth then Some 0 else number_behind base count object
 
 -- an Admin and a User, and their C_PIN rows
@@ -29,14 +29,14 @@ user_pin_number = number_behind user_pin_base USERS
 
 -- the row of a range, the global range being number 0
 abbrev pub range_number : Uid → Option ℕ
-range_number = number_from global_range.0 range_base RANGES
+range_number = member_number_from global_range.0 range_base RANGES
 
 -- the ACEs of a User's PIN, and of the two flags of a range
 abbrev pub user_ace_number : Uid → Option ℕ
 user_ace_number = number_behind user_ace_base USERS
 
 abbrev pub read_locked_ace_number : Uid → Option ℕ
-read_locked_ace_number = number_from read_locked_ace_base read_locked_ace_base RANGES
+read_locked_ace_number = member_number_from read_locked_ace_base read_locked_ace_base RANGES
 
 abbrev pub write_locked_ace_number : Uid → Option ℕ
-write_locked_ace_number = number_from write_locked_ace_base write_locked_ace_base RANGES
+write_locked_ace_number = member_number_from write_locked_ace_base write_locked_ace_base RANGES

@@ -12,13 +12,13 @@ use Rattle.sp_cells.specs.ColumnNames.{range_start_column, range_length_column, 
 use Rattle.sp_cells.specs.Flat.{LookUp}
 
 -- the number that stands in a cell; a cell that is none, or that does not exist, counts as 0
-abbrev pub number_in : Option Cell → ℕ
-number_in (Some (Number n)) = n
-number_in _ = 0
+abbrev pub cell_number : Option Cell → ℕ
+cell_number (Some (Number n)) = n
+cell_number _ = 0
 
 -- the number at a place
 abbrev pub number : LookUp → Sp → Uid → Column → ℕ
-number look sp object column = number_in (look sp object column)
+number look sp object column = cell_number (look sp object column)
 
 -- a column of a range as a number, the global range being number 0
 abbrev pub of_range : LookUp → ℕ → Column → ℕ

@@ -14,16 +14,16 @@ use Rattle.sp_cells.specs.declared.values.ColumnType.{ColumnType}
 use Rattle.sp_cells.specs.declared.values.ColumnType.TheVariants as types
 
 -- a cell is a value of this type
-abbrev pub is_of : ColumnType → Cell → Bool
-is_of types.Name (Bytes b) = true
-is_of types.Secret (Bytes b) = nat_le (length b) most_pin_bytes
-is_of types.Object (Uid u) = true
-is_of types.Number (Number n) = true
-is_of types.Flag (Number n) = nat_le n 1
-is_of types.Resets (Numbers r) = true
-is_of types.Expression (Expr e) = true
-is_of types.Columns (Columns c) = true
-is_of _ _ = false
+abbrev pub is_of_type : ColumnType → Cell → Bool
+is_of_type types.Name (Bytes b) = true
+is_of_type types.Secret (Bytes b) = nat_le (length b) most_pin_bytes
+is_of_type types.Object (Uid u) = true
+is_of_type types.Number (Number n) = true
+is_of_type types.Flag (Number n) = nat_le n 1
+is_of_type types.Resets (Numbers r) = true
+is_of_type types.Expression (Expr e) = true
+is_of_type types.Columns (Columns c) = true
+is_of_type _ _ = false
 
 -- the type of a column in a list of columns
 abbrev pub type_at : List (Column × ColumnType) → Column → Option ColumnType
@@ -106,8 +106,8 @@ tper_info_types =
     ∷ []
 
 -- the columns of a table, by the upper four bytes of its rows' names
-abbrev pub types_of : ℕ → List (Column × ColumnType)
-types_of table =
+abbrev pub table_types : ℕ → List (Column × ColumnType)
+table_types table =
     if table == ace_table then ace_types else
     if table == authority_table then authority_types else
     if table == c_pin_table then c_pin_types else
@@ -117,11 +117,11 @@ types_of table =
     if table == tper_info_table then tper_info_types else []
 
 abbrev pub column_type : UidType → Column → Option ColumnType
-column_type object column = type_at (types_of (table_of object)) column
+column_type object column = type_at (table_types (table_of object)) column
 
 abbrev pub is_taken : Option ColumnType → Cell → Bool
 is_taken None cell = false
-is_taken (Some kind) cell = is_of kind cell
+is_taken (Some kind) cell = is_of_type kind cell
 
 -- each of these columns takes its value
 abbrev pub takes_each : UidType → List (Column × Cell) → Bool

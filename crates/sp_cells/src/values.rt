@@ -1,7 +1,7 @@
 //! Which value each column takes.
 
 ghost use Rattle.std.specs.Prelude.{◌≡◌, ◌<◌, ◌≤◌};
-ghost use Rattle.sp_cells.specs.Values.{is_of, type_at, sp_types, ace_types, authority_types, c_pin_types, locking_types, mbr_control_types, tper_info_types, types_of, column_type as column_type_of, is_taken, takes_each};
+ghost use Rattle.sp_cells.specs.Values.{is_of_type, type_at, sp_types, ace_types, authority_types, c_pin_types, locking_types, mbr_control_types, tper_info_types, table_types, column_type as column_type_of, is_taken, takes_each};
 
 use crate::cells::Cell;
 use crate::limits::MOST_PIN_BYTES;
@@ -35,7 +35,7 @@ pub enum ColumnType {
 impl ColumnType {
     /// Whether the cell is a value of this type.
     fn takes(self, cell: &Cell) -> bool
-        ensures { result ≡ is_of self cell.now }
+        ensures { result ≡ is_of_type self cell.now }
     {
         match self {
             ColumnType::Name => matches!(cell, Cell::Bytes(_)),

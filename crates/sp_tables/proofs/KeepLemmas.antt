@@ -10,14 +10,14 @@ use Rattle.sp_cells.specs.declared.cells.Cell.TheVariants.{Number}
 use Rattle.sp_cells.specs.Names.{range_uid, mbr_control, admin_pin_uid, user_pin_uid}
 use Rattle.sp_cells.specs.ColumnNames.{lock_on_reset_column, mbr_done_column, mbr_done_on_reset_column, range_length_column, range_start_column, read_locked_column, tries_column, write_locked_column}
 use Rattle.sp_cells.specs.Flat.{LookUp}
-use Rattle.sp_cells.specs.Ranges.{range_start, range_length, AreApart, number_in, of_range, ranges_meet}
+use Rattle.sp_cells.specs.Ranges.{range_start, range_length, AreApart, cell_number, of_range, ranges_meet}
 use Rattle.sp_rows.specs.Items.{Item, item_at, with_item, with_items}
 use Rattle.sp_cells.specs.Config.{Config}
 use Rattle.sp_rows.specs.Factory.{locking_factory}
-use Rattle.sp_tables.specs.Contents.{Contents, look_up, factory_contents}
+use Rattle.sp_tables.specs.Contents.{Contents, cells_look_up, factory_contents}
 use Rattle.sp_tables.specs.Undo.{RangesApart, KeepsApart, IsNoBound, put_back, with_row_back}
-use Rattle.sp_tables.specs.Tries.{is_pin, tries_put, family_cleared, locking_cleared}
-use Rattle.sp_tables.specs.AtReset.{has_kind, range_after, ranges_after, shadow_after, locking_after, is_power_cycle, locking_tries_after}
+use Rattle.sp_tables.specs.Tries.{is_pin_row, tries_put, family_cleared, locking_cleared}
+use Rattle.sp_tables.specs.AtReset.{has_kind, range_after, locks_after_reset, shadow_after, locking_after, is_power_cycle, locking_tries_after}
 use Rattle.sp_tables.proofs.ContentLemmas.{look_up-half, apart-factory}
 use Rattle.sp_tables.proofs.ChangeLemmas.{item_at-with_item}
 
@@ -62,22 +62,22 @@ bounds-apart l m start len before = record {
   same_meets i j hi hj = rw (start i hi, len i hi, start j hj, len j hj) refl
 
 pub apart-rows : (is new : List Item) → SameRanges is new → RangesApart is → RangesApart new
-apart-rows is new same before = bounds-apart (λ sp o c. item_at is o c) (λ sp o c. item_at new o c) (λ n h. ap number_in (same.starts n h)) (λ n h. ap number_in (same.lengths n h)) before
+apart-rows is new same before = bounds-apart (λ sp o c. item_at is o c) (λ sp o c. item_at new o c) (λ n h. ap cell_number (same.starts n h)) (λ n h. ap cell_number (same.lengths n h)) before
 
 -- the ranges of contents are those of the rows of the Locking SP
-pub apart-contents : (t : Contents) → RangesApart t.locking → AreApart (look_up t)
-apart-contents t before = bounds-apart (λ sp o c. item_at t.locking o c) (look_up t) (λ n h. ap number_in (look_up-half t Locking (range_uid n) range_start_column)) (λ n h. ap number_in (look_up-half t Locking (range_uid n) range_length_column)) before
+pub apart-contents : (t : Contents) → RangesApart t.locking → AreApart (cells_look_up t)
+apart-contents t before = bounds-apart (λ sp o c. item_at t.locking o c) (cells_look_up t) (λ n h. ap cell_number (look_up-half t Locking (range_uid n) range_start_column)) (λ n h. ap cell_number (look_up-half t Locking (range_uid n) range_length_column)) before
 
-pub apart-locking_rows : (t : Contents) → AreApart (look_up t) → RangesApart t.locking
-apart-locking_rows t before = bounds-apart (look_up t) (λ sp o c. item_at t.locking o c) (λ n h. ap number_in (sym (look_up-half t Locking (range_uid n) range_start_column))) (λ n h. ap number_in (sym (look_up-half t Locking (range_uid n) range_length_column))) before
+pub apart-locking_rows : (t : Contents) → AreApart (cells_look_up t) → RangesApart t.locking
+apart-locking_rows t before = bounds-apart (cells_look_up t) (λ sp o c. item_at t.locking o c) (λ n h. ap cell_number (sym (look_up-half t Locking (range_uid n) range_start_column))) (λ n h. ap cell_number (sym (look_up-half t Locking (range_uid n) range_length_column))) before
 
 -- ranges that are apart stay so
-pub apart-same : (t new : Contents) → SameRanges t.locking new.locking → AreApart (look_up t) → AreApart (look_up new)
+pub apart-same : (t new : Contents) → SameRanges t.locking new.locking → AreApart (cells_look_up t) → AreApart (cells_look_up new)
 apart-same t new same before = apart-contents new (apart-rows t.locking new.locking same (apart-locking_rows t before))
 
 -- the wrong attempts
 pub same-tries_put : (pin : Uid) (n : ℕ) (is : List Item) → SameRanges is (tries_put pin n is)
-same-tries_put pin n is = by (is_pin pin) where
+same-tries_put pin n is = by (is_pin_row pin) where
   by : (b : Bool) → SameRanges is (cond b (with_item is pin tries_column (Number n)) is)
   by true = same-column is pin tries_column (Number n) refl refl
   by false = same-refl is
@@ -97,10 +97,10 @@ same-range_after kind n is = by (has_kind kind (item_at is (range_uid n) lock_on
   by true = same-after is (with_item is (range_uid n) read_locked_column (Number 1)) _ (same-column is (range_uid n) read_locked_column (Number 1) refl refl) (same-column (with_item is (range_uid n) read_locked_column (Number 1)) (range_uid n) write_locked_column (Number 1) refl refl)
   by false = same-refl is
 
-same-ranges_after : (kind n : ℕ) (is : List Item) → SameRanges is (ranges_after kind n is)
-unfolding ranges_after
+same-ranges_after : (kind n : ℕ) (is : List Item) → SameRanges is (locks_after_reset kind n is)
+unfolding locks_after_reset
 same-ranges_after kind zero is = same-refl is
-same-ranges_after kind (suc n) is = same-after is (ranges_after kind n is) _ (same-ranges_after kind n is) (same-range_after kind n (ranges_after kind n is))
+same-ranges_after kind (suc n) is = same-after is (locks_after_reset kind n is) _ (same-ranges_after kind n is) (same-range_after kind n (locks_after_reset kind n is))
 
 same-shadow_after : (kind : ℕ) (is : List Item) → SameRanges is (shadow_after kind is)
 same-shadow_after kind is = by (has_kind kind (item_at is mbr_control mbr_done_on_reset_column)) where
@@ -116,7 +116,7 @@ same-locking_tries kind is = by (is_power_cycle kind) where
 
 pub same-at_reset : (kind : ℕ) (is : List Item) → SameRanges is (locking_tries_after kind (locking_after kind is))
 same-at_reset kind is =
-    let locked : List Item = ranges_after kind (RANGES + 1) is in
+    let locked : List Item = locks_after_reset kind (RANGES + 1) is in
     let shown : List Item = shadow_after kind locked in
     same-after is shown _ (same-after is locked shown (same-ranges_after kind (RANGES + 1) is) (same-shadow_after kind locked)) (same-locking_tries kind shown)
 
@@ -129,12 +129,12 @@ pub family-next : (name : ℕ → Uid) (n : ℕ) (is : List Item) → family_cle
 unfolding family_cleared
 family-next name n is = rw add-one refl
 
-pub ranges-none : (kind : ℕ) (is : List Item) → ranges_after kind 0 is ≡ is
-unfolding ranges_after
+pub ranges-none : (kind : ℕ) (is : List Item) → locks_after_reset kind 0 is ≡ is
+unfolding locks_after_reset
 ranges-none kind is = refl
 
-pub ranges-next : (kind n : ℕ) (is : List Item) → ranges_after kind (n + 1) is ≡ range_after kind n (ranges_after kind n is)
-unfolding ranges_after
+pub ranges-next : (kind n : ℕ) (is : List Item) → locks_after_reset kind (n + 1) is ≡ range_after kind n (locks_after_reset kind n is)
+unfolding locks_after_reset
 ranges-next kind n is = rw add-one refl
 
 pub ruleset in_turn = (family-none, family-next, ranges-none, ranges-next)
@@ -144,20 +144,20 @@ abbrev with_cells_of : List Item → List Item → Config → Contents
 with_cells_of admin locking config = record { admin = admin; locking = locking; config = config }
 
 -- changes in one half
-pub apart-other : (admin new locking : List Item) (config : Config) → AreApart (look_up (record { admin = admin; locking = locking; config = config })) → AreApart (look_up (record { admin = new; locking = locking; config = config }))
+pub apart-other : (admin new locking : List Item) (config : Config) → AreApart (cells_look_up (record { admin = admin; locking = locking; config = config })) → AreApart (cells_look_up (record { admin = new; locking = locking; config = config }))
 apart-other admin new locking config before = apart-same (with_cells_of admin locking config) (with_cells_of new locking config) (same-refl locking) before
 
-pub apart-tries : (admin locking new : List Item) (config : Config) (pin : Uid) (n : ℕ) → AreApart (look_up (record { admin = admin; locking = locking; config = config })) → new ≡ tries_put pin n locking → AreApart (look_up (record { admin = admin; locking = new; config = config }))
+pub apart-tries : (admin locking new : List Item) (config : Config) (pin : Uid) (n : ℕ) → AreApart (cells_look_up (record { admin = admin; locking = locking; config = config })) → new ≡ tries_put pin n locking → AreApart (cells_look_up (record { admin = admin; locking = new; config = config }))
 apart-tries admin locking new config pin n before is = apart-same (with_cells_of admin locking config) (with_cells_of admin new config) (subst (SameRanges locking) (sym is) (same-tries_put pin n locking)) before
 
-pub apart-at_reset : (admin locking other new : List Item) (config : Config) (kind : ℕ) → AreApart (look_up (record { admin = admin; locking = locking; config = config })) → new ≡ locking_tries_after kind (locking_after kind locking) → AreApart (look_up (record { admin = other; locking = new; config = config }))
+pub apart-at_reset : (admin locking other new : List Item) (config : Config) (kind : ℕ) → AreApart (cells_look_up (record { admin = admin; locking = locking; config = config })) → new ≡ locking_tries_after kind (locking_after kind locking) → AreApart (cells_look_up (record { admin = other; locking = new; config = config }))
 apart-at_reset admin locking other new config kind before is = apart-same (with_cells_of admin locking config) (with_cells_of other new config) (subst (SameRanges locking) (sym is) (same-at_reset kind locking)) before
 
-pub apart-restored : (admin new : List Item) (config : Config) → new ≡ locking_factory → AreApart (look_up (record { admin = admin; locking = new; config = config }))
+pub apart-restored : (admin new : List Item) (config : Config) → new ≡ locking_factory → AreApart (cells_look_up (record { admin = admin; locking = new; config = config }))
 apart-restored admin new config is = apart-same (factory_contents config) (with_cells_of admin new config) (subst (SameRanges locking_factory) (sym is) (same-refl locking_factory)) (apart-factory config)
 
 -- rows put back into the Locking SP
-pub apart-put_back : (s t : Contents) (sp : Sp) (o : Uid) (ps : List (Column × Cell)) (new : List Item) → s ≡ t → sp ≡ Locking → KeepsApart sp (with_row_back sp o ps t) → new ≡ put_back s.locking o ps → AreApart (look_up (record { admin = s.admin; locking = new; config = s.config }))
+pub apart-put_back : (s t : Contents) (sp : Sp) (o : Uid) (ps : List (Column × Cell)) (new : List Item) → s ≡ t → sp ≡ Locking → KeepsApart sp (with_row_back sp o ps t) → new ≡ put_back s.locking o ps → AreApart (cells_look_up (record { admin = s.admin; locking = new; config = s.config }))
 apart-put_back s t sp o ps new is at kept h =
     let there : RangesApart (put_back t.locking o ps) = subst (λ (z : Sp). KeepsApart z (with_row_back z o ps t)) at kept in
     let same : new ≡ put_back t.locking o ps = h ∙ ap (λ (x : Contents). put_back x.locking o ps) is in
@@ -175,5 +175,5 @@ same-no_bound is o k v h = record {
   lengths = λ n low. item_at-with_item is o (range_uid n) k range_length_column v ∙ ap (λ t. cond t (option_map (λ _. v) (item_at is (range_uid n) range_length_column)) (item_at is (range_uid n) range_length_column)) (both_false (o.0 == (range_uid n).0) (k.0 == 3) (k.0 == 4) (h n low)).1;
 }
 
-pub apart-put : (admin locking new : List Item) (config : Config) (o : Uid) (c : Column) (v : Cell) → AreApart (look_up (record { admin = admin; locking = locking; config = config })) → IsNoBound o c → new ≡ with_item locking o c v → AreApart (look_up (record { admin = admin; locking = new; config = config }))
+pub apart-put : (admin locking new : List Item) (config : Config) (o : Uid) (c : Column) (v : Cell) → AreApart (cells_look_up (record { admin = admin; locking = locking; config = config })) → IsNoBound o c → new ≡ with_item locking o c v → AreApart (cells_look_up (record { admin = admin; locking = new; config = config }))
 apart-put admin locking new config o c v before none h = apart-same (with_cells_of admin locking config) (with_cells_of admin new config) (subst (SameRanges locking) (sym h) (same-no_bound locking o c v none)) before

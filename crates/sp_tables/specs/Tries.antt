@@ -11,12 +11,12 @@ use Rattle.sp_cells.specs.ColumnNames.{tries_column}
 use Rattle.sp_rows.specs.Items.{Item, with_item}
 
 -- the object is a C_PIN row
-abbrev pub is_pin : Uid → Bool
-is_pin object = table_of object == c_pin_table
+abbrev pub is_pin_row : Uid → Bool
+is_pin_row object = table_of object == c_pin_table
 
 -- the place is where a C_PIN row counts
 abbrev pub is_tries : Uid → Column → Bool
-is_tries object column = is_pin object && (column.0 == tries_column.0)
+is_tries object column = is_pin_row object && (column.0 == tries_column.0)
 
 -- one of these columns of the object is
 abbrev pub names_tries : Uid → List (Column × Cell) → Bool
@@ -35,7 +35,7 @@ tries_among (i ∷ is) = if is_tries i.object i.column then i ∷ tries_among is
 
 -- the cells with this number of wrong attempts in a C_PIN row
 abbrev pub tries_put : Uid → ℕ → List Item → List Item
-tries_put pin n is = if is_pin pin then with_item is pin tries_column (Number n) else is
+tries_put pin n is = if is_pin_row pin then with_item is pin tries_column (Number n) else is
 
 -- no wrong attempts in the first n rows of a family
 unfoldable pub family_cleared : (ℕ → Uid) → ℕ → List Item → List Item

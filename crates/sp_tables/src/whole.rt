@@ -3,8 +3,8 @@
 ghost use Rattle.std.specs.Prelude.{◌≡◌, [], ◌∷◌, IfOk, OnOk, OnErr, Some, option_copied, unwrap_or};
 ghost use Rattle.sp_cells.specs.Flat.{with_cells};
 ghost use Rattle.sp_rows.specs.Items.{replaced};
-ghost use Rattle.sp_tables.specs.Contents.{Contents, items_of, flat as flat_list, look_up as look_up_in, with_row, factory_contents};
-ghost use Rattle.sp_tables.specs.Faults.{fault_of, TellsFault};
+ghost use Rattle.sp_tables.specs.Contents.{Contents, items_of, flat as flat_list, cells_look_up as look_up_in, with_row, factory_contents};
+ghost use Rattle.sp_tables.specs.Faults.{set_fault, TellsFault};
 ghost use Rattle.sp_cells.specs.Ranges.{AreApart};
 
 use sp_cells::{Cell, Column, DriveConfig, Rows, SetError, Sp, Uid};
@@ -23,7 +23,7 @@ pub struct Tables {
 }
 
 impl Model for Tables {
-    ghost use Rattle.sp_tables.specs.Contents.{Contents, look_up};
+    ghost use Rattle.sp_tables.specs.Contents.{Contents, cells_look_up};
     ghost use Rattle.sp_cells.specs.Ranges.{AreApart};
 
     ghost Value = { Contents };
@@ -37,7 +37,7 @@ impl Model for Tables {
     } };
 
     ghost invariant = { λ t. AreApart
-        (look_up (record {
+        (cells_look_up (record {
           admin = half_items t.admin;
           locking = half_items t.locking;
           config = t.config;
@@ -100,7 +100,7 @@ impl Tables {
             (flat_list self.new ≡ with_cells (flat_list self.old) sp object changes.now) }
         ensures old { IfOk result
             (λ cells. cells.items ≡ replaced (items_of self.old sp) object changes.now) }
-        ensures fault { TellsFault (fault_of self.old sp object changes.now) result }
+        ensures fault { TellsFault (set_fault self.old sp object changes.now) result }
         ensures err { OnErr result (self.new ≡ self.old) }
     {
         let cells = self.put(sp, object, changes)?;
@@ -117,7 +117,7 @@ impl Tables {
         ensures ok { OnOk result (self.new ≡ with_row sp object changes.now self.old) }
         ensures old { IfOk result
             (λ cells. cells.items ≡ replaced (items_of self.old sp) object changes.now) }
-        ensures fault { TellsFault (fault_of self.old sp object changes.now) result }
+        ensures fault { TellsFault (set_fault self.old sp object changes.now) result }
         ensures err { OnErr result (self.new ≡ self.old) }
     {
         if let Some(fault) = self.fault(sp, object, changes) {
@@ -142,7 +142,7 @@ impl Tables {
         ensures ok { OnOk result (self.new ≡ with_row sp object ((column, cell) ∷ []) self.old) }
         ensures old { IfOk result
             (λ old. old ≡ unwrap_or (look_up_in self.old sp object column) cell) }
-        ensures fault { TellsFault (fault_of self.old sp object ((column, cell) ∷ [])) result }
+        ensures fault { TellsFault (set_fault self.old sp object ((column, cell) ∷ [])) result }
         ensures err { OnErr result (self.new ≡ self.old) }
     {
         let mut old = self.set_row(sp, object, &[(column, cell)])?;

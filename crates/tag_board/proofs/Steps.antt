@@ -11,7 +11,7 @@ use lib.ListN.{get_elem?}
 use Rattle.atomic_table.specs.Table.{Me, Act, keeps, step, stepped, Valid, Allows, Splits, Joins, carried_after}
 use Rattle.atomic_table.proofs.Lists.{set_else}
 use Rattle.tag_board.specs.declared.plays.View.{View}
-use Rattle.tag_board.specs.Rule.{view, blank, holding, meeting, total, Kept, tried_at, Claimed, Freed, joined, Told}
+use Rattle.tag_board.specs.Rule.{view_of, new_view, holding_bit, meeting, sum_over, Kept, tried_at, Claimed, Freed, joined, ToldApart}
 use Rattle.tag_board.proofs.Bits.{bit_cases, no_meeting, or_same, or_other, keep, keep_same, keep_other}
 use Rattle.tag_board.proofs.Sums.{sum_set, sum_at, sum_snoc}
 
@@ -37,7 +37,7 @@ claimed_bits word v k j b e (inr z) le = rw z (taken word v k j (e ∙ z))
 
 -- a view changes, and keeps its halves
 meets_same : (views : List View) (id : ℕ) (v w : View) → get_elem? views id ≡ some v → ((j : ℕ) → meeting j w ≡ meeting j v)
-    → ((j : ℕ) → total (meeting j) views ≡ 0) → (j : ℕ) → total (meeting j) (set views id w) ≡ 0
+    → ((j : ℕ) → sum_over (meeting j) views ≡ 0) → (j : ℕ) → sum_over (meeting j) (set views id w) ≡ 0
 meets_same views id v w at same apart j =
     let s = sum_set (meeting j) views id v w at in
     let e = same j in
@@ -45,14 +45,14 @@ meets_same views id v w at same apart j =
     omega arith
 
 claims_on : (homes : List (Option (Unit {0}))) (views : List View) (slots id word k : ℕ) (me : Me (Unit {0}) View)
-    → word < 2 ^ 32 → ((j : ℕ) → total (holding j) views ≡ bit_at word j) → ((j : ℕ) → total (meeting j) views ≡ 0) → k < 32 → get_elem? views id ≡ some me.0
+    → word < 2 ^ 32 → ((j : ℕ) → sum_over (holding_bit j) views ≡ bit_at word j) → ((j : ℕ) → sum_over (meeting j) views ≡ 0) → k < 32 → get_elem? views id ≡ some me.0
     → (w : View) × (a : Act (Unit {0})) × Valid homes me.1 a
     × Kept (stepped record { words = word ∷ []; homes = homes; views = views } 0 (bit_or word (2 ^ k)) id me.1 w a)
     × Claimed (step slots 0 (2 ^ k) 0 none) me word (w, carried_after me.1 a)
 claims_on homes views slots id word k me small sums apart lt at =
     let v : View = me.0 in
     let w : View = tried_at k (bit_at word k == 1) v in
-    let le : (j : ℕ) → bit_at v.held j ≤ bit_at word j = λ j. let a = sum_at (holding j) views id v at in let b = sums j in omega arith in (
+    let le : (j : ℕ) → bit_at v.held j ≤ bit_at word j = λ j. let a = sum_at (holding_bit j) views id v at in let b = sums j in omega arith in (
       w,
       keeps,
       tt,
@@ -61,7 +61,7 @@ claims_on homes views slots id word k me small sums apart lt at =
         refl,
         or_lt 32 word (2 ^ k) small (pow_below k 32 lt),
         λ j.
-            let s = sum_set (holding j) views id v w at in
+            let s = sum_set (holding_bit j) views id v w at in
             let t = sums j in
             let c = claimed_bits word v.held k j (bit_at word k) refl (bit_cases word k) (le k) in
             omega arith,
@@ -96,14 +96,14 @@ freed_bits word v k j small lt has le =
     high h = bit_at_above word 32 j small (omega arith)
 
 frees_on : (homes : List (Option (Unit {0}))) (views : List View) (slots id word k : ℕ) (me : Me (Unit {0}) View)
-    → word < 2 ^ 32 → ((j : ℕ) → total (holding j) views ≡ bit_at word j) → ((j : ℕ) → total (meeting j) views ≡ 0) → k < 32 → bit_at me.0.held k ≡ 1 → get_elem? views id ≡ some me.0
+    → word < 2 ^ 32 → ((j : ℕ) → sum_over (holding_bit j) views ≡ bit_at word j) → ((j : ℕ) → sum_over (meeting j) views ≡ 0) → k < 32 → bit_at me.0.held k ≡ 1 → get_elem? views id ≡ some me.0
     → (w : View) × (a : Act (Unit {0})) × Valid homes me.1 a
     × Kept (stepped record { words = word ∷ []; homes = homes; views = views } 0 (bit_and word (keep k)) id me.1 w a)
     × Freed (step slots 0 (keep k) 0 none) me word (w, carried_after me.1 a)
 frees_on homes views slots id word k me small sums apart lt has at =
     let v : View = me.0 in
-    let w : View = view (bit_and v.held (keep k)) v.tried v.halves in
-    let le : (j : ℕ) → bit_at v.held j ≤ bit_at word j = λ j. let a = sum_at (holding j) views id v at in let b = sums j in omega arith in (
+    let w : View = view_of (bit_and v.held (keep k)) v.tried v.halves in
+    let le : (j : ℕ) → bit_at v.held j ≤ bit_at word j = λ j. let a = sum_at (holding_bit j) views id v at in let b = sums j in omega arith in (
       w,
       keeps,
       tt,
@@ -112,7 +112,7 @@ frees_on homes views slots id word k me small sums apart lt has at =
         refl,
         (let l = and_le_l word (keep k) in omega arith),
         λ j.
-            let s = sum_set (holding j) views id v w at in
+            let s = sum_set (holding_bit j) views id v w at in
             let t = sums j in
             let c = freed_bits word v.held k j small lt has le in
             omega arith,
@@ -128,65 +128,65 @@ frees slots id k me lt has s h len at fits =
     × Freed (step slots 0 (keep k) 0 none) me (slice_index ws 0) (w, carried_after me.1 a) in
     subst P (sym h.1) (frees_on s.homes s.views slots id h.0 k me h.2 h.3 h.4 lt has at)
 
-pub splits : (id : ℕ) (v : View) → Splits Kept id v v blank
+pub splits : (id : ℕ) (v : View) → Splits Kept id v v new_view
 splits id v s h at = (
   h.0,
   h.1,
   h.2,
   λ j.
-      let a = sum_set (holding j) s.views id v v at in
-      let b = sum_snoc (holding j) (set s.views id v) blank in
+      let a = sum_set (holding_bit j) s.views id v v at in
+      let b = sum_snoc (holding_bit j) (set s.views id v) new_view in
       let c = bit_at-zero j in
       let t = h.3 j in
       omega arith,
   λ j.
       let a = meets_same s.views id v v at (λ i. refl) h.4 j in
-      let b = sum_snoc (meeting j) (set s.views id v) blank in
+      let b = sum_snoc (meeting j) (set s.views id v) new_view in
       let c = no_meeting 0 0 j (omega (arith, bit_at-zero j)) in
       omega arith,
 )
 
 -- where two views stand, as many seats hold a tag as both of them at least
 both_at : (f : View → ℕ) (views : List View) (id other : ℕ) (v w both : View) → ¬ (other ≡ id) → get_elem? views id ≡ some v
-    → get_elem? (set views id both) other ≡ some w → f blank ≡ 0 → f v + f w ≤ total f views
+    → get_elem? (set views id both) other ≡ some w → f new_view ≡ 0 → f v + f w ≤ sum_over f views
 both_at f views id other v w both apart at there none_at =
-    let c = sum_set f views id v blank at in
-    let e : get_elem? (set views id blank) other ≡ some w = set_else views id other blank apart ∙ sym (set_else views id other both apart) ∙ there in
-    let d = sum_at f (set views id blank) other w e in
+    let c = sum_set f views id v new_view at in
+    let e : get_elem? (set views id new_view) other ≡ some w = set_else views id other new_view apart ∙ sym (set_else views id other both apart) ∙ there in
+    let d = sum_at f (set views id new_view) other w e in
     omega arith
 
-pub joins : (id other : ℕ) (v w : View) → Joins Kept id v other w (joined v w) blank
+pub joins : (id other : ℕ) (v w : View) → Joins Kept id v other w (joined v w) new_view
 joins id other v w s h at apart there = (
   h.0,
   h.1,
   h.2,
   λ j.
       let none_at = bit_at-zero j in
-      let a = sum_set (holding j) s.views id v (joined v w) at in
-      let b = sum_set (holding j) (set s.views id (joined v w)) other w blank there in
+      let a = sum_set (holding_bit j) s.views id v (joined v w) at in
+      let b = sum_set (holding_bit j) (set s.views id (joined v w)) other w new_view there in
       let t = h.3 j in
       let l = bit_at-lt h.0 j in
       let m = bit_at_or v.held w.held j in
-      let d = both_at (holding j) s.views id other v w (joined v w) apart at there none_at in
+      let d = both_at (holding_bit j) s.views id other v w (joined v w) apart at there none_at in
       omega arith,
   λ j.
       let none_at = bit_at-zero j in
       let t = h.3 j in
       let l = bit_at-lt h.0 j in
-      let d = both_at (holding j) s.views id other v w (joined v w) apart at there none_at in
-      let none : meeting j blank ≡ 0 = no_meeting 0 0 j (omega arith) in
+      let d = both_at (holding_bit j) s.views id other v w (joined v w) apart at there none_at in
+      let none : meeting j new_view ≡ 0 = no_meeting 0 0 j (omega arith) in
       let new : meeting j (joined v w) ≡ 0 = no_meeting v.held w.held j (omega arith) in
       let a = sum_set (meeting j) s.views id v (joined v w) at in
-      let b = sum_set (meeting j) (set s.views id (joined v w)) other w blank there in
+      let b = sum_set (meeting j) (set s.views id (joined v w)) other w new_view there in
       let m = h.4 j in
       omega arith,
 )
 
-pub looks : (slots id : ℕ) (me : Me (Unit {0}) View) → Allows Kept slots id me 0 (λ n. n) (Told (step slots 0 0 0 none) me)
+pub looks : (slots id : ℕ) (me : Me (Unit {0}) View) → Allows Kept slots id me 0 (λ n. n) (ToldApart (step slots 0 0 0 none) me)
 looks slots id me s h len at fits =
     let P : List ℕ → Type 0 = λ ws. (w : View) × (a : Act (Unit {0})) × Valid s.homes me.1 a
     × Kept (stepped record { words = ws; homes = s.homes; views = s.views } 0 (slice_index ws 0) id me.1 w a)
-    × Told (step slots 0 0 0 none) me (slice_index ws 0) (w, carried_after me.1 a) in
+    × ToldApart (step slots 0 0 0 none) me (slice_index ws 0) (w, carried_after me.1 a) in
     subst P (sym h.1) (
       me.0,
       keeps,
@@ -195,7 +195,7 @@ looks slots id me s h len at fits =
         h.0,
         refl,
         h.2,
-        (λ j. let a = sum_set (holding j) s.views id me.0 me.0 at in let t = h.3 j in omega arith),
+        (λ j. let a = sum_set (holding_bit j) s.views id me.0 me.0 at in let t = h.3 j in omega arith),
         meets_same s.views id me.0 me.0 at (λ j. refl) h.4,
       ),
       (refl, refl, λ j. let a = sum_at (meeting j) s.views id me.0 at in let t = h.4 j in omega arith),

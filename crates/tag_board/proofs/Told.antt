@@ -6,7 +6,7 @@ use Rattle.std.proofs.lemmas.Nat.Bits.{and_pow}
 use mathlib.Core.Option.{none}
 use Rattle.atomic_table.specs.Table.{Me, step}
 use Rattle.tag_board.specs.declared.plays.View.{View}
-use Rattle.tag_board.specs.Rule.{view, tries, tried_at, Claimed}
+use Rattle.tag_board.specs.Rule.{view_of, with_try, tried_at, Claimed}
 use Rattle.tag_board.proofs.Bits.{bit_cases, pow_same}
 
 clear_bit : (n k b : ℕ) → (b ≡ 0) ⊎ (b ≡ 1) → bit_and n (2 ^ k) ≡ b * 2 ^ k → bit_and n (2 ^ k) ≡ 0 → b ≡ 0
@@ -20,17 +20,17 @@ pub set_bit : (n k : ℕ) → (bit_and n (2 ^ k) ≡ 0 → ⊥) → bit_at n k �
 set_bit n k ne = ⊎_elim (λ z. absurd (ne (and_pow n k ∙ ap (λ x. x * 2 ^ k) z ∙ zero-mul (2 ^ k)))) (λ z. z) (bit_cases n k)
 
 pub free_told : (slots k mask found : ℕ) (me now : Me (Unit {0}) View) → Claimed (step slots 0 mask 0 none) me found now → mask ≡ 2 ^ k → bit_and found mask ≡ 0
-    → (now.0 ≡ view (bit_or me.0.held mask) (tries k me.0.tried false) me.0.halves) × (now.1 ≡ me.1) × (bit_at me.0.held k ≡ 0)
+    → (now.0 ≡ view_of (bit_or me.0.held mask) (with_try k me.0.tried false) me.0.halves) × (now.1 ≡ me.1) × (bit_at me.0.held k ≡ 0)
 free_told slots k mask found me now t is e =
     let same : t.0 ≡ k = pow_same t.0 k (sym t.1 ∙ is) in
     let z : bit_at found k ≡ 0 = clear found k (ap (bit_and found) (sym is) ∙ e) in (
-      t.2 ∙ ap (λ j. tried_at j (bit_at found j == 1) me.0) same ∙ ap (λ b. tried_at k (b == 1) me.0) z ∙ ap (λ m. view (bit_or me.0.held m) (tries k me.0.tried false) me.0.halves) (sym is),
+      t.2 ∙ ap (λ j. tried_at j (bit_at found j == 1) me.0) same ∙ ap (λ b. tried_at k (b == 1) me.0) z ∙ ap (λ m. view_of (bit_or me.0.held m) (with_try k me.0.tried false) me.0.halves) (sym is),
       t.3,
       subst (λ j. bit_at found j ≡ 0 → bit_at me.0.held j ≡ 0) same t.4 z,
     )
 
 pub taken_told : (slots k mask found : ℕ) (me now : Me (Unit {0}) View) → Claimed (step slots 0 mask 0 none) me found now → mask ≡ 2 ^ k → (bit_and found mask ≡ 0 → ⊥)
-    → (now.0 ≡ view me.0.held (tries k me.0.tried true) me.0.halves) × (now.1 ≡ me.1)
+    → (now.0 ≡ view_of me.0.held (with_try k me.0.tried true) me.0.halves) × (now.1 ≡ me.1)
 taken_told slots k mask found me now t is ne =
     let same : t.0 ≡ k = pow_same t.0 k (sym t.1 ∙ is) in
     let z : bit_at found k ≡ 1 = set_bit found k (λ e. ne (ap (bit_and found) is ∙ e)) in (

@@ -4,21 +4,21 @@ use Rattle.std.specs.Int.{bit_at}
 use Rattle.atomic_table.specs.Table.{State, Step, Me}
 use Rattle.tag_board.specs.declared.plays.View.{View}
 
-abbrev pub view : ℕ → List (ℕ × Bool) → ℕ × ℕ → View
-view held tried halves = record { held = held; tried = tried; halves = halves }
+abbrev pub view_of : ℕ → List (ℕ × Bool) → ℕ × ℕ → View
+view_of held tried halves = record { held = held; tried = tried; halves = halves }
 
 -- What a new seat knows: it holds nothing, and tried nothing.
-abbrev pub blank : View
-blank = view 0 [] (0, 0)
+abbrev pub new_view : View
+new_view = view_of 0 [] (0, 0)
 
 -- A number of each view, added up.
-abbrev pub total : (View → ℕ) → List View → ℕ
-total f [] = 0
-total f (v ∷ vs) = f v + total f vs
+abbrev pub sum_over : (View → ℕ) → List View → ℕ
+sum_over f [] = 0
+sum_over f (v ∷ vs) = f v + sum_over f vs
 
 -- Whether a seat holds the tag: 1 or 0.
-abbrev pub holding : ℕ → View → ℕ
-holding tag v = bit_at v.held tag
+abbrev pub holding_bit : ℕ → View → ℕ
+holding_bit tag v = bit_at v.held tag
 
 -- Whether both halves of which a seat was joined had the tag: 1 or 0.
 abbrev pub meeting : ℕ → View → ℕ
@@ -30,17 +30,18 @@ meeting tag v = bit_at v.halves.0 tag * bit_at v.halves.1 tag
 abbrev pub Kept : State (Unit {0}) View → Type 0
 Kept s =
     (word : ℕ) × (s.words ≡ word ∷ []) × (word < 2 ^ 32)
-    × ((tag : ℕ) → total (holding tag) s.views ≡ bit_at word tag)
-    × ((tag : ℕ) → total (meeting tag) s.views ≡ 0)
+    × ((tag : ℕ) → sum_over (holding_bit tag) s.views ≡ bit_at word tag)
+    × ((tag : ℕ) → sum_over (meeting tag) s.views ≡ 0)
 
 -- The tags that a seat tried, with one more, which was found taken or not.
-abbrev pub tries : ℕ → List (ℕ × Bool) → Bool → List (ℕ × Bool)
-tries tag tried taken = tried ++ (tag, taken) ∷ []
+abbrev pub with_try : ℕ → List (ℕ × Bool) → Bool → List (ℕ × Bool)
+with_try tag tried taken = tried ++ (tag, taken) ∷ []
 
 -- One try of a tag: where it was not found taken, the seat holds it from then on.
 abbrev pub tried_at : ℕ → Bool → View → View
 tried_at tag taken v =
-    view (if taken then v.held else bit_or v.held (2 ^ tag)) (tries tag v.tried taken) v.halves
+    view_of (if taken then v.held else bit_or v.held (2 ^ tag))
+    (with_try tag v.tried taken) v.halves
 
 abbrev pub Claimed : Step (Unit {0}) → Me (Unit {0}) View → ℕ → Me (Unit {0}) View → Type 0
 Claimed s me found now =
@@ -51,15 +52,15 @@ Claimed s me found now =
 -- The word keeps the bits of a mask, and so does the seat.
 abbrev pub Freed : Step (Unit {0}) → Me (Unit {0}) View → ℕ → Me (Unit {0}) View → Type 0
 Freed s me found now =
-    (now.0 ≡ view (bit_and me.0.held s.first) me.0.tried me.0.halves) × (now.1 ≡ me.1)
+    (now.0 ≡ view_of (bit_and me.0.held s.first) me.0.tried me.0.halves) × (now.1 ≡ me.1)
 
 -- A seat that holds what two held, and keeps what each of them held.
 abbrev pub joined : View → View → View
-joined v w = view (bit_or v.held w.held) v.tried (v.held, w.held)
+joined v w = view_of (bit_or v.held w.held) v.tried (v.held, w.held)
 
 -- A look at the word tells a seat that its halves had no tag in common.
-abbrev pub Told : Step (Unit {0}) → Me (Unit {0}) View → ℕ → Me (Unit {0}) View → Type 0
-Told s me found now =
+abbrev pub ToldApart : Step (Unit {0}) → Me (Unit {0}) View → ℕ → Me (Unit {0}) View → Type 0
+ToldApart s me found now =
     (now.0 ≡ me.0) × (now.1 ≡ me.1) × ((tag : ℕ) → meeting tag me.0 ≡ 0)
 
 -- The tags below n, each found taken.

@@ -3,7 +3,7 @@ use Rattle.std.specs.Prelude.{◌≡◌, ℕ, ◌^◌, List, [], Bool, refl, bit
 use Rattle.std.specs.Coded.{Coded, code_by, coded×, coded_ℕ, coded_list, coded_bool}
 use Rattle.std.specs.Int.{bit_at}
 use Rattle.atomic_table.specs.Seated.{TableId, table_id_coded}
-use Rattle.tag_board.specs.Rule.{tries}
+use Rattle.tag_board.specs.Rule.{with_try}
 
 -- Its board; the tags that it holds, one bit each; and the tags that it tried so far, each with
 -- whether it was found taken.
@@ -21,8 +21,8 @@ seated_code =
     (λ _. refl)
 
 -- The seat holds the tag, or does not.
-abbrev pub Holds : Seated → ℕ → Type 0
-Holds seat tag = bit_at seat.held tag ≡ 1
+abbrev pub HasTag : Seated → ℕ → Type 0
+HasTag seat tag = bit_at seat.held tag ≡ 1
 
 abbrev pub Lacks : Seated → ℕ → Type 0
 Lacks seat tag = bit_at seat.held tag ≡ 0
@@ -32,7 +32,7 @@ abbrev pub after_try : ℕ → Bool → Seated → Seated
 after_try tag taken seat = record {
   board = seat.board;
   held = if taken then seat.held else bit_or seat.held (2 ^ tag);
-  tried = tries tag seat.tried taken;
+  tried = with_try tag seat.tried taken;
 }
 
 -- A seat that holds nothing.

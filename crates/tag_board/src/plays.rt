@@ -15,11 +15,11 @@ pub struct View {
 pub struct OneHolder;
 
 impl TableRule<(), View, ()> for OneHolder {
-    ghost use Rattle.tag_board.specs.Rule.{Kept, blank};
+    ghost use Rattle.tag_board.specs.Rule.{Kept, new_view};
 
     ghost holds = { λ _ s. Kept s };
 
-    ghost first = { λ _. blank };
+    ghost first = { λ _. new_view };
 }
 
 /// A try of one tag.
@@ -44,29 +44,29 @@ impl Play<(), View> for Frees {
 pub struct Empty;
 
 impl Split<View> for Empty {
-    ghost use Rattle.tag_board.specs.Rule.{blank};
+    ghost use Rattle.tag_board.specs.Rule.{new_view};
 
     ghost left = { λ v. v };
 
-    ghost right = { λ _. blank };
+    ghost right = { λ _. new_view };
 }
 
 /// One seat that holds what two held.
 pub struct Both;
 
 impl Join<View> for Both {
-    ghost use Rattle.tag_board.specs.Rule.{blank, joined};
+    ghost use Rattle.tag_board.specs.Rule.{new_view, joined};
 
     ghost both = { joined };
 
-    ghost spent = { blank };
+    ghost spent = { new_view };
 }
 
 /// A look at the word.
 pub struct Looks;
 
 impl Play<(), View> for Looks {
-    ghost use Rattle.tag_board.specs.Rule.{Told};
+    ghost use Rattle.tag_board.specs.Rule.{ToldApart};
 
-    ghost then = { Told };
+    ghost then = { ToldApart };
 }

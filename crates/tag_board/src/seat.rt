@@ -85,11 +85,11 @@ impl TagSeat {
     ghost use mathlib.Core.Logic.{◌↔◌, ◌≢◌};
     ghost use Rattle.fis.specs.Tags.{slot_count};
     ghost use Rattle.tag_board.specs.Rule.{takens};
-    ghost use Rattle.tag_board.specs.Seats.{Holds, Lacks, after_try, idle, both};
+    ghost use Rattle.tag_board.specs.Seats.{HasTag, Lacks, after_try, idle, both};
 
     /// Whether the seat holds the tag.
     pub fn holds(&self, tag: Tag) -> bool
-        ensures { IsTrue result ↔ Holds self.now tag }
+        ensures { IsTrue result ↔ HasTag self.now tag }
     {
         self.held & mask(tag) != 0
     }
@@ -120,7 +120,7 @@ impl TagSeat {
             × (self.new.tried ≡ (self.old.tried ++ takens tag) ++ (tag, false) ∷ [])) }
         ensures none { IfNone result ((self.new.held ≡ self.old.held)
             × (self.new.tried ≡ self.old.tried ++ takens slot_count)) }
-        ensures holds { IfSome result (λ tag. Holds self.new tag) }
+        ensures holds { IfSome result (λ tag. HasTag self.new tag) }
     {
         for number in 0..SLOT_COUNT as u8 {
             let tag = Tag::low_bits(number);
@@ -133,7 +133,7 @@ impl TagSeat {
 
     /// Gives a tag back.
     pub fn release(&mut self, tag: Tag)
-        requires { Holds self.old tag }
+        requires { HasTag self.old tag }
         ensures board { self.new.board ≡ self.old.board }
         ensures gone { Lacks self.new tag }
         ensures others { (k : ℕ) → k ≢ tag → bit_at self.new.held k ≡ bit_at self.old.held k }
@@ -168,7 +168,7 @@ impl TagSeat {
     pub fn join(self, other: TagSeat) -> TagSeat
         requires { other.board ≡ self.board }
         ensures joined { result ≡ both self other }
-        ensures apart { (tag : ℕ) → Holds self tag → Lacks other tag }
+        ensures apart { (tag : ℕ) → HasTag self tag → Lacks other tag }
     {
         let TagSeat {
             word,

@@ -14,7 +14,7 @@ use Rattle.tcg_tokens.specs.Lexeme as lexeme
 use Rattle.tcg_tokens.specs.Lex.{◌>>=◌, content_lexeme, content_at, atom_at, form_at, mark_of, marked, mark_at, lexeme_at, skip, first_lexeme, token_at}
 use Rattle.tcg_tokens.specs.Tree.{Tree}
 use Rattle.tcg_tokens.specs.Message.{Message}
-use Rattle.tcg_tokens.specs.Reading.{Behind, expect, number_of, number_at, uid_of, uid_at, values_up_to, list_with, list_value_with, name_of, named_with, value_of, list_at, status_at, call_at, reply_at, marked_of, message_of, message_at, is_blank, reading}
+use Rattle.tcg_tokens.specs.Reading.{Behind, expect, number_token, number_at, uid_token, uid_at, values_up_to, list_with, list_value_with, name_of, named_with, value_after_token, list_at, status_at, call_at, reply_at, marked_of, message_of, message_at, is_blank, reading}
 
 -- ---- want of memory is no fault of bytes
 
@@ -107,22 +107,22 @@ named_fine behind h text =
     bind (token_at text) _ (token_fine text) (λ n. bind (name_of n.0) _ (name_fine n.0) (λ name. bind (token_at n.1) _ (token_fine n.1) (λ t.
     bind (behind t.0 t.1) _ (h t.0 t.1) (λ v. bind (expect EndName v.1) _ (expect_fine EndName v.1) (λ rest. refl)))))
 
-value_fine : (room : ℕ) → AllFine (value_of room)
-unfolding value_of
+value_fine : (room : ℕ) → AllFine (value_after_token room)
+unfolding value_after_token
 value_fine zero (lexeme.number n) rest = refl
 value_fine (suc room) (lexeme.number n) rest = refl
 value_fine zero (lexeme.bytes b) rest = refl
 value_fine (suc room) (lexeme.bytes b) rest = refl
 value_fine zero (lexeme.mark m) rest = choice (same m StartList) _ _ refl (choice (same m StartName) _ _ refl refl)
 value_fine (suc room) (lexeme.mark m) rest =
-    choice (same m StartList) _ _ (list_value_fine (value_of room) (value_fine room) rest)
-    (choice (same m StartName) _ _ (named_fine (value_of room) (value_fine room) rest) refl)
+    choice (same m StartList) _ _ (list_value_fine (value_after_token room) (value_fine room) rest)
+    (choice (same m StartName) _ _ (named_fine (value_after_token room) (value_fine room) rest) refl)
 
 number_fine : (text : List ℕ) → Fine (number_at text)
 unfolding number_at
 number_fine text = bind (token_at text) _ (token_fine text) (λ t. kept t.0 t.1)
   where
-    kept : (t : Lexeme) (rest : List ℕ) → Fine (number_of t rest)
+    kept : (t : Lexeme) (rest : List ℕ) → Fine (number_token t rest)
     kept (lexeme.number n) rest = refl
     kept (lexeme.bytes b) rest = refl
     kept (lexeme.mark m) rest = refl
@@ -131,14 +131,14 @@ uid_fine : (text : List ℕ) → Fine (uid_at text)
 unfolding uid_at
 uid_fine text = bind (token_at text) _ (token_fine text) (λ t. kept t.0 t.1)
   where
-    kept : (t : Lexeme) (rest : List ℕ) → Fine (uid_of t rest)
+    kept : (t : Lexeme) (rest : List ℕ) → Fine (uid_token t rest)
     kept (lexeme.number n) rest = refl
     kept (lexeme.bytes b) rest = choice (eqb (length b) 8) _ _ refl refl
     kept (lexeme.mark m) rest = refl
 
 values_of_list_fine : (text : List ℕ) → Fine (list_at text)
 unfolding list_at
-values_of_list_fine text = list_fine (value_of room_inside) (value_fine room_inside) text
+values_of_list_fine text = list_fine (value_after_token room_inside) (value_fine room_inside) text
 
 status_fine : (text : List ℕ) → Fine (status_at text)
 unfolding status_at

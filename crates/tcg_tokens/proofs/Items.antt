@@ -14,7 +14,7 @@ use Rattle.tcg_tokens.specs.declared.value.Item.{Item}
 use Rattle.tcg_tokens.specs.Gives.{Gives}
 use Rattle.tcg_tokens.specs.Message.{Message, message, call, reply, end_session, begin, end}
 use Rattle.tcg_tokens.specs.Grammar.{IsToken, AreValues, IsStatus, three_numbers, IsItem, a_call, a_reply, an_end_session, a_begin, an_end, IsFill, nothing, one_fill, Spells, room_inside}
-use Rattle.tcg_tokens.specs.Reading.{expect, number_of, number_at, uid_of, uid_at, list_with, list_at, status_at, call_at, reply_at, marked_of, message_of, message_at, is_blank, reading}
+use Rattle.tcg_tokens.specs.Reading.{expect, number_token, number_at, uid_token, uid_at, list_with, list_at, status_at, call_at, reply_at, marked_of, message_of, message_at, is_blank, reading}
 use Rattle.tcg_tokens.proofs.Tokens.{chosen, ok_inj, IsAt, token_taken, token_again, bool_cases, behind}
 use Rattle.tcg_tokens.proofs.Values.{bind_ok, read, read_is, expect_again, expected, values_again, values_taken, sound, step}
 
@@ -97,7 +97,7 @@ number_taken text rest n ok e =
     let p = bind_ok (token_at text) _ (n, rest) e in
     go p.0.0 p.0.1 (token_taken text p.0.1 p.0.0 ok p.1) p.2
   where
-    go : (t : Lexeme) (after : List ℕ) → IsAt text t after → number_of t after ≡ Ok (n, rest) → IsAt text (lexeme.number n) rest
+    go : (t : Lexeme) (after : List ℕ) → IsAt text t after → number_token t after ≡ Ok (n, rest) → IsAt text (lexeme.number n) rest
     go (lexeme.number k) after at e =
         let q = read_is k n after rest e in
         subst (λ (x : List ℕ). IsAt text (lexeme.number n) x) q.1 (subst (λ (x : ℕ). IsAt text (lexeme.number x) after) q.0 at)
@@ -110,7 +110,7 @@ uid_taken text rest o ok e =
     let p = bind_ok (token_at text) _ (o, rest) e in
     go p.0.0 p.0.1 (token_taken text p.0.1 p.0.0 ok p.1) p.2
   where
-    go : (t : Lexeme) (after : List ℕ) → IsAt text t after → uid_of t after ≡ Ok (o, rest) → IsAt text (lexeme.bytes o) rest × (length o ≡ 8)
+    go : (t : Lexeme) (after : List ℕ) → IsAt text t after → uid_token t after ≡ Ok (o, rest) → IsAt text (lexeme.bytes o) rest × (length o ≡ 8)
     go (lexeme.number k) after at e = absurd cc
     go (lexeme.bytes b) after at e =
         elim (chosen (eqb (length b) 8) _ _ (Ok (o, rest)) e) [

@@ -9,7 +9,7 @@ use Rattle.tcg_tokens.specs.Gives.{Fails}
 use Rattle.tcg_tokens.specs.Lex.{◌>>=◌, token_at}
 use Rattle.tcg_tokens.specs.Tree.{Tree, Trees, number, bytes, empty, more}
 use Rattle.tcg_tokens.proofs.Trees.{◌+++◌, +++-empty, +++_assoc, tree_number, tree_bytes}
-use Rattle.tcg_tokens.specs.Reading.{Behind, values_up_to, list_value_with, named_with, value_of}
+use Rattle.tcg_tokens.specs.Reading.{Behind, values_up_to, list_value_with, named_with, value_after_token}
 use Rattle.tcg_tokens.specs.Lexeme as lexeme
 
 -- a fault of one reading is the fault of another
@@ -83,36 +83,36 @@ module _ (one : Behind) (front : Trees) (count i : ℕ) (text : List ℕ) (total
 
 -- ---- a value behind its first token
 
-pub deep_list : (room : ℕ) (m : Mark) (rest : List ℕ) → room ≡ 0 → same m StartList ≡ true → value_of room (lexeme.mark m) rest ≡ Err Deep
-unfolding value_of
+pub deep_list : (room : ℕ) (m : Mark) (rest : List ℕ) → room ≡ 0 → same m StartList ≡ true → value_after_token room (lexeme.mark m) rest ≡ Err Deep
+unfolding value_after_token
 deep_list zero m rest e is_list = rw is_list
 deep_list (suc room) m rest e is_list = absurd (omega arith)
 
-pub deep_name : (room : ℕ) (m : Mark) (rest : List ℕ) → room ≡ 0 → same m StartList ≡ false → same m StartName ≡ true → value_of room (lexeme.mark m) rest ≡ Err Deep
-unfolding value_of
+pub deep_name : (room : ℕ) (m : Mark) (rest : List ℕ) → room ≡ 0 → same m StartList ≡ false → same m StartName ≡ true → value_after_token room (lexeme.mark m) rest ≡ Err Deep
+unfolding value_after_token
 deep_name zero m rest e no_list is_name = rw (no_list, is_name)
 deep_name (suc room) m rest e no_list is_name = absurd (omega arith)
 
-pub not_a_value : (room : ℕ) (m : Mark) (rest : List ℕ) → same m StartList ≡ false → same m StartName ≡ false → value_of room (lexeme.mark m) rest ≡ Err Unbalanced
-unfolding value_of
+pub not_a_value : (room : ℕ) (m : Mark) (rest : List ℕ) → same m StartList ≡ false → same m StartName ≡ false → value_after_token room (lexeme.mark m) rest ≡ Err Unbalanced
+unfolding value_after_token
 not_a_value zero m rest no_list no_name = rw (no_list, no_name)
 not_a_value (suc room) m rest no_list no_name = rw (no_list, no_name)
 
-pub is_a_list : (room less : ℕ) (m : Mark) (rest : List ℕ) → room ≡ less + 1 → same m StartList ≡ true → value_of room (lexeme.mark m) rest ≡ list_value_with (value_of less) rest
-unfolding value_of
+pub is_a_list : (room less : ℕ) (m : Mark) (rest : List ℕ) → room ≡ less + 1 → same m StartList ≡ true → value_after_token room (lexeme.mark m) rest ≡ list_value_with (value_after_token less) rest
+unfolding value_after_token
 is_a_list room less m rest e is_list = rw (e, add-one, is_list)
 
-pub is_a_name : (room less : ℕ) (m : Mark) (rest : List ℕ) → room ≡ less + 1 → same m StartList ≡ false → same m StartName ≡ true → value_of room (lexeme.mark m) rest ≡ named_with (value_of less) rest
-unfolding value_of
+pub is_a_name : (room less : ℕ) (m : Mark) (rest : List ℕ) → room ≡ less + 1 → same m StartList ≡ false → same m StartName ≡ true → value_after_token room (lexeme.mark m) rest ≡ named_with (value_after_token less) rest
+unfolding value_after_token
 is_a_name room less m rest e no_list is_name = rw (e, add-one, no_list, is_name)
 
-pub is_a_number : (room n : ℕ) (rest : List ℕ) → value_of room (lexeme.number n) rest ≡ Ok (number n, rest)
-unfolding value_of
+pub is_a_number : (room n : ℕ) (rest : List ℕ) → value_after_token room (lexeme.number n) rest ≡ Ok (number n, rest)
+unfolding value_after_token
 is_a_number zero n rest = refl
 is_a_number (suc room) n rest = refl
 
-pub are_bytes : (room : ℕ) (b rest : List ℕ) → value_of room (lexeme.bytes b) rest ≡ Ok (bytes b, rest)
-unfolding value_of
+pub are_bytes : (room : ℕ) (b rest : List ℕ) → value_after_token room (lexeme.bytes b) rest ≡ Ok (bytes b, rest)
+unfolding value_after_token
 are_bytes zero b rest = refl
 are_bytes (suc room) b rest = refl
 

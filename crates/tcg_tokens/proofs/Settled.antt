@@ -19,7 +19,7 @@ use Rattle.tcg_tokens.specs.Tree.{Tree}
 use Rattle.tcg_tokens.specs.declared.value.Item.{Item}
 use Rattle.tcg_tokens.specs.Gives.{Fails, Gives}
 use Rattle.tcg_tokens.specs.Message.{Message, message}
-use Rattle.tcg_tokens.specs.Reading.{Behind, expect, number_of, number_at, uid_of, uid_at, values_up_to, list_with, list_value_with, name_of, named_with, value_of, list_at, status_at, call_at, reply_at, marked_of, message_of, message_at, is_blank, reading}
+use Rattle.tcg_tokens.specs.Reading.{Behind, expect, number_token, number_at, uid_token, uid_at, values_up_to, list_with, list_value_with, name_of, named_with, value_after_token, list_at, status_at, call_at, reply_at, marked_of, message_of, message_at, is_blank, reading}
 use Rattle.tcg_tokens.proofs.Tokens.{bool_cases}
 
 -- the fault stays, unless the bytes only ended too early
@@ -153,16 +153,16 @@ module _ (more : List ℕ) where
       name_keeps (lexeme.bytes b) = refl
       name_keeps (lexeme.mark m) = refl
 
-  value_keeps : (room : ℕ) (t : Lexeme) (rest : List ℕ) → Keeps (value_of room t rest) (value_of room t (rest ++ more))
-  unfolding value_of
+  value_keeps : (room : ℕ) (t : Lexeme) (rest : List ℕ) → Keeps (value_after_token room t rest) (value_after_token room t (rest ++ more))
+  unfolding value_after_token
   value_keeps zero (lexeme.number n) rest = refl
   value_keeps (suc room) (lexeme.number n) rest = refl
   value_keeps zero (lexeme.bytes b) rest = refl
   value_keeps (suc room) (lexeme.bytes b) rest = refl
   value_keeps zero (lexeme.mark m) rest = choice (longer more) (same m StartList) _ _ _ _ refl (choice (longer more) (same m StartName) _ _ _ _ refl refl)
   value_keeps (suc room) (lexeme.mark m) rest =
-      choice (longer more) (same m StartList) _ _ _ _ (list_value_keeps (value_of room) (value_keeps room) rest)
-      (choice (longer more) (same m StartName) _ _ _ _ (named_keeps (value_of room) (value_keeps room) rest) refl)
+      choice (longer more) (same m StartList) _ _ _ _ (list_value_keeps (value_after_token room) (value_keeps room) rest)
+      (choice (longer more) (same m StartName) _ _ _ _ (named_keeps (value_after_token room) (value_keeps room) rest) refl)
 
   -- ---- items
 
@@ -170,7 +170,7 @@ module _ (more : List ℕ) where
   unfolding number_at
   number_keeps text = bind (longer more) (longer more) (token_at text) (token_at (text ++ more)) _ _ (token_keeps text) (λ t. kept t.0 t.1)
     where
-      kept : (t : Lexeme) (rest : List ℕ) → Keeps (number_of t rest) (number_of t (rest ++ more))
+      kept : (t : Lexeme) (rest : List ℕ) → Keeps (number_token t rest) (number_token t (rest ++ more))
       kept (lexeme.number n) rest = refl
       kept (lexeme.bytes b) rest = refl
       kept (lexeme.mark m) rest = refl
@@ -179,14 +179,14 @@ module _ (more : List ℕ) where
   unfolding uid_at
   uid_keeps text = bind (longer more) (longer more) (token_at text) (token_at (text ++ more)) _ _ (token_keeps text) (λ t. kept t.0 t.1)
     where
-      kept : (t : Lexeme) (rest : List ℕ) → Keeps (uid_of t rest) (uid_of t (rest ++ more))
+      kept : (t : Lexeme) (rest : List ℕ) → Keeps (uid_token t rest) (uid_token t (rest ++ more))
       kept (lexeme.number n) rest = refl
       kept (lexeme.bytes b) rest = choice (longer more) (eqb (length b) 8) _ _ _ _ refl refl
       kept (lexeme.mark m) rest = refl
 
   values_of_list_keep : (text : List ℕ) → Keeps (list_at text) (list_at (text ++ more))
   unfolding list_at
-  values_of_list_keep text = list_keeps (value_of room_inside) (value_keeps room_inside) text
+  values_of_list_keep text = list_keeps (value_after_token room_inside) (value_keeps room_inside) text
 
   status_keeps : (text : List ℕ) → Keeps (status_at text) (status_at (text ++ more))
   unfolding status_at

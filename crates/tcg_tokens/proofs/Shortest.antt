@@ -9,7 +9,7 @@ use Rattle.tcg_tokens.specs.Lexeme.{AreBytes, Lexeme, code_of, number_from}
 use Rattle.tcg_tokens.specs.Lexeme as lexeme
 use Rattle.tcg_tokens.specs.Tree.{Tree, Trees}
 use Rattle.tcg_tokens.specs.Message.{Message, call, reply}
-use Rattle.tcg_tokens.specs.Grammar.{IsHeader, short, medium, long, IsSpelling, tiny, number_atom, bytes_atom, mark_byte, IsToken, plain, filled, IsName, number_name, bytes_name, IsValue, a_number, some_bytes, a_list, a_name, AreValues, no_more, one_more, IsStatus, three_numbers, room_inside, IsItem, a_call, a_reply, an_end_session, a_begin, an_end, Spells}
+use Rattle.tcg_tokens.specs.Grammar.{IsHeader, short, medium, long, IsTokenSpelling, tiny, number_atom, bytes_atom, mark_byte, IsToken, plain, filled, IsName, number_name, bytes_name, IsValue, a_number, some_bytes, a_list, a_name, AreValues, no_more, one_more, IsStatus, three_numbers, room_inside, IsItem, a_call, a_reply, an_end_session, a_begin, an_end, Spells}
 use Rattle.tcg_tokens.specs.Spelling.{header, significant, number_spelling, bytes_spelling, spelling_of, spellings_of, status_spelling, item_spelling_of}
 use Rattle.tcg_tokens.proofs.Tokens.{bool_cases}
 use Rattle.tcg_tokens.proofs.Writings.{number_of_bytes, length_significant}
@@ -110,7 +110,7 @@ atom_least n content ok lt e =
           rw (w, small) (omega arith)
     ]
 
-spelling_least : (text : List ℕ) (t : Lexeme) → AreBytes text → IsSpelling text t → length (lexeme_spelling t) ≤ length text
+spelling_least : (text : List ℕ) (t : Lexeme) → AreBytes text → IsTokenSpelling text t → length (lexeme_spelling t) ≤ length text
 unfolding bytes_spelling
 spelling_least text t ok (tiny n lt) = omega (arith, one_byte n lt)
 spelling_least text t ok (number_atom head content h fits) =

@@ -12,7 +12,7 @@ use Rattle.tcg_tokens.specs.Lex.{◌>>=◌, token_at}
 use Rattle.tcg_tokens.specs.Tree.{Tree, Trees, list, named, empty, more}
 use Rattle.tcg_tokens.specs.Grammar.{Spells, room_inside}
 use Rattle.tcg_tokens.specs.Message.{Message, call, reply}
-use Rattle.tcg_tokens.specs.Reading.{Behind, expect, uid_at, values_up_to, list_with, list_value_with, name_of, named_with, value_of, list_at, status_at, call_at, reply_at, message_at, is_blank, reading}
+use Rattle.tcg_tokens.specs.Reading.{Behind, expect, uid_at, values_up_to, list_with, list_value_with, name_of, named_with, value_after_token, list_at, status_at, call_at, reply_at, message_at, is_blank, reading}
 use Rattle.tcg_tokens.proofs.Loop.{deep_list, deep_name, not_a_value, is_a_list, is_a_name, is_a_number, are_bytes}
 use Rattle.tcg_tokens.proofs.Items.{all_taken}
 
@@ -55,25 +55,25 @@ unfolding values_up_to
 values_rest value_behind count text =
     along (token_at text) _ _ (λ t. choice (is_mark EndList t.0) _ _ ∙ ap (λ (r : Result (List ℕ) TokenError). if is_mark EndList t.0 then Ok t.1 else r) (behind (value_behind t.0 t.1) _ _ (λ v. made (values_up_to value_behind count v.1) (λ (vs : Trees). more v.0 vs))))
 
-pub deep_list_rest : (room : ℕ) (m : Mark) (rest : List ℕ) → room ≡ 0 → same m StartList ≡ true → rest_of (value_of room (lexeme.mark m) rest) ≡ Err Deep
+pub deep_list_rest : (room : ℕ) (m : Mark) (rest : List ℕ) → room ≡ 0 → same m StartList ≡ true → rest_of (value_after_token room (lexeme.mark m) rest) ≡ Err Deep
 deep_list_rest room m rest e is_list = ap rest_of (deep_list room m rest e is_list)
 
-pub deep_name_rest : (room : ℕ) (m : Mark) (rest : List ℕ) → room ≡ 0 → same m StartList ≡ false → same m StartName ≡ true → rest_of (value_of room (lexeme.mark m) rest) ≡ Err Deep
+pub deep_name_rest : (room : ℕ) (m : Mark) (rest : List ℕ) → room ≡ 0 → same m StartList ≡ false → same m StartName ≡ true → rest_of (value_after_token room (lexeme.mark m) rest) ≡ Err Deep
 deep_name_rest room m rest e no_list is_name = ap rest_of (deep_name room m rest e no_list is_name)
 
-pub no_value_rest : (room : ℕ) (m : Mark) (rest : List ℕ) → same m StartList ≡ false → same m StartName ≡ false → rest_of (value_of room (lexeme.mark m) rest) ≡ Err Unbalanced
+pub no_value_rest : (room : ℕ) (m : Mark) (rest : List ℕ) → same m StartList ≡ false → same m StartName ≡ false → rest_of (value_after_token room (lexeme.mark m) rest) ≡ Err Unbalanced
 no_value_rest room m rest no_list no_name = ap rest_of (not_a_value room m rest no_list no_name)
 
-pub a_list_rest : (room less : ℕ) (m : Mark) (rest : List ℕ) → room ≡ less + 1 → same m StartList ≡ true → rest_of (value_of room (lexeme.mark m) rest) ≡ rest_of (list_with (value_of less) rest)
-a_list_rest room less m rest e is_list = ap rest_of (is_a_list room less m rest e is_list) ∙ list_value_rest (value_of less) rest
+pub a_list_rest : (room less : ℕ) (m : Mark) (rest : List ℕ) → room ≡ less + 1 → same m StartList ≡ true → rest_of (value_after_token room (lexeme.mark m) rest) ≡ rest_of (list_with (value_after_token less) rest)
+a_list_rest room less m rest e is_list = ap rest_of (is_a_list room less m rest e is_list) ∙ list_value_rest (value_after_token less) rest
 
-pub a_name_rest : (room less : ℕ) (m : Mark) (rest : List ℕ) → room ≡ less + 1 → same m StartList ≡ false → same m StartName ≡ true → rest_of (value_of room (lexeme.mark m) rest) ≡ rest_of (named_with (value_of less) rest)
+pub a_name_rest : (room less : ℕ) (m : Mark) (rest : List ℕ) → room ≡ less + 1 → same m StartList ≡ false → same m StartName ≡ true → rest_of (value_after_token room (lexeme.mark m) rest) ≡ rest_of (named_with (value_after_token less) rest)
 a_name_rest room less m rest e no_list is_name = ap rest_of (is_a_name room less m rest e no_list is_name)
 
-pub a_number_rest : (room n : ℕ) (rest : List ℕ) → rest_of (value_of room (lexeme.number n) rest) ≡ Ok rest
+pub a_number_rest : (room n : ℕ) (rest : List ℕ) → rest_of (value_after_token room (lexeme.number n) rest) ≡ Ok rest
 a_number_rest room n rest = ap rest_of (is_a_number room n rest)
 
-pub bytes_rest : (room : ℕ) (b rest : List ℕ) → rest_of (value_of room (lexeme.bytes b) rest) ≡ Ok rest
+pub bytes_rest : (room : ℕ) (b rest : List ℕ) → rest_of (value_after_token room (lexeme.bytes b) rest) ≡ Ok rest
 bytes_rest room b rest = ap rest_of (are_bytes room b rest)
 
 pub ruleset nesting = (deep_list_rest, deep_name_rest, no_value_rest, a_list_rest, a_name_rest, a_number_rest, bytes_rest)
@@ -125,10 +125,10 @@ module _ (one : Behind) (count i : ℕ) (text : List ℕ) (total : Result (List 
 -- ---- items
 
 -- what is behind the values of an outermost list
-tail_rest : (text : List ℕ) (f : Trees → List ℕ → Message) → rest_of (list_with (value_of room_inside) text >>= λ vs. expect EndOfData vs.1 >>= λ data_end. status_at data_end >>= λ status. Ok (f vs.0 status.0, status.1)) ≡ (rest_of (list_with (value_of room_inside) text) >>= λ after. expect EndOfData after >>= λ data_end. rest_of (status_at data_end))
-tail_rest text f = behind (list_with (value_of room_inside) text) _ _ (λ vs. along (expect EndOfData vs.1) _ _ (λ data_end. made (status_at data_end) (f vs.0)))
+tail_rest : (text : List ℕ) (f : Trees → List ℕ → Message) → rest_of (list_with (value_after_token room_inside) text >>= λ vs. expect EndOfData vs.1 >>= λ data_end. status_at data_end >>= λ status. Ok (f vs.0 status.0, status.1)) ≡ (rest_of (list_with (value_after_token room_inside) text) >>= λ after. expect EndOfData after >>= λ data_end. rest_of (status_at data_end))
+tail_rest text f = behind (list_with (value_after_token room_inside) text) _ _ (λ vs. along (expect EndOfData vs.1) _ _ (λ data_end. made (status_at data_end) (f vs.0)))
 
-pub reply_rest : (text : List ℕ) → rest_of (reply_at text) ≡ (rest_of (list_with (value_of room_inside) text) >>= λ after. expect EndOfData after >>= λ data_end. rest_of (status_at data_end))
+pub reply_rest : (text : List ℕ) → rest_of (reply_at text) ≡ (rest_of (list_with (value_after_token room_inside) text) >>= λ after. expect EndOfData after >>= λ data_end. rest_of (status_at data_end))
 unfolding reply_at list_at
 reply_rest text = tail_rest text reply
 

@@ -11,8 +11,8 @@ use Rattle.tcg_tokens.specs.declared.token.Mark.TheVariants.{StartList, EndList,
 use Rattle.tcg_tokens.specs.Lex.{content_lexeme, content_at, atom_at, form_at, mark_of, marked, mark_at, lexeme_at, first_lexeme, token_at}
 use Rattle.std.specs.List.{find}
 use Rattle.tcg_tokens.specs.declared.form.Form.TheVariants.{Short, Medium, Long}
-use Rattle.tcg_tokens.specs.Atoms.{bit}
-use Rattle.tcg_tokens.specs.Grammar.{IsHeader, short, medium, long, IsSpelling, tiny, number_atom, bytes_atom, mark_byte, IsToken, plain, filled}
+use Rattle.tcg_tokens.specs.Atoms.{bit_number}
+use Rattle.tcg_tokens.specs.Grammar.{IsHeader, short, medium, long, IsTokenSpelling, tiny, number_atom, bytes_atom, mark_byte, IsToken, plain, filled}
 
 bytes_behind : (front rest : List ℕ) → AreBytes (front ++ rest) → AreBytes rest
 bytes_behind [] rest ok = ok
@@ -48,11 +48,11 @@ no_eq : (a b : ℕ) → (a ≡ b → ⊥) → eqb a b ≡ false
 no_eq a b h = grind (arith, nat_tests)
 
 -- the test of a bit
-bit_test : (is_bytes : Bool) (n : ℕ) → n ≡ bit is_bytes → eqb n 1 ≡ is_bytes
+bit_test : (is_bytes : Bool) (n : ℕ) → n ≡ bit_number is_bytes → eqb n 1 ≡ is_bytes
 bit_test true n e = rw e refl
 bit_test false n e = rw e refl
 
-short_again : (is_bytes : Bool) (len b : ℕ) (rest : List ℕ) → len < 16 → b ≡ 0x80 + 32 * bit is_bytes + len → bit is_bytes < 2 → token_at (b ∷ rest) ≡ content_at is_bytes len rest
+short_again : (is_bytes : Bool) (len b : ℕ) (rest : List ℕ) → len < 16 → b ≡ 0x80 + 32 * bit_number is_bytes + len → bit_number is_bytes < 2 → token_at (b ∷ rest) ≡ content_at is_bytes len rest
 unfolding first_lexeme
 short_again is_bytes len b rest lt e two =
     let no_fill : eqb b 255 ≡ false = no_eq b 255 (λ h. omega arith) in
@@ -65,7 +65,7 @@ short_again is_bytes len b rest lt e two =
     let no_length : ltb (length rest) 0 ≡ false = le-ltb _ 0 (omega arith) in
     rw (no_fill, t1, t2, t3, kind, sign, low, no_length) refl
 
-medium_again : (is_bytes : Bool) (high low b : ℕ) (rest : List ℕ) → high < 8 → b ≡ 0xc0 + 16 * bit is_bytes + high → bit is_bytes < 2 → token_at (b ∷ low ∷ rest) ≡ content_at is_bytes (256 * high + low) rest
+medium_again : (is_bytes : Bool) (high low b : ℕ) (rest : List ℕ) → high < 8 → b ≡ 0xc0 + 16 * bit_number is_bytes + high → bit_number is_bytes < 2 → token_at (b ∷ low ∷ rest) ≡ content_at is_bytes (256 * high + low) rest
 unfolding first_lexeme
 medium_again is_bytes high low b rest lt e two =
     let no_fill : eqb b 255 ≡ false = no_eq b 255 (λ h. omega arith) in
@@ -79,7 +79,7 @@ medium_again is_bytes high low b rest lt e two =
     let one_length : ltb (length (low ∷ rest)) 1 ≡ false = le-ltb _ 1 (omega arith) in
     rw (no_fill, t1, t2, t3, t4, kind, sign, top, one_length) refl
 
-long_again : (is_bytes : Bool) (high middle low : ℕ) (rest : List ℕ) → token_at ((0xe0 + 2 * bit is_bytes) ∷ high ∷ middle ∷ low ∷ rest) ≡ content_at is_bytes (256 * (256 * high + middle) + low) rest
+long_again : (is_bytes : Bool) (high middle low : ℕ) (rest : List ℕ) → token_at ((0xe0 + 2 * bit_number is_bytes) ∷ high ∷ middle ∷ low ∷ rest) ≡ content_at is_bytes (256 * (256 * high + middle) + low) rest
 unfolding first_lexeme
 long_again true high middle low rest =
     let three : ltb (length (high ∷ middle ∷ low ∷ rest)) 3 ≡ false = le-ltb _ 3 (omega arith) in
@@ -88,7 +88,7 @@ long_again false high middle low rest =
     let three : ltb (length (high ∷ middle ∷ low ∷ rest)) 3 ≡ false = le-ltb _ 3 (omega arith) in
     rw (three, zero-add high) refl
 
-bit-below : (b : Bool) → bit b < 2
+bit-below : (b : Bool) → bit_number b < 2
 bit-below true = omega arith
 bit-below false = omega arith
 
@@ -101,7 +101,7 @@ header_again is_bytes head n (medium kind high low lt lt_low) content rest e =
 header_again is_bytes head n (long kind high middle low lt_high lt_middle lt_low) content rest e =
     long_again kind high middle low (content ++ rest) ∙ rw (← e) (content_again kind content rest)
 
-spelling_again : (text : List ℕ) (t : Lexeme) → IsSpelling text t → (rest : List ℕ) → token_at (text ++ rest) ≡ Ok (t, rest)
+spelling_again : (text : List ℕ) (t : Lexeme) → IsTokenSpelling text t → (rest : List ℕ) → token_at (text ++ rest) ≡ Ok (t, rest)
 unfolding first_lexeme
 spelling_again text t (tiny n lt) rest =
     let small : ltb n 64 ≡ true = yes_lt n 64 lt in
@@ -132,7 +132,7 @@ abbrev pub IsAt : List ℕ → Lexeme → List ℕ → Type 0
 IsAt text t rest = (front : List ℕ) × (text ≡ front ++ rest) × IsToken front t
 
 abbrev SpelledAt : List ℕ → Lexeme → List ℕ → Type 0
-SpelledAt text t rest = (front : List ℕ) × (text ≡ front ++ rest) × IsSpelling front t
+SpelledAt text t rest = (front : List ℕ) × (text ≡ front ++ rest) × IsTokenSpelling front t
 
 abbrev done : {A : Type 0} → A → Result A TokenError
 done x = Ok x
@@ -150,16 +150,16 @@ ok_is t u a b e =
     let p : x ≡ y = ok_inj x y e in
     (ap (λ (q : Lexeme × List ℕ). q.0) p, ap (λ (q : Lexeme × List ℕ). q.1) p)
 
-lexeme_spelled : (is_bytes : Bool) (head content after rest : List ℕ) (t : Lexeme) → IsHeader is_bytes head (length content) → content_lexeme is_bytes content after ≡ Ok (t, rest) → IsSpelling (head ++ content) t × (after ≡ rest)
+lexeme_spelled : (is_bytes : Bool) (head content after rest : List ℕ) (t : Lexeme) → IsHeader is_bytes head (length content) → content_lexeme is_bytes content after ≡ Ok (t, rest) → IsTokenSpelling (head ++ content) t × (after ≡ rest)
 lexeme_spelled true head content after rest t h e =
     let p = ok_is (bytes content) t after rest e in
-    (subst (IsSpelling (head ++ content)) p.0 (bytes_atom head content h), p.1)
+    (subst (IsTokenSpelling (head ++ content)) p.0 (bytes_atom head content h), p.1)
 lexeme_spelled false head content after rest t h e =
     elim (chosen (ltb (number_from 0 content) (2 ^ 64)) (Ok (number (number_from 0 content), after)) (Err TooBig) (Ok (t, rest)) e) [
       | inl w ↦
           let p = ok_is (number (number_from 0 content)) t after rest w.1 in
           let fits : number_from 0 content < 2 ^ 64 = ltb-true _ _ w.0 in
-          (subst (IsSpelling (head ++ content)) p.0 (number_atom head content h fits), p.1)
+          (subst (IsTokenSpelling (head ++ content)) p.0 (number_atom head content h fits), p.1)
       | inr w ↦ absurd cc
     ]
 
@@ -188,7 +188,7 @@ atom_spelled is_bytes false upper width first body rest t h e =
           ]
     ]
 
-bit_is : (n : ℕ) → n < 2 → bit (eqb n 1) ≡ n
+bit_is : (n : ℕ) → n < 2 → bit_number (eqb n 1) ≡ n
 bit_is zero h = refl
 bit_is (suc zero) h = refl
 bit_is (suc (suc n)) h = absurd (omega arith)
@@ -202,8 +202,8 @@ short_spelled : (b : ℕ) (body rest : List ℕ) (t : Lexeme) → 128 ≤ b → 
 short_spelled b body rest t low high e =
     atom_spelled (eqb (b / 32 % 2) 1) (eqb (b / 16 % 2) 1) (b % 16) 0 b body rest t (λ plain_atom _.
     let no_sign : b / 16 % 2 ≡ 0 = no_bit _ (omega arith) plain_atom in
-    let kind : bit (eqb (b / 32 % 2) 1) ≡ b / 32 % 2 = bit_is _ (omega arith) in
-    let first : 0x80 + 32 * bit (eqb (b / 32 % 2) 1) + b % 16 ≡ b = omega arith in
+    let kind : bit_number (eqb (b / 32 % 2) 1) ≡ b / 32 % 2 = bit_is _ (omega arith) in
+    let first : 0x80 + 32 * bit_number (eqb (b / 32 % 2) 1) + b % 16 ≡ b = omega arith in
     subst (λ (x : ℕ). IsHeader (eqb (b / 32 % 2) 1) (x ∷ []) (b % 16)) first (short (eqb (b / 32 % 2) 1) (b % 16) (omega arith))) e
 
 medium_spelled : (b : ℕ) (body rest : List ℕ) (t : Lexeme) → AreBytes body → 192 ≤ b → b < 224 → form_at Medium b body ≡ Ok (t, rest) → SpelledAt (b ∷ body) t rest
@@ -212,8 +212,8 @@ medium_spelled b [] rest t ok low high e =
 medium_spelled b (x ∷ body) rest t ok low high e =
     atom_spelled (eqb (b / 16 % 2) 1) (eqb (b / 8 % 2) 1) (b % 8) 1 b (x ∷ body) rest t (λ plain_atom _.
     let no_sign : b / 8 % 2 ≡ 0 = no_bit _ (omega arith) plain_atom in
-    let kind : bit (eqb (b / 16 % 2) 1) ≡ b / 16 % 2 = bit_is _ (omega arith) in
-    let first : 0xc0 + 16 * bit (eqb (b / 16 % 2) 1) + b % 8 ≡ b = omega arith in
+    let kind : bit_number (eqb (b / 16 % 2) 1) ≡ b / 16 % 2 = bit_is _ (omega arith) in
+    let first : 0xc0 + 16 * bit_number (eqb (b / 16 % 2) 1) + b % 8 ≡ b = omega arith in
     subst (λ (y : ℕ). IsHeader (eqb (b / 16 % 2) 1) (y ∷ x ∷ []) (256 * (b % 8) + x)) first (medium (eqb (b / 16 % 2) 1) (b % 8) x (omega arith) ok.0)) e
 
 long_spelled : (b : ℕ) (body rest : List ℕ) (t : Lexeme) → AreBytes body → 224 ≤ b → b < 228 → form_at Long b body ≡ Ok (t, rest) → SpelledAt (b ∷ body) t rest
@@ -221,9 +221,9 @@ long_spelled b (x ∷ y ∷ z ∷ body) rest t ok low high e =
     atom_spelled (eqb (b / 2 % 2) 1) (eqb (b / 1 % 2) 1) (b % 1) 3 b (x ∷ y ∷ z ∷ body) rest t (λ plain_atom _.
     let no_sign : b / 1 % 2 ≡ 0 = no_bit _ (omega arith) plain_atom in
     let no_upper : 256 * (b % 1) + x ≡ x = omega arith in
-    let kind : bit (eqb (b / 2 % 2) 1) ≡ b / 2 % 2 = bit_is _ (omega arith) in
-    let first : 0xe0 + 2 * bit (eqb (b / 2 % 2) 1) ≡ b = omega arith in
-    let header : IsHeader (eqb (b / 2 % 2) 1) ((0xe0 + 2 * bit (eqb (b / 2 % 2) 1)) ∷ x ∷ y ∷ z ∷ []) (256 * (256 * (256 * (b % 1) + x) + y) + z) = rw no_upper (long (eqb (b / 2 % 2) 1) x y z ok.0 ok.1.0 ok.1.1.0) in
+    let kind : bit_number (eqb (b / 2 % 2) 1) ≡ b / 2 % 2 = bit_is _ (omega arith) in
+    let first : 0xe0 + 2 * bit_number (eqb (b / 2 % 2) 1) ≡ b = omega arith in
+    let header : IsHeader (eqb (b / 2 % 2) 1) ((0xe0 + 2 * bit_number (eqb (b / 2 % 2) 1)) ∷ x ∷ y ∷ z ∷ []) (256 * (256 * (256 * (b % 1) + x) + y) + z) = rw no_upper (long (eqb (b / 2 % 2) 1) x y z ok.0 ok.1.0 ok.1.1.0) in
     subst (λ (w : ℕ). IsHeader (eqb (b / 2 % 2) 1) (w ∷ x ∷ y ∷ z ∷ []) (256 * (256 * (256 * (b % 1) + x) + y) + z)) first header) e
 long_spelled b [] rest t ok low high e = atom_spelled _ _ (b % 1) 3 b [] rest t (λ plain_atom some. absurd (omega arith)) e
 long_spelled b (x ∷ []) rest t ok low high e = atom_spelled _ _ (b % 1) 3 b (x ∷ []) rest t (λ plain_atom some. absurd (omega arith)) e
@@ -232,7 +232,7 @@ long_spelled b (x ∷ y ∷ []) rest t ok low high e = atom_spelled _ _ (b % 1) 
 mark_is : (m : Mark) (b : ℕ) (body rest : List ℕ) (t : Lexeme) → b ≡ code_of m → read (mark m) body ≡ read t rest → SpelledAt (b ∷ body) t rest
 mark_is m b body rest t code e =
     let p = ok_is (mark m) t body rest e in
-    (b ∷ [], ap (λ (x : List ℕ). b ∷ x) p.1, subst (IsSpelling (b ∷ [])) p.0 (subst (λ (x : ℕ). IsSpelling (x ∷ []) (mark m)) (sym code) (mark_byte m)))
+    (b ∷ [], ap (λ (x : List ℕ). b ∷ x) p.1, subst (IsTokenSpelling (b ∷ [])) p.0 (subst (λ (x : ℕ). IsTokenSpelling (x ∷ []) (mark m)) (sym code) (mark_byte m)))
 
 mark_found : (b : ℕ) (ms : List Mark) (m : Mark) → find (λ n. eqb b (code_of n)) ms ≡ Some m → b ≡ code_of m
 mark_found b [] m e = absurd cc
@@ -254,7 +254,7 @@ spelled b body rest t ok e =
     elim (chosen (ltb b 0x40) (Ok (number b, body)) _ _ e) [
       | inl w ↦
           let p = ok_is (number b) t body rest w.1 in
-          (b ∷ [], ap (λ (x : List ℕ). b ∷ x) p.1, subst (IsSpelling (b ∷ [])) p.0 (tiny b (ltb-true _ _ w.0)))
+          (b ∷ [], ap (λ (x : List ℕ). b ∷ x) p.1, subst (IsTokenSpelling (b ∷ [])) p.0 (tiny b (ltb-true _ _ w.0)))
       | inr w1 ↦
           elim (chosen (ltb b 0x80) (Err Signed) _ _ w1.1) [
             | inl w ↦ absurd (let h : Err Signed ≡ read t rest = w.1 in cc)

@@ -9,8 +9,8 @@ use Rattle.tcg_tokens.specs.declared.token.Mark.TheVariants.{StartList, EndList,
 use Rattle.tcg_tokens.specs.Lex.{◌>>=◌, token_at}
 use Rattle.tcg_tokens.specs.Lexeme as lexeme
 use Rattle.tcg_tokens.specs.Tree.{Tree, Trees, number, bytes, list, named, empty, more}
-use Rattle.tcg_tokens.specs.Grammar.{IsToken, plain, filled, IsSpelling, IsHeader, short, medium, long, tiny, number_atom, bytes_atom, mark_byte, IsName, number_name, bytes_name, IsValue, AreValues, a_number, some_bytes, a_list, a_name, no_more, one_more}
-use Rattle.tcg_tokens.specs.Reading.{expect, values_up_to, list_with, list_value_with, name_of, named_with, value_of}
+use Rattle.tcg_tokens.specs.Grammar.{IsToken, plain, filled, IsTokenSpelling, IsHeader, short, medium, long, tiny, number_atom, bytes_atom, mark_byte, IsName, number_name, bytes_name, IsValue, AreValues, a_number, some_bytes, a_list, a_name, no_more, one_more}
+use Rattle.tcg_tokens.specs.Reading.{expect, values_up_to, list_with, list_value_with, name_of, named_with, value_after_token}
 use Rattle.tcg_tokens.proofs.Loop.{is_a_number, are_bytes}
 use Rattle.tcg_tokens.proofs.Tokens.{chosen, ok_inj, IsAt, token_taken, token_again, behind as bytes_behind}
 
@@ -25,7 +25,7 @@ header_long is_bytes head n (short kind len lt) = omega arith
 header_long is_bytes head n (medium kind high low lt lt_low) = omega arith
 header_long is_bytes head n (long kind high middle low lt_high lt_middle lt_low) = omega arith
 
-spelling_long : (text : List ℕ) (t : Lexeme) → IsSpelling text t → 0 < length text
+spelling_long : (text : List ℕ) (t : Lexeme) → IsTokenSpelling text t → 0 < length text
 spelling_long text t (tiny n lt) = omega arith
 spelling_long text t (number_atom head content h fits) = omega (arith, length-append head content, header_long _ _ _ h)
 spelling_long text t (bytes_atom head content h) = omega (arith, length-append head content, header_long _ _ _ h)
@@ -51,14 +51,14 @@ pub record Starts (room : ℕ) (text rest : List ℕ) (v : Tree) : Type 0 where
   pub behind : List ℕ
   pub is_first : token_at (text ++ rest) ≡ Ok (first, behind)
   pub is_no_end : is_mark EndList first ≡ false
-  pub goes_on : value_of room first behind ≡ Ok (v, rest)
+  pub goes_on : value_after_token room first behind ≡ Ok (v, rest)
 
 name_again : (text : List ℕ) (n : Tree) → IsName text n → (rest : List ℕ) → (t : Lexeme) × (token_at (text ++ rest) ≡ Ok (t, rest)) × (name_of t ≡ Ok n)
 name_again text n (number_name {n = k} h) rest = (lexeme.number k, token_again _ _ h rest, refl)
 name_again text n (bytes_name {b} h) rest = (lexeme.bytes b, token_again _ _ h rest, refl)
 
 mutual
-  unfolding value_of values_up_to list_value_with list_with named_with
+  unfolding value_after_token values_up_to list_value_with list_with named_with
 
   pub value_again : (room : ℕ) (text : List ℕ) (v : Tree) → IsValue room text v → (rest : List ℕ) → Starts room text rest v
   value_again room text v (a_number {n} h) rest = record { first = lexeme.number n; behind = rest; is_first = token_again _ _ h rest; is_no_end = refl; goes_on = is_a_number room n rest }
@@ -73,7 +73,7 @@ mutual
       let last = expect_again EndName stop rest end refl in
       record { first = lexeme.mark StartName; behind = name ++ (inner ++ (stop ++ rest)); is_first = ap token_at regrouped ∙ token_again start _ h (name ++ (inner ++ (stop ++ rest))); is_no_end = refl; goes_on = rw (nm.1, nm.2, ih.is_first, ih.goes_on, last) refl }
 
-  pub values_again : (room : ℕ) (text : List ℕ) (vs : Trees) → AreValues room text vs → (rest : List ℕ) (count : ℕ) → length text ≤ count → values_up_to (value_of room) count (text ++ rest) ≡ Ok (vs, rest)
+  pub values_again : (room : ℕ) (text : List ℕ) (vs : Trees) → AreValues room text vs → (rest : List ℕ) (count : ℕ) → length text ≤ count → values_up_to (value_after_token room) count (text ++ rest) ≡ Ok (vs, rest)
   values_again room text vs (no_more h) rest zero le = absurd (omega (arith, token_long _ _ h))
   values_again room text vs (no_more h) rest (suc count) le = rw (token_again _ _ h rest) refl
   values_again room text vs (one_more {front} {back} h all) rest zero le = absurd (omega (arith, value_long _ _ _ h, length-append front back))
@@ -117,7 +117,7 @@ abbrev pub Goes : ℕ → Lexeme → List ℕ → Tree → List ℕ → Type 0
 Goes room t behind v rest = (inner : List ℕ) × (behind ≡ inner ++ rest) × ((front : List ℕ) → IsToken front t → IsValue room (front ++ inner) v)
 
 abbrev pub IsSound : ℕ → Type 0
-IsSound room = (t : Lexeme) (behind rest : List ℕ) (v : Tree) → AreBytes behind → value_of room t behind ≡ Ok (v, rest) → Goes room t behind v rest
+IsSound room = (t : Lexeme) (behind rest : List ℕ) (v : Tree) → AreBytes behind → value_after_token room t behind ≡ Ok (v, rest) → Goes room t behind v rest
 
 abbrev pub AreAt : ℕ → List ℕ → Trees → List ℕ → Type 0
 AreAt room text vs rest = (inner : List ℕ) × (text ≡ inner ++ rest) × AreValues room inner vs
@@ -136,7 +136,7 @@ read_is {A} x y a b e =
 pub step : (text front after whole : List ℕ) → text ≡ front ++ after → after ≡ whole → text ≡ front ++ whole
 step text front after whole e f = e ∙ ap (λ (x : List ℕ). front ++ x) f
 
-pub values_taken : (room : ℕ) → IsSound room → (count : ℕ) (text rest : List ℕ) (vs : Trees) → AreBytes text → values_up_to (value_of room) count text ≡ Ok (vs, rest) → AreAt room text vs rest
+pub values_taken : (room : ℕ) → IsSound room → (count : ℕ) (text rest : List ℕ) (vs : Trees) → AreBytes text → values_up_to (value_after_token room) count text ≡ Ok (vs, rest) → AreAt room text vs rest
 unfolding values_up_to
 values_taken room sound zero text rest vs ok e = absurd cc
 values_taken room sound (suc count) text rest vs ok e =
@@ -149,8 +149,8 @@ values_taken room sound (suc count) text rest vs ok e =
           let is_end : IsToken at.0 (lexeme.mark EndList) = subst (IsToken at.0) (is_that_mark EndList p.0.0 w.0) at.2 in
           (at.0, step _ at.0 _ _ at.1 q.1, subst (λ (x : Trees). AreValues room at.0 x) q.0 (no_more is_end))
       | inr w ↦
-          let v = bind_ok (value_of room p.0.0 p.0.1) _ (vs, rest) w.1 in
-          let ws = bind_ok (values_up_to (value_of room) count v.0.1) _ (vs, rest) v.2 in
+          let v = bind_ok (value_after_token room p.0.0 p.0.1) _ (vs, rest) w.1 in
+          let ws = bind_ok (values_up_to (value_after_token room) count v.0.1) _ (vs, rest) v.2 in
           let q = read_is (more v.0.0 ws.0.0) vs ws.0.1 rest ws.2 in
           let s = sound p.0.0 p.0.1 v.0.1 v.0.0 ok_behind v.1 in
           let ih = values_taken room sound count v.0.1 ws.0.1 ws.0.0 (bytes_behind p.0.1 s.0 v.0.1 ok_behind s.1) ws.1 in
@@ -167,7 +167,7 @@ regroup : (a b c d e : List ℕ) → a ++ (b ++ (c ++ (d ++ e))) ≡ (a ++ ((b +
 regroup a b c d e = simp append_assoc
 
 pub sound : (room : ℕ) → IsSound room
-unfolding value_of list_value_with list_with named_with
+unfolding value_after_token list_value_with list_with named_with
 sound room (lexeme.number n) behind rest v ok e =
     let q = read_is (number n) v behind rest (sym (is_a_number room n behind) ∙ e) in
     ([], q.1, λ front h. rw append-nil (subst (IsValue room front) q.0 (a_number h)))
@@ -183,7 +183,7 @@ sound zero (lexeme.mark m) behind rest v ok e =
 sound (suc room) (lexeme.mark m) behind rest v ok e =
     elim (chosen (same m StartList) _ _ (Ok (v, rest)) e) [
       | inl w ↦
-          let vs = bind_ok (values_up_to (value_of room) (length behind) behind) _ (v, rest) w.1 in
+          let vs = bind_ok (values_up_to (value_after_token room) (length behind) behind) _ (v, rest) w.1 in
           let q = read_is (list vs.0.0) v vs.0.1 rest vs.2 in
           let at = values_taken room (sound room) (length behind) behind vs.0.1 vs.0.0 ok vs.1 in
           let m-is = same_is m StartList w.0 in
@@ -194,7 +194,7 @@ sound (suc room) (lexeme.mark m) behind rest v ok e =
                 let n = bind_ok (token_at behind) _ (v, rest) w.1 in
                 let nm = bind_ok (name_of n.0.0) _ (v, rest) n.2 in
                 let t = bind_ok (token_at n.0.1) _ (v, rest) nm.2 in
-                let val = bind_ok (value_of room t.0.0 t.0.1) _ (v, rest) t.2 in
+                let val = bind_ok (value_after_token room t.0.0 t.0.1) _ (v, rest) t.2 in
                 let last = bind_ok (expect EndName val.0.1) _ (v, rest) val.2 in
                 let q = read_is (named nm.0 val.0.0) v last.0 rest last.2 in
                 let name_at = token_taken behind n.0.1 n.0.0 ok n.1 in

@@ -12,8 +12,8 @@ use Rattle.tcg_tokens.specs.Lexeme.{Lexeme, code_of, number_from}
 use Rattle.tcg_tokens.specs.Lexeme as lexeme
 use Rattle.tcg_tokens.specs.Tree.{Tree, Trees, number, bytes, list, named, empty, more}
 use Rattle.tcg_tokens.specs.Message.{Message, call, reply, end_session, begin, end}
-use Rattle.tcg_tokens.specs.Atoms.{bit}
-use Rattle.tcg_tokens.specs.Grammar.{IsHeader, short, medium, long, IsSpelling, tiny, number_atom, bytes_atom, mark_byte, IsToken, plain, filled, IsName, number_name, bytes_name, IsValue, a_number, some_bytes, a_list, a_name, AreValues, no_more, one_more, IsStatus, three_numbers, room_inside, IsItem, a_call, a_reply, an_end_session, a_begin, an_end, IsFill, nothing, Spells}
+use Rattle.tcg_tokens.specs.Atoms.{bit_number}
+use Rattle.tcg_tokens.specs.Grammar.{IsHeader, short, medium, long, IsTokenSpelling, tiny, number_atom, bytes_atom, mark_byte, IsToken, plain, filled, IsName, number_name, bytes_name, IsValue, a_number, some_bytes, a_list, a_name, AreValues, no_more, one_more, IsStatus, three_numbers, room_inside, IsItem, a_call, a_reply, an_end_session, a_begin, an_end, IsFill, nothing, Spells}
 use Rattle.tcg_tokens.specs.Spelling.{header, significant, number_spelling, bytes_spelling, spelling_of, spellings_of, status_spelling, item_spelling_of}
 use Rattle.tcg_tokens.specs.Writable.{fits_number, is_name, is_writable_value, are_writable_values, is_writable, IsShaped}
 use Rattle.tcg_tokens.proofs.Tokens.{bool_cases}
@@ -34,7 +34,7 @@ header_holds is_bytes head n (short kind len lt) = omega arith
 header_holds is_bytes head n (medium kind high low lt lt_low) = omega arith
 header_holds is_bytes head n (long kind high middle low lt_high lt_middle lt_low) = omega arith
 
-spelling_holds : (text : List ℕ) (t : Lexeme) → IsSpelling text t → Holds t
+spelling_holds : (text : List ℕ) (t : Lexeme) → IsTokenSpelling text t → Holds t
 spelling_holds text t (tiny n lt) = omega arith
 spelling_holds text t (number_atom head content h fits) = fits
 spelling_holds text t (bytes_atom head content h) = header_holds true head (length content) h
@@ -96,10 +96,10 @@ header_spelled is_bytes len lt =
             | inl w ↦
                 let up : len < 2048 = ltb-true _ _ w in
                 let is_len : 256 * (len / 256) + len % 256 ≡ len = omega arith in
-                rw (w1, w) (subst (λ (n : ℕ). IsHeader is_bytes ((0xc0 + 16 * bit is_bytes + len / 256) ∷ len % 256 ∷ []) n) is_len (medium is_bytes (len / 256) (len % 256) (omega arith) (omega arith)))
+                rw (w1, w) (subst (λ (n : ℕ). IsHeader is_bytes ((0xc0 + 16 * bit_number is_bytes + len / 256) ∷ len % 256 ∷ []) n) is_len (medium is_bytes (len / 256) (len % 256) (omega arith) (omega arith)))
             | inr w ↦
                 let is_len : 256 * (256 * (len / 65536) + len / 256 % 256) + len % 256 ≡ len = omega arith in
-                rw (w1, w) (subst (λ (n : ℕ). IsHeader is_bytes ((0xe0 + 2 * bit is_bytes) ∷ len / 65536 ∷ len / 256 % 256 ∷ len % 256 ∷ []) n) is_len (long is_bytes (len / 65536) (len / 256 % 256) (len % 256) (omega arith) (omega arith) (omega arith)))
+                rw (w1, w) (subst (λ (n : ℕ). IsHeader is_bytes ((0xe0 + 2 * bit_number is_bytes) ∷ len / 65536 ∷ len / 256 % 256 ∷ len % 256 ∷ []) n) is_len (long is_bytes (len / 65536) (len / 256 % 256) (len % 256) (omega arith) (omega arith) (omega arith)))
           ]
     ]
 
@@ -130,7 +130,7 @@ number_of_bytes n lt = number_of_eight _ _ _ _ _ _ _ _ ∙ from_be_bytes-to_be_b
 number_back : (n : ℕ) → n < 2 ^ NUMBER_BITS → number_from 0 (significant (to_be_bytes w64 n)) ≡ n
 number_back n lt = number_significant (to_be_bytes w64 n) ∙ number_of_bytes n lt
 
-number_spelled : (n : ℕ) → n < 2 ^ NUMBER_BITS → IsSpelling (number_spelling n) (lexeme.number n)
+number_spelled : (n : ℕ) → n < 2 ^ NUMBER_BITS → IsTokenSpelling (number_spelling n) (lexeme.number n)
 unfolding number_spelling
 number_spelled n lt =
     elim (bool_cases (ltb n 64)) [
@@ -140,10 +140,10 @@ number_spelled n lt =
           let back : number_from 0 content ≡ n = number_back n lt in
           let fits : number_from 0 content < 2 ^ NUMBER_BITS = omega arith in
           let head : IsHeader false (header false (length content)) (length content) = header_spelled false (length content) (omega (arith, length_significant (to_be_bytes w64 n))) in
-          rw w (subst (λ (k : ℕ). IsSpelling (header false (length content) ++ content) (lexeme.number k)) back (number_atom (header false (length content)) content head fits))
+          rw w (subst (λ (k : ℕ). IsTokenSpelling (header false (length content) ++ content) (lexeme.number k)) back (number_atom (header false (length content)) content head fits))
     ]
 
-bytes_spelled : (b : List ℕ) → length b < 2 ^ LENGTH_BITS → IsSpelling (bytes_spelling b) (lexeme.bytes b)
+bytes_spelled : (b : List ℕ) → length b < 2 ^ LENGTH_BITS → IsTokenSpelling (bytes_spelling b) (lexeme.bytes b)
 unfolding bytes_spelling
 bytes_spelled b lt = bytes_atom (header true (length b)) b (header_spelled true (length b) lt)
 

@@ -44,13 +44,13 @@ abbrev pub end_of : Form → ℕ
 end_of form = least form + 2 * kind_bit form
 
 -- a bit as a number, and whether the bit that is worth so much is set in a byte
-abbrev pub bit : Bool → ℕ
-bit true = 1
-bit false = 0
+abbrev pub bit_number : Bool → ℕ
+bit_number true = 1
+bit_number false = 0
 
 abbrev pub has_bit : ℕ → ℕ → Bool
 has_bit worth b = b / worth % 2 == 1
 
 -- the first byte of bytes or of a number without a sign, where the upper bits of the length are 0
 abbrev pub first_byte : Form → (is_bytes : Bool) → ℕ
-first_byte form is_bytes = least form + kind_bit form * bit is_bytes
+first_byte form is_bytes = least form + kind_bit form * bit_number is_bytes

@@ -22,18 +22,18 @@ pub data IsHeader : Bool → List ℕ → ℕ → Type 0 where
       (256 * (256 * high + middle) + low)
 
 -- a token: a tiny atom, an atom that is a number of any length whose value fits, one that is bytes, a mark
-pub data IsSpelling : List ℕ → Lexeme → Type 0 where
-  tiny : (n : ℕ) → n < tiny_limit → IsSpelling (n ∷ []) (lexeme.number n)
+pub data IsTokenSpelling : List ℕ → Lexeme → Type 0 where
+  tiny : (n : ℕ) → n < tiny_limit → IsTokenSpelling (n ∷ []) (lexeme.number n)
   number_atom : (head content : List ℕ) → IsHeader false head (length content)
       → number_from 0 content < 2 ^ NUMBER_BITS
-      → IsSpelling (head ++ content) (lexeme.number (number_from 0 content))
+      → IsTokenSpelling (head ++ content) (lexeme.number (number_from 0 content))
   bytes_atom : (head content : List ℕ) → IsHeader true head (length content)
-      → IsSpelling (head ++ content) (lexeme.bytes content)
-  mark_byte : (m : Mark) → IsSpelling (code_of m ∷ []) (lexeme.mark m)
+      → IsTokenSpelling (head ++ content) (lexeme.bytes content)
+  mark_byte : (m : Mark) → IsTokenSpelling (code_of m ∷ []) (lexeme.mark m)
 
 -- a token behind any number of empty atoms
 pub data IsToken : List ℕ → Lexeme → Type 0 where
-  plain : {text : List ℕ} {t : Lexeme} → IsSpelling text t → IsToken text t
+  plain : {text : List ℕ} {t : Lexeme} → IsTokenSpelling text t → IsToken text t
   filled : {text : List ℕ} {t : Lexeme} → IsToken text t → IsToken (empty_atom ∷ text) t
 
 -- the name of a named value

@@ -19,26 +19,26 @@ expect m text = do
   if is_mark m t.0 then Ok t.1 else Err Unbalanced
 
 -- a number, where one must stand
-abbrev pub number_of : Lexeme → List ℕ → Result (ℕ × List ℕ) TokenError
-number_of (lexeme.number n) rest = Ok (n, rest)
-number_of (lexeme.bytes b) rest = Err Unbalanced
-number_of (lexeme.mark m) rest = Err Unbalanced
+abbrev pub number_token : Lexeme → List ℕ → Result (ℕ × List ℕ) TokenError
+number_token (lexeme.number n) rest = Ok (n, rest)
+number_token (lexeme.bytes b) rest = Err Unbalanced
+number_token (lexeme.mark m) rest = Err Unbalanced
 
 unfoldable pub number_at : List ℕ → Result (ℕ × List ℕ) TokenError
 number_at text = do
   t ← token_at text
-  number_of t.0 t.1
+  number_token t.0 t.1
 
 -- eight bytes, where a UID must stand
-abbrev pub uid_of : Lexeme → List ℕ → Result (List ℕ × List ℕ) TokenError
-uid_of (lexeme.number n) rest = Err Unbalanced
-uid_of (lexeme.bytes b) rest = if length b == uid_size then Ok (b, rest) else Err Unbalanced
-uid_of (lexeme.mark m) rest = Err Unbalanced
+abbrev pub uid_token : Lexeme → List ℕ → Result (List ℕ × List ℕ) TokenError
+uid_token (lexeme.number n) rest = Err Unbalanced
+uid_token (lexeme.bytes b) rest = if length b == uid_size then Ok (b, rest) else Err Unbalanced
+uid_token (lexeme.mark m) rest = Err Unbalanced
 
 unfoldable pub uid_at : List ℕ → Result (List ℕ × List ℕ) TokenError
 uid_at text = do
   t ← token_at text
-  uid_of t.0 t.1
+  uid_token t.0 t.1
 
 -- How a value is read on, behind its first token.
 abbrev pub Behind : Type 0
@@ -81,18 +81,18 @@ named_with value_behind text = do
   Ok (named name v.0, rest)
 
 -- A value behind its first token, where room more lists and named values may be nested.
-unfoldable pub value_of : (room : ℕ) → Behind
-value_of room (lexeme.number n) rest = Ok (number n, rest)
-value_of room (lexeme.bytes b) rest = Ok (bytes b, rest)
-value_of zero (lexeme.mark m) rest =
+unfoldable pub value_after_token : (room : ℕ) → Behind
+value_after_token room (lexeme.number n) rest = Ok (number n, rest)
+value_after_token room (lexeme.bytes b) rest = Ok (bytes b, rest)
+value_after_token zero (lexeme.mark m) rest =
     if same m StartList then Err Deep else (if same m StartName then Err Deep else Err Unbalanced)
-value_of (suc room) (lexeme.mark m) rest =
-    if same m StartList then list_value_with (value_of room) rest
-    else (if same m StartName then named_with (value_of room) rest else Err Unbalanced)
+value_after_token (suc room) (lexeme.mark m) rest =
+    if same m StartList then list_value_with (value_after_token room) rest
+    else (if same m StartName then named_with (value_after_token room) rest else Err Unbalanced)
 
 -- the values of an outermost list, behind its first token
 unfoldable pub list_at : List ℕ → Result (Trees × List ℕ) TokenError
-list_at text = list_with (value_of room_inside) text
+list_at text = list_with (value_after_token room_inside) text
 
 -- the three numbers of a status, as a list
 unfoldable pub status_at : List ℕ → Result (List ℕ × List ℕ) TokenError

@@ -1,7 +1,7 @@
 //! How many bytes an item takes when it is written.
 
 ghost use Rattle.std.specs.Prelude.{◌≡◌, ◌≤◌, length};
-ghost use Rattle.tcg_tokens.specs.Length.{capped, len_of};
+ghost use Rattle.tcg_tokens.specs.Length.{capped_length, len_of};
 ghost use Rattle.tcg_tokens.specs.Message.{message, reply};
 ghost use Rattle.tcg_tokens.specs.Spelling.{number_spelling, bytes_spelling, spelling_of, status_spelling};
 ghost use Rattle.tcg_tokens.specs.Tree.{tree, trees, list};
@@ -57,7 +57,7 @@ fn number_len(number: u64) -> usize
 /// The bytes of an atom of bytes.
 #[tactic(auto, unfolding(crate::specs::Spelling::bytes_spelling))]
 fn bytes_len(content: &[u8]) -> usize
-    ensures { result ≡ capped (length (bytes_spelling content.now)) }
+    ensures { result ≡ capped_length (length (bytes_spelling content.now)) }
 {
     let len = content.len();
     let header = if len < usize::from(Form::Short.upper_range()) {
@@ -74,7 +74,7 @@ fn bytes_len(content: &[u8]) -> usize
 #[cycle(len)]
 #[tactic(auto, using(crate::proofs::Trees::trees_drop))]
 fn value_len(value: &Value) -> usize
-    ensures { result ≡ capped (length (spelling_of (tree value.now))) }
+    ensures { result ≡ capped_length (length (spelling_of (tree value.now))) }
 {
     match value {
         Value::Number(number) => number_len(*number),
@@ -93,7 +93,7 @@ fn value_len(value: &Value) -> usize
 #[cycle(len)]
 #[tactic(auto, using(crate::proofs::Trees::trees_drop))]
 fn list_len(items: &Vec<Value>) -> usize
-    ensures { result ≡ capped (length (spelling_of (list (trees items.now.items)))) }
+    ensures { result ≡ capped_length (length (spelling_of (list (trees items.now.items)))) }
 {
     let mut len: usize = 2;
     for item in items {

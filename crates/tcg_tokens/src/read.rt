@@ -3,12 +3,12 @@
 ghost use Rattle.std.specs.Prelude.{◌≡◌, ◌≢◌, ◌++◌, ◌==◌, false, List, ℕ, Err, length, Some, None, Ok, IfOk, if◌then◌else◌};
 ghost use Rattle.tcg_tokens.specs.declared.error.TokenError.{TokenError};
 ghost use Rattle.tcg_tokens.specs.declared.error.TokenError.TheVariants.{Truncated, OutOfMemory};
-ghost use Rattle.tcg_tokens.specs.Gives.{Fails, Gives, Tells, is_fault};
+ghost use Rattle.tcg_tokens.specs.Gives.{Fails, Gives, TellsReadingFault, is_fault};
 ghost use Rattle.tcg_tokens.specs.Grammar.{Spells};
 ghost use Rattle.tcg_tokens.specs.Lexeme.{seen};
 ghost use Rattle.tcg_tokens.specs.Tree.{tree, trees};
 ghost use Rattle.tcg_tokens.specs.Message.{Message, message};
-ghost use Rattle.tcg_tokens.specs.Reading.{expect, number_at, uid_at, list_with, list_value_with, named_with, name_of, value_of, list_at, status_at, call_at, reply_at, marked_of, message_at, reading};
+ghost use Rattle.tcg_tokens.specs.Reading.{expect, number_at, uid_at, list_with, list_value_with, named_with, name_of, value_after_token, list_at, status_at, call_at, reply_at, marked_of, message_at, reading};
 
 use crate::error::TokenError;
 use crate::limits::NESTING_LIMIT;
@@ -22,7 +22,7 @@ use std::alloc::Global;
 #[tactic(auto, unfolding(crate::specs::Reading::expect))]
 #[inline(always)]
 pub(crate) fn after_mark(mark: Mark, bytes: &[u8]) -> Result<&[u8], TokenError>
-    ensures { Tells (λ x. x.now) result (expect mark bytes.now) }
+    ensures { TellsReadingFault (λ x. x.now) result (expect mark bytes.now) }
 {
     let (token, rest) = next_token(bytes)?;
     match token {
@@ -42,7 +42,7 @@ pub(crate) fn after_mark(mark: Mark, bytes: &[u8]) -> Result<&[u8], TokenError>
 #[tactic(auto, unfolding(crate::specs::Reading::number_at))]
 #[inline(always)]
 pub(crate) fn number(bytes: &[u8]) -> Result<(u64, &[u8]), TokenError>
-    ensures { Tells (λ x. (x.0, x.1.now)) result (number_at bytes.now) }
+    ensures { TellsReadingFault (λ x. (x.0, x.1.now)) result (number_at bytes.now) }
 {
     let (token, rest) = next_token(bytes)?;
     match token {
@@ -66,7 +66,7 @@ fn uid_from(content: &[u8]) -> Option<[u8; 8]>
 #[tactic(auto, unfolding(crate::specs::Reading::uid_at))]
 #[inline(always)]
 pub(crate) fn uid(bytes: &[u8]) -> Result<([u8; 8], &[u8]), TokenError>
-    ensures { Tells (λ x. (x.0, x.1.now)) result (uid_at bytes.now) }
+    ensures { TellsReadingFault (λ x. (x.0, x.1.now)) result (uid_at bytes.now) }
 {
     let (token, rest) = next_token(bytes)?;
     match token {
@@ -83,7 +83,7 @@ pub(crate) fn uid(bytes: &[u8]) -> Result<([u8; 8], &[u8]), TokenError>
 #[tactic(auto, unfolding(crate::specs::Reading::status_at))]
 #[inline(always)]
 pub(crate) fn status(bytes: &[u8]) -> Result<([u64; 3], &[u8]), TokenError>
-    ensures { Tells (λ x. (x.0, x.1.now)) result (status_at bytes.now) }
+    ensures { TellsReadingFault (λ x. (x.0, x.1.now)) result (status_at bytes.now) }
 {
     let rest = after_mark(Mark::StartList, bytes)?;
     let (a, rest) = number(rest)?;
@@ -102,7 +102,8 @@ fn value<'a>(
     rest: &'a [u8],
     room: u8,
 ) -> Result<(Value, &'a [u8]), TokenError>
-    ensures { Gives (λ x. (tree x.0, x.1.now)) result (value_of room (seen token.entry) rest.now) }
+    ensures { Gives (λ x. (tree x.0, x.1.now)) result (value_after_token room
+        (seen token.entry) rest.now) }
 {
     match token {
         Token::Number(number) => Ok((Value::Number(number), rest)),
@@ -132,7 +133,8 @@ fn value<'a>(
 #[cycle(value)]
 #[tactic(auto, unfolding(crate::specs::Reading::list_value_with))]
 fn list<'a>(alloc: Global, bytes: &'a [u8], room: u8) -> Result<(Value, &'a [u8]), TokenError>
-    ensures { Gives (λ x. (tree x.0, x.1.now)) result (list_value_with (value_of room) bytes.now) }
+    ensures { Gives (λ x. (tree x.0, x.1.now)) result (list_value_with
+        (value_after_token room) bytes.now) }
 {
     let (items, rest) = values(alloc, bytes, room)?;
     Ok((Value::List(items), rest))
@@ -157,7 +159,8 @@ fn name(alloc: Global, token: Token<'_>) -> Result<Value, TokenError>
 #[cycle(value)]
 #[tactic(auto, unfolding(crate::specs::Reading::named_with))]
 fn named<'a>(alloc: Global, bytes: &'a [u8], room: u8) -> Result<(Value, &'a [u8]), TokenError>
-    ensures { Gives (λ x. (tree x.0, x.1.now)) result (named_with (value_of room) bytes.now) }
+    ensures { Gives (λ x. (tree x.0, x.1.now)) result (named_with
+        (value_after_token room) bytes.now) }
 {
     let (token, rest) = next_token(bytes)?;
     let name = name(alloc, token)?;
@@ -176,7 +179,8 @@ fn values<'a>(
     bytes: &'a [u8],
     room: u8,
 ) -> Result<(Vec<Value>, &'a [u8]), TokenError>
-    ensures { Gives (λ x. (trees x.0.items, x.1.now)) result (list_with (value_of room) bytes.now) }
+    ensures { Gives (λ x. (trees x.0.items, x.1.now)) result (list_with
+        (value_after_token room) bytes.now) }
 {
     let mut items = Vec::new(alloc);
     let mut rest = bytes;

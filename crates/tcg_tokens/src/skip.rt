@@ -1,9 +1,9 @@
 //! Which fault bytes have, found without memory: what they spell is passed over.
 
 ghost use Rattle.std.specs.Prelude.{◌≡◌, false, Err, MatchResult};
-ghost use Rattle.tcg_tokens.specs.Gives.{Tells, rest_of, is_fault};
+ghost use Rattle.tcg_tokens.specs.Gives.{TellsReadingFault, rest_of, is_fault};
 ghost use Rattle.tcg_tokens.specs.Lexeme.{seen};
-ghost use Rattle.tcg_tokens.specs.Reading.{name_of, named_with, value_of, list_with, call_at, reply_at, marked_of, message_at, reading};
+ghost use Rattle.tcg_tokens.specs.Reading.{name_of, named_with, value_after_token, list_with, call_at, reply_at, marked_of, message_at, reading};
 
 use crate::error::TokenError;
 use crate::limits::NESTING_LIMIT;
@@ -14,7 +14,8 @@ use crate::token::{Mark, Token, next_token, skipped};
 #[cycle(skip)]
 #[tactic(auto, using(crate::proofs::Skips::nesting))]
 fn skip_value<'a>(token: Token<'a>, rest: &'a [u8], room: u8) -> Result<&'a [u8], TokenError>
-    ensures { Tells (λ x. x.now) result (rest_of (value_of room (seen token.entry) rest.now)) }
+    ensures { TellsReadingFault (λ x. x.now) result (rest_of (value_after_token room
+        (seen token.entry) rest.now)) }
 {
     match token {
         Token::Number(_) => Ok(rest),
@@ -52,7 +53,8 @@ fn check_name(token: Token<'_>) -> Result<(), TokenError>
 #[cycle(skip)]
 #[tactic(auto, using(crate::proofs::Skips::naming))]
 fn skip_named<'a>(bytes: &'a [u8], room: u8) -> Result<&'a [u8], TokenError>
-    ensures { Tells (λ x. x.now) result (rest_of (named_with (value_of room) bytes.now)) }
+    ensures { TellsReadingFault (λ x. x.now) result (rest_of (named_with
+        (value_after_token room) bytes.now)) }
 {
     let (name, rest) = next_token(bytes)?;
     check_name(name)?;
@@ -66,7 +68,8 @@ fn skip_named<'a>(bytes: &'a [u8], room: u8) -> Result<&'a [u8], TokenError>
 #[cycle(skip)]
 #[tactic(auto, unfolding(crate::specs::Reading::list_with))]
 fn skip_values<'a>(bytes: &'a [u8], room: u8) -> Result<&'a [u8], TokenError>
-    ensures { Tells (λ x. x.now) result (rest_of (list_with (value_of room) bytes.now)) }
+    ensures { TellsReadingFault (λ x. x.now) result (rest_of (list_with
+        (value_after_token room) bytes.now)) }
 {
     let mut rest = bytes;
     // Each value has a byte at least, so there are no more of them than bytes.
@@ -83,7 +86,7 @@ fn skip_values<'a>(bytes: &'a [u8], room: u8) -> Result<&'a [u8], TokenError>
 /// What is behind a call, behind its first token.
 #[tactic(auto, using(crate::proofs::Skips::calling))]
 fn skip_call(bytes: &[u8]) -> Result<&[u8], TokenError>
-    ensures { Tells (λ x. x.now) result (rest_of (call_at bytes.now)) }
+    ensures { TellsReadingFault (λ x. x.now) result (rest_of (call_at bytes.now)) }
 {
     let (_, rest) = uid(bytes)?;
     let (_, rest) = uid(rest)?;
@@ -95,7 +98,7 @@ fn skip_call(bytes: &[u8]) -> Result<&[u8], TokenError>
 /// What is behind a reply, behind its first token; what is behind a call, from its arguments on, is the same.
 #[tactic(auto, using(crate::proofs::Skips::replying))]
 fn skip_reply(bytes: &[u8]) -> Result<&[u8], TokenError>
-    ensures { Tells (λ x. x.now) result (rest_of (reply_at bytes.now)) }
+    ensures { TellsReadingFault (λ x. x.now) result (rest_of (reply_at bytes.now)) }
 {
     let rest = skip_values(bytes, NESTING_LIMIT - 1)?;
     let rest = after_mark(Mark::EndOfData, rest)?;
@@ -105,7 +108,7 @@ fn skip_reply(bytes: &[u8]) -> Result<&[u8], TokenError>
 
 /// What is behind an item, behind its first token, a mark.
 fn skip_marked(mark: Mark, rest: &[u8]) -> Result<&[u8], TokenError>
-    ensures { Tells (λ x. x.now) result (rest_of (marked_of mark rest.now)) }
+    ensures { TellsReadingFault (λ x. x.now) result (rest_of (marked_of mark rest.now)) }
 {
     match mark {
         Mark::Call => skip_call(rest),
@@ -124,7 +127,7 @@ fn skip_marked(mark: Mark, rest: &[u8]) -> Result<&[u8], TokenError>
 /// What is behind the item at the front.
 #[tactic(auto, unfolding(crate::specs::Reading::message_at))]
 fn skip_item(bytes: &[u8]) -> Result<&[u8], TokenError>
-    ensures { Tells (λ x. x.now) result (rest_of (message_at bytes.now)) }
+    ensures { TellsReadingFault (λ x. x.now) result (rest_of (message_at bytes.now)) }
 {
     let (token, rest) = next_token(bytes)?;
     match token {

@@ -1,7 +1,7 @@
 //! One token at the front of bytes.
 
 ghost use Rattle.std.specs.Prelude.{◌≡◌, ◌≤◌, ◌<◌, ◌^◌, length, nat_lt, Some, None, if◌then◌else◌};
-ghost use Rattle.tcg_tokens.specs.Gives.{Tells};
+ghost use Rattle.tcg_tokens.specs.Gives.{TellsReadingFault};
 ghost use Rattle.tcg_tokens.specs.Lex.{content_at, atom_at, form_at, mark_of, mark_at, lexeme_at, token_at, skip};
 ghost use Rattle.tcg_tokens.specs.Lexeme.{code_of, number_from, same, is_mark, seen};
 ghost use Rattle.tcg_tokens.specs.declared.token.Mark.TheVariants.{EndList};
@@ -50,7 +50,8 @@ fn number_of(content: &[u8]) -> Option<u64>
 /// An atom behind its header, from `len` bytes of content.
 #[inline(always)]
 fn content(is_bytes: bool, len: usize, rest: &[u8]) -> Result<(Token<'_>, &[u8]), TokenError>
-    ensures { Tells (λ x. (seen x.0, x.1.now)) result (content_at is_bytes len rest.now) }
+    ensures { TellsReadingFault (λ x. (seen x.0, x.1.now)) result
+        (content_at is_bytes len rest.now) }
 {
     if rest.len() < len {
         return Err(TokenError::Truncated);
@@ -95,7 +96,7 @@ fn atom(
 ) -> Result<(Token<'_>, &[u8]), TokenError>
     requires upper { upper < 16 }
     requires width { width ≤ 3 }
-    ensures { Tells (λ x. (seen x.0, x.1.now)) result
+    ensures { TellsReadingFault (λ x. (seen x.0, x.1.now)) result
         (atom_at is_bytes is_signed upper width rest.now) }
 {
     if is_signed {
@@ -115,7 +116,7 @@ fn atom(
 /// An atom of a form, from its first byte on.
 #[inline(always)]
 fn form_at(form: Form, first: u8, rest: &[u8]) -> Result<(Token<'_>, &[u8]), TokenError>
-    ensures { Tells (λ x. (seen x.0, x.1.now)) result (form_at form first rest.now) }
+    ensures { TellsReadingFault (λ x. (seen x.0, x.1.now)) result (form_at form first rest.now) }
 {
     let sign_bit = form.upper_range();
     let is_bytes = first / (2 * sign_bit) % 2 == 1;
@@ -151,7 +152,7 @@ fn mark_of(byte: u8) -> Option<Mark>
 /// The mark that a byte is, and what is behind it.
 #[inline(always)]
 fn mark_from(byte: u8, rest: &[u8]) -> Result<(Token<'_>, &[u8]), TokenError>
-    ensures { Tells (λ x. (seen x.0, x.1.now)) result (mark_at byte rest.now) }
+    ensures { TellsReadingFault (λ x. (seen x.0, x.1.now)) result (mark_at byte rest.now) }
 {
     match mark_of(byte) {
         Some(mark) => Ok((Token::Mark(mark), rest)),
@@ -174,7 +175,7 @@ pub(crate) fn skipped(bytes: &[u8]) -> &[u8]
 /// A token behind its first byte.
 #[inline(always)]
 fn token_from(first: u8, rest: &[u8]) -> Result<(Token<'_>, &[u8]), TokenError>
-    ensures { Tells (λ x. (seen x.0, x.1.now)) result (lexeme_at first rest.now) }
+    ensures { TellsReadingFault (λ x. (seen x.0, x.1.now)) result (lexeme_at first rest.now) }
 {
     if first < TINY_LIMIT {
         return Ok((Token::Number(u64::from(first)), rest));
@@ -198,7 +199,7 @@ fn token_from(first: u8, rest: &[u8]) -> Result<(Token<'_>, &[u8]), TokenError>
 #[tactic(auto, unfolding(crate::specs::Lex::first_lexeme))]
 #[inline(always)]
 pub(crate) fn next_token(bytes: &[u8]) -> Result<(Token<'_>, &[u8]), TokenError>
-    ensures { Tells (λ x. (seen x.0, x.1.now)) result (token_at bytes.now) }
+    ensures { TellsReadingFault (λ x. (seen x.0, x.1.now)) result (token_at bytes.now) }
 {
     match skipped(bytes) {
         [] => Err(TokenError::Truncated),

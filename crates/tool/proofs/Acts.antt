@@ -15,7 +15,7 @@ use Rattle.history.specs.Decisions.{refuses}
 use Rattle.history.specs.Tcg.{accepted, commanded}
 use Rattle.history.specs.History.{Act, Accept, log, event}
 use Rattle.drive.specs.Answers.{IsAnswer}
-use Rattle.drive.specs.State.{State, Keeps, Agrees}
+use Rattle.drive.specs.State.{DriveState, KeepsDrive, Agrees}
 use Rattle.drive.specs.declared.answer.Accepted.{Accepted}
 use Rattle.port_history.proofs.Fises.{fis_back}
 use Rattle.tool.specs.Acts.{accept_of, step_of}
@@ -56,11 +56,11 @@ same-event o past command tag bytes payload is =
     ∙ sym (ap (λ h. commanded (facts o past) h payload) (fis_back command tag))
 
 -- a drive agrees with the act of the command, and its answer is that of the command's event
-pub agrees-so : (d : State) (o : Origin) (acts : List Act) (command : Command) (tag : ℕ)
+pub agrees-so : (d : DriveState) (o : Origin) (acts : List Act) (command : Command) (tag : ℕ)
     (bytes payload : List ℕ) → IsH2dSpelling bytes (fis_of command tag)
     → Agrees d o (Accept bytes payload ∷ acts) → Agrees d o (accept_of command tag payload ∷ acts)
 agrees-so d o acts command tag bytes payload is agrees =
-    subst (λ made. Keeps d o (made ∷ log o acts))
+    subst (λ made. KeepsDrive d o (made ∷ log o acts))
     (same-event o (log o acts) command tag bytes payload is) agrees
 
 pub answers-so : (accepted : Accepted) (o : Origin) (acts : List Act) (command : Command) (tag : ℕ)

@@ -2,7 +2,7 @@
 use Rattle.std.proofs.Common.{◌≡◌, List, [], ◌∷◌, ◌++◌, ℕ, codes, refl}
 use Rattle.sp_cells.specs.Config.{Config}
 use Rattle.tool.specs.Scripts.{lines_of_text}
-use Rattle.tool.specs.Outcomes.{Outcome, ends, outcome_on, outcome_from, outcome_of}
+use Rattle.tool.specs.Outcomes.{RunOutcome, ends, outcome_on, outcome_from, run_outcome_of}
 
 abbrev drive : Config
 drive = record { sectors = 1000; mbr_sectors = 8; msid = codes "OPALMSID" }
@@ -12,34 +12,34 @@ abbrev script : List (List ℕ) → List ℕ
 script [] = []
 script (line ∷ lines) = line ++ 10 ∷ script lines
 
-abbrev prints : List (List ℕ) → ℕ → Outcome
+abbrev prints : List (List ℕ) → ℕ → RunOutcome
 prints texts status = record { lines = texts; status = status }
 
-no_line : outcome_of drive [] ≡ ends 0
+no_line : run_outcome_of drive [] ≡ ends 0
 unfolding outcome_on outcome_from lines_of_text
 no_line = refl
 
 -- a line that says nothing, in front
-bad_first : outcome_of drive (script (codes "stop" ∷ codes "reset 0 0" ∷ [])) ≡ ends 2
+bad_first : run_outcome_of drive (script (codes "stop" ∷ codes "reset 0 0" ∷ [])) ≡ ends 2
 unfolding outcome_on outcome_from lines_of_text
 bad_first = refl
 
 -- before anything is printed the last line is the empty text
-expect_first : outcome_of drive (script (codes "expect" ∷ codes "expect ok" ∷ codes "stop" ∷ [])) ≡ ends 1
+expect_first : run_outcome_of drive (script (codes "expect" ∷ codes "expect ok" ∷ codes "stop" ∷ [])) ≡ ends 1
 unfolding outcome_on outcome_from lines_of_text
 expect_first = refl
 
 -- an expectation is held against the last printed line; a last line needs no line feed
-expectations : outcome_of drive (script (codes "reset 7 0" ∷ codes "expect ok" ∷ codes "reset 7 1" ∷ []) ++ codes "expect ok")
+expectations : run_outcome_of drive (script (codes "reset 7 0" ∷ codes "expect ok" ∷ codes "reset 7 1" ∷ []) ++ codes "expect ok")
     ≡ prints (codes "ok" ∷ codes "ok" ∷ []) 0
 unfolding outcome_on outcome_from lines_of_text
 expectations = refl
 
 -- behind a line that ends the run nothing is printed
-ended : outcome_of drive (script (codes "reset 7 0" ∷ codes "stop" ∷ codes "reset 7 0" ∷ [])) ≡ prints (codes "ok" ∷ []) 2
+ended : run_outcome_of drive (script (codes "reset 7 0" ∷ codes "stop" ∷ codes "reset 7 0" ∷ [])) ≡ prints (codes "ok" ∷ []) 2
 unfolding outcome_on outcome_from lines_of_text
 ended = refl
 
-late_range : outcome_of drive (script (codes "reset 7 0" ∷ codes "range 1 0 0 0 0 0 0" ∷ codes "reset 7 0" ∷ [])) ≡ prints (codes "ok" ∷ []) 2
+late_range : run_outcome_of drive (script (codes "reset 7 0" ∷ codes "range 1 0 0 0 0 0 0" ∷ codes "reset 7 0" ∷ [])) ≡ prints (codes "ok" ∷ []) 2
 unfolding outcome_on outcome_from lines_of_text
 late_range = refl

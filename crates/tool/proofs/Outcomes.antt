@@ -15,8 +15,8 @@ use Rattle.script_lines.specs.declared.report.Report.{Report}
 use Rattle.tool.specs.Scripts.{bare, lines_of_text, script_lines, TakesLine}
 use Rattle.tool.specs.Courses.{Course, Advance, Advances, PhaseRunsOn, PhaseStands, course_step, start}
 use Rattle.tool.specs.Openings.{origin_of, base_of, row_said, OpensBy}
-use Rattle.tool.specs.Ends.{status_of}
-use Rattle.tool.specs.Outcomes.{Outcome, ends, behind, onward, outcome_on, set_then, opened_by, opened, outcome_from, outcome_of_lines, outcome_of, Yields}
+use Rattle.tool.specs.Ends.{exit_status}
+use Rattle.tool.specs.Outcomes.{RunOutcome, ends, printed_first, onward, outcome_on, set_then, opened_by, opened, outcome_from, outcome_of_lines, run_outcome_of, Yields}
 use Rattle.tool.specs.Progress.{HandsOn, LeadsTo, Steps, OpensTo, LinesOpenTo, FirstLine}
 use Rattle.tool.specs.declared.ending.End.{End}
 use Rattle.tool.specs.declared.ending.Fault.{Fault}
@@ -65,7 +65,7 @@ stands-so turn aborted old new last text before after is (o, course, runs) steps
 
 -- what is still to come
 
-pub all-to-come : (whole : Outcome) (bytes : Option (List ℕ)) (pending : List ℕ)
+pub all-to-come : (whole : RunOutcome) (bytes : Option (List ℕ)) (pending : List ℕ)
     → LeadsTo whole whole bytes bytes pending pending
 all-to-come whole bytes pending = record {
   earlier = [];
@@ -73,18 +73,18 @@ all-to-come whole bytes pending = record {
   written = ([], Appends-nil bytes, append-nil pending);
 }
 
-of-lines : ℕ → List (List ℕ) → Outcome
+of-lines : ℕ → List (List ℕ) → RunOutcome
 of-lines status texts = record { lines = texts; status = status }
 
 -- lines are printed
-printed-more : (whole rest later : Outcome) (old now : Option (List ℕ))
+printed-more : (whole rest later : RunOutcome) (old now : Option (List ℕ))
     (pending before after : List ℕ) (texts : List (List ℕ))
-    → LeadsTo whole rest old now pending before → rest ≡ behind texts later
+    → LeadsTo whole rest old now pending before → rest ≡ printed_first texts later
     → after ≡ before ++ printed texts → LeadsTo whole later old now pending after
 unfolding of-lines
 printed-more whole rest later old now pending before after texts leads is prints = record {
   earlier = leads.earlier ++ texts;
-  comes = leads.comes ∙ ap (behind leads.earlier) is
+  comes = leads.comes ∙ ap (printed_first leads.earlier) is
       ∙ ap (of-lines later.status)
       (sym (append_assoc leads.earlier texts later.lines));
   written = (
@@ -99,7 +99,7 @@ printed-more whole rest later old now pending before after texts leads is prints
 }
 
 -- some of what is pending is written
-pub written-more : (whole rest : Outcome) (old now new : Option (List ℕ))
+pub written-more : (whole rest : RunOutcome) (old now new : Option (List ℕ))
     (pending before after : List ℕ) → LeadsTo whole rest old now pending before
     → HandsOn now new before after → LeadsTo whole rest old new pending after
 written-more whole rest old now new pending before after leads hands = record {
@@ -114,29 +114,29 @@ written-more whole rest old now new pending before after leads hands = record {
 }
 
 -- nothing more is to come, and what is pending is written
-pub all-written : (whole : Outcome) (status : ℕ) (old now new : Option (List ℕ))
+pub all-written : (whole : RunOutcome) (status : ℕ) (old now new : Option (List ℕ))
     (pending : List ℕ) → LeadsTo whole (ends status) old now [] pending
     → Appends now new pending → Yields whole status old new
 all-written whole status old now new pending leads appends = (
-  sym (ap (λ (outcome : Outcome). outcome.status) leads.comes),
+  sym (ap (λ (outcome : RunOutcome). outcome.status) leads.comes),
   subst (Appends old new)
       (sym leads.written.2
       ∙ ap printed
-      (sym (append-nil leads.earlier) ∙ sym (ap (λ (outcome : Outcome). outcome.lines) leads.comes)))
+      (sym (append-nil leads.earlier) ∙ sym (ap (λ (outcome : RunOutcome). outcome.lines) leads.comes)))
       (Appends-trans old now new leads.written.0 pending leads.written.1 appends),
 )
 
 -- lines on a drive
 
 -- a line is at hand: on a drive that stands so, this is how far the run has come
-abbrev pub AtHand : Outcome → Origin → Phase → List ℕ → List ℕ → Option (List ℕ)
+abbrev pub AtHand : RunOutcome → Origin → Phase → List ℕ → List ℕ → Option (List ℕ)
     → Option (List ℕ) → Option (List ℕ) → List ℕ → List ℕ → Type 0
 AtHand whole o run last line left old now pending after =
     (course : Course) × (text : List ℕ) × PhaseRunsOn run o course × (left ≡ Some text)
     × LeadsTo whole (outcome_on o course last (bare line ∷ script_lines text)) old now pending after
 
 -- the line at hand is done
-abbrev pub Behind : Outcome → Origin → Phase → List ℕ → Option (List ℕ)
+abbrev pub Behind : RunOutcome → Origin → Phase → List ℕ → Option (List ℕ)
     → Option (List ℕ) → Option (List ℕ) → List ℕ → List ℕ → Type 0
 Behind whole o run last left old now pending after =
     (course : Course) × (text : List ℕ) × PhaseRunsOn run o course × (left ≡ Some text)
@@ -162,13 +162,13 @@ outcome-ends o course last text texts status is =
 outcome-goes : (o : Origin) (course : Course) (last text : List ℕ) (texts : List (List ℕ))
     (effect : Advance) → course_step o course last text ≡ Ok effect
     → outcome_on o course last (text ∷ texts)
-    ≡ behind effect.lines (outcome_on o effect.course (last_of last effect.lines) texts)
+    ≡ printed_first effect.lines (outcome_on o effect.course (last_of last effect.lines) texts)
 unfolding outcome_on
 outcome-goes o course last text texts effect is =
     ap (onward (λ effect. outcome_on o effect.course (last_of last effect.lines) texts)) is
 
 -- what a turn leaves to come
-abbrev pub TurnLeads : Turn → Outcome → Origin → Phase → Report → Option (List ℕ)
+abbrev pub TurnLeads : Turn → RunOutcome → Origin → Phase → Report → Option (List ℕ)
     → Option (List ℕ) → Option (List ℕ) → List ℕ → Type 0
 TurnLeads (turns.Goes aborted) whole o run report left old now pending =
     Behind whole o run report.last.items left old now pending report.pending.items
@@ -177,7 +177,7 @@ TurnLeads turns.ExpectationFailed whole o run report left old now pending =
 TurnLeads (turns.Bad fault) whole o run report left old now pending =
     LeadsTo whole (ends 2) old now pending report.pending.items
 
-led : (turn : Turn) (whole : Outcome) (o : Origin) (course : Course) (new : Phase)
+led : (turn : Turn) (whole : RunOutcome) (o : Origin) (course : Course) (new : Phase)
     (before after : Report) (text rest : List ℕ) (left was now : Option (List ℕ))
     (pending : List ℕ) → left ≡ Some rest
     → Steps turn (course_step o course before.last.items text) new o before after
@@ -218,7 +218,7 @@ led (turns.Bad fault) whole o course new before after text rest left was now pen
     (outcome-ends o course last text (script_lines rest) 2 bad.0) leads)
 
 -- what a turn on the line at hand leaves to come
-pub turned : (turn : Turn) (whole : Outcome) (o : Origin) (old new : Phase)
+pub turned : (turn : Turn) (whole : RunOutcome) (o : Origin) (old new : Phase)
     (before after : Report) (line text : List ℕ) (left was now : Option (List ℕ))
     (pending : List ℕ) → text ≡ bare line
     → ((o : Origin) (course : Course) → PhaseRunsOn old o course
@@ -234,7 +234,7 @@ turned turn whole o old new before after line text left was now pending shown st
     (sym shown) leads)
 
 -- what is printed is handed on
-pub handed-on : (whole : Outcome) (o : Origin) (run : Phase) (last still : List ℕ)
+pub handed-on : (whole : RunOutcome) (o : Origin) (run : Phase) (last still : List ℕ)
     (left was now new : Option (List ℕ)) (pending before after : List ℕ)
     → Behind whole o run last left was now pending before → still ≡ last
     → HandsOn now new before after → Behind whole o run still left was new pending after
@@ -250,7 +250,7 @@ handed-on whole o run last still left was now new pending before after
     )
 
 -- the next line is read
-pub next-at-hand : (whole : Outcome) (o : Origin) (run : Phase) (last line : List ℕ)
+pub next-at-hand : (whole : RunOutcome) (o : Origin) (run : Phase) (last line : List ℕ)
     (left later was now : Option (List ℕ)) (pending after : List ℕ)
     → Behind whole o run last left was now pending after
     → IfSome left (λ text. TakesLine true line text later)
@@ -267,7 +267,7 @@ next-at-hand whole o run last line left later was now pending after
     )
 
 -- none is left
-pub none-at-hand : (whole : Outcome) (o : Origin) (run : Phase) (last line : List ℕ)
+pub none-at-hand : (whole : RunOutcome) (o : Origin) (run : Phase) (last line : List ℕ)
     (left later was now : Option (List ℕ)) (pending after : List ℕ)
     → Behind whole o run last left was now pending after
     → IfSome left (λ text. TakesLine false line text later)
@@ -283,13 +283,13 @@ none-at-hand whole o run last line left later was now pending after
 -- range lines
 
 -- of a whole script this is still to come, where the line at hand is in front
-abbrev pub StillOpens : Bool → Outcome → OpeningPhase → List ℕ → Option (List ℕ) → Type 0
+abbrev pub StillOpens : Bool → RunOutcome → OpeningPhase → List ℕ → Option (List ℕ) → Type 0
 StillOpens on_port whole phase line left =
     (text : List ℕ) × (left ≡ Some text)
     × (whole ≡ outcome_from on_port phase (bare line ∷ script_lines text))
 
 -- or with no line at hand
-abbrev pub OpensOn : Bool → Outcome → OpeningPhase → Option (List ℕ) → Type 0
+abbrev pub OpensOn : Bool → RunOutcome → OpeningPhase → Option (List ℕ) → Type 0
 OpensOn on_port whole phase left =
     (text : List ℕ) × (left ≡ Some text) × (whole ≡ outcome_from on_port phase (script_lines text))
 
@@ -300,14 +300,14 @@ opens-all None on_port phase line = tt
 opens-all (Some text) on_port phase line = (text, refl, refl)
 
 -- what a turn leaves to come
-abbrev pub OpeningLeads : Bool → OpeningTurn → Outcome → List ℕ → Option (List ℕ) → Type 0
+abbrev pub OpeningLeads : Bool → OpeningTurn → RunOutcome → List ℕ → Option (List ℕ) → Type 0
 OpeningLeads on_port (openings.Goes next) whole line left = OpensOn on_port whole next left
 OpeningLeads on_port (openings.Runs run) whole line left =
     (o : Origin) × (rest : List ℕ) × PhaseRunsOn run o (start on_port) × (left ≡ Some rest)
     × (whole ≡ outcome_on o (start on_port) [] (bare line ∷ script_lines rest))
 OpeningLeads on_port (openings.Bad fault) whole line left = whole ≡ ends 2
 
-row-led : (on_port : Bool) (row : Option RangeRow) (turn : OpeningTurn) (whole : Outcome)
+row-led : (on_port : Bool) (row : Option RangeRow) (turn : OpeningTurn) (whole : RunOutcome)
     (phase : OpeningPhase) (line rest : List ℕ) (left : Option (List ℕ)) → left ≡ Some rest
     → OpensBy on_port phase row turn
     → whole ≡ opened_by (λ next. outcome_from on_port next (script_lines rest))
@@ -329,7 +329,7 @@ row-led on_port None (openings.Runs run) whole phase line rest left is does all 
 row-led on_port None (openings.Bad fault) whole phase line rest left is does all = absurd does
 
 line-led : (on_port : Bool) (read : Result (Option RangeRow) LineFault) (turn : OpeningTurn)
-    (whole : Outcome) (phase : OpeningPhase) (line rest : List ℕ) (left : Option (List ℕ))
+    (whole : RunOutcome) (phase : OpeningPhase) (line rest : List ℕ) (left : Option (List ℕ))
     → left ≡ Some rest → row_said on_port (bare line) ≡ read
     → ((row : Option RangeRow) → row_said on_port (bare line) ≡ Ok row → OpensBy on_port phase row turn)
     → ((fault : LineFault) → row_said on_port (bare line) ≡ Err fault → turn ≡ openings.Bad (faults.Line fault))
@@ -342,7 +342,7 @@ line-led on_port (Err fault) turn whole phase line rest left is reads does bad a
     subst (λ turn. OpeningLeads on_port turn whole line left) (sym (bad fault reads)) all
 
 -- what a turn on the line at hand leaves to come
-pub opening-turned : {E : Type 0} (on_port : Bool) (turn : OpeningTurn) (whole : Outcome)
+pub opening-turned : {E : Type 0} (on_port : Bool) (turn : OpeningTurn) (whole : RunOutcome)
     (phase : OpeningPhase) (line text : List ℕ) (left : Option (List ℕ)) → text ≡ bare line
     → StillOpens on_port whole phase line left
     → ((row : Option RangeRow) → row_said on_port text ≡ Ok row → OpensBy on_port phase row turn)
@@ -357,7 +357,7 @@ opening-turned on_port turn whole phase line text left shown (all, is, comes) do
     comes
 
 -- the next line is read
-pub next-opens : (on_port : Bool) (whole : Outcome) (phase : OpeningPhase) (line : List ℕ)
+pub next-opens : (on_port : Bool) (whole : RunOutcome) (phase : OpeningPhase) (line : List ℕ)
     (left later : Option (List ℕ)) → OpensOn on_port whole phase left
     → IfSome left (λ text. TakesLine true line text later)
     → StillOpens on_port whole phase line later
@@ -366,7 +366,7 @@ next-opens on_port whole phase line left later (text, is, comes) takes =
     (drop_through 10 text, first.0, comes ∙ ap (outcome_from on_port phase) first.1)
 
 -- none is left
-pub nothing-opens : (on_port : Bool) (whole : Outcome) (phase : OpeningPhase) (line : List ℕ)
+pub nothing-opens : (on_port : Bool) (whole : RunOutcome) (phase : OpeningPhase) (line : List ℕ)
     (left later : Option (List ℕ)) → OpensOn on_port whole phase left
     → IfSome left (λ text. TakesLine false line text later) → whole ≡ ends 0
 unfolding outcome_from lines_of_text
@@ -382,7 +382,7 @@ pub no-first : (line : List ℕ) (old new : Option (List ℕ))
     → IfSome old (λ text. FirstLine None text line new)
 unfolding lines_of_text
 no-first line None new takes = tt
-no-first line (Some text) new takes = λ config. ap (outcome_of config) takes
+no-first line (Some text) new takes = λ config. ap (run_outcome_of config) takes
 
 -- it is one of a script on a drive
 pub drive-first : (line shown : List ℕ) (old new : Option (List ℕ))
@@ -403,7 +403,7 @@ drive-first line shown (Some text) new takes is other =
 port-comes : (line : List ℕ) (text : List ℕ) (new : Option (List ℕ)) (shown : List ℕ)
     → TakesLine true line text new → shown ≡ bare line → is_port_line shown ≡ true
     → (config : Config)
-    → outcome_of config text ≡ outcome_from true (Factory config) (script_lines (drop_through 10 text))
+    → run_outcome_of config text ≡ outcome_from true (Factory config) (script_lines (drop_through 10 text))
 port-comes line text new shown takes is port config =
     let first = taken (Some text) new line text refl takes in
     ap (outcome_of_lines config) first.1
@@ -440,7 +440,7 @@ port-alone line next shown (Some text) now new takes is port more =
 pub first-opens : (on_port : Bool) (config : Config) (opened : Opened) (text first line : List ℕ)
     (left later : Option (List ℕ)) → FirstLine (Some on_port) text first left
     → LinesOpenTo on_port opened (Factory config) first left line later
-    → OpensTo on_port opened (outcome_of config text) line later
+    → OpensTo on_port opened (run_outcome_of config text) line later
 first-opens on_port config opened text first line left later (rest, is, comes) opens =
     subst (λ whole. OpensTo on_port opened whole line later) (sym (comes config))
     (subst
@@ -452,14 +452,14 @@ first-opens on_port config opened text first line left later (rest, is, comes) o
 -- a whole script
 
 -- the range lines end it
-pub opened-ends : (whole : Outcome) (status : ℕ) (bytes : Option (List ℕ)) (pending : List ℕ)
+pub opened-ends : (whole : RunOutcome) (status : ℕ) (bytes : Option (List ℕ)) (pending : List ℕ)
     → whole ≡ ends status → LeadsTo whole (ends status) bytes bytes pending pending
 opened-ends whole status bytes pending is =
     subst (λ later. LeadsTo whole later bytes bytes pending pending) is
     (all-to-come whole bytes pending)
 
 -- the lines behind them do
-pub opened-runs : (on_port : Bool) (whole later : Outcome) (run : Phase) (last line : List ℕ)
+pub opened-runs : (on_port : Bool) (whole later : RunOutcome) (run : Phase) (last line : List ℕ)
     (left was now : Option (List ℕ)) (pending after : List ℕ)
     → ((o : Origin) × (text : List ℕ) × PhaseRunsOn run o (start on_port) × (left ≡ Some text)
     × (whole ≡ outcome_on o (start on_port) [] (bare line ∷ script_lines text)))
@@ -481,42 +481,42 @@ opened-runs on_port whole later run last line left was now pending after (o, tex
 
 -- a status is told, and what was pending is handed on
 pub yields-so : {E : Type 0} (r : Result ℕ E) (end : End) (start : Option (List ℕ))
-    (whole : List ℕ → Outcome) (old now new : Option (List ℕ)) (before pending : List ℕ)
-    → IfOk r (λ status. status ≡ status_of end) → before ≡ [] → Appends now new pending
-    → IfSome start (λ text. LeadsTo (whole text) (ends (status_of end)) old now before pending)
+    (whole : List ℕ → RunOutcome) (old now new : Option (List ℕ)) (before pending : List ℕ)
+    → IfOk r (λ status. status ≡ exit_status end) → before ≡ [] → Appends now new pending
+    → IfSome start (λ text. LeadsTo (whole text) (ends (exit_status end)) old now before pending)
     → IfOk r (λ status. IfSome start (λ text. Yields (whole text) status old new))
 yields-so (Err e) end start whole old now new before pending told none appends leads = told
 yields-so (Ok status) end None whole old now new before pending told none appends leads = tt
 yields-so (Ok status) end (Some text) whole old now new before pending told none appends leads =
     let yields =
-    all-written (whole text) (status_of end) old now new pending
-    (subst (λ before. LeadsTo (whole text) (ends (status_of end)) old now before pending) none
+    all-written (whole text) (exit_status end) old now new pending
+    (subst (λ before. LeadsTo (whole text) (ends (exit_status end)) old now before pending) none
     leads)
     appends in
     (told ∙ yields.0, yields.1)
 
 -- what was pending is handed on behind the lines, whatever ended them
 pub answered-so : (r ended : Result End RunError) (failed : RunError) (from : Option (List ℕ))
-    (whole : List ℕ → Outcome) (old now new : Option (List ℕ)) (before pending : List ℕ)
+    (whole : List ℕ → RunOutcome) (old now new : Option (List ℕ)) (before pending : List ℕ)
     → ((r ≡ ended) × Appends now new pending) ⊎ (r ≡ Err failed) → before ≡ []
     → IfOk ended (λ end. IfSome from
-    (λ text. LeadsTo (whole text) (ends (status_of end)) old now before pending))
-    → IfOk r (λ end. IfSome from (λ text. Yields (whole text) (status_of end) old new))
+    (λ text. LeadsTo (whole text) (ends (exit_status end)) old now before pending))
+    → IfOk r (λ end. IfSome from (λ text. Yields (whole text) (exit_status end) old new))
 answered-so r (Ok end) failed from whole old now new before pending (inl (is, appends)) none leads =
-    let told : Result ℕ RunError = Ok (status_of end) in
-    subst (λ r. IfOk r (λ end. IfSome from (λ text. Yields (whole text) (status_of end) old new)))
+    let told : Result ℕ RunError = Ok (exit_status end) in
+    subst (λ r. IfOk r (λ end. IfSome from (λ text. Yields (whole text) (exit_status end) old new)))
     (sym is)
     (yields-so told end from whole old now new before pending refl none appends leads)
 answered-so r (Err e) failed from whole old now new before pending (inl (is, appends)) none leads =
-    subst (λ r. IfOk r (λ end. IfSome from (λ text. Yields (whole text) (status_of end) old new)))
+    subst (λ r. IfOk r (λ end. IfSome from (λ text. Yields (whole text) (exit_status end) old new)))
     (sym is) tt
 answered-so r ended failed from whole old now new before pending (inr is) none leads =
-    subst (λ r. IfOk r (λ end. IfSome from (λ text. Yields (whole text) (status_of end) old new)))
+    subst (λ r. IfOk r (λ end. IfSome from (λ text. Yields (whole text) (exit_status end) old new)))
     (sym is) tt
 
 -- the status that is told is that of the end
 pub told-so : {E : Type 0} (r : Result ℕ E) (status : ℕ) (from : Option (List ℕ))
-    (whole : List ℕ → Outcome) (old new : Option (List ℕ))
+    (whole : List ℕ → RunOutcome) (old new : Option (List ℕ))
     → IfOk r (λ told. told ≡ status)
     → IfSome from (λ text. Yields (whole text) status old new)
     → IfOk r (λ told. IfSome from (λ text. Yields (whole text) told old new))

@@ -10,10 +10,10 @@ use Rattle.history.specs.Opening.{Origin}
 use Rattle.port.specs.Agreement.{PortAgrees}
 use Rattle.fis.specs.Tags.{slot_count}
 use Rattle.port.specs.Answers.{stage_at}
-use Rattle.port.specs.State.{State}
+use Rattle.port.specs.State.{PortState}
 use Rattle.port_history.specs.Refusals.{refusal, IsRefusedBy}
 use Rattle.port_history.specs.Requests.{no_bytes}
-use Rattle.port_history.specs.Stages.{put_in}
+use Rattle.port_history.specs.Stages.{put_at}
 use Rattle.history.specs.Audit.{line_for}
 use Rattle.port_history.specs.Steps.{Effect, moment, trace, stage, answer, audit, line_of, client_of}
 use Rattle.port_history.specs.declared.error.PortError.{PortError}
@@ -66,7 +66,7 @@ stepped-so A (Err error) refused old new o list step before after (inl memory) r
 stepped-so A (Err error) refused old new o list step before after (inr is) runs does kept prints =
     subst (λ (r : Option PortError). PortHas new o before after (stepped o list step r))
     (sym is) (record {
-      runs = subst (λ (port : State). PortAgrees port o list) (sym kept) runs;
+      runs = subst (λ (port : PortState). PortAgrees port o list) (sym kept) runs;
       prints = prints.prints;
     })
 
@@ -176,7 +176,7 @@ accept-so (Err error) old new o list tag before mid after refused agrees kept pr
       told = prints.told;
       prints = prints-none before mid after (refused_lines error) prints.prints
           (subst (λ (lines : List (List ℕ)). Prints mid after lines)
-          (ap (λ (port : State). audit_lines (slice_get port.audit (length old.port.audit))) kept
+          (ap (λ (port : PortState). audit_lines (slice_get port.audit (length old.port.audit))) kept
           ∙ ap audit_lines
           (slice_get_past old.port.audit (length old.port.audit) (omega arith)))
           later);
@@ -185,7 +185,7 @@ accept-so (Err error) old new o list tag before mid after refused agrees kept pr
 -- a client takes its answer: what is printed goes by the command that was put in the slot
 pub take-so : (done : Result (ℕ × Answer) PortError) (old new : PortPhase) (o : Origin)
     (list : List Step) (client tag : ℕ) (at : Stage) (put : Option Put) (before after : Report)
-    → at ≡ stage_at old.port.slots tag → put ≡ put_in at
+    → at ≡ stage_at old.port.slots tag → put ≡ put_at at
     → ((o : Origin) (list : List Step) → PortAgrees old.port o list
     → IsRefusedBy (refusal (trace o list) (steps.Take client tag)) done)
     → OnOk done ((o : Origin) (list : List Step) → PortAgrees old.port o list
@@ -198,14 +198,14 @@ pub take-so : (done : Result (ℕ × Answer) PortError) (old new : PortPhase) (o
 take-so (Ok r) old new o list client tag at put before after is puts refused agrees kept answers
     prints runs =
     let within : tag < slot_count = ltb-true tag slot_count (agrees o list runs).lawful.0 in
-    let served : put ≡ put_in (stage (trace o list) tag) =
-    puts ∙ ap put_in (is ∙ (runs.tags tag within).stands) in
+    let served : put ≡ put_at (stage (trace o list) tag) =
+    puts ∙ ap put_at (is ∙ (runs.tags tag within).stands) in
     let given = (answers o list runs).1 in
     step-so (ℕ × Answer) (λ (r : ℕ × Answer). taken_text put r.1) (Ok r) old new o list
     (steps.Take client tag)
     before after refused agrees kept
     (ap (λ (put : Option Put). taken_text put r.1 ∷ []) served
-    ∙ ap (λ (a : Answer). taken_text (put_in (stage (trace o list) tag)) a ∷ []) given)
+    ∙ ap (λ (a : Answer). taken_text (put_at (stage (trace o list) tag)) a ∷ []) given)
     prints runs
 take-so (Err error) old new o list client tag at put before after is puts refused agrees kept
     answers prints runs =

@@ -19,25 +19,25 @@ use Rattle.fis.specs.H2d.{h2d_at, IsH2dSpelling}
 use Rattle.trusted_cmds.specs.Commands.{fis_of}
 use Rattle.history.specs.Facts.{Facts, facts}
 use Rattle.fis.specs.declared.h2d.RegH2d.{RegH2d}
-use Rattle.script_lines.specs.Texts.{Prints, failure_text, denial_lines}
+use Rattle.script_lines.specs.Texts.{Prints, command_failure_text, denial_lines}
 use Rattle.drive.specs.State.{Agrees}
 use Rattle.drive.specs.Answers.{IsAnswer}
-use Rattle.tool.specs.Effects.{Effect, RunsOn, Stands, Has, Accepts, completed, failed, transferred, served_text, answer_text, told_lines, commanded, Does}
+use Rattle.tool.specs.Effects.{LineEffect, RunsOn, IsReached, Has, Accepts, completion_effect, failure_effect, transferred, served_text, answer_text, told_lines, command_effect, Does}
 use Rattle.drive.specs.declared.answer.Accepted.{Accepted}
 use Rattle.script_lines.specs.declared.line.Transfer.{Transfer}
-use Rattle.history.specs.Answers.{failed as failed_status, status_of, is_holding}
+use Rattle.history.specs.Answers.{errored as failed_status, status_of, is_holding}
 use Rattle.history.specs.Tcg.{answer_data}
 use Rattle.tool.specs.declared.running.Turn.{Turn}
 use Rattle.tool.specs.declared.running.RunningPhase.{RunningPhase}
 use Rattle.trusted_cmds.specs.declared.command.Command.{Command}
 
-has-run : (new : RunningPhase) (o : Origin) (before after : Report) (effect : Effect)
-    → Has new o before after effect → Stands new
+has-run : (new : RunningPhase) (o : Origin) (before after : Report) (effect : LineEffect)
+    → Has new o before after effect → IsReached new
 has-run new o before after effect has = (o, effect.acts, has.runs)
 
 doing : (line : told.Line) (text : List ℕ) (turn : Turn) (old new : RunningPhase) (o : Origin)
     (acts : List Act) (before after : Report)
-    → RunsOn old o acts → Does line text turn old new o acts before after → Stands new
+    → RunsOn old o acts → Does line text turn old new o acts before after → IsReached new
 doing (lines.Read transfer) text turn old new o acts before after runs does =
     has-run new o before after _ does.0
 doing (lines.Write transfer byte) text turn old new o acts before after runs does =
@@ -66,10 +66,10 @@ doing (lines.Range row) text turn old new o acts before after runs does =
 -- behind a line the drive is again as an origin and acts leave it
 pub stands-after : {E : Type 0} (r : Result Turn E) (line : told.Line) (text : List ℕ)
     (old new : RunningPhase) (before after : Report)
-    → Stands old
+    → IsReached old
     → IfOk r
     (λ turn. (o : Origin) (acts : List Act) → RunsOn old o acts
-    → Does line text turn old new o acts before after) → OnOk r (Stands new)
+    → Does line text turn old new o acts before after) → OnOk r (IsReached new)
 stands-after (Ok turn) line text old new before after (o, acts, runs) does =
     doing line text turn old new o acts before after runs (does o acts runs)
 stands-after (Err e) line text old new before after stands does = does
@@ -106,7 +106,7 @@ pub held-then : (new mid : RunningPhase) (o : Origin) (acts : List Act) (command
     (accepted : Accepted) (payload : List ℕ) → payload ≡ [] → accepted.held ≡ true
     → Accepts mid o acts command transfer.tag payload accepted
     → ((o : Origin) (acts : List Act) → RunsOn mid o acts
-    → Has new o before after (completed o acts transfer.tag byte))
+    → Has new o before after (completion_effect o acts transfer.tag byte))
     → Has new o before after (transferred o acts command transfer byte)
 held-then new mid o acts command transfer byte before after accepted payload none held accepts
     serves =
@@ -117,7 +117,7 @@ held-then new mid o acts command transfer byte before after accepted payload non
     let later = accept_of command transfer.tag [] ∷ acts in
     subst
     (λ h. Has new o before after
-    (if h then completed o later transfer.tag byte else failed later transfer.client made))
+    (if h then completion_effect o later transfer.tag byte else failure_effect later transfer.client made))
     (sym is_held) (serves o later at.runs)
 
 -- a drive that was given the bytes of a command's FIS has accepted the command
@@ -142,7 +142,7 @@ accepts-so new n o acts command tag bytes given payload answered same spelt coun
 -- the first line of an answer, by its fields and by its event
 first-so : (command : Command) (fails : Option ℕ) (status code : ℕ) (bytes held : List ℕ)
     → status ≡ status_of fails → code ≡ unwrap_or fails 0 → bytes ≡ held
-    → (if status == failed_status then failure_text status code else served_text command bytes) ≡
+    → (if status == failed_status then command_failure_text status code else served_text command bytes) ≡
     answer_text command fails held
 first-so command None status code bytes held s c b = rw (s, b) refl
 first-so command (Some n) status code bytes held s c b = rw (s, c) refl
@@ -164,7 +164,7 @@ answered-then : (new : RunningPhase) (o : Origin) (acts : List Act) (client : �
     (payload : List ℕ) (before after : Report)
     (answer : Accepted) → Accepts new o acts command 0 payload answer
     → Prints before after (told_lines new.acts client command answer)
-    → Has new o before after (commanded o acts client command payload)
+    → Has new o before after (command_effect o acts client command payload)
 answered-then new o acts client command payload before after answer accepts prints =
     let made = event o (log o acts) (accept_of command 0 payload) in
     record {
@@ -184,7 +184,7 @@ pub command-then : (new : RunningPhase) (o : Origin) (acts : List Act) (client :
     (before after : Report) (answer : Accepted) → tag ≡ 0 → given ≡ payload
     → Accepts new o acts command tag given answer
     → Prints before after (told_lines new.acts client command answer)
-    → Has new o before after (commanded o acts client command payload)
+    → Has new o before after (command_effect o acts client command payload)
 command-then new o acts client command tag given payload before after answer none same accepts
     prints =
     answered-then new o acts client command payload before after answer

@@ -6,7 +6,7 @@ use Rattle.history.specs.Opening.{Origin}
 use Rattle.history.specs.Events.{Event}
 use Rattle.history.specs.History.{Act}
 use Rattle.port_history.specs.declared.step.Step.{Step}
-use Rattle.script_lines.specs.Lines.{line_of, expected_text}
+use Rattle.script_lines.specs.Lines.{line_said, expected_text}
 use Rattle.script_lines.specs.PortLines.{port_line_of}
 use Rattle.script_lines.specs.declared.fault.LineFault.{LineFault}
 use Rattle.script_lines.specs.declared.line.Line as told
@@ -14,8 +14,8 @@ use Rattle.script_lines.specs.declared.line.Line.TheVariants as lines
 use Rattle.script_lines.specs.declared.port_line.PortLine as told_of_port
 use Rattle.script_lines.specs.declared.port_line.PortLine.TheVariants as port_lines
 use Rattle.script_lines.specs.declared.report.Report.{Report}
-use Rattle.tool.specs.Courses.{Course, OnDrive, OnPort, Advances, DriveSteps, PhaseRunsOn, course_step, on_drive, on_port, step, step_by, port_step, port_step_by}
-use Rattle.tool.specs.Effects.{Effect, RunsOn, Has, GoesTruly, Does}
+use Rattle.tool.specs.Courses.{Course, OnDrive, OnPort, Advances, DriveSteps, PhaseRunsOn, course_step, goes_on_drive, on_port, line_course, step_by, port_step, port_step_by}
+use Rattle.tool.specs.Effects.{LineEffect, RunsOn, Has, GoesTruly, Does}
 use Rattle.tool.specs.PortEffects.{PortEffect, PortRunsOn, PortHas, PortDoes}
 use Rattle.tool.specs.Progress.{Steps}
 use Rattle.tool.specs.declared.ending.Fault.TheVariants as faults
@@ -28,7 +28,7 @@ use Rattle.tool.specs.declared.running.Turn.TheVariants as turns
 
 -- a turn that goes on has the effect of its line
 goes-so : (turn : Turn) (past : List Event) (new : RunningPhase) (o : Origin)
-    (before after : Report) (effect : Effect) → GoesTruly turn past → Has new o before after effect
+    (before after : Report) (effect : LineEffect) → GoesTruly turn past → Has new o before after effect
     → DriveSteps turn (Ok effect) new o before after
 goes-so (turns.Goes aborted) past new o before after effect goes has = has
 goes-so turns.ExpectationFailed past new o before after effect goes has = absurd goes
@@ -89,24 +89,24 @@ does-so (lines.Range row) text turn old new o acts before after runs does =
 
 -- what a line does is its step
 pub steps-after : {E : Type 0} (r : Result Turn E) (line : told.Line) (text : List ℕ)
-    (old new : RunningPhase) (before after : Report) → line_of text ≡ Ok line
+    (old new : RunningPhase) (before after : Report) → line_said text ≡ Ok line
     → IfOk r
     (λ turn. (o : Origin) (acts : List Act) → RunsOn old o acts
     → Does line text turn old new o acts before after)
     → IfOk r
     (λ turn. (o : Origin) (acts : List Act) → RunsOn old o acts
-    → DriveSteps turn (step o acts before.last.items text (line_of text)) new o before after)
+    → DriveSteps turn (line_course o acts before.last.items text (line_said text)) new o before after)
 steps-after (Ok turn) line text old new before after reads does = λ o acts runs.
     subst
-    (λ read. DriveSteps turn (step o acts before.last.items text read) new o before after)
+    (λ read. DriveSteps turn (line_course o acts before.last.items text read) new o before after)
     (sym reads)
     (does-so line text turn old new o acts before after runs (does o acts runs))
 steps-after (Err e) line text old new before after reads does = does
 
 -- a drive among what a script runs on
-pub drive-steps : (turn : Turn) (result : Result Effect ℕ) (new : RunningPhase) (o : Origin)
+pub drive-steps : (turn : Turn) (result : Result LineEffect ℕ) (new : RunningPhase) (o : Origin)
     (before after : Report) → DriveSteps turn result new o before after
-    → Steps turn (on_drive result) (phases.Drive new) o before after
+    → Steps turn (goes_on_drive result) (phases.Drive new) o before after
 drive-steps (turns.Goes aborted) (Ok effect) new o before after has =
     record { runs = has.runs; prints = has.prints }
 drive-steps (turns.Goes aborted) (Err status) new o before after is = absurd is
@@ -210,7 +210,7 @@ pub drive-turn : {E : Type 0} (r : Result Turn E) (phase : Phase) (old new : Run
     (text : List ℕ) (before after : Report) → phase ≡ phases.Drive old
     → IfOk r
     (λ turn. (o : Origin) (acts : List Act) → RunsOn old o acts
-    → DriveSteps turn (step o acts before.last.items text (line_of text)) new o before after)
+    → DriveSteps turn (line_course o acts before.last.items text (line_said text)) new o before after)
     → IfOk r
     (λ turn. (o : Origin) (course : Course) → PhaseRunsOn phase o course
     → Steps turn (course_step o course before.last.items text) (phases.Drive new) o before after)
@@ -220,7 +220,7 @@ drive-turn (Ok turn) phase old new text before after is does =
     by-course : (o : Origin) (course : Course) → PhaseRunsOn (phases.Drive old) o course
         → Steps turn (course_step o course before.last.items text) (phases.Drive new) o before after
     by-course o (OnDrive acts) runs =
-        drive-steps turn (step o acts before.last.items text (line_of text)) new o before after
+        drive-steps turn (line_course o acts before.last.items text (line_said text)) new o before after
         (does o acts runs)
     by-course o (OnPort list) runs = absurd runs
 drive-turn (Err e) phase old new text before after is does = does

@@ -8,7 +8,7 @@ use Rattle.history.specs.Answers.{expected}
 use Rattle.history.specs.Events.{Event}
 use Rattle.history.specs.History.{Act, Accept, Complete, Reset as reset_act}
 use Rattle.history.specs.Readers.{held}
-use Rattle.history.specs.Resets.{kind_of}
+use Rattle.history.specs.Resets.{reset_kind_number}
 use Rattle.history.specs.declared.reset.ResetKind.{ResetKind}
 use Rattle.history.specs.declared.reset.ResetKind.TheVariants.{Power, Hardware}
 use Rattle.port_history.specs.Requests.{command_fis}
@@ -51,11 +51,11 @@ abbrev pub com_id_protocol : ℕ
 com_id_protocol = 1
 
 -- how many blocks so many bytes take, and bytes with zeros behind them to the end of a block
-abbrev pub blocks_of : ℕ → ℕ
-blocks_of size = (size + (sector_size - 1)) / sector_size
+abbrev pub block_count : ℕ → ℕ
+block_count size = (size + (sector_size - 1)) / sector_size
 
 abbrev pub in_blocks : List ℕ → List ℕ
-in_blocks bytes = sized (sector_size * blocks_of (length bytes)) bytes
+in_blocks bytes = sized (sector_size * block_count (length bytes)) bytes
 
 -- the trusted commands, whose data go by DMA
 abbrev pub send_of : ℕ → ℕ → Command
@@ -76,5 +76,5 @@ abbrev pub kind_named : Reset → ResetKind
 kind_named resets.Power = Power
 kind_named resets.Hardware = Hardware
 
-abbrev pub reset_of : Reset → Act
-reset_of kind = reset_act (kind_of (kind_named kind))
+abbrev pub act_of_reset : Reset → Act
+act_of_reset kind = reset_act (reset_kind_number (kind_named kind))

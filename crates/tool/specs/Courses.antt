@@ -4,7 +4,7 @@ use Rattle.std.specs.Str.{bytes_eq}
 use Rattle.history.specs.Opening.{Origin}
 use Rattle.history.specs.History.{Act}
 use Rattle.port_history.specs.declared.step.Step.{Step}
-use Rattle.script_lines.specs.Lines.{line_of, expected_text}
+use Rattle.script_lines.specs.Lines.{line_said, expected_text}
 use Rattle.script_lines.specs.PortLines.{port_line_of}
 use Rattle.script_lines.specs.Texts.{Prints}
 use Rattle.script_lines.specs.declared.fault.LineFault.{LineFault}
@@ -13,7 +13,7 @@ use Rattle.script_lines.specs.declared.line.Line.TheVariants as lines
 use Rattle.script_lines.specs.declared.port_line.PortLine as told_of_port
 use Rattle.script_lines.specs.declared.port_line.PortLine.TheVariants as port_lines
 use Rattle.script_lines.specs.declared.report.Report.{Report}
-use Rattle.tool.specs.Effects.{Effect, Has, RunsOn, effect_of}
+use Rattle.tool.specs.Effects.{LineEffect, Has, RunsOn, effect_of}
 use Rattle.tool.specs.PortEffects.{PortEffect, PortRunsOn, port_effect_of}
 use Rattle.tool.specs.declared.phase.Phase.{Phase}
 use Rattle.tool.specs.declared.phase.Phase.TheVariants as phases
@@ -23,17 +23,17 @@ use Rattle.tool.specs.declared.running.Turn.TheVariants as turns
 
 -- what a line does that says this, or the status that it ends the run with: a `range` line comes
 -- too late, and an `expect` line asks for the last printed line
-abbrev pub step_by : Origin → List Act → List ℕ → List ℕ → told.Line → Result Effect ℕ
+abbrev pub step_by : Origin → List Act → List ℕ → List ℕ → told.Line → Result LineEffect ℕ
 step_by o acts last text (lines.Range row) = Err 2
 step_by o acts last text lines.Expect =
     if bytes_eq last (expected_text text) then Ok (effect_of o acts lines.Expect) else Err 1
 step_by o acts last text line = Ok (effect_of o acts line)
 
 -- a line that says nothing ends the run
-abbrev pub step : Origin → List Act → List ℕ → List ℕ → Result told.Line LineFault
-    → Result Effect ℕ
-step o acts last text (Ok line) = step_by o acts last text line
-step o acts last text (Err fault) = Err 2
+abbrev pub line_course : Origin → List Act → List ℕ → List ℕ → Result told.Line LineFault
+    → Result LineEffect ℕ
+line_course o acts last text (Ok line) = step_by o acts last text line
+line_course o acts last text (Err fault) = Err 2
 
 -- the same of a line of a port script
 abbrev pub port_step_by : Origin → List Step → List ℕ → List ℕ → told_of_port.PortLine
@@ -64,9 +64,9 @@ pub record Advance : Type 0 where
   pub course : Course
   pub lines : List (List ℕ)
 
-abbrev pub on_drive : Result Effect ℕ → Result Advance ℕ
-on_drive (Ok effect) = Ok (record { course = OnDrive effect.acts; lines = effect.lines })
-on_drive (Err status) = Err status
+abbrev pub goes_on_drive : Result LineEffect ℕ → Result Advance ℕ
+goes_on_drive (Ok effect) = Ok (record { course = OnDrive effect.acts; lines = effect.lines })
+goes_on_drive (Err status) = Err status
 
 abbrev pub on_port : Result PortEffect ℕ → Result Advance ℕ
 on_port (Ok effect) = Ok (record { course = OnPort effect.steps; lines = effect.lines })
@@ -74,7 +74,8 @@ on_port (Err status) = Err status
 
 -- what a line makes of it, or the status that it ends the run with
 abbrev pub course_step : Origin → Course → List ℕ → List ℕ → Result Advance ℕ
-course_step o (OnDrive acts) last text = on_drive (step o acts last text (line_of text))
+course_step o (OnDrive acts) last text = goes_on_drive (line_course o acts last text
+    (line_said text))
 course_step o (OnPort list) last text = on_port (port_step o list last text (port_line_of text))
 
 -- a drive or a port is as its origin and the course leave it
@@ -94,7 +95,8 @@ pub record Advances (new : Phase) (o : Origin) (before after : Report)
   pub prints : Prints before after made.lines
 
 -- on a drive: a turn is what the line does, or the status that it ends the run with
-abbrev pub DriveSteps : Turn → Result Effect ℕ → RunningPhase → Origin → Report → Report → Type 0
+abbrev pub DriveSteps : Turn → Result LineEffect ℕ → RunningPhase → Origin → Report → Report
+    → Type 0
 DriveSteps (turns.Goes aborted) (Ok effect) new o before after = Has new o before after effect
 DriveSteps turns.ExpectationFailed (Err status) new o before after =
     (status ≡ 1) × (after ≡ before)

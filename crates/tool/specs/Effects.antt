@@ -12,27 +12,27 @@ use Rattle.history.specs.Events.{Event}
 use Rattle.history.specs.Facts.{facts}
 use Rattle.history.specs.History.{Act, log, event}
 use Rattle.history.specs.Readers.{held, failure}
-use Rattle.history.specs.Answers.{failed as failed_status, status_of, is_holding, completed_data}
+use Rattle.history.specs.Answers.{errored as failed_status, status_of, is_holding, completed_data}
 use Rattle.history.specs.Tcg.{answer_data}
 use Rattle.history.specs.Decisions.{discovery_com_id}
 use Rattle.drive.specs.State.{Agrees}
 use Rattle.drive.specs.Answers.{IsAnswer}
 use Rattle.drive.specs.declared.answer.Accepted.{Accepted}
-use Rattle.script_lines.specs.Texts.{Prints, done_text, data_text, hex_text, failure_text, denial_lines, refusal_lines}
+use Rattle.script_lines.specs.Texts.{Prints, done_text, data_text, hex_text, command_failure_text, denial_lines, refusal_lines}
 use Rattle.script_lines.specs.Lines.{expected_text}
 use Rattle.script_lines.specs.declared.line.Transfer.{Transfer}
 use Rattle.script_lines.specs.declared.line.Reset.{Reset}
 use Rattle.script_lines.specs.declared.report.Report.{Report}
 use Rattle.script_lines.specs.declared.line.Line as told
 use Rattle.script_lines.specs.declared.line.Line.TheVariants as lines
-use Rattle.tool.specs.Acts.{accept_of, completion, step_of, read_of, write_of, read_dma_of, write_dma_of, write_bytes, blocks_of, in_blocks, send_of, receive_of, tper_reset, zero_block, reset_of}
+use Rattle.tool.specs.Acts.{accept_of, completion, step_of, read_of, write_of, read_dma_of, write_dma_of, write_bytes, block_count, in_blocks, send_of, receive_of, tper_reset, zero_block, act_of_reset}
 use Rattle.tool.specs.declared.ending.Fault.TheVariants.{LateRange}
 use Rattle.tool.specs.declared.running.Turn.{Turn}
 use Rattle.tool.specs.declared.running.Turn.TheVariants.{Goes, ExpectationFailed, Bad}
 use Rattle.tool.specs.declared.running.RunningPhase.{RunningPhase}
 
 -- the acts so far, the newest first, and the lines that are printed
-pub record Effect : Type 0 where
+pub record LineEffect : Type 0 where
   pub acts : List Act
   pub lines : List (List ℕ)
 
@@ -41,12 +41,12 @@ abbrev pub RunsOn : RunningPhase → Origin → List Act → Type 0
 RunsOn run o acts = Agrees run.drive o acts × (run.acts ≡ step_of acts)
 
 -- there are an origin and acts that leave the drive so
-abbrev pub Stands : RunningPhase → Type 0
-Stands run = (o : Origin) × (acts : List Act) × RunsOn run o acts
+abbrev pub IsReached : RunningPhase → Type 0
+IsReached run = (o : Origin) × (acts : List Act) × RunsOn run o acts
 
 -- the drive has done the acts, and the lines are printed
 pub record Has (new : RunningPhase) (o : Origin) (before after : Report)
-    (effect : Effect) : Type 0 where
+    (effect : LineEffect) : Type 0 where
   pub runs : RunsOn new o effect.acts
   pub prints : Prints before after effect.lines
 
@@ -58,15 +58,15 @@ pub record Accepts (new : RunningPhase) (o : Origin) (acts : List Act) (command 
       (event o (log o acts) (accept_of command tag payload)) accepted
 
 -- what is held under a tag is completed, and its data are printed
-abbrev pub completed : Origin → List Act → ℕ → ℕ → Effect
-completed o acts tag byte = record {
+abbrev pub completion_effect : Origin → List Act → ℕ → ℕ → LineEffect
+completion_effect o acts tag byte = record {
   acts = completion (log o acts) tag byte ∷ acts;
   lines = data_text (completed_data (facts o (log o acts)) (held (log o acts) tag)) ∷ [];
 }
 
 -- a command failed: its failure is printed with what denied it, under the number of the act
-abbrev pub failed : List Act → ℕ → Event → Effect
-failed acts client made = record {
+abbrev pub failure_effect : List Act → ℕ → Event → LineEffect
+failure_effect acts client made = record {
   acts = acts;
   lines =
       refusal_lines (step_of acts) client (status_of made.failed)
@@ -74,82 +74,82 @@ failed acts client made = record {
 }
 
 -- a queued transfer is accepted, and completed where it is held
-abbrev pub once_accepted : Origin → List Act → Transfer → ℕ → Event → Effect
+abbrev pub once_accepted : Origin → List Act → Transfer → ℕ → Event → LineEffect
 once_accepted o acts transfer byte made =
-    if is_holding made.deed then completed o acts transfer.tag byte
-    else failed acts transfer.client made
+    if is_holding made.deed then completion_effect o acts transfer.tag byte
+    else failure_effect acts transfer.client made
 
-abbrev pub transferred : Origin → List Act → Command → Transfer → ℕ → Effect
+abbrev pub transferred : Origin → List Act → Command → Transfer → ℕ → LineEffect
 transferred o acts command transfer byte =
     once_accepted o (accept_of command transfer.tag [] ∷ acts) transfer byte
     (event o (log o acts) (accept_of command transfer.tag []))
 
 -- what a receive shows: on the ComID of Level 0 discovery its bytes, else the header of the
 -- ComPacket and the bytes that it counts
-abbrev pub shown : ℕ → List ℕ → List ℕ
-shown com_id bytes =
+abbrev pub shown_bytes : ℕ → List ℕ → List ℕ
+shown_bytes com_id bytes =
     if com_id == discovery_com_id then take DISCOVERY_LENGTH bytes
     else take (com_packet_size bytes) bytes
 
 -- what a command that was served prints of its data
 abbrev pub served_text : Command → List ℕ → List ℕ
 served_text (ReadDma lba count) bytes = data_text bytes
-served_text (Receive protocol com_id blocks dma) bytes = hex_text (shown com_id bytes)
+served_text (Receive protocol com_id blocks dma) bytes = hex_text (shown_bytes com_id bytes)
 served_text (ReadLog10 dma) bytes = hex_text bytes
 served_text _ bytes = done_text
 
 -- or that it failed
 abbrev pub answer_text : Command → Option ℕ → List ℕ → List ℕ
 answer_text command None bytes = served_text command bytes
-answer_text command (Some error) bytes = failure_text (status_of (Some error)) error
+answer_text command (Some error) bytes = command_failure_text (status_of (Some error)) error
 
 -- the same by the fields of an answer
 abbrev pub told_lines : ℕ → ℕ → Command → Accepted → List (List ℕ)
 told_lines step client command accepted =
-    (if accepted.status == failed_status then failure_text accepted.status accepted.error
+    (if accepted.status == failed_status then command_failure_text accepted.status accepted.error
     else served_text command accepted.bytes.items)
     ∷ denial_lines step client accepted.denied
 
 -- an unqueued command is accepted, and what came of it is printed, with what denied it under the
 -- number of the act
-abbrev pub answered : Origin → List Act → ℕ → Command → Act → Event → Effect
-answered o acts client command act made = record {
+abbrev pub unqueued_effect : Origin → List Act → ℕ → Command → Act → Event → LineEffect
+unqueued_effect o acts client command act made = record {
   acts = act ∷ acts;
   lines =
       answer_text command made.failed (answer_data (facts o (log o acts)) (fis_of command 0) made)
       ∷ denial_lines (step_of (act ∷ acts)) client made.denied;
 }
 
-abbrev pub commanded : Origin → List Act → ℕ → Command → List ℕ → Effect
-commanded o acts client command payload =
-    answered o acts client command (accept_of command 0 payload)
+abbrev pub command_effect : Origin → List Act → ℕ → Command → List ℕ → LineEffect
+command_effect o acts client command payload =
+    unqueued_effect o acts client command (accept_of command 0 payload)
     (event o (log o acts) (accept_of command 0 payload))
 
 -- bytes are sent to a ComID
-abbrev pub sends : Origin → List Act → ℕ → ℕ → List ℕ → Effect
+abbrev pub sends : Origin → List Act → ℕ → ℕ → List ℕ → LineEffect
 sends o acts client com_id bytes =
-    commanded o acts client (send_of com_id (blocks_of (length bytes))) (in_blocks bytes)
+    command_effect o acts client (send_of com_id (block_count (length bytes))) (in_blocks bytes)
 
 -- the drive is reset
-abbrev pub restarted : List Act → Reset → Effect
-restarted acts kind = record { acts = reset_of kind ∷ acts; lines = done_text ∷ [] }
+abbrev pub reset_effect : List Act → Reset → LineEffect
+reset_effect acts kind = record { acts = act_of_reset kind ∷ acts; lines = done_text ∷ [] }
 
 -- what a line does
-abbrev pub effect_of : Origin → List Act → told.Line → Effect
+abbrev pub effect_of : Origin → List Act → told.Line → LineEffect
 effect_of o acts (lines.Read transfer) = transferred o acts (read_of transfer) transfer 0
 effect_of o acts (lines.Write transfer byte) = transferred o acts (write_of transfer) transfer byte
 effect_of o acts (lines.ReadDma transfer) =
-    commanded o acts transfer.client (read_dma_of transfer) []
+    command_effect o acts transfer.client (read_dma_of transfer) []
 effect_of o acts (lines.WriteDma transfer byte) =
-    commanded o acts transfer.client (write_dma_of transfer) (write_bytes transfer byte)
+    command_effect o acts transfer.client (write_dma_of transfer) (write_bytes transfer byte)
 effect_of o acts (lines.Call client com_id session tokens) =
     sends o acts client com_id (frame_bytes com_id session tokens)
 effect_of o acts (lines.Send client com_id packet) = sends o acts client com_id packet
 effect_of o acts (lines.Receive client com_id blocks) =
-    commanded o acts client (receive_of com_id blocks) []
-effect_of o acts (lines.Log client) = commanded o acts client (ReadLog10 true) []
-effect_of o acts (lines.Reset client kind) = restarted acts kind
-effect_of o acts (lines.TperReset client) = commanded o acts client tper_reset zero_block
+    command_effect o acts client (receive_of com_id blocks) []
+effect_of o acts (lines.Log client) = command_effect o acts client (ReadLog10 true) []
+effect_of o acts (lines.Reset client kind) = reset_effect acts kind
+effect_of o acts (lines.TperReset client) = command_effect o acts client tper_reset zero_block
 effect_of o acts lines.Expect = record { acts = acts; lines = [] }
 effect_of o acts (lines.Range row) = record { acts = acts; lines = [] }
 
@@ -161,7 +161,7 @@ GoesTruly ExpectationFailed past = ⊥
 GoesTruly (Bad fault) past = ⊥
 
 -- a command does this on whatever origin and acts the drive stands
-abbrev pub Makes : (Origin → List Act → Effect) → RunningPhase → RunningPhase → Report → Report
+abbrev pub Makes : (Origin → List Act → LineEffect) → RunningPhase → RunningPhase → Report → Report
     → Turn → Type 0
 Makes effect old new before after turn =
     (o : Origin) (acts : List Act) → RunsOn old o acts → Has new o before after (effect o acts)

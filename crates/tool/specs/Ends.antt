@@ -6,10 +6,10 @@ use Rattle.tool.specs.declared.ending.End.TheVariants.{Done, ExpectationFailed, 
 use Rattle.tool.specs.declared.script.Opened.{Opened}
 use Rattle.tool.specs.declared.script.Opened.TheVariants.{Ended, Runs}
 
-abbrev pub status_of : End → ℕ
-status_of Done = 0
-status_of (ExpectationFailed line) = 1
-status_of (Bad line fault) = 2
+abbrev pub exit_status : End → ℕ
+exit_status Done = 0
+exit_status (ExpectationFailed line) = 1
+exit_status (Bad line fault) = 2
 
 -- what runs, where something does, is as an origin and a course leave it
 abbrev pub OpenedStands : Opened → Type 0

@@ -2,12 +2,12 @@
 use Rattle.std.specs.Prelude.{ℕ, List, [], ◌∷◌, ◌++◌}
 use Rattle.hex.specs.Hex.{encode_lower}
 use Rattle.sp_cells.specs.Config.{Config}
-use Rattle.sp_tables.specs.Contents.{look_up, factory_contents}
+use Rattle.sp_tables.specs.Contents.{cells_look_up, factory_contents}
 use Rattle.device_data.specs.Discovery.{discovery}
 
 -- its bytes in hex
 abbrev pub discovery_text : Config → List ℕ
-discovery_text config = encode_lower (discovery (look_up (factory_contents config)))
+discovery_text config = encode_lower (discovery (cells_look_up (factory_contents config)))
 
 -- as a line
 abbrev pub level0_text : Config → List ℕ

@@ -7,7 +7,7 @@ use Rattle.script_lines.specs.declared.line.Line.TheVariants.{Range}
 use Rattle.script_lines.specs.declared.port_line.PortLine.{PortLine}
 use Rattle.script_lines.specs.declared.port_line.PortLine.TheVariants as port_lines
 use Rattle.script_lines.specs.declared.fault.LineFault.{LineFault}
-use Rattle.script_lines.specs.Lines.{line_of}
+use Rattle.script_lines.specs.Lines.{line_said}
 use Rattle.script_lines.specs.PortLines.{port_line_of}
 use Rattle.locking.specs.declared.range.RangeRow.{RangeRow}
 use Rattle.sp_cells.specs.declared.error.SetError.{SetError}
@@ -42,17 +42,17 @@ RunsFrom on_port o (Runs run) = PhaseRunsOn run o (start on_port)
 RunsFrom on_port o (Bad fault) = ⊥
 
 -- the row of a range line
-abbrev pub row_in : Line → Option RangeRow
-row_in (Range row) = Some row
-row_in _ = None
+abbrev pub row_of_line : Line → Option RangeRow
+row_of_line (Range row) = Some row
+row_of_line _ = None
 
 abbrev pub row_in_port : PortLine → Option RangeRow
 row_in_port (port_lines.Range row) = Some row
 row_in_port _ = None
 
-abbrev pub said_of : Result Line LineFault → Result (Option RangeRow) LineFault
-said_of (Ok line) = Ok (row_in line)
-said_of (Err fault) = Err fault
+abbrev pub row_or_fault : Result Line LineFault → Result (Option RangeRow) LineFault
+row_or_fault (Ok line) = Ok (row_of_line line)
+row_or_fault (Err fault) = Err fault
 
 abbrev pub said_of_port : Result PortLine LineFault → Result (Option RangeRow) LineFault
 said_of_port (Ok line) = Ok (row_in_port line)
@@ -60,7 +60,7 @@ said_of_port (Err fault) = Err fault
 
 -- the row that a line of a script, or of a port script, gives
 abbrev pub row_said : Bool → List ℕ → Result (Option RangeRow) LineFault
-row_said false text = said_of (line_of text)
+row_said false text = row_or_fault (line_said text)
 row_said true text = said_of_port (port_line_of text)
 
 -- what a line does: a range line sets its row, and any other opens the drive

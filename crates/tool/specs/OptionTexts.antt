@@ -18,14 +18,16 @@ IsNoNumber text = number_up_to (largest 64) text ≡ None
 
 -- The fault is the first one of the texts: each text is looked at in turn, and then what they
 -- write.
-abbrev pub IsFirstFault : List ℕ → List ℕ → List ℕ → OptionsFault → Type 0
-IsFirstFault sectors shadow msid Sectors = IsNoNumber sectors
-IsFirstFault sectors shadow msid Shadow = (IsNoNumber sectors → ⊥) × IsNoNumber shadow
-IsFirstFault sectors shadow msid (Msid fault) = (IsNoNumber sectors → ⊥) × (IsNoNumber shadow → ⊥)
+abbrev pub IsFirstOptionFault : List ℕ → List ℕ → List ℕ → OptionsFault → Type 0
+IsFirstOptionFault sectors shadow msid Sectors = IsNoNumber sectors
+IsFirstOptionFault sectors shadow msid Shadow = (IsNoNumber sectors → ⊥) × IsNoNumber shadow
+IsFirstOptionFault sectors shadow msid (Msid fault) = (IsNoNumber sectors → ⊥) ×
+    (IsNoNumber shadow → ⊥)
     × (decode_of msid ≡ Err fault)
-IsFirstFault sectors shadow msid (NoDrive drive_sectors shadow_sectors size) =
+IsFirstOptionFault sectors shadow msid (NoDrive drive_sectors shadow_sectors size) =
     (config : Config) × WritesConfig sectors shadow msid config
     × (IsWithinLimits config.sectors config.mbr_sectors config.msid → ⊥)
     × (drive_sectors ≡ config.sectors) × (shadow_sectors ≡ config.mbr_sectors)
     × (size ≡ length config.msid)
-IsFirstFault sectors shadow msid OutOfMemory = (IsNoNumber sectors → ⊥) × (IsNoNumber shadow → ⊥)
+IsFirstOptionFault sectors shadow msid OutOfMemory = (IsNoNumber sectors → ⊥) × (IsNoNumber shadow
+    → ⊥)

@@ -15,69 +15,69 @@ use Rattle.tool.specs.declared.opening.OpeningPhase.{OpeningPhase}
 use Rattle.tool.specs.declared.opening.OpeningPhase.TheVariants.{Factory, Activated}
 
 -- the lines that are printed, and the status behind them
-pub record Outcome : Type 0 where
+pub record RunOutcome : Type 0 where
   pub lines : List (List ℕ)
   pub status : ℕ
 
 -- nothing more is printed
-abbrev pub ends : ℕ → Outcome
+abbrev pub ends : ℕ → RunOutcome
 ends status = record { lines = []; status = status }
 
 -- these lines are printed first
-abbrev pub behind : List (List ℕ) → Outcome → Outcome
-behind earlier later = record { lines = earlier ++ later.lines; status = later.status }
+abbrev pub printed_first : List (List ℕ) → RunOutcome → RunOutcome
+printed_first earlier later = record { lines = earlier ++ later.lines; status = later.status }
 
 -- behind what a line does comes what comes then
-abbrev pub onward : (Advance → Outcome) → Result Advance ℕ → Outcome
-onward then_comes (Ok made) = behind made.lines (then_comes made)
+abbrev pub onward : (Advance → RunOutcome) → Result Advance ℕ → RunOutcome
+onward then_comes (Ok made) = printed_first made.lines (then_comes made)
 onward then_comes (Err status) = ends status
 
 -- what lines come to on a drive or a port as an origin and a course leave it, where this line was
 -- printed last
-unfoldable pub outcome_on : Origin → Course → List ℕ → List (List ℕ) → Outcome
+unfoldable pub outcome_on : Origin → Course → List ℕ → List (List ℕ) → RunOutcome
 outcome_on o course last [] = ends 0
 outcome_on o course last (text ∷ texts) =
     onward (λ made. outcome_on o made.course (last_of last made.lines) texts)
     (course_step o course last text)
 
 -- a row without a fault is set, and the opening phase goes on; a refused row ends the run
-abbrev pub set_then : (OpeningPhase → Outcome) → Origin → RangeRow → Option SetError → Outcome
+abbrev pub set_then : (OpeningPhase → RunOutcome) → Origin → RangeRow → Option SetError → RunOutcome
 set_then then_comes o row None = then_comes (Activated (with_range row o))
 set_then then_comes o row (Some error) = ends 2
 
 -- the row of a `range` line is set; any other line ends the opening phase
-abbrev pub opened_by : (OpeningPhase → Outcome) → Outcome → OpeningPhase → Option RangeRow
-    → Outcome
+abbrev pub opened_by : (OpeningPhase → RunOutcome) → RunOutcome → OpeningPhase → Option RangeRow
+    → RunOutcome
 opened_by then_comes runs phase (Some row) =
     set_then then_comes (base_of phase) row (row_fault (base_of phase) row)
 opened_by then_comes runs phase None = runs
 
 -- a line that says nothing ends the run
-abbrev pub opened : (OpeningPhase → Outcome) → Outcome → OpeningPhase
-    → Result (Option RangeRow) LineFault → Outcome
+abbrev pub opened : (OpeningPhase → RunOutcome) → RunOutcome → OpeningPhase
+    → Result (Option RangeRow) LineFault → RunOutcome
 opened then_comes runs phase (Ok row) = opened_by then_comes runs phase row
 opened then_comes runs phase (Err fault) = ends 2
 
 -- what lines come to behind what range lines made so far, on a drive or on a port
-unfoldable pub outcome_from : Bool → OpeningPhase → List (List ℕ) → Outcome
+unfoldable pub outcome_from : Bool → OpeningPhase → List (List ℕ) → RunOutcome
 outcome_from on_port phase [] = ends 0
 outcome_from on_port phase (text ∷ texts) =
     opened (λ next. outcome_from on_port next texts)
     (outcome_on (origin_of phase) (start on_port) [] (text ∷ texts)) phase (row_said on_port text)
 
 -- what the lines of a script come to: behind the line `port` stand those of a port script
-abbrev pub outcome_of_lines : Config → List (List ℕ) → Outcome
+abbrev pub outcome_of_lines : Config → List (List ℕ) → RunOutcome
 outcome_of_lines config [] = ends 0
 outcome_of_lines config (first ∷ texts) =
     if is_port_line first then outcome_from true (Factory config) texts
     else outcome_from false (Factory config) (first ∷ texts)
 
 -- what a script comes to on a drive of this configuration
-abbrev pub outcome_of : Config → List ℕ → Outcome
-outcome_of config text = outcome_of_lines config (script_lines text)
+abbrev pub run_outcome_of : Config → List ℕ → RunOutcome
+run_outcome_of config text = outcome_of_lines config (script_lines text)
 
 -- this is the status, and the lines are written behind what was written before
-abbrev pub Yields : Outcome → ℕ → Option (List ℕ) → Option (List ℕ) → Type 0
+abbrev pub Yields : RunOutcome → ℕ → Option (List ℕ) → Option (List ℕ) → Type 0
 Yields outcome status before after = (status ≡ outcome.status)
     × Appends before after (printed outcome.lines)
 
@@ -85,4 +85,4 @@ Yields outcome status before after = (status ≡ outcome.status)
 abbrev pub ScriptYields : Config → Option (List ℕ) → ℕ → Option (List ℕ) → Option (List ℕ)
     → Type 0
 ScriptYields config input status before after =
-    IfSome input (λ text. Yields (outcome_of config text) status before after)
+    IfSome input (λ text. Yields (run_outcome_of config text) status before after)

@@ -9,7 +9,7 @@ use Rattle.compacket.specs.Spelling.{frame_bytes}
 use Rattle.history.specs.Opening.{Origin}
 use Rattle.port_history.specs.Refusals.{refusal, refusal_number}
 use Rattle.port_history.specs.Requests.{no_bytes}
-use Rattle.port_history.specs.Stages.{put_in}
+use Rattle.port_history.specs.Stages.{put_at}
 use Rattle.port_history.specs.Steps.{Effect as ActEffect, Moment, moment, trace, stage, answer, client_of}
 use Rattle.port_history.specs.declared.error.PortError.{PortError}
 use Rattle.port_history.specs.declared.error.PortError.TheVariants as errors
@@ -21,7 +21,7 @@ use Rattle.port_history.specs.declared.stages.Put.{Put}
 use Rattle.port_history.specs.declared.step.Step.{Step}
 use Rattle.port_history.specs.declared.step.Step.TheVariants as steps
 use Rattle.port.specs.Agreement.{PortAgrees}
-use Rattle.script_lines.specs.Texts.{Prints, done_text, data_text, hex_text, failure_text, refused_text, reset_text, audit_text, denial_lines}
+use Rattle.script_lines.specs.Texts.{Prints, done_text, data_text, hex_text, command_failure_text, refused_text, reset_text, audit_text, denial_lines}
 use Rattle.script_lines.specs.Lines.{expected_text}
 use Rattle.script_lines.specs.declared.port_line.PortLine as told
 use Rattle.script_lines.specs.declared.port_line.PortLine.TheVariants as lines
@@ -29,7 +29,7 @@ use Rattle.script_lines.specs.declared.port_line.PutRequest.{PutRequest}
 use Rattle.script_lines.specs.declared.port_line.PutRequest.TheVariants as asked
 use Rattle.script_lines.specs.declared.report.Report.{Report}
 use Rattle.tool.specs.Acts.{in_blocks, com_id_protocol, kind_named}
-use Rattle.tool.specs.Effects.{shown}
+use Rattle.tool.specs.Effects.{shown_bytes}
 use Rattle.tool.specs.declared.ending.Fault.TheVariants.{LateRange}
 use Rattle.tool.specs.declared.running.Turn.{Turn}
 use Rattle.tool.specs.declared.running.Turn.TheVariants.{Goes, ExpectationFailed, Bad}
@@ -63,7 +63,8 @@ refused_lines error = refused_text (refusal_number error) ∷ []
 abbrev pub command_text : Command → List ℕ → List ℕ
 command_text (commands.ReadQueued lba count) bytes = data_text bytes
 command_text (commands.ReadDma lba count) bytes = data_text bytes
-command_text (commands.Receive protocol com_id blocks dma) bytes = hex_text (shown com_id bytes)
+command_text (commands.Receive protocol com_id blocks dma) bytes = hex_text
+    (shown_bytes com_id bytes)
 command_text _ bytes = done_text
 
 abbrev pub bytes_text : Option Put → List ℕ → List ℕ
@@ -73,7 +74,7 @@ bytes_text (Some put) bytes = command_text put.command bytes
 -- What a client takes, by the command that was put.
 abbrev pub taken_text : Option Put → Answer → List ℕ
 taken_text put (answers.Done bytes) = bytes_text put bytes
-taken_text put (answers.Failed status error) = failure_text status error
+taken_text put (answers.Failed status error) = command_failure_text status error
 taken_text put answers.Reset = reset_text
 
 -- What an acceptance prints behind its line: what denied the command, under the number of the step.
@@ -84,7 +85,7 @@ accepted_lines number served (Some e) = denial_lines number (client_of served) e
 -- What a step prints that is done.
 abbrev pub step_lines : List Moment → Step → Moment → List (List ℕ)
 step_lines before (steps.Take client tag) m =
-    taken_text (put_in (stage before tag)) (unwrap_or (answer before tag) no_bytes) ∷ []
+    taken_text (put_at (stage before tag)) (unwrap_or (answer before tag) no_bytes) ∷ []
 step_lines before (steps.Accept tag) m =
     done_text ∷ accepted_lines (1 + length before) m.served m.effect
 step_lines before (steps.Put client tag request) m = done_text ∷ []

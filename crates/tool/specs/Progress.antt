@@ -6,9 +6,9 @@ use Rattle.history.specs.Opening.{Origin}
 use Rattle.script_lines.specs.Texts.{printed}
 use Rattle.script_lines.specs.declared.report.Report.{Report}
 use Rattle.tool.specs.Scripts.{bare, script_lines}
-use Rattle.tool.specs.Ends.{status_of}
+use Rattle.tool.specs.Ends.{exit_status}
 use Rattle.tool.specs.Courses.{Course, Advance, Advances, PhaseRunsOn, start}
-use Rattle.tool.specs.Outcomes.{Outcome, ends, behind, outcome_on, outcome_from, outcome_of}
+use Rattle.tool.specs.Outcomes.{RunOutcome, ends, printed_first, outcome_on, outcome_from, run_outcome_of}
 use Rattle.tool.specs.declared.ending.End.{End}
 use Rattle.tool.specs.declared.opening.OpeningPhase.{OpeningPhase}
 use Rattle.tool.specs.declared.opening.OpeningPhase.TheVariants.{Factory}
@@ -25,14 +25,15 @@ HandsOn before after pending left =
 
 -- of all that is to come a rest is still to come; what comes before it is written or pending,
 -- behind what was pending before
-pub record LeadsTo (whole rest : Outcome) (before after : Option (List ℕ))
+pub record LeadsTo (whole rest : RunOutcome) (before after : Option (List ℕ))
     (pending left : List ℕ) : Type 0 where
   pub earlier : List (List ℕ)
-  pub comes : whole ≡ behind earlier rest
+  pub comes : whole ≡ printed_first earlier rest
   pub written : HandsOn before after (pending ++ printed earlier) left
 
 -- the same, by what two reports have pending
-abbrev pub Leads : Outcome → Outcome → Option (List ℕ) → Option (List ℕ) → Report → Report → Type 0
+abbrev pub Leads : RunOutcome → RunOutcome → Option (List ℕ) → Option (List ℕ) → Report → Report
+    → Type 0
 Leads whole rest before after old new =
     LeadsTo whole rest before after old.pending.items new.pending.items
 
@@ -44,14 +45,14 @@ RunLeads run line left end old new before after =
     (o : Origin) (course : Course) → PhaseRunsOn run o course
     → IfSome left
     (λ text. Leads (outcome_on o course old.last.items (bare line ∷ script_lines text))
-    (ends (status_of end)) before after old new)
+    (ends (exit_status end)) before after old new)
 
 -- a whole script comes to this end
 abbrev pub ScriptLeads : Config → Option (List ℕ) → End → Report → Report → Option (List ℕ)
     → Option (List ℕ) → Type 0
 ScriptLeads config left end old new before after =
     IfSome left
-    (λ text. Leads (outcome_of config text) (ends (status_of end)) before after old new)
+    (λ text. Leads (run_outcome_of config text) (ends (exit_status end)) before after old new)
 
 -- a turn is what the line does, or the status that it ends the run with
 abbrev pub Steps : Turn → Result Advance ℕ → Phase → Origin → Report → Report → Type 0
@@ -61,8 +62,8 @@ Steps (turns.Bad fault) (Err status) new o before after = (status ≡ 2) × (aft
 Steps turn result new o before after = ⊥
 
 -- what the range lines in front leave to come
-abbrev pub OpensTo : Bool → Opened → Outcome → List ℕ → Option (List ℕ) → Type 0
-OpensTo on_port (Ended end) whole line left = whole ≡ ends (status_of end)
+abbrev pub OpensTo : Bool → Opened → RunOutcome → List ℕ → Option (List ℕ) → Type 0
+OpensTo on_port (Ended end) whole line left = whole ≡ ends (exit_status end)
 OpensTo on_port (Runs run count) whole line left =
     (o : Origin) × (text : List ℕ) × PhaseRunsOn run o (start on_port) × (left ≡ Some text)
     × (whole ≡ outcome_on o (start on_port) [] (bare line ∷ script_lines text))
@@ -77,8 +78,8 @@ LinesOpenTo on_port opened phase first before line left =
 
 -- the first line is none, or the line at hand is the first of a script on a drive or of a port script
 abbrev pub FirstLine : Option Bool → List ℕ → List ℕ → Option (List ℕ) → Type 0
-FirstLine None text line left = (config : Config) → outcome_of config text ≡ ends 0
+FirstLine None text line left = (config : Config) → run_outcome_of config text ≡ ends 0
 FirstLine (Some on_port) text line left =
     (rest : List ℕ) × (left ≡ Some rest)
-    × ((config : Config) → outcome_of config text
+    × ((config : Config) → run_outcome_of config text
     ≡ outcome_from on_port (Factory config) (bare line ∷ script_lines rest))

@@ -42,6 +42,6 @@ abbrev pub most_pending : ℕ
 most_pending = 65536
 
 -- no client waits for an answer: where the next read could wait, none is pending, and never many
-abbrev pub IsAnswered : List ℕ → List ℕ → Type 0
-IsAnswered at_hand pending = (has_line at_hand ≡ false → pending ≡ [])
+abbrev pub LeavesNobodyWaiting : List ℕ → List ℕ → Type 0
+LeavesNobodyWaiting at_hand pending = (has_line at_hand ≡ false → pending ≡ [])
     × (length pending ≤ most_pending)

@@ -1,7 +1,7 @@
 //! How a script ends, and what is told of it.
 
 ghost use Rattle.std.specs.Prelude.{◌≡◌, false, IfOk, IfErr, IsOk};
-ghost use Rattle.tool.specs.Ends.{status_of};
+ghost use Rattle.tool.specs.Ends.{exit_status};
 ghost use Rattle.tool.specs.declared.ending.End.TheVariants as ends;
 ghost use Rattle.tool.specs.declared.ending.RunError.{RunError};
 
@@ -145,7 +145,7 @@ pub fn tell_abort<E: Write>(aborted: bool, line: u64, faults: &mut E) -> Result<
 ///
 /// `Write`.
 pub fn tell<E: Write>(end: End, text: &[u8], last: &[u8], faults: &mut E) -> Result<u8, RunError>
-    ensures status { IfOk result (λ status. status ≡ status_of end) }
+    ensures status { IfOk result (λ status. status ≡ exit_status end) }
     ensures quiet { end ≡ ends.Done → IsOk result × (faults.new ≡ faults.old) }
     ensures errors { IfErr result (λ error. error ≡ RunError.Write) }
 {

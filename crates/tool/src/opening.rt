@@ -1,7 +1,7 @@
 //! The opening phase of a script: its range lines.
 
 ghost use Rattle.std.specs.Prelude.{◌≡◌};
-ghost use Rattle.tool.specs.Openings.{row_in, row_in_port, row_said};
+ghost use Rattle.tool.specs.Openings.{row_of_line, row_in_port, row_said};
 
 use crate::ending::Fault;
 use crate::phase::Phase;
@@ -33,7 +33,7 @@ pub enum OpeningTurn {
 
 /// The row of a range line.
 fn row_in(line: &Line<'_>) -> Option<RangeRow>
-    ensures { result ≡ row_in line.now }
+    ensures { result ≡ row_of_line line.now }
 {
     match line {
         Line::Range(row) => Some(*row),

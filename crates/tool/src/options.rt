@@ -99,7 +99,7 @@ impl Model for Options {
 
 impl Options {
     ghost use Rattle.std.specs.Prelude.{◌≡◌, IfOk, IfErr};
-    ghost use Rattle.tool.specs.OptionTexts.{WritesConfig, IsFirstFault};
+    ghost use Rattle.tool.specs.OptionTexts.{WritesConfig, IsFirstOptionFault};
 
     /// Reads the values as they are written on the command line: two decimal numbers, and hex. The
     /// first fault is told: `Sectors`, `Shadow`, `Msid`, `NoDrive`.
@@ -111,7 +111,8 @@ impl Options {
     ) -> Result<Options, OptionsFault>
         ensures read { IfOk result (λ options. WritesConfig sectors.now shadow.now msid.now
             options) }
-        ensures fault { IfErr result (λ fault. IsFirstFault sectors.now shadow.now msid.now fault) }
+        ensures fault { IfErr result
+            (λ fault. IsFirstOptionFault sectors.now shadow.now msid.now fault) }
     {
         let sectors = number_up_to(u64::MAX, sectors).ok_or(OptionsFault::Sectors)?;
         let shadow = number_up_to(u64::MAX, shadow).ok_or(OptionsFault::Shadow)?;

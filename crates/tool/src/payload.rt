@@ -3,7 +3,7 @@
 ghost use Rattle.std.specs.Prelude.{◌≡◌, ◌≤◌, ◌<◌, IfOk, OnOk, length, replicate};
 ghost use Rattle.compacket.specs.Spelling.{frame_bytes};
 ghost use Rattle.script_lines.specs.Fields.{most_call_bytes, most_send_bytes};
-ghost use Rattle.tool.specs.Acts.{blocks_of, in_blocks};
+ghost use Rattle.tool.specs.Acts.{block_count, in_blocks};
 
 use compacket::{ComId, Session, frame_into, frame_len};
 use std::alloc::AllocError;
@@ -38,7 +38,7 @@ pub fn put_frame(
 /// Puts zeros behind the bytes to the end of a block, and gives the number of blocks.
 pub fn pad(buffer: &mut Vec<u8>) -> Result<u16, AllocError>
     requires { length buffer.old.items ≤ most_send_bytes }
-    ensures blocks { IfOk result (λ blocks. blocks ≡ blocks_of (length buffer.old.items)) }
+    ensures blocks { IfOk result (λ blocks. blocks ≡ block_count (length buffer.old.items)) }
     ensures bytes { OnOk result (buffer.new.items ≡ in_blocks buffer.old.items) }
 {
     let blocks = (buffer.len() + (SECTOR_SIZE - 1)) / SECTOR_SIZE;

@@ -2,7 +2,7 @@
 
 ghost use Rattle.std.specs.Prelude.{◌≡◌, ◌<◌, ◌≤◌, ◌∷◌, [], IfOk, OnOk, length, slice_get};
 ghost use Rattle.compacket.specs.Spelling.{frame_bytes};
-ghost use Rattle.port_history.specs.Stages.{put_in};
+ghost use Rattle.port_history.specs.Stages.{put_at};
 ghost use Rattle.port_history.specs.declared.request.Request.TheVariants as requests;
 ghost use Rattle.script_lines.specs.Fields.{most_call_bytes, most_send_bytes};
 ghost use Rattle.script_lines.specs.PortLines.{FitsPut};
@@ -150,7 +150,7 @@ fn print_step(done: Result<u64, PortError>, report: &mut Report) -> Result<(), A
 
 /// The command that was put in a slot.
 fn put_in(stage: Stage) -> Option<Put>
-    ensures { result ≡ put_in stage }
+    ensures { result ≡ put_at stage }
 {
     match stage {
         Stage::Free => None,

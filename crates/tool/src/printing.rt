@@ -3,7 +3,7 @@
 ghost use Rattle.std.specs.Prelude.{◌≡◌, ◌∷◌, [], OnOk, take};
 ghost use Rattle.compacket.specs.Frames.{com_packet_size};
 ghost use Rattle.script_lines.specs.Texts.{Prints};
-ghost use Rattle.tool.specs.Effects.{shown, served_text, told_lines};
+ghost use Rattle.tool.specs.Effects.{shown_bytes, served_text, told_lines};
 
 use audit::AuditLine;
 use byteorder::{BigEndian, ByteOrder};
@@ -30,7 +30,7 @@ fn com_packet(bytes: &[u8]) -> &[u8]
 
 /// What a receive shows.
 pub fn shown(com_id: ComId, bytes: &[u8]) -> &[u8]
-    ensures { result.now ≡ shown com_id bytes.now }
+    ensures { result.now ≡ shown_bytes com_id bytes.now }
 {
     if com_id == DISCOVERY_COM_ID {
         &bytes[..DISCOVERY_LENGTH.min(bytes.len())]

@@ -3,7 +3,7 @@
 ghost use Rattle.std.specs.Prelude.{◌≡◌, ◌≤◌, ◌++◌, ◌⊎◌, length, Some, is_some, OnOk, IfOk, IfErr, IfSome};
 ghost use Rattle.std.specs.Io.Buffered.{reader_buffer, reader_remaining};
 ghost use Rattle.std.specs.Io.BufRead.{take_through, drop_through};
-ghost use Rattle.tool.specs.Scripts.{bare, has_line, IsAtHand, IsAnswered, TakesLine};
+ghost use Rattle.tool.specs.Scripts.{bare, has_line, IsAtHand, LeavesNobodyWaiting, TakesLine};
 ghost use Rattle.tool.specs.Progress.{HandsOn};
 ghost use Rattle.tool.specs.declared.ending.RunError.{RunError};
 
@@ -68,7 +68,7 @@ pub fn answer<R: Read + Drop, W: Write>(
     output: &mut W,
 ) -> Result<Option<usize>, RunError>
     ensures at_hand { IfOk result (IsAtHand (reader_buffer reader.now)) }
-    ensures answered { OnOk result (IsAnswered (reader_buffer reader.now)
+    ensures answered { OnOk result (LeavesNobodyWaiting (reader_buffer reader.now)
         report.new.pending.items) }
     ensures written { OnOk result
         (HandsOn (W.contents output.old) (W.contents output.new) report.old.pending.items
@@ -112,7 +112,7 @@ pub fn read_line<R: Read + Drop>(
     _report: &Report,
 ) -> Result<bool, RunError>
     requires at_hand { IsAtHand (reader_buffer reader.old) at_hand }
-    requires answered { IsAnswered (reader_buffer reader.old) _report.now.pending.items }
+    requires answered { LeavesNobodyWaiting (reader_buffer reader.old) _report.now.pending.items }
     ensures line { IfSome (reader_remaining R.remaining reader.old)
         (λ text. IfOk result (λ is_line. TakesLine is_line line.new.items text
         (reader_remaining R.remaining reader.new))) }

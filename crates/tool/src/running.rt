@@ -41,14 +41,14 @@ impl RunningPhase {
     ghost use Rattle.std.specs.Prelude.{◌≡◌, ◌<◌, ◌≤◌, ◌^◌, ℕ, List, [], length, true, IfSome, IfOk, OnOk, Ok, Err};
     ghost use Rattle.script_lines.specs.Fields.{most_call_bytes, most_send_bytes};
     ghost use Rattle.trusted_cmds.specs.Commands.{lba_of, IsCounted, payload_length, fis_of};
-    ghost use Rattle.script_lines.specs.Lines.{line_of, Fits};
+    ghost use Rattle.script_lines.specs.Lines.{line_said, HasBytesWithinLimits};
     ghost use Rattle.script_lines.specs.declared.line.Line.{Line};
     ghost use Rattle.script_lines.specs.declared.fault.LineFault.{LineFault};
     ghost use Rattle.history.specs.Opening.{Origin};
     ghost use Rattle.history.specs.History.{Act};
     ghost use Rattle.drive.specs.State.{Agrees};
-    ghost use Rattle.tool.specs.Effects.{RunsOn, Stands, Accepts, Has, Makes, completed, transferred, commanded, sends, effect_of, Does};
-    ghost use Rattle.tool.specs.Courses.{step, DriveSteps};
+    ghost use Rattle.tool.specs.Effects.{RunsOn, IsReached, Accepts, Has, Makes, completion_effect, transferred, command_effect, sends, effect_of, Does};
+    ghost use Rattle.tool.specs.Courses.{line_course, DriveSteps};
     ghost use Rattle.tool.specs.declared.ending.Fault.{Fault};
 
     /// A drive on which nothing was done.
@@ -67,19 +67,20 @@ impl RunningPhase {
     /// Does what one line says. A line that is none, or that gives the cells of a range, changes
     /// nothing.
     pub fn turn(&mut self, text: &[u8], report: &mut Report) -> Result<Turn, AllocError>
-        requires { Stands self.old }
-        ensures stands { OnOk result (Stands self.new) }
-        ensures bad_line { (fault : LineFault) → line_of text.now ≡ Err fault
+        requires { IsReached self.old }
+        ensures stands { OnOk result (IsReached self.new) }
+        ensures bad_line { (fault : LineFault) → line_said text.now ≡ Err fault
             → result ≡ Ok (Turn.Bad (Fault.Line fault)) }
-        ensures nothing_acts { (fault : LineFault) → line_of text.now ≡ Err fault
+        ensures nothing_acts { (fault : LineFault) → line_said text.now ≡ Err fault
             → self.new ≡ self.old }
-        ensures nothing_prints { (fault : LineFault) → line_of text.now ≡ Err fault
+        ensures nothing_prints { (fault : LineFault) → line_said text.now ≡ Err fault
             → report.new ≡ report.old }
-        ensures does { (line : Line) → line_of text.now ≡ Ok line → IfOk result
+        ensures does { (line : Line) → line_said text.now ≡ Ok line → IfOk result
             (λ turn. (o : Origin) (acts : List Act) → RunsOn self.old o acts
             → Does line text.now turn self.old self.new o acts report.old report.new) }
         ensures steps { IfOk result (λ turn. (o : Origin) (acts : List Act) → RunsOn self.old o acts
-            → DriveSteps turn (step o acts report.old.last.items text.now (line_of text.now))
+            → DriveSteps turn (line_course o acts report.old.last.items text.now
+            (line_said text.now))
             self.new o report.old report.new) }
     {
         match &Line::parse(text) {
@@ -89,7 +90,7 @@ impl RunningPhase {
     }
 
     fn act(&mut self, line: &Line<'_>, text: &[u8], report: &mut Report) -> Result<Turn, AllocError>
-        requires { Fits line.now }
+        requires { HasBytesWithinLimits line.now }
         ensures { IfOk result (λ turn. (o : Origin) (acts : List Act) → RunsOn self.old o acts
             → Does line.now text.now turn self.old self.new o acts report.old report.new) }
     {
@@ -159,7 +160,7 @@ impl RunningPhase {
     fn serve(&mut self, tag: Tag, byte: u8, report: &mut Report) -> Result<(), AllocError>
         ensures { OnOk result
             ((o : Origin) (acts : List Act) → RunsOn self.old o acts
-            → Has self.new o report.old report.new (completed o acts tag byte)) }
+            → Has self.new o report.old report.new (completion_effect o acts tag byte)) }
     {
         fill(&mut self.payload, self.drive.expects(tag), byte)?;
         // what is held completes, unless memory is refused
@@ -218,7 +219,8 @@ impl RunningPhase {
         requires counted { IsCounted command.now }
         requires payload { length self.old.payload.items ≡ payload_length (fis_of command.now 0) }
         ensures { IfOk result
-            (λ aborted. Makes (λ o acts. commanded o acts client command.now self.old.payload.items)
+            (λ aborted. Makes
+            (λ o acts. command_effect o acts client command.now self.old.payload.items)
             self.old self.new report.old report.new (Turn.Goes aborted)) }
     {
         let has_failed = self.drive.failure().is_some();

@@ -4,7 +4,7 @@ ghost use Rattle.std.specs.Prelude.{◌≡◌, ◌≤◌, ◌⊎◌, [], ℕ, Er
 ghost use Rattle.std.specs.Io.Buffered.{reader_remaining};
 ghost use Rattle.std.specs.Io.KnownBytes.{Appends};
 ghost use Rattle.tool.specs.declared.ending.RunError.{RunError};
-ghost use Rattle.tool.specs.Ends.{OpenedStands, status_of};
+ghost use Rattle.tool.specs.Ends.{OpenedStands, exit_status};
 ghost use Rattle.tool.specs.Courses.{PhaseStands};
 ghost use Rattle.tool.specs.Openings.{opens_with};
 ghost use Rattle.tool.specs.Outcomes.{ScriptYields};
@@ -205,7 +205,7 @@ fn all_answers<R: Read + Drop, W: Write, E: Write>(
     ensures handed_on { report.new.pending.items ≡ [] }
     ensures yields { IfOk result (λ end.
         ScriptYields options.now (reader_remaining R.remaining reader.old)
-        (status_of end) (W.contents output.old) (W.contents output.new)) }
+        (exit_status end) (W.contents output.old) (W.contents output.new)) }
 {
     let end = all_lines(alloc, options, reader, report, line, output, faults);
     hand_on_behind(end, report, output)

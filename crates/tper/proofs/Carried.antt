@@ -29,11 +29,11 @@ use Rattle.call_shapes.specs.declared.ask.Ask.{Ask}
 use Rattle.call_shapes.specs.declared.ask.Ask.TheVariants.{GetCells, GetBytes, SetCells, SetBytes, Authenticate, Activate, Revert, Other}
 use Rattle.sessions.specs.declared.opening.Opening.{Opening}
 use Rattle.sessions.specs.declared.opening.StartVerdict.TheVariants.{Refused, Attempted}
-use Rattle.sessions.specs.Answers.{in_force}
-use Rattle.sessions.specs.Attempts.{failure}
+use Rattle.sessions.specs.Answers.{rows_in_force}
+use Rattle.sessions.specs.Attempts.{attempt_failure}
 use Rattle.sessions.specs.Live.{Live, lives_on}
 use Rattle.sessions.specs.Properties.{takes_properties, properties_list, properties_call, properties_message}
-use Rattle.sessions.specs.Starts.{sp_named, is_in_use, is_full, is_host, verdict_on, verdict, opening_of, host_among, host_of, sync_message, reply_to, start_reply}
+use Rattle.sessions.specs.Starts.{sp_named, is_in_use, is_full, is_host, opening_verdict_on, verdict, opening_of, host_among, host_of, sync_message, reply_to, start_reply}
 use Rattle.methods.specs.Said.{reply_of, attempt_reply}
 use Rattle.sessions.specs.Deeds.{Setting}
 use Rattle.methods.specs.Effects.{ask_at, last_row, sp_of_row}
@@ -117,7 +117,7 @@ ask_carried rows sp its object (GetCells first last) = given rows sp (listing it
 ask_carried rows sp its object (GetBytes first last) = bytes_carried rows sp its.byte (table_size its) first last
 ask_carried rows sp its object (SetCells ps) = set_carried rows sp (to_set its object (SetCells ps))
 ask_carried rows sp its object (SetBytes at octets) = set_carried rows sp (to_set its object (SetBytes at octets))
-ask_carried rows sp its object (Authenticate authority proof) = attempt_carried (failure rows sp authority proof)
+ask_carried rows sp its object (Authenticate authority proof) = attempt_carried (attempt_failure rows sp authority proof)
 ask_carried rows sp its object Activate = inside_carried rows sp its.is_open Activates bare_success
 ask_carried rows sp its object Revert = inside_carried rows sp its.is_open (Reverts (sp_of_row object)) bare_success
 ask_carried rows sp its object Other = bare_fail
@@ -222,17 +222,17 @@ tests_answered false false false host next sp o h k = attempt_answered host next
 number_left : (l : Live) → is_full l ≡ false → l.next < 2 ^ 32
 number_left l e = let f : nat_lt 0xffffffff l.next ≡ false = e in grind (arith, nat_tests)
 
-named_answered : (look : LookUp) (l : Live) (host : ℕ) (o : Opening) (sp : Option Sp) → host < 2 ^ 32 → is_carried (reply_to host l.next (verdict_on look l o sp)) ≡ true
+named_answered : (look : LookUp) (l : Live) (host : ℕ) (o : Opening) (sp : Option Sp) → host < 2 ^ 32 → is_carried (reply_to host l.next (opening_verdict_on look l o sp)) ≡ true
 named_answered look l host o None h = sync_carried host 0 invalid_parameter h (omega arith) (omega arith)
 named_answered look l host o (Some sp) h =
-    tests_answered (not (is_in_use look sp)) (lives_on sp l) (is_full l) host l.next sp (failure look sp o.authority o.proof) h (number_left l)
+    tests_answered (not (is_in_use look sp)) (lives_on sp l) (is_full l) host l.next sp (attempt_failure look sp o.authority o.proof) h (number_left l)
 
 opening_answered : (look : LookUp) (l : Live) (host : ℕ) (o : Option Opening) → host < 2 ^ 32 → is_carried (reply_to host l.next (verdict look l o)) ≡ true
 opening_answered look l host None h = sync_carried host 0 invalid_parameter h (omega arith) (omega arith)
 opening_answered look l host (Some o) h = named_answered look l host o (sp_named o.spid) h
 
 pub start_carried : (s : Stored) (l : Live) (args : List Tree) → is_carried (start_reply s l args) ≡ true
-start_carried s l args = opening_answered (in_force s) l (host_of args) (opening_of args) (host_of_bound args)
+start_carried s l args = opening_answered (rows_in_force s) l (host_of args) (opening_of args) (host_of_bound args)
 
 -- ---- Properties
 

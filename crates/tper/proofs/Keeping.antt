@@ -6,7 +6,7 @@ use Rattle.compacket.specs.Spelling.{frame_bytes}
 use Rattle.tcg_tokens.specs.Message.{Message, message}
 use Rattle.tcg_tokens.specs.Spelling.{item_spelling_of}
 use Rattle.sp_tables.specs.Contents.{Contents}
-use Rattle.shadow_mbr.specs.Stored.{Stored as Bytes, sector_size, byte_at}
+use Rattle.shadow_mbr.specs.Stored.{StoredSectors as Bytes, sector_size, byte_at}
 use Rattle.transactions.specs.Stored.{Stored, new_store, after_reset}
 use Rattle.sessions.specs.Live.{Live, session_at}
 use Rattle.methods.specs.declared.outcome.Outcome.{Outcome as Answered}
@@ -23,7 +23,7 @@ use Rattle.history.proofs.KeptStoreOpenings.{store_opening_law}
 use Rattle.history.proofs.KeptSessionsLaws.{sessions_opening_law}
 use Rattle.tper.specs.declared.trusted.Sent.{Sent}
 use Rattle.tper.specs.Items.{Answers}
-use Rattle.tper.specs.Tper.{Tper, Keeps, IsSent, Responds, Takes, response_at, fits_in}
+use Rattle.tper.specs.Tper.{Tper, Keeps, IsToldOfSend, Responds, Takes, response_at, fits_in}
 use Rattle.tper.proofs.KeptBeside.{kept_after}
 
 -- ---- an item
@@ -43,7 +43,7 @@ answer-kept t u o past com_id session out said met responds k =
 
 pub answer-sent : (t u : Tper) (com_id : ℕ) (session : Session) (out : Outcome) (said : Answered) (s : Sent)
     → Answers out said t.store u.store t.live u.live → s.denied ≡ said.denied → s.wipes ≡ said.wipe
-    → IsSent (answers com_id session out) s
+    → IsToldOfSend (answers com_id session out) s
 answer-sent t u com_id session out said s met denied wiped = record { failed = refl; denied = denied ∙ met.denied; wipes = wiped ∙ met.wipe }
 
 -- ---- a receive

@@ -7,8 +7,8 @@ use Rattle.compacket.specs.declared.error.FrameError.{FrameError}
 use Rattle.compacket.specs.Frames.{Frame}
 use Rattle.tcg_tokens.specs.Reading.{reading as message_in}
 use Rattle.transactions.specs.declared.change.SessionId.{SessionId}
-use Rattle.sessions.specs.Live.{Holder, Live, session_at, is_of, found, holder_on}
-use Rattle.methods.specs.Effects.{holder_of}
+use Rattle.sessions.specs.Live.{Holder, Live, session_at, is_of_host, found, holder_on}
+use Rattle.methods.specs.Effects.{live_holder}
 use Rattle.history.specs.Opening.{Origin}
 use Rattle.sessions.specs.Deeds.{Begun}
 use Rattle.history.specs.Events.{Event, Nothing, did}
@@ -22,7 +22,7 @@ use Rattle.history.proofs.Words.{sp-same}
 use Rattle.history.proofs.KeptSessionsNamed.{named_law}
 use Rattle.tper.specs.declared.trusted.Sent.{Sent}
 use Rattle.tper.specs.Items.{OfManager, OfSession}
-use Rattle.tper.specs.Tper.{Tper, Keeps, IsSent, Handles}
+use Rattle.tper.specs.Tper.{Tper, Keeps, IsToldOfSend, Handles}
 use Rattle.tper.proofs.KeptBeside.{spares, kept_beside}
 use Rattle.tper.proofs.Keeping.{answer-kept, answer-sent}
 
@@ -39,8 +39,8 @@ if-ok (Err e) P Q h f = tt
 pub nothing-kept : (t : Tper) (o : Origin) (past : List Event) (e : Event) → e ≡ did Nothing → Keeps t o past → Keeps t o (e ∷ past)
 nothing-kept t o past e h k = kept_beside t o past e (ap (λ (x : Event). spares x.deed) h) k
 
-pub nothing-sent : (e : Event) (s : Sent) → s.denied ≡ None → s.wipes ≡ false → e ≡ did Nothing → IsSent e s
-nothing-sent e s d w h = subst (λ (x : Event). IsSent x s) (sym h) (record { failed = refl; denied = d; wipes = w })
+pub nothing-sent : (e : Event) (s : Sent) → s.denied ≡ None → s.wipes ≡ false → e ≡ did Nothing → IsToldOfSend e s
+nothing-sent e s d w h = subst (λ (x : Event). IsToldOfSend x s) (sym h) (record { failed = refl; denied = d; wipes = w })
 
 -- ---- which event it is
 
@@ -125,21 +125,21 @@ somebody o past live com_id named id k h =
     }
 
 -- what is found lives
-found-on : (live : Live) (tsn : ℕ) (s : Holder) (b : Bool) (id : SessionId) → session_at live tsn ≡ Some s → id_on tsn (cond b (Some s.sp) None) ≡ Some id → holder_of live id ≡ Some s
+found-on : (live : Live) (tsn : ℕ) (s : Holder) (b : Bool) (id : SessionId) → session_at live tsn ≡ Some s → id_on tsn (cond b (Some s.sp) None) ≡ Some id → live_holder live id ≡ Some s
 found-on live tsn s false id h g = cc
 found-on live tsn s true id h g =
-    sym (ap (λ (x : SessionId). holder_of live x) (same g))
+    sym (ap (λ (x : SessionId). live_holder live x) (same g))
     ∙ ap (λ (x : Option Holder). holder_on s.sp x) h
     ∙ ap (λ (b : Bool). cond b (Some s) None) (sp-same s.sp)
   where
     same : id_on tsn (Some s.sp) ≡ Some id → record { tsn = tsn; sp = s.sp } ≡ id
     same k = cc
 
-found-one : (live : Live) (com_id host tsn : ℕ) (x : Option Holder) (id : SessionId) → session_at live tsn ≡ x → id_on tsn (found com_id host x) ≡ Some id → holder_of live id ≡ None → ⊥
+found-one : (live : Live) (com_id host tsn : ℕ) (x : Option Holder) (id : SessionId) → session_at live tsn ≡ x → id_on tsn (found com_id host x) ≡ Some id → live_holder live id ≡ None → ⊥
 found-one live com_id host tsn None id h g n = cc
-found-one live com_id host tsn (Some s) id h g n = let e = found-on live tsn s (is_of com_id host s) id h g in cc
+found-one live com_id host tsn (Some s) id h g n = let e = found-on live tsn s (is_of_host com_id host s) id h g in cc
 
-pub found-lives : (live : Live) (com_id : ℕ) (named : Session) (id : SessionId) → found_at live com_id named ≡ Some id → holder_of live id ≡ None → ⊥
+pub found-lives : (live : Live) (com_id : ℕ) (named : Session) (id : SessionId) → found_at live com_id named ≡ Some id → live_holder live id ≡ None → ⊥
 found-lives live com_id named id g = found-one live com_id named.hsn named.tsn (session_at live named.tsn) id refl g
 
 -- the session of the manager has no numbers
@@ -169,9 +169,9 @@ manager-kept t u o acts com_id read frame s h m its k =
     (answer-kept t u o (log o acts) com_id frame.session _ its.said (its.met o (log o acts) k.store k.sessions) its.responds k)
 
 pub manager-sent : (t u : Tper) (o : Origin) (acts : List Act) (com_id : ℕ) (read : Result Frame FrameError) (frame : Frame) (s : Sent) → IsFor read com_id frame → is_manager frame.session ≡ true
-    → ByManager t u com_id frame s → Keeps t o (log o acts) → IsSent (sent (facts o (log o acts)) com_id read) s
+    → ByManager t u com_id frame s → Keeps t o (log o acts) → IsToldOfSend (sent (facts o (log o acts)) com_id read) s
 manager-sent t u o acts com_id read frame s h m its k =
-    subst (λ (e : Event). IsSent e s) (sym (by-manager (facts o (log o acts)) com_id read frame h m))
+    subst (λ (e : Event). IsToldOfSend e s) (sym (by-manager (facts o (log o acts)) com_id read frame h m))
     (answer-sent t u com_id frame.session _ its.said s (its.met o (log o acts) k.store k.sessions) its.denied its.wipes)
 
 pub session-kept : (t u : Tper) (o : Origin) (acts : List Act) (com_id : ℕ) (read : Result Frame FrameError) (frame : Frame) (id : SessionId) (s : Sent) → IsFor read com_id frame → is_manager frame.session ≡ false
@@ -184,10 +184,10 @@ session-kept t u o acts com_id read frame id s h m named its k =
 
 pub session-sent : (t u : Tper) (o : Origin) (acts : List Act) (com_id : ℕ) (read : Result Frame FrameError) (frame : Frame) (id : SessionId) (s : Sent) → IsFor read com_id frame → is_manager frame.session ≡ false
     → found_at t.live com_id frame.session ≡ Some id
-    → BySession t u com_id frame id s → Keeps t o (log o acts) → IsSent (sent (facts o (log o acts)) com_id read) s
+    → BySession t u com_id frame id s → Keeps t o (log o acts) → IsToldOfSend (sent (facts o (log o acts)) com_id read) s
 session-sent t u o acts com_id read frame id s h m named its k =
     let n = somebody o (log o acts) t.live com_id frame.session id k.sessions named in
-    subst (λ (e : Event). IsSent e s) (sym (by-session (facts o (log o acts)) com_id read frame (Some n.its) h m n.by_past))
+    subst (λ (e : Event). IsToldOfSend e s) (sym (by-session (facts o (log o acts)) com_id read frame (Some n.its) h m n.by_past))
     (answer-sent t u com_id frame.session _ its.said s (its.met o acts n.its k.store k.sessions n.lives n.is) its.denied its.wipes)
 
 pub nobody-named : (t : Tper) (o : Origin) (past : List Event) (com_id : ℕ) (read : Result Frame FrameError) (frame : Frame) → IsFor read com_id frame → is_manager frame.session ≡ false

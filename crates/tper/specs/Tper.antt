@@ -42,15 +42,15 @@ pub record Keeps (t : Tper) (o : Origin) (past : List Event) : Type 0 where
   pub waiting : (com_id : ℕ) → response_at t.waiting com_id ≡ waiting past com_id
 
 -- A deed makes zeros of all media.
-abbrev pub wipes : Deed → Bool
-wipes (InSession deed response) = wipes_by deed
-wipes _ = false
+abbrev pub deed_wipes : Deed → Bool
+deed_wipes (InSession deed response) = wipes_by deed
+deed_wipes _ = false
 
 -- What became of what was sent is what its event says.
-pub record IsSent (event : Event) (s : Sent) : Type 0 where
+pub record IsToldOfSend (event : Event) (s : Sent) : Type 0 where
   pub failed : event.failed ≡ None
   pub denied : s.denied ≡ event.denied
-  pub wipes : s.wipes ≡ wipes event.deed
+  pub wipes : s.wipes ≡ deed_wipes event.deed
 
 -- The framed answer waits on the ComID, and all else stays.
 abbrev pub Responds : ℕ → Session → Message → Tper → Tper → Type 0

@@ -9,12 +9,12 @@ ghost use Rattle.tcg_tokens.specs.declared.error.TokenError.TheVariants.{OutOfMe
 ghost use Rattle.tcg_tokens.specs.Message.{message, end_session};
 ghost use Rattle.tcg_tokens.specs.Reading.{reading as message_in};
 ghost use Rattle.tcg_tokens.specs.Tree.{trees};
-ghost use Rattle.methods.specs.Effects.{holder_of};
+ghost use Rattle.methods.specs.Effects.{live_holder};
 ghost use Rattle.sessions.specs.Live.{Live};
 ghost use Rattle.sessions.specs.Deeds.{Ended, says};
 ghost use Rattle.history.specs.Tcg.{to_manager, called_manager, in_session, judgement_on, begins_on, ends_on};
 ghost use Rattle.methods.specs.Calls.{outcome_of};
-ghost use Rattle.methods.specs.Said.{refusal};
+ghost use Rattle.methods.specs.Said.{refusal_of};
 ghost use Rattle.history.specs.Facts.{has_open};
 ghost use Rattle.tper.specs.Items.{OfManager, OfSession};
 
@@ -44,7 +44,7 @@ fn answer(reply: Item, changes: bool) -> Outcome
 
 /// The refusal of an item that is none, or that cannot stand where it does.
 fn failed(alloc: Global) -> Outcome
-    ensures reply { message result.reply ≡ refusal fail }
+    ensures reply { message result.reply ≡ refusal_of fail }
     ensures denied { result.denied ≡ None }
     ensures wipe { result.wipe ≡ false }
     ensures carried { is_carried (message result.reply) ≡ true }
@@ -59,7 +59,7 @@ fn failed(alloc: Global) -> Outcome
 /// The refusal of what is no item; want of memory stays an error.
 fn no_item(alloc: Global, fault: TokenError) -> Result<Outcome, AllocError>
     ensures fault { OnOk result (fault ≢ OutOfMemory) }
-    ensures reply { IfOk result (λ said. message said.reply ≡ refusal fail) }
+    ensures reply { IfOk result (λ said. message said.reply ≡ refusal_of fail) }
     ensures denied { IfOk result (λ said. said.denied ≡ None) }
     ensures wipe { IfOk result (λ said. said.wipe ≡ false) }
     ensures carried { IfOk result (λ said. is_carried (message said.reply) ≡ true) }
@@ -138,7 +138,7 @@ fn call_in_session(
     session: SessionId,
     call: &Call,
 ) -> Result<Outcome, AllocError>
-    requires lives { holder_of sessions.old session ≢ None }
+    requires lives { live_holder sessions.old session ≢ None }
     ensures met { IfOk result (λ said. OfSession
         (λ f its. outcome_of f.rows its.sp (judgement_on f its (uid_in call.now.object)
         (uid_in call.now.method) (trees call.now.args.items))) session said
@@ -216,7 +216,7 @@ pub(crate) fn in_session(
     session: SessionId,
     tokens: &[u8],
 ) -> Result<Outcome, AllocError>
-    requires lives { holder_of sessions.old session ≢ None }
+    requires lives { live_holder sessions.old session ≢ None }
     ensures met { IfOk result (λ said. OfSession
         (λ f its. in_session f its (message_in tokens.now)) session said
         store.old store.new sessions.old sessions.new) }

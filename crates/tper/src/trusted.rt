@@ -21,9 +21,9 @@ ghost use Rattle.history.specs.Readers.{waiting};
 ghost use Rattle.call_shapes.specs.Carried.{is_carried};
 ghost use Rattle.tcg_tokens.specs.Message.{message};
 ghost use Rattle.tcg_tokens.specs.Reading.{reading as message_in};
-ghost use Rattle.methods.specs.Effects.{holder_of};
+ghost use Rattle.methods.specs.Effects.{live_holder};
 ghost use Rattle.tper.specs.Items.{OfManager, OfSession};
-ghost use Rattle.tper.specs.Tper.{Keeps, IsSent, Handles, Responds, Takes, response_at};
+ghost use Rattle.tper.specs.Tper.{Keeps, IsToldOfSend, Handles, Responds, Takes, response_at};
 
 use crate::item::{in_session, to_manager};
 use crate::response::{Responses, Room};
@@ -170,7 +170,7 @@ impl Tper {
             ∷ log o acts)) }
         ensures answer { IfOk result (λ s. (o : Origin) (acts : List Act)
             → Keeps self.old o (log o acts)
-            → IsSent (sent (facts o (log o acts)) com_id (frame_in payload.now)) s) }
+            → IsToldOfSend (sent (facts o (log o acts)) com_id (frame_in payload.now)) s) }
         ensures unchanged { IfOk result (λ s. s.changes ≡ false → self.new.store ≡ self.old.store) }
         ensures err { OnErr result (self.new ≡ self.old) }
         ensures config { self.new.store.config ≡ self.old.store.config }
@@ -229,7 +229,7 @@ impl Tper {
         spare: &mut Vec<u8>,
     ) -> Result<Sent, AllocError>
         requires com_id { is_session_com_id com_id ≡ true }
-        requires lives { holder_of self.old.live id ≢ None }
+        requires lives { live_holder self.old.live id ≢ None }
         ensures handled { IfOk result
             (λ s. Handles (λ said. OfSession (λ f its. in_session f its (message_in tokens.now)) id
             said

@@ -11,13 +11,13 @@ use Rattle.sp_cells.specs.Names.{range_uid, mbr_control, c_pin_sid, c_pin_msid, 
 use Rattle.sp_cells.specs.ColumnNames.{lock_on_reset_column, mbr_done_column, mbr_done_on_reset_column, read_locked_column, tries_column, write_locked_column}
 use Rattle.sp_rows.specs.Items.{Item, item_at, with_item, with_items}
 use Rattle.sp_rows.proofs.ItemLemmas.{with_item-absent}
-use Rattle.sp_tables.specs.Tries.{is_pin, is_tries, names_tries, without_tries, tries_among, tries_put, family_cleared, admin_cleared, locking_cleared}
-use Rattle.sp_tables.specs.AtReset.{has_kind, range_after, ranges_after, shadow_after, locking_after, is_power_cycle, admin_tries_after, locking_tries_after}
+use Rattle.sp_tables.specs.Tries.{is_pin_row, is_tries, names_tries, without_tries, tries_among, tries_put, family_cleared, admin_cleared, locking_cleared}
+use Rattle.sp_tables.specs.AtReset.{has_kind, range_after, locks_after_reset, shadow_after, locking_after, is_power_cycle, admin_tries_after, locking_tries_after}
 use Rattle.sp_tables.specs.Undo.{put_back, exchanged}
-use Rattle.shadow_mbr.specs.Stored.{Stored as Mbr, sector_size, byte_at}
-use Rattle.transactions.specs.Bytes.{bytes_from, bytes_in, laid, written, blank}
+use Rattle.shadow_mbr.specs.Stored.{StoredSectors as Mbr, sector_size, byte_at}
+use Rattle.transactions.specs.Bytes.{bytes_from, mbr_table_bytes, laid, written, blank}
 use Rattle.transactions.specs.Logs.{Piece, Log, undone, bytes_undone, AreNoTries, with_old_row, with_old_bytes}
-use Rattle.transactions.specs.Kept.{transaction, row_log, byte_log, part_with}
+use Rattle.transactions.specs.Kept.{transaction, row_log, byte_log, part_kept}
 use Rattle.transactions.specs.Stored.{Transaction, Part, is_open, part_begin, part_change, part_commit, part_close, part_tries, part_put}
 use Rattle.transactions.proofs.TriesLemmas.{without-all, among-none, without-with, among-with, without-same, among-same, without-items, among-items, without-undone, among-undone}
 use Rattle.transactions.proofs.LogLemmas.{undone-append, put_back-exchanged}
@@ -47,7 +47,7 @@ exchanged-without is o (p ∷ ps) h =
 back-again : (is : List Item) (o : Uid) (ps : List (Column × Cell)) → names_tries o ps ≡ false → put_back (without_tries (with_items is o ps)) o (exchanged is o ps) ≡ without_tries is
 back-again is o ps h = ap (λ r. put_back r o (exchanged is o ps)) (without-items is o ps) ∙ ap (put_back (with_items (without_tries is) o ps) o) (sym (exchanged-without is o ps h)) ∙ put_back-exchanged (without_tries is) o ps
 
-pub part-changed : (is : List Item) (bytes : List ℕ) (a : Option Log) (o : Uid) (ps : List (Column × Cell)) → names_tries o ps ≡ false → part_with (with_items is o ps) bytes (option_map (with_old_row o (exchanged is o ps)) a) ≡ part_change (λ r. with_items r o ps) (λ b. b) (part_with is bytes a)
+pub part-changed : (is : List Item) (bytes : List ℕ) (a : Option Log) (o : Uid) (ps : List (Column × Cell)) → names_tries o ps ≡ false → part_kept (with_items is o ps) bytes (option_map (with_old_row o (exchanged is o ps)) a) ≡ part_change (λ r. with_items r o ps) (λ b. b) (part_kept is bytes a)
 part-changed is bytes None o ps h = same-part _ _ _ _ bytes bytes None None (without-items is o ps) (among-items is o ps h) refl refl
 part-changed is bytes (Some p) o ps h =
     same-part _ _ _ _ _ _ _ _
@@ -57,17 +57,17 @@ part-changed is bytes (Some p) o ps h =
     (ap (λ r. Some (record { tsn = p.tsn; rows = r; bytes = bytes })) (without-items is o ps))
 
 -- bytes that are written
-pub part-written : (is : List Item) (m new : Mbr) (a : Option Log) (at : ℕ) (bs : List ℕ) → bytes_in new ≡ written at bs (bytes_in m) → part_with is (bytes_in new) (option_map (with_old_bytes at (bytes_from (byte_at m) at (length bs))) a) ≡ part_change (λ r. r) (written at bs) (part_with is (bytes_in m) a)
+pub part-written : (is : List Item) (m new : Mbr) (a : Option Log) (at : ℕ) (bs : List ℕ) → mbr_table_bytes new ≡ written at bs (mbr_table_bytes m) → part_kept is (mbr_table_bytes new) (option_map (with_old_bytes at (bytes_from (byte_at m) at (length bs))) a) ≡ part_change (λ r. r) (written at bs) (part_kept is (mbr_table_bytes m) a)
 part-written is m new None at bs h = same-part _ _ _ _ _ _ None None refl refl h refl
 part-written is m new (Some p) at bs h =
     same-part _ _ _ _ _ _ _ _
     refl
     refl
-    (bytes_undone-append (bytes_in new) p.bytes _ ∙ ap (λ b. bytes_undone (written at (bytes_from (byte_at m) at (length bs)) b) p.bytes) h ∙ ap (λ b. bytes_undone b p.bytes) (written-back m at (bytes_from (byte_at m) at (length bs)) bs (length-from (byte_at m) at (length bs)) (λ k lt. index-from (byte_at m) at (length bs) k lt)))
+    (bytes_undone-append (mbr_table_bytes new) p.bytes _ ∙ ap (λ b. bytes_undone (written at (bytes_from (byte_at m) at (length bs)) b) p.bytes) h ∙ ap (λ b. bytes_undone b p.bytes) (written-back m at (bytes_from (byte_at m) at (length bs)) bs (length-from (byte_at m) at (length bs)) (λ k lt. index-from (byte_at m) at (length bs) k lt)))
     (ap (λ b. Some (record { tsn = p.tsn; rows = without_tries is; bytes = b })) h)
 
 -- a transaction that begins
-pub part-begun : (is : List Item) (bytes : List ℕ) (tsn : ℕ) → part_with is bytes (Some (record { tsn = tsn; rows = []; bytes = [] })) ≡ part_begin tsn (part_with is bytes None)
+pub part-begun : (is : List Item) (bytes : List ℕ) (tsn : ℕ) → part_kept is bytes (Some (record { tsn = tsn; rows = []; bytes = [] })) ≡ part_begin tsn (part_kept is bytes None)
 part-begun is bytes tsn = refl
 
 -- and one that ends
@@ -79,30 +79,30 @@ committed-bytes : (b : Bool) (x y : List ℕ) → b ≡ true → x ≡ cond b x 
 committed-bytes true x y h = refl
 committed-bytes false x y h = cc
 
-pub part-committed : (is : List Item) (bytes : List ℕ) (a : Option Log) (tsn : ℕ) → is_open (transaction a is bytes) tsn ≡ true → part_with is bytes None ≡ part_commit tsn (part_with is bytes a)
+pub part-committed : (is : List Item) (bytes : List ℕ) (a : Option Log) (tsn : ℕ) → is_open (transaction a is bytes) tsn ≡ true → part_kept is bytes None ≡ part_commit tsn (part_kept is bytes a)
 part-committed is bytes None tsn h = cc
 part-committed is bytes (Some p) tsn h = same-part _ _ _ _ _ _ None None (committed-by (p.tsn == tsn) _ _ h) refl (committed-bytes (p.tsn == tsn) _ _ h) refl
 
-pub part-closed : (is : List Item) (bytes : List ℕ) (a : Option Log) → AreNoTries (row_log a) → part_with (undone is (row_log a)) (bytes_undone bytes (byte_log a)) None ≡ part_close (part_with is bytes a)
+pub part-closed : (is : List Item) (bytes : List ℕ) (a : Option Log) → AreNoTries (row_log a) → part_kept (undone is (row_log a)) (bytes_undone bytes (byte_log a)) None ≡ part_close (part_kept is bytes a)
 part-closed is bytes a h = same-part _ _ _ _ _ _ None None (without-undone is (row_log a)) (among-undone is (row_log a) h) refl refl
 
 -- Tries
-tries-here : (pin : Uid) → is_pin pin ≡ true → is_tries pin tries_column ≡ true
+tries-here : (pin : Uid) → is_pin_row pin ≡ true → is_tries pin tries_column ≡ true
 tries-here pin h = ap (λ b. b && (tries_column.0 == tries_column.0)) h
 
 without-put : (pin : Uid) (n : ℕ) (is : List Item) → without_tries (tries_put pin n is) ≡ without_tries is
-without-put pin n is = by (is_pin pin) refl where
-  by : (b : Bool) → is_pin pin ≡ b → without_tries (cond b (with_item is pin tries_column (Number n)) is) ≡ without_tries is
+without-put pin n is = by (is_pin_row pin) refl where
+  by : (b : Bool) → is_pin_row pin ≡ b → without_tries (cond b (with_item is pin tries_column (Number n)) is) ≡ without_tries is
   by true h = without-same is pin tries_column (Number n) (tries-here pin h)
   by false h = refl
 
 among-put : (pin : Uid) (n : ℕ) (is : List Item) → tries_among (tries_put pin n is) ≡ with_item (tries_among is) pin tries_column (Number n)
-among-put pin n is = by (is_pin pin) refl where
-  by : (b : Bool) → is_pin pin ≡ b → tries_among (cond b (with_item is pin tries_column (Number n)) is) ≡ with_item (tries_among is) pin tries_column (Number n)
+among-put pin n is = by (is_pin_row pin) refl where
+  by : (b : Bool) → is_pin_row pin ≡ b → tries_among (cond b (with_item is pin tries_column (Number n)) is) ≡ with_item (tries_among is) pin tries_column (Number n)
   by true h = among-with is pin tries_column (Number n)
   by false h = sym (with_item-absent (tries_among is) pin tries_column (Number n) (among-none is pin tries_column (ap (λ b. b && (tries_column.0 == tries_column.0)) h)))
 
-pub part-tries : (is : List Item) (bytes : List ℕ) (a : Option Log) (pin : Uid) (n : ℕ) → part_with (tries_put pin n is) bytes a ≡ part_tries pin n (part_with is bytes a)
+pub part-tries : (is : List Item) (bytes : List ℕ) (a : Option Log) (pin : Uid) (n : ℕ) → part_kept (tries_put pin n is) bytes a ≡ part_tries pin n (part_kept is bytes a)
 part-tries is bytes a pin n = same-part _ _ _ _ _ _ _ _ (ap (λ r. undone r (row_log a)) (without-put pin n is)) (among-put pin n is) refl (pending a)
   where
     pending : (x : Option Log) → transaction x (tries_put pin n is) bytes ≡ transaction x is bytes
@@ -110,7 +110,7 @@ part-tries is bytes a pin n = same-part _ _ _ _ _ _ _ _ (ap (λ r. undone r (row
     pending (Some p) = ap (λ r. Some (record { tsn = p.tsn; rows = r; bytes = bytes })) (without-put pin n is)
 
 -- one cell in force
-pub part-put : (is : List Item) (bytes : List ℕ) (o : Uid) (c : Column) (v : Cell) → is_tries o c ≡ false → part_with (with_item is o c v) bytes None ≡ part_put o c v (part_with is bytes None)
+pub part-put : (is : List Item) (bytes : List ℕ) (o : Uid) (c : Column) (v : Cell) → is_tries o c ≡ false → part_kept (with_item is o c v) bytes None ≡ part_put o c v (part_kept is bytes None)
 part-put is bytes o c v h = same-part _ _ _ _ _ _ None None (without-with is o c v) (among-same is o c v h) refl refl
 
 -- resets
@@ -144,7 +144,7 @@ locking-cleared_among : (is : List Item) → tries_among (locking_cleared is) �
 locking-cleared_among is = family-among user_pin_uid USERS (family_cleared admin_pin_uid ADMINS is) ∙ ap (family_cleared user_pin_uid USERS) (family-among admin_pin_uid ADMINS is)
 
 range-without : (kind n : ℕ) (is : List Item) → without_tries (range_after kind n is) ≡ range_after kind n (without_tries is)
-range-without kind n is = by (has_kind kind (item_at is (range_uid n) lock_on_reset_column)) ∙ ap (λ x. cond (has_kind kind x) (with_items (without_tries is) (range_uid n) ((read_locked_column, Number 1) ∷ (write_locked_column, Number 1) ∷ [])) (without_tries is)) (sym (without-all is (range_uid n) lock_on_reset_column (off (is_pin (range_uid n)))))
+range-without kind n is = by (has_kind kind (item_at is (range_uid n) lock_on_reset_column)) ∙ ap (λ x. cond (has_kind kind x) (with_items (without_tries is) (range_uid n) ((read_locked_column, Number 1) ∷ (write_locked_column, Number 1) ∷ [])) (without_tries is)) (sym (without-all is (range_uid n) lock_on_reset_column (off (is_pin_row (range_uid n)))))
   where
     by : (b : Bool) → without_tries (cond b (with_items is (range_uid n) ((read_locked_column, Number 1) ∷ (write_locked_column, Number 1) ∷ [])) is) ≡ cond b (with_items (without_tries is) (range_uid n) ((read_locked_column, Number 1) ∷ (write_locked_column, Number 1) ∷ [])) (without_tries is)
     by true = without-items is (range_uid n) ((read_locked_column, Number 1) ∷ (write_locked_column, Number 1) ∷ [])
@@ -165,18 +165,18 @@ range-among kind n is = by (has_kind kind (item_at is (range_uid n) lock_on_rese
   both false = refl
 
   by : (b : Bool) → tries_among (cond b (with_items is (range_uid n) ((read_locked_column, Number 1) ∷ (write_locked_column, Number 1) ∷ [])) is) ≡ tries_among is
-  by true = among-items is (range_uid n) ((read_locked_column, Number 1) ∷ (write_locked_column, Number 1) ∷ []) (both (is_pin (range_uid n)))
+  by true = among-items is (range_uid n) ((read_locked_column, Number 1) ∷ (write_locked_column, Number 1) ∷ []) (both (is_pin_row (range_uid n)))
   by false = refl
 
-ranges-without : (kind n : ℕ) (is : List Item) → without_tries (ranges_after kind n is) ≡ ranges_after kind n (without_tries is)
-unfolding ranges_after
+ranges-without : (kind n : ℕ) (is : List Item) → without_tries (locks_after_reset kind n is) ≡ locks_after_reset kind n (without_tries is)
+unfolding locks_after_reset
 ranges-without kind zero is = refl
-ranges-without kind (suc n) is = range-without kind n (ranges_after kind n is) ∙ ap (range_after kind n) (ranges-without kind n is)
+ranges-without kind (suc n) is = range-without kind n (locks_after_reset kind n is) ∙ ap (range_after kind n) (ranges-without kind n is)
 
-ranges-among : (kind n : ℕ) (is : List Item) → tries_among (ranges_after kind n is) ≡ tries_among is
-unfolding ranges_after
+ranges-among : (kind n : ℕ) (is : List Item) → tries_among (locks_after_reset kind n is) ≡ tries_among is
+unfolding locks_after_reset
 ranges-among kind zero is = refl
-ranges-among kind (suc n) is = range-among kind n (ranges_after kind n is) ∙ ranges-among kind n is
+ranges-among kind (suc n) is = range-among kind n (locks_after_reset kind n is) ∙ ranges-among kind n is
 
 shadow-without : (kind : ℕ) (is : List Item) → without_tries (shadow_after kind is) ≡ shadow_after kind (without_tries is)
 shadow-without kind is = by (has_kind kind (item_at is mbr_control mbr_done_on_reset_column)) ∙ ap (λ x. cond (has_kind kind x) (with_item (without_tries is) mbr_control mbr_done_column (Number 0)) (without_tries is)) (sym (without-all is mbr_control mbr_done_on_reset_column refl))
@@ -199,12 +199,12 @@ among-by : (b : Bool) (f : List Item → List Item) (is : List Item) → tries_a
 among-by true f is h = h
 among-by false f is h = refl
 
-pub admin-reset : (kind : ℕ) (is : List Item) (bytes : List ℕ) → part_with (admin_tries_after kind is) bytes None ≡ part-as (without_tries is) (admin_tries_after kind (tries_among is)) bytes None
+pub admin-reset : (kind : ℕ) (is : List Item) (bytes : List ℕ) → part_kept (admin_tries_after kind is) bytes None ≡ part-as (without_tries is) (admin_tries_after kind (tries_among is)) bytes None
 admin-reset kind is bytes = same-part _ _ _ _ _ _ None None (cleared-by (is_power_cycle kind) admin_cleared is (admin-cleared_without is)) (among-by (is_power_cycle kind) admin_cleared is (admin-cleared_among is)) refl refl
 
-pub locking-reset : (kind : ℕ) (is : List Item) (bytes : List ℕ) → part_with (locking_tries_after kind (locking_after kind is)) bytes None ≡ part-as (locking_after kind (without_tries is)) (locking_tries_after kind (tries_among is)) bytes None
+pub locking-reset : (kind : ℕ) (is : List Item) (bytes : List ℕ) → part_kept (locking_tries_after kind (locking_after kind is)) bytes None ≡ part-as (locking_after kind (without_tries is)) (locking_tries_after kind (tries_among is)) bytes None
 locking-reset kind is bytes =
-    let locked : List Item = ranges_after kind (RANGES + 1) is in
+    let locked : List Item = locks_after_reset kind (RANGES + 1) is in
     let after : List Item = locking_after kind is in
     let rows : without_tries after ≡ locking_after kind (without_tries is) = shadow-without kind locked ∙ ap (shadow_after kind) (ranges-without kind (RANGES + 1) is) in
     let same : tries_among after ≡ tries_among is = shadow-among kind locked ∙ ranges-among kind (RANGES + 1) is in
@@ -227,6 +227,6 @@ blank-from : (f g : ℕ → ℕ) (place n : ℕ) → ((p : ℕ) → g p ≡ 0) �
 blank-from f g place zero h = refl
 blank-from f g place (suc n) h = ap (λ b. b ∷ bytes_from g (suc place) n) (h place) ∙ ap (λ r. 0 ∷ r) (blank-from f g (suc place) n h)
 
-pub bytes_in-wiped : (m new : Mbr) → new.sectors ≡ m.sectors → ((p : ℕ) → byte_at new p ≡ 0) → bytes_in new ≡ blank (bytes_in m)
-unfolding bytes_in
+pub bytes_in-wiped : (m new : Mbr) → new.sectors ≡ m.sectors → ((p : ℕ) → byte_at new p ≡ 0) → mbr_table_bytes new ≡ blank (mbr_table_bytes m)
+unfolding mbr_table_bytes
 bytes_in-wiped m new size zeros = ap (λ n. bytes_from (byte_at new) 0 (sector_size * n)) size ∙ blank-from (byte_at m) (byte_at new) 0 (sector_size * m.sectors) zeros

@@ -15,7 +15,7 @@ use Rattle.sp_cells.specs.Ranges.{number}
 use Rattle.sp_cells.specs.Flat.{LookUp}
 use Rattle.sp_rows.specs.Items.{Item, item_at}
 use Rattle.transactions.specs.declared.change.SessionId.{SessionId}
-use Rattle.transactions.specs.Stored.{Transaction, Part, Stored, rows_seen, bytes_seen, part_close, part_put}
+use Rattle.transactions.specs.Stored.{Transaction, Part, Stored, rows_of_part, bytes_seen, part_close, part_put}
 
 -- the rows of one SP, and its Tries
 pub record Side : Type 0 where
@@ -42,7 +42,7 @@ side_of p = record { rows = p.rows; tries = p.tries }
 
 -- what the session of this number sees of it
 abbrev pub side_for : Part → ℕ → Side
-side_for p tsn = record { rows = rows_seen p tsn; tries = p.tries }
+side_for p tsn = record { rows = rows_of_part p tsn; tries = p.tries }
 
 -- what its open transaction, whoever has it, makes of it
 abbrev pub latest_side : Part → Side

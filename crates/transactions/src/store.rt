@@ -11,7 +11,7 @@ ghost use Rattle.sp_tables.specs.Undo.{IsNoBound};
 ghost use Rattle.sp_tables.specs.Tries.{is_tries as is_tries_of, names_tries as names_tries_of};
 ghost use Rattle.shadow_mbr.specs.Stored.{sector_size};
 ghost use Rattle.transactions.specs.Bytes.{written, blank};
-ghost use Rattle.transactions.specs.Stored.{part, at_part, is_open as is_open_in, part_begin, part_change, part_set, part_commit, part_close, part_tries, part_put, part_of, new_store, reverted, after_reset};
+ghost use Rattle.transactions.specs.Stored.{part, at_part, is_open as is_open_in, part_begin, part_change, part_set, part_commit, part_close, part_tries, part_put, part_from, new_store, reverted, after_reset};
 ghost use Rattle.transactions.specs.Sights.{committed_sight, sight_of, look_up, is_manufactured as is_manufactured_in, activated};
 ghost use Rattle.transactions.specs.declared.change.TransactionError.TheVariants as errors;
 ghost use Rattle.transactions.specs.Changes.{IsInside, fault_of_cells, fault_of_change};
@@ -374,7 +374,7 @@ impl Store {
 
     fn restore_locking(&mut self) -> Result<(), AllocError>
         ensures ok { OnOk result (self.new
-            ≡ at_part Locking (λ p. part_of locking_factory (blank p.bytes)) self.old) }
+            ≡ at_part Locking (λ p. part_from locking_factory (blank p.bytes)) self.old) }
         ensures err { OnErr result (self.new ≡ self.old) }
     {
         self.tables.restore_factory(Sp::Locking)?;

@@ -78,8 +78,8 @@ is_receive code = code == trusted_receive || code == trusted_receive_dma
 abbrev pub is_log_read : ℕ → Bool
 is_log_read code = code == read_log || code == read_log_dma
 
-abbrev pub is_known : ℕ → Bool
-is_known code =
+abbrev pub is_known_code : ℕ → Bool
+is_known_code code =
     is_transfer code || is_send code || is_receive code || is_log_read code
     || code == identify_device || code == flush_cache
 
@@ -180,7 +180,7 @@ Carries h _ _ = ⊥
 abbrev pub fault_of : RegH2d → Option CommandError
 fault_of h =
     if not h.is_command then Some NotCommand
-    else (if not (is_known h.command) then Some Unknown
+    else (if not (is_known_code h.command) then Some Unknown
     else (if is_transfer h.command && not (has_lba_bit h.device) then Some Device
     else (if is_log_read h.command && not (names_error_log h) then Some LogPage else None)))
 

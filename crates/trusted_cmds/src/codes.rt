@@ -1,7 +1,7 @@
 //! The codes of the commands (ACS-3, "Command codes").
 
 ghost use Rattle.std.specs.Prelude.{◌≡◌, ◌==◌, ◌||◌};
-ghost use Rattle.trusted_cmds.specs.Commands.{is_queued, is_transfer, is_send, is_receive, is_log_read, is_known};
+ghost use Rattle.trusted_cmds.specs.Commands.{is_queued, is_transfer, is_send, is_receive, is_log_read, is_known_code};
 
 pub(crate) const READ_DMA: u8 = 0x25;
 
@@ -64,7 +64,7 @@ pub(crate) fn is_log_read(command: u8) -> bool
 
 /// Whether a command code is one that the drive knows.
 pub(crate) fn is_known(command: u8) -> bool
-    ensures { result ≡ is_known command }
+    ensures { result ≡ is_known_code command }
 {
     is_transfer(command)
         || is_send(command)

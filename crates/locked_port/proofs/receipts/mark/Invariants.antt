@@ -1,5 +1,5 @@
 use Rattle.std.proofs.Common.{◌≡◌, ◌<◌, ◌≤◌, ◌+◌, ℕ, length, slice_index_or}
-use Rattle.locked_port.specs.Receipts.{IsNew, AreThere, AreOnly}
+use Rattle.locked_port.specs.Receipts.{HasOwnNumber, AreThere, AreOnly}
 use Rattle.locked_port.specs.declared.ticket.Receipt.{Receipt}
 use Rattle.locked_port.proofs.receipts.mark.Given as goal
 
@@ -9,5 +9,5 @@ invariant-loop-at l = record {
   there : AreThere l.first l.receipts l.at l.marks;
   only : AreOnly l.first l.receipts l.at l.marks;
   apart : (j : ℕ) (d : Receipt) → j < l.at → l.first < (slice_index_or l.receipts j d).number
-      → (slice_index_or l.receipts j d).number ≤ l.first + length l.marks → IsNew l.receipts j;
+      → (slice_index_or l.receipts j d).number ≤ l.first + length l.marks → HasOwnNumber l.receipts j;
 }

@@ -1,6 +1,6 @@
 use Rattle.std.proofs.Common.{◌≡◌, ℕ, ◌+◌, ◌-◌, arith, ap, ◌∙◌}
 use Rattle.sp_cells.specs.declared.names.TheConstants.{RANGES}
-use Rattle.locking.specs.Ranges.{rows_from}
+use Rattle.locking.specs.Ranges.{range_rows_from}
 use Rattle.locking.proofs.Filling.{goes_on, has_room, next_is_apart}
 use Rattle.locking.proofs.ranges.fill.Goals as goal
 
@@ -21,4 +21,4 @@ loop-range-preserved g c =
 pub returns : goal.returns
 returns g c =
     let end : c.loop-range.range - 1 ≡ RANGES = omega (arith, c.loop-range.auto.range-end, c.loop-range-test.false) in
-    c.loop-range.invariant ∙ ap (λ (n : ℕ). rows_from (g.R.Rows.look_up c.args.rows.now) 1 n) end
+    c.loop-range.invariant ∙ ap (λ (n : ℕ). range_rows_from (g.R.Rows.look_up c.args.rows.now) 1 n) end

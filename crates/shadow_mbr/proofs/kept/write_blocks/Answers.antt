@@ -1,7 +1,7 @@
 -- Each piece is written into the block of its sector.
 use Rattle.std.proofs.Common.{◌≡◌, ℕ, ◌+◌, ◌-◌, ◌/◌, ◌≤◌, ◌∙◌, arith, List, length, take, drop, ap, refl}
 use Rattle.std.proofs.lemmas.List.{length-take-le, length-drop}
-use Rattle.shadow_mbr.specs.Stored.{byte_in, byte_after}
+use Rattle.shadow_mbr.specs.Stored.{kept_byte, byte_after}
 use Rattle.shadow_mbr.specs.Places.{place_at, blocks_of}
 use Rattle.shadow_mbr.proofs.Writes.{write_more}
 use Rattle.shadow_mbr.proofs.Runs.{piece_written}
@@ -30,5 +30,5 @@ loop-done-preserved c =
       bytes = λ p.
           it.1 p
           ∙ ap (λ before. byte_after (at + done) piece before p) (c.loop-done.invariant.bytes p)
-          ∙ write_more at done len bytes piece (byte_in (blocks_of c.args.finder.now c.args.blocks.now.items) p) p within (rw size refl) whole;
+          ∙ write_more at done len bytes piece (kept_byte (blocks_of c.args.finder.now c.args.blocks.now.items) p) p within (rw size refl) whole;
     }

@@ -2,7 +2,7 @@ use Rattle.std.proofs.Common.{subst}
 use Rattle.std.proofs.lemmas.Result.{IfOk-weaker}
 use Rattle.std.specs.Io.Buffered.{reader_remaining}
 use Rattle.tool.specs.Ends.{OpenedStands}
-use Rattle.tool.specs.Outcomes.{outcome_of}
+use Rattle.tool.specs.Outcomes.{run_outcome_of}
 use Rattle.tool.specs.Progress.{FirstLine, OpensTo}
 use Rattle.tool.proofs.Texts.{weaker}
 use Rattle.tool.proofs.Outcomes.{first-opens, opened-runs}
@@ -26,10 +26,10 @@ returns-in-Runs g c =
     c.opening_lines.new.line.items first left
     (subst (λ told. FirstLine told text c.first_line.new.line.items first) c.in-Some.is said)
     c.in_ok-opened.ensures.leads in
-    opened-runs on_port (outcome_of config text) _ c.in-Runs.run' c.args.report.now.last.items
+    opened-runs on_port (run_outcome_of config text) _ c.in-Runs.run' c.args.report.now.last.items
     c.opening_lines.new.line.items left _ _ _ _
     (subst
-    (λ opened. OpensTo on_port opened (outcome_of config text) c.opening_lines.new.line.items left)
+    (λ opened. OpensTo on_port opened (run_outcome_of config text) c.opening_lines.new.line.items left)
     c.in-Runs.is opens)
     c.requires.last leads)
     c.in_ok-on_port.ensures)

@@ -1,7 +1,7 @@
 use Rattle.std.proofs.Common.{IfOk, subst}
 use Rattle.std.specs.Io.Buffered.{reader_remaining}
-use Rattle.tool.specs.Ends.{status_of}
-use Rattle.tool.specs.Outcomes.{outcome_of, ScriptYields}
+use Rattle.tool.specs.Ends.{exit_status}
+use Rattle.tool.specs.Outcomes.{run_outcome_of, ScriptYields}
 use Rattle.tool.proofs.Outcomes.{told-so}
 use Rattle.tool.proofs.script.run_script_with_faults.Goals as goal
 
@@ -12,6 +12,6 @@ returns-clause-whole g c =
     subst
     (λ start. IfOk c.tell.result (λ status. ScriptYields c.args.options.now start status old new))
     c.in_ok-reader.ensures.reader
-    (told-so c.tell.result (status_of c.in_ok-end.end)
-    (reader_remaining g.R.Read.remaining c.in_ok-reader.reader) (outcome_of c.args.options.now) old new
+    (told-so c.tell.result (exit_status c.in_ok-end.end)
+    (reader_remaining g.R.Read.remaining c.in_ok-reader.reader) (run_outcome_of c.args.options.now) old new
     c.tell.ensures.status c.in_ok-end.ensures.yields)

@@ -6,13 +6,13 @@ use Rattle.history.specs.Tcg.{data_of, receive_data}
 use Rattle.history.specs.Facts.{Facts, facts}
 use Rattle.history.specs.History.{log}
 use Rattle.drive.specs.Decision.{executed}
-use Rattle.drive.specs.State.{Keeps}
+use Rattle.drive.specs.State.{KeepsDrive}
 use Rattle.drive.proofs.Keeping.{seen-is, nothing-keeps, mended-keeps}
 use Rattle.drive.proofs.drive.Drive.execute.Goals as goal
 
 pub returns-in_ok-bytes-in-Receive-clause-kept : goal.returns-in_ok-bytes-in-Receive-clause-kept
 returns-in_ok-bytes-in-Receive-clause-kept c = λ o acts k.
-    subst (λ (x : Command). Keeps c.received.new.self o (executed (facts o (log o acts)) c.args.payload.now x ∷ log o acts)) (sym c.in-Receive.is)
+    subst (λ (x : Command). KeepsDrive c.received.new.self o (executed (facts o (log o acts)) c.args.payload.now x ∷ log o acts)) (sym c.in-Receive.is)
     (c.in_ok-bytes-in-Receive.ensures.kept o (log o acts) c.in-Receive.blocks (ap (λ (n : ℕ). sector_size * n) c.from.ensures) k)
 
 pub returns-in_ok-bytes-in-Receive-clause-data : goal.returns-in_ok-bytes-in-Receive-clause-data
@@ -22,7 +22,7 @@ returns-in_ok-bytes-in-Receive-clause-data c = λ o acts k.
 
 pub returns-in_ok-identify-in-Identify-clause-kept : goal.returns-in_ok-identify-in-Identify-clause-kept
 returns-in_ok-identify-in-Identify-clause-kept c = λ o acts k.
-    subst (λ (x : Command). Keeps c.args.self.now o (executed (facts o (log o acts)) c.args.payload.now x ∷ log o acts)) (sym c.in-Identify.is)
+    subst (λ (x : Command). KeepsDrive c.args.self.now o (executed (facts o (log o acts)) c.args.payload.now x ∷ log o acts)) (sym c.in-Identify.is)
     (nothing-keeps c.args.self.now o (log o acts) _ refl k)
 
 pub returns-in_ok-identify-in-Identify-clause-data : goal.returns-in_ok-identify-in-Identify-clause-data
@@ -32,10 +32,10 @@ returns-in_ok-identify-in-Identify-clause-data c = λ o acts k.
 
 pub returns-in_ok-read_log-in-ReadLog10-clause-kept : goal.returns-in_ok-read_log-in-ReadLog10-clause-kept
 returns-in_ok-read_log-in-ReadLog10-clause-kept c = λ o acts k.
-    subst (λ (x : Command). Keeps c.read_log.new.self o (executed (facts o (log o acts)) c.args.payload.now x ∷ log o acts)) (sym c.in-ReadLog10.is)
+    subst (λ (x : Command). KeepsDrive c.read_log.new.self o (executed (facts o (log o acts)) c.args.payload.now x ∷ log o acts)) (sym c.in-ReadLog10.is)
     (mended-keeps c.args.self.now c.read_log.new.self o (log o acts) c.in_ok-read_log-in-ReadLog10.ensures.mended k)
 
 pub returns-in-Flush-clause-kept : goal.returns-in-Flush-clause-kept
 returns-in-Flush-clause-kept c = λ o acts k.
-    subst (λ (x : Command). Keeps c.args.self.now o (executed (facts o (log o acts)) c.args.payload.now x ∷ log o acts)) (sym c.in-Flush.is)
+    subst (λ (x : Command). KeepsDrive c.args.self.now o (executed (facts o (log o acts)) c.args.payload.now x ∷ log o acts)) (sym c.in-Flush.is)
     (nothing-keeps c.args.self.now o (log o acts) _ refl k)

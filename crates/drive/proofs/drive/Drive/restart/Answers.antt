@@ -2,7 +2,7 @@ use Rattle.std.proofs.Common.{◌≡◌, ℕ, ◌∷◌, ◌∙◌, ap, sym, sub
 use Rattle.sp_cells.specs.Config.{Config}
 use Rattle.history.specs.Events.{WasReset, did}
 use Rattle.history.specs.History.{log}
-use Rattle.drive.specs.State.{State, Keeps}
+use Rattle.drive.specs.State.{DriveState, KeepsDrive}
 use Rattle.drive.proofs.Restarts.{restart-keeps}
 use Rattle.drive.proofs.drive.Drive.restart.Goals as goal
 
@@ -14,7 +14,7 @@ invariant_of-self c =
 pub returns : goal.returns
 returns c = λ o past k.
     let inside = c.self.inside in
-    let old : State = record { tper = inside.tper; queue = inside.queue; media = inside.media } in
-    let new : State = record { tper = c.reset.new.self; queue = c.new-self-inside.result; media = inside.media } in
-    let kept : Keeps old o past = subst (λ (x : State). Keeps x o past) (sym c.self.view_is) k in
+    let old : DriveState = record { tper = inside.tper; queue = inside.queue; media = inside.media } in
+    let new : DriveState = record { tper = c.reset.new.self; queue = c.new-self-inside.result; media = inside.media } in
+    let kept : KeepsDrive old o past = subst (λ (x : DriveState). KeepsDrive x o past) (sym c.self.view_is) k in
     restart-keeps old new o past c.args.kind (c.reset.ensures.kept o past kept.tper) c.new-self-inside.ensures.empty refl kept

@@ -8,10 +8,10 @@ use Rattle.history.specs.Facts.{facts}
 use Rattle.history.specs.History.{Accept as AcceptFis, log, event}
 use Rattle.drive.specs.Answers.{IsAnswer}
 use Rattle.drive.specs.State.{Agrees as DriveAgrees}
-use Rattle.port_history.specs.Stages.{is_queued}
+use Rattle.port_history.specs.Stages.{is_queued_command}
 use Rattle.history.specs.Audit.{line_for}
-use Rattle.port.specs.Answers.{front}
-use Rattle.port.specs.State.{State, Receives, IsFilled}
+use Rattle.port.specs.Answers.{buffer_front}
+use Rattle.port.specs.State.{PortState, Receives, IsFilled}
 use Rattle.port.proofs.Words.{ok_same}
 use Rattle.port.proofs.port.Port.do_accept.Goals as goal
 
@@ -22,9 +22,9 @@ returns-clause-state c = rw (← c.self.view_is) (λ f e.
     let answer = c.in-Ok-accept.answer in
     let filled = c.take_in-len.ensures.filled in
     let same : c.in-Ok.command ≡ f = ok_same c.in-Ok.command f (c.in-Ok.ensures.exact ∙ e) in
-    let payload : c.front-payload.result.now ≡ front memory tag (payload_of c.in-Ok.command.fis) =
+    let payload : c.front-payload.result.now ≡ buffer_front memory tag (payload_of c.in-Ok.command.fis) =
     c.front-payload.ensures.value
-    ∙ ap (front memory tag) c.payload_of-len.ensures in
+    ∙ ap (buffer_front memory tag) c.payload_of-len.ensures in
     record {
       put = c.in_ok-put.put;
       was = rw (← c.self.view_is) at c.in_ok-put.ensures.put;
@@ -32,14 +32,14 @@ returns-clause-state c = rw (← c.self.view_is) (λ f e.
       bytes = filled.0;
       took = record {
         drive = λ o acts h.
-            subst (λ (g : Fetched). DriveAgrees c.accept.new.self o (AcceptFis g.fis (front memory tag (payload_of g.fis)) ∷ acts)) same
+            subst (λ (g : Fetched). DriveAgrees c.accept.new.self o (AcceptFis g.fis (buffer_front memory tag (payload_of g.fis)) ∷ acts)) same
             (subst (λ (xs : List ℕ). DriveAgrees c.accept.new.self o (AcceptFis c.in-Ok.command.fis xs ∷ acts)) payload (c.in-Ok-accept.ensures.agrees o acts h));
         answers = λ o acts h.
-            subst (λ (g : Fetched). IsAnswer (facts o (log o acts)) (h2d_at g.fis) (event o (log o acts) (AcceptFis g.fis (front memory tag (payload_of g.fis)))) answer) same
+            subst (λ (g : Fetched). IsAnswer (facts o (log o acts)) (h2d_at g.fis) (event o (log o acts) (AcceptFis g.fis (buffer_front memory tag (payload_of g.fis)))) answer) same
             (subst (λ (xs : List ℕ). IsAnswer (facts o (log o acts)) (h2d_at c.in-Ok.command.fis) (event o (log o acts) (AcceptFis c.in-Ok.command.fis xs)) answer) payload (c.in-Ok-accept.ensures.answer o acts h));
       };
       memory =
-          subst (λ (xs : List ℕ). IsFilled memory c.take_in-len.new.memory tag (is_queued c.in_ok-put.put.command) xs filled.0) c.deref.ensures.value
+          subst (λ (xs : List ℕ). IsFilled memory c.take_in-len.new.memory tag (is_queued_command c.in_ok-put.put.command) xs filled.0) c.deref.ensures.value
           (subst (λ (b : Bool). IsFilled memory c.take_in-len.new.memory tag b c.deref.result.now filled.0) c.is_queued-queued.ensures filled.2);
       received = subst (Receives memory c.take_in-len.new.memory) c.as_slice-fises.ensures.value c.take_in-len.ensures.received;
       slots = search rules;
@@ -50,5 +50,5 @@ returns-clause-state c = rw (← c.self.view_is) (λ f e.
       audit =
           c.note.ensures
           ∙ ap (λ (xs : List AuditLine). xs ++ line_for c.next_number-number.result c.in_ok-put.put.client answer.denied) c.reserve-2.ensures.items
-          ∙ ap (λ (n : ℕ). c.self.inside.audit.items ++ line_for n c.in_ok-put.put.client answer.denied) (c.next_number-number.ensures ∙ ap (λ (s : State). 1 + length s.history) (sym c.self.view_is));
+          ∙ ap (λ (n : ℕ). c.self.inside.audit.items ++ line_for n c.in_ok-put.put.client answer.denied) (c.next_number-number.ensures ∙ ap (λ (s : PortState). 1 + length s.history) (sym c.self.view_is));
     })

@@ -6,12 +6,12 @@ use Rattle.port_history.specs.declared.step.Step.{Step}
 use Rattle.port_history.specs.Steps.{trace}
 use Rattle.port_history.specs.Refusals.{refusal}
 use Rattle.port.specs.Agreement.{PortAgrees}
-use Rattle.port_history.specs.Ready.{ready, as_step}
+use Rattle.port_history.specs.Ready.{engine_ready, as_step}
 use Rattle.port.proofs.Readies.{some_chosen, chosen_may, only_memory}
 use Rattle.port.proofs.port.Port.turn.Goals as goal
 
 pub returns-in_default-clause-none : goal.returns-in_default-clause-none
-returns-in_default-clause-none c = λ o list h e. some_chosen c.args.choice (ready o list) (sym (sym c.in_default.is ∙ c.pick.ensures o list h))
+returns-in_default-clause-none c = λ o list h e. some_chosen c.args.choice (engine_ready o list) (sym (sym c.in_default.is ∙ c.pick.ensures o list h))
 
 pub returns-in_err-number-clause-memory : goal.returns-in_err-number-clause-memory
 returns-in_err-number-clause-memory c =

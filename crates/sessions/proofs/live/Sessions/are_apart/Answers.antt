@@ -1,6 +1,6 @@
 use Rattle.std.proofs.Common.{subst}
-use Rattle.sessions.specs.Live.{Live, AreApart}
+use Rattle.sessions.specs.Live.{Live, AreOnOwnSps}
 use Rattle.sessions.proofs.live.Sessions.are_apart.Goals as goal
 
 pub returns : goal.returns
-returns c = subst (λ (l : Live). AreApart l.sessions) c.self.view_is c.self.invariant.1
+returns c = subst (λ (l : Live). AreOnOwnSps l.sessions) c.self.view_is c.self.invariant.1

@@ -1,6 +1,6 @@
 use Rattle.std.proofs.Common.{[]}
 use Rattle.tool.specs.Acts.{receive_of}
-use Rattle.tool.specs.Effects.{Makes, commanded}
+use Rattle.tool.specs.Effects.{Makes, command_effect}
 use Rattle.tool.specs.declared.running.Turn.TheVariants.{Goes}
 use Rattle.tool.proofs.Runs.{as-given}
 use Rattle.tool.proofs.running.RunningPhase.receive.Goals as goal
@@ -8,7 +8,7 @@ use Rattle.tool.proofs.running.RunningPhase.receive.Goals as goal
 pub returns : goal.returns
 returns c = as-given
     (λ command payload. Makes
-    (λ o acts. commanded o acts c.args.client command payload) c.args.self.now
+    (λ o acts. command_effect o acts c.args.client command payload) c.args.self.now
     c.command.new.self c.args.report.now c.command.new.report (Goes c.in_ok-aborted.aborted))
     c.receive_of.result
     (receive_of c.args.com_id c.args.blocks) c.clear.new.self.items [] c.receive_of.ensures

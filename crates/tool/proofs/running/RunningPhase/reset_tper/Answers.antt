@@ -1,5 +1,5 @@
 use Rattle.tool.specs.Acts.{tper_reset, zero_block}
-use Rattle.tool.specs.Effects.{Makes, commanded}
+use Rattle.tool.specs.Effects.{Makes, command_effect}
 use Rattle.tool.specs.declared.running.Turn.TheVariants.{Goes}
 use Rattle.tool.proofs.Runs.{as-given}
 use Rattle.tool.proofs.running.RunningPhase.reset_tper.Goals as goal
@@ -7,7 +7,7 @@ use Rattle.tool.proofs.running.RunningPhase.reset_tper.Goals as goal
 pub returns : goal.returns
 returns c = as-given
     (λ command payload. Makes
-    (λ o acts. commanded o acts c.args.client command payload) c.args.self.now
+    (λ o acts. command_effect o acts c.args.client command payload) c.args.self.now
     c.command.new.self c.args.report.now c.command.new.report (Goes c.in_ok-aborted.aborted))
     c.tper_reset.result
     tper_reset c.fill.new.buffer.items zero_block c.tper_reset.ensures

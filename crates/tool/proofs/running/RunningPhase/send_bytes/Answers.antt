@@ -1,6 +1,6 @@
 use Rattle.std.proofs.Common.{ap, ◌∙◌, length}
-use Rattle.tool.specs.Acts.{send_of, blocks_of, in_blocks}
-use Rattle.tool.specs.Effects.{Makes, commanded}
+use Rattle.tool.specs.Acts.{send_of, block_count, in_blocks}
+use Rattle.tool.specs.Effects.{Makes, command_effect}
 use Rattle.tool.specs.declared.running.Turn.TheVariants.{Goes}
 use Rattle.tool.proofs.Runs.{as-given}
 use Rattle.tool.proofs.running.RunningPhase.send_bytes.Goals as goal
@@ -10,8 +10,8 @@ returns c =
     let bytes = c.args.self.now.payload.items in
     as-given
     (λ command payload. Makes
-    (λ o acts. commanded o acts c.args.client command payload) c.args.self.now
+    (λ o acts. command_effect o acts c.args.client command payload) c.args.self.now
     c.command.new.self c.args.report.now c.command.new.report (Goes c.in_ok-aborted.aborted))
-    c.send_of.result (send_of c.args.com_id (blocks_of (length bytes))) _ (in_blocks bytes)
+    c.send_of.result (send_of c.args.com_id (block_count (length bytes))) _ (in_blocks bytes)
     (c.send_of.ensures ∙ ap (send_of c.args.com_id) c.in_ok-blocks.ensures.blocks)
     c.in_ok-blocks.ensures.bytes c.in_ok-aborted.ensures

@@ -1,5 +1,5 @@
 use Rattle.std.proofs.Common.{sym, subst, refl, ◌∙◌}
-use Rattle.tool.specs.Courses.{step, DriveSteps}
+use Rattle.tool.specs.Courses.{line_course, DriveSteps}
 use Rattle.tool.specs.declared.ending.Fault.TheVariants as faults
 use Rattle.tool.specs.declared.running.Turn.TheVariants.{Bad}
 use Rattle.tool.proofs.Runs.{stands-after}
@@ -21,5 +21,5 @@ returns-in-Err-clause-steps c = λ o acts runs.
     let report = c.args.report.now in
     subst
     (λ read. DriveSteps (Bad (faults.Line c.in-Err.fault))
-    (step o acts report.last.items c.args.text.now read) c.args.self.now o report report)
+    (line_course o acts report.last.items c.args.text.now read) c.args.self.now o report report)
     (sym (sym c.parse.ensures.exact ∙ c.in-Err.is)) (refl, refl)
