@@ -4,7 +4,7 @@ ghost use Rattle.std.specs.Prelude.{◌≡◌, ◌==◌, ◌<◌, ◌≤◌, ◌
 ghost use Rattle.std.specs.Str.{bytes_eq};
 ghost use Rattle.tcg_tokens.specs.Tree.{tree, trees, bytes, number, list, named};
 ghost use Rattle.sp_cells.specs.Limits.{most_elements};
-ghost use Rattle.call_shapes.specs.CellValues.{uid_tree, element_tree, numbers_tree, cell_tree, each_of, number_in as number_of_tree, uid_in as uid_of_tree, operator_in as operator_of_tree, element_in as element_of_tree, bytes_in as bytes_of_tree, numbers_in as numbers_of_trees, elements_in as elements_of_trees, expression_of, resets_of, columns_written as columns_of_numbers, name_of, secret_of, flag_of, cell_in};
+ghost use Rattle.call_shapes.specs.CellValues.{uid_tree, element_tree, numbers_tree, cell_tree, each_of, number_in as number_of_tree, uid_in as uid_of_tree, operator_in as operator_of_tree, element_in as element_of_tree, bytes_in as bytes_of_tree, numbers_in as numbers_of_trees, elements_in as elements_of_trees, expression_of, resets_of, columns_written as columns_of_numbers, name_cell, secret_of, flag_of, cell_in};
 ghost use Rattle.call_shapes.specs.Named.{list_in as list_of_tree};
 ghost use Rattle.sp_cells.specs.Names.{col};
 ghost use Rattle.sp_cells.specs.declared.cells.Cell.TheVariants as cells;
@@ -283,7 +283,7 @@ fn bytes_cell(alloc: Global, octets: &[u8]) -> Result<Cell, AllocError>
 
 /// Bytes of any length that a value is.
 fn name_in(alloc: Global, value: &Value) -> Result<Option<Cell>, AllocError>
-    ensures { IfOk result (λ c. c ≡ name_of (bytes_of_tree (tree value.now))) }
+    ensures { IfOk result (λ c. c ≡ name_cell (bytes_of_tree (tree value.now))) }
 {
     let Some(octets) = bytes_in(value) else {
         return Ok(None);

@@ -4,7 +4,7 @@ use Rattle.audit.specs.declared.reason.Why.{Why}
 use Rattle.audit.specs.declared.reason.AuditLine.{AuditLine}
 use Rattle.history.specs.Opening.{Origin}
 use Rattle.methods.specs.Laws.{IsAmong}
-use Rattle.history.specs.Audit.{ClientAct, event_of, line_for, audit_of_acts, IsLineOf, ActAuditLaw}
+use Rattle.history.specs.Audit.{ClientAct, event_of, line_for, audit_of_acts, IsLineOfAct, ActAuditLaw}
 
 none-some : {A : Type 0} {x : A} → None ≡ Some x → ⊥
 none-some h = cc
@@ -24,7 +24,7 @@ among-cases (x ∷ xs) ys y (inl h) = inl (inl h)
 among-cases (x ∷ xs) ys y (inr h) = elim (among-cases xs ys y h) [ inl g ↦ inl (inr g) | inr g ↦ inr g ]
 
 -- the line of the newest act
-newest-is : (o : Origin) (c : ClientAct) (before : List ClientAct) (line : AuditLine) (why : Option Why) → (event_of o c before).denied ≡ why → IsAmong (line_for (length before + 1) c.0 why) line → IsLineOf o (c ∷ before) line
+newest-is : (o : Origin) (c : ClientAct) (before : List ClientAct) (line : AuditLine) (why : Option Why) → (event_of o c before).denied ≡ why → IsAmong (line_for (length before + 1) c.0 why) line → IsLineOfAct o (c ∷ before) line
 newest-is o c before line None is h = absurd h
 newest-is o c before line (Some why) is (inr h) = absurd h
 newest-is o c before line (Some why) is (inl h) = record {
@@ -37,11 +37,11 @@ newest-is o c before line (Some why) is (inl h) = record {
   denied = is ∙ ap (λ (l : AuditLine). Some l.why) h;
 }
 
-older-is : (o : Origin) (c : ClientAct) (before : List ClientAct) (line : AuditLine) → IsLineOf o before line → IsLineOf o (c ∷ before) line
+older-is : (o : Origin) (c : ClientAct) (before : List ClientAct) (line : AuditLine) → IsLineOfAct o before line → IsLineOfAct o (c ∷ before) line
 older-is o c before line w =
     record { later = c ∷ w.later; one = w.one; before = w.before; place = ap (λ xs. c ∷ xs) w.place; step = w.step; client = w.client; denied = w.denied }
 
-line-is : (o : Origin) (made : List ClientAct) (line : AuditLine) → IsAmong (audit_of_acts o made) line → IsLineOf o made line
+line-is : (o : Origin) (made : List ClientAct) (line : AuditLine) → IsAmong (audit_of_acts o made) line → IsLineOfAct o made line
 line-is o [] line h = absurd h
 line-is o (c ∷ before) line h = elim (among-cases (line_for (length before + 1) c.0 (event_of o c before).denied) (audit_of_acts o before) line h) [
   | inl here ↦ newest-is o c before line (event_of o c before).denied refl here

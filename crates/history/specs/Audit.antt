@@ -30,7 +30,7 @@ audit_of_acts o (c ∷ before) =
     line_for (length before + 1) c.0 (event_of o c before).denied ++ audit_of_acts o before
 
 -- The line of a denied act: with its number, its client and what denied it.
-pub record IsLineOf (o : Origin) (made : List ClientAct) (line : AuditLine) : Type 0 where
+pub record IsLineOfAct (o : Origin) (made : List ClientAct) (line : AuditLine) : Type 0 where
   pub later : List ClientAct
   pub one : ClientAct
   pub before : List ClientAct
@@ -43,4 +43,4 @@ pub record IsLineOf (o : Origin) (made : List ClientAct) (line : AuditLine) : Ty
 abbrev pub ActAuditLaw : Type 0
 ActAuditLaw =
     (o : Origin) (made : List ClientAct) (line : AuditLine)
-    → IsAmong (audit_of_acts o made) line ↔ IsLineOf o made line
+    → IsAmong (audit_of_acts o made) line ↔ IsLineOfAct o made line

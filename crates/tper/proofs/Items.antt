@@ -31,7 +31,7 @@ use Rattle.history.specs.KeptSessions.{KeepsSessions, id_of}
 use Rattle.sessions.specs.Made.{Meets}
 use Rattle.history.proofs.KeptCallsProofs.{kept_call_law}
 use Rattle.history.proofs.KeptSessionsStart.{start_law}
-use Rattle.tper.specs.Items.{Answers, OfManager, OfSession}
+use Rattle.tper.specs.Items.{AnswersAs, OfManager, OfSession}
 use Rattle.tper.proofs.Carried.{call_carried}
 
 -- an answer that is this message can be carried, as the message can
@@ -50,7 +50,7 @@ pub call-met : (s t : Stored) (l m : Live) (session : SessionId) (call : Call) (
     → OfSession (λ f its. outcome_of f.rows its.sp (judgement_on f its (uid_of call.object) (uid_of call.method) (trees call.args.items))) session said s t l m
 call-met s t l m session call said fulfils = λ o acts its ks kl lives same.
     let here : Fulfils (outcome_in s (id_of its) (judged_call s l (id_of its) call)) said s t l m = subst (λ (id : SessionId). Fulfils (outcome_in s id (judged_call s l id call)) said s t l m) same fulfils in
-    subst (λ (x : Outcome). Answers x said s t l m)
+    subst (λ (x : Outcome). AnswersAs x said s t l m)
     (ap (outcome_in s (id_of its)) (same-call s l (id_of its) call)
     ∙ kept_call_law o acts s l its (uid_of call.object) (uid_of call.method) (trees call.args.items) ks kl lives)
     here.met
@@ -99,5 +99,5 @@ pub read-by : (read r : Result Message TokenError) (com_id : ℕ) (said : Answer
 read-by read r com_id said s t l m h g = subst (λ (x : Result Message TokenError). OfManager (λ f. to_manager f com_id x) said s t l m) (sym h) g
 
 -- an answer that changes nothing
-pub unchanged : (x : Message) (said : Answered) (s : Stored) (l : Live) → message said.reply ≡ x → said.denied ≡ None → said.wipe ≡ false → Answers (says Unchanged x) said s s l l
+pub unchanged : (x : Message) (said : Answered) (s : Stored) (l : Live) → message said.reply ≡ x → said.denied ≡ None → said.wipe ≡ false → AnswersAs (says Unchanged x) said s s l l
 unchanged x said s l h k w = record { answer = h; denied = k; wipe = w; store = refl; sessions = record { next = refl; at = λ n. refl } }

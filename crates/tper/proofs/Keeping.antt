@@ -22,7 +22,7 @@ use Rattle.sessions.specs.Made.{LeavesAll}
 use Rattle.history.proofs.KeptStoreOpenings.{store_opening_law}
 use Rattle.history.proofs.KeptSessionsLaws.{sessions_opening_law}
 use Rattle.tper.specs.declared.trusted.Sent.{Sent}
-use Rattle.tper.specs.Items.{Answers}
+use Rattle.tper.specs.Items.{AnswersAs}
 use Rattle.tper.specs.Tper.{Tper, Keeps, IsToldOfSend, Responds, Takes, response_at, fits_in}
 use Rattle.tper.proofs.KeptBeside.{kept_after}
 
@@ -33,7 +33,7 @@ waits-there true bytes w = refl
 waits-there false bytes w = refl
 
 pub answer-kept : (t u : Tper) (o : Origin) (past : List Event) (com_id : ℕ) (session : Session) (out : Outcome) (said : Answered)
-    → Answers out said t.store u.store t.live u.live → Responds com_id session (message said.reply) t u
+    → AnswersAs out said t.store u.store t.live u.live → Responds com_id session (message said.reply) t u
     → Keeps t o past → Keeps u o (answers com_id session out ∷ past)
 answer-kept t u o past com_id session out said met responds k =
     kept_after t u o past (answers com_id session out) met.store met.sessions
@@ -42,7 +42,7 @@ answer-kept t u o past com_id session out said met responds k =
     ∙ waits-there (com_id == other) (frame_bytes com_id session (item_spelling_of out.said)) (response_at t.waiting other)) k
 
 pub answer-sent : (t u : Tper) (com_id : ℕ) (session : Session) (out : Outcome) (said : Answered) (s : Sent)
-    → Answers out said t.store u.store t.live u.live → s.denied ≡ said.denied → s.wipes ≡ said.wipe
+    → AnswersAs out said t.store u.store t.live u.live → s.denied ≡ said.denied → s.wipes ≡ said.wipe
     → IsToldOfSend (answers com_id session out) s
 answer-sent t u com_id session out said s met denied wiped = record { failed = refl; denied = denied ∙ met.denied; wipes = wiped ∙ met.wipe }
 

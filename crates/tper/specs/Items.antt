@@ -16,14 +16,14 @@ use Rattle.history.specs.KeptSessions.{KeepsSessions, id_of}
 use Rattle.sessions.specs.Made.{Meets}
 
 -- The answer, and what was made of the store and of the sessions, is what an outcome says.
-abbrev pub Answers : Outcome → Answered → Stored → Stored → Live → Live → Type 0
-Answers out said s t l m = Meets out (message said.reply) said.denied said.wipe s t l m
+abbrev pub AnswersAs : Outcome → Answered → Stored → Stored → Live → Live → Type 0
+AnswersAs out said s t l m = Meets out (message said.reply) said.denied said.wipe s t l m
 
 -- What an outcome of the session manager comes to.
 abbrev pub OfManager : (Facts → Outcome) → Answered → Stored → Stored → Live → Live → Type 0
 OfManager outcome said s t l m =
     (o : Origin) (past : List Event) → KeepsStore s o past → KeepsSessions l past
-    → Answers (outcome (facts o past)) said s t l m
+    → AnswersAs (outcome (facts o past)) said s t l m
 
 -- What an outcome in a live session comes to.
 abbrev pub OfSession : (Facts → Begun → Outcome) → SessionId → Answered → Stored → Stored → Live
@@ -32,4 +32,4 @@ OfSession outcome session said s t l m =
     (o : Origin) (acts : List Act) (its : Begun)
     → KeepsStore s o (log o acts) → KeepsSessions l (log o acts)
     → session_on (log o acts) its.sp ≡ Some its → session ≡ id_of its
-    → Answers (outcome (facts o (log o acts)) its) said s t l m
+    → AnswersAs (outcome (facts o (log o acts)) its) said s t l m
