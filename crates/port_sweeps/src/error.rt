@@ -1,57 +1,41 @@
-//! Why a sweep ends before its end.
+//! Why a run ends before its end.
 
 use port::PortError;
 use std::alloc::{AllocError, AllocFailed};
 use std::io;
 use thiserror::Error;
 
-/// Why a sweep ends before its end.
+/// Why a run ends before its end.
 #[derive(Clone, Copy, Debug, Error)]
 pub enum SweepError {
-    #[error("usage: port_sweeps [refused [ALLOCATIONS]] < LISTS, or port_sweeps full")]
+    #[error("usage: port_sweeps, port_sweeps full, or port_sweeps refused < SCRIPT")]
     Usage,
-    /// The line with this number is none of a list.
-    #[error("line {0}: no line of a list")]
-    Line(u64),
-    /// A list has range lines that no drive takes.
-    #[error("range lines that no drive takes")]
-    Ranges,
-    /// The input could not be read.
-    #[error("the input cannot be read")]
-    Read,
-    /// A step of a probe was refused.
-    #[error("a step of a probe is refused")]
-    Probe,
-    /// The output could not be written.
-    #[error("the output cannot be written")]
-    Write,
+    #[error("a line that no script of a port has")]
+    Line,
+    /// The port does not begin, or a step is refused for another cause than want of memory.
+    #[error("the steps cannot be played")]
+    Steps,
+    #[error("the input cannot be read, or the output not be written")]
+    Stream,
     /// A growth was refused.
     #[error("out of memory")]
     OutOfMemory,
 }
 
 impl SweepError {
-    /// Why a port refuses a step of a probe.
+    /// Why a script cannot be played.
     pub fn of_port(error: PortError) -> SweepError {
         match error {
             PortError::OutOfMemory => SweepError::OutOfMemory,
-            _ => SweepError::Probe,
+            _ => SweepError::Steps,
         }
     }
 
-    /// Why the input cannot be read.
-    pub fn reading(error: io::Error) -> SweepError {
+    /// Why a stream fails.
+    pub fn of_stream(error: io::Error) -> SweepError {
         match error.kind() {
             io::ErrorKind::OutOfMemory => SweepError::OutOfMemory,
-            _ => SweepError::Read,
-        }
-    }
-
-    /// Why the output cannot be written.
-    pub fn writing(error: io::Error) -> SweepError {
-        match error.kind() {
-            io::ErrorKind::OutOfMemory => SweepError::OutOfMemory,
-            _ => SweepError::Write,
+            _ => SweepError::Stream,
         }
     }
 }

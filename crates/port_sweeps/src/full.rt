@@ -1,18 +1,12 @@
 //! A history that has no room left.
 
-ghost use Rattle.std.specs.Prelude.{◌≡◌, IfOk};
-ghost use Rattle.locked_port.specs.Counts.{Stands};
-
-use crate::error::SweepError;
-use drive::{Drive, DriveConfig, ResetKind};
+use crate::locked::First;
+use drive::ResetKind;
 use fis::Tag;
-use locked_port::{Closed, Gate, LockedPort, Pass, Pick, PortName};
+use locked_port::{Gate, LockedPort, Pass, Pick, PortName};
 use port::{EngineStep, Port, PortError, Request, Step};
-use std::alloc::{AllocError, Global};
-use std::marker::Brand;
 use std::sync::Wait;
 use std::sync::atomic::{AtomicU64, Ordering};
-use std::sync::ledger::Blank;
 use std::thread::{Threads, join};
 
 /// The steps of a history that has no room left.
@@ -25,7 +19,7 @@ const COMMANDS: usize = MOST_STEPS / 4 - 1;
 /// How often the gate holds the engine, so that a client waits.
 const HOLDS: u64 = 10_000;
 
-const READ: Request = Request::Read { lba: 100, count: 1 };
+const READ: Request = Request::Read { lba: 200, count: 1 };
 
 /// A read behind the drive's last sector, which ends as it is accepted, with no bytes.
 const BEYOND: Request = Request::ReadDma {
@@ -34,16 +28,7 @@ const BEYOND: Request = Request::ReadDma {
 };
 
 /// A request of no blocks, which has no size that a port takes.
-const NO_BLOCKS: Request = Request::Read { lba: 100, count: 0 };
-
-/// Always the first step that is ready.
-struct First;
-
-impl Gate for First {
-    fn pick(&self, _ready: &[EngineStep]) -> Pick {
-        Pick::Do(0)
-    }
-}
+const NO_BLOCKS: Request = Request::Read { lba: 200, count: 0 };
 
 /// Holds the engine for a while, and then has it do the first step that is ready.
 #[derive(Drop)]
@@ -59,20 +44,6 @@ impl Gate for Later {
             Pick::Do(0)
         }
     }
-}
-
-/// The default drive behind a port on which nothing was done.
-fn default_port(alloc: Global) -> Result<Port, PortError>
-    ensures { IfOk result (λ port. Stands port 0) }
-{
-    let Some(config) = DriveConfig::new(1_000, 8, b"OPALMSID") else {
-        return Err(PortError::OutOfMemory);
-    };
-    let Ok(drive) = Drive::new(alloc, config) else {
-        return Err(PortError::OutOfMemory);
-    };
-    let port = Port::new(alloc, drive)?;
-    Ok(port)
 }
 
 /// Does commands one after the other, up to the last four steps.
@@ -120,7 +91,7 @@ fn refuses_others(port: &mut Port) -> bool {
 }
 
 /// Whether a full port refuses all, and does nothing.
-fn refuses_all(port: &mut Port) -> bool {
+pub fn refuses_all(port: &mut Port) -> bool {
     let is_refused = refuses_commands(port) && refuses_others(port);
     is_refused && port.history().len() == MOST_STEPS
 }
@@ -146,13 +117,14 @@ fn ends_a_wait<L: PortName + Send + Sync, R: Threads + Wait + Sync>(
 
 /// Whether all ends under the lock where the last step is done, and from then on each call is refused, a request of no
 /// blocks for its size.
-fn ends_all<L: PortName + Send + Sync, R: Threads + Wait + Sync>(
+fn ends_calls<L: PortName + Send + Sync, R: Threads + Wait + Sync>(
     rt: &R,
     port: &LockedPort<L>,
     one: &mut Pass<L>,
     two: &mut Pass<L>,
     engine: &mut Pass<L>,
 ) -> Result<bool, PortError> {
+    fill(rt, port, one, engine)?;
     let ticket = port.submit(rt, two, &READ)?;
     let ended = ends_a_wait(rt, port, one, engine)?;
     let is_sized = matches!(port.submit(rt, one, &NO_BLOCKS), Err(PortError::Size));
@@ -162,75 +134,13 @@ fn ends_all<L: PortName + Send + Sync, R: Threads + Wait + Sync>(
     Ok(ended && is_sized && are_refused)
 }
 
-/// The passes of both clients and of the engine.
-fn deal<L: PortName>(mut passes: Vec<Pass<L>>) -> Option<(Pass<L>, Pass<L>, Pass<L>)> {
-    match (passes.pop(), passes.pop(), passes.pop()) {
-        (Some(engine), Some(two), Some(one)) => Some((one, two, engine)),
-        _ => None,
-    }
-}
-
-/// The passes in one vector.
-fn gather<L: PortName>(
-    alloc: Global,
-    one: Pass<L>,
-    two: Pass<L>,
-    engine: Pass<L>,
-) -> Result<Vec<Pass<L>>, AllocError> {
-    let mut passes = Vec::new(alloc);
-    passes.push(one)?;
-    passes.push(two)?;
-    passes.push(engine)?;
-    Ok(passes)
-}
-
-/// Fills a history under the lock, and tells whether all ends and is refused there. All passes come back.
-fn fill_and_end<L: PortName + Send + Sync, R: Threads + Wait + Sync>(
+/// Fills a history under the lock, and tells whether all ends and is refused there.
+pub fn ends_all<L: PortName + Send + Sync, R: Threads + Wait + Sync>(
     rt: &R,
-    alloc: Global,
     port: &LockedPort<L>,
-    passes: Vec<Pass<L>>,
-) -> Result<(bool, Vec<Pass<L>>), PortError> {
-    let Some((mut one, mut two, mut engine)) = deal(passes) else {
-        return Err(PortError::OutOfMemory);
-    };
-    fill(rt, port, &mut one, &mut engine)?;
-    let ended = ends_all(rt, port, &mut one, &mut two, &mut engine)?;
-    let passes = gather(alloc, one, two, engine)?;
-    Ok((ended, passes))
-}
-
-/// Whether all is refused where the port is out of its lock.
-fn refuses_without_lock<L: PortName>(port: LockedPort<L>, passes: Vec<Pass<L>>) -> bool
-    requires { L.passes ≡ L.parts }
-{
-    match port.close(passes) {
-        Ok(Closed { mut port, .. }) => refuses_all(&mut port),
-        Err(_) => false,
-    }
-}
-
-/// Fills the history of a new port, and tells whether all ends and is refused, with the lock and without it.
-fn fills_and_ends<L: PortName + Send + Sync, R: Threads + Wait + Sync>(
-    rt: &R,
-    alloc: Global,
-    blank: Blank,
-) -> Result<bool, PortError>
-    requires name { blank.name ≡ L.name }
-    requires parts { (blank.parts ≡ L.parts) × (blank.parts ≡ 3) × (L.passes ≡ L.parts) }
-{
-    let (shared, passes) = LockedPort::<L>::new(alloc, blank, default_port(alloc)?, 2)?;
-    match fill_and_end(rt, alloc, &shared, passes) {
-        Ok((ended, passes)) => Ok(refuses_without_lock(shared, passes) && ended),
-        Err(error) => Err(error),
-    }
-}
-
-/// Whether a history that becomes full ends all that it should.
-pub fn ends_all_calls<R: Threads + Wait + Sync>(rt: &R, alloc: Global) -> Result<bool, SweepError> {
-    match fills_and_ends::<Brand, R>(rt, alloc, Blank::new(3)) {
-        Ok(ends) => Ok(ends),
-        Err(PortError::OutOfMemory) => Err(SweepError::OutOfMemory),
-        Err(_) => Ok(false),
-    }
+    one: &mut Pass<L>,
+    two: &mut Pass<L>,
+    engine: &mut Pass<L>,
+) -> bool {
+    matches!(ends_calls(rt, port, one, two, engine), Ok(true))
 }

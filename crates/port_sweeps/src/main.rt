@@ -1,118 +1,102 @@
-//! Sweeps of a port: a reset at each place of lists of steps, and lists that are played while an allocation is
-//! refused.
+//! Trials of a port that no script can say: what threads share under its lock, a history that has no room left, and steps
+//! that are refused memory.
 #![tactic(auto)]
 
+mod crossing;
 mod error;
 mod full;
-mod lists;
+mod locked;
 mod ports;
-mod probes;
+mod receipts;
+mod refusals;
 mod refused;
-mod resets;
-mod seen;
-mod summary;
-mod texts;
+mod script;
+mod tags;
 
 use crate::error::SweepError;
-use crate::full::ends_all_calls;
-use crate::lists::{List, lists_in};
-use crate::refused::{spare, whole_text};
-use crate::resets::sweep_resets;
-use crate::summary::Summary;
-use script_lines::number_up_to;
+use crate::locked::{Trial, is_right};
+use crate::receipts::whole_lists_pass_alone;
+use crate::refused::played;
+use crate::script::script_in;
+use crate::tags::are_claimed;
 use std::alloc::Global;
 use std::io;
-use std::io::Write;
 use std::process::ExitCode;
 use std::sync::Wait;
 use std::thread::Threads;
 
-/// What the words of the command line ask for.
+/// What is tried.
 #[derive(Clone, Copy)]
-enum Mode {
-    /// A reset at each place.
-    Resets,
-    /// The steps alone, after so many allocations of one byte.
-    Refused { spare: u64 },
-    /// A history that has no room left.
-    Full,
+enum Topic {
+    Tags,
+    Receipts,
+    Locked(Trial),
 }
 
-/// How many allocations a run makes at most before its steps.
-const MOST_SPARE: u64 = 1_000_000;
+/// Without a word of the command line.
+const TOPICS: [(&str, Topic); 4] = [
+    ("tags", Topic::Tags),
+    ("receipts", Topic::Receipts),
+    ("crossing", Topic::Locked(Trial::Crossing)),
+    ("refusals", Topic::Locked(Trial::Refusals)),
+];
 
-/// What the words behind the program's name ask for.
-fn mode_of(words: &[String]) -> Option<Mode> {
-    match words {
-        [_] => Some(Mode::Resets),
-        [_, word] if word.as_str() == "full" => Some(Mode::Full),
-        [_, word] if word.as_str() == "refused" => Some(Mode::Refused { spare: 0 }),
-        [_, word, number] if word.as_str() == "refused" => {
-            let spare = number_up_to(MOST_SPARE, number.as_bytes())?;
-            Some(Mode::Refused { spare })
+const FULL: [(&str, Topic); 1] = [("full", Topic::Locked(Trial::Full))];
+
+impl Topic {
+    /// Whether all came of it that should.
+    fn is_right<T: Threads + Wait + Sync>(self, threads: &T, alloc: Global) -> bool {
+        match self {
+            Topic::Tags => are_claimed(threads, alloc),
+            Topic::Receipts => whole_lists_pass_alone(alloc),
+            Topic::Locked(trial) => is_right(threads, alloc, trial),
         }
-        _ => None,
     }
 }
 
-/// The lists of the standard input.
-fn given_lists(rt: &HostRuntime, alloc: Global) -> Result<Vec<List>, SweepError> {
-    let text = io::read_to_string(alloc, rt.stdin()).map_err(SweepError::reading)?;
-    lists_in(alloc, text.as_str())
-}
-
-/// Puts a reset at each place of a list, and tells what was found.
-fn sweep_list(rt: &HostRuntime, list: &List) -> Result<bool, SweepError> {
-    let summary = sweep_resets(rt.alloc(), list)?;
-    for text in summary.faults(rt.alloc(), list)? {
-        eprintln!(rt; "{text}").map_err(SweepError::writing)?;
-    }
-    println!(rt; "{}", summary.text(rt.alloc(), list)?).map_err(SweepError::writing)?;
-    Ok(summary.is_right())
-}
-
-/// Sweeps each list. The status is 1 where something was wrong.
-fn sweep_all(rt: &HostRuntime) -> Result<u8, SweepError> {
-    let lists = given_lists(rt, rt.alloc())?;
+/// Tries topics, and prints a line for each. The status is 1 where something else came of one.
+fn try_topics<T: Threads + Wait + Sync>(
+    rt: &HostRuntime,
+    threads: &T,
+    topics: &[(&str, Topic)],
+) -> Result<u8, SweepError> {
     let mut status = 0;
-    for list in &lists {
-        if !sweep_list(rt, list)? {
+    for (name, topic) in topics {
+        let word = if topic.is_right(threads, rt.alloc()) {
+            "right"
+        } else {
             status = 1;
-        }
+            "wrong"
+        };
+        println!(rt; "{name} {word}").map_err(SweepError::of_stream)?;
     }
     Ok(status)
 }
 
-/// Plays each list, and prints what came of it.
-fn play_all(rt: &HostRuntime, allocations: u64) -> Result<u8, SweepError> {
-    spare(rt.alloc(), allocations)?;
-    let lists = given_lists(rt, rt.alloc())?;
-    let text = whole_text(rt.alloc(), &lists)?;
-    rt.stdout().write_all(&text).map_err(SweepError::writing)?;
-    Ok(0)
-}
-
-/// Fills a history, and tells what came of it. The status is 1 where a call did not end so.
-fn fill_history<T: Threads + Wait + Sync>(rt: &HostRuntime, threads: &T) -> Result<u8, SweepError> {
-    let ends = ends_all_calls(threads, rt.alloc())?;
-    let (text, status) = if ends {
-        ("each call ends with HistoryFull", 0)
-    } else {
-        ("a call does not end with HistoryFull", 1)
-    };
-    println!(rt; "{text}").map_err(SweepError::writing)?;
-    Ok(status)
+/// Plays the script of the standard input on two ports, and prints what came of it. The status is 1 where that is not the
+/// same.
+fn play(rt: &HostRuntime) -> Result<u8, SweepError> {
+    let text = io::read_to_string(rt.alloc(), rt.stdin()).map_err(SweepError::of_stream)?;
+    let script = script_in(rt.alloc(), text.as_str())?;
+    let played = played(rt.alloc(), &script).map_err(SweepError::of_port)?;
+    let (steps, denials, times) = (played.steps, played.denials, played.times);
+    let word = if played.is_same { "same" } else { "another" };
+    println!(rt;
+        "{steps} steps, {denials} denials, the {word} again\nrefused memory {times} times"
+    ).map_err(SweepError::of_stream)?;
+    Ok(if played.is_same { 0 } else { 1 })
 }
 
 /// Does what the words of the command line ask for, and gives the status.
 fn status<T: Threads + Wait + Sync>(rt: &HostRuntime, threads: &T) -> Result<u8, SweepError> {
     let words: Vec<String> = std::env::args(rt)
-        .map_err(SweepError::reading)?
+        .map_err(SweepError::of_stream)?
         .collect(rt.alloc())?;
-    match mode_of(&words).ok_or(SweepError::Usage)? {
-        Mode::Resets => sweep_all(rt),
-        Mode::Refused { spare } => play_all(rt, spare),
-        Mode::Full => fill_history(rt, threads),
+    match words.as_slice() {
+        [_] => try_topics(rt, threads, &TOPICS),
+        [_, word] if word.as_str() == "full" => try_topics(rt, threads, &FULL),
+        [_, word] if word.as_str() == "refused" => play(rt),
+        _ => Err(SweepError::Usage),
     }
 }
 

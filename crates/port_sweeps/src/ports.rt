@@ -1,45 +1,58 @@
-//! Ports on which a list is played.
+//! New ports.
 
-use crate::error::SweepError;
-use crate::lists::List;
-use drive::{Drive, DriveConfig, RangeRow, SetError};
-use port::{Port, PortError, Step};
+ghost use Rattle.std.specs.Prelude.{◌≡◌, IfOk};
+ghost use Rattle.locked_port.specs.Counts.{Stands};
+
+use drive::{Drive, DriveConfig, RangeRow};
+use port::{Port, PortError};
 use std::alloc::Global;
 
-/// How many sectors the drive has.
-const SECTORS: u64 = 1000;
+/// How many sectors the drive has, and its shadow; its MSID.
+const SECTORS: u64 = 1_000;
 
-/// How many sectors its shadow has.
 const SHADOW: u64 = 8;
 
-/// Its MSID.
 const MSID: &[u8] = b"OPALMSID";
 
-/// The drive with these ranges; as it leaves the factory, where there are none.
-fn drive_with(alloc: Global, rows: &[RangeRow]) -> Result<Drive, SetError> {
-    let config = DriveConfig::new(SECTORS, SHADOW, MSID).ok_or(SetError::WrongType)?;
-    if rows.is_empty() {
-        return Drive::new(alloc, config).map_err(|_| SetError::OutOfMemory);
-    }
-    Drive::with_ranges(alloc, config, rows)
-}
-
-/// A port on which nothing was done, over the drive of a list.
-pub fn new_port(alloc: Global, list: &List) -> Result<Port, SweepError> {
-    let drive = match drive_with(alloc, &list.rows) {
-        Ok(drive) => drive,
-        Err(SetError::OutOfMemory) => return Err(SweepError::OutOfMemory),
-        Err(_) => return Err(SweepError::Ranges),
+/// A port over a drive with these ranges, on which nothing was done.
+pub fn port_with(alloc: Global, rows: &[RangeRow]) -> Result<Port, PortError>
+    ensures { IfOk result (λ port. Stands port 0) }
+{
+    let Some(config) = DriveConfig::new(SECTORS, SHADOW, MSID) else {
+        return Err(PortError::OutOfMemory);
     };
-    Port::new(alloc, drive).map_err(|_| SweepError::OutOfMemory)
+    let Ok(drive) = Drive::with_ranges(alloc, config, rows) else {
+        return Err(PortError::OutOfMemory);
+    };
+    let port = Port::new(alloc, drive)?;
+    Ok(port)
 }
 
-/// Does the steps that are not refused.
-pub fn go_on(port: &mut Port, steps: &[Step]) -> Result<(), PortError> {
-    for step in steps {
-        if port.may(step) {
-            port.step(step)?;
-        }
+/// A drive as it leaves the factory.
+fn new_drive(alloc: Global) -> Result<Drive, PortError> {
+    let Some(config) = DriveConfig::new(SECTORS, SHADOW, MSID) else {
+        return Err(PortError::OutOfMemory);
+    };
+    Ok(Drive::new(alloc, config)?)
+}
+
+/// A port over it.
+fn new_port(alloc: Global) -> Result<Port, PortError> {
+    match new_drive(alloc) {
+        Ok(drive) => Port::new(alloc, drive),
+        Err(error) => Err(error),
     }
-    Ok(())
+}
+
+/// A port over the drive of a script with these range lines: without one it is as it leaves the factory.
+pub fn port_of(alloc: Global, rows: &[RangeRow]) -> Result<Port, PortError> {
+    if rows.is_empty() {
+        return new_port(alloc);
+    }
+    port_with(alloc, rows)
+}
+
+/// Whether two ports have the same history, answers and audit log.
+pub fn are_same(one: &Port, two: &Port) -> bool {
+    one.history() == two.history() && one.audit() == two.audit()
 }

@@ -1,19 +1,20 @@
-//! Lists that are played while an allocation is refused.
+//! A script that is played while an allocation is refused.
 
-use crate::error::SweepError;
-use crate::lists::List;
-use crate::ports::new_port;
-use crate::texts::add_port;
+use crate::ports::{are_same, port_of};
+use crate::script::Script;
 use port::{PlayError, Port, PortError, Step};
-use std::alloc::{AllocError, Global};
-use std::boxed::Box;
+use std::alloc::Global;
 
-/// Takes memory so many times, and gives it back.
-pub fn spare(alloc: Global, allocations: u64) -> Result<(), AllocError> {
-    for _ in 0..allocations {
-        let _byte = Box::new(alloc, 0u8)?;
-    }
-    Ok(())
+/// What came of a script that was played on two ports, one after the other.
+#[derive(Clone, Copy)]
+pub struct Outcome {
+    /// The steps that were done, and the denials.
+    pub steps: usize,
+    pub denials: usize,
+    /// Whether both ports have the same history, answers and audit log.
+    pub is_same: bool,
+    /// How often a step was refused memory.
+    pub times: u64,
 }
 
 /// Where to go on behind a step that was refused, and whether for want of memory.
@@ -27,7 +28,7 @@ fn next_place(done: usize, refused: PlayError) -> (usize, bool) {
 
 /// Plays steps. Where memory is refused it goes on at the very step that was refused, and behind a step that is
 /// refused for another cause. It tells how often memory was refused.
-fn play_on(port: &mut Port, steps: &[Step]) -> Result<u64, SweepError> {
+fn play_on(port: &mut Port, steps: &[Step]) -> Result<u64, PortError> {
     let mut done: usize = 0;
     let mut times: u64 = 0;
     for _ in 0..steps.len().saturating_mul(2) {
@@ -40,45 +41,45 @@ fn play_on(port: &mut Port, steps: &[Step]) -> Result<u64, SweepError> {
         times = times.saturating_add(u64::from(is_memory));
     }
     if done < steps.len() {
-        return Err(SweepError::OutOfMemory);
+        return Err(PortError::OutOfMemory);
     }
     Ok(times)
 }
 
-/// Adds the name of a list, and what came of it.
-fn add_text(alloc: Global, text: &mut Vec<u8>, list: &List, port: &Port) -> Result<(), AllocError> {
-    text.extend_from_slice(b"list ")?;
-    text.extend_from_slice(list.name.as_bytes())?;
-    text.push(b'\n')?;
-    add_port(alloc, text, port)
+/// Plays steps on a second port, and compares it with the first.
+fn compared(one: &Port, two: &mut Port, steps: &[Step], times: u64) -> Result<Outcome, PortError> {
+    let more = play_on(two, steps)?;
+    Ok(Outcome {
+        steps: one.history().len(),
+        denials: one.audit().len(),
+        is_same: are_same(one, two),
+        times: times.saturating_add(more),
+    })
 }
 
-/// Plays a list on a new port, and adds what came of it.
-fn play_list(
+/// The same on a new port.
+fn played_again(
     alloc: Global,
-    text: &mut Vec<u8>,
-    list: &List,
-    port: &mut Port,
-) -> Result<u64, SweepError> {
-    let times = play_on(port, &list.steps)?;
-    add_text(alloc, text, list, port)?;
-    Ok(times)
-}
-
-/// Plays a list, and adds what came of it.
-fn add_list(alloc: Global, text: &mut Vec<u8>, list: &List) -> Result<u64, SweepError> {
-    let mut port = new_port(alloc, list)?;
-    play_list(alloc, text, list, &mut port)
-}
-
-/// What came of each list, and how often a step was refused memory.
-pub fn whole_text(alloc: Global, lists: &[List]) -> Result<Vec<u8>, SweepError> {
-    let mut text = Vec::new(alloc);
-    let mut times: u64 = 0;
-    for list in lists {
-        times = times.saturating_add(add_list(alloc, &mut text, list)?);
+    script: &Script,
+    one: &Port,
+    times: u64,
+) -> Result<Outcome, PortError> {
+    match port_of(alloc, &script.rows) {
+        Ok(mut two) => compared(one, &mut two, &script.steps, times),
+        Err(error) => Err(error),
     }
-    let last = format!(in alloc; "refused memory {times} times\n")?;
-    text.extend_from_slice(last.as_bytes())?;
-    Ok(text)
+}
+
+/// Plays the steps of a script on a port, and on a new one.
+fn played_on(alloc: Global, script: &Script, one: &mut Port) -> Result<Outcome, PortError> {
+    let times = play_on(one, &script.steps)?;
+    played_again(alloc, script, one, times)
+}
+
+/// Plays a script on two new ports.
+pub fn played(alloc: Global, script: &Script) -> Result<Outcome, PortError> {
+    match port_of(alloc, &script.rows) {
+        Ok(mut one) => played_on(alloc, script, &mut one),
+        Err(error) => Err(error),
+    }
 }

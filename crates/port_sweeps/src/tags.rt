@@ -4,7 +4,6 @@ ghost use Rattle.std.specs.Prelude.{◌≡◌};
 
 use fis::Tag;
 use std::alloc::{AllocError, Global};
-use std::test::Fail;
 use std::thread;
 use std::thread::Threads;
 use tag_board::{TagBoard, TagSeat};
@@ -38,12 +37,6 @@ fn is_claimed(alloc: Global) -> Result<bool, AllocError> {
     let (_board, mut seat) = TagBoard::new(alloc)?;
     let all = claims_all(&mut seat);
     Ok(all && claims_again(&mut seat, 7))
-}
-
-#[test]
-fn claims_all_and_no_more(rt: HostRuntime) -> Result<(), Fail> {
-    assert!(rt; is_claimed(rt.alloc())?);
-    Ok(())
 }
 
 /// The seat after so many claims.
@@ -105,10 +98,8 @@ fn is_apart<R: Threads>(rt: &R, alloc: Global) -> Result<bool, AllocError> {
     Ok(both_claim(rt, seat, other))
 }
 
-/// Two threads claim at once from seats of one board: no tag is held by both, and one seat that is joined of them holds
-/// what both held.
-#[test]
-fn two_threads_have_no_tag_in_common(rt: HostRuntime) -> Result<(), Fail> {
-    assert!(rt; is_apart(&rt, rt.alloc())?);
-    Ok(())
+/// Whether all tags are claimed and no more; and two threads that claim at once from seats of one board hold no tag in common,
+/// and one seat that is joined of them holds what both held.
+pub fn are_claimed<R: Threads>(rt: &R, alloc: Global) -> bool {
+    matches!(is_claimed(alloc), Ok(true)) && matches!(is_apart(rt, alloc), Ok(true))
 }

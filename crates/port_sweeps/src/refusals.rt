@@ -1,21 +1,15 @@
 //! What is refused before anything waits.
 
-ghost use Rattle.std.specs.Prelude.{◌≡◌};
-
-use crate::clients::{First, deal, port};
+use crate::locked::First;
 use fis::Tag;
 use locked_port::{Gate, LockedPort, Pass, Pick, PortName, Ticket};
 use port::{EngineStep, PortError, Request};
-use std::alloc::Global;
-use std::marker::Brand;
 use std::sync::Wait;
-use std::sync::ledger::Blank;
-use std::test::Fail;
 
-const READ: Request = Request::Read { lba: 100, count: 1 };
+const READ: Request = Request::Read { lba: 200, count: 1 };
 
 /// A request of no blocks.
-const NO_BLOCKS: Request = Request::Read { lba: 100, count: 0 };
+const NO_BLOCKS: Request = Request::Read { lba: 200, count: 0 };
 
 /// Each of the 32 reads is issued, accepted and completed.
 const TURNS: u64 = 32 * 3;
@@ -140,7 +134,7 @@ fn is_given_once<L: PortName, R: Wait>(
 
 /// Whether all is refused as it should be, before the engine does its steps and after. A turn that is held is none of
 /// them.
-fn is_refusing<L: PortName, R: Wait>(
+pub fn is_refusing<L: PortName, R: Wait>(
     rt: &R,
     port: &LockedPort<L>,
     one: &mut Pass<L>,
@@ -155,29 +149,4 @@ fn is_refusing<L: PortName, R: Wait>(
         && matches!(port.engine(rt, engine, &Never, 3), Ok(0))
         && matches!(port.engine(rt, engine, &First, TURNS), Ok(0))
         && is_given_once(rt, port, one, two, &last)
-}
-
-/// Two clients and the engine with all passes, in one thread.
-fn refuse_with<L: PortName, R: Wait>(
-    rt: &R,
-    port: &LockedPort<L>,
-    passes: Vec<Pass<L>>,
-) -> Result<bool, Fail> {
-    let (mut one, mut two, mut engine) = deal(passes)?;
-    Ok(is_refusing(rt, port, &mut one, &mut two, &mut engine))
-}
-
-/// The same at a new port.
-fn refuse<L: PortName, R: Wait>(rt: &R, alloc: Global, blank: Blank) -> Result<bool, Fail>
-    requires name { blank.name ≡ L.name }
-    requires parts { (blank.parts ≡ L.parts) × (blank.parts ≡ 3) × (L.passes ≡ L.parts) }
-{
-    let (port, passes) = LockedPort::<L>::new(alloc, blank, port(alloc, &[])?, 2)?;
-    refuse_with(rt, &port, passes)
-}
-
-#[test]
-fn no_tag_is_left(rt: HostRuntime) -> Result<(), Fail> {
-    assert!(rt; refuse::<Brand, HostRuntime>(&rt, rt.alloc(), Blank::new(3))?);
-    Ok(())
 }

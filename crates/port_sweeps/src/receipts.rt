@@ -4,7 +4,6 @@ use fis::Tag;
 use locked_port::{Receipt, check_receipts};
 use port::{Answer, Entry, ReplyBytes, Request, Step};
 use std::alloc::{AllocError, Global};
-use std::test::Fail;
 
 const CLIENT: u32 = 1;
 
@@ -103,10 +102,11 @@ fn passes(alloc: Global, rows: &[Row]) -> Result<bool, AllocError> {
     Ok(check_receipts(&history, &receipts))
 }
 
-#[test]
-fn whole_lists_pass_alone(rt: HostRuntime) -> Result<(), Fail> {
+/// Whether whole lists pass, and they alone.
+pub fn whole_lists_pass_alone(alloc: Global) -> bool {
+    let mut are_right = true;
     for (rows, pass) in LISTS {
-        assert!(rt; passes(rt.alloc(), rows)? == pass);
+        are_right &= passes(alloc, rows) == Ok(pass);
     }
-    Ok(())
+    are_right
 }
