@@ -1,5 +1,5 @@
 -- A piece of work by the state, and by a list of operations that it agrees with.
-use Rattle.std.proofs.Common.{◌≡◌, ℕ, ◌+◌, List, ◌∷◌, ap, sym, refl, ◌∙◌, Option, Some, subst, add-one}
+use Rattle.std.proofs.Common.{◌≡◌, ℕ, ◌+◌, List, ◌∷◌, ap, sym, refl, ◌∙◌, Option, Some, subst, add-one, Bool, true, false, None}
 use Rattle.std.proofs.Math.Path.{fun_ext}
 use Rattle.audit.specs.declared.reason.Why.{Why}
 use Rattle.history.specs.Answers.{expected}
@@ -9,9 +9,13 @@ use Rattle.history.specs.Readers.{held}
 use Rattle.drive.specs.Queue.{held_at}
 use Rattle.hba.specs.declared.registers.Registers.{Registers}
 use Rattle.hba.specs.declared.work.Work.{Work}
-use Rattle.hba.specs.History.{State, Operation, AgreesHba, Adds, account, acts_of, regs_of}
+use Rattle.hba.specs.History.{State, Operation, Missed, Completed, Account, AgreesHba, Adds, account, acts_of, regs_of, operation_denied}
+use Rattle.hba.specs.Memory.{command_slot_at, have_room, gathered}
+use Rattle.hba.specs.declared.window.Region.{Region}
+use Rattle.hba.specs.declared.window.Slot.{Slot}
+use Rattle.std.specs.Prelude.{if◌then◌else◌}
 use Rattle.hba.specs.Ready.{ready_on, picked}
-use Rattle.hba.specs.Engine.{operation_by, operation_of, operation_after, MovesMemory, MovesAs, DeniesAs, TurnsBy, TellsDenial, HasRun, Runs}
+use Rattle.hba.specs.Engine.{operation_by, operation_of, operation_after, MovesMemory, MovesAs, DeniesAs, TurnsBy, TellsDenial, HasRun, Runs, places_of, header_at, completed_from, completing_of}
 use Rattle.hba.proofs.Works.{ready_same}
 
 same_operation : (hba : State) (o : Origin) (list : List Operation) (base : ℕ) (memory : List ℕ)
@@ -39,7 +43,7 @@ pub tells : (base : ℕ) (work : Work) (old : State) (before : List ℕ) (why : 
     → TellsDenial base work old before why
 tells base work old before why denies = λ o list a.
     let e = same_operation old o list base before work a in
-    subst (λ (op : Operation). why ≡ Rattle.hba.specs.History.denied_by o (account o list) op) e (denies o list a)
+    subst (λ (op : Operation). why ≡ operation_denied o (account o list) op) e (denies o list a)
 
 pub runs_none : (base : ℕ) (old : State) (before : List ℕ) → Runs base 0 old before old before
 unfolding HasRun
@@ -64,3 +68,21 @@ runs_more base n first start old before new after work ran first_ready turned = 
         record { adds = refl; moves = t.1 },
       ),
     ))
+
+by_room : (o : Origin) (a : Account) (tag : ℕ) (payload : List ℕ) (places : List Region) (room : Bool)
+    → None ≡ operation_denied o a (if room then Completed tag payload places else Missed)
+by_room o a tag payload places true = refl
+by_room o a tag payload places false = refl
+
+by_slot : (o : Origin) (a : Account) (base : ℕ) (memory : List ℕ) (tag n : ℕ) (slot : Option Slot)
+    → None ≡ operation_denied o a (completed_from base memory tag n slot)
+by_slot o a base memory tag n None = refl
+by_slot o a base memory tag n (Some slot) =
+    by_room o a tag (gathered memory (places_of base memory slot) n) (places_of base memory slot)
+    (have_room (places_of base memory slot) n)
+
+-- A completion is not denied.
+pub none_denied : (o : Origin) (a : Account) (regs : Registers) (base : ℕ) (memory : List ℕ)
+    (tag n : ℕ) → None ≡ operation_denied o a (completing_of regs base memory tag n)
+none_denied o a regs base memory tag n =
+    by_slot o a base memory tag n (command_slot_at base memory (header_at regs tag))

@@ -1,12 +1,12 @@
 //! What the engine does (AHCI 1.3.1, 5.5).
 
-ghost use Rattle.std.specs.Prelude.{◌≡◌, ◌<◌, ◌^◌, List, ◌∷◌, Option, OnOk, OnErr, IfOk, IfSome, IfErr, length, [], true, false, Some, None};
+ghost use Rattle.std.specs.Prelude.{◌≡◌, ◌<◌, ◌^◌, List, ◌∷◌, Option, OnOk, OnErr, IfOk, IfSome, IfErr, length, is_some, [], true, false, Some, None};
 ghost use Rattle.history.specs.Answers.{payload_of, expected};
 
 use crate::delivery::{deliver, post_all, signature_fis};
 use crate::hba::Hba;
 use crate::window::{Region, Slot, gather, have_room, is_command, regions, slot_at};
-use crate::work::{HbaError, Work};
+use crate::work::Work;
 use drive::{Accepted, Completed, DriveError, Why, payload_of};
 use fis::{H2D_LENGTH, Tag};
 use std::alloc::AllocError;
@@ -54,8 +54,9 @@ impl Hba {
         tag: Tag,
         payload: &[u8],
         places: &[Region],
-    ) -> Result<Completed, DriveError>
-        requires { length payload.now ≡ expected (held_at self.old.drive.queue tag) }
+    ) -> Result<Completed, AllocError>
+        requires length { length payload.now ≡ expected (held_at self.old.drive.queue tag) }
+        requires held { is_some (held_at self.old.drive.queue tag) ≡ true }
         ensures agrees { OnOk result
             (Adds (CompletedTag tag payload.now places.now) self.old self.new) }
         ensures effect { IfOk result (λ a. (o : Origin) (list : List Operation)
@@ -64,7 +65,11 @@ impl Hba {
             a.fises.items a.bytes.items) }
         ensures err { OnErr result (self.new ≡ self.old) }
     {
-        let completed = self.drive.complete(tag, payload)?;
+        let completed = match self.drive.complete(tag, payload) {
+            Ok(completed) => completed,
+            Err(DriveError::OutOfMemory) => return Err(AllocError),
+            Err(DriveError::NotHeld) => unreachable!(),
+        };
         let has_room = have_room(places, completed.bytes.len());
         self.registers
             .serve(tag, completed.fises.as_slice(), has_room);
@@ -87,7 +92,7 @@ impl Hba {
         slot: &Slot,
         base: u32,
         memory: &mut [u8],
-    ) -> Result<Option<Why>, DriveError>
+    ) -> Result<Option<Why>, AllocError>
         requires near { header < 2 ^ 40 }
         requires stands { header ≡ header_at self.old.registers tag }
         ensures agrees { OnOk result
@@ -129,7 +134,7 @@ impl Hba {
     }
 
     /// The engine fetches the command under a tag.
-    fn fetch(&mut self, tag: Tag, base: u32, memory: &mut [u8]) -> Result<Option<Why>, DriveError>
+    fn fetch(&mut self, tag: Tag, base: u32, memory: &mut [u8]) -> Result<Option<Why>, AllocError>
         ensures agrees { OnOk result
             (Adds (fetching_of self.old.registers base memory.old tag) self.old self.new) }
         ensures moved { OnOk result (MovesAs (fetching_of self.old.registers base memory.old tag)
@@ -161,10 +166,11 @@ impl Hba {
         len: usize,
         base: u32,
         memory: &mut [u8],
-    ) -> Result<(), DriveError>
+    ) -> Result<(), AllocError>
         requires near { header < 2 ^ 40 }
         requires stands { header ≡ header_at self.old.registers tag }
         requires asked { len ≡ expected (held_at self.old.drive.queue tag) }
+        requires held { is_some (held_at self.old.drive.queue tag) ≡ true }
         ensures agrees { OnOk result
             (Adds (ending_of base memory.old tag len slot.now) self.old self.new) }
         ensures moved { OnOk result (MovesAs (ending_of base memory.old tag len slot.now)
@@ -201,7 +207,8 @@ impl Hba {
     }
 
     /// The engine completes what the drive holds under a tag.
-    fn complete(&mut self, tag: Tag, base: u32, memory: &mut [u8]) -> Result<(), DriveError>
+    fn complete(&mut self, tag: Tag, base: u32, memory: &mut [u8]) -> Result<(), AllocError>
+        requires { is_some (held_at self.old.drive.queue tag) ≡ true }
         ensures agrees { OnOk result
             (Adds (completing_of self.old.registers base memory.old tag
             (expected (held_at self.old.drive.queue tag))) self.old self.new) }
@@ -230,13 +237,15 @@ impl Hba {
         post_all(base, memory, to, &[signature_fis()]);
     }
 
-    /// The engine does a piece of work.
+    /// The engine does a piece of work that may be done.
+    #[tactic(auto, using(crate::proofs::Works::both))]
     pub(crate) fn act(
         &mut self,
         work: &Work,
         base: u32,
         memory: &mut [u8],
-    ) -> Result<Option<Why>, DriveError>
+    ) -> Result<Option<Why>, AllocError>
+        requires { is_ready_on self.old work.now ≡ true }
         ensures agrees { OnOk result
             (Adds (operation_of self.old base memory.old work.now) self.old self.new) }
         ensures moved { OnOk result (MovesAs (operation_of self.old base memory.old work.now)

@@ -4,7 +4,8 @@ ghost use Rattle.std.specs.Prelude.{◌≡◌, ◌<◌, ◌^◌, ◌-◌, ℕ, L
 
 use crate::hba::Hba;
 use crate::work::{HbaError, Turned, Work};
-use drive::{DriveError, Why};
+use drive::Why;
+use std::alloc::AllocError;
 
 impl Hba {
     ghost use Rattle.history.specs.Opening.{Origin};
@@ -12,13 +13,31 @@ impl Hba {
     ghost use Rattle.hba.specs.Engine.{TurnsBy, TellsDenial, HasRun, Runs};
     ghost use Rattle.hba.specs.Ready.{is_ready_on, ready_on, ready_after, picked};
 
+    /// The engine does a piece of work that may be done.
+    #[tactic(auto, using(crate::proofs::Turns::turns, crate::proofs::Turns::tells))]
+    fn proceed(
+        &mut self,
+        work: &Work,
+        base: u32,
+        memory: &mut [u8],
+    ) -> Result<Option<Why>, AllocError>
+        requires { is_ready_on self.old work.now ≡ true }
+        ensures done { OnOk result
+            (TurnsBy base work.now self.old memory.old self.new memory.new) }
+        ensures denied { IfOk result (λ why. TellsDenial base work.now self.old memory.old why) }
+        ensures err { OnErr result (self.new ≡ self.old) }
+        ensures kept { OnErr result (memory.new ≡ memory.old) }
+    {
+        let why = self.act(work, base, memory)?;
+        Ok(why)
+    }
+
     /// The engine does a piece of work, over the host's memory: bytes that stand at `base`. It tells what
     /// denied the command that it fetched, if one was denied.
     ///
     /// # Errors
     ///
-    /// `NotReady` for what may not be done now, and want of memory. HBA and memory are then as before.
-    #[tactic(auto, using(crate::proofs::Turns::turns, crate::proofs::Turns::tells))]
+    /// `NotReady` for what may not be done now, else want of memory. HBA and memory are then as before.
     pub fn step(
         &mut self,
         work: &Work,
@@ -29,18 +48,17 @@ impl Hba {
             (TurnsBy base work.now self.old memory.old self.new memory.new) }
         ensures denied { IfOk result (λ why. TellsDenial base work.now self.old memory.old why) }
         ensures ready { OnOk result (is_ready_on self.old work.now ≡ true) }
-        ensures unready { is_ready_on self.old work.now ≡ false
-            → IsErrOf result HbaError.NotReady }
+        ensures unready { IsErrOf result HbaError.NotReady
+            ↔ (is_ready_on self.old work.now ≡ false) }
         ensures err { OnErr result (self.new ≡ self.old) }
         ensures kept { OnErr result (memory.new ≡ memory.old) }
     {
         if !self.is_ready(work) {
             return Err(HbaError::NotReady);
         }
-        match self.act(work, base, memory) {
+        match self.proceed(work, base, memory) {
             Ok(why) => Ok(why),
-            Err(DriveError::NotHeld) => Err(HbaError::NotReady),
-            Err(DriveError::OutOfMemory) => Err(HbaError::OutOfMemory),
+            Err(AllocError) => Err(HbaError::OutOfMemory),
         }
     }
 
@@ -54,7 +72,7 @@ impl Hba {
         choice: usize,
         base: u32,
         memory: &mut [u8],
-    ) -> Result<Option<Turned>, HbaError>
+    ) -> Result<Option<Turned>, AllocError>
         ensures done { IfOk result (λ turned. IfSome turned (λ t.
             TurnsBy base t.work self.old memory.old self.new memory.new)) }
         ensures denied { IfOk result (λ turned. IfSome turned (λ t.
@@ -70,10 +88,8 @@ impl Hba {
         let Some(work) = self.pick(choice) else {
             return Ok(None);
         };
-        match self.step(&work, base, memory) {
-            Ok(denied) => Ok(Some(Turned { work, denied })),
-            Err(error) => Err(error),
-        }
+        let denied = self.proceed(&work, base, memory)?;
+        Ok(Some(Turned { work, denied }))
     }
 
     /// The engine does the first work that may be done, turn after turn, until none may be. It tells how
@@ -83,7 +99,7 @@ impl Hba {
     ///
     /// Want of memory. HBA and memory are then as the turns before left them.
     #[tactic(auto, using(crate::proofs::Turns::runs_none))]
-    pub fn run(&mut self, base: u32, memory: &mut [u8]) -> Result<u32, HbaError>
+    pub fn run(&mut self, base: u32, memory: &mut [u8]) -> Result<u32, AllocError>
         ensures ran { IfOk result (λ n. Runs base n self.old memory.old self.new memory.new) }
         ensures idle { IfOk result (λ n. n < 2 ^ 32 - 1 → ready_on self.new ≡ []) }
         ensures stopped { OnErr result

@@ -1,0 +1,5 @@
+//! Tests of the controller against the standards: what no clause says, and values that come from outside.
+#![tactic(auto)]
+
+#[cfg(test)]
+mod registers;
