@@ -50,8 +50,11 @@ account_after o a (Wrote offset value) = record {
   acts = (if write_resets a.registers offset value then Reset hardware ∷ a.acts else a.acts);
   registers = written_at a.registers offset value;
 }
-account_after o a Powered = record { acts = Reset power_cycle
-    ∷ a.acts; registers = reset_registers }
+account_after o a Powered = record {
+  acts = Reset power_cycle
+      ∷ a.acts;
+  registers = reset_registers;
+}
 account_after o a Signed = record a { registers = signed a.registers }
 account_after o a Missed = record a { registers = faulted a.registers }
 account_after o a (Controlled tag) = record a { registers = controlled tag a.registers }

@@ -24,7 +24,7 @@ may_sign regs = regs.port.receiving && is_up regs.port.control && not regs.is_si
 abbrev pub may_fetch : Registers → ℕ → Bool
 may_fetch regs tag =
     is_working regs && has_bits regs.port.issued (2 ^ tag)
-        && bit_and regs.port.status busy_bits == 0
+    && bit_and regs.port.status busy_bits == 0
 
 -- What the drive holds is completed while PxSACT has it.
 abbrev pub may_complete : Registers → ℕ → Bool

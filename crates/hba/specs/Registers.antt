@@ -215,8 +215,10 @@ control_written regs value =
 abbrev pub generic_written : Registers → ℕ → ℕ → Registers
 generic_written regs offset value =
     if offset == 0x04 then control_written regs value
-    else (if offset == 0x08 then record regs { is_raised = regs.is_raised && not
-        (has_bits value 1) }
+    else (if offset == 0x08 then record regs {
+      is_raised = regs.is_raised && not
+          (has_bits value 1);
+    }
     else regs)
 
 -- The registers after a write of a value at an offset.

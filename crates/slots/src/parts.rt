@@ -55,7 +55,7 @@ fn entry(tag: Tag, len: u32) -> [u8; DESCRIPTOR]
     entry
 }
 
-#[tactic(auto, unfolding(crate::specs::Layout::zeros))]
+#[tactic(auto, unfolding(crate::specs::Layout::zero_bytes))]
 fn zeros() -> [u8; TABLE]
     ensures { result ≡ zero_bytes command_table_size }
 {
