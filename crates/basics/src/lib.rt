@@ -1,8 +1,10 @@
-//! What the layers share: bytes as a value, and how far the addresses of sectors go.
+//! What the layers share: bytes as a value, how far the addresses of sectors go, and the profiles of a drive.
 #![tactic(auto)]
 
 pub mod addresses;
 pub mod bytes;
+pub mod profile;
 
 pub use addresses::{ADDRESS_LIMIT, laws_of_addresses};
 pub use bytes::Bytes;
+pub use profile::Profile;

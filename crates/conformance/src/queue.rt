@@ -2,7 +2,7 @@
 //! its answers (Serial ATA, FISes to the host). What is expected was worked out by hand.
 
 use arrayvec::ArrayVec;
-use drive::{Accepted, Drive, DriveConfig, DriveError, RangeRow, SetError, Why, payload_of};
+use drive::{Accepted, Drive, DriveConfig, DriveError, RangeRow, SetError, Why};
 use fis::{Fis, Tag};
 use std::alloc::Global;
 
@@ -315,7 +315,7 @@ fn is_told(
     fis: &[u8; 20],
     told: Told,
 ) -> Result<bool, DriveError> {
-    let data = vec![in alloc; 0xaa; payload_of(fis)]?;
+    let data = vec![in alloc; 0xaa; drive.payload_len(fis)]?;
     let accepted = drive.accept(fis, &data)?;
     Ok(is_answer(&accepted, told))
 }
@@ -328,7 +328,7 @@ fn is_answer(accepted: &Accepted, told: Told) -> bool {
 
 /// Whether a FIS that brings no data is answered by one FIS that begins so, and no data.
 fn is_answered(drive: &mut Drive, fis: &[u8; 20], front: [u8; 4]) -> Result<bool, DriveError> {
-    if payload_of(fis) != 0 {
+    if drive.payload_len(fis) != 0 {
         return Ok(false);
     }
     let accepted = drive.accept(fis, &[])?;
@@ -410,7 +410,7 @@ fn is_identity(drive: &mut Drive) -> Result<bool, DriveError> {
     expected[167] = 0x64;
     expected[200] = 0xe8;
     expected[201] = 0x03;
-    if payload_of(IDENTIFY) != 0 {
+    if drive.payload_len(IDENTIFY) != 0 {
         return Ok(false);
     }
     let accepted = drive.accept(IDENTIFY, &[])?;

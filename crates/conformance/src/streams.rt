@@ -6,7 +6,7 @@ use std::alloc::{AllocError, Global};
 use std::io;
 use std::io::{ErrorKind, Read, Write};
 use std::test::Fail;
-use tool::{Options, RunError, run_script, run_script_with_faults};
+use tool::{DriveTexts, Options, RunError, run_script, run_script_with_faults};
 
 /// Gives one line at each call, as a client over a pipe does, and fails at one call.
 #[derive(Drop)]
@@ -83,8 +83,16 @@ const ALL: &[u8] =
 const BEFORE_THE_FAULT: &[u8] =
     b"ok 00000000 00000000 00000000 00000000 00000000\nfail 51 04\naudit 3 7 deny read 95+6 range 1 ReadLocked\nfail 51 04\n";
 
-fn options(alloc: Global, sectors: &[u8]) -> Result<Options, Fail> {
-    Ok(Options::parse(alloc, sectors, b"8", b"4f50414c4d534944")?)
+fn options(alloc: Global, sectors: &str) -> Result<Options, Fail> {
+    let texts = DriveTexts {
+        sectors,
+        shadow: "8",
+        msid: "4f50414c4d534944",
+        profile: "base",
+        serial: "",
+        model: "",
+    };
+    Ok(Options::parse(alloc, &texts)?)
 }
 
 /// How a script ends: at which call the reader fails, at which call the writer, and how many bytes that takes at one; the
@@ -137,7 +145,7 @@ const WHOLE: Ending = Ending {
 
 /// Whether the script ends so.
 fn ends_so(alloc: Global, ending: &Ending) -> Result<bool, Fail> {
-    let options = options(alloc, b"1000")?;
+    let options = options(alloc, "1000")?;
     let mut input = Client {
         rest: SCRIPT,
         calls: 0,
@@ -193,7 +201,7 @@ fn thousand_lines(alloc: Global) -> Result<(Vec<u8>, Vec<u8>), AllocError> {
 
 /// Whether all answers to a thousand lines are written, line by line, to a writer that takes seven bytes at a call.
 fn are_answered(alloc: Global, end: &[u8], status: u8) -> Result<bool, Fail> {
-    let options = options(alloc, b"1000")?;
+    let options = options(alloc, "1000")?;
     let (mut script, answers) = thousand_lines(alloc)?;
     script.extend_from_slice(end)?;
     let mut output = Taker::new(alloc, 7, 0);
@@ -222,7 +230,7 @@ fn answers_a_thousand_lines(rt: HostRuntime) -> Result<(), Fail> {
 /// Whether long answers to the lines of one buffer are handed on one after the other: 3 and 9 bytes for each of 65,536
 /// sectors.
 fn are_handed_on(alloc: Global) -> Result<bool, Fail> {
-    let options = options(alloc, b"65536")?;
+    let options = options(alloc, "65536")?;
     let script = b"read 1 0 0 0\nread 1 0 0 0\nread 1 0 0 0\nread 1 0 0 0\n".as_slice();
     let mut output = Taker::new(alloc, 1_000_000, 0);
     let end = run_script(alloc, script, &mut output, &options);
@@ -260,7 +268,7 @@ fn tells_why_a_script_ends(rt: HostRuntime) -> Result<(), Fail> {
 /// written all the same, that of the aborted command among them.
 #[test]
 fn answers_before_a_fault_that_fails(rt: HostRuntime) -> Result<(), Fail> {
-    let options = options(rt.alloc(), b"1000")?;
+    let options = options(rt.alloc(), "1000")?;
     let script =
         b"range 1 100 10 1 0 1 0\nread 7 5 95 5\nread 7 5 95 6\nread 7 5 0 1\nread 7 5 0 1\n";
     let mut output = Taker::new(rt.alloc(), 1000, 0);

@@ -1,46 +1,9 @@
 //! What a driver writes and reads, word by word (AHCI 1.3.1, 3, 5.5 and 6.2), and the bytes in its memory (4.2; Serial ATA,
 //! FISes to the host). What is expected was worked out by hand.
 
-use drive::{Drive, DriveConfig, RangeRow, Why};
-use fis::Tag;
-use hba::{Hba, Work};
-use std::alloc::{AllocError, Global};
+use crate::rows::{Row, Script, Told, wrong_list};
+use hba::MemoryFault;
 use std::test::Fail;
-
-/// What a driver does, or the engine, and what comes of it.
-#[derive(Clone, Copy)]
-enum Row {
-    /// A word is written at an offset.
-    Write(u32, u32),
-    /// A word is read at an offset.
-    Reads(u32, u32),
-    /// Bytes are laid in the driver's memory, or stand there.
-    Lay(u32, &'static [u8]),
-    Stand(u32, &'static [u8]),
-    /// The engine's turn with a number.
-    Turn(usize, Told),
-    /// The engine runs so many turns.
-    Runs(u32),
-    /// The interrupt line.
-    Line(bool),
-}
-
-/// What the engine did.
-#[derive(Clone, Copy)]
-enum Told {
-    Idle,
-    Signature,
-    Fetch(u8),
-    Complete(u8),
-    /// A fetch that a range denied.
-    Denied(u8),
-}
-
-/// Where the driver's memory stands, and how many bytes it has: the command list, received FISes at 1000h, a table at 2000h,
-/// data at 3000h.
-const BASE: u32 = 0x10_0000;
-
-const SIZE: usize = 0x4000;
 
 /// Before the device is heard of, and its first FIS.
 const START: [Row; 21] = [
@@ -204,7 +167,7 @@ const LOST: [Row; 19] = [
     Row::Write(0x118, 0x11),
     Row::Turn(0, Told::Signature),
     Row::Write(0x138, 1),
-    Row::Turn(0, Told::Fetch(0)),
+    Row::Turn(0, Told::FetchFault(0, MemoryFault::List)),
     Row::Reads(0x110, 0x2000_0040),
     Row::Reads(0x138, 1),
     Row::Turn(0, Told::Idle),
@@ -222,111 +185,32 @@ const LOST: [Row; 19] = [
 ];
 
 /// The lists, each for a controller on which nothing was done.
-const LISTS: [&[Row]; 5] = [&START, &IDENTIFY, &DENIED, &QUEUED, &LOST];
-
-/// A drive of 1,000 sectors, of which range 1 denies reads of ten.
-fn drive(alloc: Global) -> Result<Drive, Fail> {
-    let row = RangeRow {
-        range: 1,
-        start: 100,
-        length: 10,
-        read_enabled: true,
-        write_enabled: false,
-        read_locked: true,
-        write_locked: false,
-    };
-    let config = DriveConfig::new(1000, 8, b"OPALMSID").ok_or("limits")?;
-    Ok(Drive::with_ranges(alloc, config, &[row])?)
-}
-
-/// Lays bytes at an offset, if there is room.
-fn lay(memory: &mut [u8], at: usize, bytes: &[u8]) -> bool {
-    if at <= memory.len() && bytes.len() <= memory.len() - at {
-        memory[at..at + bytes.len()].copy_from_slice(bytes);
-        true
-    } else {
-        false
-    }
-}
-
-/// Whether bytes stand at an offset.
-fn stand(memory: &[u8], at: usize, bytes: &[u8]) -> bool {
-    at <= memory.len() && bytes.len() <= memory.len() - at && &memory[at..at + bytes.len()] == bytes
-}
-
-/// The work, and whether it was denied.
-fn words(told: Told) -> Option<(Work, bool)> {
-    match told {
-        Told::Idle => None,
-        Told::Signature => Some((Work::Signature, false)),
-        Told::Fetch(tag) => Some((Work::Fetch(Tag::low_bits(tag)), false)),
-        Told::Complete(tag) => Some((Work::Complete(Tag::low_bits(tag)), false)),
-        Told::Denied(tag) => Some((Work::Fetch(Tag::low_bits(tag)), true)),
-    }
-}
-
-/// Whether the denial is the one of the script.
-fn is_denial(why: &Option<Why>) -> bool {
-    *why == Some(Why::ReadLocked {
-        lba: 100,
-        count: 1,
-        range: 1,
-    })
-}
-
-/// Whether a turn did this.
-fn turned(hba: &mut Hba, memory: &mut [u8], choice: usize, told: Told) -> Result<bool, AllocError> {
-    match (hba.turn(choice, BASE, memory)?, words(told)) {
-        (None, None) => Ok(true),
-        (Some(turned), Some((work, is_denied))) => {
-            let is_told = turned.denied.is_some() == is_denied;
-            Ok(turned.work == work && is_told && (!is_denied || is_denial(&turned.denied)))
-        }
-        _ => Ok(false),
-    }
-}
-
-/// Does what a row says, and tells whether that came of it.
-fn is_right(hba: &mut Hba, memory: &mut [u8], row: Row) -> Result<bool, AllocError> {
-    match row {
-        Row::Write(offset, value) => {
-            hba.write(offset, value);
-            Ok(true)
-        }
-        Row::Reads(offset, value) => Ok(hba.read(offset) == value),
-        Row::Lay(at, bytes) => Ok(lay(memory, at as usize, bytes)),
-        Row::Stand(at, bytes) => Ok(stand(memory, at as usize, bytes)),
-        Row::Turn(choice, told) => turned(hba, memory, choice, told),
-        Row::Runs(turns) => Ok(hba.run(BASE, memory)? == turns),
-        Row::Line(is_high) => Ok(hba.interrupt() == is_high),
-    }
-}
-
-/// The first row of a list of which something else came.
-fn wrong_row(alloc: Global, rows: &[Row]) -> Result<Option<usize>, Fail> {
-    let mut hba = Hba::new(alloc, drive(alloc)?);
-    let mut memory = vec![in alloc; 0; SIZE]?;
-    for (place, row) in rows.iter().enumerate() {
-        if !is_right(&mut hba, &mut memory, *row)? {
-            return Ok(Some(place));
-        }
-    }
-    Ok(None)
-}
-
-/// The first of the lists, and of its rows, of which something else came.
-fn wrong_list(alloc: Global) -> Result<Option<(usize, usize)>, Fail> {
-    for (place, rows) in LISTS.iter().enumerate() {
-        if let Some(row) = wrong_row(alloc, rows)? {
-            return Ok(Some((place, row)));
-        }
-    }
-    Ok(None)
-}
+const LISTS: [Script; 5] = [
+    Script {
+        rows: &START,
+        refused: None,
+    },
+    Script {
+        rows: &IDENTIFY,
+        refused: None,
+    },
+    Script {
+        rows: &DENIED,
+        refused: None,
+    },
+    Script {
+        rows: &QUEUED,
+        refused: None,
+    },
+    Script {
+        rows: &LOST,
+        refused: None,
+    },
+];
 
 /// A driver's words, and what it finds in its memory.
 #[test]
 fn serves_a_driver(rt: HostRuntime) -> Result<(), Fail> {
-    assert_eq!(rt; wrong_list(rt.alloc())?, None);
+    assert_eq!(rt; wrong_list(rt.alloc(), &LISTS)?, None);
     Ok(())
 }

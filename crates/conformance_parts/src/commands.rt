@@ -3,6 +3,7 @@
 ghost use Rattle.std.specs.Prelude.{◌<◌, ◌^◌, IfSome};
 ghost use Rattle.trusted_cmds.specs.Commands.{lba_of, IsCounted};
 
+use basics::Profile;
 use fis::{Lba, RegH2d, Tag};
 use trusted_cmds::*;
 
@@ -40,7 +41,9 @@ fn is_spelled(command: Command, tag: u8, queued: bool, bytes: &[u8; 20], payload
     let tag = Tag::low_bits(tag);
     let told = if queued { Some(tag) } else { None };
     let fis = to_fis(&command, tag);
-    fis.to_bytes() == *bytes && of_fis(&fis) == Ok((command, told)) && payload_len(&fis) == payload
+    fis.to_bytes() == *bytes
+        && of_fis(Profile::Base, &fis) == Ok((command, told))
+        && payload_len(Profile::Base, &fis) == payload
 }
 
 /// A count field of 0 is 65,536 sectors, both ways.
@@ -93,7 +96,7 @@ fn is_no_page() -> bool {
         return false;
     };
     let log = to_fis(&Command::ReadLog10 { dma: false }, Tag::low_bits(0));
-    of_fis(&RegH2d { lba, ..log }) == Err(CommandError::LogPage)
+    of_fis(Profile::Base, &RegH2d { lba, ..log }) == Err(CommandError::LogPage)
 }
 
 /// Whether a count field of 0 is 65,536 sectors.

@@ -15,6 +15,8 @@ mod frames;
 #[cfg(test)]
 mod memory;
 #[cfg(test)]
+mod profiles;
+#[cfg(test)]
 mod registers;
 #[cfg(test)]
 mod tables;

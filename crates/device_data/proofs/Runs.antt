@@ -1,12 +1,11 @@
 -- Numbers in a row, and sums of bytes.
-use Rattle.std.proofs.Common.{◌≡◌, ◌∙◌, ℕ, zero, suc, ◌+◌, ◌%◌, List, [], ◌∷◌, ◌++◌, refl, sym, ap, arith, add-one}
+use Rattle.std.proofs.Common.{◌≡◌, ◌∙◌, ℕ, zero, suc, ◌+◌, ◌%◌, List, [], ◌∷◌, ◌++◌, sym, ap, arith, add-one}
 use Rattle.std.specs.List.{flat_map}
 use Rattle.std.proofs.lemmas.Grind.{flat_map-append}
 use Rattle.std.proofs.lemmas.List.{append-nil}
 use Rattle.std.proofs.lemmas.List.Concat.{flat_map-cons}
 use Rattle.std.proofs.Math.Nat.{mod-add-mod}
 use Rattle.device_data.specs.Identity.{run_from}
-use Rattle.device_data.specs.ErrorLog.{total}
 
 run_next : (first n : ℕ) → run_from first (suc n) ≡ run_from first n ++ (first + n) ∷ []
 run_next first zero = ap (λ k. k ∷ []) (omega arith)

@@ -1,5 +1,5 @@
 -- Level 0 discovery: what a drive says of itself before any session (Core 2.01, section 3.3.6; Opal SSC 2.01, section 3.1.1).
-use Rattle.std.specs.Prelude.{ℕ, zero, suc, ◌+◌, ◌*◌, ◌==◌, Bool, false, ◌&&◌, ◌||◌, List, [], ◌∷◌, ◌++◌, length, replicate}
+use Rattle.std.specs.Prelude.{ℕ, zero, suc, ◌+◌, ◌*◌, ◌==◌, Bool, false, ◌&&◌, ◌||◌, List, ◌∷◌, ◌++◌, length, replicate}
 use Rattle.std.specs.Int.{w16, w32, w64, to_be_bytes}
 use Rattle.fis.specs.Bytes.{bit}
 use Rattle.sp_cells.specs.declared.names.TheConstants.{RANGES, ADMINS, USERS}

@@ -1,6 +1,9 @@
 -- IDENTIFY DEVICE: what a drive says that it is (ACS-3, IDENTIFY DEVICE data).
-use Rattle.std.specs.Prelude.{ℕ, zero, suc, ◌-◌, ◌*◌, ◌/◌, ◌%◌, ◌^◌, ◌==◌, ◌&&◌, nat_le, List, [], ◌∷◌, if◌then◌else◌}
+use Rattle.std.specs.Prelude.{ℕ, zero, suc, ◌+◌, ◌-◌, ◌*◌, ◌/◌, ◌%◌, ◌^◌, ◌==◌, Bool, ◌&&◌, ◌||◌, nat_le, List, [], ◌∷◌, slice_index_or, codes, if◌then◌else◌}
 use Rattle.std.specs.List.{flat_map}
+use Rattle.basics.specs.declared.profile.Profile.{Profile}
+use Rattle.basics.specs.declared.profile.Profile.TheVariants.{Base, Field}
+use Rattle.sp_cells.specs.Config.{Config}
 
 -- Words 100 to 103: how many sectors there are, the low word first.
 abbrev pub sectors_word : ℕ → ℕ → ℕ
@@ -26,3 +29,61 @@ run_from first (suc n) = first ∷ run_from (suc first) n
 -- 256 words, of which the low byte comes first.
 abbrev pub identity : ℕ → List ℕ
 identity sectors = flat_map (λ word. low_first (identify_word sectors word)) (run_from 0 256)
+
+-- What the field profile tells beside that: the names of the drive, and how a driver may talk to it.
+
+-- Two characters of a text, the first in the upper byte, with blanks behind the text.
+abbrev pub text_word : List ℕ → ℕ → ℕ
+text_word text at =
+    256 * slice_index_or text (2 * at) 32 + slice_index_or text (2 * at + 1) 32
+
+abbrev pub is_between : ℕ → ℕ → ℕ → Bool
+is_between first last word = nat_le first word && nat_le word last
+
+-- the version of the drive's firmware (this drive)
+abbrev pub firmware : List ℕ
+firmware = codes "1.0"
+
+-- Words 10 to 19 have the serial number, 23 to 26 the firmware's version, 27 to 46 the model number.
+abbrev pub has_text : ℕ → Bool
+has_text word = is_between 10 19 word || is_between 23 26 word || is_between 27 46 word
+
+abbrev pub name_word : List ℕ → List ℕ → ℕ → ℕ
+name_word serial model word =
+    if is_between 10 19 word then text_word serial (word - 10)
+    else (if is_between 23 26 word then text_word firmware (word - 23)
+    else text_word model (word - 27))
+
+-- Words 60 and 61: how many sectors an address of 28 bits can reach.
+abbrev pub short_capacity : ℕ → ℕ
+short_capacity sectors = if nat_le sectors 0xfffffff then sectors else 0xfffffff
+
+-- Word 0: an ATA device. 49: addresses by LBA, transfers by DMA, IORDY. 53: words 64 to 70 and 88 are there. 63 to 68:
+-- the modes of transfers by DMA and PIO, with 120 ns a cycle. 76: native queuing, and three speeds. 80: ATA/ATAPI-4 to
+-- ACS-3. 88: Ultra DMA up to mode 6, which is chosen.
+abbrev pub driver_word : ℕ → ℕ → ℕ
+driver_word sectors word =
+    if word == 0 then 0x0040
+    else (if word == 49 then 0x0f00
+    else (if word == 53 then 0x0006
+    else (if word == 60 then short_capacity sectors % 65536
+    else (if word == 61 then short_capacity sectors / 65536
+    else (if word == 63 then 0x0007
+    else (if word == 64 then 0x0003
+    else (if is_between 65 68 word then 120
+    else (if word == 76 then 0x010e
+    else (if word == 80 then 0x07f0
+    else (if word == 88 then 0x407f else identify_word sectors word))))))))))
+
+abbrev pub field_word : Config → ℕ → ℕ
+field_word config word =
+    if has_text word then name_word config.serial config.model word
+    else driver_word config.sectors word
+
+abbrev pub identity_in : Profile → Config → List ℕ
+identity_in Base config = identity config.sectors
+identity_in Field config = flat_map (λ word. low_first (field_word config word)) (run_from 0 256)
+
+-- What a drive answers, by its configuration.
+abbrev pub identity_of : Config → List ℕ
+identity_of config = identity_in config.profile config

@@ -1,3 +1,5 @@
 pub mod Discovery
 pub mod Identity
 pub mod ErrorLog
+pub mod DevicePages
+pub mod Protocols

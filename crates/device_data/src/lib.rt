@@ -4,7 +4,11 @@
 mod identify;
 mod level0;
 mod log_page;
+mod pages;
+mod protocols;
 
-pub use identify::identity;
+pub use identify::{identity, identity_of};
 pub use level0::{DISCOVERY_LENGTH, discovery};
 pub use log_page::{Failure, error_log};
+pub use pages::device_page;
+pub use protocols::{PROTOCOL_LIST_LENGTH, protocol_list};

@@ -1,5 +1,8 @@
 -- What is done with a command, and its answer, is what its event says.
-use Rattle.std.proofs.Common.{◌≡◌, ℕ, ◌<◌, ◌==◌, ◌*◌, Bool, true, false, List, [], ◌∷◌, ◌++◌, reverse, length, slice_index, Option, Some, None, Result, Ok, Err, is_some, refl, sym, subst, ap, ◌∙◌, cond, if◌then◌else◌}
+use Rattle.device_data.specs.Protocols.{protocol_list}
+use Rattle.trusted_cmds.specs.declared.command.CommandError.{CommandError}
+use Rattle.sp_cells.specs.Config.{Config}
+use Rattle.std.proofs.Common.{◌≡◌, ℕ, ◌<◌, ◌==◌, ◌*◌, Bool, true, false, List, [], ◌∷◌, ◌++◌, reverse, length, slice_index, Option, Some, None, Result, Ok, Err, is_some, refl, sym, subst, ap, ◌∙◌, cond, if◌then◌else◌, arith}
 use Rattle.std.specs.Prelude.{nat_le, unwrap_or}
 use Rattle.audit.specs.declared.reason.Why.{Why}
 use Rattle.fis.specs.H2d.{h2d_at}
@@ -21,8 +24,8 @@ use Rattle.tcg_tokens.specs.Reading.{reading as message_in}
 use Rattle.shadow_mbr.specs.Stored.{StoredSectors, sector_size, sector_at, zeros}
 use Rattle.transactions.specs.Sights.{look_up, committed_sight}
 use Rattle.trusted_cmds.specs.declared.command.Command.{Command}
-use Rattle.trusted_cmds.specs.declared.command.Command.TheVariants.{ReadQueued, WriteQueued, ReadDma, WriteDma, Send, Receive, Identify, ReadLog10, Flush}
-use Rattle.trusted_cmds.specs.Commands.{reading, is_programmatic_reset}
+use Rattle.trusted_cmds.specs.declared.command.Command.TheVariants.{ReadQueued, WriteQueued, ReadDma, WriteDma, Send, Receive, Identify, ReadLog10, Flush, SetFeatures, ReadLog}
+use Rattle.trusted_cmds.specs.Commands.{is_programmatic_reset, is_protocol_list}
 use Rattle.sp_cells.specs.Resets.{programmatic}
 use Rattle.history.specs.Opening.{Origin}
 use Rattle.sessions.specs.Deeds.{Begun}
@@ -30,7 +33,7 @@ use Rattle.history.specs.Events.{Deed, Nothing, InSession, OfQueue, QueueMended,
 use Rattle.history.specs.Readers.{waiting, writing}
 use Rattle.history.specs.Facts.{Facts, facts, session_named}
 use Rattle.history.specs.Decisions.{received, aborted}
-use Rattle.history.specs.Tcg.{sent, framed, to_session, to_manager, answers, is_manager, accepted, commanded, data_read, data_of, receive_data, received_bytes}
+use Rattle.history.specs.Tcg.{command_read, sent, framed, to_session, to_manager, answers, is_manager, accepted, commanded, data_read, data_of, receive_data, received_bytes}
 use Rattle.history.specs.Answers.{errored, ready, answer_fis, read_by, is_holding, served_fises}
 use Rattle.history.specs.History.{Act, log}
 use Rattle.tper.specs.Tper.{Keeps as KeepsTper, IsToldOfSend, response_at}
@@ -45,6 +48,7 @@ use Rattle.drive.specs.declared.transfer.Transfer.{Transfer}
 use Rattle.drive.specs.Transfer.{transfer_by, queued_command, unqueued_command, verdict_held, held_bytes, sector_then}
 use Rattle.drive.specs.Queue.{with_slot, failed_queue, mended_queue}
 use Rattle.drive.specs.Decision.{ranges_of, transfer_deed, executed, reason, decision_event, CanExecute, IsMoved}
+use Rattle.std.proofs.lemmas.Bool.Decides.{nat_tests}
 use Rattle.std.proofs.lemmas.List.{reverse-append}
 use Rattle.drive.specs.State.{DriveState, kept_facts, KeepsDrive, Agrees, AgreesInOrder}
 use Rattle.drive.specs.Answers.{IsAnswer, IsDoneAndAnswered}
@@ -91,6 +95,43 @@ no-wait d o past com_id is k = ap (waiting past) is ∙ sym (k.tper.waiting 1)
 pub discovery-keeps : (d : DriveState) (o : Origin) (past : List Event) (com_id blocks : ℕ) → com_id ≡ 1 → KeepsDrive d o past → KeepsDrive d o (received com_id blocks (waiting past com_id) ∷ past)
 discovery-keeps d o past com_id blocks is k =
     nothing-keeps d o past (received com_id blocks (waiting past com_id)) (ap (λ (w : Option (List ℕ)). (received com_id blocks w).deed) (no-wait d o past com_id is k)) k
+
+-- nothing waits on the ComID of the list of protocols
+no-list : false ≡ true → ⊥
+no-list h = cc
+
+protocols-com_id : (protocol com_id blocks : ℕ) (dma : Bool)
+    → is_protocol_list (Receive protocol com_id blocks dma) ≡ true → com_id ≡ 0
+protocols-com_id protocol com_id blocks dma is = grind (arith, nat_tests)
+
+pub protocols-keeps : (d : DriveState) (o : Origin) (past : List Event) (payload : List ℕ) (command : Command)
+    → is_protocol_list command ≡ true → KeepsDrive d o past
+    → KeepsDrive d o (executed (facts o past) payload command ∷ past)
+protocols-keeps d o past payload (Receive protocol com_id blocks dma) is k =
+    let none : waiting past com_id ≡ None = ap (waiting past) (protocols-com_id protocol com_id blocks dma is) ∙ sym (k.tper.waiting 0) in
+    nothing-keeps d o past (received com_id blocks (waiting past com_id)) (ap (λ (w : Option (List ℕ)). (received com_id blocks w).deed) none) k
+protocols-keeps d o past payload (Send protocol com_id blocks dma) is k = absurd (no-list is)
+protocols-keeps d o past payload Identify is k = absurd (no-list is)
+protocols-keeps d o past payload (ReadLog10 dma) is k = absurd (no-list is)
+protocols-keeps d o past payload Flush is k = absurd (no-list is)
+protocols-keeps d o past payload SetFeatures is k = absurd (no-list is)
+protocols-keeps d o past payload (ReadLog page dma) is k = absurd (no-list is)
+protocols-keeps d o past payload (ReadQueued lba count) is k = absurd (no-list is)
+protocols-keeps d o past payload (WriteQueued lba count) is k = absurd (no-list is)
+protocols-keeps d o past payload (ReadDma lba count) is k = absurd (no-list is)
+protocols-keeps d o past payload (WriteDma lba count) is k = absurd (no-list is)
+
+pub protocols-data : (f : Facts) (protocol com_id blocks : ℕ) (dma : Bool)
+    → is_protocol_list (Receive protocol com_id blocks dma) ≡ true
+    → sized (sector_size * blocks) protocol_list ≡ data_of f (Receive protocol com_id blocks dma)
+protocols-data f protocol com_id blocks dma is =
+    sym (ap (λ (b : Bool). if b then sized (sector_size * blocks) protocol_list else receive_data f com_id (sector_size * blocks)) is)
+
+pub received-data : (f : Facts) (protocol com_id blocks : ℕ) (dma : Bool)
+    → is_protocol_list (Receive protocol com_id blocks dma) ≡ false
+    → receive_data f com_id (sector_size * blocks) ≡ data_of f (Receive protocol com_id blocks dma)
+received-data f protocol com_id blocks dma is =
+    sym (ap (λ (b : Bool). if b then sized (sector_size * blocks) protocol_list else receive_data f com_id (sector_size * blocks)) is)
 
 pub discovery-data : (d : DriveState) (o : Origin) (past : List Event) (com_id room : ℕ) → com_id ≡ 1 → KeepsDrive d o past
     → sized room (discovery_of (look_up (committed_sight d.tper.store))) ≡ receive_data (facts o past) com_id room
@@ -143,6 +184,8 @@ executed-succeeds f payload (Receive protocol com_id blocks dma) can = received-
 executed-succeeds f payload Identify can = (refl, refl)
 executed-succeeds f payload (ReadLog10 dma) can = log-succeeds (is_some f.failure)
 executed-succeeds f payload Flush can = (refl, refl)
+executed-succeeds f payload SetFeatures can = (refl, refl)
+executed-succeeds f payload (ReadLog page dma) can = (refl, refl)
 executed-succeeds f payload (ReadQueued lba count) can = absurd can
 executed-succeeds f payload (WriteQueued lba count) can = absurd can
 executed-succeeds f payload (ReadDma lba count) can = absurd can
@@ -164,7 +207,7 @@ failed-answer : (f : Facts) (h : RegH2d) (error : ℕ) (deed : Deed) (denied : O
 failed-answer f h error deed denied a free t =
     record { status = t.status_is; error = t.error_is; held = t.held_is ∙ sym free; fises = t.fises_are; bytes = t.bytes_are; denied = t.denied_is }
 
-served-answer : (f : Facts) (h : RegH2d) (ev : Event) (a : Accepted) (command : Command) → Succeeds ev → reading h ≡ Ok (command, None)
+served-answer : (f : Facts) (h : RegH2d) (ev : Event) (a : Accepted) (command : Command) → Succeeds ev → command_read f.config h ≡ Ok (command, None)
     → IsTold a ready 0 false (served_fises command) (data_of f command) ev.denied → IsAnswer f h ev a
 served-answer f h ev a command s reads t = record {
   status = t.status_is ∙ rw s.0 refl;
@@ -174,6 +217,11 @@ served-answer f h ev a command s reads t = record {
   bytes = t.bytes_are ∙ rw (s.0, reads) refl;
   denied = t.denied_is;
 }
+
+-- what the drive reads is what the history reads
+pub read-as : (d : DriveState) (o : Origin) (past : List Event) (h : RegH2d) (r : Result (Command × Option ℕ) CommandError)
+    → KeepsDrive d o past → command_read d.tper.store.config h ≡ r → command_read o.tables.config h ≡ r
+read-as d o past h r k e = ap (λ (config : Config). command_read config h) (sym k.tper.store.config) ∙ e
 
 -- what each decision comes to
 
@@ -194,7 +242,7 @@ fails-done f h d e o past payload fault denied made a is to t k =
 
 pub holds-done : (f : Facts) (h : RegH2d) (d e : DriveState) (o : Origin) (past : List Event) (payload : List ℕ) (tag : ℕ) (its : Held) (made : Decision) (a : Accepted)
     → tag < 32 → made ≡ Holds tag its → e ≡ record d { queue = with_slot tag (Some its) d.queue }
-    → reading h ≡ Ok (queued_command its.transfer, Some tag)
+    → command_read f.config h ≡ Ok (queued_command its.transfer, Some tag)
     → IsTold a ready 0 true (answer_fis false ready 0 ∷ []) [] None
     → KeepsDrive d o past → IsDoneAndAnswered f h (decision_event f payload made) e o past a
 holds-done f h d e o past payload tag its made a small is to reads t k =
@@ -204,7 +252,7 @@ holds-done f h d e o past payload tag its made a small is to reads t k =
     )
 
 pub executes-done : (f : Facts) (h : RegH2d) (e : DriveState) (o : Origin) (past : List Event) (payload : List ℕ) (command : Command) (made : Decision) (a : Accepted)
-    → made ≡ Executes command → (reading h ≡ Ok (command, None)) × CanExecute command
+    → made ≡ Executes command → (command_read f.config h ≡ Ok (command, None)) × CanExecute command
     → IsTold a ready 0 false (served_fises command) (data_of f command) (executed f payload command).denied
     → KeepsDrive e o (executed f payload command ∷ past) → IsDoneAndAnswered f h (decision_event f payload made) e o past a
 executes-done f h e o past payload command made a is due t k =
@@ -218,13 +266,15 @@ reset-no-data f (Receive protocol com_id blocks dma) is = absurd cc
 reset-no-data f Identify is = absurd cc
 reset-no-data f (ReadLog10 dma) is = absurd cc
 reset-no-data f Flush is = absurd cc
+reset-no-data f SetFeatures is = absurd cc
+reset-no-data f (ReadLog page dma) is = absurd cc
 reset-no-data f (ReadQueued lba count) is = absurd cc
 reset-no-data f (WriteQueued lba count) is = absurd cc
 reset-no-data f (ReadDma lba count) is = absurd cc
 reset-no-data f (WriteDma lba count) is = absurd cc
 
 pub restarts-done : (f : Facts) (h : RegH2d) (e : DriveState) (o : Origin) (past : List Event) (payload : List ℕ) (command : Command) (made : Decision) (a : Accepted)
-    → made ≡ Restarts command → (reading h ≡ Ok (command, None)) × (is_programmatic_reset command ≡ true)
+    → made ≡ Restarts command → (command_read f.config h ≡ Ok (command, None)) × (is_programmatic_reset command ≡ true)
     → IsTold a ready 0 false (served_fises command) [] None
     → KeepsDrive e o (did (WasReset programmatic) ∷ past) → IsDoneAndAnswered f h (decision_event f payload made) e o past a
 restarts-done f h e o past payload command made a is due t k =
@@ -263,7 +313,7 @@ moves-done h d e o past payload its made a is due tper queue media t k =
     record { status_is = t.status_is; error_is = t.error_is; held_is = t.held_is; fises_are = t.fises_are ∙ sym (moved-fises op lba count); bytes_are = t.bytes_are ∙ same; denied_is = t.denied_is } in
     subst (λ (x : Decision). IsDoneAndAnswered (facts o past) h (decision_event (facts o past) payload x) e o past a) (sym is) (
       moved-keeps d e o past op lba count payload (did (transfer_deed its.transfer payload)) refl tper queue media k,
-      served-answer (facts o past) h (did (transfer_deed its.transfer payload)) a (unqueued_command its.transfer) (moves-succeeds op lba count payload) due.reads told,
+      served-answer (facts o past) h (did (transfer_deed its.transfer payload)) a (unqueued_command its.transfer) (moves-succeeds op lba count payload) (read-as d o past h _ k due.reads) told,
     )
 
 -- what was decided by what is kept is what the past says

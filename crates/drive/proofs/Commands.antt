@@ -1,5 +1,8 @@
 -- What the history makes of a command, step by step, by what the drive found of it.
-use Rattle.std.proofs.Common.{◌≡◌, ◌==◌, slice_index, ℕ, Bool, true, false, not, ◌&&◌, List, Option, Some, None, is_some, option_map, Result, Ok, Err, refl, sym, subst, ap, ◌∙◌, cond}
+use Rattle.basics.specs.declared.profile.Profile.TheVariants.{Base, Field}
+use Rattle.basics.specs.declared.profile.Profile.{Profile}
+use Rattle.trusted_cmds.specs.Profiles.{CarriesIn}
+use Rattle.std.proofs.Common.{◌≡◌, ◌==◌, slice_index, ℕ, Bool, true, false, not, ◌&&◌, List, Option, Some, None, is_some, option_map, Result, Ok, Err, refl, sym, subst, ap, ◌∙◌, cond, inl, inr}
 use Rattle.fis.specs.H2d.{h2d_at}
 use Rattle.fis.specs.Types.{h2d_type}
 use Rattle.fis.specs.declared.h2d.RegH2d.{RegH2d}
@@ -7,11 +10,11 @@ use Rattle.locking.specs.declared.range.Op.TheVariants.{Read, Write}
 use Rattle.trusted_cmds.specs.declared.command.Command.{Command}
 use Rattle.trusted_cmds.specs.declared.command.Command.TheVariants.{ReadQueued, WriteQueued, ReadDma, WriteDma, ReadLog10}
 use Rattle.trusted_cmds.specs.declared.command.CommandError.{CommandError}
-use Rattle.trusted_cmds.specs.Commands.{reading, is_queued, Carries}
+use Rattle.trusted_cmds.specs.Commands.{is_queued}
 use Rattle.history.specs.Events.{Wrote, Nothing}
 use Rattle.history.specs.Facts.{Facts}
 use Rattle.history.specs.Decisions.{refuses, while_failed, admitted, queued_transfer, unqueued_transfer, is_busy}
-use Rattle.history.specs.Tcg.{accepted, commanded, known, unqueued}
+use Rattle.history.specs.Tcg.{accepted, commanded, known, unqueued, command_read}
 use Rattle.drive.specs.declared.transfer.Held.{Held}
 use Rattle.drive.specs.declared.transfer.Transfer.{Transfer}
 use Rattle.drive.specs.Transfer.{transfer_by, queued_command, held_command}
@@ -43,26 +46,28 @@ pub unqueued-write : (f : Facts) (payload : List ℕ) (lba count : ℕ) (c : Com
 unqueued-write f payload lba count c t is made = rw (is, made) refl
 
 -- the order of the rules
-pub commanded-failed : (f : Facts) (h : RegH2d) (payload : List ℕ) → h.is_command ≡ true → is_some f.failure ≡ true → while_failed (reading h) ≡ commanded f h payload
+pub commanded-failed : (f : Facts) (h : RegH2d) (payload : List ℕ) → h.is_command ≡ true → is_some f.failure ≡ true → while_failed (command_read f.config h) ≡ commanded f h payload
 commanded-failed f h payload is failed = rw (is, failed) refl
 
 pub commanded-known : (f : Facts) (h : RegH2d) (payload : List ℕ) → h.is_command ≡ true → is_some f.failure ≡ false → (is_busy f && not (is_queued h.command)) ≡ false
-    → known f h payload (reading h) ≡ commanded f h payload
+    → known f h payload (command_read f.config h) ≡ commanded f h payload
 commanded-known f h payload is mended alone = rw (is, mended, alone) refl
 
 -- only the log has no tag
-pub log-untagged : (h : RegH2d) (dma : Bool) (tag : Option ℕ) → Carries h (ReadLog10 dma) tag → tag ≡ None
-log-untagged h dma None w = refl
-log-untagged h dma (Some tag) w = absurd w
+pub log-untagged : (p : Profile) (h : RegH2d) (dma : Bool) (tag : Option ℕ) → CarriesIn p h (ReadLog10 dma) tag → tag ≡ None
+log-untagged p h dma None w = refl
+log-untagged Base h dma (Some tag) w = absurd w
+log-untagged Field h dma (Some tag) (inl w) = absurd w
+log-untagged Field h dma (Some tag) (inr w) = absurd w
 
 -- what was read of the FIS
 pub known-some : (f : Facts) (h : RegH2d) (payload : List ℕ) (r : Result (Command × Option ℕ) CommandError) (c : Command) (x : Option ℕ) (tag : ℕ)
-    → r ≡ reading h → r ≡ Ok (c, x) → x ≡ Some tag → admitted f h tag c (is_some (f.held tag)) ≡ known f h payload (reading h)
+    → r ≡ command_read f.config h → r ≡ Ok (c, x) → x ≡ Some tag → admitted f h tag c (is_some (f.held tag)) ≡ known f h payload (command_read f.config h)
 known-some f h payload r c x tag e is some =
     sym (ap (known f h payload) (sym e ∙ is ∙ ap (λ (t : Option ℕ). Ok (c, t)) some))
 
 pub known-none : (f : Facts) (h : RegH2d) (payload : List ℕ) (r : Result (Command × Option ℕ) CommandError) (c : Command) (x : Option ℕ)
-    → r ≡ reading h → r ≡ Ok (c, x) → x ≡ None → unqueued f payload c ≡ known f h payload (reading h)
+    → r ≡ command_read f.config h → r ≡ Ok (c, x) → x ≡ None → unqueued f payload c ≡ known f h payload (command_read f.config h)
 known-none f h payload r c x e is none =
     sym (ap (known f h payload) (sym e ∙ is ∙ ap (λ (t : Option ℕ). Ok (c, t)) none))
 

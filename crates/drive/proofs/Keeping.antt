@@ -36,7 +36,7 @@ use Rattle.drive.proofs.Slots.{no_slot, none_length, slot_set}
 -- what is kept shows the facts of the past
 pub seen-is : (d : DriveState) (o : Origin) (past : List Event) → KeepsDrive d o past → kept_facts d (facts o past) ≡ facts o past
 seen-is d o past k =
-    ap (λ x. record (kept_facts d g) { sectors = x.sectors; mbr_sectors = x.mbr_sectors }) k.tper.store.config
+    ap (λ x. record (kept_facts d g) { config = x }) k.tper.store.config
     ∙ ap (λ x. record g { rows = x; byte = slice_index d.tper.store.locking.bytes; held = held_at d.queue; failure = d.queue.failure; waiting = response_at d.tper.waiting; sector = sector_at d.media }) reads.rows
     ∙ ap (λ x. record g { byte = x; held = held_at d.queue; failure = d.queue.failure; waiting = response_at d.tper.waiting; sector = sector_at d.media }) reads.bytes
     ∙ ap (λ x. record g { held = x; failure = d.queue.failure; waiting = response_at d.tper.waiting; sector = sector_at d.media }) (fun_ext k.held)

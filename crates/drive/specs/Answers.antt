@@ -4,8 +4,8 @@ use Rattle.fis.specs.declared.h2d.RegH2d.{RegH2d}
 use Rattle.history.specs.Opening.{Origin}
 use Rattle.history.specs.Events.{HeldCommand, Event}
 use Rattle.history.specs.Facts.{Facts}
-use Rattle.history.specs.Answers.{status_of, is_holding, answer_fises, completed_fises, completed_data, fises_of}
-use Rattle.history.specs.Tcg.{answer_data}
+use Rattle.history.specs.Answers.{status_of, is_holding, completed_fises, completed_data, fises_of}
+use Rattle.history.specs.Tcg.{answer_data, answer_fises}
 use Rattle.shadow_mbr.specs.Stored.{sector_at}
 use Rattle.drive.specs.Transfer.{queued_command, held_bytes, sector_then}
 use Rattle.drive.specs.Queue.{with_slot}
@@ -19,7 +19,7 @@ pub record IsAnswer (f : Facts) (h : RegH2d) (event : Event) (answer : Accepted)
   pub status : answer.status ≡ status_of event.failed
   pub error : answer.error ≡ unwrap_or event.failed 0
   pub held : answer.held ≡ is_holding event.deed
-  pub fises : answer.fises.items ≡ answer_fises h event
+  pub fises : answer.fises.items ≡ answer_fises f h event
   pub bytes : answer.bytes.items ≡ answer_data f h event
   pub denied : answer.denied ≡ event.denied
 

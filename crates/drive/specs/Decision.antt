@@ -11,13 +11,13 @@ use Rattle.locking.specs.declared.ranges.Verdict.{Verdict}
 use Rattle.locking.specs.declared.ranges.Verdict.TheVariants.{Serve, Shadow, Denied}
 use Rattle.transactions.specs.Sights.{look_up, committed_sight}
 use Rattle.trusted_cmds.specs.declared.command.Command.{Command}
-use Rattle.trusted_cmds.specs.declared.command.Command.TheVariants.{Send, Receive, Identify, ReadLog10, Flush}
-use Rattle.trusted_cmds.specs.Commands.{reading, is_programmatic_reset}
+use Rattle.trusted_cmds.specs.declared.command.Command.TheVariants.{Send, Receive, Identify, ReadLog10, Flush, SetFeatures, ReadLog}
+use Rattle.trusted_cmds.specs.Commands.{is_programmatic_reset, is_protocol_list}
 use Rattle.sp_cells.specs.Resets.{programmatic}
 use Rattle.history.specs.Events.{Deed, Nothing, OfQueue, QueueFailed, QueueMended, Wrote, WasReset, Event, did}
 use Rattle.history.specs.Facts.{Facts}
 use Rattle.history.specs.Decisions.{aborted, not_found, fails, holds, received, is_session_com_id, discovery_com_id}
-use Rattle.history.specs.Tcg.{sent}
+use Rattle.history.specs.Tcg.{sent, command_read}
 use Rattle.tper.specs.Tper.{Tper}
 use Rattle.drive.specs.Transfer.{by_op, queued_command, unqueued_command, verdict_held, is_on_drive, StandsOnDrive}
 use Rattle.drive.specs.State.{DriveState}
@@ -99,11 +99,11 @@ decision_event f payload (Executes command) = executed f payload command
 
 pub record IsHeld (d : DriveState) (h : RegH2d) (tag : ℕ) (held : Held) : Type 0 where
   pub slot : tag < slot_count
-  pub reads : reading h ≡ Ok (queued_command held.transfer, Some tag)
+  pub reads : command_read d.tper.store.config h ≡ Ok (queued_command held.transfer, Some tag)
   pub within : StandsOnDrive d.tper.store.config.sectors d.tper.store.config.mbr_sectors held
 
 pub record IsMoved (d : DriveState) (h : RegH2d) (held : Held) : Type 0 where
-  pub reads : reading h ≡ Ok (unqueued_command held.transfer, None)
+  pub reads : command_read d.tper.store.config h ≡ Ok (unqueued_command held.transfer, None)
   pub verdict : verdict_of (ranges_of d.tper) held.transfer.op held.transfer.lba held.transfer.count
       ≡ verdict_held held
   pub within : StandsOnDrive d.tper.store.config.sectors d.tper.store.config.mbr_sectors held
@@ -116,10 +116,13 @@ IsTrustedCommand _ = ⊥
 abbrev pub CanExecute : Command → Type 0
 CanExecute (Send protocol com_id blocks dma) = is_session_com_id com_id ≡ true
 CanExecute (Receive protocol com_id blocks dma) =
-    (is_session_com_id com_id || com_id == discovery_com_id) ≡ true
+    (is_protocol_list (Receive protocol com_id blocks dma)
+    || (is_session_com_id com_id || com_id == discovery_com_id)) ≡ true
 CanExecute Identify = Unit {0}
 CanExecute (ReadLog10 dma) = Unit {0}
 CanExecute Flush = Unit {0}
+CanExecute SetFeatures = Unit {0}
+CanExecute (ReadLog page dma) = Unit {0}
 CanExecute _ = ⊥
 
 abbrev pub IsDue : DriveState → RegH2d → Decision → Type 0
@@ -128,5 +131,7 @@ IsDue d h (FailsQueue failure denied) = Unit {0}
 IsDue d h (Holds tag held) = IsHeld d h tag held
 IsDue d h (Moves held) = IsMoved d h held
 IsDue d h (Restarts command) =
-    (reading h ≡ Ok (command, None)) × (is_programmatic_reset command ≡ true)
-IsDue d h (Executes command) = (reading h ≡ Ok (command, None)) × CanExecute command
+    (command_read d.tper.store.config h ≡ Ok (command, None))
+    × (is_programmatic_reset command ≡ true)
+IsDue d h (Executes command) =
+    (command_read d.tper.store.config h ≡ Ok (command, None)) × CanExecute command

@@ -22,8 +22,7 @@ pub record DriveState : Type 0 where
 -- Facts of which the drive shows those that it keeps itself; the sessions are its TPer's.
 abbrev pub kept_facts : DriveState → Facts → Facts
 kept_facts d f = record f {
-  sectors = d.tper.store.config.sectors;
-  mbr_sectors = d.tper.store.config.mbr_sectors;
+  config = d.tper.store.config;
   rows = look_up (committed_sight d.tper.store);
   byte = slice_index d.tper.store.locking.bytes;
   held = held_at d.queue;

@@ -169,6 +169,7 @@ pub(crate) fn served_fises(command: &Command) -> ArrayVec<Fis, 2>
         }
         Command::Receive { dma: false, .. } => fises.push(pio_fis(true, READY)),
         Command::ReadLog10 { dma: false } => fises.push(pio_fis(true, READY)),
+        Command::ReadLog { dma: false, .. } => fises.push(pio_fis(true, READY)),
         Command::Identify => fises.push(pio_fis(true, READY)),
         _ => fises.push(answer_fis(true, READY, 0)),
     }

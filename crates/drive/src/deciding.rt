@@ -3,19 +3,20 @@
 ghost use Rattle.std.specs.Prelude.{◌≡◌, ◌<◌, ◌≤◌, ℕ, List, Some, None, Ok, is_some};
 ghost use Rattle.history.specs.Facts.{Facts};
 ghost use Rattle.history.specs.Decisions.{aborted, while_failed, admitted, receive, is_trusted, queued_transfer, unqueued_transfer};
-ghost use Rattle.history.specs.Tcg.{commanded, known, unqueued, send};
-ghost use Rattle.trusted_cmds.specs.Commands.{reading, IsCounted, most_sectors};
+ghost use Rattle.history.specs.Tcg.{commanded, known, unqueued, send, command_read};
+ghost use Rattle.trusted_cmds.specs.Commands.{IsCounted, most_sectors};
 ghost use Rattle.device_data.specs.ErrorLog.{failure_by};
 ghost use Rattle.drive.specs.declared.decision.Decision.{Decision};
 
 use crate::decision::{ABORTED, Decision};
 use crate::drive::Drive;
 use crate::transfer::{Held, Transfer};
+use basics::Profile;
 use device_data::Failure;
 use fis::{RegH2d, Tag};
 use locking::Op;
 use tper::is_session_com_id;
-use trusted_cmds::{Command, is_queued, of_fis, tag_of};
+use trusted_cmds::{Command, is_protocol_list, is_queued, of_fis, tag_of};
 
 /// The ComID of Level 0 discovery.
 pub(crate) const DISCOVERY_COM_ID: u16 = 1;
@@ -54,7 +55,7 @@ impl Drive {
     ghost use Rattle.std.specs.Prelude.{◌≡◌, ◌<◌, ◌&&◌, not, ℕ, List, Some, None, Ok, is_some, true, false};
     ghost use Rattle.fis.specs.Tags.{slot_count};
     ghost use Rattle.trusted_cmds.specs.Commands.{is_queued};
-    ghost use Rattle.history.specs.Decisions.{any_below, resets};
+    ghost use Rattle.history.specs.Decisions.{any_below, resets, tells_protocols};
     ghost use Rattle.transactions.specs.Sights.{look_up, committed_sight};
     ghost use Rattle.drive.specs.Decision.{decision_event, transfer_deed, IsDue, IsTrustedCommand};
     ghost use Rattle.drive.specs.State.{kept_facts};
@@ -94,10 +95,10 @@ impl Drive {
         requires { is_some self.now.queue.failure ≡ true }
         ensures event { (f : Facts) (payload : List ℕ) → decision_event
             (kept_facts self.now f) payload result
-            ≡ while_failed (reading h.now) }
+            ≡ while_failed (command_read self.now.tper.store.config h.now) }
         ensures due { IsDue self.now h.now result }
     {
-        match of_fis(h) {
+        match of_fis(self.profile(), h) {
             Ok((Command::ReadLog10 { dma }, _)) => Decision::Executes(Command::ReadLog10 { dma }),
             _ => aborts(),
         }
@@ -108,10 +109,11 @@ impl Drive {
         requires { self.now.queue.failure ≡ None }
         ensures event { (f : Facts) (payload : List ℕ) → decision_event
             (kept_facts self.now f) payload result
-            ≡ known (kept_facts self.now f) h.now payload (reading h.now) }
+            ≡ known (kept_facts self.now f) h.now payload
+            (command_read self.now.tper.store.config h.now) }
         ensures due { IsDue self.now h.now result }
     {
-        match of_fis(h) {
+        match of_fis(self.profile(), h) {
             Err(_) if is_queued(h.command) => fails_queue(Some(tag_of(h)), h),
             Err(_) => aborts(),
             Ok((command, Some(tag))) => self.queued(h, tag, command),
@@ -121,7 +123,7 @@ impl Drive {
 
     /// A queued command: a tag that is held fails the queue.
     fn queued(&self, h: &RegH2d, tag: Tag, command: Command) -> Decision
-        requires reads { reading h.now ≡ Ok (command, Some tag) }
+        requires reads { command_read self.now.tper.store.config h.now ≡ Ok (command, Some tag) }
         requires counted { IsCounted command }
         ensures event { (f : Facts) (payload : List ℕ) → decision_event
             (kept_facts self.now f) payload result
@@ -146,7 +148,8 @@ impl Drive {
     /// A queued transfer under a tag that is free: it is held where it is permitted, and else fails the queue.
     #[tactic(auto, using(crate::proofs::Policies::queued_held, crate::proofs::Policies::queued_refused))]
     fn queued_transfer(&self, h: &RegH2d, tag: Tag, transfer: Transfer) -> Decision
-        requires reads { reading h.now ≡ Ok (queued_command transfer, Some tag) }
+        requires reads { command_read self.now.tper.store.config h.now
+            ≡ Ok (queued_command transfer, Some tag) }
         requires slot { tag < slot_count }
         ensures event { (f : Facts) (payload : List ℕ) → decision_event
             (kept_facts self.now f) payload result
@@ -172,7 +175,7 @@ impl Drive {
     /// A command that is not queued.
     fn unqueued(&self, h: &RegH2d, command: Command) -> Decision
         requires mended { self.now.queue.failure ≡ None }
-        requires reads { reading h.now ≡ Ok (command, None) }
+        requires reads { command_read self.now.tper.store.config h.now ≡ Ok (command, None) }
         requires counted { IsCounted command }
         ensures event { (f : Facts) (payload : List ℕ) → decision_event
             (kept_facts self.now f) payload result
@@ -188,9 +191,11 @@ impl Drive {
             }
             Command::Send { .. } if self.resets(&command) => Decision::Restarts(command),
             Command::Send { .. } | Command::Receive { .. } => self.trusted(h, command),
-            Command::Identify | Command::ReadLog10 { .. } | Command::Flush => {
-                Decision::Executes(command)
-            }
+            Command::Identify
+            | Command::ReadLog10 { .. }
+            | Command::Flush
+            | Command::SetFeatures
+            | Command::ReadLog { .. } => Decision::Executes(command),
             Command::ReadQueued { .. } | Command::WriteQueued { .. } => aborts(),
         }
     }
@@ -198,7 +203,8 @@ impl Drive {
     /// A transfer that is not queued: it moves its data where it is permitted, and else fails.
     #[tactic(auto, using(crate::proofs::Policies::unqueued_moved, crate::proofs::Policies::unqueued_refused, crate::proofs::Policies::permitted))]
     fn unqueued_transfer(&self, h: &RegH2d, transfer: Transfer) -> Decision
-        requires { reading h.now ≡ Ok (unqueued_command transfer, None) }
+        requires { command_read self.now.tper.store.config h.now
+            ≡ Ok (unqueued_command transfer, None) }
         ensures event { (f : Facts) (payload : List ℕ) → decision_event
             (kept_facts self.now f) payload result
             ≡ unqueued_transfer (kept_facts self.now f) (transfer_deed transfer payload)
@@ -217,10 +223,20 @@ impl Drive {
         }
     }
 
-    /// A trusted command: of security protocol 01h, with one block at least, on a ComID that takes it. A send while a
-    /// response waits there is aborted.
+    /// Whether the drive tells the list of security protocols, which a command asks for.
+    fn tells_protocols(&self, command: &Command) -> bool
+        ensures { result ≡ tells_protocols self.now.tper.store.config.profile command.now }
+    {
+        match self.profile() {
+            Profile::Base => false,
+            Profile::Field => is_protocol_list(command),
+        }
+    }
+
+    /// A trusted command: of security protocol 01h, with one block at least, on a ComID that takes it, or a receive of
+    /// the list of protocols. A send while a response waits there is aborted.
     fn trusted(&self, h: &RegH2d, command: Command) -> Decision
-        requires reads { reading h.now ≡ Ok (command, None) }
+        requires reads { command_read self.now.tper.store.config h.now ≡ Ok (command, None) }
         requires trusted { IsTrustedCommand command }
         requires kept { resets (look_up (committed_sight self.now.tper.store)) command ≡ false }
         ensures event { (f : Facts) (payload : List ℕ) → decision_event
@@ -245,8 +261,9 @@ impl Drive {
                 blocks,
                 ..
             } => {
-                is_trusted(protocol, blocks)
-                    && (is_session_com_id(sp_specific) || sp_specific == DISCOVERY_COM_ID)
+                self.tells_protocols(&command)
+                    || is_trusted(protocol, blocks)
+                        && (is_session_com_id(sp_specific) || sp_specific == DISCOVERY_COM_ID)
             }
             _ => false,
         };

@@ -14,7 +14,8 @@ use crate::opening::Opening;
 use crate::queue::Queue;
 use crate::transfer::{Held, Transfer};
 use audit::Why;
-use device_data::{Failure, discovery, error_log, identity};
+use basics::Profile;
+use device_data::{Failure, discovery, error_log, identity_of, protocol_list};
 use fis::{H2D_LENGTH, H2D_TYPE, RegH2d, Tag};
 use history::ResetKind;
 use locking::{Op, RangeRow, Ranges};
@@ -55,10 +56,11 @@ fn refresh_where(changes: bool, ranges: &mut Ranges, rows: &View<'_>)
 pub struct Drive {
     alloc: Global,
     sectors: u64,
+    profile: Profile,
     ranges: Ranges,
     tper: Tper,
     queue: Queue,
-    media: Media,
+    pub(crate) media: Media,
     /// A vector for the bytes of the next read, or of the next response.
     spare: Vec<u8>,
 }
@@ -77,7 +79,8 @@ impl Model for Drive {
         × (a.tper.store.config.sectors ≡ a.sectors)
         × (a.ranges ≡ ranges_of a.tper)
         × (a.media.sectors ≡ a.sectors)
-        × AllFit a.sectors a.tper.store.config.mbr_sectors a.queue };
+        × AllFit a.sectors a.tper.store.config.mbr_sectors a.queue
+        × (a.tper.store.config.profile ≡ a.profile) };
 }
 
 impl Drive {
@@ -88,7 +91,8 @@ impl Drive {
     ghost use Rattle.shadow_mbr.specs.Stored.{sector_at, sector_size};
     ghost use Rattle.device_data.specs.Discovery.{discovery as discovery_of};
     ghost use Rattle.device_data.specs.ErrorLog.{sized, error_log as log_page};
-    ghost use Rattle.device_data.specs.Identity.{identity as identity_of};
+    ghost use Rattle.device_data.specs.Protocols.{protocol_list as protocols_told};
+    ghost use Rattle.device_data.specs.Identity.{identity_of as identity_in};
     ghost use Rattle.transactions.specs.Sights.{look_up, committed_sight};
     ghost use Rattle.history.specs.Opening.{Origin, origin_on, factory_origin, origin_with};
     ghost use Rattle.history.specs.Agreement.{HasNoTries};
@@ -146,12 +150,15 @@ impl Drive {
         ensures { IfOk result (λ drive. HasNoTries (origin_on tables)
             → HasKnownRows (origin_on tables) → Agrees drive (origin_on tables) []) }
     {
-        let sectors = tables.config().sectors();
+        let config = tables.config();
+        let sectors = config.sectors();
+        let profile = config.profile();
         let tper = Tper::new(alloc, tables);
         let ranges = Ranges::of(alloc, &tper.in_force())?;
         Ok(Drive {
             alloc,
             sectors,
+            profile,
             ranges,
             tper,
             queue: Queue::new(),
@@ -221,6 +228,13 @@ impl Drive {
             → result ≡ is_some (held_in (log o acts) tag) }
     {
         self.held(tag).is_some()
+    }
+
+    /// What the drive knows beside the commands of each drive.
+    pub(crate) fn profile(&self) -> Profile
+        ensures { result ≡ self.now.tper.store.config.profile }
+    {
+        self.profile
     }
 
     /// How the queue has failed, if it has: what log page 10h tells.
@@ -319,11 +333,19 @@ impl Drive {
         sized(self.alloc, &bytes, room)
     }
 
+    /// The list of security protocols: as many bytes as the transfer has.
+    pub(crate) fn protocols(&self, room: usize) -> Result<Vec<u8>, AllocError>
+        ensures { IfOk result (λ v. v.items ≡ sized room protocols_told) }
+    {
+        sized(self.alloc, &protocol_list(), room)
+    }
+
     /// The data of IDENTIFY DEVICE.
     pub(crate) fn identify(&self) -> Result<Vec<u8>, AllocError>
-        ensures { IfOk result (λ v. v.items ≡ identity_of self.now.tper.store.config.sectors) }
+        ensures { IfOk result (λ v. v.items ≡ identity_in self.now.tper.store.config) }
     {
-        identity(self.alloc, self.sectors)
+        let view = self.tper.in_force();
+        identity_of(self.alloc, view.config())
     }
 
     /// The data of log page 10h, which ends a failure.
@@ -361,7 +383,7 @@ impl Drive {
     // An answer is large: where the caller has the code at hand, it is not moved.
     #[inline(always)]
     pub fn accept(&mut self, fis: &[u8; H2D_LENGTH], payload: &[u8]) -> Result<Accepted, AllocError>
-        requires { length payload.now ≡ payload_of fis.now }
+        requires { length payload.now ≡ payload_of self.old.tper.store.config fis.now }
         ensures agrees { OnOk result ((o : Origin) (acts : List Act) → Agrees self.old o acts
             → Agrees self.new o (Accept fis.now payload.now ∷ acts)) }
         ensures in_order { OnOk result ((o : Origin) (acts : List Act)
@@ -380,7 +402,7 @@ impl Drive {
     /// Decides on a FIS, and does it.
     #[inline(always)]
     fn take(&mut self, fis: &[u8; H2D_LENGTH], payload: &[u8]) -> Result<Accepted, AllocError>
-        requires { length payload.now ≡ payload_of fis.now }
+        requires { length payload.now ≡ payload_of self.old.tper.store.config fis.now }
         ensures done { IfOk result (λ a. (o : Origin) (acts : List Act) → Agrees self.old o acts
             → IsDoneAndAnswered (facts o (log o acts)) (h2d_at fis.now)
             (event o (log o acts) (Accept fis.now payload.now)) self.new o (log o acts) a) }

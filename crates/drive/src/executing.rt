@@ -8,13 +8,14 @@ use crate::decision::{Decision, reason};
 use crate::drive::Drive;
 use crate::reset::PROGRAMMATIC;
 use audit::Why;
+use device_data::device_page;
 use fis::RegH2d;
 use shadow_mbr::SECTOR_SIZE;
 use std::alloc::AllocError;
-use trusted_cmds::Command;
+use trusted_cmds::{Command, is_protocol_list};
 
 impl Drive {
-    ghost use Rattle.trusted_cmds.specs.Commands.{payload_length};
+    ghost use Rattle.trusted_cmds.specs.Profiles.{payload_length_in};
     ghost use Rattle.history.specs.Opening.{Origin};
     ghost use Rattle.std.specs.Prelude.{◌==◌, ◌||◌, ◌*◌, ℕ, true};
     ghost use Rattle.shadow_mbr.specs.Stored.{sector_size};
@@ -37,7 +38,8 @@ impl Drive {
         payload: &[u8],
     ) -> Result<Accepted, AllocError>
         requires due { IsDue self.old h.now decision }
-        requires payload { length payload.now ≡ payload_length h.now }
+        requires payload { length payload.now
+            ≡ payload_length_in self.old.tper.store.config.profile h.now }
         ensures done { IfOk result (λ a. (o : Origin) (acts : List Act) → Agrees self.old o acts
             → IsDoneAndAnswered (facts o (log o acts)) h.now
             (decision_event (facts o (log o acts)) payload.now decision) self.new o
@@ -99,12 +101,18 @@ impl Drive {
                 blocks,
                 ..
             } => {
-                let bytes = self.received(sp_specific, SECTOR_SIZE * usize::from(blocks))?;
+                let room = SECTOR_SIZE * usize::from(blocks);
+                if is_protocol_list(command) {
+                    return Ok((self.protocols(room)?, None));
+                }
+                let bytes = self.received(sp_specific, room)?;
                 Ok((bytes, None))
             }
             Command::Identify => Ok((self.identify()?, None)),
             Command::ReadLog10 { .. } => Ok((self.read_log()?, None)),
             Command::Flush => Ok((Vec::new(self.allocator()), None)),
+            Command::SetFeatures => Ok((Vec::new(self.allocator()), None)),
+            Command::ReadLog { page, .. } => Ok((device_page(self.allocator(), &page)?, None)),
             Command::ReadQueued { .. }
             | Command::WriteQueued { .. }
             | Command::ReadDma { .. }

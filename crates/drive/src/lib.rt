@@ -13,6 +13,7 @@ mod opening;
 mod payload;
 mod queue;
 mod reset;
+mod stored;
 mod transfer;
 
 pub use answer::{Accepted, Completed};
@@ -24,5 +25,4 @@ pub use history::ResetKind;
 pub use laws::laws_of_openings;
 pub use locking::RangeRow;
 pub use opening::Opening;
-pub use payload::payload_of;
 pub use sp_cells::{DriveConfig, SetError};

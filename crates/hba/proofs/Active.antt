@@ -4,13 +4,15 @@ use Rattle.std.specs.Prelude.{◌==◌, is_some, unwrap_or, Result, Ok, Err, if�
 use Rattle.fis.specs.declared.any.Fis.{Fis}
 use Rattle.hba_regs.specs.Registers.{Regs, without}
 use Rattle.trusted_cmds.specs.declared.command.Command.{Command}
-use Rattle.trusted_cmds.specs.declared.command.Command.TheVariants.{ReadQueued, WriteQueued, ReadDma, WriteDma, Send, Receive, Identify, ReadLog10, Flush}
+use Rattle.trusted_cmds.specs.declared.command.Command.TheVariants.{ReadQueued, WriteQueued, ReadDma, WriteDma, Send, Receive, Identify, ReadLog10, Flush, SetFeatures, ReadLog}
 use Rattle.trusted_cmds.specs.declared.command.CommandError.{CommandError}
 use Rattle.history.specs.Answers.{errored, ready, answer_fis, served_fises, fises_read, fises_of, completed_fises, setup_fis, moved_fis}
 use Rattle.history.specs.Events.{HeldCommand}
 use Rattle.port_history.specs.Registers.{raised, with_task, task_error_bit, carried, all_shown}
 use Rattle.hba.specs.declared.registers.Registers.{Registers}
-use Rattle.hba.specs.Showing.{answered, faulted, fetching}
+use Rattle.hba_memory.specs.declared.miss.Miss.{Miss}
+use Rattle.hba_memory.specs.declared.miss.Miss.TheVariants as misses
+use Rattle.hba.specs.Showing.{served, fetching}
 use Rattle.hba.specs.Laws.{ToldByDeviceBits}
 
 raised_active : (bits : ℕ) (raises : Bool) (regs : Regs) → (raised bits raises regs).active ≡ regs.active
@@ -35,6 +37,9 @@ served_active tag regs Identify = refl
 served_active tag regs (ReadLog10 true) = refl
 served_active tag regs (ReadLog10 false) = refl
 served_active tag regs Flush = refl
+served_active tag regs SetFeatures = refl
+served_active tag regs (ReadLog page true) = refl
+served_active tag regs (ReadLog page false) = refl
 
 read_active : (tag : ℕ) (regs : Regs) (read : Result (Command × Option ℕ) CommandError)
     → (all_shown tag regs (fises_read read)).active ≡ regs.active
@@ -50,21 +55,24 @@ accepted_active tag regs (Some error) holds read = refl
 accepted_active tag regs None true read = refl
 accepted_active tag regs None false read = read_active tag regs read
 
--- The registers after an act of the drive, with room for its data or without.
-pub served_same : (room : Bool) (tag : ℕ) (fises : List Fis) (regs : Registers)
+-- The registers after an act of the drive, whatever was missed behind it.
+pub served_same : (missed : Option Miss) (tag : ℕ) (fises : List Fis) (regs : Registers)
     → (all_shown tag regs.port fises).active ≡ regs.port.active
-    → (if room then answered tag fises regs else faulted regs).port.active ≡ regs.port.active
-served_same true tag fises regs e = e
-served_same false tag fises regs e = refl
+    → (served tag fises missed regs).port.active ≡ regs.port.active
+served_same None tag fises regs e = e
+served_same (Some misses.List) tag fises regs e = refl
+served_same (Some misses.Table) tag fises regs e = refl
+served_same (Some misses.Block) tag fises regs e = refl
+served_same (Some misses.Overflow) tag fises regs e = refl
+served_same (Some misses.Fis) tag fises regs e = e
 
-pub fetched_same : (room : Bool) (tag : ℕ) (regs : Registers) (error : Option ℕ) (holds : Bool)
+pub fetched_same : (missed : Option Miss) (tag : ℕ) (regs : Registers) (error : Option ℕ) (holds : Bool)
     (read : Result (Command × Option ℕ) CommandError) (fises : List Fis)
     → fises ≡ (if is_some error then answer_fis true errored (unwrap_or error 0) ∷ []
     else (if holds then answer_fis false ready 0 ∷ [] else fises_read read))
-    → (if room then answered tag fises (fetching tag regs)
-    else faulted (fetching tag regs)).port.active ≡ regs.port.active
-fetched_same room tag regs error holds read fises e =
-    served_same room tag fises (fetching tag regs)
+    → (served tag fises missed (fetching tag regs)).port.active ≡ regs.port.active
+fetched_same missed tag regs error holds read fises e =
+    served_same missed tag fises (fetching tag regs)
     (rw e (accepted_active tag regs.port error holds read))
 
 -- The two FISes of a completion.
@@ -74,32 +82,38 @@ moved_active : (tag : ℕ) (to_host : Bool) (count : ℕ) (regs : Regs)
 moved_active tag to_host count regs =
     ap (λ a. without a (2 ^ tag)) (task_active (carried regs.status ready) 0 regs)
 
-told_if : (room : Bool) (tag : ℕ) (setup : Fis) (regs : Registers)
+told_if : (missed : Option Miss) (tag : ℕ) (setup : Fis) (regs : Registers)
     → (all_shown tag regs.port (setup ∷ moved_fis tag ∷ [])).active ≡ without regs.port.active (2 ^ tag)
     → ToldByDeviceBits tag (setup ∷ moved_fis tag ∷ []) regs.port.active
-    (if room then answered tag (setup ∷ moved_fis tag ∷ []) regs else faulted regs).port.active
-told_if true tag setup regs e = inr (setup, refl, e)
-told_if false tag setup regs e = inl refl
+    (served tag (setup ∷ moved_fis tag ∷ []) missed regs).port.active
+told_if None tag setup regs e = inr (setup, refl, e)
+told_if (Some misses.List) tag setup regs e = inl refl
+told_if (Some misses.Table) tag setup regs e = inl refl
+told_if (Some misses.Block) tag setup regs e = inl refl
+told_if (Some misses.Overflow) tag setup regs e = inl refl
+told_if (Some misses.Fis) tag setup regs e = inr (setup, refl, e)
 
-by_command : (room : Bool) (tag : ℕ) (regs : Registers) (command : Command)
+by_command : (missed : Option Miss) (tag : ℕ) (regs : Registers) (command : Command)
     → ToldByDeviceBits tag (fises_of tag command) regs.port.active
-    (if room then answered tag (fises_of tag command) regs else faulted regs).port.active
-by_command room tag regs (ReadQueued lba count) =
-    told_if room tag (setup_fis true tag (512 * count)) regs
+    (served tag (fises_of tag command) missed regs).port.active
+by_command missed tag regs (ReadQueued lba count) =
+    told_if missed tag (setup_fis true tag (512 * count)) regs
     (moved_active tag true (512 * count) regs.port)
-by_command room tag regs (WriteQueued lba count) =
-    told_if room tag (setup_fis false tag (512 * count)) regs
+by_command missed tag regs (WriteQueued lba count) =
+    told_if missed tag (setup_fis false tag (512 * count)) regs
     (moved_active tag false (512 * count) regs.port)
-by_command room tag regs (ReadDma lba count) = inl (served_same room tag [] regs refl)
-by_command room tag regs (WriteDma lba count) = inl (served_same room tag [] regs refl)
-by_command room tag regs (Send protocol com_id blocks dma) = inl (served_same room tag [] regs refl)
-by_command room tag regs (Receive protocol com_id blocks dma) = inl (served_same room tag [] regs refl)
-by_command room tag regs Identify = inl (served_same room tag [] regs refl)
-by_command room tag regs (ReadLog10 dma) = inl (served_same room tag [] regs refl)
-by_command room tag regs Flush = inl (served_same room tag [] regs refl)
+by_command missed tag regs (ReadDma lba count) = inl (served_same missed tag [] regs refl)
+by_command missed tag regs (WriteDma lba count) = inl (served_same missed tag [] regs refl)
+by_command missed tag regs (Send protocol com_id blocks dma) = inl (served_same missed tag [] regs refl)
+by_command missed tag regs (Receive protocol com_id blocks dma) = inl (served_same missed tag [] regs refl)
+by_command missed tag regs Identify = inl (served_same missed tag [] regs refl)
+by_command missed tag regs (ReadLog10 dma) = inl (served_same missed tag [] regs refl)
+by_command missed tag regs Flush = inl (served_same missed tag [] regs refl)
+by_command missed tag regs SetFeatures = inl (served_same missed tag [] regs refl)
+by_command missed tag regs (ReadLog page dma) = inl (served_same missed tag [] regs refl)
 
-pub completed_told : (room : Bool) (tag : ℕ) (regs : Registers) (held : Option HeldCommand)
+pub completed_told : (missed : Option Miss) (tag : ℕ) (regs : Registers) (held : Option HeldCommand)
     → ToldByDeviceBits tag (completed_fises tag held) regs.port.active
-    (if room then answered tag (completed_fises tag held) regs else faulted regs).port.active
-completed_told room tag regs None = inl (served_same room tag [] regs refl)
-completed_told room tag regs (Some held) = by_command room tag regs held.command
+    (served tag (completed_fises tag held) missed regs).port.active
+completed_told missed tag regs None = inl (served_same missed tag [] regs refl)
+completed_told missed tag regs (Some held) = by_command missed tag regs held.command

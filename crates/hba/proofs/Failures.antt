@@ -1,50 +1,23 @@
 -- A command that fails.
-use Rattle.std.proofs.Common.{◌≡◌, ℕ, ◌-◌, ◌||◌, Bool, true, false, List, [], ◌∷◌, length, take, drop, Option, Some, refl, ap, ◌∙◌, arith, add-zero}
-use Rattle.std.proofs.lemmas.Grind.{common_steps}
+use Rattle.std.proofs.Common.{◌≡◌, ℕ, ◌+◌, ◌||◌, Bool, true, false, zero, suc, List, [], ◌∷◌, ◌++◌, Option, Some, None, refl, ap, sym, ◌∙◌, subst, add-zero}
 use Rattle.fis.specs.declared.any.Fis.{Fis}
 use Rattle.fis.specs.declared.h2d.RegH2d.{RegH2d}
-use Rattle.slots.specs.Layout.{memory_with}
-use Rattle.history.specs.Answers.{errored, answer_fis, answer_fises}
-use Rattle.history.specs.Tcg.{answer_data}
+use Rattle.host_memory.specs.Access.{Access}
+use Rattle.history.specs.Answers.{errored, answer_fis}
+use Rattle.history.specs.Tcg.{answer_data, answer_fises}
 use Rattle.history.specs.Events.{Event}
 use Rattle.history.specs.Facts.{Facts}
 use Rattle.hba.specs.declared.registers.Registers.{Registers}
-use Rattle.hba.specs.declared.window.Region.{Region}
-use Rattle.hba.specs.Memory.{left_after, have_room, scattered, byte_count_told, IsPosted, IsDelivered}
-use Rattle.hba.specs.Showing.{answered, faulted, fetching}
-use Rattle.hba.specs.Laws.{TellsError}
-use Rattle.std.specs.Prelude.{if◌then◌else◌}
+use Rattle.hba_memory.specs.declared.miss.Miss.{Miss}
+use Rattle.hba_memory.specs.declared.miss.Miss.TheVariants as misses
+use Rattle.hba_memory.specs.declared.delivery.Place.{Place}
+use Rattle.hba_memory.specs.Memory.{descriptors_of, Scatters, Counts, PostsTo, After, Then, Delivers}
+use Rattle.hba.specs.Showing.{served, fetching}
+use Rattle.hba.specs.Laws.{TellsError, Halts, GivesNothing}
 
-none_left : (rs : List Region) → left_after rs 0 ≡ 0
-none_left [] = refl
-none_left (r ∷ rs) = let e : 0 - r.len ≡ 0 = omega arith in rw e (none_left rs)
-
--- no bytes need room
-has_room : (rs : List Region) → have_room rs 0 ≡ true
-has_room rs = rw (none_left rs) refl
-
-laid_none : (memory : List ℕ) (at : ℕ) → memory_with memory at [] ≡ memory
-laid_none memory at = grind (arith, common_steps)
-
-none_taken : (n : ℕ) → take {A = ℕ} n [] ≡ []
-none_taken n = grind (arith, common_steps)
-
-none_dropped : (n : ℕ) → drop {A = ℕ} n [] ≡ []
-none_dropped n = grind (arith, common_steps)
-
--- no bytes change nothing
-scattered_none : (memory : List ℕ) (rs : List Region) → scattered memory rs [] ≡ memory
-scattered_none memory [] = refl
-scattered_none memory (r ∷ rs) =
-    let front : take r.len [] ≡ [] = none_taken r.len in
-    let behind : drop r.len [] ≡ [] = none_dropped r.len in
-    ap (λ xs. scattered (memory_with memory r.at xs) rs (drop r.len [])) front
-    ∙ ap (λ xs. scattered (memory_with memory r.at []) rs xs) behind
-    ∙ ap (λ m. scattered m rs []) (laid_none memory r.at) ∙ scattered_none memory rs
-
-pub fises_failed : (h : RegH2d) (event : Event) (error : ℕ) → event.failed ≡ Some error
-    → answer_fises h event ≡ answer_fis true errored error ∷ []
-fises_failed h event error e = rw e refl
+pub fises_failed : (f : Facts) (h : RegH2d) (event : Event) (error : ℕ) → event.failed ≡ Some error
+    → answer_fises f h event ≡ answer_fis true errored error ∷ []
+fises_failed f h event error e = rw e refl
 
 pub data_failed : (f : Facts) (h : RegH2d) (event : Event) (error : ℕ) → event.failed ≡ Some error
     → answer_data f h event ≡ []
@@ -54,26 +27,42 @@ or_true : (b : Bool) → (b || true) ≡ true
 or_true true = refl
 or_true false = refl
 
-pub tells_error : (regs : Registers) (tag error : ℕ) (places : List Region) (fises : List Fis) (bytes : List ℕ)
-    → fises ≡ answer_fis true errored error ∷ [] → bytes ≡ []
-    → TellsError error regs
-    (if have_room places (length bytes) then answered tag fises (fetching tag regs)
-    else faulted (fetching tag regs))
-tells_error regs tag error places fises bytes f b =
-    rw (f, b, has_room places)
-    (record {
-      status = refl;
-      code = refl;
-      raised = refl;
-      issued = refl;
-      active = refl;
-      halted = or_true regs.is_halted;
-    })
+pub tells_error : (regs : Registers) (tag error : ℕ) (fises : List Fis)
+    → fises ≡ answer_fis true errored error ∷ []
+    → TellsError error regs (served tag fises None (fetching tag regs))
+tells_error regs tag error fises f = rw f (record { status = refl; code = refl; raised = refl })
 
-pub gives_nothing : (base : ℕ) (to : Option ℕ) (header moved error : ℕ) (places : List Region)
-    (fises : List Fis) (bytes old new : List ℕ)
-    → fises ≡ answer_fis true errored error ∷ [] → bytes ≡ []
-    → IsDelivered base to header places moved fises bytes old new
-    → IsPosted base to (byte_count_told base header moved old) (answer_fis true errored error ∷ []) new
-gives_nothing base to header moved error places fises bytes old new f b h =
-    rw (f, b, has_room places, add-zero moved, scattered_none old places) at h
+halts_so : (regs : Registers) (tag error : ℕ) (missed : Option Miss)
+    → Halts regs (served tag (answer_fis true errored error ∷ []) missed (fetching tag regs))
+halts_so regs tag error None = record { issued = refl; active = refl; halted = or_true regs.is_halted }
+halts_so regs tag error (Some misses.List) = record { issued = refl; active = refl; halted = refl }
+halts_so regs tag error (Some misses.Table) = record { issued = refl; active = refl; halted = refl }
+halts_so regs tag error (Some misses.Block) = record { issued = refl; active = refl; halted = refl }
+halts_so regs tag error (Some misses.Overflow) = record { issued = refl; active = refl; halted = refl }
+halts_so regs tag error (Some misses.Fis) = record { issued = refl; active = refl; halted = refl }
+
+pub halts : (regs : Registers) (tag error : ℕ) (missed : Option Miss) (fises : List Fis)
+    → fises ≡ answer_fis true errored error ∷ []
+    → Halts regs (served tag fises missed (fetching tag regs))
+halts regs tag error missed fises f = rw f (halts_so regs tag error missed)
+
+-- No bytes ask for nothing.
+scatters_none : (at n : ℕ) (talk : List Access) (missed : Option Miss) → Scatters at n [] talk missed
+    → (talk ≡ []) × (missed ≡ None)
+scatters_none at zero talk missed h = h
+scatters_none at (suc n) talk missed h = h
+
+pub gives_nothing : (place : Place) (moved error : ℕ) (fises : List Fis) (bytes : List ℕ)
+    (talk : List Access) (missed : Option Miss) → fises ≡ answer_fis true errored error ∷ []
+    → bytes ≡ [] → Delivers place moved fises bytes talk missed
+    → GivesNothing place moved error talk missed
+gives_nothing place moved error fises bytes talk missed f b h =
+    let g : Delivers place moved (answer_fis true errored error ∷ []) [] talk missed =
+    subst (λ (xs : List ℕ). Delivers place moved (answer_fis true errored error ∷ []) xs talk missed) b
+    (subst (λ (fs : List Fis). Delivers place moved fs bytes talk missed) f h) in
+    let n = scatters_none (descriptors_of place.header) place.header.entries g.0 g.2 g.4 in
+    let same : talk ≡ g.1 = g.3 ∙ ap (λ (xs : List Access). xs ++ g.1) n.0 in
+    let rest : After None (Then (Counts place.at (moved + 0)) (PostsTo place.to (answer_fis true errored error ∷ []))) g.1 missed =
+    subst (λ (m : Option Miss). After m (Then (Counts place.at (moved + 0)) (PostsTo place.to (answer_fis true errored error ∷ []))) g.1 missed) n.1 g.5 in
+    subst (λ (xs : List Access). GivesNothing place moved error xs missed) (sym same)
+    (subst (λ (k : ℕ). Then (Counts place.at k) (PostsTo place.to (answer_fis true errored error ∷ [])) g.1 missed) (add-zero moved) rest)

@@ -1,6 +1,6 @@
 pub mod Words
-pub mod Regions
 pub mod Works
 pub mod Turns
 pub mod Failures
 pub mod Active
+pub mod Counts

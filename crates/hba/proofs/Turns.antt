@@ -1,88 +1,505 @@
--- A piece of work by the state, and by a list of operations that it agrees with.
-use Rattle.std.proofs.Common.{◌≡◌, ℕ, ◌+◌, List, ◌∷◌, ap, sym, refl, ◌∙◌, Option, Some, subst, add-one, Bool, true, false, None}
-use Rattle.std.proofs.Math.Path.{fun_ext}
+-- A piece of work: what the engine asks of memory, what it does, and that it does so after every list
+-- that the HBA agreed with.
+use Rattle.sp_cells.specs.Config.{Config}
+use Rattle.std.proofs.Common.{◌≡◌, ℕ, ◌+◌, ◌-◌, zero, suc, Bool, true, false, List, [], ◌∷◌, ◌++◌, length, Option, Some, None, Ok, Err, ap, sym, refl, ◌∙◌, subst, add-one}
+use Rattle.std.proofs.lemmas.List.{append-nil}
+use Rattle.std.specs.Prelude.{Result, IfOk, ◌==◌}
+use Rattle.fis.specs.Types.{h2d_length}
+use Rattle.fis.specs.declared.any.Fis.{Fis}
 use Rattle.audit.specs.declared.reason.Why.{Why}
-use Rattle.history.specs.Answers.{expected}
-use Rattle.history.specs.History.{log}
+use Rattle.history.specs.Answers.{expected, payload_of}
+use Rattle.history.specs.History.{Act, Accept, Complete}
 use Rattle.history.specs.Opening.{Origin}
-use Rattle.history.specs.Readers.{held}
 use Rattle.drive.specs.Queue.{held_at}
+use Rattle.slots.specs.Layout.{header_size, descriptor_size}
+use Rattle.host_memory.specs.Access.{Access, Asked, IsAccess, Accessed, OnlyReads, AreReads}
+use Rattle.host_memory.proofs.Accesses.{accessed_append}
+use Rattle.hba_memory.specs.declared.miss.Miss.{Miss}
+use Rattle.hba_memory.specs.declared.reading.Header.{Header}
+use Rattle.hba_memory.specs.declared.delivery.Place.{Place}
+use Rattle.hba_memory.specs.Memory.{header_by, carries_command, descriptors_of, data_len, Gathers, BringsNext, BringsEntry, BringsBlock, PostsTo, Delivers}
 use Rattle.hba.specs.declared.registers.Registers.{Registers}
 use Rattle.hba.specs.declared.work.Work.{Work}
-use Rattle.hba.specs.History.{State, Operation, Missed, Completed, Account, AgreesHba, Adds, account, acts_of, regs_of, operation_denied}
-use Rattle.hba.specs.Memory.{command_slot_at, have_room, gathered}
-use Rattle.hba.specs.declared.window.Region.{Region}
-use Rattle.hba.specs.declared.window.Slot.{Slot}
-use Rattle.std.specs.Prelude.{if◌then◌else◌}
+use Rattle.hba.specs.declared.work.Work.TheVariants as works
+use Rattle.hba.specs.declared.work.Done.{Done}
+use Rattle.hba.specs.declared.work.Outcome.{Outcome}
+use Rattle.hba.specs.declared.work.Done.TheVariants as dones
+use Rattle.hba.specs.Showing.{fault_of, served, fetching}
+use Rattle.hba.specs.History.{Operation, Signed, Missed, Controlled, Fetched, Completed, Account, State, HasActed, AgreesHba, Adds, account, acts_of, regs_of, effect_after, operation_denied}
 use Rattle.hba.specs.Ready.{ready_on, picked}
-use Rattle.hba.specs.Engine.{operation_by, operation_of, operation_after, MovesMemory, MovesAs, DeniesAs, TurnsBy, TellsDenial, HasRun, Runs, places_of, header_at, completed_from, completing_of}
+use Rattle.hba.specs.Engine.{header_at, fises_at, place_of, IsEffect, ServesSo, Executes, FetchesIf, FetchesFis, FetchesFrom, Fetches, CompletesFrom, Completes, Signs, signature_fis, IsWork, done_of, TurnsAs, TurnsBy, HasRun, Runs, HasStopped}
 use Rattle.hba.proofs.Works.{ready_same}
 
-same_operation : (hba : State) (o : Origin) (list : List Operation) (base : ℕ) (memory : List ℕ)
-    (work : Work) → AgreesHba hba o list
-    → operation_of hba base memory work ≡ operation_after o list base memory work
-same_operation hba o list base memory work a =
-    let e : (λ (tag : ℕ). expected (held_at hba.drive.queue tag))
-    ≡ (λ (tag : ℕ). expected (held (log o (acts_of o list)) tag)) =
-    fun_ext (λ tag. ap expected (a.drive.held tag)) in
-    ap (λ (r : Registers). operation_by r (λ tag. expected (held_at hba.drive.queue tag)) base memory work) a.registers
-    ∙ ap (λ (h : ℕ → ℕ). operation_by (regs_of o list) h base memory work) e
+-- The account of a list, with the registers of an HBA that agrees with it.
+abbrev with_registers : State → Origin → List Operation → Account
+with_registers hba o list = record { acts = acts_of o list; registers = hba.registers }
 
-pub turns : (base : ℕ) (work : Work) (old : State) (before : List ℕ) (new : State) (after : List ℕ)
-    → Adds (operation_of old base before work) old new
-    → MovesAs (operation_of old base before work) old base before after
-    → TurnsBy base work old before new after
-turns base work old before new after adds moves = λ o list a.
-    let e = same_operation old o list base before work a in (
-      subst (λ (op : Operation). AgreesHba new o (op ∷ list)) e (adds o list a),
-      subst (λ (op : Operation). MovesMemory o (account o list) base op before after) e (moves o list a),
-    )
+same_account : (hba : State) (o : Origin) (list : List Operation) → AgreesHba hba o list
+    → with_registers hba o list ≡ account o list
+same_account hba o list a =
+    ap (λ (r : Registers). let x : Account = record { acts = acts_of o list; registers = r } in x) a.registers
 
-pub tells : (base : ℕ) (work : Work) (old : State) (before : List ℕ) (why : Option Why)
-    → DeniesAs (operation_of old base before work) old why
-    → TellsDenial base work old before why
-tells base work old before why denies = λ o list a.
-    let e = same_operation old o list base before work a in
-    subst (λ (op : Operation). why ≡ operation_denied o (account o list) op) e (denies o list a)
+-- One access more, in front of a turn.
+pub turn_behind : {M : Type 0} (does : M → Access → M → Type 0)
+    (First Next : Origin → Account → List Access → Operation → Type 0)
+    (old : State) (before middle : M) (new : State) (after : M) (done : Done) (denied : Option Why)
+    (access : Access) → IsAccess does before access middle
+    → ((o : Origin) (list : List Operation) → AgreesHba old o list → (talk : List Access)
+    (operation : Operation) → Next o (account o list) talk operation
+    → First o (account o list) (access ∷ talk) operation)
+    → TurnsAs does Next old middle new after done denied
+    → TurnsAs does First old before new after done denied
+turn_behind does First Next old before middle new after done denied access answers step t = (
+  access ∷ t.0,
+  t.1,
+  (middle, answers, t.2),
+  t.3,
+  λ o list a.
+      let h = t.4 o list a in
+      record { did = step o list a t.0 t.1 h.did; agrees = h.agrees; denied = h.denied },
+)
 
-pub runs_none : (base : ℕ) (old : State) (before : List ℕ) → Runs base 0 old before old before
-unfolding HasRun
-runs_none base old before = λ o list a. (list, a, (refl, refl))
+-- Another name for what was done.
+pub turn_named : {M : Type 0} (does : M → Access → M → Type 0)
+    (First Next : Origin → Account → List Access → Operation → Type 0)
+    (old : State) (before : M) (new : State) (after : M) (done : Done) (denied : Option Why)
+    → ((o : Origin) (list : List Operation) → AgreesHba old o list → (talk : List Access)
+    (operation : Operation) → Next o (account o list) talk operation
+    → First o (account o list) talk operation)
+    → TurnsAs does Next old before new after done denied
+    → TurnsAs does First old before new after done denied
+turn_named does First Next old before new after done denied step t = (
+  t.0,
+  t.1,
+  t.2,
+  t.3,
+  λ o list a.
+      let h = t.4 o list a in
+      record { did = step o list a t.0 t.1 h.did; agrees = h.agrees; denied = h.denied },
+)
 
-pub runs_more : (base n : ℕ) (first : State) (start : List ℕ) (old : State) (before : List ℕ)
-    (new : State) (after : List ℕ) (work : Work) → Runs base n first start old before
-    → picked 0 (ready_on old) ≡ Some work → TurnsBy base work old before new after
-    → Runs base (n + 1) first start new after
-unfolding HasRun
-runs_more base n first start old before new after work ran first_ready turned = rw add-one (λ o list a.
-    let r = ran o list a in
-    let t = turned o r.0 r.1 in (
-      operation_after o r.0 base before work ∷ r.0,
-      t.0,
+-- Nothing more is asked.
+pub turn_missed : {M : Type 0} (does : M → Access → M → Type 0)
+    (Did : Origin → Account → List Access → Operation → Type 0) (old : State) (now : M)
+    (new : State) (miss : Miss)
+    → ((o : Origin) (list : List Operation) → AgreesHba old o list
+    → Did o (account o list) [] (Missed miss))
+    → Adds (Missed miss) old new
+    → TurnsAs does Did old now new now (dones.Fault (fault_of miss)) None
+turn_missed does Did old now new miss did adds = (
+  [],
+  Missed miss,
+  refl,
+  refl,
+  λ o list a. record { did = did o list a; agrees = adds o list a; denied = refl },
+)
+
+pub turn_controlled : {M : Type 0} (does : M → Access → M → Type 0)
+    (Did : Origin → Account → List Access → Operation → Type 0) (old : State) (now : M)
+    (new : State) (tag : ℕ)
+    → ((o : Origin) (list : List Operation) → AgreesHba old o list
+    → Did o (account o list) [] (Controlled tag))
+    → Adds (Controlled tag) old new
+    → TurnsAs does Did old now new now dones.Control None
+turn_controlled does Did old now new tag did adds = (
+  [],
+  Controlled tag,
+  refl,
+  refl,
+  λ o list a. record { did = did o list a; agrees = adds o list a; denied = refl },
+)
+
+-- What comes with a command, so far as memory has it.
+abbrev pub Brought : {M : Type 0} → (M → Access → M → Type 0) → Place → ℕ → M → M
+    → Result (List ℕ) Miss → Type 0
+Brought does place n before after brought =
+    (talk : List Access) × Accessed does before talk after
+    × Gathers (descriptors_of place.header) place.header.entries n talk brought
+
+abbrev pub Delivered : {M : Type 0} → (M → Access → M → Type 0) → Place → ℕ → List Fis → List ℕ → M → M
+    → Option Miss → Type 0
+Delivered does place moved fises bytes before after missed =
+    (talk : List Access) × Accessed does before talk after
+    × Delivers place moved fises bytes talk missed
+
+pub serves_missed : {M : Type 0} (does : M → Access → M → Type 0) (place : Place) (n : ℕ)
+    (act : List ℕ → Act) (operation : List ℕ → Option Miss → Operation) (old : State) (before : M)
+    (new : State) (after : M) (miss : Miss) → Brought does place n before after (Err miss)
+    → Adds (Missed miss) old new
+    → TurnsAs does (λ o a. ServesSo o a place n act operation) old before new after
+    (dones.Fault (fault_of miss)) None
+serves_missed does place n act operation old before new after miss g adds = (
+  g.0,
+  Missed miss,
+  g.1,
+  refl,
+  λ o list a. record {
+    did = (g.0, [], Err miss, sym (append-nil g.0), g.2, (refl, refl));
+    agrees = adds o list a;
+    denied = refl;
+  },
+)
+
+-- FISes and data of an act, for every list that the HBA agreed with.
+abbrev pub Gives : State → (List Operation → Origin → Act) → List Fis → List ℕ → Type 0
+Gives old act fises bytes =
+    (o : Origin) (list : List Operation) → AgreesHba old o list
+    → IsEffect (effect_after o (account o list) (act list o)) fises bytes
+
+delivers_effect : (o : Origin) (a : Account) (act : Act) (place : Place) (moved : ℕ) (fises : List Fis)
+    (bytes : List ℕ) (talk : List Access) (missed : Option Miss)
+    → IsEffect (effect_after o a act) fises bytes → Delivers place moved fises bytes talk missed
+    → Delivers place moved (effect_after o a act).fises (effect_after o a act).bytes talk missed
+delivers_effect o a act place moved fises bytes talk missed e h =
+    subst (λ (xs : List ℕ). Delivers place moved (effect_after o a act).fises xs talk missed) e.bytes
+    (subst (λ (fs : List Fis). Delivers place moved fs bytes talk missed) e.fises h)
+
+pub serves_done : {M : Type 0} (does : M → Access → M → Type 0) (place : Place) (n : ℕ)
+    (act : List ℕ → Act) (operation : List ℕ → Option Miss → Operation) (old : State)
+    (before middle : M) (new : State) (after : M) (payload : List ℕ) (fises : List Fis)
+    (bytes : List ℕ) (missed : Option Miss) (done : Done) (denied : Option Why)
+    → Brought does place n before middle (Ok payload)
+    → Delivered does place (length payload) fises bytes middle after missed
+    → done_of (operation payload missed) ≡ Some done
+    → ((o : Origin) (list : List Operation) → AgreesHba old o list
+    → IsEffect (effect_after o (account o list) (act payload)) fises bytes)
+    → Adds (operation payload missed) old new
+    → ((o : Origin) (list : List Operation) → AgreesHba old o list
+    → denied ≡ operation_denied o (account o list) (operation payload missed))
+    → TurnsAs does (λ o a. ServesSo o a place n act operation) old before new after done denied
+serves_done does place n act operation old before middle new after payload fises bytes missed done denied g d told gives adds denies = (
+  g.0 ++ d.0,
+  operation payload missed,
+  accessed_append does before middle after g.0 d.0 g.1 d.1,
+  told,
+  λ o list a. record {
+    did = (
+      g.0,
+      d.0,
+      Ok payload,
+      refl,
+      g.2,
       (
-        r.0,
-        before,
-        work,
-        r.2,
-        ap (picked 0) (sym (ready_same old o r.0 r.1)) ∙ first_ready,
-        record { adds = refl; moves = t.1 },
+        missed,
+        delivers_effect o (account o list) (act payload) place (length payload) fises bytes d.0 missed
+            (gives o list a) d.2,
+        refl,
       ),
-    ))
+    );
+    agrees = adds o list a;
+    denied = denies o list a;
+  },
+)
 
-by_room : (o : Origin) (a : Account) (tag : ℕ) (payload : List ℕ) (places : List Region) (room : Bool)
-    → None ≡ operation_denied o a (if room then Completed tag payload places else Missed)
-by_room o a tag payload places true = refl
-by_room o a tag payload places false = refl
+-- The registers are those that an act leaves.
+pub adds_fetched : (old acted new : State) (tag : ℕ) (fis payload : List ℕ) (fises : List Fis)
+    (bytes : List ℕ) (missed : Option Miss)
+    → ((o : Origin) (list : List Operation) → AgreesHba old o list
+    → HasActed acted o (Accept fis payload ∷ acts_of o list))
+    → ((o : Origin) (list : List Operation) → AgreesHba old o list
+    → IsEffect (effect_after o (account o list) (Accept fis payload)) fises bytes)
+    → new ≡ record acted { registers = served tag fises missed (fetching tag old.registers) }
+    → Adds (Fetched tag fis payload missed) old new
+adds_fetched old acted new tag fis payload fises bytes missed has gives e = λ o list a.
+    let h = has o list a in
+    subst (λ (s : State). AgreesHba s o (Fetched tag fis payload missed ∷ list)) (sym e)
+    (record {
+      acted = record { drive = h.drive; count = h.count };
+      registers =
+          ap (λ (r : Registers). served tag fises missed (fetching tag r)) a.registers
+          ∙ ap (λ (fs : List Fis). served tag fs missed (fetching tag (regs_of o list))) (gives o list a).fises;
+    })
 
-by_slot : (o : Origin) (a : Account) (base : ℕ) (memory : List ℕ) (tag n : ℕ) (slot : Option Slot)
-    → None ≡ operation_denied o a (completed_from base memory tag n slot)
-by_slot o a base memory tag n None = refl
-by_slot o a base memory tag n (Some slot) =
-    by_room o a tag (gathered memory (places_of base memory slot) n) (places_of base memory slot)
-    (have_room (places_of base memory slot) n)
+pub adds_completed : (old acted new : State) (tag : ℕ) (payload : List ℕ) (fises : List Fis)
+    (bytes : List ℕ) (missed : Option Miss)
+    → ((o : Origin) (list : List Operation) → AgreesHba old o list
+    → HasActed acted o (Complete tag payload ∷ acts_of o list))
+    → ((o : Origin) (list : List Operation) → AgreesHba old o list
+    → IsEffect (effect_after o (account o list) (Complete tag payload)) fises bytes)
+    → new ≡ record acted { registers = served tag fises missed old.registers }
+    → Adds (Completed tag payload missed) old new
+adds_completed old acted new tag payload fises bytes missed has gives e = λ o list a.
+    let h = has o list a in
+    subst (λ (s : State). AgreesHba s o (Completed tag payload missed ∷ list)) (sym e)
+    (record {
+      acted = record { drive = h.drive; count = h.count };
+      registers =
+          ap (λ (r : Registers). served tag fises missed r) a.registers
+          ∙ ap (λ (fs : List Fis). served tag fs missed (regs_of o list)) (gives o list a).fises;
+    })
 
--- A completion is not denied.
-pub none_denied : (o : Origin) (a : Account) (regs : Registers) (base : ℕ) (memory : List ℕ)
-    (tag n : ℕ) → None ≡ operation_denied o a (completing_of regs base memory tag n)
-none_denied o a regs base memory tag n =
-    by_slot o a base memory tag n (command_slot_at base memory (header_at regs tag))
+-- The header is read.
+pub fetch_header : {M : Type 0} (does : M → Access → M → Type 0) (old : State) (before middle : M)
+    (new : State) (after : M) (done : Done) (denied : Option Why) (tag : ℕ)
+    (answer : Option (List ℕ)) (read : Result Header Miss) → header_by answer ≡ read
+    → IsAccess does before (Asked (header_at old.registers tag) header_size answer) middle
+    → TurnsAs does (λ o a. FetchesFrom o a tag read) old middle new after done denied
+    → TurnsAs does (λ o a. Fetches o a tag) old before new after done denied
+fetch_header does old before middle new after done denied tag answer read e answers t =
+    turn_behind does (λ o a. Fetches o a tag) (λ o a. FetchesFrom o a tag read) old before middle new after done denied
+    (Asked (header_at old.registers tag) header_size answer) answers
+    (λ o list a talk operation h. (
+      answer,
+      talk,
+      ap (λ (r : Registers). Asked (header_at r tag) header_size answer ∷ talk) a.registers,
+      subst (λ (x : Result Header Miss). FetchesFrom o (account o list) tag x talk operation) (sym e) h,
+    )) t
+
+pub complete_header : {M : Type 0} (does : M → Access → M → Type 0) (old : State) (before middle : M)
+    (new : State) (after : M) (done : Done) (denied : Option Why) (tag n : ℕ)
+    (answer : Option (List ℕ)) (read : Result Header Miss) → header_by answer ≡ read
+    → IsAccess does before (Asked (header_at old.registers tag) header_size answer) middle
+    → TurnsAs does (λ o a. CompletesFrom o a tag n read) old middle new after done denied
+    → TurnsAs does (λ o a. Completes o a tag n) old before new after done denied
+complete_header does old before middle new after done denied tag n answer read e answers t =
+    turn_behind does (λ o a. Completes o a tag n) (λ o a. CompletesFrom o a tag n read) old before middle new after done denied
+    (Asked (header_at old.registers tag) header_size answer) answers
+    (λ o list a talk operation h. (
+      answer,
+      talk,
+      ap (λ (r : Registers). Asked (header_at r tag) header_size answer ∷ talk) a.registers,
+      subst (λ (x : Result Header Miss). CompletesFrom o (account o list) tag n x talk operation) (sym e) h,
+    )) t
+
+-- The FIS is read.
+pub fetch_fis : {M : Type 0} (does : M → Access → M → Type 0) (old : State) (before middle : M)
+    (new : State) (after : M) (done : Done) (denied : Option Why) (tag : ℕ) (header : Header)
+    (fis : Option (List ℕ)) → IsAccess does before (Asked header.table h2d_length fis) middle
+    → TurnsAs does (λ o a. FetchesFis o a (place_of a.registers tag header) tag fis) old middle new after done denied
+    → TurnsAs does (λ o a. FetchesFrom o a tag (Ok header)) old before new after done denied
+fetch_fis does old before middle new after done denied tag header fis answers t =
+    turn_behind does (λ o a. FetchesFrom o a tag (Ok header))
+    (λ o a. FetchesFis o a (place_of a.registers tag header) tag fis) old before middle new after done denied
+    (Asked header.table h2d_length fis) answers (λ o list a talk operation h. (fis, talk, refl, h)) t
+
+pub fetch_control : {M : Type 0} (does : M → Access → M → Type 0) (old : State) (now : M)
+    (new : State) (tag : ℕ) (header : Header) (fis : List ℕ) → carries_command fis ≡ false
+    → Adds (Controlled tag) old new
+    → TurnsAs does (λ o a. FetchesFis o a (place_of a.registers tag header) tag (Some fis)) old now new now
+    dones.Control None
+fetch_control does old now new tag header fis e adds =
+    turn_controlled does (λ o a. FetchesFis o a (place_of a.registers tag header) tag (Some fis)) old now new tag
+    (λ o list a. subst (λ (b : Bool). FetchesIf b o (account o list) (place_of (regs_of o list) tag header) tag fis [] (Controlled tag))
+    (sym e) (refl, refl)) adds
+
+pub fetch_executes : {M : Type 0} (does : M → Access → M → Type 0) (old : State) (before : M)
+    (new : State) (after : M) (done : Done) (denied : Option Why) (tag : ℕ) (header : Header)
+    (fis : List ℕ) (place : Place) → carries_command fis ≡ true
+    → place ≡ place_of old.registers tag header
+    → TurnsAs does (λ o a. Executes o a place tag fis) old before new after done denied
+    → TurnsAs does (λ o a. FetchesFis o a (place_of a.registers tag header) tag (Some fis)) old before new after
+    done denied
+fetch_executes does old before new after done denied tag header fis place e p t =
+    turn_named does (λ o a. FetchesFis o a (place_of a.registers tag header) tag (Some fis))
+    (λ o a. Executes o a place tag fis) old before new after done denied
+    (λ o list a talk operation h.
+    let same : place ≡ place_of (regs_of o list) tag header =
+    p ∙ ap (λ (r : Registers). place_of r tag header) a.registers in
+    subst (λ (b : Bool). FetchesIf b o (account o list) (place_of (regs_of o list) tag header) tag fis talk operation) (sym e)
+    (subst (λ (x : Place). Executes o (account o list) x tag fis talk operation) same h)) t
+
+pub complete_serves : {M : Type 0} (does : M → Access → M → Type 0) (old : State) (before : M)
+    (new : State) (after : M) (done : Done) (denied : Option Why) (tag n : ℕ) (header : Header)
+    (place : Place) → place ≡ place_of old.registers tag header
+    → TurnsAs does (λ o a. ServesSo o a place n (Complete tag) (Completed tag)) old before new after done denied
+    → TurnsAs does (λ o a. CompletesFrom o a tag n (Ok header)) old before new after done denied
+complete_serves does old before new after done denied tag n header place p t =
+    turn_named does (λ o a. CompletesFrom o a tag n (Ok header))
+    (λ o a. ServesSo o a place n (Complete tag) (Completed tag)) old before new after done denied
+    (λ o list a talk operation h.
+    let same : place ≡ place_of (regs_of o list) tag header =
+    p ∙ ap (λ (r : Registers). place_of r tag header) a.registers in
+    subst (λ (x : Place). ServesSo o (account o list) x n (Complete tag) (Completed tag) talk operation) same h) t
+
+-- What comes with a FIS, by the drive and by what it started from.
+pub executes_as : {M : Type 0} (does : M → Access → M → Type 0) (place : Place) (tag : ℕ) (fis : List ℕ)
+    (old : State) (before : M) (new : State) (after : M) (done : Done) (denied : Option Why)
+    → TurnsAs does (λ o a. ServesSo o a place (payload_of old.drive.tper.store.config fis) (Accept fis) (Fetched tag fis)) old before new after done denied
+    → TurnsAs does (λ o a. Executes o a place tag fis) old before new after done denied
+executes_as does place tag fis old before new after done denied t =
+    turn_named does (λ o a. Executes o a place tag fis)
+    (λ o a. ServesSo o a place (payload_of old.drive.tper.store.config fis) (Accept fis) (Fetched tag fis)) old before new after done denied
+    (λ o list a talk operation h.
+    subst (λ (config : Config). ServesSo o (account o list) place (payload_of config fis) (Accept fis) (Fetched tag fis) talk operation)
+    a.acted.drive.tper.store.config h) t
+
+-- What is held is what the list holds.
+pub completes : {M : Type 0} (does : M → Access → M → Type 0) (old : State) (before : M)
+    (new : State) (after : M) (done : Done) (denied : Option Why) (tag : ℕ)
+    → TurnsAs does (λ o a. Completes o a tag (expected (held_at old.drive.queue tag))) old before new after done denied
+    → TurnsBy does (works.Complete tag) old before new after done denied
+completes does old before new after done denied tag t =
+    turn_named does (IsWork (works.Complete tag))
+    (λ o a. Completes o a tag (expected (held_at old.drive.queue tag))) old before new after done denied
+    (λ o list a talk operation h.
+    subst (λ (n : ℕ). Completes o (account o list) tag n talk operation) (ap expected (a.acted.drive.held tag)) h) t
+
+-- The signature is told, wherever it goes.
+pub signs : {M : Type 0} (does : M → Access → M → Type 0) (old : State) (before : M) (new : State)
+    (after : M) (to : Option ℕ) (fises : List Fis) (missed : Option Miss)
+    → fises ≡ signature_fis ∷ [] → to ≡ fises_at old.registers
+    → ((talk : List Access) × Accessed does before talk after × PostsTo to fises talk missed)
+    → Adds Signed old new
+    → TurnsAs does (λ o a. Signs a) old before new after dones.Posted None
+signs does old before new after to fises missed f e p adds = (
+  p.0,
+  Signed,
+  p.1,
+  refl,
+  λ o list a. record {
+    did = (
+      missed,
+      subst (λ (x : Option ℕ). PostsTo x (signature_fis ∷ []) p.0 missed)
+          (e ∙ ap (λ (r : Registers). fises_at r) a.registers)
+          (subst (λ (fs : List Fis). PostsTo to fs p.0 missed) f p.2),
+      refl,
+    );
+    agrees = adds o list a;
+    denied = refl;
+  },
+)
+
+-- One read in front.
+pub read_first : {M : Type 0} (does : M → Access → M → Type 0) (before middle after : M) (at n : ℕ)
+    (answer : Option (List ℕ)) → IsAccess does before (Asked at n answer) middle
+    → OnlyReads does middle after → OnlyReads does before after
+read_first does before middle after at n answer a h =
+    (Asked at n answer ∷ h.0, h.1, (middle, a, h.2))
+
+pub runs_none : {M : Type 0} (does : M → Access → M → Type 0) (old : State) (before : M)
+    → Runs does 0 old before old before
+unfolding HasRun
+runs_none does old before = ([], refl, λ o list a. (list, a, (refl, refl)))
+
+pub runs_more : {M : Type 0} (does : M → Access → M → Type 0) (n : ℕ) (first : State) (start : M)
+    (old : State) (before : M) (new : State) (after : M) (work : Work) (done : Done)
+    (denied : Option Why) → Runs does n first start old before
+    → picked 0 (ready_on old) ≡ Some work → TurnsBy does work old before new after done denied
+    → Runs does (n + 1) first start new after
+unfolding HasRun
+runs_more does n first start old before new after work done denied ran first_ready t = rw add-one (
+  ran.0 ++ t.0,
+  accessed_append does start before after ran.0 t.0 ran.1 t.2,
+  λ o list a.
+      let r = ran.2 o list a in
+      let h = t.4 o r.0 r.1 in (
+        t.1 ∷ r.0,
+        h.agrees,
+        (
+          r.0,
+          ran.0,
+          t.0,
+          work,
+          t.1,
+          r.2,
+          ap (picked 0) (sym (ready_same old o r.0 r.1)) ∙ first_ready,
+          h.did,
+          refl,
+          refl,
+        ),
+      ),
+)
+
+-- It has run some turns, and then memory was read at most.
+pub has_stopped : {M : Type 0} (does : M → Access → M → Type 0) (n : ℕ) (first : State) (start : M)
+    (old : State) (middle : M) (new : State) (after : M) → Runs does n first start old middle
+    → new ≡ old → OnlyReads does middle after → HasStopped does first start new after
+has_stopped does n first start old middle new after ran e reads = (
+  n,
+  middle,
+  subst (λ (s : State). Runs does n first start s middle) (sym e) ran,
+  reads,
+)
+
+-- An outcome that is known.
+pub told_as : {M : Type 0} (does : M → Access → M → Type 0)
+    (Did : Origin → Account → List Access → Operation → Type 0) (old : State) (before : M)
+    (new : State) (after : M) (outcome : Outcome) (done : Done) (denied : Option Why)
+    → outcome ≡ record { done = done; denied = denied }
+    → TurnsAs does Did old before new after done denied
+    → TurnsAs does Did old before new after outcome.done outcome.denied
+told_as does Did old before new after outcome done denied e t =
+    subst (λ (x : Outcome). TurnsAs does Did old before new after x.done x.denied) (sym e) t
+
+-- A turn that may fail for want of memory.
+pub if_turned : {M E : Type 0} (does : M → Access → M → Type 0)
+    (First Next : Origin → Account → List Access → Operation → Type 0)
+    (old : State) (before middle : M) (new : State) (after : M) (result : Result Outcome E)
+    → ((done : Done) (denied : Option Why) → TurnsAs does Next old middle new after done denied
+    → TurnsAs does First old before new after done denied)
+    → IfOk result (λ r. TurnsAs does Next old middle new after r.done r.denied)
+    → IfOk result (λ r. TurnsAs does First old before new after r.done r.denied)
+if_turned does First Next old before middle new after (Ok r) f h = f r.done r.denied h
+if_turned does First Next old before middle new after (Err e) f h = tt
+
+-- What is asked for data alone is read.
+block_reads : (block : Option (List ℕ)) (Rest : List Access → Result (List ℕ) Miss → Type 0)
+    (talk : List Access) (brought : Result (List ℕ) Miss)
+    → ((later : List Access) (more : Result (List ℕ) Miss) → Rest later more → AreReads later)
+    → BringsBlock block Rest talk brought → AreReads talk
+block_reads None Rest talk brought f h = subst (λ (t : List Access). AreReads t) (sym h.0) tt
+block_reads (Some bytes) Rest talk brought f h = f talk h.0 h.1
+
+entry_reads : (entry : Option (List ℕ)) (left : ℕ) (Rest : ℕ → List Access → Result (List ℕ) Miss → Type 0)
+    (talk : List Access) (brought : Result (List ℕ) Miss)
+    → ((n : ℕ) (later : List Access) (more : Result (List ℕ) Miss) → Rest n later more → AreReads later)
+    → BringsEntry entry left Rest talk brought → AreReads talk
+entry_reads None left Rest talk brought f h = subst (λ (t : List Access). AreReads t) (sym h.0) tt
+entry_reads (Some entry) left Rest talk brought f h =
+    subst (λ (t : List Access). AreReads t) (sym h.2)
+    (block_reads h.0 (Rest (left - data_len entry)) h.1 brought (f (left - data_len entry)) h.3)
+
+next_reads : (is_done : Bool) (at left : ℕ) (Rest : ℕ → List Access → Result (List ℕ) Miss → Type 0)
+    (talk : List Access) (brought : Result (List ℕ) Miss)
+    → ((n : ℕ) (later : List Access) (more : Result (List ℕ) Miss) → Rest n later more → AreReads later)
+    → BringsNext is_done at left Rest talk brought → AreReads talk
+next_reads true at left Rest talk brought f h = subst (λ (t : List Access). AreReads t) (sym h.0) tt
+next_reads false at left Rest talk brought f h =
+    subst (λ (t : List Access). AreReads t) (sym h.2) (entry_reads h.0 left Rest h.1 brought f h.3)
+
+pub gathers_reads : (at n left : ℕ) (talk : List Access) (brought : Result (List ℕ) Miss)
+    → Gathers at n left talk brought → AreReads talk
+gathers_reads at zero left talk brought h = subst (λ (t : List Access). AreReads t) (sym h.0) tt
+gathers_reads at (suc n) left talk brought h =
+    next_reads (left == 0) at left (Gathers (at + descriptor_size) n) talk brought
+    (gathers_reads (at + descriptor_size) n) h
+
+pub brought_reads : {M : Type 0} (does : M → Access → M → Type 0) (place : Place) (n : ℕ)
+    (before after : M) (brought : Result (List ℕ) Miss) → Brought does place n before after brought
+    → OnlyReads does before after
+brought_reads does place n before after brought g =
+    (g.0, gathers_reads (descriptors_of place.header) place.header.entries n g.0 brought g.2, g.1)
+
+-- The registers after an act.
+pub shown_fetched : (old acted noted new : State) (tag : ℕ) (fises : List Fis) (missed : Option Miss)
+    → acted.registers ≡ old.registers
+    → noted ≡ record acted { registers = fetching tag acted.registers }
+    → new ≡ record noted { registers = served tag fises missed noted.registers }
+    → new ≡ record acted { registers = served tag fises missed (fetching tag old.registers) }
+shown_fetched old acted noted new tag fises missed r n s =
+    s
+    ∙ ap (λ (x : State). let y : State = record x { registers = served tag fises missed x.registers } in y) n
+    ∙ ap (λ (x : Registers). let y : State = record acted { registers = served tag fises missed (fetching tag x) } in y) r
+
+pub shown_completed : (old acted new : State) (tag : ℕ) (fises : List Fis) (missed : Option Miss)
+    → acted.registers ≡ old.registers
+    → new ≡ record acted { registers = served tag fises missed acted.registers }
+    → new ≡ record acted { registers = served tag fises missed old.registers }
+shown_completed old acted new tag fises missed r s =
+    s ∙ ap (λ (x : Registers). let y : State = record acted { registers = served tag fises missed x } in y) r
+
+-- The work, as it was matched.
+pub by_work : {M E : Type 0} (does : M → Access → M → Type 0) (work matched : Work) (old : State)
+    (before : M) (new : State) (after : M) (result : Result Outcome E) → work ≡ matched
+    → IfOk result (λ r. TurnsBy does matched old before new after r.done r.denied)
+    → IfOk result (λ r. TurnsBy does work old before new after r.done r.denied)
+by_work does work matched old before new after result e h =
+    subst (λ (w : Work). IfOk result (λ r. TurnsBy does w old before new after r.done r.denied)) (sym e) h
+
+-- Nothing more has moved.
+pub runs_still : {M : Type 0} (does : M → Access → M → Type 0) (n : ℕ) (first : State) (start : M)
+    (old : State) (before : M) (new : State) (after : M) → Runs does n first start old before
+    → new ≡ old → after ≡ before → Runs does n first start new after
+runs_still {M} does n first start old before new after ran e f =
+    subst (λ (m : M). Runs does n first start new m) (sym f)
+    (subst (λ (s : State). Runs does n first start s before) (sym e) ran)

@@ -1,5 +1,5 @@
 -- One piece of work more.
-use Rattle.std.proofs.Common.{◌≡◌, ℕ, ◌+◌, ◌%◌, zero, suc, Bool, true, false, length, Option, Some, List, [], ◌∷◌, ◌++◌, None, refl, ap, sym, ◌∙◌, append_assoc, add-one}
+use Rattle.std.proofs.Common.{◌≡◌, ℕ, ◌+◌, ◌%◌, zero, suc, Bool, true, false, length, Some, List, [], ◌∷◌, ◌++◌, None, refl, ap, sym, ◌∙◌, append_assoc, add-one}
 use Rattle.std.specs.Prelude.{◌&&◌, is_some, slice_index_or, if◌then◌else◌}
 use Rattle.std.proofs.Math.Path.{fun_ext}
 use Rattle.hba.specs.declared.registers.Registers.{Registers}
@@ -31,7 +31,7 @@ pub ready_same : (hba : State) (o : Origin) (list : List Operation) → AgreesHb
 ready_same hba o list a =
     let e : (λ (tag : ℕ). is_some (held_at hba.drive.queue tag))
     ≡ (λ (tag : ℕ). is_some (held (log o (acts_of o list)) tag)) =
-    fun_ext (λ tag. ap is_some (a.drive.held tag)) in
+    fun_ext (λ tag. ap is_some (a.acted.drive.held tag)) in
     ap (λ (r : Registers). ready_by (is_ready r (λ tag. is_some (held_at hba.drive.queue tag)))) a.registers
     ∙ ap (λ (h : ℕ → Bool). ready_by (is_ready (regs_of o list) h)) e
 

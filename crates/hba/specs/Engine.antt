@@ -1,75 +1,115 @@
--- What the engine does with a slot of the command list, by what it reads there (AHCI 1.3.1, 5.5.1).
-use Rattle.std.specs.Prelude.{◌≡◌, ℕ, zero, suc, ◌+◌, ◌*◌, false, List, [], ◌∷◌, length, Option, Some, None, if◌then◌else◌}
+-- What the engine does with a slot of the command list, by what the host's memory answers (AHCI
+-- 1.3.1, 5.5.1).
+use Rattle.std.specs.Prelude.{◌≡◌, ℕ, zero, suc, ◌+◌, ◌*◌, Bool, true, false, List, [], ◌∷◌, ◌++◌, length, Option, Some, None, Result, Ok, Err, if◌then◌else◌}
+use Rattle.fis.specs.Types.{h2d_length}
 use Rattle.fis.specs.declared.any.Fis.{Fis}
 use Rattle.fis.specs.declared.any.Fis.TheVariants as fises
 use Rattle.hba_regs.specs.Registers.{ready}
 use Rattle.history.specs.Answers.{expected, payload_of}
-use Rattle.drive.specs.Queue.{held_at}
-use Rattle.hba.specs.declared.work.Work.{Work}
-use Rattle.hba.specs.declared.work.Work.TheVariants as works
-use Rattle.slots.specs.Layout.{header_size, descriptors_at}
-use Rattle.port_history.specs.Steps.{Effect}
-use Rattle.hba.specs.declared.registers.Registers.{Registers}
-use Rattle.hba.specs.declared.window.Region.{Region}
-use Rattle.hba.specs.declared.window.Slot.{Slot}
-use Rattle.hba.specs.Memory.{command_slot_at, carries_command, regions, have_room, gathered, IsPosted, IsDelivered}
-use Rattle.history.specs.History.{Accept, Complete, log}
+use Rattle.history.specs.History.{Act, Accept, Complete, log}
 use Rattle.history.specs.Readers.{held}
 use Rattle.history.specs.Opening.{Origin}
+use Rattle.host_memory.specs.Access.{Access, Asked, Accessed, OnlyReads}
 use Rattle.audit.specs.declared.reason.Why.{Why}
-use Rattle.hba.specs.History.{Operation, Signed, Missed, Controlled, Fetched, Completed, Account, State, AgreesHba, account, acts_of, regs_of, effect_after, operation_denied}
+use Rattle.port_history.specs.Steps.{Effect}
+use Rattle.slots.specs.Layout.{header_size}
+use Rattle.hba.specs.declared.work.Work.{Work}
+use Rattle.hba.specs.declared.work.Work.TheVariants as works
+use Rattle.hba.specs.declared.work.Done.{Done}
+use Rattle.hba.specs.declared.work.Done.TheVariants as dones
+use Rattle.hba.specs.declared.work.Turned.{Turned}
+use Rattle.hba.specs.declared.registers.Registers.{Registers}
+use Rattle.hba_memory.specs.declared.miss.Miss.{Miss}
+use Rattle.hba_memory.specs.declared.miss.Miss.TheVariants as misses
+use Rattle.hba_memory.specs.declared.reading.Header.{Header}
+use Rattle.hba_memory.specs.declared.delivery.Place.{Place}
+use Rattle.hba_memory.specs.Memory.{header_by, carries_command, descriptors_of, Gathers, PostsTo, Delivers}
+use Rattle.hba.specs.Showing.{fault_of}
+use Rattle.hba.specs.History.{Operation, Wrote, Powered, Signed, Missed, Controlled, Fetched, Completed, Account, State, AgreesHba, account, effect_after, operation_denied}
 use Rattle.hba.specs.Ready.{picked, ready_after}
 
 -- Where the header of a slot stands.
 abbrev pub header_at : Registers → ℕ → ℕ
 header_at regs tag = regs.port.list_base + header_size * tag
 
--- The places of a slot's data.
-abbrev pub places_of : ℕ → List ℕ → Slot → List Region
-places_of base memory slot = regions base memory (slot.table + descriptors_at) slot.entries
+-- Where received FISes go: at PxFB, while FRE is set (3.3.3, 3.3.7).
+abbrev pub fises_at : Registers → Option ℕ
+fises_at regs = if regs.port.receiving then Some regs.port.fis_base else None
 
--- So many bytes of data from a slot's places, or memory is not there.
-abbrev pub with_data : List ℕ → List Region → ℕ → (List ℕ → List Region → Operation) → Operation
-with_data memory places n operation =
-    if have_room places n then operation (gathered memory places n) places else Missed
+-- The places of a command, by the registers and its header.
+abbrev pub place_of : Registers → ℕ → Header → Place
+place_of regs tag header = record {
+  at = header_at regs tag;
+  header = header;
+  to = fises_at regs;
+}
 
--- A slot's command, with the data that come with it.
-abbrev pub executing_of : ℕ → List ℕ → ℕ → Slot → Operation
-executing_of base memory tag slot =
-    with_data memory (places_of base memory slot) (payload_of slot.fis) (Fetched tag slot.fis)
+-- An act of the drive with the data that were brought, and what it gives.
+abbrev pub Acts : Origin → Account → Place → (List ℕ → Act) → (List ℕ → Option Miss → Operation)
+    → Result (List ℕ) Miss → List Access → Operation → Type 0
+Acts o a place act operation (Err miss) talk done = (talk ≡ []) × (done ≡ Missed miss)
+Acts o a place act operation (Ok payload) talk done =
+    let effect = effect_after o a (act payload) in
+    (missed : Option Miss)
+    × Delivers place (length payload) effect.fises effect.bytes talk missed
+    × (done ≡ operation payload missed)
 
-abbrev pub fetched_from : ℕ → List ℕ → ℕ → Option Slot → Operation
-fetched_from base memory tag None = Missed
-fetched_from base memory tag (Some slot) =
-    if carries_command slot.fis then executing_of base memory tag slot else Controlled tag
+-- So many bytes are brought; the drive acts; what it gives is delivered.
+abbrev pub ServesSo : Origin → Account → Place → ℕ → (List ℕ → Act)
+    → (List ℕ → Option Miss → Operation) → List Access → Operation → Type 0
+ServesSo o a place n act operation talk done =
+    (before later : List Access) × (brought : Result (List ℕ) Miss) × (talk ≡ before ++ later)
+    × Gathers (descriptors_of place.header) place.header.entries n before brought
+    × Acts o a place act operation brought later done
+
+-- A slot's command.
+abbrev pub Executes : Origin → Account → Place → ℕ → List ℕ → List Access → Operation → Type 0
+Executes o a place tag fis talk done =
+    ServesSo o a place (payload_of o.tables.config fis) (Accept fis) (Fetched tag fis) talk done
+
+abbrev pub FetchesIf : Bool → Origin → Account → Place → ℕ → List ℕ
+    → List Access → Operation → Type 0
+FetchesIf false o a place tag fis talk done = (talk ≡ []) × (done ≡ Controlled tag)
+FetchesIf true o a place tag fis talk done = Executes o a place tag fis talk done
+
+abbrev pub FetchesFis : Origin → Account → Place → ℕ → Option (List ℕ)
+    → List Access → Operation → Type 0
+FetchesFis o a place tag None talk done = (talk ≡ []) × (done ≡ Missed misses.Table)
+FetchesFis o a place tag (Some fis) talk done =
+    FetchesIf (carries_command fis) o a place tag fis talk done
+
+abbrev pub FetchesFrom : Origin → Account → ℕ → Result Header Miss
+    → List Access → Operation → Type 0
+FetchesFrom o a tag (Err miss) talk done = (talk ≡ []) × (done ≡ Missed miss)
+FetchesFrom o a tag (Ok header) talk done =
+    (fis : Option (List ℕ)) × (later : List Access)
+    × (talk ≡ Asked header.table h2d_length fis ∷ later)
+    × FetchesFis o a (place_of a.registers tag header) tag fis later done
 
 -- A fetch of the command under a tag.
-abbrev pub fetching_of : Registers → ℕ → List ℕ → ℕ → Operation
-fetching_of regs base memory tag =
-    fetched_from base memory tag (command_slot_at base memory (header_at regs tag))
+abbrev pub Fetches : Origin → Account → ℕ → List Access → Operation → Type 0
+Fetches o a tag talk done =
+    (header : Option (List ℕ)) × (later : List Access)
+    × (talk ≡ Asked (header_at a.registers tag) header_size header ∷ later)
+    × FetchesFrom o a tag (header_by header) later done
 
--- What is held under a tag, with the data that its completion wants.
-abbrev pub ending_of : ℕ → List ℕ → ℕ → ℕ → Slot → Operation
-ending_of base memory tag n slot =
-    with_data memory (places_of base memory slot) n (Completed tag)
-
-abbrev pub completed_from : ℕ → List ℕ → ℕ → ℕ → Option Slot → Operation
-completed_from base memory tag n None = Missed
-completed_from base memory tag n (Some slot) = ending_of base memory tag n slot
+abbrev pub CompletesFrom : Origin → Account → ℕ → ℕ → Result Header Miss → List Access → Operation
+    → Type 0
+CompletesFrom o a tag n (Err miss) talk done = (talk ≡ []) × (done ≡ Missed miss)
+CompletesFrom o a tag n (Ok header) talk done =
+    ServesSo o a (place_of a.registers tag header) n (Complete tag) (Completed tag) talk done
 
 -- A completion of what is held under a tag, which wants so many bytes.
-abbrev pub completing_of : Registers → ℕ → List ℕ → ℕ → ℕ → Operation
-completing_of regs base memory tag n =
-    completed_from base memory tag n (command_slot_at base memory (header_at regs tag))
+abbrev pub Completes : Origin → Account → ℕ → ℕ → List Access → Operation → Type 0
+Completes o a tag n talk done =
+    (header : Option (List ℕ)) × (later : List Access)
+    × (talk ≡ Asked (header_at a.registers tag) header_size header ∷ later)
+    × CompletesFrom o a tag n (header_by header) later done
 
 -- The FISes and the data are those of an act.
 pub record IsEffect (effect : Effect) (sent : List Fis) (given : List ℕ) : Type 0 where
   pub fises : sent ≡ effect.fises
   pub bytes : given ≡ effect.bytes
-
--- Where received FISes go: at PxFB, while FRE is set (3.3.3, 3.3.7).
-abbrev pub fises_at : Registers → Option ℕ
-fises_at regs = if regs.port.receiving then Some regs.port.fis_base else None
 
 -- The device's first FIS after a reset: ready, with its signature (ACS-3, device signatures).
 abbrev pub signature_fis : Fis
@@ -83,82 +123,84 @@ signature_fis = fises.D2h (record {
   count = 1;
 })
 
--- What an act of the drive gives reaches the memory, for a slot whose header stands at an address.
-abbrev pub Delivers : ℕ → Option ℕ → ℕ → List Region → ℕ → Effect → List ℕ → List ℕ → Type 0
-Delivers base to header places moved effect old new =
-    IsDelivered base to header places moved effect.fises effect.bytes old new
+-- The device's signature. Where its place is no memory, the FIS alone is lost.
+abbrev pub Signs : Account → List Access → Operation → Type 0
+Signs a talk done =
+    (missed : Option Miss) × PostsTo (fises_at a.registers) (signature_fis ∷ []) talk missed
+    × (done ≡ Signed)
 
--- What an operation of the engine makes of the memory: a command's data, PRDBC and FISes, or the FIS
--- of a signature; else nothing.
-abbrev pub MovesMemory : Origin → Account → ℕ → Operation → List ℕ → List ℕ → Type 0
-MovesMemory o a base (Fetched tag fis payload places) old new =
-    Delivers base (fises_at a.registers) (header_at a.registers tag) places (length payload)
-    (effect_after o a (Accept fis payload)) old new
-MovesMemory o a base (Completed tag payload places) old new =
-    Delivers base (fises_at a.registers) (header_at a.registers tag) places (length payload)
-    (effect_after o a (Complete tag payload)) old new
-MovesMemory o a base Signed old new =
-    IsPosted base (fises_at a.registers) old (signature_fis ∷ []) new
-MovesMemory o a base _ old new = new ≡ old
+-- How many bytes the completion of what is held under a tag wants.
+abbrev pub wanted_after : Origin → Account → ℕ → ℕ
+wanted_after o a tag = expected (held (log o a.acts) tag)
 
--- What a piece of work is, by the registers, how many bytes a completion of each tag brings, and the
--- memory.
-abbrev pub operation_by : Registers → (ℕ → ℕ) → ℕ → List ℕ → Work → Operation
-operation_by regs wanted base memory works.Signature = Signed
-operation_by regs wanted base memory (works.Fetch tag) = fetching_of regs base memory tag
-operation_by regs wanted base memory (works.Complete tag) =
-    completing_of regs base memory tag (wanted tag)
+-- A piece of work, by what memory answers.
+abbrev pub IsWork : Work → Origin → Account → List Access → Operation → Type 0
+IsWork works.Signature o a talk done = Signs a talk done
+IsWork (works.Fetch tag) o a talk done = Fetches o a tag talk done
+IsWork (works.Complete tag) o a talk done = Completes o a tag (wanted_after o a tag) talk done
 
--- By the state before it, and by a list of operations.
-abbrev pub operation_of : State → ℕ → List ℕ → Work → Operation
-operation_of hba base memory work =
-    operation_by hba.registers (λ tag. expected (held_at hba.drive.queue tag)) base memory work
+-- What is told of an operation of the engine.
+abbrev pub done_by : Option Miss → Done
+done_by None = dones.Served
+done_by (Some miss) = dones.Fault (fault_of miss)
 
-abbrev pub operation_after : Origin → List Operation → ℕ → List ℕ → Work → Operation
-operation_after o list base memory work =
-    operation_by (regs_of o list) (λ tag. expected (held (log o (acts_of o list)) tag)) base memory
-    work
+abbrev pub done_of : Operation → Option Done
+done_of (Wrote offset value) = None
+done_of Powered = None
+done_of Signed = Some dones.Posted
+done_of (Missed miss) = Some (dones.Fault (fault_of miss))
+done_of (Controlled tag) = Some dones.Control
+done_of (Fetched tag fis payload missed) = Some (done_by missed)
+done_of (Completed tag payload missed) = Some (done_by missed)
 
--- Whatever list the HBA agreed with, this is what the operation makes of the memory.
-abbrev pub MovesAs : Operation → State → ℕ → List ℕ → List ℕ → Type 0
-MovesAs operation hba base old new =
-    (o : Origin) (list : List Operation) → AgreesHba hba o list
-    → MovesMemory o (account o list) base operation old new
+-- What a piece of work was, after a list of operations that the HBA agreed with.
+pub record TurnedSo (o : Origin) (list : List Operation) (operation : Operation) (new : State)
+    (why : Option Why) (Did : Origin → Account → List Access → Operation → Type 0)
+    (talk : List Access) : Type 0 where
+  pub did : Did o (account o list) talk operation
+  pub agrees : AgreesHba new o (operation ∷ list)
+  pub denied : why ≡ operation_denied o (account o list) operation
 
--- And this is what denied its command.
-abbrev pub DeniesAs : Operation → State → Option Why → Type 0
-DeniesAs operation hba why =
-    (o : Origin) (list : List Operation) → AgreesHba hba o list
-    → why ≡ operation_denied o (account o list) operation
+-- The engine's accesses of the host's memory, and the operation that they are, whatever list the HBA
+-- agreed with.
+abbrev pub TurnsAs : {M : Type 0} → (M → Access → M → Type 0)
+    → (Origin → Account → List Access → Operation → Type 0) → State → M → State → M → Done
+    → Option Why → Type 0
+TurnsAs does Did old before new after done denied =
+    (talk : List Access) × (operation : Operation) × Accessed does before talk after
+    × (done_of operation ≡ Some done)
+    × ((o : Origin) (list : List Operation) → AgreesHba old o list
+    → TurnedSo o list operation new denied Did talk)
 
--- A piece of work is done after a list of operations, over the memory.
-pub record IsTurn (o : Origin) (base : ℕ) (list : List Operation) (old : List ℕ) (work : Work)
-    (after : List Operation) (new : List ℕ) : Type 0 where
-  pub adds : after ≡ operation_after o list base old work ∷ list
-  pub moves : MovesMemory o (account o list) base (operation_after o list base old work) old new
+-- A piece of work is done, and told.
+abbrev pub TurnsBy : {M : Type 0} → (M → Access → M → Type 0) → Work → State → M → State → M
+    → Done → Option Why → Type 0
+TurnsBy does work old before new after done denied =
+    TurnsAs does (IsWork work) old before new after done denied
 
--- Whatever list the HBA agreed with, the work is done after it.
-abbrev pub TurnsBy : ℕ → Work → State → List ℕ → State → List ℕ → Type 0
-TurnsBy base work old before new after =
-    (o : Origin) (list : List Operation) → AgreesHba old o list
-    → AgreesHba new o (operation_after o list base before work ∷ list)
-    × MovesMemory o (account o list) base (operation_after o list base before work) before after
-
-abbrev pub TellsDenial : ℕ → Work → State → List ℕ → Option Why → Type 0
-TellsDenial base work old before why =
-    (o : Origin) (list : List Operation) → AgreesHba old o list
-    → why ≡ operation_denied o (account o list) (operation_after o list base before work)
+abbrev pub TurnsTo : {M : Type 0} → (M → Access → M → Type 0) → State → M → State → M → Turned
+    → Type 0
+TurnsTo does old before new after turned =
+    TurnsBy does turned.work old before new after turned.done turned.denied
 
 -- So many turns, each with the first work that may be done then.
-unfoldable pub HasRun : Origin → ℕ → List Operation → List ℕ → ℕ → List Operation → List ℕ → Type 0
-HasRun o base list old zero after new = (after ≡ list) × (new ≡ old)
-HasRun o base list old (suc n) after new =
-    (middle : List Operation) × (between : List ℕ) × (work : Work)
-    × HasRun o base list old n middle between × (picked 0 (ready_after o middle) ≡ Some work)
-    × IsTurn o base middle between work after new
+unfoldable pub HasRun : Origin → ℕ → List Operation → List Access → List Operation → Type 0
+HasRun o zero list talk after = (after ≡ list) × (talk ≡ [])
+HasRun o (suc n) list talk after =
+    (middle : List Operation) × (before later : List Access) × (work : Work)
+    × (operation : Operation)
+    × HasRun o n list before middle × (picked 0 (ready_after o middle) ≡ Some work)
+    × IsWork work o (account o middle) later operation
+    × (after ≡ operation ∷ middle) × (talk ≡ before ++ later)
 
 -- Whatever list the HBA agreed with, it has run some turns after it.
-abbrev pub Runs : ℕ → ℕ → State → List ℕ → State → List ℕ → Type 0
-Runs base n old before new after =
-    (o : Origin) (list : List Operation) → AgreesHba old o list
-    → (later : List Operation) × AgreesHba new o later × HasRun o base list before n later after
+abbrev pub Runs : {M : Type 0} → (M → Access → M → Type 0) → ℕ → State → M → State → M → Type 0
+Runs does n old before new after =
+    (talk : List Access) × Accessed does before talk after
+    × ((o : Origin) (list : List Operation) → AgreesHba old o list
+    → (later : List Operation) × AgreesHba new o later × HasRun o n list talk later)
+
+-- It has run some turns, and then memory was read at most.
+abbrev pub HasStopped : {M : Type 0} → (M → Access → M → Type 0) → State → M → State → M → Type 0
+HasStopped {M} does old before new after =
+    (n : ℕ) × (middle : M) × Runs does n old before new middle × OnlyReads does middle after

@@ -1,7 +1,7 @@
 -- Lists of operations of an HBA, the newest first: what the host wrote, and what the engine did with
 -- what it read of the host's memory. What they make of the registers and of the drive follows from
 -- them and from what the drive started from, alone.
-use Rattle.std.specs.Prelude.{◌≡◌, ℕ, List, [], ◌∷◌, length, Option, None, if◌then◌else◌}
+use Rattle.std.specs.Prelude.{◌≡◌, ◌%◌, ◌^◌, ℕ, List, [], ◌∷◌, length, Option, None, if◌then◌else◌}
 use Rattle.sp_cells.specs.Resets.{power_cycle, hardware}
 use Rattle.history.specs.Facts.{facts}
 use Rattle.history.specs.History.{Act, Accept, Complete, Reset, log}
@@ -10,22 +10,21 @@ use Rattle.drive.specs.State.{DriveState, Agrees}
 use Rattle.audit.specs.declared.reason.Why.{Why}
 use Rattle.port_history.specs.Steps.{Effect, effect_by}
 use Rattle.hba.specs.declared.registers.Registers.{Registers}
-use Rattle.hba.specs.declared.window.Region.{Region}
+use Rattle.hba_memory.specs.declared.miss.Miss.{Miss}
 use Rattle.hba.specs.Registers.{reset_registers, written_at, write_resets}
-use Rattle.hba.specs.Memory.{have_room}
-use Rattle.hba.specs.Showing.{signed, faulted, controlled, fetching, answered}
+use Rattle.hba.specs.Showing.{signed, faulted, controlled, fetching, served}
 
--- The host's write of a register; a power cycle; the device's signature; memory that is not there;
--- a FIS that carries no command; a command's FIS, with the data that came with it and the places of
--- its data; the completion of a held command, with the same.
+-- The host's write of a register; a power cycle; the device's signature; memory that failed before
+-- the drive's act; a FIS that carries no command; a command's FIS, with the data that came with it,
+-- and what was missed behind the act; the completion of a held command, with the same.
 pub data Operation : Type 0 where
   Wrote : (offset value : ℕ) → Operation
   Powered : Operation
   Signed : Operation
-  Missed : Operation
+  Missed : (miss : Miss) → Operation
   Controlled : (tag : ℕ) → Operation
-  Fetched : (tag : ℕ) (fis payload : List ℕ) (places : List Region) → Operation
-  Completed : (tag : ℕ) (payload : List ℕ) (places : List Region) → Operation
+  Fetched : (tag : ℕ) (fis payload : List ℕ) (missed : Option Miss) → Operation
+  Completed : (tag : ℕ) (payload : List ℕ) (missed : Option Miss) → Operation
 
 -- What operations have done: the acts of the drive, the newest first, and the registers.
 pub record Account : Type 0 where
@@ -35,14 +34,11 @@ pub record Account : Type 0 where
 abbrev pub effect_after : Origin → Account → Act → Effect
 effect_after o a act = effect_by (facts o (log o a.acts)) act
 
--- An act of the drive for the command of a tag: its FISes come where its data have room, else
--- memory is not there.
-abbrev pub served : ℕ → Act → List Region → Effect → Account → Account
-served tag act places effect a = record {
+-- An act of the drive for the command of a tag.
+abbrev pub acting : ℕ → Act → Option Miss → Effect → Account → Account
+acting tag act missed effect a = record {
   acts = act ∷ a.acts;
-  registers =
-      (if have_room places (length effect.bytes) then answered tag effect.fises a.registers
-      else faulted a.registers);
+  registers = served tag effect.fises missed a.registers;
 }
 
 abbrev pub account_after : Origin → Account → Operation → Account
@@ -56,13 +52,13 @@ account_after o a Powered = record {
   registers = reset_registers;
 }
 account_after o a Signed = record a { registers = signed a.registers }
-account_after o a Missed = record a { registers = faulted a.registers }
+account_after o a (Missed miss) = record a { registers = faulted miss a.registers }
 account_after o a (Controlled tag) = record a { registers = controlled tag a.registers }
-account_after o a (Fetched tag fis payload places) =
-    served tag (Accept fis payload) places (effect_after o a (Accept fis payload))
+account_after o a (Fetched tag fis payload missed) =
+    acting tag (Accept fis payload) missed (effect_after o a (Accept fis payload))
     (record a { registers = fetching tag a.registers })
-account_after o a (Completed tag payload places) =
-    served tag (Complete tag payload) places (effect_after o a (Complete tag payload)) a
+account_after o a (Completed tag payload missed) =
+    acting tag (Complete tag payload) missed (effect_after o a (Complete tag payload)) a
 
 abbrev pub account : Origin → List Operation → Account
 account o [] = record { acts = []; registers = reset_registers }
@@ -77,16 +73,26 @@ regs_of o list = (account o list).registers
 -- What contracts see of an HBA.
 pub record State : Type 0 where
   pub drive : DriveState
+  pub acts : ℕ
   pub registers : Registers
+
+-- How many acts there are, as 64 bits count them.
+abbrev pub act_count : List Act → ℕ
+act_count acts = length acts % 2 ^ 64
+
+-- The drive is that of a list of acts, and they are counted.
+pub record HasActed (hba : State) (o : Origin) (acts : List Act) : Type 0 where
+  pub drive : Agrees hba.drive o acts
+  pub count : hba.acts ≡ act_count acts
 
 -- Drive and registers are those of a list of operations.
 pub record AgreesHba (hba : State) (o : Origin) (list : List Operation) : Type 0 where
-  pub drive : Agrees hba.drive o (acts_of o list)
+  pub acted : HasActed hba o (acts_of o list)
   pub registers : hba.registers ≡ regs_of o list
 
 -- What denied the command that an operation fetched, if one did.
 abbrev pub operation_denied : Origin → Account → Operation → Option Why
-operation_denied o a (Fetched tag fis payload places) =
+operation_denied o a (Fetched tag fis payload missed) =
     (effect_after o a (Accept fis payload)).event.denied
 operation_denied o a _ = None
 

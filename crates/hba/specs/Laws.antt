@@ -1,6 +1,6 @@
 -- Laws over every list of operations: a command that fails, and a transfer that the policy denies, in
 -- the words of the registers and of the host's memory.
-use Rattle.std.specs.Prelude.{◌≡◌, ◌⊎◌, ℕ, ◌^◌, List, [], ◌∷◌, length, Option, Some, true, bit_or}
+use Rattle.std.specs.Prelude.{◌≡◌, ◌⊎◌, ℕ, ◌^◌, List, [], ◌∷◌, length, Option, Some, None, true, bit_or}
 use Rattle.fis.specs.declared.any.Fis.{Fis}
 use Rattle.hba_regs.specs.Registers.{without}
 use Rattle.locking.specs.declared.range.Op.{Op}
@@ -15,55 +15,61 @@ use Rattle.history.specs.Opening.{Origin}
 use Rattle.history.specs.TransferLaws.{IsPermitted}
 use Rattle.port_history.specs.Registers.{register_bit, task_error_bit}
 use Rattle.hba.specs.declared.registers.Registers.{Registers}
-use Rattle.hba.specs.declared.window.Region.{Region}
-use Rattle.hba.specs.Engine.{MovesMemory, fises_at, header_at}
+use Rattle.host_memory.specs.Access.{Access}
+use Rattle.hba_memory.specs.declared.miss.Miss.{Miss}
+use Rattle.hba_memory.specs.declared.delivery.Place.{Place}
+use Rattle.hba_memory.specs.Memory.{Counts, Delivers, PostsTo, Then}
 use Rattle.hba.specs.History.{Operation, Wrote, Powered, Fetched, Completed, account, acts_of, regs_of, effect_after}
-use Rattle.hba.specs.Memory.{byte_count_told, IsPosted}
 
--- The registers tell the error: PxTFD has it, PxIS has TFES; PxCI and PxSACT have each bit that they
--- had, and the port is halted.
+-- The registers tell the error: PxTFD has it, and PxIS has TFES.
 pub record TellsError (error : ℕ) (before after : Registers) : Type 0 where
   pub status : after.port.status ≡ errored
   pub code : after.port.error ≡ error
   pub raised : after.port.interrupts
       ≡ bit_or (bit_or before.port.interrupts task_error_bit) register_bit
+
+-- PxCI and PxSACT have each bit that they had, and the port is halted.
+pub record Halts (before after : Registers) : Type 0 where
   pub issued : after.port.issued ≡ before.port.issued
   pub active : after.port.active ≡ before.port.active
   pub halted : after.is_halted ≡ true
 
 -- No data reach the memory: at most the count of bytes that moved, and the FIS of the error.
-abbrev pub GivesNothing : ℕ → Registers → ℕ → ℕ → ℕ → List ℕ → List ℕ → Type 0
-GivesNothing base regs tag moved error old new =
-    IsPosted base (fises_at regs) (byte_count_told base (header_at regs tag) moved old)
-    (answer_fis true errored error ∷ []) new
+abbrev pub GivesNothing : Place → ℕ → ℕ → List Access → Option Miss → Type 0
+GivesNothing place moved error talk missed =
+    Then (Counts place.at moved) (PostsTo place.to (answer_fis true errored error ∷ [])) talk missed
 
--- A fetched command fails with an error, in registers and memory.
+-- A fetched command fails with an error, in registers and memory; where memory misses something
+-- behind the act, it halts all the same.
 pub record FailsSo (o : Origin) (before : List Operation) (tag : ℕ) (fis payload : List ℕ)
-    (places : List Region) (error : ℕ) : Type 0 where
+    (error : ℕ) : Type 0 where
   pub tells : TellsError error (regs_of o before)
-      (regs_of o (Fetched tag fis payload places ∷ before))
-  pub gives : (base : ℕ) (old new : List ℕ)
-      → MovesMemory o (account o before) base (Fetched tag fis payload places) old new
-      → GivesNothing base (regs_of o before) tag (length payload) error old new
+      (regs_of o (Fetched tag fis payload None ∷ before))
+  pub halts : (missed : Option Miss)
+      → Halts (regs_of o before) (regs_of o (Fetched tag fis payload missed ∷ before))
+  pub gives : (place : Place) (talk : List Access) (missed : Option Miss)
+      → Delivers place (length payload)
+      (effect_after o (account o before) (Accept fis payload)).fises
+      (effect_after o (account o before) (Accept fis payload)).bytes talk missed
+      → GivesNothing place (length payload) error talk missed
 
 -- Each command that the drive fails does so.
 abbrev pub HostFailureLaw : Type 0
 HostFailureLaw =
-    (o : Origin) (before : List Operation) (tag : ℕ) (fis payload : List ℕ) (places : List Region)
-    (error : ℕ)
+    (o : Origin) (before : List Operation) (tag : ℕ) (fis payload : List ℕ) (error : ℕ)
     → (effect_after o (account o before) (Accept fis payload)).event.failed ≡ Some error
-    → FailsSo o before tag fis payload places error
+    → FailsSo o before tag fis payload error
 
 -- And so each transfer that comes to the policy, of sectors on the drive, where a range denies it.
 abbrev pub HostDenialLaw : Type 0
 HostDenialLaw =
-    (o : Origin) (before : List Operation) (tag : ℕ) (fis payload : List ℕ) (places : List Region)
-    (command : Command) (slot : Option ℕ) (op : Op) (lba count : ℕ)
+    (o : Origin) (before : List Operation) (tag : ℕ) (fis payload : List ℕ) (command : Command)
+    (slot : Option ℕ) (op : Op) (lba count : ℕ)
     → let f = facts o (log o (acts_of o before)) in
     IsLookedAt f (Accept fis payload) command slot → MovesSectors command slot op lba count
     → IsFree f slot → on_drive f lba count ≡ true
     → (IsPermitted (ranges_in_force f) op lba count → ⊥)
-    → FailsSo o before tag fis payload places aborted
+    → FailsSo o before tag fis payload aborted
 
 -- PxSACT after a completion: as before, or the tag's bit is cleared, and the Set Device Bits FIS of
 -- the tag told it (Serial ATA, Set Device Bits FIS; AHCI 1.3.1, 5.5.2).
@@ -76,10 +82,10 @@ ToldByDeviceBits tag fises before after =
 abbrev pub ActiveAfter : Origin → List Operation → Operation → Type 0
 ActiveAfter o before (Wrote offset value) = Unit {0}
 ActiveAfter o before Powered = Unit {0}
-ActiveAfter o before (Completed tag payload places) =
+ActiveAfter o before (Completed tag payload missed) =
     ToldByDeviceBits tag (effect_after o (account o before) (Complete tag payload)).fises
     (regs_of o before).port.active
-    (regs_of o (Completed tag payload places ∷ before)).port.active
+    (regs_of o (Completed tag payload missed ∷ before)).port.active
 ActiveAfter o before operation =
     (regs_of o (operation ∷ before)).port.active ≡ (regs_of o before).port.active
 

@@ -1,5 +1,4 @@
 pub mod Registers
-pub mod Memory
 pub mod Showing
 pub mod History
 pub mod Ready

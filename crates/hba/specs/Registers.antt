@@ -41,6 +41,10 @@ change_bit = 0x00000040
 abbrev pub memory_bit : ℕ
 memory_bit = 0x20000000
 
+-- OFS, of data past the PRDT.
+abbrev pub overflow_bit : ℕ
+overflow_bit = 0x01000000
+
 -- The bits that PxIE has (3.3.6).
 abbrev pub enabled_bits : ℕ
 enabled_bits = 0xfdc000ff

@@ -1,35 +1,48 @@
 //! What the engine does (AHCI 1.3.1, 5.5).
 
-ghost use Rattle.std.specs.Prelude.{◌≡◌, ◌<◌, ◌^◌, List, ◌∷◌, Option, OnOk, OnErr, IfOk, IfSome, IfErr, length, is_some, [], true, false, Some, None};
+ghost use Rattle.std.specs.Prelude.{◌≡◌, ◌<◌, ◌^◌, List, ◌∷◌, Option, OnOk, OnErr, IfOk, length, is_some, true, Some, None};
+ghost use Rattle.std.specs.Result.{result_err};
 ghost use Rattle.history.specs.Answers.{payload_of, expected};
+ghost use Rattle.host_memory.specs.Access.{OnlyReads};
+ghost use Rattle.hba.specs.Engine.{signature_fis};
 
-use crate::delivery::{deliver, post_all, signature_fis};
-use crate::hba::Hba;
-use crate::window::{Region, Slot, gather, have_room, is_command, regions, slot_at};
-use crate::work::Work;
-use drive::{Accepted, Completed, DriveError, Why, payload_of};
-use fis::{H2D_LENGTH, Tag};
+use crate::hba::{Hba, one_more};
+use crate::work::{Done, Outcome, Work, fault_of};
+use drive::{Accepted, Completed, DriveError};
+use fis::{Fis, H2D_LENGTH, Lba, RegD2h, Tag};
+use hba_memory::{Header, Miss, Place, deliver, gather, header_by, is_command, post_all};
+use host_memory::{HostMemory, read_array};
 use std::alloc::AllocError;
+
+/// The device's first FIS after a reset: ready, with its signature.
+fn signature_fis() -> Fis
+    ensures { result ≡ signature_fis }
+{
+    Fis::D2h(RegD2h {
+        status: 0x50,
+        error: 1,
+        lba: Lba::new(1).unwrap(),
+        count: 1,
+        ..RegD2h::default()
+    })
+}
 
 impl Hba {
     ghost use Rattle.history.specs.Opening.{Origin};
     ghost use Rattle.history.specs.History.{Accept, Complete};
     ghost use Rattle.drive.specs.Queue.{held_at};
-    ghost use Rattle.hba.specs.History.{Operation, Signed, Fetched, Completed as CompletedTag, AgreesHba, Adds, account, effect_after, operation_denied};
-    ghost use Rattle.hba.specs.Engine.{IsEffect, header_at, executing_of, fetching_of, ending_of, completing_of, fises_at, signature_fis, operation_of, MovesAs, DeniesAs, TurnsBy, TellsDenial};
-    ghost use Rattle.hba.specs.Ready.{is_ready_on, ready_on, picked};
+    ghost use Rattle.hba.specs.History.{Operation, Completed as CompletedTag, Signed, Missed, Controlled, AgreesHba, HasActed, Adds, account, acts_of, effect_after};
+    ghost use Rattle.hba.specs.Showing.{fetching, fault_of, served};
+    ghost use Rattle.hba.specs.Engine.{IsEffect, header_at, fises_at, place_of, done_by, Executes, Fetches, Completes, CompletesFrom, ServesSo, IsWork, TurnsAs, TurnsBy, Signs};
+    ghost use Rattle.hba.specs.Ready.{is_ready_on};
+    ghost use Rattle.hba.specs.declared.work.Done.TheVariants as dones;
 
-    /// The drive takes the command of a tag.
-    fn take(
-        &mut self,
-        tag: Tag,
-        fis: &[u8; H2D_LENGTH],
-        payload: &[u8],
-        places: &[Region],
-    ) -> Result<Accepted, AllocError>
-        requires { length payload.now ≡ payload_of fis.now }
-        ensures agrees { OnOk result
-            (Adds (Fetched tag fis.now payload.now places.now) self.old self.new) }
+    /// The drive takes a command.
+    fn take(&mut self, fis: &[u8; H2D_LENGTH], payload: &[u8]) -> Result<Accepted, AllocError>
+        requires { length payload.now ≡ payload_of self.old.drive.tper.store.config fis.now }
+        ensures acted { OnOk result ((o : Origin) (list : List Operation)
+            → AgreesHba self.old o list
+            → HasActed self.new o (Accept fis.now payload.now ∷ acts_of o list)) }
         ensures effect { IfOk result (λ a. (o : Origin) (list : List Operation)
             → AgreesHba self.old o list
             → IsEffect (effect_after o (account o list) (Accept fis.now payload.now))
@@ -38,31 +51,26 @@ impl Hba {
             → AgreesHba self.old o list
             → a.denied
             ≡ (effect_after o (account o list) (Accept fis.now payload.now)).event.denied) }
+        ensures registers { self.new.registers ≡ self.old.registers }
         ensures err { OnErr result (self.new ≡ self.old) }
     {
         let accepted = self.drive.accept(fis, payload)?;
-        let has_room = have_room(places, accepted.bytes.len());
-        self.registers.fetch(tag);
-        self.registers
-            .serve(tag, accepted.fises.as_slice(), has_room);
+        self.acts = one_more(self.acts);
         Ok(accepted)
     }
 
     /// The drive completes what it holds under a tag.
-    fn finish(
-        &mut self,
-        tag: Tag,
-        payload: &[u8],
-        places: &[Region],
-    ) -> Result<Completed, AllocError>
+    fn finish(&mut self, tag: Tag, payload: &[u8]) -> Result<Completed, AllocError>
         requires length { length payload.now ≡ expected (held_at self.old.drive.queue tag) }
         requires held { is_some (held_at self.old.drive.queue tag) ≡ true }
-        ensures agrees { OnOk result
-            (Adds (CompletedTag tag payload.now places.now) self.old self.new) }
+        ensures acted { OnOk result ((o : Origin) (list : List Operation)
+            → AgreesHba self.old o list
+            → HasActed self.new o (Complete tag payload.now ∷ acts_of o list)) }
         ensures effect { IfOk result (λ a. (o : Origin) (list : List Operation)
             → AgreesHba self.old o list
             → IsEffect (effect_after o (account o list) (Complete tag payload.now))
             a.fises.items a.bytes.items) }
+        ensures registers { self.new.registers ≡ self.old.registers }
         ensures err { OnErr result (self.new ≡ self.old) }
     {
         let completed = match self.drive.complete(tag, payload) {
@@ -70,9 +78,7 @@ impl Hba {
             Err(DriveError::OutOfMemory) => return Err(AllocError),
             Err(DriveError::NotHeld) => unreachable!(),
         };
-        let has_room = have_room(places, completed.bytes.len());
-        self.registers
-            .serve(tag, completed.fises.as_slice(), has_room);
+        self.acts = one_more(self.acts);
         Ok(completed)
     }
 
@@ -84,187 +90,211 @@ impl Hba {
         u64::from(self.registers.list_base()) + 32 * u64::from(tag.number())
     }
 
-    /// The engine executes the command of a slot, whose header stands at an address.
-    fn execute(
+    /// Where received FISes go.
+    fn received_at(&self) -> Option<u32>
+        ensures { result ≡ fises_at self.now.registers }
+    {
+        self.registers.received_at()
+    }
+
+    /// The device has told its signature.
+    fn note_signature(&mut self)
+        ensures { Adds Signed self.old self.new }
+    {
+        self.registers.sign();
+    }
+
+    /// The places of the command of a slot.
+    fn place_of(&self, tag: Tag, header: Header) -> Place
+        ensures value { result ≡ place_of self.now.registers tag header }
+        ensures near { result.at < 2 ^ 40 }
+    {
+        Place {
+            at: self.header_at(tag),
+            header,
+            to: self.received_at(),
+        }
+    }
+
+    /// Memory failed before the drive's act.
+    fn miss(&mut self, miss: Miss) -> Outcome
+        ensures agrees { Adds (Missed miss) self.old self.new }
+        ensures told { result ≡ record { done = dones.Fault (fault_of miss); denied = None } }
+    {
+        self.registers.fault(miss);
+        Outcome {
+            done: Done::Fault(fault_of(miss)),
+            denied: None,
+        }
+    }
+
+    /// A FIS that carries no command is done.
+    fn control(&mut self, tag: Tag) -> Outcome
+        ensures agrees { Adds (Controlled tag) self.old self.new }
+        ensures told { result ≡ record { done = dones.Control; denied = None } }
+    {
+        self.registers.control(tag);
+        Outcome {
+            done: Done::Control,
+            denied: None,
+        }
+    }
+
+    /// The command of a tag is fetched.
+    fn note_fetch(&mut self, tag: Tag)
+        ensures { self.new ≡ record self.old { registers = fetching tag self.old.registers } }
+    {
+        self.registers.fetch(tag);
+    }
+
+    /// The registers after an act, whose FISes are delivered, or memory failed.
+    fn show(&mut self, tag: Tag, fises: &[Fis], delivered: Result<(), Miss>) -> Done
+        ensures shown { self.new ≡ record self.old {
+          registers = served tag fises.now (result_err delivered) self.old.registers;
+        } }
+        ensures told { result ≡ done_by (result_err delivered) }
+    {
+        let missed = delivered.err();
+        self.registers.serve(tag, fises, missed);
+        match missed {
+            None => Done::Served,
+            Some(miss) => Done::Fault(fault_of(miss)),
+        }
+    }
+
+    /// The engine executes the command of a slot.
+    fn execute<M: HostMemory>(
         &mut self,
         tag: Tag,
-        header: u64,
-        slot: &Slot,
-        base: u32,
-        memory: &mut [u8],
-    ) -> Result<Option<Why>, AllocError>
-        requires near { header < 2 ^ 40 }
-        requires stands { header ≡ header_at self.old.registers tag }
-        ensures agrees { OnOk result
-            (Adds (executing_of base memory.old tag slot.now) self.old self.new) }
-        ensures moved { OnOk result (MovesAs (executing_of base memory.old tag slot.now)
-            self.old base memory.old memory.new) }
-        ensures denied { IfOk result
-            (DeniesAs (executing_of base memory.old tag slot.now) self.old) }
+        place: Place,
+        fis: &[u8; H2D_LENGTH],
+        memory: &mut M,
+    ) -> Result<Outcome, AllocError>
+        requires near { place.at < 2 ^ 40 }
+        ensures done { IfOk result (λ r. TurnsAs M.does (λ o a. Executes o a place tag fis.now)
+            self.old memory.old self.new memory.new r.done r.denied) }
         ensures err { OnErr result (self.new ≡ self.old) }
-        ensures kept { OnErr result (memory.new ≡ memory.old) }
+        ensures kept { OnErr result (OnlyReads M.does memory.old memory.new) }
     {
-        let places = regions(
-            self.alloc,
-            base,
-            memory,
-            u64::from(slot.table) + 0x80,
-            slot.entries,
-        )?;
-        let brought = payload_of(&slot.fis);
-        if !have_room(&places, brought) {
-            self.registers.fault();
-            return Ok(None);
-        }
-        let payload = gather(self.alloc, memory, &places, brought)?;
-        let to = self.registers.received_at();
-        let accepted = self.take(tag, &slot.fis, &payload, &places)?;
-        let fises = accepted.fises.as_slice();
-        deliver(
-            base,
-            memory,
-            to,
-            header,
-            &places,
-            payload.len(),
-            fises,
-            &accepted.bytes,
-        );
-        Ok(accepted.denied)
+        let at = place.header.descriptors();
+        let entries = place.header.entries;
+        let len = self.drive.payload_len(fis);
+        let payload = match gather(self.alloc, memory, at, entries, len)? {
+            Ok(payload) => payload,
+            Err(miss) => return Ok(self.miss(miss)),
+        };
+        let brought = payload.as_slice();
+        let accepted = self.take(fis, brought)?;
+        let (fises, bytes) = (accepted.fises.as_slice(), accepted.bytes.as_slice());
+        let delivered = deliver(memory, place, brought.len(), fises, bytes);
+        self.note_fetch(tag);
+        let done = self.show(tag, fises, delivered);
+        Ok(Outcome {
+            done,
+            denied: accepted.denied,
+        })
     }
 
     /// The engine fetches the command under a tag.
-    fn fetch(&mut self, tag: Tag, base: u32, memory: &mut [u8]) -> Result<Option<Why>, AllocError>
-        ensures agrees { OnOk result
-            (Adds (fetching_of self.old.registers base memory.old tag) self.old self.new) }
-        ensures moved { OnOk result (MovesAs (fetching_of self.old.registers base memory.old tag)
-            self.old base memory.old memory.new) }
-        ensures denied { IfOk result
-            (DeniesAs (fetching_of self.old.registers base memory.old tag) self.old) }
+    fn fetch<M: HostMemory>(&mut self, tag: Tag, memory: &mut M) -> Result<Outcome, AllocError>
+        ensures done { IfOk result (λ r. TurnsAs M.does (λ o a. Fetches o a tag)
+            self.old memory.old self.new memory.new r.done r.denied) }
         ensures err { OnErr result (self.new ≡ self.old) }
-        ensures kept { OnErr result (memory.new ≡ memory.old) }
+        ensures kept { OnErr result (OnlyReads M.does memory.old memory.new) }
     {
-        let header = self.header_at(tag);
-        let Some(slot) = slot_at(base, memory, header) else {
-            self.registers.fault();
-            return Ok(None);
+        let header = match header_by(read_array(memory, self.header_at(tag))) {
+            Ok(header) => header,
+            Err(miss) => return Ok(self.miss(miss)),
         };
-        if !is_command(&slot.fis) {
-            self.registers.control(tag);
-            return Ok(None);
+        let Some(fis) = read_array(memory, u64::from(header.table)) else {
+            return Ok(self.miss(Miss::Table));
+        };
+        if !is_command(&fis) {
+            return Ok(self.control(tag));
         }
-        self.execute(tag, header, &slot, base, memory)
+        let place = self.place_of(tag, header);
+        self.execute(tag, place, &fis, memory)
     }
 
-    /// The engine completes the command of a slot, whose header stands at an address and whose data are
-    /// so many.
-    fn end(
+    /// The engine completes the command of a slot, whose data are so many.
+    fn end<M: HostMemory>(
         &mut self,
         tag: Tag,
-        header: u64,
-        slot: &Slot,
+        place: Place,
         len: usize,
-        base: u32,
-        memory: &mut [u8],
-    ) -> Result<(), AllocError>
-        requires near { header < 2 ^ 40 }
-        requires stands { header ≡ header_at self.old.registers tag }
+        memory: &mut M,
+    ) -> Result<Outcome, AllocError>
+        requires near { place.at < 2 ^ 40 }
         requires asked { len ≡ expected (held_at self.old.drive.queue tag) }
         requires held { is_some (held_at self.old.drive.queue tag) ≡ true }
-        ensures agrees { OnOk result
-            (Adds (ending_of base memory.old tag len slot.now) self.old self.new) }
-        ensures moved { OnOk result (MovesAs (ending_of base memory.old tag len slot.now)
-            self.old base memory.old memory.new) }
+        ensures done { IfOk result (λ r. TurnsAs M.does
+            (λ o a. ServesSo o a place len (Complete tag) (CompletedTag tag))
+            self.old memory.old self.new memory.new r.done r.denied) }
         ensures err { OnErr result (self.new ≡ self.old) }
-        ensures kept { OnErr result (memory.new ≡ memory.old) }
+        ensures kept { OnErr result (OnlyReads M.does memory.old memory.new) }
     {
-        let places = regions(
-            self.alloc,
-            base,
-            memory,
-            u64::from(slot.table) + 0x80,
-            slot.entries,
-        )?;
-        if !have_room(&places, len) {
-            self.registers.fault();
-            return Ok(());
-        }
-        let payload = gather(self.alloc, memory, &places, len)?;
-        let to = self.registers.received_at();
-        let completed = self.finish(tag, &payload, &places)?;
-        let fises = completed.fises.as_slice();
-        deliver(
-            base,
-            memory,
-            to,
-            header,
-            &places,
-            payload.len(),
-            fises,
-            &completed.bytes,
-        );
-        Ok(())
+        let at = place.header.descriptors();
+        let payload = match gather(self.alloc, memory, at, place.header.entries, len)? {
+            Ok(payload) => payload,
+            Err(miss) => return Ok(self.miss(miss)),
+        };
+        let brought = payload.as_slice();
+        let completed = self.finish(tag, brought)?;
+        let (fises, bytes) = (completed.fises.as_slice(), completed.bytes.as_slice());
+        let delivered = deliver(memory, place, brought.len(), fises, bytes);
+        let done = self.show(tag, fises, delivered);
+        Ok(Outcome { done, denied: None })
     }
 
     /// The engine completes what the drive holds under a tag.
-    fn complete(&mut self, tag: Tag, base: u32, memory: &mut [u8]) -> Result<(), AllocError>
+    fn complete<M: HostMemory>(&mut self, tag: Tag, memory: &mut M) -> Result<Outcome, AllocError>
         requires { is_some (held_at self.old.drive.queue tag) ≡ true }
-        ensures agrees { OnOk result
-            (Adds (completing_of self.old.registers base memory.old tag
-            (expected (held_at self.old.drive.queue tag))) self.old self.new) }
-        ensures moved { OnOk result
-            (MovesAs (completing_of self.old.registers base memory.old tag
-            (expected (held_at self.old.drive.queue tag))) self.old base memory.old memory.new) }
+        ensures done { IfOk result (λ r. TurnsAs M.does
+            (λ o a. Completes o a tag (expected (held_at self.old.drive.queue tag)))
+            self.old memory.old self.new memory.new r.done r.denied) }
         ensures err { OnErr result (self.new ≡ self.old) }
-        ensures kept { OnErr result (memory.new ≡ memory.old) }
+        ensures kept { OnErr result (OnlyReads M.does memory.old memory.new) }
     {
-        let header = self.header_at(tag);
-        let Some(slot) = slot_at(base, memory, header) else {
-            self.registers.fault();
-            return Ok(());
+        let header = match header_by(read_array(memory, self.header_at(tag))) {
+            Ok(header) => header,
+            Err(miss) => return Ok(self.miss(miss)),
         };
         let len = self.drive.expects(tag);
-        self.end(tag, header, &slot, len, base, memory)
+        let place = self.place_of(tag, header);
+        self.end(tag, place, len, memory)
     }
 
     /// The device tells its signature.
-    fn sign(&mut self, base: u32, memory: &mut [u8])
-        ensures agrees { Adds Signed self.old self.new }
-        ensures moved { MovesAs Signed self.old base memory.old memory.new }
+    fn sign<M: HostMemory>(&mut self, memory: &mut M) -> Outcome
+        ensures { TurnsAs M.does (λ o a. Signs a) self.old memory.old self.new memory.new
+            result.done result.denied }
     {
-        let to = self.registers.received_at();
-        self.registers.sign();
-        post_all(base, memory, to, &[signature_fis()]);
+        let to = self.received_at();
+        let _ = post_all(memory, to, &[signature_fis()]);
+        self.note_signature();
+        Outcome {
+            done: Done::Posted,
+            denied: None,
+        }
     }
 
     /// The engine does a piece of work that may be done.
     #[tactic(auto, using(crate::proofs::Works::both))]
-    pub(crate) fn act(
+    pub(crate) fn act<M: HostMemory>(
         &mut self,
         work: &Work,
-        base: u32,
-        memory: &mut [u8],
-    ) -> Result<Option<Why>, AllocError>
+        memory: &mut M,
+    ) -> Result<Outcome, AllocError>
         requires { is_ready_on self.old work.now ≡ true }
-        ensures agrees { OnOk result
-            (Adds (operation_of self.old base memory.old work.now) self.old self.new) }
-        ensures moved { OnOk result (MovesAs (operation_of self.old base memory.old work.now)
-            self.old base memory.old memory.new) }
-        ensures denied { IfOk result
-            (DeniesAs (operation_of self.old base memory.old work.now) self.old) }
+        ensures done { IfOk result (λ r. TurnsBy M.does work.now
+            self.old memory.old self.new memory.new r.done r.denied) }
         ensures err { OnErr result (self.new ≡ self.old) }
-        ensures kept { OnErr result (memory.new ≡ memory.old) }
+        ensures kept { OnErr result (OnlyReads M.does memory.old memory.new) }
     {
         match *work {
-            Work::Signature => {
-                self.sign(base, memory);
-                Ok(None)
-            }
-            Work::Fetch(tag) => self.fetch(tag, base, memory),
-            Work::Complete(tag) => match self.complete(tag, base, memory) {
-                Ok(()) => Ok(None),
-                Err(error) => Err(error),
-            },
+            Work::Signature => Ok(self.sign(memory)),
+            Work::Fetch(tag) => self.fetch(tag, memory),
+            Work::Complete(tag) => self.complete(tag, memory),
         }
     }
 }

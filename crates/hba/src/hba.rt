@@ -5,6 +5,7 @@ ghost use Rattle.history.specs.Opening.{Origin};
 ghost use Rattle.history.specs.History.{Act, Reset};
 ghost use Rattle.sp_cells.specs.Resets.{hardware};
 ghost use Rattle.drive.specs.State.{Agrees};
+ghost use Rattle.hba.specs.History.{act_count};
 
 use crate::registers::Registers;
 use drive::{Drive, ResetKind};
@@ -16,6 +17,8 @@ use std::marker::Model;
 pub struct Hba {
     pub(crate) alloc: Global,
     pub(crate) drive: Drive,
+    /// How many acts the drive has done, modulo 2^64.
+    pub(crate) acts: u64,
     pub(crate) registers: Registers,
 }
 
@@ -24,7 +27,11 @@ impl Model for Hba {
 
     ghost Value = { State };
 
-    ghost view = { λ h. record { drive = h.drive; registers = h.registers } };
+    ghost view = { λ h. record {
+      drive = h.drive;
+      acts = h.acts;
+      registers = h.registers;
+    } };
 }
 
 /// Resets the drive, where it is to be.
@@ -37,10 +44,27 @@ fn reset_if(resets: bool, drive: &mut Drive)
     }
 }
 
+/// One act more.
+#[tactic(auto, using(crate::proofs::Counts::one_more))]
+pub(crate) fn one_more(count: u64) -> u64
+    ensures { (list : List Act) (act : Act) → count ≡ act_count list
+        → result ≡ act_count (act ∷ list) }
+{
+    count.wrapping_add(1)
+}
+
+/// One act more, where there is one.
+fn count_if(acts: bool, count: u64) -> u64
+    ensures { (list : List Act) (act : Act) → count ≡ act_count list
+        → result ≡ act_count (if acts then act ∷ list else list) }
+{
+    if acts { one_more(count) } else { count }
+}
+
 impl Hba {
     ghost use Rattle.std.specs.Prelude.{[]};
     ghost use Rattle.hba.specs.Registers.{word_at, line};
-    ghost use Rattle.hba.specs.History.{Operation, Wrote, Powered, AgreesHba, Adds, regs_of};
+    ghost use Rattle.hba.specs.History.{Operation, Wrote, Powered, AgreesHba, Adds, acts_of, regs_of, act_count};
 
     /// An HBA after its reset, over a drive that has done no act.
     pub fn new(alloc: Global, drive: Drive) -> Hba
@@ -49,6 +73,7 @@ impl Hba {
         Hba {
             alloc,
             drive,
+            acts: 0,
             registers: Registers::new(),
         }
     }
@@ -78,6 +103,15 @@ impl Hba {
         &self.drive
     }
 
+    /// How many acts the drive has done, modulo 2^64: fetched commands, completions and resets.
+    pub fn acts(&self) -> u64
+        ensures stands { result ≡ self.now.acts }
+        ensures told { (o : Origin) (list : List Operation) → AgreesHba self.now o list
+            → result ≡ act_count (acts_of o list) }
+    {
+        self.acts
+    }
+
     /// The host's write of a word at an offset. It touches registers, and the drive by a reset alone; never
     /// the host's memory, and needs none.
     pub fn write(&mut self, offset: u32, value: u32)
@@ -86,6 +120,7 @@ impl Hba {
         let resets = self.registers.resets(offset, value);
         self.registers.write(offset, value);
         reset_if(resets, &mut self.drive);
+        self.acts = count_if(resets, self.acts);
     }
 
     /// A power cycle: the drive's reset of that kind, and all registers as at the start.
@@ -93,6 +128,7 @@ impl Hba {
         ensures { Adds Powered self.old self.new }
     {
         self.drive.reset(ResetKind::Power);
+        self.acts = one_more(self.acts);
         self.registers = Registers::new();
     }
 }

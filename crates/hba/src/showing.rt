@@ -1,10 +1,12 @@
 //! What the engine's work makes of the registers (AHCI 1.3.1, 5.5 and 6.2).
 
 ghost use Rattle.std.specs.Prelude.{◌≡◌};
+ghost use Rattle.hba.specs.Showing.{bits_of, shows_fises};
 ghost use Rattle.port_history.specs.Registers.{is_finished, carried, with_task, shown, all_shown, no_more_issued, raised};
 
 use crate::registers::Registers;
 use fis::{Fis, Tag};
+use hba_memory::Miss;
 use hba_regs::{PortRegs, PxIs};
 
 /// BSY, DRQ and ERR of a status (ACS-3, Status field).
@@ -22,8 +24,31 @@ const CARRIED: u8 = 0x77;
 /// The bits that it leaves.
 const KEPT: u8 = 0x88;
 
-/// PxIS.HBFS.
+/// PxIS.HBFS: bytes are no memory.
 const MEMORY: u32 = 0x2000_0000;
+
+/// PxIS.OFS: data are more than the PRDT names.
+const OVERFLOW: u32 = 0x0100_0000;
+
+/// The bit of PxIS that tells what was not there.
+fn bits_of(miss: Miss) -> PxIs
+    ensures { result.0 ≡ bits_of miss }
+{
+    match miss {
+        Miss::Overflow => PxIs(OVERFLOW),
+        Miss::List | Miss::Table | Miss::Block | Miss::Fis => PxIs(MEMORY),
+    }
+}
+
+/// Whether the registers show the drive's FISes all the same.
+fn shows_fises(miss: Miss) -> bool
+    ensures { result ≡ shows_fises miss }
+{
+    match miss {
+        Miss::Fis => true,
+        Miss::List | Miss::Table | Miss::Block | Miss::Overflow => false,
+    }
+}
 
 /// Whether a command is done, by the status.
 fn is_finished(status: u8) -> bool
@@ -102,7 +127,7 @@ fn show_all(regs: &mut PortRegs, tag: Tag, fises: &[Fis])
 
 impl Registers {
     ghost use Rattle.std.specs.Prelude.{◌≡◌, if◌then◌else◌};
-    ghost use Rattle.hba.specs.Showing.{signed, faulted, controlled, fetching, halting, answered};
+    ghost use Rattle.hba.specs.Showing.{signed, faulted, controlled, fetching, halting, answered, served};
 
     /// The device's first FIS after a reset.
     pub(crate) fn sign(&mut self)
@@ -113,10 +138,10 @@ impl Registers {
     }
 
     /// Memory that is not there.
-    pub(crate) fn fault(&mut self)
-        ensures { self.new ≡ faulted self.old }
+    pub(crate) fn fault(&mut self, miss: Miss)
+        ensures { self.new ≡ faulted miss self.old }
     {
-        self.port.raise(PxIs(MEMORY));
+        self.port.raise(bits_of(miss));
         self.is_halted = true;
         self.note();
     }
@@ -151,15 +176,24 @@ impl Registers {
         self.note();
     }
 
-    /// FISes of the drive for the command of a tag, where its data have room, else a fault.
-    pub(crate) fn serve(&mut self, tag: Tag, fises: &[Fis], has_room: bool)
-        ensures { self.new
-            ≡ (if has_room then answered tag fises.now self.old else faulted self.old) }
+    /// FISes of the drive for the command of a tag, unless memory failed before they came.
+    pub(crate) fn serve(&mut self, tag: Tag, fises: &[Fis], missed: Option<Miss>)
+        ensures { self.new ≡ served tag fises.now missed self.old }
     {
-        if has_room {
+        match missed {
+            None => self.answer(tag, fises),
+            Some(miss) => {
+                self.answer_if(shows_fises(miss), tag, fises);
+                self.fault(miss);
+            }
+        }
+    }
+
+    fn answer_if(&mut self, shows: bool, tag: Tag, fises: &[Fis])
+        ensures { self.new ≡ (if shows then answered tag fises.now self.old else self.old) }
+    {
+        if shows {
             self.answer(tag, fises);
-        } else {
-            self.fault();
         }
     }
 }

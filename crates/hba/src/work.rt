@@ -3,11 +3,13 @@
 ghost use Rattle.std.specs.Prelude.{◌≡◌, ◌<◌, ◌≤◌, ◌+◌, ◌++◌, List, [], None, length};
 ghost use Rattle.history.specs.Opening.{Origin};
 ghost use Rattle.hba.specs.Ready.{picked};
+ghost use Rattle.hba.specs.Showing.{fault_of};
 
 use crate::hba::Hba;
 use arrayvec::ArrayVec;
 use drive::Why;
 use fis::Tag;
+use hba_memory::Miss;
 use thiserror::Error;
 
 /// A piece of work of the engine.
@@ -22,10 +24,59 @@ pub enum Work {
     Complete(Tag),
 }
 
-/// A piece of work that was done, and what denied the command that it fetched.
+/// What of the host's memory was not there.
+#[derive(Clone, Copy, Debug, PartialEq, Eq)]
+pub enum MemoryFault {
+    /// The command header. The command was not done, unless its header could be read, and the count of bytes that
+    /// moved not be written.
+    List,
+    /// The command table, or a descriptor that is wanted; or the header is none of a command. Behind the act where it
+    /// was wanted for data from the drive.
+    Table,
+    /// A block of data, or the PRDT names fewer bytes than there are data. Behind the act where they come from the
+    /// drive; blocks before it have their bytes.
+    Data,
+    /// The place of a received FIS, behind the act; the registers show it all the same.
+    Fis,
+}
+
+/// What is told of it.
+pub(crate) fn fault_of(miss: Miss) -> MemoryFault
+    ensures { result ≡ fault_of miss }
+{
+    match miss {
+        Miss::List => MemoryFault::List,
+        Miss::Table => MemoryFault::Table,
+        Miss::Block | Miss::Overflow => MemoryFault::Data,
+        Miss::Fis => MemoryFault::Fis,
+    }
+}
+
+/// How a piece of work went.
+#[derive(Clone, Copy, Debug, PartialEq, Eq)]
+pub enum Done {
+    /// The device's signature was told.
+    Posted,
+    /// The drive took the command, or completed it.
+    Served,
+    /// The FIS was no command.
+    Control,
+    /// The host's memory failed, and the HBA has halted.
+    Fault(MemoryFault),
+}
+
+/// How a piece of work went, and what denied the command that it fetched.
+#[derive(Debug, Drop, PartialEq, Eq)]
+pub struct Outcome {
+    pub done: Done,
+    pub denied: Option<Why>,
+}
+
+/// A piece of work, how it went, and what denied the command that it fetched.
 #[derive(Debug, Drop, PartialEq, Eq)]
 pub struct Turned {
     pub work: Work,
+    pub done: Done,
     pub denied: Option<Why>,
 }
 
@@ -35,7 +86,7 @@ pub enum HbaError {
     /// It is not to be done now.
     #[error("the engine has no such work")]
     NotReady,
-    /// Memory for the payload, the answer or the places of data.
+    /// Memory for the payload or the answer.
     #[error("out of memory")]
     OutOfMemory,
 }

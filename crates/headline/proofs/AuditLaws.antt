@@ -28,7 +28,7 @@ use Rattle.history.specs.Audit.{line_for}
 use Rattle.port_history.specs.Steps.{Effect, Moment, moment, trace, stage, failed, payload, acceptance, accept_payload, act_of, audit, line_of}
 use Rattle.port_history.proofs.KeptLaw.{kept, accept_is, found, recover_is}
 use Rattle.port_history.proofs.Tests.{some_is, was_true, none_holds, tests_of, issued_is}
-use Rattle.history.proofs.QuietProofs.{tcg_quiet}
+use Rattle.port_history.proofs.Acted.{tcg_for_ports}
 use Rattle.headline.specs.Steps.{facts_after}
 use Rattle.headline.specs.Denials.{IsDeniedAs, IsDeniedStep, lines_at, IsLineOf, AuditLaw}
 
@@ -196,6 +196,8 @@ completion_denies u bytes (commands.Receive protocol com_id blocks dma) = refl
 completion_denies u bytes commands.Identify = refl
 completion_denies u bytes (commands.ReadLog10 dma) = refl
 completion_denies u bytes commands.Flush = refl
+completion_denies u bytes commands.SetFeatures = refl
+completion_denies u bytes (commands.ReadLog page dma) = refl
 
 none_completed : (u : ℕ) (bytes : List ℕ) (h : Option HeldCommand) → (completed u bytes h).denied ≡ None
 none_completed u bytes None = refl
@@ -236,9 +238,9 @@ adds o steps.Recover before h =
     let ms = trace o before in
     let x = none_holds (tests_of ms steps.Recover) h.1 in
     let f = some_is (failed ms) (was_true _ x.1.0) in
-    let y = found ms f.0 (kept tcg tcg_quiet o before h.2) f.1 in
+    let y = found ms f.0 (kept tcg tcg_for_ports o before h.2) f.1 in
     AddsNothing
-    (λ number. ap (λ (m : Moment). line_of number m.served m.effect) (recover_is tcg o ms y.found y.failing))
+    (λ number. ap (λ (m : Moment). line_of number m.served m.effect) (recover_is tcg tcg_for_ports o ms y.found y.failing))
 adds o (steps.Reset client kind) before h = AddsNothing (λ number. refl)
 adds o (steps.Take client u) before h = AddsNothing (λ number. refl)
 

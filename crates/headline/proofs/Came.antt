@@ -1,4 +1,5 @@
 -- What an acceptance does with a transfer, by its verdict there.
+use Rattle.port_history.specs.Laws.{read_as}
 use Rattle.std.proofs.Common.{◌≡◌, ◌∙◌, ℕ, Bool, true, false, List, [], if◌then◌else◌, Option, Some, None, refl, ap}
 use Rattle.std.specs.Prelude.{is_some, Ok}
 use Rattle.fis.specs.declared.h2d.RegH2d.{RegH2d}
@@ -8,7 +9,7 @@ use Rattle.locking.specs.declared.range.Op.TheVariants.{Read, Write}
 use Rattle.locking.specs.declared.ranges.Verdict.{Verdict}
 use Rattle.locking.specs.declared.ranges.Verdict.TheVariants.{Serve, Shadow, Denied}
 use Rattle.trusted_cmds.specs.declared.command.Command.{Command}
-use Rattle.trusted_cmds.specs.declared.command.Command.TheVariants.{ReadQueued, WriteQueued, ReadDma, WriteDma, Send, Receive, Identify, ReadLog10, Flush}
+use Rattle.trusted_cmds.specs.declared.command.Command.TheVariants.{ReadQueued, WriteQueued, ReadDma, WriteDma, Send, Receive, Identify, ReadLog10, Flush, SetFeatures, ReadLog}
 use Rattle.trusted_cmds.specs.Commands.{tag_with}
 use Rattle.history.specs.Answers.{read_by, held_data, data_read_of}
 use Rattle.history.specs.Events.{Deed, Nothing, Wrote, Event}
@@ -19,7 +20,6 @@ use Rattle.port_history.specs.declared.request.Answer.{Answer}
 use Rattle.port_history.specs.declared.request.Answer.TheVariants as answers
 use Rattle.port_history.specs.Stages.{is_queued_command}
 use Rattle.port_history.specs.Steps.{answered_with}
-use Rattle.port_history.proofs.Fises.{read_as}
 use Rattle.headline.specs.Transfers.{Transfer, transfer_of}
 
 -- The answer to a transfer, by the facts at its acceptance, and those at the act that moves its data.
@@ -108,6 +108,8 @@ queued_taken items f h bytes (Receive protocol com_id blocks dma) tag queued fre
 queued_taken items f h bytes Identify tag queued free = absurd cc
 queued_taken items f h bytes (ReadLog10 dma) tag queued free = absurd cc
 queued_taken items f h bytes Flush tag queued free = absurd cc
+queued_taken items f h bytes SetFeatures tag queued free = absurd cc
+queued_taken items f h bytes (ReadLog page dma) tag queued free = absurd cc
 
 -- A transfer that is executed whole.
 abbrev pub executed : Event → List ℕ → Answer
@@ -151,3 +153,5 @@ executed_is items f payload (Receive protocol com_id blocks dma) tag x unqueued_
 executed_is items f payload Identify tag x unqueued_is is = absurd cc
 executed_is items f payload (ReadLog10 dma) tag x unqueued_is is = absurd cc
 executed_is items f payload Flush tag x unqueued_is is = absurd cc
+executed_is items f payload SetFeatures tag x unqueued_is is = absurd cc
+executed_is items f payload (ReadLog page dma) tag x unqueued_is is = absurd cc

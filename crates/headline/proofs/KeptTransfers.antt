@@ -1,17 +1,17 @@
 -- Every lawful list keeps what its transfers come to.
+use Rattle.port_history.specs.Laws.{IsForPorts, read_as}
 use Rattle.std.proofs.Common.{◌≡◌, ◌∙◌, ◌⊎◌, ℕ, ◌==◌, ◌<◌, not, ◌&&◌, Bool, true, false, List, [], ◌∷◌, if◌then◌else◌, Option, Some, None, refl, sym, ap, subst, inl, inr, eq-eqb}
 use Rattle.std.specs.Prelude.{is_some, unwrap_or, IfSome, Ok}
 use Rattle.std.proofs.lemmas.Bool.{cases_eq, ne_eqb, ltb-true}
 use Rattle.fis.specs.H2d.{h2d_at}
 use Rattle.trusted_cmds.specs.declared.command.Command.{Command}
 use Rattle.trusted_cmds.specs.declared.command.Command.TheVariants as commands
-use Rattle.trusted_cmds.specs.Commands.{reading, fis_of, tag_with}
+use Rattle.trusted_cmds.specs.Commands.{fis_of, tag_with}
 use Rattle.device_data.specs.declared.log_page.Failure.{Failure}
 use Rattle.history.specs.Answers.{completed_data, data_read_of}
 use Rattle.history.specs.Decisions.{fails_queue, holds, is_busy, unqueued_of, known_of}
 use Rattle.history.specs.Events.{HeldCommand, Event, or_else, latest}
 use Rattle.history.specs.Items.{Items}
-use Rattle.history.specs.Quiet.{IsQuiet}
 use Rattle.history.specs.Facts.{Facts, facts}
 use Rattle.history.specs.Opening.{Origin}
 use Rattle.history.specs.Readers.{holding, held, failure}
@@ -27,7 +27,6 @@ use Rattle.port_history.specs.Requests.{command_fis}
 use Rattle.port_history.specs.Stages.{is_queued_command, to, accepted_stage}
 use Rattle.port_history.specs.Steps.{Effect, Moment, events, stage, failed, is_tag, payload, put_of, answer, accept_payload, executed_answer, trace_of}
 use Rattle.port_history.proofs.Acted.{IsExecuted, event_is, reads_bytes}
-use Rattle.port_history.proofs.Fises.{read_as}
 use Rattle.port_history.proofs.Kept.{Kept, accept_moment, complete_moment, recover_moment, failed_held, failed_failed, failed_executed, freed}
 use Rattle.port_history.proofs.KeptLaw.{kept, accept_is, accepted_effect, complete_is, completed_effect, mended_queue, free_tag, idle, fit_issued, unqueued_comes, accepted_moves}
 use Rattle.port_history.proofs.Tests.{none_is, some_is, was_true, none_holds, tests_of, issued_is, accepted_is}
@@ -106,13 +105,13 @@ and_false true = refl
 and_false false = refl
 
 -- the event of a queued command
-pub queued_event : (items : Items) (o : Origin) (ms : List Moment) (u : ℕ) (put : Put) → u < 32 → Kept ms
+pub queued_event : (items : Items) (still : IsForPorts items) (o : Origin) (ms : List Moment) (u : ℕ) (put : Put) → u < 32 → Kept ms
     → failed ms ≡ None → stage ms u ≡ Issued put → is_queued_command put.command ≡ true
     → IsTakenTransfer u put.command (facts o (events ms)) (fis_of put.command u)
     (accepted_effect items o ms u put).event
-queued_event items o ms u put lu k mended was queued =
+queued_event items still o ms u put lu k mended was queued =
     subst (IsTakenTransfer u put.command f (fis_of put.command u))
-    (sym (event_is items o (events ms) put.command u (accept_payload put (payload ms u)) lu
+    (sym (event_is items still o (events ms) put.command u (accept_payload put (payload ms u)) lu
     (fit_issued ms u put k was).sized (mended_queue ms k mended)
     (ap (λ (b : Bool). is_busy f && not b) queued ∙ and_false (is_busy f))))
     (queued_taken items f (fis_of put.command u) (accept_payload put (payload ms u)) put.command u queued
@@ -242,42 +241,44 @@ known_unqueued items f h bytes command tag e = by_command command e
     by_command commands.Identify e = refl
     by_command (commands.ReadLog10 dma) e = refl
     by_command commands.Flush e = refl
+    by_command commands.SetFeatures e = refl
+    by_command (commands.ReadLog page dma) e = refl
 
-pub unqueued_event : (items : Items) (o : Origin) (ms : List Moment) (u : ℕ) (put : Put) → u < 32 → Kept ms
+pub unqueued_event : (items : Items) (still : IsForPorts items) (o : Origin) (ms : List Moment) (u : ℕ) (put : Put) → u < 32 → Kept ms
     → failed ms ≡ None → stage ms u ≡ Issued put → is_queued_command put.command ≡ false
     → (accepted_effect items o ms u put).event
     ≡ unqueued_of items (facts o (events ms)) (accept_payload put (payload ms u)) (read_as put.command)
-unqueued_event items o ms u put lu k mended was unqueued_is =
-    event_is items o (events ms) put.command u (accept_payload put (payload ms u)) lu
+unqueued_event items still o ms u put lu k mended was unqueued_is =
+    event_is items still o (events ms) put.command u (accept_payload put (payload ms u)) lu
     (fit_issued ms u put k was).sized (mended_queue ms k mended)
     (ap (λ (b : Bool). b && not (is_queued_command put.command)) (idle o ms u put lu k was unqueued_is))
     ∙ known_unqueued items (facts o (events ms)) (fis_of put.command u) (accept_payload put (payload ms u))
     put.command u unqueued_is
 
 -- its answer
-pub executed_now : (items : Items) (o : Origin) (ms : List Moment) (u : ℕ) (put : Put) → u < 32 → Kept ms
+pub executed_now : (items : Items) (still : IsForPorts items) (o : Origin) (ms : List Moment) (u : ℕ) (put : Put) → u < 32 → Kept ms
     → failed ms ≡ None → stage ms u ≡ Issued put → is_queued_command put.command ≡ false
     → executed_answer (Some (accepted_effect items o ms u put))
     ≡ Some (Some (executed (unqueued_of items (facts o (events ms)) (accept_payload put (payload ms u)) (read_as put.command))
     (data_read_of items (facts o (events ms)) (Ok (read_as put.command, tag_with put.command u)))))
-executed_now items o ms u put lu k mended was unqueued_is =
-    ap (λ (y : Event). Some (Some (executed y (data_read_of items f (reading (h2d_at (command_fis put.command u)))))))
-    (unqueued_event items o ms u put lu k mended was unqueued_is)
+executed_now items still o ms u put lu k mended was unqueued_is =
+    ap (λ (y : Event). Some (Some (executed y (data_read_of items f (items.reads f.config (h2d_at (command_fis put.command u)))))))
+    (unqueued_event items still o ms u put lu k mended was unqueued_is)
     ∙ ap
     (λ (r : _). Some (Some (executed (unqueued_of items f (accept_payload put (payload ms u)) (read_as put.command))
     (data_read_of items f r))))
-    (reads_bytes put.command u lu (fit_issued ms u put k was).sized)
+    (reads_bytes items still f.config put.command u lu (fit_issued ms u put k was).sized)
   where
     f : Facts
     f = facts o (events ms)
 
-unqueued_self : (items : Items) (o : Origin) (before : List Step) (u : ℕ) (put : Put) → u < 32
+unqueued_self : (items : Items) (still : IsForPorts items) (o : Origin) (before : List Step) (u : ℕ) (put : Put) → u < 32
     → Kept (trace_of items o before) → failed (trace_of items o before) ≡ None
     → stage (trace_of items o before) u ≡ Issued put → is_queued_command put.command ≡ false
     → AtMoment (trace_of items o before) (accept_moment u put (accepted_effect items o (trace_of items o before) u put)) u
     (facts_after items o (if u == u then before else before_acceptance before u))
     (facts_after items o (if u == u then before else before_move before u))
-unqueued_self items o before u put lu k mended was unqueued_is =
+unqueued_self items still o before u put lu k mended was unqueued_is =
     comes_by {u = None} {f = f} {g = f} {s = Answered put}
     (failed_executed ms u put e unqueued_is ∙ mended) refl refl (same_f _) (same_f _) answers_so
     (sym (Rattle.port_history.proofs.Kept.executed_moves ms u u put was unqueued_is)
@@ -306,7 +307,7 @@ unqueued_self items o before u put lu k mended was unqueued_is =
         takes (u == u) _ (answer ms u) (itself u)
         ∙ ap (λ (b : Bool). unwrap_or (if b then None else executed_answer (Some e)) (answer ms u)) unqueued_is
         ∙ ap (λ (y : Option (Option Answer)). unwrap_or y (answer ms u))
-        (executed_now items o ms u put lu k mended was unqueued_is)
+        (executed_now items still o ms u put lu k mended was unqueued_is)
 
     settled : (x : Option Transfer) → transfer_of put.command ≡ x
         → IfSome x (λ z. ◌⊎◌ (◌≡◌ {A = Option Answer} (Some now) (Some answers.Reset)) (◌≡◌ {A = Option Answer} (Some now) (Some (answer_to f f z))))
@@ -333,7 +334,7 @@ unqueued_other items o before u put e mended unqueued_is done t apart k =
     same_f : (list : List Step) → facts_after items o (if u == t then before else list) ≡ facts_after items o list
     same_f list = ap (facts_after items o) (other_if (u == t) before list apart)
 
-comes_accept : (items : Items) (still : IsQuiet items) (o : Origin) (before : List Step) (u : ℕ) (put : Put) → u < 32
+comes_accept : (items : Items) (still : IsForPorts items) (o : Origin) (before : List Step) (u : ℕ) (put : Put) → u < 32
     → Kept (trace_of items o before) → failed (trace_of items o before) ≡ None
     → stage (trace_of items o before) u ≡ Issued put → ((t : ℕ) → ComesAt items o before t) → (t : ℕ)
     → ComesAt items o (steps.Accept u ∷ before) t
@@ -353,13 +354,13 @@ comes_accept items still o before u put lu k mended was all =
         (facts_after items o (if u == u then before else before_acceptance before u))
         (facts_after items o (if u == u then before else before_move before u)))
         (sym (accept_is items o ms u put was))
-        (queued_self items o before u put e mended was queued (queued_event items o ms u put lu k mended was queued))
+        (queued_self items o before u put e mended was queued (queued_event items still o ms u put lu k mended was queued))
     self false unqueued_is =
         subst (λ (m : Moment). AtMoment ms m u
         (facts_after items o (if u == u then before else before_acceptance before u))
         (facts_after items o (if u == u then before else before_move before u)))
         (sym (accept_is items o ms u put was))
-        (unqueued_self items o before u put lu k mended was unqueued_is)
+        (unqueued_self items still o before u put lu k mended was unqueued_is)
 
     other : (b : Bool) → is_queued_command put.command ≡ b → (t : ℕ) → (u == t) ≡ false
         → ComesAt items o (steps.Accept u ∷ before) t
@@ -368,7 +369,7 @@ comes_accept items still o before u put lu k mended was all =
         (facts_after items o (if u == t then before else before_acceptance before t))
         (facts_after items o (if u == t then before else before_move before t)))
         (sym (accept_is items o ms u put was))
-        (queued_other items o before u put e mended queued (queued_event items o ms u put lu k mended was queued) t
+        (queued_other items o before u put e mended queued (queued_event items still o ms u put lu k mended was queued) t
         apart (all t))
     other false unqueued_is t apart =
         subst (λ (m : Moment). AtMoment ms m t
@@ -454,7 +455,7 @@ comes_complete items o before u put k mended was all =
     e = completed_effect items o ms u
 
 -- Every lawful list.
-pub comes : (items : Items) (still : IsQuiet items) (o : Origin) (list : List Step) → AreLawful items o list → (t : ℕ) → ComesAt items o list t
+pub comes : (items : Items) (still : IsForPorts items) (o : Origin) (list : List Step) → AreLawful items o list → (t : ℕ) → ComesAt items o list t
 comes items still o [] h t = record { it = tt }
 comes items still o (steps.Put client u request ∷ before) h t =
     comes_put (u == t) (put_of _ client request) (comes items still o before h.2 t)

@@ -1,4 +1,5 @@
 -- The data of a write that is done stand in media after the act that moved them.
+use Rattle.port_history.specs.Laws.{IsForPorts, read_as}
 use Rattle.std.proofs.Common.{◌≡◌, ◌∙◌, ℕ, ◌+◌, ◌-◌, ◌*◌, ◌/◌, ◌<◌, ◌==◌, ◌&&◌, nat_le, nat_lt, Bool, true, false, List, [], ◌∷◌, length, if◌then◌else◌, Option, Some, None, refl, sym, ap, subst, arith, inl, inr}
 use Rattle.std.specs.Prelude.{take, drop, unwrap_or, IfSome, Ok}
 use Rattle.std.proofs.lemmas.Bool.{cases_eq, ne_eqb, ltb-true}
@@ -13,7 +14,6 @@ use Rattle.trusted_cmds.specs.Commands.{tag_with}
 use Rattle.history.specs.Decisions.{not_found, fails, on_drive, verdict_on, unqueued_by, completed_by, unqueued_of}
 use Rattle.history.specs.Events.{Wrote, did, Event, or_else, latest}
 use Rattle.history.specs.Items.{Items}
-use Rattle.history.specs.Quiet.{IsQuiet}
 use Rattle.history.specs.Answers.{data_read_of}
 use Rattle.history.specs.Facts.{Facts}
 use Rattle.history.specs.Opening.{Origin}
@@ -29,7 +29,7 @@ use Rattle.port_history.specs.declared.step.Step.TheVariants as steps
 use Rattle.port_history.specs.Refusals.{AreLawful}
 use Rattle.port_history.specs.Stages.{is_queued_command, is_pending, to, recovered, stage_after_reset}
 use Rattle.port_history.specs.Steps.{Effect, Moment, events, stage, failed, is_tag, payload, put_of, answer, accept_payload, recovered_answer, trace_of}
-use Rattle.port_history.proofs.Fises.{read_as, brought}
+use Rattle.port_history.proofs.Fises.{brought}
 use Rattle.port_history.proofs.Kept.{Kept, accept_moment, complete_moment, accepted_moves, executed_moves}
 use Rattle.port_history.proofs.KeptLaw.{kept, accept_is, accepted_effect, complete_is, completed_effect, fit_issued, fit_accepted, accepted_moves as completion_moves, found}
 use Rattle.port_history.proofs.Tests.{none_is, some_is, was_true, none_holds, tests_of, issued_is, accepted_is}
@@ -182,6 +182,8 @@ executed_lands items f past content given (commands.Receive protocol com_id bloc
 executed_lands items f past content given commands.Identify unqueued_is long = tt
 executed_lands items f past content given (commands.ReadLog10 dma) unqueued_is long = tt
 executed_lands items f past content given commands.Flush unqueued_is long = tt
+executed_lands items f past content given commands.SetFeatures unqueued_is long = tt
+executed_lands items f past content given (commands.ReadLog page dma) unqueued_is long = tt
 
 -- a completion
 completed_lands : (u : ℕ) (past : List Event) (content : List ℕ) (a : Option Answer) (command : Command)
@@ -200,6 +202,8 @@ completed_lands u past content a (commands.Receive protocol com_id blocks dma) q
 completed_lands u past content a commands.Identify queued long = tt
 completed_lands u past content a (commands.ReadLog10 dma) queued long = tt
 completed_lands u past content a commands.Flush queued long = tt
+completed_lands u past content a commands.SetFeatures queued long = tt
+completed_lands u past content a (commands.ReadLog page dma) queued long = tt
 
 split : (items : Items) (o : Origin) (list : List Step) (u : ℕ) → LandedAt items o list u
     → ((t : ℕ) → (u == t) ≡ false → LandedAt items o list t) → (t : ℕ) → LandedAt items o list t
@@ -211,10 +215,10 @@ split items o list u self other t = elim (cases_eq u t) [
 abbrev AtMoment : List Moment → Moment → ℕ → Type 0
 AtMoment ms m u = Landed (events (m ∷ ms)) (payload (m ∷ ms) u) (answer (m ∷ ms) u) (stage (m ∷ ms) u)
 
-accept_self : (items : Items) (o : Origin) (before : List Step) (u : ℕ) (put : Put) → u < 32 → Kept (trace_of items o before)
+accept_self : (items : Items) (still : IsForPorts items) (o : Origin) (before : List Step) (u : ℕ) (put : Put) → u < 32 → Kept (trace_of items o before)
     → failed (trace_of items o before) ≡ None → stage (trace_of items o before) u ≡ Issued put
     → AtMoment (trace_of items o before) (accept_moment u put (accepted_effect items o (trace_of items o before) u put)) u
-accept_self items o before u put lu k mended was = by_kind (is_queued_command put.command) refl
+accept_self items still o before u put lu k mended was = by_kind (is_queued_command put.command) refl
   where
     ms : List Moment
     ms = trace_of items o before
@@ -235,13 +239,13 @@ accept_self items o before u put lu k mended was = by_kind (is_queued_command pu
         (record { it = tt })
     by_kind false unqueued_is =
         landed_by {s = Answered put}
-        (ap (λ (x : Event). x ∷ events ms) (unqueued_event items o ms u put lu k mended was unqueued_is
+        (ap (λ (x : Event). x ∷ events ms) (unqueued_event items still o ms u put lu k mended was unqueued_is
         ∙ ap (λ (bytes : List ℕ). unqueued_of items f bytes (read_as put.command)) (bytes_are unqueued_is)))
         refl
         (takes (u == u) _ (answer ms u) (itself u)
         ∙ ap (λ (b : Bool). unwrap_or (if b then None else Rattle.port_history.specs.Steps.executed_answer (Some e)) (answer ms u)) unqueued_is
         ∙ ap (λ (y : Option (Option Answer)). unwrap_or y (answer ms u))
-        (executed_now items o ms u put lu k mended was unqueued_is
+        (executed_now items still o ms u put lu k mended was unqueued_is
         ∙ ap (λ (bytes : List ℕ). Some (Some (executed (unqueued_of items f bytes (read_as put.command))
         (data_read_of items f (Ok (read_as put.command, tag_with put.command u)))))) (bytes_are unqueued_is)))
         (sym (executed_moves ms u u put was unqueued_is)
@@ -252,16 +256,16 @@ accept_self items o before u put lu k mended was = by_kind (is_queued_command pu
               (fit_issued ms u put k was).brings;
         })
 
-landed_accept : (items : Items) (o : Origin) (before : List Step) (u : ℕ) (put : Put) → u < 32 → Kept (trace_of items o before)
+landed_accept : (items : Items) (still : IsForPorts items) (o : Origin) (before : List Step) (u : ℕ) (put : Put) → u < 32 → Kept (trace_of items o before)
     → failed (trace_of items o before) ≡ None → stage (trace_of items o before) u ≡ Issued put
     → ((t : ℕ) → LandedAt items o before t) → (t : ℕ) → LandedAt items o (steps.Accept u ∷ before) t
-landed_accept items o before u put lu k mended was all =
+landed_accept items still o before u put lu k mended was all =
     split items o (steps.Accept u ∷ before) u
     (landed_by
     (ap (past_of items o) (this_if (u == u) (steps.Accept u ∷ before) (through_move before u) (itself u)))
     refl refl refl
     (subst (λ (m : Moment). AtMoment ms m u) (sym (accept_is items o ms u put was))
-    (accept_self items o before u put lu k mended was)))
+    (accept_self items still o before u put lu k mended was)))
     (λ t apart. landed_by
     (ap (past_of items o) (other_if (u == t) (steps.Accept u ∷ before) (through_move before t) apart))
     refl (skips (u == t) _ (answer ms t) apart) (other_if (u == t) _ (stage ms t) apart) (all t))
@@ -303,7 +307,7 @@ landed_complete items o before u put k mended was all =
     ms = trace_of items o before
 
 -- Every lawful list.
-pub landed : (items : Items) (still : IsQuiet items) (o : Origin) (list : List Step) → AreLawful items o list → (t : ℕ) → LandedAt items o list t
+pub landed : (items : Items) (still : IsForPorts items) (o : Origin) (list : List Step) → AreLawful items o list → (t : ℕ) → LandedAt items o list t
 landed items still o [] h t = record { it = tt }
 landed items still o (steps.Put client u request ∷ before) h t =
     landed_put (u == t) (put_of _ client request) _ (landed items still o before h.2 t)
@@ -313,7 +317,7 @@ landed items still o (steps.Accept u ∷ before) h t =
     let ms = trace_of items o before in
     let x = none_holds (tests_of ms (steps.Accept u)) h.1 in
     let p = issued_is (stage ms u) x.1.1.0 in
-    landed_accept items o before u p.0 (ltb-true u 32 h.0) (kept items still o before h.2) (none_is (failed ms) x.1.0) p.1
+    landed_accept items still o before u p.0 (ltb-true u 32 h.0) (kept items still o before h.2) (none_is (failed ms) x.1.0) p.1
     (landed items still o before h.2) t
 landed items still o (steps.Complete u ∷ before) h t =
     let ms = trace_of items o before in

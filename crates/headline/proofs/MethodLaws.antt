@@ -1,4 +1,5 @@
 -- A call takes effect exactly where it is granted.
+use Rattle.port_history.specs.Laws.{read_as}
 use Rattle.std.proofs.Common.{nat_le, ◌==◌, ◌≡◌, ◌∙◌, ◌||◌, ◌+◌, ◌-◌, ℕ, ◌%◌, ◌≤◌, ◌<◌, nat_lt, not, ◌&&◌, Bool, true, false, List, [], ◌∷◌, Option, Some, None, refl, sym, ap, subst, arith, eq-eqb}
 use Rattle.std.specs.Prelude.{is_some, option_map, Ok, if◌then◌else◌}
 use Rattle.std.proofs.lemmas.Bool.{ltb-true}
@@ -46,12 +47,11 @@ use Rattle.port_history.specs.Refusals.{IsLawful}
 use Rattle.port_history.specs.Requests.{command_fis}
 use Rattle.port_history.specs.Stages.{is_queued_command}
 use Rattle.port_history.specs.Steps.{Effect, Moment, trace, stage, failed, payload, accept_payload}
-use Rattle.port_history.proofs.Acted.{reads_bytes, commands_of}
-use Rattle.port_history.proofs.Fises.{fis_back, read_as}
+use Rattle.port_history.proofs.Acted.{reads_bytes, commands_of, tcg_for_ports}
+use Rattle.port_history.proofs.Fises.{fis_back}
 use Rattle.port_history.proofs.Kept.{Kept}
 use Rattle.port_history.proofs.KeptLaw.{kept, accept_is, mended_queue, idle, fit_issued}
 use Rattle.port_history.proofs.Tests.{none_is, none_holds, tests_of}
-use Rattle.history.proofs.QuietProofs.{tcg_quiet}
 use Rattle.headline.specs.Steps.{facts_after, event_after}
 use Rattle.headline.proofs.AuditLaws.{lawful_before}
 use Rattle.headline.proofs.Rising.{listed_rises}
@@ -86,7 +86,7 @@ looked o before u put com_id blocks lu k mended was sends of_sessions = record {
   unmixed = ap (λ (b : Bool). b && not (is_queued_code (h2d_at (command_fis put.command u)).command))
       (idle o ms u put lu k was unqueued);
   reads =
-      reads_bytes put.command u lu (fit_issued ms u put k was).sized
+      reads_bytes tcg tcg_for_ports o.tables.config put.command u lu (fit_issued ms u put k was).sized
       ∙ ap (λ (c : Command). Ok (read_as c, tag_with c u)) sends
       ∙ ap (λ (n : ℕ). Ok (Send 1 n blocks true, None)) (com_id_fits com_id of_sessions);
 }
@@ -118,7 +118,7 @@ called o before step session object method args h c = record {
     protocol = 1;
     blocks = c.blocks;
     dma = true;
-    looked = looked o before c.tag c.put c.com_id c.blocks low (kept tcg tcg_quiet o before at.2) mended c.stands c.sends c.of_sessions;
+    looked = looked o before c.tag c.put c.com_id c.blocks low (kept tcg tcg_for_ports o before at.2) mended c.stands c.sends c.of_sessions;
     taken = trusted_now c.blocks (is_session_com_id c.com_id) (is_some ((facts_after tcg o before).waiting c.com_id))
         c.some c.of_sessions (none_waits _ c.free);
     framed = ap frame_in data_of ∙ c.framed;

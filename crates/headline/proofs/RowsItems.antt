@@ -1,5 +1,8 @@
 -- The laws of transfers and transactions by other items than those of this drive, computed from the
 -- definitions.
+use Rattle.history.specs.Tcg.{command_read}
+use Rattle.port_history.proofs.Acted.{tcg_for_ports}
+use Rattle.port_history.specs.Laws.{IsForPorts}
 use Rattle.std.proofs.Common.{◌≡◌, ℕ, ◌+◌, ◌≤◌, arith, Bool, true, false, List, [], ◌∷◌, ◌++◌, replicate, if◌then◌else◌, Some, None, refl}
 use Rattle.std.specs.Prelude.{◌==◌, slice_index}
 use Rattle.sp_cells.specs.declared.cells.Cell.TheVariants.{Number}
@@ -50,7 +53,7 @@ told_by byte =
     else (if byte == 2 then in_it (Began Locking 7) else (if byte == 3 then in_it (Aborted Locking) else refuses))
 
 abbrev one_byte : Items
-one_byte = record { sends = λ f protocol com_id blocks payload. told_by (slice_index payload 0); gives = λ f command. [] }
+one_byte = record { reads = command_read; sends = λ f protocol com_id blocks payload. told_by (slice_index payload 0); gives = λ f command. [] }
 
 -- They meet both premises.
 one_byte_quiet : IsQuiet one_byte
@@ -62,6 +65,10 @@ one_byte_quiet f protocol com_id blocks payload =
     by_byte false true c = refl
     by_byte false false true = refl
     by_byte false false false = refl
+
+one_byte_for_ports : IsForPorts one_byte
+one_byte_for_ports =
+    record { quiet = one_byte_quiet; reads = tcg_for_ports.reads; recovers = tcg_for_ports.recovers }
 
 one_byte_views : IsByOwnView one_byte
 one_byte_views f rows bytes number same protocol com_id blocks payload apart = refl
@@ -98,7 +105,7 @@ read_answered = record {
 read_not_allowed : IsAllowed (ranges_after one_byte enabled (before_acceptance locked 1)) (record { op = ops.Read; lba = 100; count = 1 }) → ⊥
 read_not_allowed allowed =
     let fits : 100 + 1 ≤ 1000 = omega arith in
-    not_done ((((transfer_law one_byte one_byte_quiet enabled locked (lawful_by one_byte enabled locked read_denied.0)).served 1 _ _ read_answered no_reset).served fits).1 allowed).1
+    not_done ((((transfer_law one_byte one_byte_for_ports enabled locked (lawful_by one_byte enabled locked read_denied.0)).served 1 _ _ read_answered no_reset).served fits).1 allowed).1
   where
     no_reset : answers.Failed 0x51 0x04 ≡ answers.Reset → ⊥
     no_reset e = cc

@@ -102,10 +102,10 @@ unfolding admin_sps admin_authorities locking_authorities admin_pins locking_pin
 is_no_abort = refl
 
 -- A frame is for the session that its ComID, TSN and HSN name, and for no other.
-it_names : (is_for (facts_after tcg enabled locking) 0x1000 (send 0x1000 0x1000 1 (end 0)) ≡ true)
-    × (is_for (facts_after tcg enabled locking) 0x1000 (send 0x1001 0x1000 1 (end 0)) ≡ false)
-    × (is_for (facts_after tcg enabled locking) 0x1000 (send 0x1000 0x1001 1 (end 0)) ≡ false)
-    × (is_for (facts_after tcg enabled locking) 0x1000 (send 0x1000 0x1000 2 (end 0)) ≡ false)
+it_names : (is_for tcg (facts_after tcg enabled locking) 0x1000 (send 0x1000 0x1000 1 (end 0)) ≡ true)
+    × (is_for tcg (facts_after tcg enabled locking) 0x1000 (send 0x1001 0x1000 1 (end 0)) ≡ false)
+    × (is_for tcg (facts_after tcg enabled locking) 0x1000 (send 0x1000 0x1001 1 (end 0)) ≡ false)
+    × (is_for tcg (facts_after tcg enabled locking) 0x1000 (send 0x1000 0x1000 2 (end 0)) ≡ false)
 unfolding admin_sps admin_authorities locking_authorities admin_pins locking_pins locking_ranges locking_mbr_controls admin_aces authority_aces pin_aces range_aces mbr_aces this_sp_grants admin_grants authority_grants fixed_ace_gets user_ace_grants read_locked_ace_grants write_locked_ace_grants done_ace_grants pin_grants range_grants mbr_grants first_lexeme expect number_at uid_at values_up_to list_with list_value_with named_with value_after_token list_at status_at call_at reply_at message_at message_in number_spelling bytes_spelling any_below ranges_in verdict_of is_range listed_among cells_for zeros sectors_from authorities_of_locking any_to
 it_names = (refl, refl, refl, refl)
 

@@ -24,7 +24,7 @@ use Rattle.history.specs.declared.reset.ResetKind.TheVariants.{Hardware}
 use Rattle.history.specs.History.{Act, Accept as AcceptFis, event_by}
 use Rattle.history.proofs.DenialProofs.{denial_law}
 use Rattle.port_history.specs.Requests.{command_fis}
-use Rattle.history.proofs.QuietProofs.{tcg_quiet}
+use Rattle.port_history.proofs.Acted.{tcg_for_ports}
 use Rattle.headline.specs.Denials.{IsDeniedStep, IsAudited, lines_at}
 use Rattle.headline.proofs.AuditLaws.{denied_as}
 use Rattle.history.specs.Opening.{Origin}
@@ -87,7 +87,7 @@ read_answered = record {
 read_allowed : IsAllowed (ranges_after tcg locked (before_acceptance permitted 0)) (record { op = ops.Read; lba = 110; count = 1 })
 read_allowed =
     let fits : 110 + 1 ≤ 1000 = omega arith in
-    (((transfer_law tcg tcg_quiet locked permitted (lawful locked permitted read_done.0)).served 0 _ _ read_answered no_reset).served fits).0
+    (((transfer_law tcg tcg_for_ports locked permitted (lawful locked permitted read_done.0)).served 0 _ _ read_answered no_reset).served fits).0
     (replicate 512 0, refl)
   where
     no_reset : answers.Done (replicate 512 0) ≡ answers.Reset → ⊥
@@ -202,7 +202,7 @@ stopped_answered = record {
 
 stopped_moves : MoveNothing (own_past tcg locked stopped 0)
 stopped_moves =
-    (transfer_law tcg tcg_quiet locked stopped (lawful locked stopped write_stopped.0)).unmoved 0 _ _ stopped_answered
+    (transfer_law tcg tcg_for_ports locked stopped (lawful locked stopped write_stopped.0)).unmoved 0 _ _ stopped_answered
     (λ done. no_bytes done.1.1)
   where
     no_bytes : {bytes : List ℕ} → answers.Reset ≡ answers.Done bytes → ⊥

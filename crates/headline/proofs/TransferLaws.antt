@@ -1,4 +1,5 @@
 -- Answered transfers are served exactly where they are allowed.
+use Rattle.port_history.specs.Laws.{IsForPorts}
 use Rattle.std.proofs.Common.{None, ◌≡◌, ◌∙◌, ◌⊎◌, ℕ, zero, suc, ◌+◌, ◌*◌, Bool, true, false, List, Option, Some, refl, sym, ap, subst, inl, inr, arith}
 use Rattle.port_history.proofs.AnswerProofs.{answer_law}
 use Rattle.port_history.specs.Requests.{no_bytes}
@@ -16,7 +17,6 @@ use Rattle.shadow_mbr.specs.Stored.{sector_size, sectors_from}
 use Rattle.transactions.specs.Bytes.{bytes_from}
 use Rattle.history.specs.Decisions.{on_drive, ranges_in_force}
 use Rattle.history.specs.Items.{Items}
-use Rattle.history.specs.Quiet.{IsQuiet}
 use Rattle.history.specs.Facts.{Facts}
 use Rattle.history.specs.Opening.{Origin}
 use Rattle.history.specs.Readers.{held, failure}
@@ -124,7 +124,7 @@ by_verdict ranges g op lba count =
     }
 
 -- what an answered transfer was answered
-answered_so : (items : Items) (still : IsQuiet items) (o : Origin) (list : List Step) (tag : ℕ) (x : Transfer) (a : Answer)
+answered_so : (items : Items) (still : IsForPorts items) (o : Origin) (list : List Step) (tag : ℕ) (x : Transfer) (a : Answer)
     → AreLawful items o list → IsAnswered items o list tag x a
     → a ≢ answers.Reset
     → a ≡ answer_to (facts_after items o (before_acceptance list tag)) (facts_after items o (before_move list tag)) x
@@ -206,7 +206,7 @@ served_so items o list tag x a is lands = record {
         absurd (not_done (sym (is ∙ ap (λ (b : Bool). answer_at g x.op x.lba x.count b verdict) e) ∙ d))
 
 -- and what it wrote has landed
-landed_so : (items : Items) (still : IsQuiet items) (o : Origin) (list : List Step) (tag : ℕ) (x : Transfer) (a : Answer)
+landed_so : (items : Items) (still : IsForPorts items) (o : Origin) (list : List Step) (tag : ℕ) (x : Transfer) (a : Answer)
     → AreLawful items o list → IsAnswered items o list tag x a
     → x.op ≡ Write → IsDone a
     → HaveData (past_of items o (through_move list tag)) x (payload (trace_of items o list) tag)
@@ -221,7 +221,7 @@ landed_so items still o list tag x a lawful is write done =
     here = landed_by refl refl refl (sym is.stands) (landed items still o list lawful tag)
 
 -- and but for a write that was done nothing moved
-unmoved_so : (items : Items) (still : IsQuiet items) (o : Origin) (list : List Step) (tag : ℕ) (x : Transfer) (a : Answer)
+unmoved_so : (items : Items) (still : IsForPorts items) (o : Origin) (list : List Step) (tag : ℕ) (x : Transfer) (a : Answer)
     → AreLawful items o list → IsAnswered items o list tag x a
     → (IsDoneWrite x a → ⊥) → MoveNothing (own_past items o list tag)
 unmoved_so items still o list tag x a lawful is undone =

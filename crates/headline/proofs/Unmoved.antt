@@ -1,4 +1,5 @@
 -- But for a write that was done, no act of a tag since its Put moves data.
+use Rattle.port_history.specs.Laws.{IsForPorts, read_as}
 use Rattle.std.proofs.Common.{◌≡◌, ◌∙◌, ℕ, ◌<◌, ◌==◌, not, Bool, true, false, List, [], ◌∷◌, if◌then◌else◌, Option, Some, None, refl, sym, ap, subst, inl, inr, eqb-true}
 use Rattle.std.specs.Prelude.{unwrap_or, IfSome, Ok}
 use Rattle.std.proofs.lemmas.Bool.{cases_eq, ne_eqb, ltb-true}
@@ -13,7 +14,6 @@ use Rattle.trusted_cmds.specs.Commands.{fis_of, tag_with}
 use Rattle.history.specs.Decisions.{not_found, fails, on_drive, verdict_on, unqueued_by, completed_by, unqueued_of}
 use Rattle.history.specs.Events.{Nothing, Wrote, Event, or_else, latest}
 use Rattle.history.specs.Items.{Items}
-use Rattle.history.specs.Quiet.{IsQuiet}
 use Rattle.history.specs.Answers.{data_read_of}
 use Rattle.history.specs.Facts.{Facts}
 use Rattle.history.specs.Opening.{Origin}
@@ -28,7 +28,6 @@ use Rattle.port_history.specs.declared.step.Step.TheVariants as steps
 use Rattle.port_history.specs.Refusals.{AreLawful}
 use Rattle.port_history.specs.Stages.{is_queued_command, is_pending, to, recovered, stage_after_reset}
 use Rattle.port_history.specs.Steps.{Effect, Moment, event_before, events, stage, failed, is_tag, payload, put_of, answer, accept_payload, recovered_answer, executed_answer, trace_of}
-use Rattle.port_history.proofs.Fises.{read_as}
 use Rattle.port_history.proofs.Kept.{Kept, accept_moment, complete_moment, accepted_moves, executed_moves}
 use Rattle.port_history.proofs.KeptLaw.{kept, accept_is, accepted_effect, complete_is, completed_effect, fit_accepted, accepted_moves as completion_moves, found, recover_is}
 use Rattle.port_history.proofs.Tests.{none_is, some_is, was_true, none_holds, tests_of, prepared_is, issued_is, accepted_is}
@@ -188,6 +187,8 @@ executed_unmoved items f own content given (commands.Receive protocol com_id blo
 executed_unmoved items f own content given commands.Identify unqueued_is k = tt
 executed_unmoved items f own content given (commands.ReadLog10 dma) unqueued_is k = tt
 executed_unmoved items f own content given commands.Flush unqueued_is k = tt
+executed_unmoved items f own content given commands.SetFeatures unqueued_is k = tt
+executed_unmoved items f own content given (commands.ReadLog page dma) unqueued_is k = tt
 
 -- A completion.
 completed_unmoved : (u : ℕ) (own : List Event) (content bytes : List ℕ) (command : Command)
@@ -204,6 +205,8 @@ completed_unmoved u own content bytes (commands.Receive protocol com_id blocks d
 completed_unmoved u own content bytes commands.Identify queued k = tt
 completed_unmoved u own content bytes (commands.ReadLog10 dma) queued k = tt
 completed_unmoved u own content bytes commands.Flush queued k = tt
+completed_unmoved u own content bytes commands.SetFeatures queued k = tt
+completed_unmoved u own content bytes (commands.ReadLog page dma) queued k = tt
 
 split : (items : Items) (o : Origin) (list : List Step) (u : ℕ) → UnmovedAt items o list u
     → ((t : ℕ) → (u == t) ≡ false → UnmovedAt items o list t) → (t : ℕ) → UnmovedAt items o list t
@@ -223,12 +226,12 @@ own_beside u t rest more apart = ap (λ (b : Bool). if not b then rest else more
 abbrev AtMoment : List Event → List Moment → Moment → ℕ → Type 0
 AtMoment own ms m u = Unmoved (event_before m.effect own) (answer (m ∷ ms) u) (stage (m ∷ ms) u)
 
-accept_self : (items : Items) (o : Origin) (before : List Step) (u : ℕ) (put : Put) → u < 32 → Kept (trace_of items o before)
+accept_self : (items : Items) (still : IsForPorts items) (o : Origin) (before : List Step) (u : ℕ) (put : Put) → u < 32 → Kept (trace_of items o before)
     → failed (trace_of items o before) ≡ None → stage (trace_of items o before) u ≡ Issued put
     → MoveNothing (own_past items o before u)
     → AtMoment (own_past items o before u) (trace_of items o before)
     (accept_moment u put (accepted_effect items o (trace_of items o before) u put)) u
-accept_self items o before u put lu k mended was own_quiet = by_kind (is_queued_command put.command) refl
+accept_self items still o before u put lu k mended was own_quiet = by_kind (is_queued_command put.command) refl
   where
     ms : List Moment
     ms = trace_of items o before
@@ -244,7 +247,7 @@ accept_self items o before u put lu k mended was own_quiet = by_kind (is_queued_
 
     by_kind : (b : Bool) → is_queued_command put.command ≡ b → AtMoment own ms (accept_moment u put e) u
     by_kind true queued =
-        let q = queued_event items o ms u put lu k mended was queued in
+        let q = queued_event items still o ms u put lu k mended was queued in
         unmoved_by {s = Accepted put} refl refl
         (sym (accepted_moves ms u u put was queued) ∙ this_if (u == u) (Accepted put) (stage ms u) (itself u))
         (record {
@@ -252,11 +255,11 @@ accept_self items o before u put lu k mended was own_quiet = by_kind (is_queued_
         })
     by_kind false unqueued_is =
         unmoved_by {s = Answered put}
-        (ap (λ (x : Event). x ∷ own) (unqueued_event items o ms u put lu k mended was unqueued_is))
+        (ap (λ (x : Event). x ∷ own) (unqueued_event items still o ms u put lu k mended was unqueued_is))
         (takes (u == u) _ (answer ms u) (itself u)
         ∙ ap (λ (b : Bool). unwrap_or (if b then None else executed_answer (Some e)) (answer ms u)) unqueued_is
         ∙ ap (λ (y : Option (Option Answer)). unwrap_or y (answer ms u))
-        (executed_now items o ms u put lu k mended was unqueued_is))
+        (executed_now items still o ms u put lu k mended was unqueued_is))
         (sym (executed_moves ms u u put was unqueued_is)
         ∙ this_if (u == u) (Answered put) (stage ms u) (itself u))
         (record {
@@ -274,14 +277,14 @@ waits_accepted : (own : List Event) (a : Option Answer) (s : Stage) (put : Put) 
     → MoveNothing own
 waits_accepted own a s put was k = let h : Unmoved own a (Accepted put) = unmoved_by refl refl (sym was) k in h.it
 
-unmoved_accept : (items : Items) (o : Origin) (before : List Step) (u : ℕ) (put : Put) → u < 32 → Kept (trace_of items o before)
+unmoved_accept : (items : Items) (still : IsForPorts items) (o : Origin) (before : List Step) (u : ℕ) (put : Put) → u < 32 → Kept (trace_of items o before)
     → failed (trace_of items o before) ≡ None → stage (trace_of items o before) u ≡ Issued put
     → ((t : ℕ) → UnmovedAt items o before t) → (t : ℕ) → UnmovedAt items o (steps.Accept u ∷ before) t
-unmoved_accept items o before u put lu k mended was all =
+unmoved_accept items still o before u put lu k mended was all =
     split items o (steps.Accept u ∷ before) u
     (unmoved_by (own_here u (own_past items o before u) _) refl refl
     (subst (λ (m : Moment). AtMoment (own_past items o before u) ms m u) (sym (accept_is items o ms u put was))
-    (accept_self items o before u put lu k mended was
+    (accept_self items still o before u put lu k mended was
     (waits_issued (own_past items o before u) (answer ms u) (stage ms u) put was (all u)))))
     (λ t apart. unmoved_by (own_beside u t (own_past items o before t) _ apart)
     (skips (u == t) _ (answer ms t) apart) (other_if (u == t) _ (stage ms t) apart) (all t))
@@ -338,7 +341,7 @@ answered_apart items o list t put k was =
     ms = trace_of items o list
 
 -- Every lawful list.
-pub unmoved : (items : Items) (still : IsQuiet items) (o : Origin) (list : List Step) → AreLawful items o list → (t : ℕ) → UnmovedAt items o list t
+pub unmoved : (items : Items) (still : IsForPorts items) (o : Origin) (list : List Step) → AreLawful items o list → (t : ℕ) → UnmovedAt items o list t
 unmoved items still o [] h t = record { it = tt }
 unmoved items still o (steps.Put client u request ∷ before) h t =
     unmoved_put (u == t) (put_of _ client request) (unmoved items still o before h.2 t)
@@ -352,7 +355,7 @@ unmoved items still o (steps.Accept u ∷ before) h t =
     let ms = trace_of items o before in
     let x = none_holds (tests_of ms (steps.Accept u)) h.1 in
     let p = issued_is (stage ms u) x.1.1.0 in
-    unmoved_accept items o before u p.0 (ltb-true u 32 h.0) (kept items still o before h.2) (none_is (failed ms) x.1.0) p.1
+    unmoved_accept items still o before u p.0 (ltb-true u 32 h.0) (kept items still o before h.2) (none_is (failed ms) x.1.0) p.1
     (unmoved items still o before h.2) t
 unmoved items still o (steps.Complete u ∷ before) h t =
     let ms = trace_of items o before in
@@ -366,7 +369,7 @@ unmoved items still o (steps.Recover ∷ before) h t =
     let f = some_is (failed ms) (was_true _ x.1.0) in
     let y = found ms f.0 (kept items still o before h.2) f.1 in
     unmoved_by
-    (ap (λ (m : Moment). event_before m.effect (own_past items o before t)) (recover_is items o ms y.found y.failing))
+    (ap (λ (m : Moment). event_before m.effect (own_past items o before t)) (recover_is items still o ms y.found y.failing))
     (ap (λ (z : Option Failure). unwrap_or (if is_tag t (failed ms) then recovered_answer z else None) (answer ms t)) y.failing)
     refl
     (unmoved_recover (is_tag t (failed ms)) y.found _ (own_past items o before t) (answer ms t) (stage ms t)

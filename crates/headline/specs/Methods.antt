@@ -11,7 +11,6 @@ use Rattle.sp_cells.specs.Names.{c_pin_sid}
 use Rattle.audit.specs.declared.reason.Why.{Why}
 use Rattle.compacket.specs.Frames.{Frame, reading as frame_in}
 use Rattle.tcg_tokens.specs.Message.{call}
-use Rattle.tcg_tokens.specs.Reading.{reading as message_in}
 use Rattle.tcg_tokens.specs.Tree.{Trees, list, trees_of}
 use Rattle.trusted_cmds.specs.declared.command.Command.TheVariants.{Send}
 use Rattle.call_shapes.specs.Asks.{uid_of}
@@ -27,7 +26,7 @@ use Rattle.methods.specs.Effects.{sp_of_row}
 use Rattle.sessions.specs.Deeds.{Setting, Sets, Outcome, says, Attempt, SessionDeed, Unchanged, Tried, Changed, Activated, Reverted, Begun}
 use Rattle.methods.specs.Judgement.{Judgement, Standing, asked, does, to_set}
 use Rattle.history.specs.Decisions.{is_session_com_id}
-use Rattle.history.specs.Tcg.{answers, is_manager, tcg}
+use Rattle.history.specs.Tcg.{answers, is_manager, tcg, item_in}
 use Rattle.methods.specs.Calls.{outcome_of}
 use Rattle.history.specs.Facts.{Facts, session_named, standing}
 use Rattle.history.specs.Opening.{Origin}
@@ -59,7 +58,7 @@ pub record IsCallStep (o : Origin) (before : List Step) (step : Step) (session :
   pub no_manager : is_manager frame.session ≡ false
   pub named : session_named (facts_after tcg o before) com_id frame.session ≡ Some session
   pub status : List ℕ
-  pub calls : message_in frame.payload ≡ Ok (call object method args status)
+  pub calls : item_in o.tables.config.profile frame.payload ≡ Ok (call object method args status)
 
 -- The session's authorities, and what it sees.
 abbrev pub standing_at : Origin → List Step → Begun → Standing

@@ -32,7 +32,7 @@ pub record IsHidden (items : Items) (o : Origin) (list : List Step) (sp : Sp)
   pub verdicts : HaveSameVerdicts (facts o (emptied sp (past_of items o list)))
       (facts_after items o list)
   pub elsewhere : (step : Step) (act : Act) → act_of (trace_of items o list) step ≡ Some act
-      → is_for (facts_after items o list) number act ≡ false
+      → is_for items (facts_after items o list) number act ≡ false
       → event_after items o list step
       ≡ Some (event_of items o (emptied sp (past_of items o list)) act)
 

@@ -1,4 +1,4 @@
--- Transfers, over every lawful list of steps and whatever quiet items do: one that the drive answers
+-- Transfers, over every lawful list of steps and whatever items for ports do: one that the drive answers
 -- is served exactly where every range that it touches permits it by the rows in force at its last
 -- acceptance; and one that is no write that was done, as one that a reset stopped, moves nothing.
 use Rattle.std.specs.Prelude.{◌≡◌, ◌≢◌, ◌↔◌, ℕ, ◌+◌, ◌*◌, ◌≤◌, ◌<◌, List, [], take, drop, unwrap_or, Option, Some, None}
@@ -14,7 +14,7 @@ use Rattle.history.specs.Events.{Event, latest}
 use Rattle.history.specs.Facts.{Facts}
 use Rattle.history.specs.Items.{Items}
 use Rattle.history.specs.Opening.{Origin}
-use Rattle.history.specs.Quiet.{IsQuiet}
+use Rattle.port_history.specs.Laws.{IsForPorts}
 use Rattle.history.specs.Readers.{sector, writing}
 use Rattle.history.specs.TransferLaws.{IsPermitted}
 use Rattle.port_history.specs.declared.request.Answer.{Answer}
@@ -111,7 +111,7 @@ pub record AreServed (items : Items) (o : Origin) (list : List Step) : Type 0 wh
 
 abbrev pub TransferLaw : Type 0
 TransferLaw =
-    (items : Items) → IsQuiet items → (o : Origin) (list : List Step) → AreLawful items o list
+    (items : Items) → IsForPorts items → (o : Origin) (list : List Step) → AreLawful items o list
     → AreServed items o list
 
 -- And so what a client takes, where its command is a transfer.
@@ -124,6 +124,6 @@ IsServedAnswer items o list tag a =
 
 abbrev pub TakenLaw : Type 0
 TakenLaw =
-    (items : Items) → IsQuiet items → (o : Origin) (list : List Step) (tag : ℕ)
+    (items : Items) → IsForPorts items → (o : Origin) (list : List Step) (tag : ℕ)
     → AreLawful items o list
     → IsServedAnswer items o list tag (unwrap_or (answer (trace_of items o list) tag) no_bytes)

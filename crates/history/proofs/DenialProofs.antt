@@ -8,7 +8,7 @@ use Rattle.sp_cells.specs.declared.names.Uid.{Uid}
 use Rattle.sp_cells.specs.declared.names.Sp.{Sp}
 use Rattle.locking.specs.declared.range.Op.{Op}
 use Rattle.locking.specs.declared.range.Op.TheVariants.{Read, Write}
-use Rattle.trusted_cmds.specs.Commands.{is_queued, tag_of, sector_size, reading}
+use Rattle.trusted_cmds.specs.Commands.{is_queued, tag_of, sector_size}
 use Rattle.audit.specs.declared.reason.AttemptFailure.{AttemptFailure}
 use Rattle.audit.specs.declared.reason.Why.{Why}
 use Rattle.compacket.specs.declared.error.FrameError.{FrameError}
@@ -18,7 +18,7 @@ use Rattle.tcg_tokens.specs.Message.{Message, call, reply, end_session, begin, e
 use Rattle.tcg_tokens.specs.Reading.{reading as message_in}
 use Rattle.tcg_tokens.specs.Tree.{Tree, Trees}
 use Rattle.trusted_cmds.specs.declared.command.Command.{Command}
-use Rattle.trusted_cmds.specs.declared.command.Command.TheVariants.{ReadQueued, WriteQueued, ReadDma, WriteDma, Send, Receive, Identify, ReadLog10, Flush}
+use Rattle.trusted_cmds.specs.declared.command.Command.TheVariants.{ReadQueued, WriteQueued, ReadDma, WriteDma, Send, Receive, Identify, ReadLog10, Flush, SetFeatures, ReadLog}
 use Rattle.trusted_cmds.specs.declared.command.CommandError.{CommandError}
 use Rattle.locking.specs.declared.ranges.Verdict.{Verdict}
 use Rattle.locking.specs.declared.ranges.Verdict.TheVariants.{Serve, Shadow, Denied}
@@ -42,8 +42,8 @@ use Rattle.call_shapes.specs.declared.ask.Ask.{Ask}
 use Rattle.call_shapes.specs.declared.ask.Ask.TheVariants.{GetCells, GetBytes, SetCells, SetBytes, Authenticate, Activate, Revert, Other}
 use Rattle.history.specs.Events.{Nothing, Wrote, Took, HeldCommand, Event, did, WasReset}
 use Rattle.history.specs.Facts.{Facts, session_named, has_open, standing}
-use Rattle.history.specs.Decisions.{not_found, fails, refuses, aborted, fails_queue, on_drive, verdict_on, queued_by, admitted, unqueued_by, is_trusted, is_session_com_id, discovery_com_id, received, while_failed, is_busy, completed_by, completed, resets}
-use Rattle.history.specs.Tcg.{answers, start_verdict, started_by, started, is_method_of_manager, to_manager, judgement_on, begins_on, ends_on, in_session, is_manager, to_session, framed, sent, send, unqueued, known, commanded, tcg}
+use Rattle.history.specs.Decisions.{not_found, fails, refuses, aborted, fails_queue, on_drive, verdict_on, queued_by, admitted, unqueued_by, is_trusted, is_session_com_id, discovery_com_id, received, while_failed, is_busy, completed_by, completed, resets, is_received}
+use Rattle.history.specs.Tcg.{answers, start_verdict, started_by, started, is_method_of_manager, to_manager, judgement_on, begins_on, ends_on, in_session, is_manager, to_session, framed, sent, send, unqueued, known, commanded, tcg, command_read, item_in}
 use Rattle.methods.specs.Calls.{tried_in, outcome_of}
 use Rattle.history.specs.History.{Act, Accept, Complete, Reset, event_by}
 use Rattle.history.specs.MethodLaws.{IsLookedAt, IsSent, IsCall}
@@ -190,7 +190,7 @@ ended-none sp (suc n) true = refl
 ended-none sp n false = refl
 
 session-is : (f : Facts) (act : Act) (why : Why) (com_id : ℕ) (frame : Frame) → IsSent f act com_id frame → is_manager frame.session ≡ false → (session : Begun) → session_named f com_id frame.session ≡ Some session
-    → (r : Result Message TokenError) → message_in frame.payload ≡ r → (in_session f session r).denied ≡ Some why → IsDenied f act why
+    → (r : Result Message TokenError) → item_in f.config.profile frame.payload ≡ r → (in_session f session r).denied ≡ Some why → IsDenied f act why
 session-is f act why com_id frame sent no_manager session named (Ok (call object method args status)) is h =
     judged-is f act why session object method args (record { com_id = com_id; frame = frame; sent = sent; no_manager = no_manager; named = named; status = status; calls = is }) (judgement_on f session (uid_of object) (uid_of method) args) refl h
 session-is f act why com_id frame sent no_manager session named (Ok (begin n)) is h = absurd (nothing (sym (begun-none session.sp session.number (f.open_on session.sp)) ∙ h))
@@ -248,7 +248,7 @@ framed-is f act why com_id frame sent h = by_manager (is_manager frame.session) 
   where
     by_session : is_manager frame.session ≡ false → (x : Option Begun) → session_named f com_id frame.session ≡ x → (to_session f com_id frame.session frame.payload x).denied ≡ Some why → IsDenied f act why
     by_session no_manager None is g = absurd (nothing g)
-    by_session no_manager (Some session) is g = session-is f act why com_id frame sent no_manager session is (message_in frame.payload) refl g
+    by_session no_manager (Some session) is g = session-is f act why com_id frame sent no_manager session is (item_in f.config.profile frame.payload) refl g
 
     by_manager : (b : Bool) → is_manager frame.session ≡ b → (cond b (answers com_id frame.session (to_manager f com_id (message_in frame.payload))) (to_session f com_id frame.session frame.payload (session_named f com_id frame.session))).denied ≡ Some why → IsDenied f act why
     by_manager true is g = manager-is f act why com_id frame sent is (message_in frame.payload) refl g
@@ -294,6 +294,8 @@ queued-is f act why (Receive p c b d) tag looked free h = absurd (nothing h)
 queued-is f act why Identify tag looked free h = absurd (nothing h)
 queued-is f act why (ReadLog10 d) tag looked free h = absurd (nothing h)
 queued-is f act why Flush tag looked free h = absurd (nothing h)
+queued-is f act why SetFeatures tag looked free h = absurd (nothing h)
+queued-is f act why (ReadLog page dma) tag looked free h = absurd (nothing h)
 
 received-none : (com_id blocks : ℕ) (x : Option (List ℕ)) → (received com_id blocks x).denied ≡ None
 received-none com_id blocks None = refl
@@ -316,12 +318,14 @@ unqueued-is f act why (Send p c b d) looked h = by_reset (resets f.rows (Send p 
     by_reset true g = absurd (nothing g)
     by_reset false g = send-is f act why p c b d looked g
 unqueued-is f act why (Receive p c b d) looked h =
-    absurd (nothing (sym (none-if (is_trusted p b && (is_session_com_id c || c == discovery_com_id)) (received c b (f.waiting c)) refuses (received-none c b (f.waiting c)) refl) ∙ h))
+    absurd (nothing (sym (none-if (is_received f p c b) (received c b (f.waiting c)) refuses (received-none c b (f.waiting c)) refl) ∙ h))
 unqueued-is f act why (ReadQueued l n) looked h = absurd (nothing h)
 unqueued-is f act why (WriteQueued l n) looked h = absurd (nothing h)
 unqueued-is f act why Identify looked h = absurd (nothing h)
 unqueued-is f act why (ReadLog10 d) looked h = absurd (nothing h)
 unqueued-is f act why Flush looked h = absurd (nothing h)
+unqueued-is f act why SetFeatures looked h = absurd (nothing h)
+unqueued-is f act why (ReadLog page dma) looked h = absurd (nothing h)
 
 looked-is : (f : Facts) (act : Act) (why : Why) (command : Command) (tag : Option ℕ) (looked : IsLookedAt f act command tag) → (looked_event tcg f (h2d_at looked.fis) looked.payload command tag).denied ≡ Some why → IsDenied f act why
 looked-is f act why command None looked h = unqueued-is f act why command looked h
@@ -342,22 +346,22 @@ accept-is f fis payload why h = by_kind (slice_index fis 0 == h2d_type) refl h
     c : RegH2d
     c = h2d_at fis
 
-    by_reading : (slice_index fis 0 == h2d_type) ≡ true → c.is_command ≡ true → f.failure ≡ None → (is_busy f && not (is_queued c.command)) ≡ false → (r : Result (Command × Option ℕ) CommandError) → reading c ≡ r → (known f c payload r).denied ≡ Some why → IsDenied f (Accept fis payload) why
+    by_reading : (slice_index fis 0 == h2d_type) ≡ true → c.is_command ≡ true → f.failure ≡ None → (is_busy f && not (is_queued c.command)) ≡ false → (r : Result (Command × Option ℕ) CommandError) → command_read f.config c ≡ r → (known f c payload r).denied ≡ Some why → IsDenied f (Accept fis payload) why
     by_reading kind commands mended unmixed (Err e) is g = absurd (nothing (sym (none-if (is_queued c.command) (fails_queue (Some (tag_of c)) aborted c None) refuses refl refl) ∙ g))
     by_reading kind commands mended unmixed (Ok (command, Some tag)) is g =
         looked-is f (Accept fis payload) why command (Some tag) (record { fis = fis; payload = payload; accepts = refl; kind = eqb-true (slice_index fis 0) h2d_type kind; commands = commands; mended = mended; unmixed = unmixed; reads = is }) g
     by_reading kind commands mended unmixed (Ok (command, None)) is g =
         looked-is f (Accept fis payload) why command None (record { fis = fis; payload = payload; accepts = refl; kind = eqb-true (slice_index fis 0) h2d_type kind; commands = commands; mended = mended; unmixed = unmixed; reads = is }) g
 
-    by_mix : (slice_index fis 0 == h2d_type) ≡ true → c.is_command ≡ true → f.failure ≡ None → (b : Bool) → (is_busy f && not (is_queued c.command)) ≡ b → (cond b (fails_queue None aborted c None) (known f c payload (reading c))).denied ≡ Some why → IsDenied f (Accept fis payload) why
+    by_mix : (slice_index fis 0 == h2d_type) ≡ true → c.is_command ≡ true → f.failure ≡ None → (b : Bool) → (is_busy f && not (is_queued c.command)) ≡ b → (cond b (fails_queue None aborted c None) (known f c payload (command_read f.config c))).denied ≡ Some why → IsDenied f (Accept fis payload) why
     by_mix kind commands mended true is g = absurd (nothing g)
-    by_mix kind commands mended false is g = by_reading kind commands mended is (reading c) refl g
+    by_mix kind commands mended false is g = by_reading kind commands mended is (command_read f.config c) refl g
 
-    by_failure : (slice_index fis 0 == h2d_type) ≡ true → c.is_command ≡ true → (x : _) → f.failure ≡ x → (cond (is_some x) (while_failed (reading c)) (cond (is_busy f && not (is_queued c.command)) (fails_queue None aborted c None) (known f c payload (reading c)))).denied ≡ Some why → IsDenied f (Accept fis payload) why
-    by_failure kind commands (Some x) is g = absurd (nothing (sym (while_failed-none (reading c)) ∙ g))
+    by_failure : (slice_index fis 0 == h2d_type) ≡ true → c.is_command ≡ true → (x : _) → f.failure ≡ x → (cond (is_some x) (while_failed (command_read f.config c)) (cond (is_busy f && not (is_queued c.command)) (fails_queue None aborted c None) (known f c payload (command_read f.config c)))).denied ≡ Some why → IsDenied f (Accept fis payload) why
+    by_failure kind commands (Some x) is g = absurd (nothing (sym (while_failed-none (command_read f.config c)) ∙ g))
     by_failure kind commands None is g = by_mix kind commands is (is_busy f && not (is_queued c.command)) refl g
 
-    by_command : (slice_index fis 0 == h2d_type) ≡ true → (b : Bool) → c.is_command ≡ b → (cond (not b) refuses (cond (is_some f.failure) (while_failed (reading c)) (cond (is_busy f && not (is_queued c.command)) (fails_queue None aborted c None) (known f c payload (reading c))))).denied ≡ Some why → IsDenied f (Accept fis payload) why
+    by_command : (slice_index fis 0 == h2d_type) ≡ true → (b : Bool) → c.is_command ≡ b → (cond (not b) refuses (cond (is_some f.failure) (while_failed (command_read f.config c)) (cond (is_busy f && not (is_queued c.command)) (fails_queue None aborted c None) (known f c payload (command_read f.config c))))).denied ≡ Some why → IsDenied f (Accept fis payload) why
     by_command kind false is g = absurd (nothing g)
     by_command kind true is g = by_failure kind is f.failure refl g
 

@@ -1,4 +1,5 @@
 -- What is held was accepted at an act of the list, and permitted there.
+use Rattle.trusted_cmds.proofs.Spellings.{tag-reads}
 use Rattle.std.proofs.Common.{◌≡◌, ℕ, ◌==◌, ◌*◌, Bool, true, false, ◌&&◌, ◌||◌, not, List, [], ◌∷◌, Option, Some, None, refl, sym, ◌∙◌, ap, cond, eqb-true, ◌%◌, ◌/◌, ◌<◌, arith}
 use Rattle.std.specs.Prelude.{is_some, unwrap_or, slice_index, nat_le, length, Result, Ok, Err}
 use Rattle.fis.specs.Types.{h2d_type}
@@ -9,21 +10,22 @@ use Rattle.locking.specs.declared.range.Op.TheVariants.{Read, Write}
 use Rattle.trusted_cmds.specs.Commands.{is_queued, tag_of, sector_size}
 use Rattle.history.specs.Opening.{Origin}
 use Rattle.trusted_cmds.specs.declared.command.Command.{Command}
-use Rattle.trusted_cmds.specs.declared.command.Command.TheVariants.{ReadQueued, WriteQueued, ReadDma, WriteDma, Send, Receive, Identify, ReadLog10, Flush}
+use Rattle.trusted_cmds.specs.declared.command.Command.TheVariants.{ReadQueued, WriteQueued, ReadDma, WriteDma, Send, Receive, Identify, ReadLog10, Flush, SetFeatures, ReadLog}
 use Rattle.trusted_cmds.specs.declared.command.CommandError.{CommandError}
-use Rattle.trusted_cmds.specs.Commands.{fault_of, read_unless, reading}
+use Rattle.trusted_cmds.specs.Commands.{fault_of, read_unless}
 use Rattle.locking.specs.declared.ranges.Verdict.{Verdict}
 use Rattle.locking.specs.declared.ranges.Verdict.TheVariants.{Serve, Shadow, Denied}
 use Rattle.device_data.specs.declared.log_page.Failure.{Failure}
 use Rattle.history.specs.Events.{HeldCommand, Held, Completed, CompletedWrite, QueueFailed, QueueMended, Deed, Nothing, InSession, OfQueue, Wrote, Took, WasReset, Event, did}
 use Rattle.history.specs.Readers.{holding, held}
 use Rattle.history.specs.Facts.{Facts, facts}
-use Rattle.history.specs.Decisions.{not_found, aborted, fails, refuses, fails_queue, on_drive, ranges_in_force, verdict_on, queued_by, admitted, unqueued_by, is_trusted, is_session_com_id, discovery_com_id, received, while_failed, is_busy, completed_by, completed, resets, unqueued_of, known_of, commanded_of}
+use Rattle.history.specs.Decisions.{not_found, aborted, fails, refuses, fails_queue, on_drive, ranges_in_force, verdict_on, queued_by, admitted, unqueued_by, is_trusted, is_session_com_id, discovery_com_id, received, while_failed, is_busy, completed_by, completed, resets, unqueued_of, known_of, commanded_of, is_received}
 use Rattle.history.specs.Items.{Items}
-use Rattle.history.specs.Quiet.{IsQuiet}
+use Rattle.history.specs.Quiet.{IsQuiet, ReadsTags}
 use Rattle.history.specs.Answers.{is_holding}
 use Rattle.history.specs.History.{Act, Accept, Complete, Reset, event_in, event_of, log_of}
-use Rattle.history.specs.MethodLaws.{IsLookedAt}
+use Rattle.history.specs.Looked.{IsLookedAtBy}
+use Rattle.history.specs.Tcg.{tcg}
 use Rattle.history.specs.DenialLaws.{Moves, read_queued, write_queued}
 use Rattle.history.specs.TransferLaws.{TagLaw, is_denied, WasAccepted, HeldLaw}
 use Rattle.history.proofs.Words.{latest-here, latest-skip}
@@ -81,12 +83,12 @@ unqueued-none items still f payload (WriteDma l n) = none-if (on_drive f l n) (u
 unqueued-none items still f payload (Send p c b d) =
     none-if (resets f.rows (Send p c b d)) (did (WasReset programmatic)) (items.sends f p c b payload) refl
     (quiet-none (items.sends f p c b payload).deed (still f p c b payload))
-unqueued-none items still f payload (Receive p c b d) = none-if (is_trusted p b && (is_session_com_id c || c == discovery_com_id)) (received c b (f.waiting c)) refuses (received-none c b (f.waiting c)) refl
+unqueued-none items still f payload (Receive p c b d) = none-if (is_received f p c b) (received c b (f.waiting c)) refuses (received-none c b (f.waiting c)) refl
 unqueued-none items still f payload _ = refl
 
 -- an act that holds a command
-record HeldBy (f : Facts) (act : Act) (tag : ℕ) (h : HeldCommand) : Type 0 where
-  looked : IsLookedAt f act h.command (Some tag)
+record HeldBy (items : Items) (f : Facts) (act : Act) (tag : ℕ) (h : HeldCommand) : Type 0 where
+  looked : IsLookedAtBy items f act h.command (Some tag)
   op : Op
   lba : ℕ
   count : ℕ
@@ -95,62 +97,64 @@ record HeldBy (f : Facts) (act : Act) (tag : ℕ) (h : HeldCommand) : Type 0 whe
   verdict : verdict_on f op lba count ≡ h.verdict
   served : is_denied h.verdict ≡ false
 
-held-as : (f : Facts) (act : Act) (t tag : ℕ) (x h : HeldCommand) → OfQueue (Held t x) ≡ OfQueue (Held tag h) → HeldBy f act t x → HeldBy f act tag h
-held-as f act t tag x h same w = let is_tag : t ≡ tag = cc in let is_held : x ≡ h = cc in rw (← is_tag, ← is_held) w
+held-as : (items : Items) (f : Facts) (act : Act) (t tag : ℕ) (x h : HeldCommand) → OfQueue (Held t x) ≡ OfQueue (Held tag h) → HeldBy items f act t x → HeldBy items f act tag h
+held-as items f act t tag x h same w = let is_tag : t ≡ tag = cc in let is_held : x ≡ h = cc in rw (← is_tag, ← is_held) w
 
 not-held : {d : Deed} {tag : ℕ} {h : HeldCommand} → is_holding d ≡ false → d ≡ OfQueue (Held tag h) → ⊥
 not-held g is = clash (ap is_holding is) g
 
-moved-is : (f : Facts) (act : Act) (tag t : ℕ) (h : HeldCommand) (c : Command) (op : Op) (lba count : ℕ) (r : RegH2d) → IsLookedAt f act c (Some t) → Moves c (Some t) op lba count → (b : Bool) (v : Verdict) → on_drive f lba count ≡ b → verdict_on f op lba count ≡ v
-    → (cond b (queued_by r t c v) (fails_queue (Some t) not_found r None)).deed ≡ OfQueue (Held tag h) → HeldBy f act tag h
-moved-is f act tag t h c op lba count r looked moves false v drive is g = absurd (not-held refl g)
-moved-is f act tag t h c op lba count r looked moves true (Denied why) drive is g = absurd (not-held refl g)
-moved-is f act tag t h c op lba count r looked moves true Serve drive is g =
-    held-as f act t tag (record { command = c; verdict = Serve }) h g (record { looked = looked; op = op; lba = lba; count = count; moves = moves; on_drive = drive; verdict = is; served = refl })
-moved-is f act tag t h c op lba count r looked moves true Shadow drive is g =
-    held-as f act t tag (record { command = c; verdict = Shadow }) h g (record { looked = looked; op = op; lba = lba; count = count; moves = moves; on_drive = drive; verdict = is; served = refl })
+moved-is : (items : Items) (f : Facts) (act : Act) (tag t : ℕ) (h : HeldCommand) (c : Command) (op : Op) (lba count : ℕ) (r : RegH2d) → IsLookedAtBy items f act c (Some t) → Moves c (Some t) op lba count → (b : Bool) (v : Verdict) → on_drive f lba count ≡ b → verdict_on f op lba count ≡ v
+    → (cond b (queued_by r t c v) (fails_queue (Some t) not_found r None)).deed ≡ OfQueue (Held tag h) → HeldBy items f act tag h
+moved-is items f act tag t h c op lba count r looked moves false v drive is g = absurd (not-held refl g)
+moved-is items f act tag t h c op lba count r looked moves true (Denied why) drive is g = absurd (not-held refl g)
+moved-is items f act tag t h c op lba count r looked moves true Serve drive is g =
+    held-as items f act t tag (record { command = c; verdict = Serve }) h g (record { looked = looked; op = op; lba = lba; count = count; moves = moves; on_drive = drive; verdict = is; served = refl })
+moved-is items f act tag t h c op lba count r looked moves true Shadow drive is g =
+    held-as items f act t tag (record { command = c; verdict = Shadow }) h g (record { looked = looked; op = op; lba = lba; count = count; moves = moves; on_drive = drive; verdict = is; served = refl })
 
-admitted-is : (f : Facts) (act : Act) (tag t : ℕ) (h : HeldCommand) (c : Command) (looked : IsLookedAt f act c (Some t)) → (b : Bool) → (admitted f (h2d_at looked.fis) t c b).deed ≡ OfQueue (Held tag h) → HeldBy f act tag h
-admitted-is f act tag t h c looked true g = absurd (not-held refl g)
-admitted-is f act tag t h (ReadQueued l n) looked false g = moved-is f act tag t h (ReadQueued l n) Read l n (h2d_at looked.fis) looked read_queued (on_drive f l n) (verdict_on f Read l n) refl refl g
-admitted-is f act tag t h (WriteQueued l n) looked false g = moved-is f act tag t h (WriteQueued l n) Write l n (h2d_at looked.fis) looked write_queued (on_drive f l n) (verdict_on f Write l n) refl refl g
-admitted-is f act tag t h (ReadDma l n) looked false g = absurd (not-held refl g)
-admitted-is f act tag t h (WriteDma l n) looked false g = absurd (not-held refl g)
-admitted-is f act tag t h (Send p c b d) looked false g = absurd (not-held refl g)
-admitted-is f act tag t h (Receive p c b d) looked false g = absurd (not-held refl g)
-admitted-is f act tag t h Identify looked false g = absurd (not-held refl g)
-admitted-is f act tag t h (ReadLog10 d) looked false g = absurd (not-held refl g)
-admitted-is f act tag t h Flush looked false g = absurd (not-held refl g)
+admitted-is : (items : Items) (f : Facts) (act : Act) (tag t : ℕ) (h : HeldCommand) (c : Command) (looked : IsLookedAtBy items f act c (Some t)) → (b : Bool) → (admitted f (h2d_at looked.fis) t c b).deed ≡ OfQueue (Held tag h) → HeldBy items f act tag h
+admitted-is items f act tag t h c looked true g = absurd (not-held refl g)
+admitted-is items f act tag t h (ReadQueued l n) looked false g = moved-is items f act tag t h (ReadQueued l n) Read l n (h2d_at looked.fis) looked read_queued (on_drive f l n) (verdict_on f Read l n) refl refl g
+admitted-is items f act tag t h (WriteQueued l n) looked false g = moved-is items f act tag t h (WriteQueued l n) Write l n (h2d_at looked.fis) looked write_queued (on_drive f l n) (verdict_on f Write l n) refl refl g
+admitted-is items f act tag t h (ReadDma l n) looked false g = absurd (not-held refl g)
+admitted-is items f act tag t h (WriteDma l n) looked false g = absurd (not-held refl g)
+admitted-is items f act tag t h (Send p c b d) looked false g = absurd (not-held refl g)
+admitted-is items f act tag t h (Receive p c b d) looked false g = absurd (not-held refl g)
+admitted-is items f act tag t h Identify looked false g = absurd (not-held refl g)
+admitted-is items f act tag t h (ReadLog10 d) looked false g = absurd (not-held refl g)
+admitted-is items f act tag t h Flush looked false g = absurd (not-held refl g)
+admitted-is items f act tag t h SetFeatures looked false g = absurd (not-held refl g)
+admitted-is items f act tag t h (ReadLog page dma) looked false g = absurd (not-held refl g)
 
 while_failed-none : (r : Result (Command × Option ℕ) CommandError) → is_holding (while_failed r).deed ≡ false
 while_failed-none (Ok (ReadLog10 dma, tag)) = refl
 while_failed-none _ = refl
 
-accept-is : (items : Items) (still : IsQuiet items) (f : Facts) (fis payload : List ℕ) (tag : ℕ) (h : HeldCommand) → (event_in items f (Accept fis payload)).deed ≡ OfQueue (Held tag h) → HeldBy f (Accept fis payload) tag h
+accept-is : (items : Items) (still : IsQuiet items) (f : Facts) (fis payload : List ℕ) (tag : ℕ) (h : HeldCommand) → (event_in items f (Accept fis payload)).deed ≡ OfQueue (Held tag h) → HeldBy items f (Accept fis payload) tag h
 accept-is items still f fis payload tag h g = by_kind (slice_index fis 0 == h2d_type) refl g
   where
     c : RegH2d
     c = h2d_at fis
 
-    by_reading : (slice_index fis 0 == h2d_type) ≡ true → c.is_command ≡ true → f.failure ≡ None → (is_busy f && not (is_queued c.command)) ≡ false → (r : Result (Command × Option ℕ) CommandError) → reading c ≡ r → (known_of items f c payload r).deed ≡ OfQueue (Held tag h) → HeldBy f (Accept fis payload) tag h
+    by_reading : (slice_index fis 0 == h2d_type) ≡ true → c.is_command ≡ true → f.failure ≡ None → (is_busy f && not (is_queued c.command)) ≡ false → (r : Result (Command × Option ℕ) CommandError) → items.reads f.config c ≡ r → (known_of items f c payload r).deed ≡ OfQueue (Held tag h) → HeldBy items f (Accept fis payload) tag h
     by_reading kind commands mended unmixed (Err e) is k = absurd (not-held (none-if (is_queued c.command) (fails_queue (Some (tag_of c)) aborted c None) refuses refl refl) k)
     by_reading kind commands mended unmixed (Ok (command, None)) is k = absurd (not-held (unqueued-none items still f payload command) k)
     by_reading kind commands mended unmixed (Ok (command, Some t)) is k =
-        admitted-is f (Accept fis payload) tag t h command (record { fis = fis; payload = payload; accepts = refl; kind = eqb-true (slice_index fis 0) h2d_type kind; commands = commands; mended = mended; unmixed = unmixed; reads = is }) (is_some (f.held t)) k
+        admitted-is items f (Accept fis payload) tag t h command (record { fis = fis; payload = payload; accepts = refl; kind = eqb-true (slice_index fis 0) h2d_type kind; commands = commands; mended = mended; unmixed = unmixed; reads = is }) (is_some (f.held t)) k
 
-    by_mix : (slice_index fis 0 == h2d_type) ≡ true → c.is_command ≡ true → f.failure ≡ None → (b : Bool) → (is_busy f && not (is_queued c.command)) ≡ b → (cond b (fails_queue None aborted c None) (known_of items f c payload (reading c))).deed ≡ OfQueue (Held tag h) → HeldBy f (Accept fis payload) tag h
+    by_mix : (slice_index fis 0 == h2d_type) ≡ true → c.is_command ≡ true → f.failure ≡ None → (b : Bool) → (is_busy f && not (is_queued c.command)) ≡ b → (cond b (fails_queue None aborted c None) (known_of items f c payload (items.reads f.config c))).deed ≡ OfQueue (Held tag h) → HeldBy items f (Accept fis payload) tag h
     by_mix kind commands mended true is k = absurd (not-held refl k)
-    by_mix kind commands mended false is k = by_reading kind commands mended is (reading c) refl k
+    by_mix kind commands mended false is k = by_reading kind commands mended is (items.reads f.config c) refl k
 
-    by_failure : (slice_index fis 0 == h2d_type) ≡ true → c.is_command ≡ true → (x : Option Failure) → f.failure ≡ x → (cond (is_some x) (while_failed (reading c)) (cond (is_busy f && not (is_queued c.command)) (fails_queue None aborted c None) (known_of items f c payload (reading c)))).deed ≡ OfQueue (Held tag h) → HeldBy f (Accept fis payload) tag h
-    by_failure kind commands (Some x) is k = absurd (not-held (while_failed-none (reading c)) k)
+    by_failure : (slice_index fis 0 == h2d_type) ≡ true → c.is_command ≡ true → (x : Option Failure) → f.failure ≡ x → (cond (is_some x) (while_failed (items.reads f.config c)) (cond (is_busy f && not (is_queued c.command)) (fails_queue None aborted c None) (known_of items f c payload (items.reads f.config c)))).deed ≡ OfQueue (Held tag h) → HeldBy items f (Accept fis payload) tag h
+    by_failure kind commands (Some x) is k = absurd (not-held (while_failed-none (items.reads f.config c)) k)
     by_failure kind commands None is k = by_mix kind commands is (is_busy f && not (is_queued c.command)) refl k
 
-    by_command : (slice_index fis 0 == h2d_type) ≡ true → (b : Bool) → c.is_command ≡ b → (cond (not b) refuses (cond (is_some f.failure) (while_failed (reading c)) (cond (is_busy f && not (is_queued c.command)) (fails_queue None aborted c None) (known_of items f c payload (reading c))))).deed ≡ OfQueue (Held tag h) → HeldBy f (Accept fis payload) tag h
+    by_command : (slice_index fis 0 == h2d_type) ≡ true → (b : Bool) → c.is_command ≡ b → (cond (not b) refuses (cond (is_some f.failure) (while_failed (items.reads f.config c)) (cond (is_busy f && not (is_queued c.command)) (fails_queue None aborted c None) (known_of items f c payload (items.reads f.config c))))).deed ≡ OfQueue (Held tag h) → HeldBy items f (Accept fis payload) tag h
     by_command kind false is k = absurd (not-held refl k)
     by_command kind true is k = by_failure kind is f.failure refl k
 
-    by_kind : (b : Bool) → (slice_index fis 0 == h2d_type) ≡ b → (cond b (commanded_of items f c payload) refuses).deed ≡ OfQueue (Held tag h) → HeldBy f (Accept fis payload) tag h
+    by_kind : (b : Bool) → (slice_index fis 0 == h2d_type) ≡ b → (cond b (commanded_of items f c payload) refuses).deed ≡ OfQueue (Held tag h) → HeldBy items f (Accept fis payload) tag h
     by_kind false is k = absurd (not-held refl k)
     by_kind true is k = by_command is c.is_command refl k
 
@@ -236,5 +240,8 @@ read-tag h c tag None g = by_code (is_queued h.command) (ok-tag g)
     by_code true k = tag-below (h.count / 8) tag (same-tag k)
     by_code false k = cc
 
+pub tcg_tags : ReadsTags tcg
+tcg_tags config h command tag is = read-tag h command tag (fault_of h) (tag-reads config.profile h command tag is)
+
 pub tag_law : TagLaw
-tag_law items still o acts tag h g = let w = held_law items still o acts tag h g in read-tag (h2d_at w.looked.fis) h.command tag (fault_of (h2d_at w.looked.fis)) w.looked.reads
+tag_law items still reads o acts tag h g = let w = held_law items still o acts tag h g in reads (facts o (log_of items o w.before)).config (h2d_at w.looked.fis) h.command tag w.looked.reads

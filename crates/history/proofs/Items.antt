@@ -8,7 +8,7 @@ use Rattle.sp_cells.specs.declared.names.Sp.{Sp}
 use Rattle.sp_cells.specs.declared.names.Sp.TheVariants.{Admin, Locking}
 use Rattle.locking.specs.declared.range.Op.{Op}
 use Rattle.locking.specs.declared.range.Op.TheVariants.{Read, Write}
-use Rattle.trusted_cmds.specs.Commands.{is_queued, tag_of, sector_size, reading}
+use Rattle.trusted_cmds.specs.Commands.{is_queued, tag_of, sector_size}
 use Rattle.compacket.specs.declared.session.Session.{Session}
 use Rattle.compacket.specs.declared.error.FrameError.{FrameError}
 use Rattle.compacket.specs.Frames.{Frame, reading as frame_in}
@@ -23,8 +23,8 @@ use Rattle.locking.specs.declared.ranges.Verdict.TheVariants.{Serve, Shadow, Den
 use Rattle.sessions.specs.Deeds.{Begun, SessionDeed}
 use Rattle.history.specs.Events.{Response, HeldCommand, Deed, Nothing, InSession, Wrote, Event, or_else, WasReset, did}
 use Rattle.history.specs.Facts.{Facts, is_named, if_named, session_named}
-use Rattle.history.specs.Decisions.{aborted, not_found, fails, refuses, fails_queue, on_drive, verdict_on, queued_by, queued_transfer, admitted, unqueued_by, unqueued_transfer, is_trusted, is_session_com_id, discovery_com_id, received, while_failed, is_busy, completed_by, completed, resets}
-use Rattle.history.specs.Tcg.{answers, to_manager, in_session, is_manager, to_session, framed, sent, unqueued, known, commanded}
+use Rattle.history.specs.Decisions.{aborted, not_found, fails, refuses, fails_queue, on_drive, verdict_on, queued_by, queued_transfer, admitted, unqueued_by, unqueued_transfer, is_trusted, is_session_com_id, discovery_com_id, received, while_failed, is_busy, completed_by, completed, resets, is_received}
+use Rattle.history.specs.Tcg.{answers, to_manager, in_session, is_manager, to_session, framed, sent, unqueued, known, commanded, command_read, item_in}
 use Rattle.history.specs.History.{Act, Accept, Complete, Reset, event_by}
 use Rattle.sp_cells.specs.Resets.{programmatic}
 
@@ -87,7 +87,7 @@ named-lives f com_id named s h = elim (first-or (if_named com_id named (f.sessio
 
 to_session-comes : (f : Facts) (com_id : ℕ) (named : Session) (payload : List ℕ) (s : Option Begun) → session_named f com_id named ≡ s → Comes f (to_session f com_id named payload s)
 to_session-comes f com_id named payload None h = no_item refl
-to_session-comes f com_id named payload (Some s) h = let x = named-lives f com_id named s h in of_session f com_id named x.0 s (message_in payload) x.1
+to_session-comes f com_id named payload (Some s) h = let x = named-lives f com_id named s h in of_session f com_id named x.0 s (item_in f.config.profile payload) x.1
 
 framed-comes : (f : Facts) (com_id : ℕ) (frame : Frame) → Comes f (framed f com_id frame)
 framed-comes f com_id frame = either f (is_manager frame.session) _ _ (of_manager f com_id frame.session (message_in frame.payload)) (to_session-comes f com_id frame.session frame.payload (session_named f com_id frame.session) refl)
@@ -114,7 +114,7 @@ unqueued-comes f payload (WriteDma lba count) = transfer-comes f (Wrote lba payl
 unqueued-comes f payload (Send protocol com_id blocks dma) =
     either f (resets f.rows (Send protocol com_id blocks dma)) (did (WasReset programmatic)) _ (no_item refl)
     (either f (is_trusted protocol blocks && is_session_com_id com_id && not (is_some (f.waiting com_id))) _ refuses (sent-comes f com_id (frame_in payload)) (no_item refl))
-unqueued-comes f payload (Receive protocol com_id blocks dma) = either f (is_trusted protocol blocks && (is_session_com_id com_id || com_id == discovery_com_id)) _ refuses (received-comes f com_id blocks (f.waiting com_id)) (no_item refl)
+unqueued-comes f payload (Receive protocol com_id blocks dma) = either f (is_received f protocol com_id blocks) _ refuses (received-comes f com_id blocks (f.waiting com_id)) (no_item refl)
 unqueued-comes f payload _ = no_item refl
 
 queued_by-comes : (f : Facts) (h : RegH2d) (tag : ℕ) (c : Command) (v : Verdict) → Comes f (queued_by h tag c v)
@@ -143,8 +143,8 @@ while_failed-comes f _ = no_item refl
 commanded-comes : (f : Facts) (h : RegH2d) (payload : List ℕ) → Comes f (commanded f h payload)
 commanded-comes f h payload =
     either f (not h.is_command) refuses _ (no_item refl)
-    (either f (is_some f.failure) (while_failed (reading h)) _ (while_failed-comes f (reading h))
-    (either f (is_busy f && not (is_queued h.command)) (fails_queue None aborted h None) (known f h payload (reading h)) (no_item refl) (known-comes f h payload (reading h))))
+    (either f (is_some f.failure) (while_failed (command_read f.config h)) _ (while_failed-comes f (command_read f.config h))
+    (either f (is_busy f && not (is_queued h.command)) (fails_queue None aborted h None) (known f h payload (command_read f.config h)) (no_item refl) (known-comes f h payload (command_read f.config h))))
 
 completed_by-comes : (f : Facts) (tag : ℕ) (payload : List ℕ) (c : Command) → Comes f (completed_by tag payload c)
 completed_by-comes f tag payload (WriteQueued lba count) = no_item refl

@@ -18,7 +18,7 @@ use Rattle.sessions.specs.Attempts.{attempt_failure as failure_of}
 use Rattle.call_shapes.specs.Asks.{uid_of}
 use Rattle.sessions.specs.Deeds.{Begun}
 use Rattle.sp_cells.specs.declared.names.Sp.{Sp}
-use Rattle.trusted_cmds.specs.Commands.{is_queued, reading}
+use Rattle.trusted_cmds.specs.Commands.{is_queued}
 use Rattle.compacket.specs.Frames.{Frame, reading as frame_in}
 use Rattle.tcg_tokens.specs.Reading.{reading as message_in}
 use Rattle.tcg_tokens.specs.Tree.{Tree}
@@ -38,7 +38,8 @@ use Rattle.history.specs.Decisions.{admitted, fails_queue, refuses, aborted, whi
 use Rattle.history.specs.Tcg.{answers, to_manager, to_session, in_session, framed, sent, send, tcg}
 use Rattle.methods.specs.Calls.{outcome_of, tried_in}
 use Rattle.history.specs.History.{Act, event_by, event_in}
-use Rattle.history.specs.MethodLaws.{ActEffectLaw, IsLookedAt, IsSent, CallLaw}
+use Rattle.history.specs.MethodLaws.{ActEffectLaw, IsSent, CallLaw}
+use Rattle.history.specs.Looked.{IsLookedAtBy}
 use Rattle.sp_cells.specs.Resets.{programmatic}
 
 none-some : {A : Type 0} {x : A} → None ≡ Some x → ⊥
@@ -87,14 +88,14 @@ known-looked : (items : Items) (f : Facts) (h : RegH2d) (payload : List ℕ) (co
 known-looked items f h payload command (Some tag) = refl
 known-looked items f h payload command None = refl
 
-pub looked_law : (items : Items) (f : Facts) (act : Act) (command : Command) (tag : Option ℕ) (c : IsLookedAt f act command tag) → event_in items f act ≡ looked_event items f (h2d_at c.fis) c.payload command tag
+pub looked_law : (items : Items) (f : Facts) (act : Act) (command : Command) (tag : Option ℕ) (c : IsLookedAtBy items f act command tag) → event_in items f act ≡ looked_event items f (h2d_at c.fis) c.payload command tag
 looked_law items f act command tag c =
     let h = h2d_at c.fis in
     ap (event_in items f) c.accepts
     ∙ ap (λ b. cond b (commanded_of items f h c.payload) refuses) (eq-eqb (slice_index c.fis 0) 0x27 c.kind)
-    ∙ ap (λ b. cond (not b) refuses (cond (is_some f.failure) (while_failed (reading h)) (cond (is_busy f && not (is_queued h.command)) (fails_queue None aborted h None) (known_of items f h c.payload (reading h))))) c.commands
-    ∙ ap (λ x. cond (is_some x) (while_failed (reading h)) (cond (is_busy f && not (is_queued h.command)) (fails_queue None aborted h None) (known_of items f h c.payload (reading h)))) c.mended
-    ∙ ap (λ b. cond b (fails_queue None aborted h None) (known_of items f h c.payload (reading h))) c.unmixed
+    ∙ ap (λ b. cond (not b) refuses (cond (is_some f.failure) (while_failed (items.reads f.config h)) (cond (is_busy f && not (is_queued h.command)) (fails_queue None aborted h None) (known_of items f h c.payload (items.reads f.config h))))) c.commands
+    ∙ ap (λ x. cond (is_some x) (while_failed (items.reads f.config h)) (cond (is_busy f && not (is_queued h.command)) (fails_queue None aborted h None) (known_of items f h c.payload (items.reads f.config h)))) c.mended
+    ∙ ap (λ b. cond b (fails_queue None aborted h None) (known_of items f h c.payload (items.reads f.config h))) c.unmixed
     ∙ ap (known_of items f h c.payload) c.reads
     ∙ known-looked items f h c.payload command tag
 

@@ -186,8 +186,7 @@ rows-same o h sp object column = by_tries (is_tries object column) refl
 pub fresh_law : FreshLaw
 fresh_law o h = record {
   store = record {
-    sectors = refl;
-    mbr_sectors = refl;
+    config = refl;
     rows = rows-same o h;
     bytes = λ place. refl;
     views = λ number sp object column. rows-same o h sp object column;

@@ -6,7 +6,7 @@ use Rattle.fis.specs.H2d.{h2d_at}
 use Rattle.fis.specs.declared.h2d.RegH2d.{RegH2d}
 use Rattle.locking.specs.declared.range.Op.{Op}
 use Rattle.locking.specs.declared.range.Op.TheVariants.{Read, Write}
-use Rattle.trusted_cmds.specs.Commands.{is_queued, tag_of, sector_size, reading}
+use Rattle.trusted_cmds.specs.Commands.{is_queued, tag_of, sector_size}
 use Rattle.compacket.specs.declared.session.Session.{Session}
 use Rattle.compacket.specs.declared.error.FrameError.{FrameError}
 use Rattle.compacket.specs.Frames.{Frame, reading as frame_in}
@@ -19,8 +19,8 @@ use Rattle.locking.specs.declared.ranges.Verdict.TheVariants.{Serve, Shadow, Den
 use Rattle.sessions.specs.Deeds.{Begun}
 use Rattle.history.specs.Events.{did, HeldCommand, Deed, Nothing, InSession, Wrote, Event, or_else, OfQueue, Took, WasReset, latest}
 use Rattle.history.specs.Facts.{Facts, facts, session_named}
-use Rattle.history.specs.Decisions.{aborted, not_found, fails, refuses, fails_queue, on_drive, verdict_on, queued_by, queued_transfer, admitted, unqueued_by, unqueued_transfer, is_trusted, is_session_com_id, discovery_com_id, received, while_failed, is_busy, completed_by, completed, resets}
-use Rattle.history.specs.Tcg.{answers, to_manager, is_manager, to_session, framed, sent, unqueued, known, commanded}
+use Rattle.history.specs.Decisions.{aborted, not_found, fails, refuses, fails_queue, on_drive, verdict_on, queued_by, queued_transfer, admitted, unqueued_by, unqueued_transfer, is_trusted, is_session_com_id, discovery_com_id, received, while_failed, is_busy, completed_by, completed, resets, is_received}
+use Rattle.history.specs.Tcg.{answers, to_manager, is_manager, to_session, framed, sent, unqueued, known, commanded, command_read}
 use Rattle.history.specs.History.{Act, Accept, Complete, Reset, event_by, event, log}
 use Rattle.history.specs.Readers.{waits, waiting}
 use Rattle.history.specs.Bounds.{ResponseLaw}
@@ -70,7 +70,7 @@ unqueued-on f payload (Send protocol com_id blocks dma) =
     either (resets f.rows (Send protocol com_id blocks dma)) (did (WasReset programmatic)) _ (λ is. refl)
     (either (is_trusted protocol blocks && is_session_com_id com_id && not (is_some (f.waiting com_id))) _ refuses
     (λ is. sent-on f com_id (frame_in payload) (middle (is_trusted protocol blocks) (is_session_com_id com_id) (not (is_some (f.waiting com_id))) is)) refl)
-unqueued-on f payload (Receive protocol com_id blocks dma) = either (is_trusted protocol blocks && (is_session_com_id com_id || com_id == discovery_com_id)) _ refuses (λ is. received-on com_id blocks (f.waiting com_id)) refl
+unqueued-on f payload (Receive protocol com_id blocks dma) = either (is_received f protocol com_id blocks) _ refuses (λ is. received-on com_id blocks (f.waiting com_id)) refl
 unqueued-on f payload _ = refl
 
 queued_by-on : (h : RegH2d) (tag : ℕ) (c : Command) (v : Verdict) → on_session (queued_by h tag c v).deed ≡ true
@@ -99,8 +99,8 @@ while_failed-on _ = refl
 commanded-on : (f : Facts) (h : RegH2d) (payload : List ℕ) → on_session (commanded f h payload).deed ≡ true
 commanded-on f h payload =
     either (not h.is_command) refuses _ (λ is. refl)
-    (either (is_some f.failure) (while_failed (reading h)) _ (λ is. while_failed-on (reading h))
-    (either (is_busy f && not (is_queued h.command)) (fails_queue None aborted h None) (known f h payload (reading h)) (λ is. refl) (known-on f h payload (reading h))))
+    (either (is_some f.failure) (while_failed (command_read f.config h)) _ (λ is. while_failed-on (command_read f.config h))
+    (either (is_busy f && not (is_queued h.command)) (fails_queue None aborted h None) (known f h payload (command_read f.config h)) (λ is. refl) (known-on f h payload (command_read f.config h))))
 
 completed_by-on : (tag : ℕ) (payload : List ℕ) (c : Command) → on_session (completed_by tag payload c).deed ≡ true
 completed_by-on tag payload (WriteQueued lba count) = refl

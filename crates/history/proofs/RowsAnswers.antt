@@ -18,7 +18,8 @@ use Rattle.methods.specs.Settings.{cells_for}
 use Rattle.history.specs.Readers.{held}
 use Rattle.history.specs.Facts.{facts}
 use Rattle.history.specs.Decisions.{any_below}
-use Rattle.history.specs.Answers.{accepted_fises, completed_fises, completed_data, expected}
+use Rattle.history.specs.Tcg.{accepted_fises}
+use Rattle.history.specs.Answers.{completed_fises, completed_data, expected}
 use Rattle.history.specs.History.{Act, Accept, event, log}
 use Rattle.history.proofs.Scripts.{new_drive, fis}
 
@@ -33,7 +34,7 @@ pio to_host ended =
 
 -- The answer to one FIS on a new drive.
 abbrev answer : List ℕ → List ℕ → List Fis
-answer f payload = accepted_fises f (event new_drive [] (Accept f payload))
+answer f payload = accepted_fises (facts new_drive []) f (event new_drive [] (Accept f payload))
 
 -- A queued transfer that is held; one that fails; a transfer that is served whole.
 held_answer : answer (fis 0x60 1 5 40) [] ≡ register false 0x50 0 ∷ []

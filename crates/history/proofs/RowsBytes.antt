@@ -23,7 +23,7 @@ use Rattle.sessions.specs.Properties.{properties_message}
 use Rattle.history.specs.Readers.{waiting}
 use Rattle.history.specs.Facts.{facts}
 use Rattle.history.specs.Decisions.{any_below}
-use Rattle.device_data.specs.Identity.{identity}
+use Rattle.device_data.specs.Identity.{identity_of}
 use Rattle.device_data.specs.ErrorLog.{sized, error_log}
 use Rattle.history.specs.Tcg.{accepted_data}
 use Rattle.device_data.specs.Discovery.{locking_flags, any_range_below}
@@ -39,7 +39,7 @@ discovery_bytes : accepted_data (facts new_drive []) (fis 0x5d 1 0x100 1) (event
 unfolding any_range_below admin_sps admin_authorities locking_authorities admin_pins locking_pins locking_ranges locking_mbr_controls admin_aces authority_aces pin_aces range_aces mbr_aces this_sp_grants admin_grants authority_grants fixed_ace_gets user_ace_grants read_locked_ace_grants write_locked_ace_grants done_ace_grants pin_grants range_grants mbr_grants first_lexeme expect number_at uid_at values_up_to list_with list_value_with named_with value_after_token list_at status_at call_at reply_at message_at message_in number_spelling bytes_spelling any_below ranges_in verdict_of is_range listed_among cells_for zeros sectors_from authorities_of_locking any_to
 discovery_bytes = refl
 
-identity_bytes : identity (facts new_drive []).sectors ≡ replicate 96 0 ++ 0x01 ∷ 0x40 ∷ replicate 52 0 ++ 0x1f ∷ 0 ∷ 0 ∷ 0x01 ∷ replicate 12 0 ++ 0 ∷ 0x64 ∷ replicate 32 0 ++ 0xe8 ∷ 0x03 ∷ replicate 310 0
+identity_bytes : identity_of (facts new_drive []).config ≡ replicate 96 0 ++ 0x01 ∷ 0x40 ∷ replicate 52 0 ++ 0x1f ∷ 0 ∷ 0 ∷ 0x01 ∷ replicate 12 0 ++ 0 ∷ 0x64 ∷ replicate 32 0 ++ 0xe8 ∷ 0x03 ∷ replicate 310 0
 unfolding any_range_below admin_sps admin_authorities locking_authorities admin_pins locking_pins locking_ranges locking_mbr_controls admin_aces authority_aces pin_aces range_aces mbr_aces this_sp_grants admin_grants authority_grants fixed_ace_gets user_ace_grants read_locked_ace_grants write_locked_ace_grants done_ace_grants pin_grants range_grants mbr_grants first_lexeme expect number_at uid_at values_up_to list_with list_value_with named_with value_after_token list_at status_at call_at reply_at message_at message_in number_spelling bytes_spelling any_below ranges_in verdict_of is_range listed_among cells_for zeros sectors_from authorities_of_locking any_to
 identity_bytes = refl
 

@@ -1,4 +1,5 @@
 -- Items on both sides of what the laws ask of them, beside those of this drive.
+use Rattle.trusted_cmds.specs.Commands.{reading}
 use Rattle.std.proofs.Common.{◌≡◌, ℕ, ◌==◌, Bool, true, false, [], if◌then◌else◌, refl, ap}
 use Rattle.history.specs.Decisions.{refuses}
 use Rattle.history.specs.Events.{Event, did, Nothing, OfQueue, QueueMended}
@@ -13,7 +14,7 @@ false_true h = cc
 
 -- Items that refuse each send: quiet, and they see no view.
 abbrev refusing : Items
-refusing = record { sends = λ f protocol com_id blocks payload. refuses; gives = λ f command. [] }
+refusing = record { reads = λ config h. reading h; sends = λ f protocol com_id blocks payload. refuses; gives = λ f command. [] }
 
 refusing_quiet : IsQuiet refusing
 refusing_quiet f protocol com_id blocks payload = refl
@@ -27,7 +28,7 @@ shown = facts new_drive []
 
 -- Items that end the failure of the queue are not quiet, but see no view.
 abbrev mending : Items
-mending = record { sends = λ f protocol com_id blocks payload. did (OfQueue QueueMended); gives = λ f command. [] }
+mending = record { reads = λ config h. reading h; sends = λ f protocol com_id blocks payload. did (OfQueue QueueMended); gives = λ f command. [] }
 
 mending_is_not : IsQuiet mending → ⊥
 mending_is_not h = false_true (h shown 1 0 1 [])
@@ -37,7 +38,7 @@ mending_views f rows bytes number same protocol com_id blocks payload apart = re
 
 -- Items that tell each client of a byte in the view of session 5 are quiet, but see another's view.
 abbrev telling : Items
-telling = record { sends = λ f protocol com_id blocks payload. (if f.byte_of 5 0 == 0 then refuses else did Nothing); gives = λ f command. [] }
+telling = record { reads = λ config h. reading h; sends = λ f protocol com_id blocks payload. (if f.byte_of 5 0 == 0 then refuses else did Nothing); gives = λ f command. [] }
 
 telling_quiet : IsQuiet telling
 telling_quiet f protocol com_id blocks payload = by_byte (f.byte_of 5 0 == 0)

@@ -1,4 +1,5 @@
 -- The longest response, and one that is too long.
+use Rattle.sp_cells.specs.Config.{base_config}
 use Rattle.std.proofs.Common.{◌≡◌, ℕ, List, [], ◌∷◌, ◌++◌, reverse, Option, Some, None, refl}
 use Rattle.std.specs.Prelude.{length}
 use Rattle.sp_cells.specs.Authorities.{authorities_of_locking}
@@ -27,7 +28,7 @@ use Rattle.history.specs.History.{Act, log}
 use Rattle.history.proofs.Scripts.{msid, send, tell, call_of, start_as, in_it, replies, said}
 
 wide : Origin
-wide = activated_origin (record { sectors = 1000; mbr_sectors = 128; msid = msid })
+wide = activated_origin (base_config 1000 128 msid)
 
 get_up_to : ℕ → Message
 get_up_to last = call_of mbr_table get (tree.list (trees_of (tree.named (tree.number 2) (tree.number last) ∷ [])) ∷ [])

@@ -3,7 +3,7 @@ use Rattle.std.proofs.Common.{ℕ, ◌+◌, ◌*◌, Bool, List, [], ◌∷◌, 
 use Rattle.std.specs.Prelude.{take, drop, slice_index, ◌/◌, ◌%◌}
 use Rattle.std.specs.Int.{w64, to_be_bytes}
 use Rattle.std.specs.List.{flat_map}
-use Rattle.sp_cells.specs.Config.{Config}
+use Rattle.sp_cells.specs.Config.{Config, base_config}
 use Rattle.sp_cells.specs.declared.names.Uid.{Uid as UidType}
 use Rattle.sp_cells.specs.Names.{this_sp, get, set, authenticate}
 use Rattle.locking.specs.declared.range.RangeRow.{RangeRow}
@@ -23,7 +23,7 @@ abbrev pub msid : List ℕ
 msid = 0x4f ∷ 0x50 ∷ 0x41 ∷ 0x4c ∷ 0x4d ∷ 0x53 ∷ 0x49 ∷ 0x44 ∷ []
 
 abbrev pub config : Config
-config = record { sectors = 1000; mbr_sectors = 8; msid = msid }
+config = base_config 1000 8 msid
 
 abbrev pub new_drive : Origin
 new_drive = factory_origin config

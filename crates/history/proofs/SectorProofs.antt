@@ -1,5 +1,9 @@
 -- What moves data lies on the drive, and so sectors behind the last one stay zeros.
-use Rattle.std.proofs.Common.{◌≡◌, ℕ, ◌*◌, ◌==◌, Bool, true, false, ◌&&◌, ◌||◌, not, List, [], ◌∷◌, Option, Some, None, refl, sym, ◌∙◌, ap, cond, ◌+◌, ◌≤◌, ◌/◌, subst, arith}
+use Rattle.basics.specs.declared.profile.Profile.TheVariants.{Base, Field}
+use Rattle.basics.specs.declared.profile.Profile.{Profile}
+use Rattle.trusted_cmds.proofs.Spellings.{short-write}
+use Rattle.trusted_cmds.specs.Profiles.{reading_in, payload_length_in, beside, read_or, short_sectors, short_write_dma}
+use Rattle.std.proofs.Common.{◌≡◌, ℕ, ◌*◌, ◌==◌, Bool, true, false, ◌&&◌, ◌||◌, not, List, [], ◌∷◌, Option, Some, None, refl, sym, ◌∙◌, ap, cond, ◌+◌, ◌≤◌, ◌/◌, subst, arith, eqb-true}
 use Rattle.std.specs.Prelude.{is_some, nat_le, slice_index, length, Result, Ok, Err, unwrap_or, nat_lt, take, drop, ◌-◌}
 use Rattle.fis.specs.Types.{h2d_type}
 use Rattle.fis.specs.H2d.{h2d_at}
@@ -12,7 +16,7 @@ use Rattle.compacket.specs.declared.error.FrameError.{FrameError}
 use Rattle.compacket.specs.Frames.{Frame, reading as frame_in}
 use Rattle.tcg_tokens.specs.Reading.{reading as message_in}
 use Rattle.trusted_cmds.specs.declared.command.Command.{Command}
-use Rattle.trusted_cmds.specs.declared.command.Command.TheVariants.{ReadQueued, WriteQueued, ReadDma, WriteDma, Send, Receive, ReadLog10, Identify, Flush}
+use Rattle.trusted_cmds.specs.declared.command.Command.TheVariants.{ReadQueued, WriteQueued, ReadDma, WriteDma, Send, Receive, ReadLog10, Identify, Flush, SetFeatures, ReadLog}
 use Rattle.trusted_cmds.specs.declared.command.CommandError.{CommandError}
 use Rattle.locking.specs.declared.ranges.Verdict.{Verdict}
 use Rattle.locking.specs.declared.ranges.Verdict.TheVariants.{Serve, Shadow, Denied}
@@ -20,8 +24,8 @@ use Rattle.sessions.specs.Deeds.{Begun, SessionDeed, Reverted}
 use Rattle.history.specs.Opening.{Origin}
 use Rattle.history.specs.Events.{did, HeldCommand, Deed, Nothing, InSession, Wrote, Event, or_else, OfQueue, Took, WasReset, latest, CompletedWrite, Completed, Held, QueueFailed, QueueMended}
 use Rattle.history.specs.Facts.{Facts, facts, session_named}
-use Rattle.history.specs.Decisions.{aborted, not_found, fails, refuses, fails_queue, on_drive, verdict_on, queued_by, queued_transfer, admitted, unqueued_by, unqueued_transfer, is_trusted, is_session_com_id, discovery_com_id, received, while_failed, is_busy, completed_by, completed, resets}
-use Rattle.history.specs.Tcg.{answers, to_manager, is_manager, to_session, framed, sent, unqueued, known, commanded, tcg}
+use Rattle.history.specs.Decisions.{aborted, not_found, fails, refuses, fails_queue, on_drive, verdict_on, queued_by, queued_transfer, admitted, unqueued_by, unqueued_transfer, is_trusted, is_session_com_id, discovery_com_id, received, while_failed, is_busy, completed_by, completed, resets, is_received}
+use Rattle.history.specs.Tcg.{answers, to_manager, is_manager, to_session, framed, sent, unqueued, known, commanded, tcg, command_read}
 use Rattle.history.specs.History.{Act, Accept, Complete, Reset, event_by, log}
 use Rattle.history.specs.Readers.{part_of, wipes, writing, sector}
 use Rattle.history.specs.Bounds.{IsFed, SectorLaw}
@@ -81,7 +85,7 @@ unqueued-quiet f payload (Send protocol com_id blocks dma) =
     either (resets f.rows (Send protocol com_id blocks dma)) (did (WasReset programmatic)) _ (λ is. refl)
     (either (is_trusted protocol blocks && is_session_com_id com_id && not (is_some (f.waiting com_id))) _ refuses
     (λ is. sent-quiet f com_id (frame_in payload) (middle (is_trusted protocol blocks) (is_session_com_id com_id) (not (is_some (f.waiting com_id))) is)) refl)
-unqueued-quiet f payload (Receive protocol com_id blocks dma) = either (is_trusted protocol blocks && (is_session_com_id com_id || com_id == discovery_com_id)) _ refuses (λ is. received-quiet com_id blocks (f.waiting com_id)) refl
+unqueued-quiet f payload (Receive protocol com_id blocks dma) = either (is_received f protocol com_id blocks) _ refuses (λ is. received-quiet com_id blocks (f.waiting com_id)) refl
 unqueued-quiet f payload _ = refl
 
 queued_by-quiet : (h : RegH2d) (tag : ℕ) (c : Command) (v : Verdict) → quiet (queued_by h tag c v).deed ≡ true
@@ -110,8 +114,8 @@ while_failed-quiet _ = refl
 commanded-quiet : (f : Facts) (h : RegH2d) (payload : List ℕ) → quiet (commanded f h payload).deed ≡ true
 commanded-quiet f h payload =
     either (not h.is_command) refuses _ (λ is. refl)
-    (either (is_some f.failure) (while_failed (reading h)) _ (λ is. while_failed-quiet (reading h))
-    (either (is_busy f && not (is_queued h.command)) (fails_queue None aborted h None) (known f h payload (reading h)) (λ is. refl) (known-quiet f h payload (reading h))))
+    (either (is_some f.failure) (while_failed (command_read f.config h)) _ (λ is. while_failed-quiet (command_read f.config h))
+    (either (is_busy f && not (is_queued h.command)) (fails_queue None aborted h None) (known f h payload (command_read f.config h)) (λ is. refl) (known-quiet f h payload (command_read f.config h))))
 
 -- bytes that end on the drive have no part behind it
 behind : (place lba n sectors_on : ℕ) → lba + n ≤ sectors_on → sectors_on ≤ place → nat_lt place (lba + n) ≡ false
@@ -183,17 +187,40 @@ read-write h lba count None g =
     (rest-other (is_send h.command) (is_receive h.command) (is_log_read h.command) (h.command == identify_device) send receive log Identify Flush refl refl refl refl refl)
     (ok-command g)
 
-write-size : (h : RegH2d) (lba count : ℕ) → reading h ≡ Ok (WriteDma lba count, None) → payload_length h ≡ 512 * count
-write-size h lba count g =
+base-size : (h : RegH2d) (lba count : ℕ) → reading h ≡ Ok (WriteDma lba count, None) → payload_length h ≡ 512 * count
+base-size h lba count g =
     let w = read-write h lba count (fault_of h) g in
     ap (λ b. cond b (512 * sectors h.count) (cond (h.command == trusted_send || h.command == trusted_send_dma) (512 * blocks h) 0)) w.code_is ∙ ap (λ n. 512 * n) (sym w.count_is)
 
-wrote-none : (f : Facts) (act : Act) (place lba : ℕ) (bytes : List ℕ) → IsFed f act → f.sectors ≤ place → (event_by f act).deed ≡ Wrote lba bytes → part_of place lba bytes ≡ None
+no-short : (code : ℕ) → (code == write_dma) ≡ true → (code == short_write_dma) ≡ false
+no-short code is = ap (λ n. n == short_write_dma) (eqb-true code write_dma is)
+
+not-ok : {e : CommandError} {x : Command × Option ℕ} → ◌≡◌ {A = Result (Command × Option ℕ) CommandError} (Err e) (Ok x) → ⊥
+not-ok k = cc
+
+pub write-size : (p : Profile) (h : RegH2d) (lba count : ℕ) → reading_in p h ≡ Ok (WriteDma lba count, None)
+    → payload_length_in p h ≡ 512 * count
+write-size Base h lba count g = base-size h lba count g
+write-size Field h lba count g = by_read (reading h) (beside h) refl refl g
+  where
+    by_read : (r : Result (Command × Option ℕ) CommandError) (more : Option Command) → reading h ≡ r → beside h ≡ more
+        → ◌≡◌ {A = Result (Command × Option ℕ) CommandError} (read_or r more) (Ok (WriteDma lba count, None))
+        → payload_length_in Field h ≡ 512 * count
+    by_read (Ok x) more is m k =
+        let w = read-write h lba count (fault_of h) (is ∙ k) in
+        ap (λ b. cond b (512 * short_sectors h) (payload_length h)) (no-short h.command w.code_is)
+        ∙ base-size h lba count (is ∙ k)
+    by_read (Err error) None is m k = absurd (not-ok k)
+    by_read (Err error) (Some c) is m k =
+        let w = short-write h lba count (m ∙ ap (λ x. Some x) (ok-command k)) in
+        ap (λ b. cond b (512 * short_sectors h) (payload_length h)) w.code ∙ ap (λ n. 512 * n) w.sectors_are
+
+wrote-none : (f : Facts) (act : Act) (place lba : ℕ) (bytes : List ℕ) → IsFed f act → f.config.sectors ≤ place → (event_by f act).deed ≡ Wrote lba bytes → part_of place lba bytes ≡ None
 wrote-none f act place lba bytes fed le g =
-    let w : Writes f act lba bytes = write_law tcg tcg_quiet f act lba bytes g in
-    let size : length w.looked.payload ≡ payload_length (h2d_at w.looked.fis) =
-    subst (IsFed f) w.looked.accepts fed ∙ payload-of-command w.looked.fis w.looked.kind in
-    no-part place lba w.count f.sectors bytes (ap length w.payload ∙ size ∙ write-size (h2d_at w.looked.fis) lba w.count w.looked.reads) w.on_drive le
+    let w : Writes tcg f act lba bytes = write_law tcg tcg_quiet f act lba bytes g in
+    let size : length w.looked.payload ≡ payload_length_in f.config.profile (h2d_at w.looked.fis) =
+    subst (IsFed f) w.looked.accepts fed ∙ payload-of-command f.config w.looked.fis w.looked.kind in
+    no-part place lba w.count f.config.sectors bytes (ap length w.payload ∙ size ∙ write-size f.config.profile (h2d_at w.looked.fis) lba w.count w.looked.reads) w.on_drive le
 
 -- the transfer of a held write
 record Is (l n lba count : ℕ) : Type 0 where
@@ -233,7 +260,7 @@ queue-left place past (Held t x) h rest = rest
 queue-left place past (QueueFailed x) h rest = rest
 queue-left place past QueueMended h rest = rest
 
-deed-left : (f : Facts) (act : Act) (place : ℕ) (past : List Event) (d : Deed) → IsFed f act → f.sectors ≤ place → (event_by f act).deed ≡ d → quiet d ≡ true → sector past place ≡ zeros → left place (writing place d) past ≡ zeros
+deed-left : (f : Facts) (act : Act) (place : ℕ) (past : List Event) (d : Deed) → IsFed f act → f.config.sectors ≤ place → (event_by f act).deed ≡ d → quiet d ≡ true → sector past place ≡ zeros → left place (writing place d) past ≡ zeros
 deed-left f act place past (Wrote lba bytes) fed le is h rest = left-none place past (part_of place lba bytes) (wrote-none f act place lba bytes fed le is) rest
 deed-left f act place past (OfQueue d) fed le is h rest = queue-left place past d h rest
 deed-left f act place past (InSession d r) fed le is h rest = wiped place past d rest
@@ -257,6 +284,8 @@ completed-left o acts tag place payload (Some h) is size le rest = by_command h.
     by_command Identify command = rest
     by_command (ReadLog10 d) command = rest
     by_command Flush command = rest
+    by_command SetFeatures command = rest
+    by_command (ReadLog page dma) command = rest
 
 accept-quiet : (f : Facts) (fis payload : List ℕ) → quiet (event_by f (Accept fis payload)).deed ≡ true
 accept-quiet f fis payload = either (slice_index fis 0 == h2d_type) (commanded f (h2d_at fis) payload) refuses (λ is. commanded-quiet f (h2d_at fis) payload) refl

@@ -7,19 +7,18 @@ use Rattle.fis.specs.declared.h2d.RegH2d.{RegH2d}
 use Rattle.locking.specs.declared.range.Op.TheVariants.{Read, Write}
 use Rattle.trusted_cmds.specs.Commands.{is_queued, tag_of, sector_size}
 use Rattle.trusted_cmds.specs.declared.command.Command.{Command}
-use Rattle.trusted_cmds.specs.declared.command.Command.TheVariants.{ReadQueued, WriteQueued, ReadDma, WriteDma, Send, Receive, Identify, ReadLog10, Flush}
+use Rattle.trusted_cmds.specs.declared.command.Command.TheVariants.{ReadQueued, WriteQueued, ReadDma, WriteDma, Send, Receive, Identify, ReadLog10, Flush, SetFeatures, ReadLog}
 use Rattle.trusted_cmds.specs.declared.command.CommandError.{CommandError}
-use Rattle.trusted_cmds.specs.Commands.{reading}
 use Rattle.locking.specs.declared.ranges.Verdict.{Verdict}
 use Rattle.locking.specs.declared.ranges.Verdict.TheVariants.{Serve, Shadow, Denied}
 use Rattle.device_data.specs.declared.log_page.Failure.{Failure}
 use Rattle.history.specs.Events.{HeldCommand, Deed, Nothing, InSession, OfQueue, Wrote, Took, Event, did, WasReset}
 use Rattle.history.specs.Facts.{Facts}
-use Rattle.history.specs.Decisions.{not_found, aborted, fails, refuses, fails_queue, on_drive, ranges_in_force, verdict_on, queued_by, admitted, unqueued_by, is_trusted, is_session_com_id, discovery_com_id, received, while_failed, is_busy, completed_by, completed, resets, unqueued_of, known_of, commanded_of}
+use Rattle.history.specs.Decisions.{not_found, aborted, fails, refuses, fails_queue, on_drive, ranges_in_force, verdict_on, queued_by, admitted, unqueued_by, is_trusted, is_session_com_id, discovery_com_id, received, while_failed, is_busy, completed_by, completed, resets, unqueued_of, known_of, commanded_of, is_received}
 use Rattle.history.specs.Items.{Items}
 use Rattle.history.specs.Quiet.{is_quiet, IsQuiet}
 use Rattle.history.specs.History.{Act, Accept, Complete, Reset, event_in}
-use Rattle.history.specs.MethodLaws.{IsLookedAt}
+use Rattle.history.specs.Looked.{IsLookedAtBy}
 use Rattle.history.specs.TransferLaws.{IsPermitted, is_denied, Writes, WriteLaw}
 use Rattle.history.proofs.TransferProofs.{verdict_law}
 use Rattle.sp_cells.specs.Resets.{programmatic}
@@ -60,30 +59,32 @@ abbrev moved : Deed → ℕ × List ℕ
 moved (Wrote lba bytes) = (lba, bytes)
 moved _ = (0, [])
 
-written-as : (f : Facts) (act : Act) (l lba n : ℕ) (bytes : List ℕ) (looked : IsLookedAt f act (WriteDma l n) None) → on_drive f l n ≡ true → IsPermitted (ranges_in_force f) Write l n → Wrote l looked.payload ≡ Wrote lba bytes → Writes f act lba bytes
-written-as f act l lba n bytes looked drive may same =
+written-as : (items : Items) (f : Facts) (act : Act) (l lba n : ℕ) (bytes : List ℕ) (looked : IsLookedAtBy items f act (WriteDma l n) None) → on_drive f l n ≡ true → IsPermitted (ranges_in_force f) Write l n → Wrote l looked.payload ≡ Wrote lba bytes → Writes items f act lba bytes
+written-as items f act l lba n bytes looked drive may same =
     let is_lba : l ≡ lba = ap (λ (p : ℕ × List ℕ). p.0) (ap moved same) in
-    let made : Writes f act l looked.payload = record { count = n; looked = looked; payload = refl; on_drive = drive; permitted = may } in
-    subst (λ x. Writes f act x bytes) is_lba (subst (Writes f act l) (ap (λ (p : ℕ × List ℕ). p.1) (ap moved same)) made)
+    let made : Writes items f act l looked.payload = record { count = n; looked = looked; payload = refl; on_drive = drive; permitted = may } in
+    subst (λ x. Writes items f act x bytes) is_lba (subst (Writes items f act l) (ap (λ (p : ℕ × List ℕ). p.1) (ap moved same)) made)
 
-served-is : (f : Facts) (act : Act) (l n lba : ℕ) (bytes : List ℕ) (looked : IsLookedAt f act (WriteDma l n) None) → (b : Bool) (v : Verdict) → on_drive f l n ≡ b → verdict_on f Write l n ≡ v → (cond b (unqueued_by (Wrote l looked.payload) v) (fails not_found None)).deed ≡ Wrote lba bytes → Writes f act lba bytes
-served-is f act l n lba bytes looked false v drive is g = absurd (not-write refl g)
-served-is f act l n lba bytes looked true (Denied why) drive is g = absurd (not-write refl g)
-served-is f act l n lba bytes looked true Serve drive is g = written-as f act l lba n bytes looked drive ((verdict_law (ranges_in_force f) Write l n).served.0 (ap is_denied is)) g
-served-is f act l n lba bytes looked true Shadow drive is g = written-as f act l lba n bytes looked drive ((verdict_law (ranges_in_force f) Write l n).served.0 (ap is_denied is)) g
+served-is : (items : Items) (f : Facts) (act : Act) (l n lba : ℕ) (bytes : List ℕ) (looked : IsLookedAtBy items f act (WriteDma l n) None) → (b : Bool) (v : Verdict) → on_drive f l n ≡ b → verdict_on f Write l n ≡ v → (cond b (unqueued_by (Wrote l looked.payload) v) (fails not_found None)).deed ≡ Wrote lba bytes → Writes items f act lba bytes
+served-is items f act l n lba bytes looked false v drive is g = absurd (not-write refl g)
+served-is items f act l n lba bytes looked true (Denied why) drive is g = absurd (not-write refl g)
+served-is items f act l n lba bytes looked true Serve drive is g = written-as items f act l lba n bytes looked drive ((verdict_law (ranges_in_force f) Write l n).served.0 (ap is_denied is)) g
+served-is items f act l n lba bytes looked true Shadow drive is g = written-as items f act l lba n bytes looked drive ((verdict_law (ranges_in_force f) Write l n).served.0 (ap is_denied is)) g
 
-unqueued-is : (items : Items) (still : IsQuiet items) (f : Facts) (act : Act) (lba : ℕ) (bytes : List ℕ) (c : Command) (looked : IsLookedAt f act c None) → (unqueued_of items f looked.payload c).deed ≡ Wrote lba bytes → Writes f act lba bytes
-unqueued-is items still f act lba bytes (WriteDma l n) looked g = served-is f act l n lba bytes looked (on_drive f l n) (verdict_on f Write l n) refl refl g
+unqueued-is : (items : Items) (still : IsQuiet items) (f : Facts) (act : Act) (lba : ℕ) (bytes : List ℕ) (c : Command) (looked : IsLookedAtBy items f act c None) → (unqueued_of items f looked.payload c).deed ≡ Wrote lba bytes → Writes items f act lba bytes
+unqueued-is items still f act lba bytes (WriteDma l n) looked g = served-is items f act l n lba bytes looked (on_drive f l n) (verdict_on f Write l n) refl refl g
 unqueued-is items still f act lba bytes (ReadDma l n) looked g = absurd (not-write (none-if (on_drive f l n) (unqueued_by Nothing (verdict_on f Read l n)) (fails not_found None) (unqueued_by-none Nothing (verdict_on f Read l n) refl) refl) g)
 unqueued-is items still f act lba bytes (Send p c b d) looked g =
     absurd (not-write (none-if (resets f.rows (Send p c b d)) (did (WasReset programmatic)) (items.sends f p c b looked.payload) refl
     (quiet-none (items.sends f p c b looked.payload).deed (still f p c b looked.payload))) g)
-unqueued-is items still f act lba bytes (Receive p c b d) looked g = absurd (not-write (none-if (is_trusted p b && (is_session_com_id c || c == discovery_com_id)) (received c b (f.waiting c)) refuses (received-none c b (f.waiting c)) refl) g)
+unqueued-is items still f act lba bytes (Receive p c b d) looked g = absurd (not-write (none-if (is_received f p c b) (received c b (f.waiting c)) refuses (received-none c b (f.waiting c)) refl) g)
 unqueued-is items still f act lba bytes (ReadQueued l n) looked g = absurd (not-write refl g)
 unqueued-is items still f act lba bytes (WriteQueued l n) looked g = absurd (not-write refl g)
 unqueued-is items still f act lba bytes Identify looked g = absurd (not-write refl g)
 unqueued-is items still f act lba bytes (ReadLog10 d) looked g = absurd (not-write refl g)
 unqueued-is items still f act lba bytes Flush looked g = absurd (not-write refl g)
+unqueued-is items still f act lba bytes SetFeatures looked g = absurd (not-write refl g)
+unqueued-is items still f act lba bytes (ReadLog page dma) looked g = absurd (not-write refl g)
 
 queued-none : (h : RegH2d) (tag : ℕ) (c : Command) (b : Bool) (v : Verdict) → is_write (cond b (queued_by h tag c v) (fails_queue (Some tag) not_found h None)).deed ≡ false
 queued-none h tag c false v = refl
@@ -101,31 +102,31 @@ while_failed-none : (r : Result (Command × Option ℕ) CommandError) → is_wri
 while_failed-none (Ok (ReadLog10 dma, tag)) = refl
 while_failed-none _ = refl
 
-accept-is : (items : Items) (still : IsQuiet items) (f : Facts) (fis payload : List ℕ) (lba : ℕ) (bytes : List ℕ) → (event_in items f (Accept fis payload)).deed ≡ Wrote lba bytes → Writes f (Accept fis payload) lba bytes
+accept-is : (items : Items) (still : IsQuiet items) (f : Facts) (fis payload : List ℕ) (lba : ℕ) (bytes : List ℕ) → (event_in items f (Accept fis payload)).deed ≡ Wrote lba bytes → Writes items f (Accept fis payload) lba bytes
 accept-is items still f fis payload lba bytes g = by_kind (slice_index fis 0 == h2d_type) refl g
   where
     c : RegH2d
     c = h2d_at fis
 
-    by_reading : (slice_index fis 0 == h2d_type) ≡ true → c.is_command ≡ true → f.failure ≡ None → (is_busy f && not (is_queued c.command)) ≡ false → (r : Result (Command × Option ℕ) CommandError) → reading c ≡ r → (known_of items f c payload r).deed ≡ Wrote lba bytes → Writes f (Accept fis payload) lba bytes
+    by_reading : (slice_index fis 0 == h2d_type) ≡ true → c.is_command ≡ true → f.failure ≡ None → (is_busy f && not (is_queued c.command)) ≡ false → (r : Result (Command × Option ℕ) CommandError) → items.reads f.config c ≡ r → (known_of items f c payload r).deed ≡ Wrote lba bytes → Writes items f (Accept fis payload) lba bytes
     by_reading kind commands mended unmixed (Err e) is k = absurd (not-write (none-if (is_queued c.command) (fails_queue (Some (tag_of c)) aborted c None) refuses refl refl) k)
     by_reading kind commands mended unmixed (Ok (command, Some t)) is k = absurd (not-write (admitted-none f c t command (is_some (f.held t))) k)
     by_reading kind commands mended unmixed (Ok (command, None)) is k =
         unqueued-is items still f (Accept fis payload) lba bytes command (record { fis = fis; payload = payload; accepts = refl; kind = eqb-true (slice_index fis 0) h2d_type kind; commands = commands; mended = mended; unmixed = unmixed; reads = is }) k
 
-    by_mix : (slice_index fis 0 == h2d_type) ≡ true → c.is_command ≡ true → f.failure ≡ None → (b : Bool) → (is_busy f && not (is_queued c.command)) ≡ b → (cond b (fails_queue None aborted c None) (known_of items f c payload (reading c))).deed ≡ Wrote lba bytes → Writes f (Accept fis payload) lba bytes
+    by_mix : (slice_index fis 0 == h2d_type) ≡ true → c.is_command ≡ true → f.failure ≡ None → (b : Bool) → (is_busy f && not (is_queued c.command)) ≡ b → (cond b (fails_queue None aborted c None) (known_of items f c payload (items.reads f.config c))).deed ≡ Wrote lba bytes → Writes items f (Accept fis payload) lba bytes
     by_mix kind commands mended true is k = absurd (not-write refl k)
-    by_mix kind commands mended false is k = by_reading kind commands mended is (reading c) refl k
+    by_mix kind commands mended false is k = by_reading kind commands mended is (items.reads f.config c) refl k
 
-    by_failure : (slice_index fis 0 == h2d_type) ≡ true → c.is_command ≡ true → (x : Option Failure) → f.failure ≡ x → (cond (is_some x) (while_failed (reading c)) (cond (is_busy f && not (is_queued c.command)) (fails_queue None aborted c None) (known_of items f c payload (reading c)))).deed ≡ Wrote lba bytes → Writes f (Accept fis payload) lba bytes
-    by_failure kind commands (Some x) is k = absurd (not-write (while_failed-none (reading c)) k)
+    by_failure : (slice_index fis 0 == h2d_type) ≡ true → c.is_command ≡ true → (x : Option Failure) → f.failure ≡ x → (cond (is_some x) (while_failed (items.reads f.config c)) (cond (is_busy f && not (is_queued c.command)) (fails_queue None aborted c None) (known_of items f c payload (items.reads f.config c)))).deed ≡ Wrote lba bytes → Writes items f (Accept fis payload) lba bytes
+    by_failure kind commands (Some x) is k = absurd (not-write (while_failed-none (items.reads f.config c)) k)
     by_failure kind commands None is k = by_mix kind commands is (is_busy f && not (is_queued c.command)) refl k
 
-    by_command : (slice_index fis 0 == h2d_type) ≡ true → (b : Bool) → c.is_command ≡ b → (cond (not b) refuses (cond (is_some f.failure) (while_failed (reading c)) (cond (is_busy f && not (is_queued c.command)) (fails_queue None aborted c None) (known_of items f c payload (reading c))))).deed ≡ Wrote lba bytes → Writes f (Accept fis payload) lba bytes
+    by_command : (slice_index fis 0 == h2d_type) ≡ true → (b : Bool) → c.is_command ≡ b → (cond (not b) refuses (cond (is_some f.failure) (while_failed (items.reads f.config c)) (cond (is_busy f && not (is_queued c.command)) (fails_queue None aborted c None) (known_of items f c payload (items.reads f.config c))))).deed ≡ Wrote lba bytes → Writes items f (Accept fis payload) lba bytes
     by_command kind false is k = absurd (not-write refl k)
     by_command kind true is k = by_failure kind is f.failure refl k
 
-    by_kind : (b : Bool) → (slice_index fis 0 == h2d_type) ≡ b → (cond b (commanded_of items f c payload) refuses).deed ≡ Wrote lba bytes → Writes f (Accept fis payload) lba bytes
+    by_kind : (b : Bool) → (slice_index fis 0 == h2d_type) ≡ b → (cond b (commanded_of items f c payload) refuses).deed ≡ Wrote lba bytes → Writes items f (Accept fis payload) lba bytes
     by_kind false is k = absurd (not-write refl k)
     by_kind true is k = by_command is c.is_command refl k
 

@@ -1,5 +1,6 @@
 -- The bytes and FISes that an act gives, by the facts (Serial ATA; ACS-3, IDENTIFY DEVICE and log
 -- page 10h), whatever its items give.
+use Rattle.sp_cells.specs.Config.{Config}
 use Rattle.std.specs.Prelude.{ℕ, ◌*◌, ◌^◌, ◌==◌, slice_index, Bool, true, false, List, [], ◌∷◌, Option, Some, None, is_some, unwrap_or, Result, Ok, Err, if◌then◌else◌}
 use Rattle.device_data.specs.ErrorLog.{error_log}
 use Rattle.fis.specs.Types.{h2d_type}
@@ -10,9 +11,9 @@ use Rattle.fis.specs.declared.any.Fis.TheVariants as fises
 use Rattle.locking.specs.declared.range.Op.TheVariants.{Read}
 use Rattle.shadow_mbr.specs.Stored.{sector_size, sectors_from}
 use Rattle.trusted_cmds.specs.declared.command.Command.{Command}
-use Rattle.trusted_cmds.specs.declared.command.Command.TheVariants.{ReadQueued, WriteQueued, ReadDma, Send, Receive, Identify, ReadLog10}
+use Rattle.trusted_cmds.specs.declared.command.Command.TheVariants.{ReadQueued, WriteQueued, ReadDma, Send, Receive, Identify, ReadLog10, ReadLog}
 use Rattle.trusted_cmds.specs.declared.command.CommandError.{CommandError}
-use Rattle.trusted_cmds.specs.Commands.{reading, payload_length}
+use Rattle.trusted_cmds.specs.Profiles.{payload_length_in}
 use Rattle.locking.specs.declared.ranges.Verdict.{Verdict}
 use Rattle.locking.specs.declared.ranges.Verdict.TheVariants.{Serve, Shadow, Denied}
 use Rattle.transactions.specs.Bytes.{bytes_from}
@@ -34,6 +35,7 @@ block_of items f (ReadLog10 dma) = error_log f.failure
 block_of items f (Receive protocol com_id blocks dma) =
     items.gives f (Receive protocol com_id blocks dma)
 block_of items f Identify = items.gives f Identify
+block_of items f (ReadLog page dma) = items.gives f (ReadLog page dma)
 block_of items f _ = []
 
 abbrev pub data_read_of : Items → Facts → Result (Command × Option ℕ) CommandError → List ℕ
@@ -43,7 +45,7 @@ data_read_of items f _ = []
 -- Of the FIS of a command, with its event; and of the bytes of an accepted FIS.
 abbrev pub answer_data_of : Items → Facts → RegH2d → Event → List ℕ
 answer_data_of items f h event =
-    if is_some event.failed then [] else data_read_of items f (reading h)
+    if is_some event.failed then [] else data_read_of items f (items.reads f.config h)
 
 abbrev pub accepted_data_of : Items → Facts → List ℕ → Event → List ℕ
 accepted_data_of items f fis event = answer_data_of items f (h2d_at fis) event
@@ -56,10 +58,11 @@ held_data f h = held_read h.command
     held_read (ReadQueued lba count) = read_by f lba count h.verdict
     held_read _ = []
 
--- How many bytes come with the 20 bytes of a FIS: none, where their first says that they carry no
--- command.
-abbrev pub payload_of : List ℕ → ℕ
-payload_of fis = if slice_index fis 0 == h2d_type then payload_length (h2d_at fis) else 0
+-- How many bytes come with the 20 bytes of a FIS, by what the drive is made with: none, where their
+-- first says that they carry no command.
+abbrev pub payload_of : Config → List ℕ → ℕ
+payload_of config fis =
+    if slice_index fis 0 == h2d_type then payload_length_in config.profile (h2d_at fis) else 0
 
 -- How many bytes a completion brings: the sectors of a held write.
 abbrev pub expected_by : Command → ℕ
@@ -128,6 +131,7 @@ abbrev pub served_fises : Command → List Fis
 served_fises (Send protocol com_id blocks false) = pio_fis false busy ∷ answer_fis true ready 0 ∷ []
 served_fises (Receive protocol com_id blocks false) = pio_fis true ready ∷ []
 served_fises (ReadLog10 false) = pio_fis true ready ∷ []
+served_fises (ReadLog page false) = pio_fis true ready ∷ []
 served_fises Identify = pio_fis true ready ∷ []
 served_fises _ = answer_fis true ready 0 ∷ []
 
@@ -139,13 +143,14 @@ abbrev pub is_holding : Deed → Bool
 is_holding (OfQueue (Held tag held)) = true
 is_holding _ = false
 
-abbrev pub answer_fises : RegH2d → Event → List Fis
-answer_fises h event =
+abbrev pub answer_fises_of : Items → Facts → RegH2d → Event → List Fis
+answer_fises_of items f h event =
     if is_some event.failed then answer_fis true errored (unwrap_or event.failed 0) ∷ []
-    else (if is_holding event.deed then answer_fis false ready 0 ∷ [] else fises_read (reading h))
+    else (if is_holding event.deed then answer_fis false ready 0 ∷ []
+    else fises_read (items.reads f.config h))
 
-abbrev pub accepted_fises : List ℕ → Event → List Fis
-accepted_fises fis event = answer_fises (h2d_at fis) event
+abbrev pub accepted_fises_of : Items → Facts → List ℕ → Event → List Fis
+accepted_fises_of items f fis event = answer_fises_of items f (h2d_at fis) event
 
 -- A completion: a DMA Setup FIS with bit D for a read, the tag and the count of bytes, and a Set
 -- Device Bits FIS with bit I and the tag's bit of SActive.

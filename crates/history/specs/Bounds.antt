@@ -62,7 +62,7 @@ ResponseLaw =
 
 -- An act brings as many bytes as its command wants.
 abbrev pub IsFed : Facts → Act → Type 0
-IsFed f (Accept fis payload) = length payload ≡ payload_of fis
+IsFed f (Accept fis payload) = length payload ≡ payload_of f.config fis
 IsFed f (Complete tag payload) = length payload ≡ expected (f.held tag)
 IsFed f (Reset kind) = Unit {0}
 

@@ -1,5 +1,7 @@
 -- What an act does, by the facts (ACS-3, NCQ and trusted computing feature sets), whatever its items
 -- do. The order of the rules stands here once.
+use Rattle.basics.specs.declared.profile.Profile.TheVariants.{Base, Field}
+use Rattle.basics.specs.declared.profile.Profile.{Profile}
 use Rattle.std.specs.Prelude.{ℕ, zero, suc, ◌+◌, ◌-◌, ◌*◌, ◌==◌, Bool, true, false, not, ◌&&◌, ◌||◌, nat_le, nat_lt, List, length, slice_index, Option, Some, None, is_some, Result, Ok, Err, if◌then◌else◌}
 use Rattle.fis.specs.Types.{h2d_type}
 use Rattle.fis.specs.Tags.{slot_count}
@@ -13,12 +15,11 @@ use Rattle.sp_cells.specs.Ranges.{number}
 use Rattle.sp_cells.specs.Resets.{programmatic}
 use Rattle.locking.specs.declared.range.Op.{Op}
 use Rattle.locking.specs.declared.range.Op.TheVariants.{Read, Write}
-use Rattle.trusted_cmds.specs.Commands.{is_queued, tag_of, sector_size, is_programmatic_reset}
+use Rattle.trusted_cmds.specs.Commands.{is_queued, tag_of, sector_size, is_programmatic_reset, is_protocol_list}
 use Rattle.audit.specs.declared.reason.Why.{Why}
 use Rattle.trusted_cmds.specs.declared.command.Command.{Command}
-use Rattle.trusted_cmds.specs.declared.command.Command.TheVariants.{ReadQueued, WriteQueued, ReadDma, WriteDma, Send, Receive, Identify, ReadLog10, Flush}
+use Rattle.trusted_cmds.specs.declared.command.Command.TheVariants.{ReadQueued, WriteQueued, ReadDma, WriteDma, Send, Receive, Identify, ReadLog10, Flush, SetFeatures, ReadLog}
 use Rattle.trusted_cmds.specs.declared.command.CommandError.{CommandError}
-use Rattle.trusted_cmds.specs.Commands.{reading}
 use Rattle.device_data.specs.Discovery.{first_com_id, com_ids}
 use Rattle.device_data.specs.ErrorLog.{failure_by}
 use Rattle.locking.specs.declared.ranges.Verdict.{Verdict}
@@ -56,11 +57,11 @@ fails_queue tag error h denied = record {
 -- Transfers. The addresses (ACS-3, IDNF) come before the policy (Opal SSC 2.01, section 4.3.5).
 
 abbrev pub on_drive : Facts → ℕ → ℕ → Bool
-on_drive f lba count = nat_le (lba + count) f.sectors
+on_drive f lba count = nat_le (lba + count) f.config.sectors
 
 -- The ranges and the shadow that the rows in force describe.
 abbrev pub ranges_in_force : Facts → RangeRows
-ranges_in_force f = ranges_in f.mbr_sectors f.rows
+ranges_in_force f = ranges_in f.config.mbr_sectors f.rows
 
 abbrev pub verdict_on : Facts → Op → ℕ → ℕ → Verdict
 verdict_on f op lba count = verdict_of (ranges_in_force f) op lba count
@@ -128,9 +129,20 @@ received com_id blocks None = did Nothing
 received com_id blocks (Some response) =
     if nat_le (length response) (sector_size * blocks) then did (Took com_id) else did Nothing
 
+-- The field profile tells the list of security protocols too (SPC-4, SECURITY PROTOCOL IN): on its
+-- ComID, 0000h, nothing waits.
+abbrev pub tells_protocols : Profile → Command → Bool
+tells_protocols Base command = false
+tells_protocols Field command = is_protocol_list command
+
+abbrev pub is_received : Facts → ℕ → ℕ → ℕ → Bool
+is_received f protocol com_id blocks =
+    tells_protocols f.config.profile (Receive protocol com_id blocks true)
+    || (is_trusted protocol blocks && (is_session_com_id com_id || com_id == discovery_com_id))
+
 abbrev pub receive : Facts → ℕ → ℕ → ℕ → Event
 receive f protocol com_id blocks =
-    if is_trusted protocol blocks && (is_session_com_id com_id || com_id == discovery_com_id)
+    if is_received f protocol com_id blocks
     then received com_id blocks (f.waiting com_id) else refuses
 
 -- Commands, by what an item does.
@@ -146,6 +158,8 @@ unqueued_of items f payload (Receive protocol com_id blocks dma) = receive f pro
 unqueued_of items f payload Identify = did Nothing
 unqueued_of items f payload (ReadLog10 dma) = did Nothing
 unqueued_of items f payload Flush = did Nothing
+unqueued_of items f payload SetFeatures = did Nothing
+unqueued_of items f payload (ReadLog page dma) = did Nothing
 unqueued_of items f payload (ReadQueued lba count) = refuses
 unqueued_of items f payload (WriteQueued lba count) = refuses
 
@@ -178,9 +192,9 @@ is_busy f = any_below (λ tag. is_some (f.held tag)) slot_count
 abbrev pub commanded_of : Items → Facts → RegH2d → List ℕ → Event
 commanded_of items f h payload =
     if not h.is_command then refuses
-    else (if is_some f.failure then while_failed (reading h)
+    else (if is_some f.failure then while_failed (items.reads f.config h)
     else (if is_busy f && not (is_queued h.command) then fails_queue None aborted h None
-    else known_of items f h payload (reading h)))
+    else known_of items f h payload (items.reads f.config h)))
 
 abbrev pub accepted_of : Items → Facts → List ℕ → List ℕ → Event
 accepted_of items f fis payload =

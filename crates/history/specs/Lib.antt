@@ -10,6 +10,7 @@ pub mod Decisions
 pub mod Answers
 pub mod Tcg
 pub mod History
+pub mod Looked
 pub mod NoTrace
 pub mod Deeds
 pub mod TriesLaw

@@ -1,11 +1,7 @@
 -- A method takes effect exactly where it is granted to the session's authorities in its view.
-use Rattle.std.specs.Prelude.{◌≡◌, ℕ, ◌==◌, ◌↔◌, ◌&&◌, Bool, true, false, not, is_some, slice_index, List, Option, Some, None, Ok}
-use Rattle.fis.specs.Types.{h2d_type}
-use Rattle.fis.specs.H2d.{h2d_at}
-use Rattle.trusted_cmds.specs.Commands.{is_queued, reading}
+use Rattle.std.specs.Prelude.{◌≡◌, ℕ, ◌==◌, ◌↔◌, ◌&&◌, Bool, true, false, not, is_some, List, Option, Some, None, Ok}
 use Rattle.compacket.specs.Frames.{Frame, reading as frame_in}
 use Rattle.tcg_tokens.specs.Message.{call}
-use Rattle.tcg_tokens.specs.Reading.{reading as message_in}
 use Rattle.tcg_tokens.specs.Tree.{Trees}
 use Rattle.trusted_cmds.specs.declared.command.Command.{Command}
 use Rattle.trusted_cmds.specs.declared.command.Command.TheVariants.{Send}
@@ -15,22 +11,15 @@ use Rattle.call_shapes.specs.declared.ask.Ask.{Ask}
 use Rattle.methods.specs.Laws.{IsGranted, takes_effect}
 use Rattle.methods.specs.Judgement.{asked, does}
 use Rattle.history.specs.Facts.{Facts, session_named, standing}
-use Rattle.history.specs.Decisions.{is_trusted, is_session_com_id, is_busy}
-use Rattle.history.specs.Tcg.{answers, is_manager, judgement_on}
+use Rattle.history.specs.Decisions.{is_trusted, is_session_com_id}
+use Rattle.history.specs.Looked.{IsLookedAtBy}
+use Rattle.history.specs.Tcg.{answers, is_manager, judgement_on, tcg, item_in}
 use Rattle.methods.specs.Calls.{outcome_of}
-use Rattle.history.specs.History.{Act, Accept, event_by}
+use Rattle.history.specs.History.{Act, event_by}
 
--- An accepted FIS whose command is looked at: it is one, the queue has not failed, and a command
--- that is not queued stands beside no held one.
-pub record IsLookedAt (f : Facts) (act : Act) (command : Command) (tag : Option ℕ) : Type 0 where
-  pub fis : List ℕ
-  pub payload : List ℕ
-  pub accepts : act ≡ Accept fis payload
-  pub kind : slice_index fis 0 ≡ h2d_type
-  pub commands : (h2d_at fis).is_command ≡ true
-  pub mended : f.failure ≡ None
-  pub unmixed : (is_busy f && not (is_queued (h2d_at fis).command)) ≡ false
-  pub reads : reading (h2d_at fis) ≡ Ok (command, tag)
+-- An accepted FIS whose command this drive looks at.
+abbrev pub IsLookedAt : Facts → Act → Command → Option ℕ → Type 0
+IsLookedAt = IsLookedAtBy tcg
 
 -- An act sends a frame on its ComID, on which no response waits: it is taken.
 pub record IsSent (f : Facts) (act : Act) (com_id : ℕ) (frame : Frame) : Type 0 where
@@ -52,7 +41,7 @@ pub record IsCall (f : Facts) (act : Act) (session : Begun) (object method : Lis
   pub no_manager : is_manager frame.session ≡ false
   pub named : session_named f com_id frame.session ≡ Some session
   pub status : List ℕ
-  pub calls : message_in frame.payload ≡ Ok (call object method args status)
+  pub calls : item_in f.config.profile frame.payload ≡ Ok (call object method args status)
 
 -- What is judged of it decides what it does and how it is answered.
 abbrev pub CallLaw : Type 0

@@ -1,5 +1,9 @@
 -- What is asked of items, so that the laws of transfers hold whatever else they do.
-use Rattle.std.specs.Prelude.{◌≡◌, ℕ, Bool, true, false, List}
+use Rattle.std.specs.Prelude.{◌≡◌, ◌<◌, ℕ, Bool, true, false, List, Some, Ok}
+use Rattle.fis.specs.declared.h2d.RegH2d.{RegH2d}
+use Rattle.fis.specs.Tags.{slot_count}
+use Rattle.sp_cells.specs.Config.{Config}
+use Rattle.trusted_cmds.specs.declared.command.Command.{Command}
 use Rattle.history.specs.Events.{Deed, Nothing, InSession, WasReset}
 use Rattle.history.specs.Facts.{Facts}
 use Rattle.history.specs.Items.{Items}
@@ -17,3 +21,9 @@ abbrev pub IsQuiet : Items → Type 0
 IsQuiet items =
     (f : Facts) (protocol com_id blocks : ℕ) (payload : List ℕ)
     → is_quiet (items.sends f protocol com_id blocks payload).deed ≡ true
+
+-- The tag of a command is that of a slot.
+abbrev pub ReadsTags : Items → Type 0
+ReadsTags items =
+    (config : Config) (h : RegH2d) (command : Command) (tag : ℕ)
+    → items.reads config h ≡ Ok (command, Some tag) → tag < slot_count

@@ -1,7 +1,15 @@
 -- What the items of this drive do and give, by the facts: the session manager, sessions, responses
 -- (Core 2.01, chapter 3; Opal SSC 2.01, section 3.1.1, Level 0 discovery).
+use Rattle.basics.specs.declared.profile.Profile.TheVariants.{Base, Field}
+use Rattle.basics.specs.declared.profile.Profile.{Profile}
+use Rattle.tcg_tokens.specs.Lex.{begins_with_end}
+use Rattle.device_data.specs.Protocols.{protocol_list}
+use Rattle.trusted_cmds.specs.Commands.{is_protocol_list}
+use Rattle.device_data.specs.DevicePages.{device_page}
 use Rattle.std.specs.Prelude.{ℕ, zero, suc, ◌*◌, ◌==◌, Bool, true, false, not, ◌&&◌, nat_le, List, [], length, Option, Some, None, is_some, Result, Ok, Err, if◌then◌else◌}
+use Rattle.fis.specs.declared.any.Fis.{Fis}
 use Rattle.fis.specs.declared.h2d.RegH2d.{RegH2d}
+use Rattle.sp_cells.specs.Config.{Config}
 use Rattle.sp_cells.specs.declared.names.Uid.{Uid}
 use Rattle.sp_cells.specs.declared.names.Sp.{Sp}
 use Rattle.sp_cells.specs.Names.{session_manager, properties, start_session}
@@ -16,8 +24,9 @@ use Rattle.tcg_tokens.specs.Spelling.{item_spelling_of}
 use Rattle.tcg_tokens.specs.Tree.{Tree, Trees}
 use Rattle.call_shapes.specs.Named.{values_of}
 use Rattle.trusted_cmds.specs.declared.command.Command.{Command}
-use Rattle.trusted_cmds.specs.declared.command.Command.TheVariants.{Receive, Identify}
+use Rattle.trusted_cmds.specs.declared.command.Command.TheVariants.{Receive, Identify, ReadLog}
 use Rattle.trusted_cmds.specs.declared.command.CommandError.{CommandError}
+use Rattle.trusted_cmds.specs.Profiles.{reading_in}
 use Rattle.sessions.specs.Attempts.{credential}
 use Rattle.call_shapes.specs.Asks.{uid_of}
 use Rattle.sessions.specs.Deeds.{Begun, SessionDeed, Unchanged, Started, Began, Committed, Aborted, Ended, Outcome, says, tried}
@@ -34,12 +43,12 @@ use Rattle.methods.specs.Calls.{outcome_of}
 use Rattle.history.specs.Events.{Nothing, InSession, Event, did}
 use Rattle.history.specs.Facts.{Facts, live, session_named, has_open, standing}
 use Rattle.device_data.specs.Discovery.{discovery}
-use Rattle.device_data.specs.Identity.{identity}
+use Rattle.device_data.specs.Identity.{identity_of}
 use Rattle.device_data.specs.ErrorLog.{sized}
 use Rattle.shadow_mbr.specs.Stored.{sector_size}
 use Rattle.history.specs.Items.{Items}
 use Rattle.history.specs.Decisions.{refuses, is_session_com_id, discovery_com_id, is_trusted, unqueued_of, known_of, commanded_of, accepted_of}
-use Rattle.history.specs.Answers.{block_of, data_read_of, answer_data_of, accepted_data_of}
+use Rattle.history.specs.Answers.{block_of, data_read_of, answer_data_of, accepted_data_of, answer_fises_of, accepted_fises_of}
 
 -- Items.
 
@@ -134,11 +143,21 @@ in_session f session (Err e) = says Unchanged (refusal_of fail)
 abbrev pub is_manager : Session → Bool
 is_manager session = session.tsn == 0 && session.hsn == 0
 
+-- What a payload has for a session: under the field profile it ends the session where its first token
+-- says so, whatever follows.
+abbrev pub ends_session : Profile → List ℕ → Bool
+ends_session Base payload = false
+ends_session Field payload = begins_with_end payload
+
+abbrev pub item_in : Profile → List ℕ → Result Message TokenError
+item_in profile payload =
+    if ends_session profile payload then Ok end_session else message_in payload
+
 -- An item for no live session is taken, and leaves no response.
 abbrev pub to_session : Facts → ℕ → Session → List ℕ → Option Begun → Event
 to_session f com_id named payload None = did Nothing
 to_session f com_id named payload (Some session) =
-    answers com_id named (in_session f session (message_in payload))
+    answers com_id named (in_session f session (item_in f.config.profile payload))
 
 abbrev pub framed : Facts → ℕ → Frame → Event
 framed f com_id frame =
@@ -171,15 +190,23 @@ receive_data f com_id room =
     then sized room (discovery f.rows)
     else sized room (received_bytes com_id room (f.waiting com_id))
 
--- The data of a receive and of IDENTIFY DEVICE.
+-- The data of a receive, of IDENTIFY DEVICE, and of the pages that tell of the device.
 abbrev pub item_data : Facts → Command → List ℕ
-item_data f (Receive protocol com_id blocks dma) = receive_data f com_id (sector_size * blocks)
-item_data f Identify = identity f.sectors
+item_data f (Receive protocol com_id blocks dma) =
+    if is_protocol_list (Receive protocol com_id blocks dma)
+    then sized (sector_size * blocks) protocol_list
+    else receive_data f com_id (sector_size * blocks)
+item_data f Identify = identity_of f.config
+item_data f (ReadLog page dma) = device_page page
 item_data f _ = []
 
--- What an item of this drive does and gives.
+-- The command of a FIS (ACS-3).
+abbrev pub command_read : Config → RegH2d → Result (Command × Option ℕ) CommandError
+command_read config h = reading_in config.profile h
+
+-- What an item of this drive reads, does and gives.
 abbrev pub tcg : Items
-tcg = record { sends = send; gives = item_data }
+tcg = record { reads = command_read; sends = send; gives = item_data }
 
 -- And so what its acts do and give.
 
@@ -206,3 +233,9 @@ answer_data = answer_data_of tcg
 
 abbrev pub accepted_data : Facts → List ℕ → Event → List ℕ
 accepted_data = accepted_data_of tcg
+
+abbrev pub answer_fises : Facts → RegH2d → Event → List Fis
+answer_fises = answer_fises_of tcg
+
+abbrev pub accepted_fises : Facts → List ℕ → Event → List Fis
+accepted_fises = accepted_fises_of tcg

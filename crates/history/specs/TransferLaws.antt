@@ -17,9 +17,9 @@ use Rattle.history.specs.Readers.{held}
 use Rattle.history.specs.Facts.{Facts, facts}
 use Rattle.history.specs.Decisions.{aborted, on_drive, ranges_in_force, verdict_on}
 use Rattle.history.specs.Items.{Items}
-use Rattle.history.specs.Quiet.{IsQuiet}
+use Rattle.history.specs.Quiet.{IsQuiet, ReadsTags}
 use Rattle.history.specs.History.{Act, Accept, event_in, log_of}
-use Rattle.history.specs.MethodLaws.{IsLookedAt}
+use Rattle.history.specs.Looked.{IsLookedAtBy}
 use Rattle.history.specs.DenialLaws.{Moves, IsFree}
 
 abbrev pub is_denied : Verdict → Bool
@@ -72,8 +72,8 @@ pub record WasAccepted (items : Items) (o : Origin) (acts : List Act) (tag : ℕ
   pub fis : List ℕ
   pub payload : List ℕ
   pub place : acts ≡ later ++ Accept fis payload ∷ before
-  pub looked : IsLookedAt (facts o (log_of items o before)) (Accept fis payload) h.command
-      (Some tag)
+  pub looked : IsLookedAtBy items (facts o (log_of items o before)) (Accept fis payload)
+      h.command (Some tag)
   pub op : Op
   pub lba : ℕ
   pub count : ℕ
@@ -99,20 +99,20 @@ pub record ServesAct (items : Items) (f : Facts) (act : Act) (op : Op)
 abbrev pub ServiceLaw : Type 0
 ServiceLaw =
     (items : Items) (f : Facts) (act : Act) (command : Command) (tag : Option ℕ) (op : Op)
-    (lba count : ℕ) → IsLookedAt f act command tag → Moves command tag op lba count → IsFree f tag
-    → on_drive f lba count ≡ true
+    (lba count : ℕ) → IsLookedAtBy items f act command tag → Moves command tag op lba count
+    → IsFree f tag → on_drive f lba count ≡ true
     → ServesAct items f act op lba count
 
 -- Nothing is held under a tag that no slot has.
 abbrev pub TagLaw : Type 0
 TagLaw =
-    (items : Items) → IsQuiet items → (o : Origin) (acts : List Act) (tag : ℕ) (h : HeldCommand)
-    → held (log_of items o acts) tag ≡ Some h → tag < slot_count
+    (items : Items) → IsQuiet items → ReadsTags items → (o : Origin) (acts : List Act) (tag : ℕ)
+    (h : HeldCommand) → held (log_of items o acts) tag ≡ Some h → tag < slot_count
 
 -- An unqueued write that moved its data: of sectors on the drive, and permitted.
-pub record Writes (f : Facts) (act : Act) (lba : ℕ) (bytes : List ℕ) : Type 0 where
+pub record Writes (items : Items) (f : Facts) (act : Act) (lba : ℕ) (bytes : List ℕ) : Type 0 where
   pub count : ℕ
-  pub looked : IsLookedAt f act (WriteDma lba count) None
+  pub looked : IsLookedAtBy items f act (WriteDma lba count) None
   pub payload : bytes ≡ looked.payload
   pub on_drive : on_drive f lba count ≡ true
   pub permitted : IsPermitted (ranges_in_force f) Write lba count
@@ -120,4 +120,4 @@ pub record Writes (f : Facts) (act : Act) (lba : ℕ) (bytes : List ℕ) : Type 
 abbrev pub WriteLaw : Type 0
 WriteLaw =
     (items : Items) → IsQuiet items → (f : Facts) (act : Act) (lba : ℕ) (bytes : List ℕ)
-    → (event_in items f act).deed ≡ Wrote lba bytes → Writes f act lba bytes
+    → (event_in items f act).deed ≡ Wrote lba bytes → Writes items f act lba bytes

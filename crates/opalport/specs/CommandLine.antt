@@ -1,22 +1,46 @@
 -- The command line of the program, as `clap` reads it, and what its words ask for.
-use Rattle.std.specs.Prelude.{List, [], ◌∷◌, true, Option, None, Some, codes, unwrap_or, option_and_then, if◌then◌else◌}
+use Rattle.std.specs.Prelude.{List, [], ◌∷◌, map, true, Option, None, Some, codes, unwrap_or, option_and_then, if◌then◌else◌}
 use Rattle.std.specs.Str.{bytes_eq}
-use Rattle.clap.specs.Words.{App, Row, Rule, Shape, Text, first_of, new_app, new_rule, subcommand_of, with_rule, with_subcommand}
+use Rattle.clap.specs.Words.{App, Row, Rule, Shape, Text, all_of, first_of, new_app, new_rule, subcommand_of, with_rule, with_subcommand}
 use Rattle.clap.specs.Simple.{on_top}
+use Rattle.clap.specs.declared.builder.action.ArgAction.TheVariants.{Append}
+use Rattle.tool.specs.OptionTexts.{DriveText, drive_text}
 use Rattle.opalport.specs.declared.command_line.Request.{Request}
-use Rattle.opalport.specs.declared.command_line.Request.TheVariants.{Run, Level0, Threads, Tokens}
+use Rattle.opalport.specs.declared.command_line.Request.TheVariants.{Run, Level0, Threads, Tokens, Hba}
 
 -- `--name TEXT`, and the text that stands for it where it is left out
 abbrev pub option_rule : Text → Text → Rule
 option_rule name default =
     record (new_rule name) { long = Some name; value_names = 1; defaults = default ∷ [] }
 
+-- `--name TEXT`, which may be left out
+abbrev pub free_rule : Text → Rule
+free_rule name = record (new_rule name) { long = Some name; value_names = 1 }
+
 -- a command that opens a drive, with the options that say which
 abbrev pub drive_line : Text → App
 drive_line name =
-    with_rule (with_rule (with_rule (new_app name) (option_rule (codes "sectors") (codes "1000")))
+    with_rule
+    (with_rule
+    (with_rule
+    (with_rule
+    (with_rule (with_rule (new_app name) (option_rule (codes "sectors") (codes "1000")))
     (option_rule (codes "shadow") (codes "8")))
-    (option_rule (codes "msid") (codes "4f50414c4d534944"))
+    (option_rule (codes "msid") (codes "4f50414c4d534944")))
+    (option_rule (codes "profile") (codes "base"))) (free_rule (codes "serial")))
+    (free_rule (codes "model"))
+
+-- `--range TEXT`, as often as it is wanted
+abbrev pub range_rule : Rule
+range_rule = record (new_rule (codes "range")) {
+  long = Some (codes "range");
+  value_names = 1;
+  action = Some Append;
+}
+
+-- `hba`, with the options of a drive, and ranges
+abbrev pub hba_line : App
+hba_line = with_rule (drive_line (codes "hba")) range_rule
 
 -- `threads`, with the options that say how many clients make how many rounds
 abbrev pub threads_line : App
@@ -38,46 +62,61 @@ wants_command s =
 abbrev pub top_line : App
 top_line = on_top wants_command (new_app (codes "opalport"))
 
--- the program takes one of the four, and nothing else
+-- the program takes one of the five, and nothing else
 abbrev pub opalport_line : App
 opalport_line =
     with_subcommand
     (with_subcommand
     (with_subcommand
+    (with_subcommand
     (with_subcommand top_line
     (drive_line (codes "run")).top) (drive_line (codes "level0")).top) threads_line.top)
-    tokens_line.top
+    tokens_line.top) hba_line.top
 
 -- what words ask for, by the texts as they are written
 pub data Wanted : Type 0 where
-  run : Text → Text → Text → Wanted
-  level0 : Text → Text → Text → Wanted
+  run : DriveText → Wanted
+  level0 : DriveText → Wanted
   threads : Text → Text → Wanted
   tokens : Text → Wanted
+  hba : DriveText → List Text → Wanted
 
 -- what a request asks for
 abbrev pub wanted_by : Request → Wanted
-wanted_by (Run drive) = run drive.sectors.now drive.shadow.now drive.msid.now
-wanted_by (Level0 drive) = level0 drive.sectors.now drive.shadow.now drive.msid.now
+wanted_by (Run drive) = run (drive_text drive)
+wanted_by (Level0 drive) = level0 (drive_text drive)
 wanted_by (Threads load) = threads load.clients.now load.rounds.now
 wanted_by (Tokens hex) = tokens hex.now
+wanted_by (Hba texts) = hba (drive_text texts.drive) (map (λ s. s.now) texts.ranges.items)
 
--- the text of an argument; one that is required or has a default has one
+-- the text of an argument; one that is required or has a default has one, and any other may be empty
 abbrev pub text_of : Text → List Row → Text
 text_of id rows = unwrap_or (first_of id rows) []
+
+-- the texts of the options that say which drive; one that is left out, and has no default, is empty
+abbrev pub drive_in : List Row → DriveText
+drive_in rows = record {
+  sectors = text_of (codes "sectors") rows;
+  shadow = text_of (codes "shadow") rows;
+  msid = text_of (codes "msid") rows;
+  profile = text_of (codes "profile") rows;
+  serial = text_of (codes "serial") rows;
+  model = text_of (codes "model") rows;
+}
+
+-- the texts of the ranges, in their order
+abbrev pub range_texts : List Row → List Text
+range_texts rows = unwrap_or (all_of (codes "range") rows) []
 
 -- what a subcommand with these arguments asks for
 abbrev pub asked_of : Text × List Row → Option Wanted
 asked_of (name, rows) =
-    if bytes_eq name (codes "run")
-    then Some (run (text_of (codes "sectors") rows) (text_of (codes "shadow") rows)
-    (text_of (codes "msid") rows))
-    else if bytes_eq name (codes "level0")
-    then Some (level0 (text_of (codes "sectors") rows) (text_of (codes "shadow") rows)
-    (text_of (codes "msid") rows))
+    if bytes_eq name (codes "run") then Some (run (drive_in rows))
+    else if bytes_eq name (codes "level0") then Some (level0 (drive_in rows))
     else if bytes_eq name (codes "threads")
     then Some (threads (text_of (codes "clients") rows) (text_of (codes "rounds") rows))
     else if bytes_eq name (codes "tokens") then Some (tokens (text_of (codes "hex") rows))
+    else if bytes_eq name (codes "hba") then Some (hba (drive_in rows) (range_texts rows))
     else None
 
 -- what the words of a command line ask for, where they are one

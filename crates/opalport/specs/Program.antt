@@ -1,45 +1,40 @@
 -- How the program ends, by the words of its command line.
-use Rattle.std.specs.Prelude.{◌≡◌, ◌≢◌, ◌⊎◌, ℕ, List, [], ◌∷◌, ◌++◌, Option, None, Some, Ok, Err}
+use Rattle.std.specs.Prelude.{◌≡◌, ◌≢◌, ◌≤◌, ◌⊎◌, ℕ, List, [], ◌∷◌, ◌++◌, Option, None, Some, Ok, Err}
 use Rattle.std.specs.Io.KnownBytes.{Appends}
 use Rattle.hex.specs.Hex.{decode_of}
 use Rattle.hex.specs.declared.error.FromHexError.{FromHexError}
-use Rattle.sp_cells.specs.Config.{Config, IsWithinLimits}
+use Rattle.sp_cells.specs.Config.{Config}
 use Rattle.port_threads.specs.Loads.{WritesLoad, IsFirstLoadFault}
 use Rattle.port_threads.specs.Works.{Ran}
 use Rattle.port_threads.specs.declared.load.LoadFault.{LoadFault}
-use Rattle.tool.specs.OptionTexts.{WritesConfig}
+use Rattle.tool.specs.OptionTexts.{DriveText, WritesConfig, IsOfDrive}
 use Rattle.tool.specs.Outcomes.{ScriptYields}
 use Rattle.tool.specs.Level0.{level0_text}
 use Rattle.tool.specs.TokenLines.{token_text}
 use Rattle.clap.specs.Words.{IsAmong, Kinds, Text, fault_of}
 use Rattle.clap.specs.declared.error.kind.ErrorKind.{ErrorKind}
 use Rattle.clap.specs.declared.error.kind.ErrorKind.TheVariants.{DisplayHelp, DisplayVersion}
-use Rattle.opalport.specs.CommandLine.{Wanted, run, level0, threads, tokens, asked_by, opalport_line}
+use Rattle.opalport.specs.CommandLine.{Wanted, run, level0, threads, tokens, hba, asked_by, opalport_line}
 
 -- the texts write a configuration within the limits
-abbrev pub WritesLimitedConfig : Text → Text → Text → Type 0
-WritesLimitedConfig sectors shadow msid =
-    (config : Config) × WritesConfig sectors shadow msid config
-    × IsWithinLimits config.sectors config.mbr_sectors config.msid
+abbrev pub WritesLimitedConfig : DriveText → Type 0
+WritesLimitedConfig texts = (config : Config) × WritesConfig texts config × IsOfDrive config
 
 -- the script prints what it comes to on the drive of the options; where the options open no
 -- drive, the status is 2, and nothing is printed
-abbrev pub RunEnds : Text → Text → Text → Option (List ℕ) → ℕ → Option (List ℕ) → Option (List ℕ)
-    → Type 0
-RunEnds sectors shadow msid input status old new =
-    ((config : Config) × WritesConfig sectors shadow msid config
-    × IsWithinLimits config.sectors config.mbr_sectors config.msid
+abbrev pub RunEnds : DriveText → Option (List ℕ) → ℕ → Option (List ℕ) → Option (List ℕ) → Type 0
+RunEnds texts input status old new =
+    ((config : Config) × WritesConfig texts config × IsOfDrive config
     × ScriptYields config input status old new)
-    ⊎ ((WritesLimitedConfig sectors shadow msid → ⊥) × (status ≡ 2) × (new ≡ old))
+    ⊎ ((WritesLimitedConfig texts → ⊥) × (status ≡ 2) × (new ≡ old))
 
 -- the discovery of a new drive is printed with status 0; where the options open no drive, the status is 2, and nothing
 -- is printed
-abbrev pub Level0Ends : Text → Text → Text → ℕ → Option (List ℕ) → Option (List ℕ) → Type 0
-Level0Ends sectors shadow msid status old new =
-    ((config : Config) × WritesConfig sectors shadow msid config
-    × IsWithinLimits config.sectors config.mbr_sectors config.msid
+abbrev pub Level0Ends : DriveText → ℕ → Option (List ℕ) → Option (List ℕ) → Type 0
+Level0Ends texts status old new =
+    ((config : Config) × WritesConfig texts config × IsOfDrive config
     × (status ≡ 0) × Appends old new (level0_text config))
-    ⊎ ((WritesLimitedConfig sectors shadow msid → ⊥) × (status ≡ 2) × (new ≡ old))
+    ⊎ ((WritesLimitedConfig texts → ⊥) × (status ≡ 2) × (new ≡ old))
 
 -- the clients ran, and what they tell is printed; where the texts write no load, the status is 2, and nothing is printed
 abbrev pub ThreadsEnd : Text → Text → ℕ → Option (List ℕ) → Option (List ℕ) → Type 0
@@ -65,13 +60,12 @@ pub record EndsByWords (kind : ErrorKind) (status : ℕ) (old new : Option (List
 -- the words ask for something, and this is how it ends
 abbrev pub Serves : Option Wanted → Option (List ℕ) → ℕ → Option (List ℕ) → Option (List ℕ) → Type 0
 Serves None input status old new = status ≡ 2
-Serves (Some (run sectors shadow msid)) input status old new =
-    RunEnds sectors shadow msid input status old new
-Serves (Some (level0 sectors shadow msid)) input status old new =
-    Level0Ends sectors shadow msid status old new
+Serves (Some (run texts)) input status old new = RunEnds texts input status old new
+Serves (Some (level0 texts)) input status old new = Level0Ends texts status old new
 Serves (Some (threads clients rounds)) input status old new =
     ThreadsEnd clients rounds status old new
 Serves (Some (tokens hex)) input status old new = TokensEnd hex status old new
+Serves (Some (hba texts ranges)) input status old new = status ≤ 2
 
 -- the words are no command line, and one of their faults is told
 abbrev pub Refuses : Kinds → ℕ → Option (List ℕ) → Option (List ℕ) → Type 0

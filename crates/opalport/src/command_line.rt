@@ -2,18 +2,13 @@
 
 ghost use Rattle.std.specs.Prelude.{◌≡◌, IfOk, false, map, option_map, option_and_then, string_bytes, codes};
 ghost use Rattle.clap.specs.Words.{FailsBy, app_of, fault_of, found_of, rows_of, rule_of, subcommand_rows_of};
-ghost use Rattle.opalport.specs.CommandLine.{top_line, option_rule, drive_line, threads_line, tokens_line, opalport_line, text_of, wanted_by, asked_of, asked_by};
+ghost use Rattle.tool.specs.OptionTexts.{drive_text};
+ghost use Rattle.opalport.specs.CommandLine.{top_line, option_rule, free_rule, drive_line, drive_in, hba_line, range_rule, range_texts, threads_line, tokens_line, opalport_line, text_of, wanted_by, asked_of, asked_by};
 
-use clap::{Arg, ArgMatches, Command, Error};
+use crate::controller_help::LINES as CONTROLLER_LINES;
+use clap::{Arg, ArgAction, ArgMatches, Command, Error};
 use std::alloc::{AllocError, Global};
-
-/// The options that say which drive, as they are written.
-#[derive(Clone, Copy)]
-pub struct DriveTexts<'a> {
-    pub sectors: &'a str,
-    pub shadow: &'a str,
-    pub msid: &'a str,
-}
+use tool::DriveTexts;
 
 /// The options that say how many clients make how many rounds, as they are written.
 #[derive(Clone, Copy)]
@@ -22,8 +17,15 @@ pub struct LoadTexts<'a> {
     pub rounds: &'a str,
 }
 
+/// The options of a controller's drive, as they are written.
+#[derive(Drop)]
+pub struct HbaTexts<'a> {
+    pub drive: DriveTexts<'a>,
+    pub ranges: Vec<&'a str>,
+}
+
 /// What a command line asks for.
-#[derive(Clone, Copy)]
+#[derive(Drop)]
 pub enum Request<'a> {
     /// To run a script on a drive.
     Run(DriveTexts<'a>),
@@ -33,6 +35,8 @@ pub enum Request<'a> {
     Threads(LoadTexts<'a>),
     /// To tell a token stream, written in hex, as text.
     Tokens(&'a str),
+    /// To serve a host as a controller.
+    Hba(HbaTexts<'a>),
 }
 
 /// An option that takes a value, with the one that stands where it is left out.
@@ -53,6 +57,22 @@ fn option<'a>(
         .help(help)
 }
 
+/// An option that takes a value, and may be left out.
+fn free_option<'a>(
+    alloc: Global,
+    name: &'static str,
+    value: &'static str,
+    help: &'static str,
+) -> Arg<'a>
+    ensures rule { rule_of result ≡ free_rule name.now }
+    ensures local { result.global ≡ false }
+{
+    Arg::new(alloc, name)
+        .long(name)
+        .value_name(value)
+        .help(help)
+}
+
 /// What `run --help` says of lines and statuses.
 const LINES: &str = "\
 Lines, whose words stand between blanks; numbers are decimal, HH is two hex digits, HEX is hex text:
@@ -67,6 +87,10 @@ Lines, whose words stand between blanks; numbers are decimal, HH is two hex digi
   send C ID HEX                     the ComPacket HEX to the ComID ID
   recv C ID BLOCKS                  so many blocks of 512 bytes from the ComID ID
                                     (1: Level 0 discovery)
+  secin C P S BLOCKS                the same by the security protocol P, with S as SP Specific
+                                    (0 and 0: the list of protocols, of a field drive)
+  secout C P S HEX                  the bytes HEX by it, with zeros to the end of a block
+  identify C                        what the drive says that it is
   log C                             the log page of the last queued error
   reset C K                         a power cycle (K is 0) or a hardware reset (1)
   tper C                            the command that resets the drive, where TPerInfo lets it
@@ -74,8 +98,8 @@ Lines, whose words stand between blanks; numbers are decimal, HH is two hex digi
 
 Behind a first line `port` the lines are steps of an AHCI port, with range and expect as above:
   put C T REQUEST                   client C puts a request in slot T: read L N, write L N HH,
-                                    dread L N, dwrite L N HH, call ID TSN HSN HEX, send ID HEX
-                                    or recv ID BLOCKS
+                                    dread L N, dwrite L N HH, call ID TSN HSN HEX, send ID HEX,
+                                    recv ID BLOCKS, secin P S BLOCKS, secout P S HEX or identify
   issue T, accept T, complete T     the port issues it, the drive takes it, the drive ends it
   recover                           the port recovers from a failed command
   reset C K                         client C resets the port and the drive
@@ -107,12 +131,29 @@ fn drive_command<'a>(
         "4f50414c4d534944",
         "The manufactured PIN",
     );
+    let profile = option(
+        alloc,
+        "profile",
+        "NAME",
+        "base",
+        "base, or field: what unmodified drivers ask for beside it",
+    );
+    let serial = free_option(
+        alloc,
+        "serial",
+        "TEXT",
+        "The serial number of a field drive",
+    );
+    let model = free_option(alloc, "model", "TEXT", "The model number of a field drive");
     Command::new(alloc, name)
         .about(about)
         .after_help(lines)
         .arg(sectors)?
         .arg(shadow)?
-        .arg(msid)
+        .arg(msid)?
+        .arg(profile)?
+        .arg(serial)?
+        .arg(model)
 }
 
 /// The command that runs clients and an engine at one port, with the options that say how many.
@@ -146,6 +187,32 @@ fn tokens_command<'a>(alloc: Global) -> Result<Command<'a>, AllocError>
         .arg(hex)
 }
 
+/// The option that gives a range, as often as there are ranges.
+fn range_option<'a>(alloc: Global) -> Arg<'a>
+    ensures rule { rule_of result ≡ range_rule }
+    ensures local { result.global ≡ false }
+{
+    Arg::new(alloc, "range")
+        .long("range")
+        .value_name("ROW")
+        .action(ArgAction::Append)
+        .help("The words of a script's range line: N START LENGTH RE WE RL WL")
+}
+
+/// The command that serves a host as a controller, with the options that say which drive.
+fn hba_command<'a>(alloc: Global) -> Result<Command<'a>, AllocError>
+    ensures { IfOk result (λ command. app_of command ≡ hba_line) }
+{
+    let range = range_option(alloc);
+    drive_command(
+        alloc,
+        "hba",
+        "Serves a host over standard input and output, as an AHCI controller",
+        CONTROLLER_LINES,
+    )?
+    .arg(range)
+}
+
 /// The program, before its commands are there.
 fn top_command<'a>(alloc: Global) -> Command<'a>
     ensures { app_of result ≡ top_line }
@@ -170,7 +237,8 @@ fn command<'a>(alloc: Global) -> Result<Command<'a>, AllocError>
             "",
         )?)?
         .subcommand(threads_command(alloc)?)?
-        .subcommand(tokens_command(alloc)?)
+        .subcommand(tokens_command(alloc)?)?
+        .subcommand(hba_command(alloc)?)
 }
 
 /// The text of an argument, as it is written.
@@ -182,15 +250,15 @@ fn text_of<'a>(matches: &ArgMatches<'a>, id: &str) -> &'a str
 
 /// The options that say which drive.
 fn drive_texts<'a>(matches: &ArgMatches<'a>) -> DriveTexts<'a>
-    ensures sectors { result.sectors.now
-        ≡ text_of (codes "sectors") (rows_of (found_of matches.now)) }
-    ensures shadow { result.shadow.now ≡ text_of (codes "shadow") (rows_of (found_of matches.now)) }
-    ensures msid { result.msid.now ≡ text_of (codes "msid") (rows_of (found_of matches.now)) }
+    ensures { drive_text result ≡ drive_in (rows_of (found_of matches.now)) }
 {
     DriveTexts {
         sectors: text_of(matches, "sectors"),
         shadow: text_of(matches, "shadow"),
         msid: text_of(matches, "msid"),
+        profile: text_of(matches, "profile"),
+        serial: text_of(matches, "serial"),
+        model: text_of(matches, "model"),
     }
 }
 
@@ -206,18 +274,39 @@ fn load_texts<'a>(matches: &ArgMatches<'a>) -> LoadTexts<'a>
     }
 }
 
-/// What the matches of a command line ask for.
-fn request_in<'a>(matches: &ArgMatches<'a>) -> Option<Request<'a>>
-    ensures { option_map wanted_by result ≡ option_and_then asked_of
-        (subcommand_rows_of matches.now) }
+/// The options of a controller's drive.
+fn hba_texts<'a>(alloc: Global, matches: &ArgMatches<'a>) -> Result<HbaTexts<'a>, AllocError>
+    ensures drive { IfOk result (λ texts. drive_text texts.drive
+        ≡ drive_in (rows_of (found_of matches.now))) }
+    ensures ranges { IfOk result (λ texts. map (λ s. s.now) texts.ranges.items
+        ≡ range_texts (rows_of (found_of matches.now))) }
 {
-    let (name, matches) = matches.subcommand()?;
+    let ranges = Vec::from_slice(alloc, matches.get_strs("range").unwrap_or(&[]))?;
+    let drive = drive_texts(matches);
+    Ok(HbaTexts { drive, ranges })
+}
+
+/// What the matches of a command line ask for.
+fn request_in<'a>(
+    alloc: Global,
+    matches: &ArgMatches<'a>,
+) -> Result<Option<Request<'a>>, AllocError>
+    ensures { IfOk result (λ request. option_map wanted_by request ≡ option_and_then asked_of
+        (subcommand_rows_of matches.now)) }
+{
+    let Some((name, matches)) = matches.subcommand() else {
+        return Ok(None);
+    };
     match name {
-        "run" => Some(Request::Run(drive_texts(matches))),
-        "level0" => Some(Request::Level0(drive_texts(matches))),
-        "threads" => Some(Request::Threads(load_texts(matches))),
-        "tokens" => Some(Request::Tokens(text_of(matches, "hex"))),
-        _ => None,
+        "run" => Ok(Some(Request::Run(drive_texts(matches)))),
+        "level0" => Ok(Some(Request::Level0(drive_texts(matches)))),
+        "threads" => Ok(Some(Request::Threads(load_texts(matches)))),
+        "tokens" => Ok(Some(Request::Tokens(text_of(matches, "hex")))),
+        "hba" => {
+            let texts = hba_texts(alloc, matches)?;
+            Ok(Some(Request::Hba(texts)))
+        }
+        _ => Ok(None),
     }
 }
 
@@ -232,5 +321,5 @@ pub fn request_of<'a>(alloc: Global, words: &'a [String]) -> Result<Option<Reque
     ensures fails { FailsBy (fault_of opalport_line (map string_bytes words.now)) result }
 {
     let matches = command(alloc)?.try_get_matches_from(words)?;
-    Ok(request_in(&matches))
+    Ok(request_in(alloc, &matches)?)
 }

@@ -1,5 +1,6 @@
 //! Why the program comes to no status of its own.
 
+use hba_tool::WireError;
 use port_threads::LoadError;
 use thiserror::Error;
 use tool::RunError;
@@ -9,6 +10,8 @@ use tool::RunError;
 pub(crate) enum ProgramError {
     #[error(transparent)]
     Run(#[from] RunError),
+    #[error(transparent)]
+    Hba(#[from] WireError),
     #[error(transparent)]
     Threads(#[from] LoadError),
 }

@@ -2,6 +2,8 @@
 #![tactic(auto)]
 
 mod command_line;
+mod controller;
+mod controller_help;
 mod error;
 mod program;
 

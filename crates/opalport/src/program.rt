@@ -2,9 +2,11 @@
 
 ghost use Rattle.std.specs.Prelude.{◌≡◌, ◌≢◌, ◌≤◌, IfOk, map, string_bytes};
 ghost use Rattle.clap.specs.Words.{kind_of};
+ghost use Rattle.tool.specs.OptionTexts.{drive_text};
 ghost use Rattle.opalport.specs.Program.{EndsByWords, RunEnds, Level0Ends, ThreadsEnd, TokensEnd, Ends};
 
-use crate::command_line::{DriveTexts, LoadTexts, Request, request_of};
+use crate::command_line::{LoadTexts, Request, request_of};
+use crate::controller::serve_controller;
 use crate::error::ProgramError;
 use clap::error::ErrorKind;
 use port_threads::{Load, LoadError, run_load};
@@ -13,7 +15,8 @@ use std::io::{Read, Write};
 use std::sync::Wait;
 use std::thread::Threads;
 use tool::{
-    Options, OptionsFault, RunError, run_level0, run_script_with_faults, run_tokens_with_faults,
+    DriveTexts, Options, OptionsFault, RunError, run_level0, run_script_with_faults,
+    run_tokens_with_faults,
 };
 
 /// Runs a script on the drive that the options open, and gives the status.
@@ -25,16 +28,10 @@ fn run<R: Read + Drop, W: Write, E: Write>(
     faults: &mut E,
 ) -> Result<u8, RunError>
     ensures most { IfOk result (λ status. status ≤ 2) }
-    ensures ends { IfOk result (λ status. RunEnds drive.now.sectors.now drive.now.shadow.now
-        drive.now.msid.now (R.remaining input) status (W.contents output.old)
-        (W.contents output.new)) }
+    ensures ends { IfOk result (λ status. RunEnds (drive_text drive.now) (R.remaining input)
+        status (W.contents output.old) (W.contents output.new)) }
 {
-    match Options::parse(
-        alloc,
-        drive.sectors.as_bytes(),
-        drive.shadow.as_bytes(),
-        drive.msid.as_bytes(),
-    ) {
+    match Options::parse(alloc, drive) {
         Ok(options) => run_script_with_faults(alloc, input, output, faults, &options),
         Err(OptionsFault::OutOfMemory) => Err(RunError::Memory),
         Err(fault) => {
@@ -52,16 +49,10 @@ fn level0<W: Write, E: Write>(
     faults: &mut E,
 ) -> Result<u8, RunError>
     ensures most { IfOk result (λ status. status ≤ 2) }
-    ensures ends { IfOk result (λ status. Level0Ends drive.now.sectors.now drive.now.shadow.now
-        drive.now.msid.now
-        status (W.contents output.old) (W.contents output.new)) }
+    ensures ends { IfOk result (λ status. Level0Ends (drive_text drive.now) status
+        (W.contents output.old) (W.contents output.new)) }
 {
-    match Options::parse(
-        alloc,
-        drive.sectors.as_bytes(),
-        drive.shadow.as_bytes(),
-        drive.msid.as_bytes(),
-    ) {
+    match Options::parse(alloc, drive) {
         Ok(options) => run_level0(alloc, output, &options),
         Err(OptionsFault::OutOfMemory) => Err(RunError::Memory),
         Err(fault) => {
@@ -157,6 +148,7 @@ pub fn ends<T: Threads + Wait + Sync, R: Read + Drop, W: Write, E: Write>(
         Ok(Some(Request::Level0(drive))) => Ok(level0(alloc, &drive, output, faults)?),
         Ok(Some(Request::Threads(load))) => Ok(threads(rt, alloc, &load, output, faults)?),
         Ok(Some(Request::Tokens(hex))) => Ok(tokens(alloc, hex, output, faults)?),
+        Ok(Some(Request::Hba(texts))) => { serve_controller(alloc, &texts, input, output, faults) },
         Ok(None) => Ok(2),
         Err(error) => Ok(tell(&error, output, faults)?),
     }

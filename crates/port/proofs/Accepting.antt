@@ -12,7 +12,7 @@ use Rattle.slots.proofs.Held.{held as held_slot}
 use Rattle.slots.specs.Fetch.{fetched}
 use Rattle.slots.specs.Layout.{buffer_size}
 use Rattle.slots.specs.declared.fetched.Fetched.{Fetched}
-use Rattle.history.specs.Answers.{payload_of, errored as failed_status, status_of, accepted_fises}
+use Rattle.history.specs.Answers.{payload_of, errored as failed_status, status_of}
 use Rattle.history.specs.Tcg.{accepted_data}
 use Rattle.history.specs.Events.{Event}
 use Rattle.history.specs.Facts.{Facts, facts}
@@ -240,9 +240,9 @@ fetched_is port o list tag put lt h was =
 
 pub fetches : (port : PortState) (o : Origin) (list : List Step) (tag : ℕ) (put : Put) → tag < 32
     → PortAgrees port o list → stage (trace o list) tag ≡ Issued put
-    → (f : Fetched) × (fetched port.memory tag ≡ Ok f) × (payload_of f.fis ≤ buffer_size)
+    → (f : Fetched) × (fetched port.memory tag ≡ Ok f) × (payload_of port.drive.tper.store.config f.fis ≤ buffer_size)
 fetches port o list tag put lt h was =
-    (fetched_of put tag, fetched_is port o list tag put lt h was, issued_small o list tag put lt h.lawful was)
+    (fetched_of put tag, fetched_is port o list tag put lt h was, issued_small port.drive.tper.store.config o list tag put lt h.lawful was)
 
 pub accept_agrees : (old new : PortState) (o : Origin) (list : List Step) (tag : ℕ) → tag < 32
     → PortAgrees old o list → refusal (trace o list) (steps.Accept tag) ≡ None
@@ -261,9 +261,9 @@ accept_agrees old new o list tag lt h lawful made =
     let same : s.put ≡ put = issued_same s.put put (sym s.was ∙ (h.tags tag lt).stands ∙ was) in
     let l : IsLaid old.memory tag put.command (payload ms tag) =
     subst (λ (x : Stage). IsLaidAt old.memory tag x (payload ms tag)) was (h.tags tag lt).laid in
-    let payload_is : buffer_front old.memory tag (payload_of fis) ≡ accept_payload put (payload ms tag) =
-    brought old.memory (payload ms tag) tag put (is_queued_command put.command) (payload_of fis)
-    (issued_length o list tag put lt h.lawful was) l.buffer in
+    let payload_is : buffer_front old.memory tag (payload_of old.drive.tper.store.config fis) ≡ accept_payload put (payload ms tag) =
+    brought old.memory (payload ms tag) tag put (is_queued_command put.command) (payload_of old.drive.tper.store.config fis)
+    (issued_length old.drive.tper.store.config o list tag put lt h.lawful was) l.buffer in
     let act : Act = AcceptFis fis (accept_payload put (payload ms tag)) in
     let e : Effect = effect_by (facts o (events ms)) act in
     let answered : IsAnswer (facts o (events ms)) (h2d_at fis) e.event s.answer =

@@ -1,4 +1,5 @@
 -- What a call of the port owes, by its private step.
+use Rattle.port_history.proofs.Acted.{tcg_for_ports}
 use Rattle.std.proofs.Common.{◌≡◌, ℕ, ◌+◌, true, List, ◌∷◌, length, Result, Ok, Err, Option, None, sym, ap, ◌∙◌, subst}
 use Rattle.std.specs.Prelude.{OnOk, IfOk, is_ok, is_none, unwrap_or, ◌<◌}
 use Rattle.port_history.specs.declared.request.Answer.{Answer}
@@ -10,7 +11,6 @@ use Rattle.port_history.specs.declared.step.Step.{Step}
 use Rattle.port_history.specs.Steps.{trace, answer}
 use Rattle.port_history.specs.Refusals.{refusal, has_slot, IsRefusedBy, IsTold}
 use Rattle.history.specs.Tcg.{tcg}
-use Rattle.history.proofs.QuietProofs.{tcg_quiet}
 use Rattle.port.specs.State.{PortState, refusal_on}
 use Rattle.port.specs.Answers.{taken}
 use Rattle.port.specs.Agreement.{PortAgrees}
@@ -41,7 +41,7 @@ pub served_call : (r : Result (ℕ × Answer) PortError) (old : PortState) (tag 
     → IfOk r (λ x. (o : Origin) (list : List Step) → PortAgrees old o list → (x.0 ≡ 1 + length (trace o list)) × (x.1 ≡ unwrap_or (answer (trace o list) tag) no_bytes))
     → IfOk r (λ x. (o : Origin) (list : List Step) → PortAgrees old o list → IsServedAnswer tcg o list tag x.1)
 served_call (Ok x) old tag e = λ o list h.
-    subst (IsServedAnswer tcg o list tag) (sym (e o list h).1) (taken_law tcg tcg_quiet o list tag h.lawful)
+    subst (IsServedAnswer tcg o list tag) (sym (e o list h).1) (taken_law tcg tcg_for_ports o list tag h.lawful)
 served_call (Err error) old tag e = tt
 
 -- the same where the private step tells its refusals of a port that agrees

@@ -1,4 +1,5 @@
 -- What a lawful list of steps gives a port.
+use Rattle.sp_cells.specs.Config.{Config}
 use Rattle.std.proofs.Common.{◌≡◌, ℕ, ◌*◌, ◌≤◌, ◌<◌, ◌%◌, nat_lt, Bool, true, false, not, List, [], length, slice_index, if◌then◌else◌, Option, Some, None, refl, sym, ap, ◌∙◌, subst, arith}
 use Rattle.std.specs.Prelude.{is_some, option_map, unwrap_or}
 use Rattle.std.proofs.lemmas.Bool.{lt-ltb}
@@ -16,7 +17,6 @@ use Rattle.history.specs.History.{Accept as AcceptFis, Complete as CompleteTag}
 use Rattle.history.specs.Opening.{Origin}
 use Rattle.history.specs.Readers.{failure, held}
 use Rattle.history.specs.Tcg.{tcg}
-use Rattle.history.proofs.QuietProofs.{tcg_quiet}
 use Rattle.port_history.specs.declared.stages.Put.{Put}
 use Rattle.port_history.specs.declared.stages.Stage.TheVariants.{Issued, Accepted}
 use Rattle.port_history.specs.declared.step.Step.{Step}
@@ -24,7 +24,7 @@ use Rattle.port_history.specs.Refusals.{IsLawful}
 use Rattle.port_history.specs.Requests.{command_fis, log_fis, bytes_moved, blocks_moved}
 use Rattle.port_history.specs.Stages.{is_queued_command}
 use Rattle.port_history.specs.Steps.{Effect, Moment, effect_by, accept_payload, trace, events, stage, failed, payload}
-use Rattle.port_history.proofs.Acted.{IsHeldOrFailed, IsHeld, IsFailed, IsExecuted, held_effect, failed_effect, mended_effect, executed_bytes, mends}
+use Rattle.port_history.proofs.Acted.{IsHeldOrFailed, IsHeld, IsFailed, IsExecuted, held_effect, failed_effect, mended_effect, executed_bytes, mends, tcg_for_ports}
 use Rattle.port_history.proofs.FedProofs.{accept_fed, expected-brought}
 use Rattle.port_history.proofs.Fises.{brought, fis_brings, payload_is}
 use Rattle.port_history.proofs.Kept.{Kept, held_by}
@@ -44,18 +44,20 @@ is_command_fis (commands.Receive protocol com_id blocks dma) tag = refl
 is_command_fis commands.Identify tag = refl
 is_command_fis (commands.ReadLog10 dma) tag = refl
 is_command_fis commands.Flush tag = refl
+is_command_fis commands.SetFeatures tag = refl
+is_command_fis (commands.ReadLog page dma) tag = refl
 
 pub issued_moves : (o : Origin) (list : List Step) (tag : ℕ) (put : Put) → IsLawful o list
     → stage (trace o list) tag ≡ Issued put → bytes_moved put.command ≤ buffer_size
 issued_moves o list tag put lawful was =
-    omega (arith, (fit_issued (trace o list) tag put (kept tcg tcg_quiet o list lawful) was).sized.most)
+    omega (arith, (fit_issued (trace o list) tag put (kept tcg tcg_for_ports o list lawful) was).sized.most)
 
-pub issued_length : (o : Origin) (list : List Step) (tag : ℕ) (put : Put) → tag < 32
+pub issued_length : (config : Config) (o : Origin) (list : List Step) (tag : ℕ) (put : Put) → tag < 32
     → IsLawful o list → stage (trace o list) tag ≡ Issued put
-    → payload_of (command_fis put.command tag)
+    → payload_of config (command_fis put.command tag)
     ≡ length (accept_payload put (payload (trace o list) tag))
-issued_length o list tag put lt lawful was =
-    sym (accept_fed put tag (payload (trace o list) tag) (fit_issued (trace o list) tag put (kept tcg tcg_quiet o list lawful) was))
+issued_length config o list tag put lt lawful was =
+    sym (accept_fed config put tag (payload (trace o list) tag) (fit_issued (trace o list) tag put (kept tcg tcg_for_ports o list lawful) was))
 
 brought_small : (c : Command) → blocks_moved c ≤ 256 → brought c ≤ buffer_size
 brought_small (commands.ReadQueued lba count) few = omega arith
@@ -67,19 +69,21 @@ brought_small (commands.Receive protocol com_id blocks dma) few = omega arith
 brought_small commands.Identify few = omega arith
 brought_small (commands.ReadLog10 dma) few = omega arith
 brought_small commands.Flush few = omega arith
+brought_small commands.SetFeatures few = omega arith
+brought_small (commands.ReadLog page dma) few = omega arith
 
 unqueued_small : (b : Bool) (n : ℕ) → n ≤ buffer_size → (if b then 0 else n) ≤ buffer_size
 unqueued_small true n h = omega arith
 unqueued_small false n h = h
 
-pub issued_small : (o : Origin) (list : List Step) (tag : ℕ) (put : Put) → tag < 32
+pub issued_small : (config : Config) (o : Origin) (list : List Step) (tag : ℕ) (put : Put) → tag < 32
     → IsLawful o list → stage (trace o list) tag ≡ Issued put
-    → payload_of (command_fis put.command tag) ≤ buffer_size
-issued_small o list tag put lt lawful was =
-    let fit = fit_issued (trace o list) tag put (kept tcg tcg_quiet o list lawful) was in
+    → payload_of config (command_fis put.command tag) ≤ buffer_size
+issued_small config o list tag put lt lawful was =
+    let fit = fit_issued (trace o list) tag put (kept tcg tcg_for_ports o list lawful) was in
     omega (
       arith,
-      fis_brings put.command tag,
+      fis_brings config put.command tag,
       payload_is put.command tag fit.sized.counted fit.sized.most,
       unqueued_small (is_queued_command put.command) (brought put.command) (brought_small put.command fit.sized.most),
     )
@@ -100,11 +104,11 @@ accepted_fits_by : (o : Origin) (list : List Step) (tag : ℕ) (put : Put) → t
     → length (accepted_effect tcg o (trace o list) tag put).bytes ≤ buffer_size
 accepted_fits_by o list tag put lt lawful mended was true queued =
     held_or_failed_fits tag put.command (accepted_effect tcg o (trace o list) tag put)
-    (queued_comes tcg o (trace o list) tag put lt (kept tcg tcg_quiet o list lawful) mended was queued)
+    (queued_comes tcg tcg_for_ports o (trace o list) tag put lt (kept tcg tcg_for_ports o list lawful) mended was queued)
 accepted_fits_by o list tag put lt lawful mended was false queued =
     let le : length (accepted_effect tcg o (trace o list) tag put).bytes ≤ bytes_moved put.command =
     executed_bytes o (events (trace o list)) put.command tag (accept_payload put (payload (trace o list) tag)) lt
-    (fit_issued (trace o list) tag put (kept tcg tcg_quiet o list lawful) was).sized queued in
+    (fit_issued (trace o list) tag put (kept tcg tcg_for_ports o list lawful) was).sized queued in
     omega (arith, issued_moves o list tag put lawful was, le)
 
 pub accepted_fits : (o : Origin) (list : List Step) (tag : ℕ) (put : Put) → tag < 32
@@ -121,14 +125,14 @@ pub accepted_held : (o : Origin) (list : List Step) (tag : ℕ) (put : Put) → 
     → option_map (λ (h : HeldCommand). h.command) (held (events (trace o list)) tag)
     ≡ Some put.command
 accepted_held o list tag put lawful mended was =
-    (kept tcg tcg_quiet o list lawful).queue tag
+    (kept tcg tcg_for_ports o list lawful).queue tag
     ∙ ap (λ (f : Option ℕ). held_by f (stage (trace o list) tag)) mended ∙ ap (held_by None) was
 
 completed_brings : (o : Origin) (list : List Step) (tag : ℕ) (put : Put) → IsLawful o list
     → failed (trace o list) ≡ None → stage (trace o list) tag ≡ Accepted put
     → expected (held (events (trace o list)) tag) ≡ brought put.command
 completed_brings o list tag put lawful mended was =
-    let k = kept tcg tcg_quiet o list lawful in
+    let k = kept tcg tcg_for_ports o list lawful in
     let x = laws.accepted_held (trace o list) tag put k mended was in
     let here = fit_accepted (trace o list) tag put k was in
     ap expected x.1 ∙ ap expected_by x.2 ∙ expected-brought put.command here.queued
@@ -138,7 +142,7 @@ pub completed_length : (o : Origin) (list : List Step) (tag : ℕ) (put : Put) �
     → expected (held (events (trace o list)) tag) ≡ length (payload (trace o list) tag)
 completed_length o list tag put lawful mended was =
     completed_brings o list tag put lawful mended was
-    ∙ sym (fit_accepted (trace o list) tag put (kept tcg tcg_quiet o list lawful) was).fit.brings
+    ∙ sym (fit_accepted (trace o list) tag put (kept tcg tcg_for_ports o list lawful) was).fit.brings
 
 pub completed_small : (o : Origin) (list : List Step) (tag : ℕ) (put : Put) → IsLawful o list
     → failed (trace o list) ≡ None → stage (trace o list) tag ≡ Accepted put
@@ -147,7 +151,7 @@ completed_small o list tag put lawful mended was =
     omega (
       arith,
       completed_brings o list tag put lawful mended was,
-      brought_small put.command (fit_accepted (trace o list) tag put (kept tcg tcg_quiet o list lawful) was).fit.sized.most,
+      brought_small put.command (fit_accepted (trace o list) tag put (kept tcg tcg_for_ports o list lawful) was).fit.sized.most,
     )
 
 pub completed_fits : (o : Origin) (list : List Step) (tag : ℕ) (put : Put) → IsLawful o list
@@ -157,8 +161,8 @@ pub completed_fits : (o : Origin) (list : List Step) (tag : ℕ) (put : Put) →
 completed_fits o list tag put lawful mended was =
     omega (
       arith,
-      (accepted_moves tcg o (trace o list) tag put (kept tcg tcg_quiet o list lawful) mended was).bytes,
-      (fit_accepted (trace o list) tag put (kept tcg tcg_quiet o list lawful) was).fit.sized.most,
+      (accepted_moves tcg o (trace o list) tag put (kept tcg tcg_for_ports o list lawful) mended was).bytes,
+      (fit_accepted (trace o list) tag put (kept tcg tcg_for_ports o list lawful) was).fit.sized.most,
     )
 
 -- what the log page says of a failed port
@@ -188,8 +192,8 @@ pub recovery : (o : Origin) (list : List Step) → IsLawful o list
 recovery o list lawful has_failed =
     let ms = trace o list in
     let t = some_is (failed ms) (was_true (is_some (failed ms)) has_failed) in
-    let x : IsFound ms t.0 = found ms t.0 (kept tcg tcg_quiet o list lawful) t.1 in
-    subst (Recovery o list) (sym (mends tcg o (events ms) x.found x.failing)) (record {
+    let x : IsFound ms t.0 = found ms t.0 (kept tcg tcg_for_ports o list lawful) t.1 in
+    subst (Recovery o list) (sym (mends tcg tcg_for_ports o (events ms) x.found x.failing)) (record {
       failure = x.found;
       failing = x.failing;
       named = named_tag x.found t.0 x.names x.low ∙ sym t.1;

@@ -143,7 +143,7 @@ pub record IsAccepted (old new : PortState) (tag : ℕ) (fis : List ℕ) : Type 
   pub answer : DriveAccepted
   pub bytes : List ℕ
   pub took : Took old.drive new.drive fis
-      (buffer_front old.memory tag (fis_payload fis)) answer
+      (buffer_front old.memory tag (fis_payload old.drive.tper.store.config fis)) answer
   pub memory : IsFilled old.memory new.memory tag
       (is_queued_command put.command) answer.bytes.items bytes
   pub received : Receives old.memory new.memory answer.fises.items

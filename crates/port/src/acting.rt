@@ -9,7 +9,7 @@ use crate::port::Port;
 use crate::registers::{show_all, show_answer};
 use crate::stages::{accepted_stage, failed_then};
 use audit::{AuditLine, Why};
-use drive::{DriveError, payload_of};
+use drive::DriveError;
 use fis::Tag;
 use port_history::{Answer, Entry, PortError, Put, Request, Stage, Step, is_queued};
 use slots::BUFFER;
@@ -140,7 +140,7 @@ impl Port {
     fn do_accept(&mut self, tag: Tag) -> Result<u64, PortError>
         ensures refused { ((put : Put) → stage_at self.old.slots tag ≡ Stage.Issued put
             → (f : Fetched) × (fetched self.old.memory tag ≡ Ok f)
-            × (payload_of f.fis ≤ buffer_size))
+            × (payload_of self.old.drive.tper.store.config f.fis ≤ buffer_size))
             → IsRefusedBy (refusal_on self.old (steps.Accept tag)) result }
         ensures number { IfOk result (λ n. n ≡ 1 + length self.old.history) }
         ensures state { OnOk result ((f : Fetched) → fetched self.old.memory tag ≡ Ok f
@@ -152,7 +152,7 @@ impl Port {
         let Ok(command) = self.memory.fetch(tag) else {
             return Err(PortError::NotIssued);
         };
-        let len = payload_of(&command.fis);
+        let len = self.drive.payload_len(&command.fis);
         if len > BUFFER {
             return Err(PortError::NotIssued);
         }

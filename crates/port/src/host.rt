@@ -116,7 +116,9 @@ fn is_to_device(command: Command) -> bool
         | Command::Receive { .. }
         | Command::Identify
         | Command::ReadLog10 { .. }
-        | Command::Flush => false,
+        | Command::Flush
+        | Command::SetFeatures
+        | Command::ReadLog { .. } => false,
     }
 }
 
@@ -131,8 +133,8 @@ fn bytes_moved(command: Command) -> u32
         | Command::ReadDma { count, .. }
         | Command::WriteDma { count, .. } => count,
         Command::Send { blocks, .. } | Command::Receive { blocks, .. } => u32::from(blocks),
-        Command::Identify | Command::ReadLog10 { .. } => 1,
-        Command::Flush => 0,
+        Command::Identify | Command::ReadLog10 { .. } | Command::ReadLog { .. } => 1,
+        Command::Flush | Command::SetFeatures => 0,
     };
     SECTOR_SIZE as u32 * blocks
 }

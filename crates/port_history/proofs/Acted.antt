@@ -12,42 +12,29 @@ use Rattle.locking.specs.declared.range.Op.TheVariants.{Read, Write}
 use Rattle.locking.specs.declared.ranges.Verdict.{Verdict}
 use Rattle.locking.specs.declared.ranges.Verdict.TheVariants.{Serve, Shadow, Denied}
 use Rattle.trusted_cmds.specs.declared.command.Command.{Command}
-use Rattle.trusted_cmds.specs.declared.command.Command.TheVariants.{ReadQueued, WriteQueued, ReadDma, WriteDma, Send, Receive, Identify, ReadLog10, Flush}
-use Rattle.trusted_cmds.specs.Commands.{reading, fis_of, tag_with, sector_size, IsCounted, is_queued as is_queued_code}
+use Rattle.trusted_cmds.specs.declared.command.Command.TheVariants.{ReadQueued, WriteQueued, ReadDma, WriteDma, Send, Receive, Identify, ReadLog10, Flush, SetFeatures, ReadLog}
+use Rattle.trusted_cmds.specs.declared.command.CommandError.{CommandError}
+use Rattle.trusted_cmds.specs.Commands.{fis_of, tag_with, sector_size, is_queued as is_queued_code}
 use Rattle.history.specs.Opening.{Origin}
 use Rattle.history.specs.Events.{QueueMended, Deed, Nothing, InSession, OfQueue, Wrote, Took, WasReset, Event, did, or_else, latest}
 use Rattle.history.specs.Readers.{holding, held, failing, failure}
 use Rattle.history.specs.Items.{Items}
-use Rattle.history.specs.Quiet.{is_quiet, IsQuiet}
+use Rattle.history.specs.Quiet.{is_quiet}
+use Rattle.history.proofs.QuietProofs.{tcg_quiet}
 use Rattle.history.specs.Facts.{Facts, facts}
-use Rattle.history.specs.Decisions.{not_found, aborted, fails, refuses, fails_queue, on_drive, verdict_on, holds, queued_by, admitted, unqueued_by, is_trusted, is_session_com_id, discovery_com_id, received, is_busy, resets, unqueued_of, known_of, commanded_of}
-use Rattle.history.specs.Tcg.{data_read}
-use Rattle.history.specs.Answers.{answer_fis, pio_fis, ready, errored, is_holding, answer_fises, fises_read, answer_data_of, data_read_of}
+use Rattle.history.specs.Decisions.{not_found, aborted, fails, refuses, fails_queue, on_drive, verdict_on, holds, queued_by, admitted, unqueued_by, is_trusted, is_session_com_id, discovery_com_id, received, is_busy, resets, unqueued_of, known_of, commanded_of, while_failed, is_received}
+use Rattle.history.specs.Tcg.{data_read, command_read, tcg}
+use Rattle.history.specs.Answers.{answer_fis, pio_fis, ready, errored, is_holding, answer_fises_of, fises_read, answer_data_of, data_read_of}
 use Rattle.history.specs.History.{Accept as AcceptFis, event_by, event_in}
 use Rattle.port_history.specs.Requests.{command_fis, log_fis, blocks_moved, bytes_moved}
 use Rattle.port_history.specs.Stages.{is_queued_command}
 use Rattle.port_history.specs.Steps.{Effect, effect_by, effect_in}
-use Rattle.port_history.proofs.Fises.{fis_back, reads, read_as}
+use Rattle.port_history.specs.Laws.{IsSized, IsForPorts, read_as, is_of_request}
+use Rattle.port_history.proofs.Fises.{fis_back, reads}
+use Rattle.sp_cells.specs.Config.{Config}
+use Rattle.trusted_cmds.proofs.Spellings.{ok-reads}
 use Rattle.port_history.proofs.Sizes.{sector_length, data-fits}
 use Rattle.sp_cells.specs.Resets.{programmatic}
-
--- The commands of requests: trusted ones in their forms by DMA, and no read of the log.
-abbrev pub is_asked : Command → Bool
-is_asked (ReadQueued lba count) = true
-is_asked (WriteQueued lba count) = true
-is_asked (ReadDma lba count) = true
-is_asked (WriteDma lba count) = true
-is_asked (Send protocol com_id blocks dma) = dma
-is_asked (Receive protocol com_id blocks dma) = dma
-is_asked Identify = true
-is_asked (ReadLog10 dma) = false
-is_asked Flush = true
-
--- What a command needs so that the drive reads it as it is.
-pub record IsSized (command : Command) : Type 0 where
-  pub counted : IsCounted command
-  pub most : blocks_moved command ≤ 256
-  pub asked : is_asked command ≡ true
 
 -- the FISes
 pub commands_of : (command : Command) (tag : ℕ) → (fis_of command tag).is_command ≡ true
@@ -60,6 +47,8 @@ commands_of (Receive protocol com_id blocks dma) tag = refl
 commands_of Identify tag = refl
 commands_of (ReadLog10 dma) tag = refl
 commands_of Flush tag = refl
+commands_of SetFeatures tag = refl
+commands_of (ReadLog page dma) tag = refl
 
 code_of : (command : Command) (tag : ℕ)
     → is_queued_code (fis_of command tag).command ≡ is_queued_command command
@@ -75,51 +64,55 @@ code_of Identify tag = refl
 code_of (ReadLog10 true) tag = refl
 code_of (ReadLog10 false) tag = refl
 code_of Flush tag = refl
+code_of SetFeatures tag = refl
+code_of (ReadLog page true) tag = refl
+code_of (ReadLog page false) tag = refl
 
 -- the drive reads the command from the bytes
-pub reads_bytes : (command : Command) (tag : ℕ) → tag < 32 → IsSized command
-    → reading (h2d_at (command_fis command tag)) ≡ Ok (read_as command, tag_with command tag)
-reads_bytes command tag lt sized =
-    ap reading (fis_back command tag) ∙ reads command tag lt sized.counted sized.most
+pub reads_bytes : (items : Items) (still : IsForPorts items) (config : Config) (command : Command) (tag : ℕ)
+    → tag < 32 → IsSized command
+    → items.reads config (h2d_at (command_fis command tag)) ≡ Ok (read_as command, tag_with command tag)
+reads_bytes items still config command tag lt sized =
+    ap (items.reads config) (fis_back command tag) ∙ still.reads config command tag lt sized
 
 comes-to : (items : Items) (f : Facts) (h : RegH2d) (payload : List ℕ) → h.is_command ≡ true
     → f.failure ≡ None → (is_busy f && not (is_queued_code h.command)) ≡ false
-    → commanded_of items f h payload ≡ known_of items f h payload (reading h)
+    → commanded_of items f h payload ≡ known_of items f h payload (items.reads f.config h)
 comes-to items f h payload commands mended unmixed =
     ap
     (λ (b : Bool). if not b then refuses
-    else (if is_some f.failure then Rattle.history.specs.Decisions.while_failed (reading h)
+    else (if is_some f.failure then while_failed (items.reads f.config h)
     else (if is_busy f && not (is_queued_code h.command) then fails_queue None aborted h None
-    else known_of items f h payload (reading h))))
+    else known_of items f h payload (items.reads f.config h))))
     commands
     ∙ ap
-    (λ (x : Option Failure). if is_some x then Rattle.history.specs.Decisions.while_failed
-    (reading h) else (if is_busy f && not (is_queued_code h.command)
-    then fails_queue None aborted h None else known_of items f h payload (reading h)))
+    (λ (x : Option Failure). if is_some x then while_failed
+    (items.reads f.config h) else (if is_busy f && not (is_queued_code h.command)
+    then fails_queue None aborted h None else known_of items f h payload (items.reads f.config h)))
     mended
     ∙ ap
-    (λ (b : Bool). if b then fails_queue None aborted h None else known_of items f h payload (reading h))
+    (λ (b : Bool). if b then fails_queue None aborted h None else known_of items f h payload (items.reads f.config h))
     unmixed
 
 -- A FIS of the port comes to its command: past the failure of the queue and the mixing of queues.
-pub event_is : (items : Items) (o : Origin) (past : List Event) (command : Command) (tag : ℕ) (bytes : List ℕ)
+pub event_is : (items : Items) (still : IsForPorts items) (o : Origin) (past : List Event) (command : Command) (tag : ℕ) (bytes : List ℕ)
     → tag < 32 → IsSized command → failure past ≡ None
     → (is_busy (facts o past) && not (is_queued_command command)) ≡ false
     → event_in items (facts o past) (AcceptFis (command_fis command tag) bytes)
     ≡ known_of items (facts o past) (fis_of command tag) bytes
     (Ok (read_as command, tag_with command tag))
-event_is items o past command tag bytes lt sized mended unmixed =
+event_is items still o past command tag bytes lt sized mended unmixed =
     let f : Facts = facts o past in
     ap (λ (h : RegH2d). commanded_of items f h bytes) (fis_back command tag)
     ∙ comes-to items f (fis_of command tag) bytes (commands_of command tag) mended
     (ap (λ (b : Bool). is_busy f && not b) (code_of command tag) ∙ unmixed)
-    ∙ ap (known_of items f (fis_of command tag) bytes) (reads command tag lt sized.counted sized.most)
+    ∙ ap (known_of items f (fis_of command tag) bytes) (still.reads f.config command tag lt sized)
 
 effect-of : (items : Items) (f : Facts) (fis bytes : List ℕ) (e : Event) → event_in items f (AcceptFis fis bytes) ≡ e
     → effect_in items f (AcceptFis fis bytes)
     ≡ record {
       event = e;
-      fises = answer_fises (h2d_at fis) e;
+      fises = answer_fises_of items f (h2d_at fis) e;
       bytes = answer_data_of items f
           (h2d_at fis) e;
     }
@@ -127,7 +120,7 @@ effect-of items f fis bytes e is =
     ap
     (λ (x : Event). record {
       event = x;
-      fises = answer_fises (h2d_at fis) x;
+      fises = answer_fises_of items f (h2d_at fis) x;
       bytes = answer_data_of items f
           (h2d_at fis) x;
     })
@@ -189,6 +182,8 @@ known-either items f h bytes (Receive protocol com_id blocks dma) tag queued fre
 known-either items f h bytes Identify tag queued free = absurd cc
 known-either items f h bytes (ReadLog10 dma) tag queued free = absurd cc
 known-either items f h bytes Flush tag queued free = absurd cc
+known-either items f h bytes SetFeatures tag queued free = absurd cc
+known-either items f h bytes (ReadLog page dma) tag queued free = absurd cc
 
 -- no data come with a tag
 no-data : (items : Items) (f : Facts) (command : Command) (tag : ℕ) → is_queued_command command ≡ true
@@ -202,14 +197,16 @@ no-data items f (Receive protocol com_id blocks dma) tag queued = absurd cc
 no-data items f Identify tag queued = absurd cc
 no-data items f (ReadLog10 dma) tag queued = absurd cc
 no-data items f Flush tag queued = absurd cc
+no-data items f SetFeatures tag queued = absurd cc
+no-data items f (ReadLog page dma) tag queued = absurd cc
 
 -- The FIS of a queued command, on a free tag.
-pub queued_effect : (items : Items) (o : Origin) (past : List Event) (command : Command) (tag : ℕ) (bytes : List ℕ)
+pub queued_effect : (items : Items) (still : IsForPorts items) (o : Origin) (past : List Event) (command : Command) (tag : ℕ) (bytes : List ℕ)
     → tag < 32 → IsSized command → is_queued_command command ≡ true → failure past ≡ None
     → held past tag ≡ None
     → IsHeldOrFailed tag command
     (effect_in items (facts o past) (AcceptFis (command_fis command tag) bytes))
-queued_effect items o past command tag bytes lt sized queued mended free =
+queued_effect items still o past command tag bytes lt sized queued mended free =
     by_event _ refl
     (known-either items (facts o past) (fis_of command tag) bytes command tag queued free)
   where
@@ -228,10 +225,10 @@ queued_effect items o past command tag bytes lt sized queued mended free =
 
     is : event_in items f (AcceptFis fis bytes) ≡ known_of items f (fis_of command tag) bytes
         (Ok (read_as command, tag_with command tag))
-    is = event_is items o past command tag bytes lt sized mended unmixed
+    is = event_is items still o past command tag bytes lt sized mended unmixed
 
     none : answer_data_of items f (h2d_at fis) (did Nothing) ≡ []
-    none = ap (data_read_of items f) (reads_bytes command tag lt sized) ∙ no-data items f command tag queued
+    none = ap (data_read_of items f) (reads_bytes items still f.config command tag lt sized) ∙ no-data items f command tag queued
 
     by_event : (e : Event)
         → known_of items f (fis_of command tag) bytes (Ok (read_as command, tag_with command tag)) ≡ e
@@ -307,7 +304,7 @@ received-quiet com_id blocks (Some response) =
     quiet-if (nat_le (length response) (sector_size * blocks)) (did (Took com_id)) (did Nothing)
     refl refl
 
-unqueued-quiet : (items : Items) (still : IsQuiet items) (f : Facts) (payload : List ℕ) (command : Command)
+unqueued-quiet : (items : Items) (still : IsForPorts items) (f : Facts) (payload : List ℕ) (command : Command)
     → is_of_queue (unqueued_of items f payload command).deed ≡ false
 unqueued-quiet items still f payload (ReadDma lba count) = transfer-quiet f Nothing Read lba count refl
 unqueued-quiet items still f payload (WriteDma lba count) =
@@ -316,15 +313,17 @@ unqueued-quiet items still f payload (Send protocol com_id blocks dma) =
     quiet-if (resets f.rows (Send protocol com_id blocks dma)) (did (WasReset programmatic))
     (items.sends f protocol com_id blocks payload) refl
     (of-items (items.sends f protocol com_id blocks payload).deed
-    (still f protocol com_id blocks payload))
+    (still.quiet f protocol com_id blocks payload))
 unqueued-quiet items still f payload (Receive protocol com_id blocks dma) =
     quiet-if
-    (is_trusted protocol blocks && (is_session_com_id com_id || com_id == discovery_com_id))
+    (is_received f protocol com_id blocks)
     (received com_id blocks (f.waiting com_id)) refuses
     (received-quiet com_id blocks (f.waiting com_id)) refl
 unqueued-quiet items still f payload Identify = refl
 unqueued-quiet items still f payload (ReadLog10 dma) = refl
 unqueued-quiet items still f payload Flush = refl
+unqueued-quiet items still f payload SetFeatures = refl
+unqueued-quiet items still f payload (ReadLog page dma) = refl
 unqueued-quiet items still f payload (ReadQueued lba count) = refl
 unqueued-quiet items still f payload (WriteQueued lba count) = refl
 
@@ -370,8 +369,10 @@ known-unqueued items f h bytes (Receive protocol com_id blocks dma) tag unqueued
 known-unqueued items f h bytes Identify tag unqueued = refl
 known-unqueued items f h bytes (ReadLog10 dma) tag unqueued = refl
 known-unqueued items f h bytes Flush tag unqueued = refl
+known-unqueued items f h bytes SetFeatures tag unqueued = refl
+known-unqueued items f h bytes (ReadLog page dma) tag unqueued = refl
 
-served-fis : (command : Command) (tag : ℕ) → is_queued_command command ≡ false → is_asked command ≡ true
+served-fis : (command : Command) (tag : ℕ) → is_queued_command command ≡ false → is_of_request command ≡ true
     → fises_read (Ok (read_as command, tag_with command tag)) ≡ executed_fis command None ∷ []
 served-fis (ReadQueued lba count) tag unqueued asked = absurd cc
 served-fis (WriteQueued lba count) tag unqueued asked = absurd cc
@@ -384,6 +385,8 @@ served-fis (Receive protocol com_id blocks false) tag unqueued asked = absurd cc
 served-fis Identify tag unqueued asked = refl
 served-fis (ReadLog10 dma) tag unqueued asked = absurd cc
 served-fis Flush tag unqueued asked = refl
+served-fis SetFeatures tag unqueued asked = absurd cc
+served-fis (ReadLog page dma) tag unqueued asked = absurd cc
 
 failed-fis : (command : Command) (error : ℕ)
     → answer_fis true errored error ∷ [] ≡ executed_fis command (Some error) ∷ []
@@ -396,6 +399,8 @@ failed-fis (Receive protocol com_id blocks dma) error = refl
 failed-fis Identify error = refl
 failed-fis (ReadLog10 dma) error = refl
 failed-fis Flush error = refl
+failed-fis SetFeatures error = refl
+failed-fis (ReadLog page dma) error = refl
 
 read-data : (f : Facts) (command : Command) (tag : ℕ) → is_queued_command command ≡ false
     → ((s : ℕ) → length (f.sector s) ≡ 512)
@@ -411,6 +416,8 @@ read-data f (Receive protocol com_id blocks dma) tag unqueued whole =
 read-data f Identify tag unqueued whole = data-fits f Identify whole
 read-data f (ReadLog10 dma) tag unqueued whole = data-fits f (ReadLog10 dma) whole
 read-data f Flush tag unqueued whole = data-fits f Flush whole
+read-data f SetFeatures tag unqueued whole = data-fits f SetFeatures whole
+read-data f (ReadLog page dma) tag unqueued whole = data-fits f (ReadLog page dma) whole
 
 fises-by : (command : Command) (fis : List ℕ) (read : List Fis) (d : Deed) (e : Option ℕ)
     → is_holding d ≡ false → read ≡ executed_fis command None ∷ []
@@ -427,7 +434,7 @@ bytes-by read n (Some error) le = omega arith
 bytes-by read n None le = le
 
 -- The FIS of a command that is not queued, while nothing is held.
-pub executed_effect : (items : Items) (still : IsQuiet items) (o : Origin) (past : List Event) (command : Command) (tag : ℕ)
+pub executed_effect : (items : Items) (still : IsForPorts items) (o : Origin) (past : List Event) (command : Command) (tag : ℕ)
     (bytes : List ℕ) → tag < 32 → IsSized command → is_queued_command command ≡ false
     → failure past ≡ None → is_busy (facts o past) ≡ false
     → ((t : ℕ) → held past t ≡ None)
@@ -436,10 +443,10 @@ executed_effect items still o past command tag bytes lt sized unqueued_is mended
   still_held = λ t. held_stays (event_in items f (AcceptFis fis bytes)).deed past t quiet (none t);
   still_failing = failure_stays (event_in items f (AcceptFis fis bytes)).deed past quiet mended;
   fises =
-      fises-by command fis (fises_read (reading (h2d_at fis)))
+      fises-by command fis (fises_read (items.reads f.config (h2d_at fis)))
       (event_in items f (AcceptFis fis bytes)).deed (event_in items f (AcceptFis fis bytes)).failed
       (holds_nothing _ quiet)
-      (ap fises_read (reads_bytes command tag lt sized)
+      (ap fises_read (reads_bytes items still f.config command tag lt sized)
       ∙ served-fis command tag unqueued_is sized.asked);
 }
   where
@@ -451,12 +458,20 @@ executed_effect items still o past command tag bytes lt sized unqueued_is mended
 
     is : event_in items f (AcceptFis fis bytes) ≡ unqueued_of items f bytes (read_as command)
     is =
-        event_is items o past command tag bytes lt sized mended
+        event_is items still o past command tag bytes lt sized mended
         (ap (λ (b : Bool). b && not (is_queued_command command)) idle)
         ∙ known-unqueued items f (fis_of command tag) bytes command tag unqueued_is
 
     quiet : is_of_queue (event_in items f (AcceptFis fis bytes)).deed ≡ false
     quiet = ap (λ (x : Event). is_of_queue x.deed) is ∙ unqueued-quiet items still f bytes (read_as command)
+
+-- The items of this drive.
+pub tcg_for_ports : IsForPorts tcg
+tcg_for_ports = record {
+  quiet = tcg_quiet;
+  reads = λ config command tag lt sized. ok-reads config.profile (fis_of command tag) (reads command tag lt sized);
+  recovers = λ config. ok-reads config.profile (fis_of (ReadLog10 true) 0) refl;
+}
 
 -- By the items of this drive it gives no more data than it asks for.
 pub executed_bytes : (o : Origin) (past : List Event) (command : Command) (tag : ℕ)
@@ -464,9 +479,9 @@ pub executed_bytes : (o : Origin) (past : List Event) (command : Command) (tag :
     → length (effect_by (facts o past) (AcceptFis (command_fis command tag) bytes)).bytes
     ≤ bytes_moved command
 executed_bytes o past command tag bytes lt sized unqueued_is =
-    bytes-by (data_read f (reading (h2d_at fis))) (bytes_moved command)
+    bytes-by (data_read f (command_read f.config (h2d_at fis))) (bytes_moved command)
     (event_by f (AcceptFis fis bytes)).failed
-    (rw (reads_bytes command tag lt sized) (read-data f command tag unqueued_is
+    (rw (reads_bytes tcg tcg_for_ports f.config command tag lt sized) (read-data f command tag unqueued_is
     (sector_length past)))
   where
     f : Facts
@@ -483,10 +498,19 @@ mended_effect failing = record {
   bytes = error_log failing;
 }
 
-pub mends : (items : Items) (o : Origin) (past : List Event) (found : Failure) → failure past ≡ Some found
+pub mends : (items : Items) (still : IsForPorts items) (o : Origin) (past : List Event) (found : Failure) → failure past ≡ Some found
     → effect_in items (facts o past) (AcceptFis log_fis []) ≡ mended_effect (Some found)
-mends items o past found is =
+mends items still o past found is =
     ap
     (λ (x : Option Failure). effect_in items (record (facts o past) { failure = x })
     (AcceptFis log_fis []))
     is
+    ∙ ap
+    (λ (r : Result (Command × Option ℕ) CommandError). record {
+      event = while_failed r;
+      fises = if is_some (while_failed r).failed then answer_fis true errored (unwrap_or (while_failed r).failed 0) ∷ []
+          else (if is_holding (while_failed r).deed then answer_fis false ready 0 ∷ [] else fises_read r);
+      bytes = if is_some (while_failed r).failed then []
+          else data_read_of items (record (facts o past) { failure = Some found }) r;
+    })
+    (still.recovers (facts o past).config)

@@ -5,7 +5,7 @@ use Rattle.std.proofs.lemmas.Nat.{pow_below}
 use Rattle.std.proofs.lemmas.Nat.Bits.{bit_at_or, bit_at_and, bit_at-pow_same, bit_at-pow_other, bit_at-lt, bit_at_not}
 use Rattle.hba_regs.specs.Registers.{Regs, without}
 use Rattle.trusted_cmds.specs.declared.command.Command.{Command}
-use Rattle.trusted_cmds.specs.declared.command.Command.TheVariants.{ReadQueued, WriteQueued, ReadDma, WriteDma, Send, Receive, Identify, ReadLog10, Flush}
+use Rattle.trusted_cmds.specs.declared.command.Command.TheVariants.{ReadQueued, WriteQueued, ReadDma, WriteDma, Send, Receive, Identify, ReadLog10, Flush, SetFeatures, ReadLog}
 use Rattle.history.specs.Answers.{answer_fis, pio_fis, setup_fis, moved_fis, fises_of, ready, errored}
 use Rattle.port_history.specs.Stages.{is_queued_command}
 use Rattle.port_history.specs.Registers.{raised, with_task, no_more_issued, shown, all_shown, task_error_bit, register_bit, pio_setup_bit, device_bits_bit, carried}
@@ -110,6 +110,8 @@ executed-words tag regs (Receive protocol com_id blocks dma) = ready-words tag r
 executed-words tag regs Identify = pio-words tag regs
 executed-words tag regs (ReadLog10 dma) = ready-words tag regs true
 executed-words tag regs Flush = ready-words tag regs true
+executed-words tag regs SetFeatures = ready-words tag regs true
+executed-words tag regs (ReadLog page dma) = ready-words tag regs true
 
 pub failing-words : (tag : ℕ) (regs : Regs) (command : Command) (error : ℕ)
     → HasWords (shown tag regs (executed_fis command (Some error))) regs.active regs.issued
@@ -122,6 +124,8 @@ failing-words tag regs (Receive protocol com_id blocks dma) error = failed-words
 failing-words tag regs Identify error = failed-words tag regs error
 failing-words tag regs (ReadLog10 dma) error = failed-words tag regs error
 failing-words tag regs Flush error = failed-words tag regs error
+failing-words tag regs SetFeatures error = failed-words tag regs error
+failing-words tag regs (ReadLog page dma) error = failed-words tag regs error
 
 -- the two FISes of a completion
 pair-words : (tag : ℕ) (regs : Regs) (to_host : Bool) (count : ℕ)
@@ -148,3 +152,5 @@ completed-words tag regs (Receive protocol com_id blocks dma) queued = absurd cc
 completed-words tag regs Identify queued = absurd cc
 completed-words tag regs (ReadLog10 dma) queued = absurd cc
 completed-words tag regs Flush queued = absurd cc
+completed-words tag regs SetFeatures queued = absurd cc
+completed-words tag regs (ReadLog page dma) queued = absurd cc

@@ -1,9 +1,10 @@
 -- The acts of a lawful list bring the bytes that their commands want, and their events are those of
 -- the list.
+use Rattle.sp_cells.specs.Config.{Config}
 use Rattle.std.proofs.Common.{◌≡◌, ◌∙◌, ℕ, Bool, true, false, List, [], ◌∷◌, length, if◌then◌else◌, Option, Some, None, refl, sym, ap, subst}
 use Rattle.std.specs.Prelude.{option_map}
 use Rattle.trusted_cmds.specs.declared.command.Command.{Command}
-use Rattle.trusted_cmds.specs.declared.command.Command.TheVariants.{ReadQueued, WriteQueued, ReadDma, WriteDma, Send, Receive, Identify, ReadLog10, Flush}
+use Rattle.trusted_cmds.specs.declared.command.Command.TheVariants.{ReadQueued, WriteQueued, ReadDma, WriteDma, Send, Receive, Identify, ReadLog10, Flush, SetFeatures, ReadLog}
 use Rattle.history.specs.Opening.{Origin}
 use Rattle.history.specs.Events.{Event}
 use Rattle.history.specs.Facts.{Facts, facts}
@@ -11,7 +12,7 @@ use Rattle.history.specs.Answers.{payload_of, expected, expected_by}
 use Rattle.history.specs.Bounds.{IsFed, AreFed}
 use Rattle.history.specs.History.{Act, Accept as AcceptFis, Complete as CompleteTag, Reset as ResetDrive, event_by, log}
 use Rattle.history.specs.Tcg.{tcg}
-use Rattle.history.proofs.QuietProofs.{tcg_quiet}
+use Rattle.port_history.proofs.Acted.{tcg_for_ports}
 use Rattle.port_history.specs.declared.stages.Put.{Put}
 use Rattle.port_history.specs.declared.step.Step.{Step}
 use Rattle.port_history.specs.declared.step.Step.TheVariants as steps
@@ -60,11 +61,11 @@ length-brought : (b : Bool) (command : Command) (bytes : List ℕ) → length by
 length-brought true command bytes e = refl
 length-brought false command bytes e = e
 
-pub accept_fed : (put : Put) (u : ℕ) (bytes : List ℕ) → IsFit put.command bytes
-    → length (accept_payload put bytes) ≡ payload_of (command_fis put.command u)
-accept_fed put u bytes fit =
+pub accept_fed : (config : Config) (put : Put) (u : ℕ) (bytes : List ℕ) → IsFit put.command bytes
+    → length (accept_payload put bytes) ≡ payload_of config (command_fis put.command u)
+accept_fed config put u bytes fit =
     length-brought (is_queued_command put.command) put.command bytes fit.brings
-    ∙ sym (fis_brings put.command u
+    ∙ sym (fis_brings config put.command u
     ∙ payload_is put.command u fit.sized.counted fit.sized.most)
 
 -- what comes with the completion of one
@@ -79,6 +80,8 @@ expected-brought (Receive protocol com_id blocks dma) queued = absurd cc
 expected-brought Identify queued = absurd cc
 expected-brought (ReadLog10 dma) queued = absurd cc
 expected-brought Flush queued = absurd cc
+expected-brought SetFeatures queued = absurd cc
+expected-brought (ReadLog page dma) queued = absurd cc
 
 -- The act of a lawful step brings what its command wants.
 pub step_fed : (o : Origin) (step : Step) (before : List Step) → IsLawful o (step ∷ before)
@@ -91,17 +94,17 @@ step_fed o (steps.Accept u) before h =
     let p = issued_is (stage ms u) t.1.1.0 in
     subst (λ (x : Option Put). IsFedBy (facts o (events ms)) (acceptance u x (payload ms u)))
     (sym (ap put_at p.1))
-    (accept_fed p.0 u (payload ms u) (fit_issued ms u p.0 (kept tcg tcg_quiet o before h.2) p.1))
+    (accept_fed o.tables.config p.0 u (payload ms u) (fit_issued ms u p.0 (kept tcg tcg_for_ports o before h.2) p.1))
 step_fed o (steps.Complete u) before h =
     let ms = trace o before in
     let t = none_holds (tests_of ms (steps.Complete u)) h.1 in
     let p = accepted_is (stage ms u) t.1.1.0 in
-    let k = kept tcg tcg_quiet o before h.2 in
+    let k = kept tcg tcg_for_ports o before h.2 in
     let x = accepted_held ms u p.0 k (none_is (failed ms) t.1.0) p.1 in
     let here = fit_accepted ms u p.0 k p.1 in
     here.fit.brings ∙ sym (expected-brought p.0.command here.queued)
     ∙ sym (ap expected_by x.2) ∙ sym (ap expected x.1)
-step_fed o steps.Recover before h = refl
+step_fed o steps.Recover before h = sym (fis_brings o.tables.config (ReadLog10 true) 0)
 step_fed o (steps.Reset client kind) before h = tt
 step_fed o (steps.Take client u) before h = tt
 

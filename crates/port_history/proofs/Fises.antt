@@ -1,12 +1,17 @@
 -- The bytes of the FISes that the port sends, and what the drive reads in them.
-use Rattle.std.proofs.Common.{◌≡◌, ◌∙◌, ◌+◌, ◌*◌, ◌/◌, ◌%◌, ◌^◌, ◌<◌, ◌≤◌, ◌==◌, ℕ, true, false, List, [], ◌∷◌, length, slice_index, if◌then◌else◌, None, refl, ap, arith, inl, inr}
+use Rattle.basics.specs.declared.profile.Profile.TheVariants.{Base, Field}
+use Rattle.basics.specs.declared.profile.Profile.{Profile}
+use Rattle.trusted_cmds.specs.Profiles.{payload_length_in, short_write_dma, short_sectors}
+use Rattle.sp_cells.specs.Config.{Config}
+use Rattle.port_history.specs.Laws.{read_as, IsSized}
+use Rattle.std.proofs.Common.{◌≡◌, ◌∙◌, ◌+◌, ◌*◌, ◌/◌, ◌%◌, ◌^◌, ◌<◌, ◌≤◌, ◌==◌, ℕ, true, false, List, [], ◌∷◌, length, slice_index, if◌then◌else◌, None, refl, ap, arith, inl, inr, cond, Bool, sym}
 use Rattle.std.specs.Prelude.{Ok}
 use Rattle.std.proofs.lemmas.Bool.{cases_eq, ne_eqb}
 use Rattle.std.proofs.Math.Nat.{mod-add-div}
 use Rattle.fis.specs.H2d.{h2d_at, IsH2dSpelling}
 use Rattle.fis.specs.declared.h2d.RegH2d.{RegH2d}
 use Rattle.trusted_cmds.specs.declared.command.Command.{Command}
-use Rattle.trusted_cmds.specs.declared.command.Command.TheVariants.{ReadQueued, WriteQueued, ReadDma, WriteDma, Send, Receive, Identify, ReadLog10, Flush}
+use Rattle.trusted_cmds.specs.declared.command.Command.TheVariants.{ReadQueued, WriteQueued, ReadDma, WriteDma, Send, Receive, Identify, ReadLog10, Flush, SetFeatures, ReadLog}
 use Rattle.trusted_cmds.specs.Commands.{reading, fis_with, fis_of, tag_with, payload_length, sectors, sectors_field, most_sectors, sector_size, IsCounted}
 use Rattle.history.specs.Answers.{payload_of}
 use Rattle.history.proofs.Payloads.{payload-of-command}
@@ -115,19 +120,8 @@ fis_back (Receive protocol com_id blocks dma) tag = with-back _ _ _ _ _
 fis_back Identify tag = with-back _ _ _ _ _
 fis_back (ReadLog10 dma) tag = with-back _ _ _ _ _
 fis_back Flush tag = with-back _ _ _ _ _
-
--- What a command is read back as: a trusted one has a protocol of one byte and a ComID of two.
-abbrev pub read_as : Command → Command
-read_as (ReadQueued lba count) = ReadQueued lba count
-read_as (WriteQueued lba count) = WriteQueued lba count
-read_as (ReadDma lba count) = ReadDma lba count
-read_as (WriteDma lba count) = WriteDma lba count
-read_as (Send protocol com_id blocks dma) = Send (protocol % 256) (com_id % 65536) blocks dma
-read_as (Receive protocol com_id blocks dma) =
-    Receive (protocol % 256) (com_id % 65536) blocks dma
-read_as Identify = Identify
-read_as (ReadLog10 dma) = ReadLog10 dma
-read_as Flush = Flush
+fis_back SetFeatures tag = with-back _ _ _ _ _
+fis_back (ReadLog page dma) tag = with-back _ _ _ _ _
 
 -- a count of sectors, from its field
 sectors-back : (count : ℕ) → 0 < count → count ≤ most_sectors
@@ -149,30 +143,34 @@ blocks-back : (blocks com_id : ℕ) → blocks ≤ 256
     → blocks % 256 % 256 + 256 * ((blocks / 256 + 256 * com_id) % 256) ≡ blocks
 blocks-back blocks com_id most = omega arith
 
+unasked : false ≡ true → ⊥
+unasked h = cc
+
 -- The drive reads the command, and the tag of a queued one.
-pub reads : (command : Command) (tag : ℕ) → tag < 32 → IsCounted command
-    → blocks_moved command ≤ 256
+pub reads : (command : Command) (tag : ℕ) → tag < 32 → IsSized command
     → reading (fis_of command tag) ≡ Ok (read_as command, tag_with command tag)
-reads (ReadQueued lba count) tag lt counted most =
-    rw (sectors-back count counted.0 counted.1, tag-back tag lt) refl
-reads (WriteQueued lba count) tag lt counted most =
-    rw (sectors-back count counted.0 counted.1, tag-back tag lt) refl
-reads (ReadDma lba count) tag lt counted most =
-    rw (sectors-back count counted.0 counted.1) refl
-reads (WriteDma lba count) tag lt counted most =
-    rw (sectors-back count counted.0 counted.1) refl
-reads (Send protocol com_id blocks true) tag lt counted most =
-    rw (com_id-back blocks com_id most, blocks-back blocks com_id most) refl
-reads (Send protocol com_id blocks false) tag lt counted most =
-    rw (com_id-back blocks com_id most, blocks-back blocks com_id most) refl
-reads (Receive protocol com_id blocks true) tag lt counted most =
-    rw (com_id-back blocks com_id most, blocks-back blocks com_id most) refl
-reads (Receive protocol com_id blocks false) tag lt counted most =
-    rw (com_id-back blocks com_id most, blocks-back blocks com_id most) refl
-reads Identify tag lt counted most = refl
-reads (ReadLog10 true) tag lt counted most = refl
-reads (ReadLog10 false) tag lt counted most = refl
-reads Flush tag lt counted most = refl
+reads (ReadQueued lba count) tag lt sized =
+    rw (sectors-back count sized.counted.0 sized.counted.1, tag-back tag lt) refl
+reads (WriteQueued lba count) tag lt sized =
+    rw (sectors-back count sized.counted.0 sized.counted.1, tag-back tag lt) refl
+reads (ReadDma lba count) tag lt sized =
+    rw (sectors-back count sized.counted.0 sized.counted.1) refl
+reads (WriteDma lba count) tag lt sized =
+    rw (sectors-back count sized.counted.0 sized.counted.1) refl
+reads (Send protocol com_id blocks true) tag lt sized =
+    rw (com_id-back blocks com_id sized.most, blocks-back blocks com_id sized.most) refl
+reads (Send protocol com_id blocks false) tag lt sized =
+    rw (com_id-back blocks com_id sized.most, blocks-back blocks com_id sized.most) refl
+reads (Receive protocol com_id blocks true) tag lt sized =
+    rw (com_id-back blocks com_id sized.most, blocks-back blocks com_id sized.most) refl
+reads (Receive protocol com_id blocks false) tag lt sized =
+    rw (com_id-back blocks com_id sized.most, blocks-back blocks com_id sized.most) refl
+reads Identify tag lt sized = refl
+reads (ReadLog10 true) tag lt sized = refl
+reads (ReadLog10 false) tag lt sized = refl
+reads Flush tag lt sized = refl
+reads SetFeatures tag lt sized = absurd (unasked sized.asked)
+reads (ReadLog page dma) tag lt sized = absurd (unasked sized.asked)
 
 pub read_as-queued : (command : Command) → is_queued_command (read_as command) ≡ is_queued_command command
 read_as-queued (ReadQueued lba count) = refl
@@ -184,6 +182,8 @@ read_as-queued (Receive protocol com_id blocks dma) = refl
 read_as-queued Identify = refl
 read_as-queued (ReadLog10 dma) = refl
 read_as-queued Flush = refl
+read_as-queued SetFeatures = refl
+read_as-queued (ReadLog page dma) = refl
 
 pub read_as-tag : (command : Command) (tag : ℕ)
     → tag_with (read_as command) tag ≡ tag_with command tag
@@ -196,6 +196,8 @@ read_as-tag (Receive protocol com_id blocks dma) tag = refl
 read_as-tag Identify tag = refl
 read_as-tag (ReadLog10 dma) tag = refl
 read_as-tag Flush tag = refl
+read_as-tag SetFeatures tag = refl
+read_as-tag (ReadLog page dma) tag = refl
 
 -- How many bytes go to the device with a command.
 abbrev pub brought : Command → ℕ
@@ -219,13 +221,40 @@ payload_is Identify tag counted most = refl
 payload_is (ReadLog10 true) tag counted most = refl
 payload_is (ReadLog10 false) tag counted most = refl
 payload_is Flush tag counted most = refl
+payload_is SetFeatures tag counted most = refl
+payload_is (ReadLog page true) tag counted most = refl
+payload_is (ReadLog page false) tag counted most = refl
+
+-- No spelling of the port is one of 28 bits.
+not-short : (command : Command) (tag : ℕ) → ((fis_of command tag).command == short_write_dma) ≡ false
+not-short (ReadQueued lba count) tag = refl
+not-short (WriteQueued lba count) tag = refl
+not-short (ReadDma lba count) tag = refl
+not-short (WriteDma lba count) tag = refl
+not-short (Send protocol com_id blocks true) tag = refl
+not-short (Send protocol com_id blocks false) tag = refl
+not-short (Receive protocol com_id blocks true) tag = refl
+not-short (Receive protocol com_id blocks false) tag = refl
+not-short Identify tag = refl
+not-short (ReadLog10 true) tag = refl
+not-short (ReadLog10 false) tag = refl
+not-short Flush tag = refl
+not-short SetFeatures tag = refl
+not-short (ReadLog page true) tag = refl
+not-short (ReadLog page false) tag = refl
+
+any-profile : (p : Profile) (command : Command) (tag : ℕ)
+    → payload_length_in p (fis_of command tag) ≡ payload_length (fis_of command tag)
+any-profile Base command tag = refl
+any-profile Field command tag =
+    ap
+    (λ (b : Bool). cond b (sector_size * short_sectors (fis_of command tag)) (payload_length (fis_of command tag)))
+    (not-short command tag)
 
 -- and its bytes as many as the FIS itself
-pub fis_brings : (command : Command) (tag : ℕ)
-    → payload_of (command_fis command tag) ≡ payload_length (fis_of command tag)
-fis_brings command tag =
-    payload-of-command (command_fis command tag) refl ∙ ap payload_length (fis_back command tag)
-
--- The read of the log.
-pub log_reads : reading (h2d_at log_fis) ≡ Ok (ReadLog10 true, None)
-log_reads = refl
+pub fis_brings : (config : Config) (command : Command) (tag : ℕ)
+    → payload_of config (command_fis command tag) ≡ payload_length (fis_of command tag)
+fis_brings config command tag =
+    payload-of-command config (command_fis command tag) refl
+    ∙ ap (payload_length_in config.profile) (fis_back command tag)
+    ∙ any-profile config.profile command tag

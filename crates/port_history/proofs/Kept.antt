@@ -26,7 +26,8 @@ use Rattle.port_history.specs.Requests.{is_sized, is_address, are_blocks, are_wh
 use Rattle.port_history.specs.Stages.{is_queued_command, to, put_at, is_out, accepted_stage, recovered, stage_after_reset, keeps_back, mixes, mixes_put}
 use Rattle.port_history.specs.Steps.{Effect, Moment, events, stage, failed, is_tag, put_of, payload}
 use Rattle.port_history.proofs.Fises.{brought}
-use Rattle.port_history.proofs.Acted.{IsSized, IsExecuted, held_effect, failed_effect, mended_effect}
+use Rattle.port_history.specs.Laws.{IsSized}
+use Rattle.port_history.proofs.Acted.{IsExecuted, held_effect, failed_effect, mended_effect}
 use Rattle.port_history.proofs.Tests.{none_passes}
 
 -- What is held under a tag, by its stage, while the port has not failed.
@@ -621,6 +622,8 @@ freed u t bytes (commands.Receive protocol com_id blocks dma) past = freed_by t 
 freed u t bytes commands.Identify past = freed_by t past (u == t)
 freed u t bytes (commands.ReadLog10 dma) past = freed_by t past (u == t)
 freed u t bytes commands.Flush past = freed_by t past (u == t)
+freed u t bytes commands.SetFeatures past = freed_by t past (u == t)
+freed u t bytes (commands.ReadLog page dma) past = freed_by t past (u == t)
 
 pub failure_moved : (u : ℕ) (bytes : List ℕ) (command : Command) (past : List Event)
     → failure (completed_by u bytes command ∷ past) ≡ failure past
@@ -633,6 +636,8 @@ failure_moved u bytes (commands.Receive protocol com_id blocks dma) past = refl
 failure_moved u bytes commands.Identify past = refl
 failure_moved u bytes (commands.ReadLog10 dma) past = refl
 failure_moved u bytes commands.Flush past = refl
+failure_moved u bytes commands.SetFeatures past = refl
+failure_moved u bytes (commands.ReadLog page dma) past = refl
 
 pub kept_complete : (ms : List Moment) (u : ℕ) (put : Put) (e : Effect) (bytes : List ℕ) → u < 32
     → Kept ms → failed ms ≡ None → stage ms u ≡ Accepted put

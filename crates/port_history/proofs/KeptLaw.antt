@@ -9,9 +9,7 @@ use Rattle.trusted_cmds.specs.Commands.{sector_size}
 use Rattle.history.specs.Opening.{Origin}
 use Rattle.history.specs.Events.{HeldCommand, Event}
 use Rattle.history.specs.Items.{Items}
-use Rattle.history.specs.Quiet.{IsQuiet}
 use Rattle.history.specs.Tcg.{tcg}
-use Rattle.history.proofs.QuietProofs.{tcg_quiet}
 use Rattle.history.specs.Facts.{facts}
 use Rattle.history.specs.Decisions.{is_busy, completed, completed_by}
 use Rattle.history.specs.Answers.{fises_of}
@@ -26,10 +24,10 @@ use Rattle.port_history.specs.Requests.{command_fis, log_fis, bytes_moved, most_
 use Rattle.port_history.specs.Stages.{is_queued_command, is_out, put_at}
 use Rattle.port_history.specs.Steps.{Effect, Moment, trace, events, stage, failed, payload, acceptance, accept_payload, effect_in, moment_of, trace_of}
 use Rattle.port_history.specs.Refusals.{AreLawful}
-use Rattle.port_history.specs.Laws.{NeverMixes, FailureLaw, IsUnmixed}
-use Rattle.port_history.proofs.Fises.{fis_back, read_as, read_as-queued, read_as-tag}
+use Rattle.port_history.specs.Laws.{NeverMixes, FailureLaw, IsUnmixed, IsSized, IsForPorts, read_as}
+use Rattle.port_history.proofs.Fises.{fis_back, read_as-queued, read_as-tag}
 use Rattle.port_history.proofs.Sizes.{sector_length, held-fits}
-use Rattle.port_history.proofs.Acted.{IsSized, IsExecuted, IsHeldOrFailed, IsHeld, IsFailed, mended_effect, queued_effect, executed_effect, executed_bytes, mends, reads_bytes, commands_of}
+use Rattle.port_history.proofs.Acted.{tcg_for_ports, IsExecuted, IsHeldOrFailed, IsHeld, IsFailed, mended_effect, queued_effect, executed_effect, executed_bytes, mends, reads_bytes, commands_of}
 use Rattle.port_history.proofs.Tests.{none_below, none_is, some_is, was_true, none_holds, tests_of, free_is, prepared_is, issued_is, accepted_is, answered_is}
 use Rattle.port_history.proofs.Kept.{Kept, FitsStage, IsFit, IsHere, held_by, is_single, command_held, tag_failed, as_tag, issued_quiet, accept_moment, complete_moment, recover_moment, kept_put, kept_issue, kept_take, kept_held, kept_failed, kept_executed, kept_complete, kept_recover, kept_reset}
 
@@ -132,15 +130,15 @@ pub fit_accepted : (ms : List Moment) (u : ℕ) (put : Put) → Kept ms → stag
 fit_accepted ms u put k was = subst (λ (s : Stage). FitsStage s (payload ms u)) was (k.fit u)
 
 -- An issued command of the queue is held, or fails the queue by its tag.
-pub queued_comes : (items : Items) (o : Origin) (ms : List Moment) (u : ℕ) (put : Put) → u < 32 → Kept ms
+pub queued_comes : (items : Items) (still : IsForPorts items) (o : Origin) (ms : List Moment) (u : ℕ) (put : Put) → u < 32 → Kept ms
     → failed ms ≡ None → stage ms u ≡ Issued put → is_queued_command put.command ≡ true
     → IsHeldOrFailed u put.command (accepted_effect items o ms u put)
-queued_comes items o ms u put lu k mended was queued =
-    queued_effect items o (events ms) put.command u (accept_payload put (payload ms u)) lu
+queued_comes items still o ms u put lu k mended was queued =
+    queued_effect items still o (events ms) put.command u (accept_payload put (payload ms u)) lu
     (fit_issued ms u put k was).sized queued (mended_queue ms k mended) (free_tag ms u put k was)
 
 -- Another one is executed.
-pub unqueued_comes : (items : Items) (still : IsQuiet items) (o : Origin) (ms : List Moment) (u : ℕ) (put : Put) → u < 32 → Kept ms
+pub unqueued_comes : (items : Items) (still : IsForPorts items) (o : Origin) (ms : List Moment) (u : ℕ) (put : Put) → u < 32 → Kept ms
     → failed ms ≡ None → stage ms u ≡ Issued put → is_queued_command put.command ≡ false
     → IsExecuted (events ms) put.command (accepted_effect items o ms u put)
 unqueued_comes items still o ms u put lu k mended was unqueued =
@@ -148,7 +146,7 @@ unqueued_comes items still o ms u put lu k mended was unqueued =
     (fit_issued ms u put k was).sized unqueued (mended_queue ms k mended)
     (idle o ms u put lu k was unqueued) (nothing_held ms u put lu k was unqueued)
 
-kept_accept : (items : Items) (still : IsQuiet items) (o : Origin) (ms : List Moment) (u : ℕ) (put : Put) → u < 32 → Kept ms
+kept_accept : (items : Items) (still : IsForPorts items) (o : Origin) (ms : List Moment) (u : ℕ) (put : Put) → u < 32 → Kept ms
     → failed ms ≡ None → stage ms u ≡ Issued put → Kept (moment_of items o ms (steps.Accept u) ∷ ms)
 kept_accept items still o ms u put lu k mended was =
     rw (accept_is items o ms u put was) (by_kind (is_queued_command put.command) refl)
@@ -163,7 +161,7 @@ kept_accept items still o ms u put lu k mended was =
         → Kept (accept_moment u put (accepted_effect items o ms u put) ∷ ms)
     by_kind true queued =
         by_effect (accepted_effect items o ms u put) queued
-        (queued_comes items o ms u put lu k mended was queued)
+        (queued_comes items still o ms u put lu k mended was queued)
     by_kind false unqueued =
         kept_executed ms u put (accepted_effect items o ms u put) lu k was unqueued
         (unqueued_comes items still o ms u put lu k mended was unqueued)
@@ -230,12 +228,12 @@ found ms tag k was =
     let f = found_is (failure (events ms)) tag (k.failure ∙ ap as_tag was) in
     record { found = f.0; failing = f.1; names = f.2; low = k.low tag was }
 
-pub recover_is : (items : Items) (o : Origin) (ms : List Moment) (f : Failure) → failure (events ms) ≡ Some f
+pub recover_is : (items : Items) (still : IsForPorts items) (o : Origin) (ms : List Moment) (f : Failure) → failure (events ms) ≡ Some f
     → moment_of items o ms steps.Recover ≡ recover_moment (mended_effect (Some f))
-recover_is items o ms f is =
+recover_is items still o ms f is =
     ap
     (λ (e : Effect). record { step = steps.Recover; served = None; effect = Some e })
-    (mends items o (events ms) f is)
+    (mends items still o (events ms) f is)
 
 -- No act gives more than a transfer of the port has.
 most : (command : Command) (n : ℕ) → IsSized command → n ≤ bytes_moved command
@@ -257,7 +255,7 @@ accepted_bytes o ms u put lu k mended was = by_kind (is_queued_command put.comma
     by_kind : (b : Bool) → is_queued_command put.command ≡ b
         → length (accepted_effect tcg o ms u put).bytes ≤ sector_size * most_blocks
     by_kind true queued =
-        by_effect (accepted_effect tcg o ms u put) (queued_comes tcg o ms u put lu k mended was queued)
+        by_effect (accepted_effect tcg o ms u put) (queued_comes tcg tcg_for_ports o ms u put lu k mended was queued)
     by_kind false unqueued =
         most put.command (length (accepted_effect tcg o ms u put).bytes)
         (fit_issued ms u put k was).sized
@@ -273,7 +271,7 @@ completed_bytes o ms u put k mended was =
     (accepted_moves tcg o ms u put k mended was).bytes
 
 -- Every lawful list keeps it.
-pub kept : (items : Items) (still : IsQuiet items) (o : Origin) (list : List Step) → AreLawful items o list → Kept (trace_of items o list)
+pub kept : (items : Items) (still : IsForPorts items) (o : Origin) (list : List Step) → AreLawful items o list → Kept (trace_of items o list)
 kept items still o [] h = record {
   queue = λ t. refl;
   failure = refl;
@@ -315,7 +313,7 @@ kept items still o (steps.Recover ∷ before) h =
     let k = kept items still o before h.2 in
     let f = some_is (failed ms) (was_true _ t.1.0) in
     let x = found ms f.0 k f.1 in
-    rw (recover_is items o ms x.found x.failing) (kept_recover ms f.0 x.found k f.1)
+    rw (recover_is items still o ms x.found x.failing) (kept_recover ms f.0 x.found k f.1)
 kept items still o (steps.Reset client kind ∷ before) h =
     kept_reset (trace_of items o before) client kind (kept items still o before h.2)
 kept items still o (steps.Take client u ∷ before) h =
@@ -326,7 +324,7 @@ kept items still o (steps.Take client u ∷ before) h =
 
 -- The drive's failure is the port's.
 pub failure_law : FailureLaw
-failure_law o list h = (kept tcg tcg_quiet o list h).failure
+failure_law o list h = (kept tcg tcg_for_ports o list h).failure
 
 -- The port never mixes queues.
 
@@ -344,7 +342,7 @@ unmixed_fis o ms u put lu k mended was = record {
   mended = mended_queue ms k mended;
   kind = refl;
   carries =
-      reads_bytes put.command u lu (fit_issued ms u put k was).sized
+      reads_bytes tcg tcg_for_ports o.tables.config put.command u lu (fit_issued ms u put k was).sized
       ∙ ap (λ (t : Option ℕ). Ok (read_as put.command, t)) (sym (read_as-tag put.command u));
   is_command =
       ap (λ (h : RegH2d). h.is_command) (fis_back put.command u) ∙ commands_of put.command u;
@@ -363,14 +361,14 @@ never_mixes o (steps.Accept u) before h fis bytes e =
     same_fis (command_fis p.0.command u) (accept_payload p.0 (payload ms u)) fis bytes
     (ap (λ (x : Option Put). acceptance u x (payload ms u)) (ap put_at (sym p.1)) ∙ e) in
     inl (subst (λ (xs : List ℕ). IsUnmixed o (events ms) xs) same
-    (unmixed_fis o ms u p.0 (ltb-true u 32 h.0) (kept tcg tcg_quiet o before h.2)
+    (unmixed_fis o ms u p.0 (ltb-true u 32 h.0) (kept tcg tcg_for_ports o before h.2)
     (none_is (failed ms) t.1.0) p.1))
 never_mixes o (steps.Complete u) before h fis payload e = absurd cc
 never_mixes o steps.Recover before h fis payload e =
     let ms = trace o before in
     let t = none_holds (tests_of ms steps.Recover) h.1 in
     let f = some_is (failed ms) (was_true _ t.1.0) in
-    let x = found ms f.0 (kept tcg tcg_quiet o before h.2) f.1 in
+    let x = found ms f.0 (kept tcg tcg_for_ports o before h.2) f.1 in
     inr (record { failed = ap is_some x.failing; reads = sym (same_fis log_fis [] fis payload e) })
 never_mixes o (steps.Reset client kind) before h fis payload e = absurd cc
 never_mixes o (steps.Take client u) before h fis payload e = absurd cc

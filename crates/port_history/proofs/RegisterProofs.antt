@@ -12,7 +12,7 @@ use Rattle.locking.specs.declared.ranges.Verdict.{Verdict}
 use Rattle.history.specs.Opening.{Origin}
 use Rattle.history.specs.Answers.{answer_fis, ready, errored as failed_status}
 use Rattle.history.specs.Tcg.{tcg}
-use Rattle.history.proofs.QuietProofs.{tcg_quiet}
+use Rattle.port_history.proofs.Acted.{tcg_for_ports}
 use Rattle.port_history.specs.declared.stages.Put.{Put}
 use Rattle.port_history.specs.declared.stages.Stage.{Stage}
 use Rattle.port_history.specs.declared.stages.Stage.TheVariants.{Free, Prepared, Issued, Accepted, Answered}
@@ -346,10 +346,10 @@ bits_accept o ms u tag put lu lt k mended was h =
         (bits_failed ms u tag put error denied mended was queued h)
 
     by_kind : (b : Bool) → is_queued_command put.command ≡ b → BitsOf (accept_moment u put e ∷ ms) tag
-    by_kind true queued = by_effect queued (queued_comes tcg o ms u put lu k mended was queued)
+    by_kind true queued = by_effect queued (queued_comes tcg tcg_for_ports o ms u put lu k mended was queued)
     by_kind false unqueued =
         bits_executed ms u tag put e lu lt k mended was unqueued
-        (unqueued_comes tcg tcg_quiet o ms u put lu k mended was unqueued) h
+        (unqueued_comes tcg tcg_for_ports o ms u put lu k mended was unqueued) h
 
 bits_complete : (o : Origin) (ms : List Moment) (u tag : ℕ) (put : Put) → u < 32 → tag < 32
     → Kept ms → failed ms ≡ None → stage ms u ≡ Accepted put → BitsOf ms tag
@@ -387,20 +387,20 @@ bits o (steps.Accept u ∷ before) h tag lt =
     let ms = trace o before in
     let t = none_holds (tests_of ms (steps.Accept u)) h.1 in
     let p = issued_is (stage ms u) t.1.1.0 in
-    bits_accept o ms u tag p.0 (ltb-true u 32 h.0) lt (kept tcg tcg_quiet o before h.2)
+    bits_accept o ms u tag p.0 (ltb-true u 32 h.0) lt (kept tcg tcg_for_ports o before h.2)
     (none_is (failed ms) t.1.0) p.1 (bits o before h.2 tag lt)
 bits o (steps.Complete u ∷ before) h tag lt =
     let ms = trace o before in
     let t = none_holds (tests_of ms (steps.Complete u)) h.1 in
     let p = accepted_is (stage ms u) t.1.1.0 in
-    bits_complete o ms u tag p.0 (ltb-true u 32 h.0) lt (kept tcg tcg_quiet o before h.2)
+    bits_complete o ms u tag p.0 (ltb-true u 32 h.0) lt (kept tcg tcg_for_ports o before h.2)
     (none_is (failed ms) t.1.0) p.1 (bits o before h.2 tag lt)
 bits o (steps.Recover ∷ before) h tag lt =
     let ms = trace o before in
     let t = none_holds (tests_of ms steps.Recover) h.1 in
     let f = some_is (failed ms) (was_true _ t.1.0) in
-    let x = found ms f.0 (kept tcg tcg_quiet o before h.2) f.1 in
-    subst (λ (m : Moment). BitsOf (m ∷ ms) tag) (sym (recover_is tcg o ms x.found x.failing))
+    let x = found ms f.0 (kept tcg tcg_for_ports o before h.2) f.1 in
+    subst (λ (m : Moment). BitsOf (m ∷ ms) tag) (sym (recover_is tcg tcg_for_ports o ms x.found x.failing))
     (no-bits tag (recovered (is_tag tag (failed ms)) (stage ms tag))
     (recovered_in (is_tag tag (failed ms)) (stage ms tag)))
 bits o (steps.Reset client kind ∷ before) h tag lt =

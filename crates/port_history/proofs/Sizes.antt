@@ -1,17 +1,23 @@
 -- How many bytes the drive gives.
+use Rattle.trusted_cmds.specs.Commands.{is_protocol_list}
+use Rattle.device_data.specs.Protocols.{protocol_list}
+use Rattle.sp_cells.specs.Config.{Config}
+use Rattle.basics.specs.declared.profile.Profile.TheVariants.{Base, Field}
+use Rattle.basics.specs.declared.profile.Profile.{Profile}
+use Rattle.device_data.specs.DevicePages.{device_page_head}
 use Rattle.std.proofs.Common.{◌≡◌, ◌∙◌, ℕ, zero, suc, ◌+◌, ◌-◌, ◌*◌, ◌/◌, ◌≤◌, ◌<◌, ◌&&◌, nat_le, nat_lt, Bool, true, false, List, [], ◌∷◌, ◌++◌, length, replicate, if◌then◌else◌, Option, Some, None, refl, ap, arith}
 use Rattle.std.specs.Prelude.{take, drop, unwrap_or}
 use Rattle.std.specs.List.{flat_map}
 use Rattle.std.proofs.lemmas.List.{length-take, length-take-le, length-drop, length-append, length-replicate}
 use Rattle.std.proofs.lemmas.Bool.Decides.{nat_tests}
 use Rattle.device_data.specs.ErrorLog.{sized, error_log, page_head}
-use Rattle.device_data.specs.Identity.{identity, identify_word, low_first, run_from}
+use Rattle.device_data.specs.Identity.{identity, identify_word, low_first, run_from, identity_in, field_word}
 use Rattle.device_data.specs.Discovery.{discovery}
 use Rattle.device_data.specs.declared.log_page.Failure.{Failure}
 use Rattle.shadow_mbr.specs.Stored.{zeros, sectors_from}
 use Rattle.transactions.specs.Bytes.{bytes_from}
 use Rattle.trusted_cmds.specs.declared.command.Command.{Command}
-use Rattle.trusted_cmds.specs.declared.command.Command.TheVariants.{ReadQueued, WriteQueued, ReadDma, WriteDma, Send, Receive, Identify, ReadLog10, Flush}
+use Rattle.trusted_cmds.specs.declared.command.Command.TheVariants.{ReadQueued, WriteQueued, ReadDma, WriteDma, Send, Receive, Identify, ReadLog10, Flush, SetFeatures, ReadLog}
 use Rattle.locking.specs.declared.range.Op.TheVariants.{Read}
 use Rattle.locking.specs.declared.ranges.Verdict.{Verdict}
 use Rattle.locking.specs.declared.ranges.Verdict.TheVariants.{Serve, Shadow, Denied}
@@ -120,6 +126,11 @@ length-received f com_id room =
     by_test true = length-sized room (discovery f.rows)
     by_test false = length-sized room (received_bytes com_id room (f.waiting com_id))
 
+length-told : (list : Bool) (f : Facts) (com_id room : ℕ)
+    → length (if list then sized room protocol_list else receive_data f com_id room) ≡ room
+length-told true f com_id room = length-sized room protocol_list
+length-told false f com_id room = length-received f com_id room
+
 length-words : (word : ℕ → ℕ) (xs : List ℕ)
     → length (flat_map (λ x. low_first (word x)) xs) ≡ 2 * length xs
 length-words word [] = refl
@@ -132,6 +143,12 @@ length-run first (suc n) = omega (arith, length-run (suc first) n)
 length-identity : (sectors : ℕ) → length (identity sectors) ≡ 512
 length-identity sectors =
     length-words (identify_word sectors) (run_from 0 256)
+    ∙ ap (λ (n : ℕ). 2 * n) (length-run 0 256)
+
+length-known : (p : Profile) (config : Config) → length (identity_in p config) ≡ 512
+length-known Base config = length-identity config.sectors
+length-known Field config =
+    length-words (field_word config) (run_from 0 256)
     ∙ ap (λ (n : ℕ). 2 * n) (length-run 0 256)
 
 length-one : (xs : List ℕ) (last : ℕ) → length xs ≡ 511 → length (xs ++ last ∷ []) ≡ 512
@@ -157,10 +174,15 @@ data-fits f (ReadDma lba count) whole = read-fits f lba count (verdict_on f Read
 data-fits f (WriteDma lba count) whole = omega arith
 data-fits f (Send protocol com_id blocks dma) whole = omega arith
 data-fits f (Receive protocol com_id blocks dma) whole =
-    omega (arith, length-received f com_id (512 * blocks))
-data-fits f Identify whole = omega (arith, length-identity f.sectors)
+    omega (
+      arith,
+      length-told (is_protocol_list (Receive protocol com_id blocks dma)) f com_id (512 * blocks),
+    )
+data-fits f Identify whole = omega (arith, length-known f.config.profile f.config)
 data-fits f (ReadLog10 dma) whole = omega (arith, length-log f.failure)
 data-fits f Flush whole = omega arith
+data-fits f SetFeatures whole = omega arith
+data-fits f (ReadLog page dma) whole = omega (arith, length-sized 512 (device_page_head page))
 
 pub held-fits : (f : Facts) (command : Command) (v : Verdict)
     → ((s : ℕ) → length (f.sector s) ≡ 512)
@@ -174,3 +196,5 @@ held-fits f (Receive protocol com_id blocks dma) v whole = omega arith
 held-fits f Identify v whole = omega arith
 held-fits f (ReadLog10 dma) v whole = omega arith
 held-fits f Flush v whole = omega arith
+held-fits f SetFeatures v whole = omega arith
+held-fits f (ReadLog page dma) v whole = omega arith

@@ -5,7 +5,7 @@ use Rattle.std.proofs.lemmas.Bool.Decides.{nat_tests}
 use Rattle.fis.specs.Tags.{slot_count}
 use Rattle.history.specs.Opening.{Origin}
 use Rattle.history.specs.Tcg.{tcg}
-use Rattle.history.proofs.QuietProofs.{tcg_quiet}
+use Rattle.port_history.proofs.Acted.{tcg_for_ports}
 use Rattle.port_history.specs.declared.error.PortError.TheVariants.{HistoryFull, NotAnswered, NotYours}
 use Rattle.port_history.specs.declared.request.Answer.{Answer}
 use Rattle.port_history.specs.declared.stages.Put.{Put}
@@ -126,7 +126,7 @@ take_law o client tag before h =
     let t = none_holds (tests_of ms (steps.Take client tag)) h.1 in
     let answered = was_true (is_answered (stage ms tag)) t.1.0 in
     let mine = was_true (is_put_by client (put_at (stage ms tag))) t.1.1.0 in
-    let a = some_is (answer ms tag) (answer_law tcg tcg_quiet o before h.2 tag answered) in
+    let a = some_is (answer ms tag) (answer_law tcg tcg_for_ports o before h.2 tag answered) in
     record {
       owns = sym (owner_is o before tag) ∙ put_by_client client (stage ms tag) mine;
       answered = answered;

@@ -1,12 +1,14 @@
--- Laws over every lawful list of steps.
-use Rattle.std.specs.Prelude.{◌≡◌, ◌⊎◌, ℕ, ◌<◌, ◌≤◌, ◌||◌, ◌==◌, Bool, true, false, List, [], ◌∷◌, length, slice_index, is_some, option_map, unwrap_or, Option, Some, None, if◌then◌else◌}
+-- What is asked of items behind a port, and laws over every lawful list of steps.
+use Rattle.std.specs.Prelude.{◌≡◌, ◌⊎◌, ℕ, ◌%◌, ◌<◌, ◌≤◌, ◌||◌, ◌==◌, Bool, true, false, List, [], ◌∷◌, length, slice_index, is_some, option_map, unwrap_or, Option, Some, None, Ok, if◌then◌else◌}
 use Rattle.std.specs.Int.{bit_at}
 use Rattle.fis.specs.Bytes.{bit}
 use Rattle.fis.specs.H2d.{h2d_at}
 use Rattle.fis.specs.Tags.{slot_count}
 use Rattle.fis.specs.Types.{h2d_type}
 use Rattle.trusted_cmds.specs.declared.command.Command.{Command}
-use Rattle.trusted_cmds.specs.Commands.{reading, tag_with}
+use Rattle.trusted_cmds.specs.declared.command.Command.TheVariants as commands
+use Rattle.trusted_cmds.specs.Commands.{fis_of, tag_with, IsCounted}
+use Rattle.sp_cells.specs.Config.{Config}
 use Rattle.device_data.specs.declared.log_page.Failure.{Failure}
 use Rattle.history.specs.Bounds.{AreFed}
 use Rattle.history.specs.Decisions.{is_busy}
@@ -17,15 +19,47 @@ use Rattle.history.specs.Items.{Items}
 use Rattle.history.specs.Opening.{Origin}
 use Rattle.history.specs.Quiet.{IsQuiet}
 use Rattle.history.specs.Readers.{held, failure}
+use Rattle.history.specs.Tcg.{command_read}
 use Rattle.port_history.specs.declared.request.Answer.{Answer}
 use Rattle.port_history.specs.declared.step.Step.{Step}
 use Rattle.port_history.specs.declared.step.Step.TheVariants as steps
 use Rattle.port_history.specs.Refusals.{AreLawful, IsLawful, most_steps}
 use Rattle.port_history.specs.Ready.{engine_ready}
 use Rattle.port_history.specs.Registers.{registers}
-use Rattle.port_history.specs.Requests.{log_fis}
+use Rattle.port_history.specs.Requests.{log_fis, blocks_moved}
 use Rattle.port_history.specs.Stages.{is_active, is_answered, is_issued, is_queued_command}
 use Rattle.port_history.specs.Steps.{Moment, trace_of, trace, events, acts, stage, failed, is_tag, answer, act_of, reply}
+
+-- The commands of requests: trusted ones in their forms by DMA, and no read of a log.
+abbrev pub is_of_request : Command → Bool
+is_of_request (commands.Send protocol com_id blocks dma) = dma
+is_of_request (commands.Receive protocol com_id blocks dma) = dma
+is_of_request (commands.ReadLog10 dma) = false
+is_of_request (commands.ReadLog page dma) = false
+is_of_request commands.SetFeatures = false
+is_of_request _ = true
+
+-- What a command needs so that it is read as it is.
+pub record IsSized (command : Command) : Type 0 where
+  pub counted : IsCounted command
+  pub most : blocks_moved command ≤ 256
+  pub asked : is_of_request command ≡ true
+
+-- What a command is read back as: a trusted one has a protocol of one byte and a ComID of two.
+abbrev pub read_as : Command → Command
+read_as (commands.Send protocol com_id blocks dma) =
+    commands.Send (protocol % 256) (com_id % 65536) blocks dma
+read_as (commands.Receive protocol com_id blocks dma) =
+    commands.Receive (protocol % 256) (com_id % 65536) blocks dma
+read_as command = command
+
+-- Quiet items that read each FIS of a port as the command that it carries.
+pub record IsForPorts (items : Items) : Type 0 where
+  pub quiet : IsQuiet items
+  pub reads : (config : Config) (command : Command) (tag : ℕ) → tag < slot_count → IsSized command
+      → items.reads config (fis_of command tag) ≡ Ok (read_as command, tag_with command tag)
+  pub recovers : (config : Config)
+      → items.reads config (fis_of (commands.ReadLog10 true) 0) ≡ Ok (commands.ReadLog10 true, None)
 
 -- A FIS comes past the rules that stand before addresses, policy and security protocols: the queue
 -- has not failed, the FIS carries a command; a queued one has a free tag, and any other finds
@@ -35,7 +69,7 @@ pub record IsUnmixed (o : Origin) (past : List Event) (fis : List ℕ) : Type 0 
   pub command : Command
   pub mended : failure past ≡ None
   pub kind : slice_index fis 0 ≡ h2d_type
-  pub carries : reading (h2d_at fis) ≡ Rattle.std.specs.Prelude.Ok (command, tag_with command tag)
+  pub carries : command_read o.tables.config (h2d_at fis) ≡ Ok (command, tag_with command tag)
   pub is_command : (h2d_at fis).is_command ≡ true
   pub free : is_queued_command command ≡ true → held past tag ≡ None
   pub alone : is_queued_command command ≡ false → is_busy (facts o past) ≡ false
@@ -72,10 +106,10 @@ RegisterLaw =
     (o : Origin) (list : List Step) → IsLawful o list → (tag : ℕ) → tag < slot_count
     → HasBits (trace o list) tag
 
--- Every tag that is Answered has an answer, whatever quiet items do.
+-- Every tag that is Answered has an answer, whatever such items do.
 abbrev pub AnswerLaw : Type 0
 AnswerLaw =
-    (items : Items) → IsQuiet items → (o : Origin) (list : List Step) → AreLawful items o list
+    (items : Items) → IsForPorts items → (o : Origin) (list : List Step) → AreLawful items o list
     → (tag : ℕ) → is_answered (stage (trace_of items o list) tag) ≡ true
     → is_some (answer (trace_of items o list) tag) ≡ true
 

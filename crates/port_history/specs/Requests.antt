@@ -65,15 +65,10 @@ is_sized Flush = true
 -- Whether the data of a command go to the device, and how many bytes move (ACS-3, the commands'
 -- tables of inputs; IDENTIFY DEVICE gives one block).
 abbrev pub to_device : Command → Bool
-to_device (commands.ReadQueued lba count) = false
 to_device (commands.WriteQueued lba count) = true
-to_device (commands.ReadDma lba count) = false
 to_device (commands.WriteDma lba count) = true
 to_device (commands.Send protocol com_id blocks dma) = true
-to_device (commands.Receive protocol com_id blocks dma) = false
-to_device commands.Identify = false
-to_device (commands.ReadLog10 dma) = false
-to_device commands.Flush = false
+to_device _ = false
 
 abbrev pub blocks_moved : Command → ℕ
 blocks_moved (commands.ReadQueued lba count) = count
@@ -84,7 +79,8 @@ blocks_moved (commands.Send protocol com_id blocks dma) = blocks
 blocks_moved (commands.Receive protocol com_id blocks dma) = blocks
 blocks_moved commands.Identify = 1
 blocks_moved (commands.ReadLog10 dma) = 1
-blocks_moved commands.Flush = 0
+blocks_moved (commands.ReadLog page dma) = 1
+blocks_moved _ = 0
 
 abbrev pub bytes_moved : Command → ℕ
 bytes_moved command = sector_size * blocks_moved command

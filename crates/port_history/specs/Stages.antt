@@ -2,7 +2,7 @@
 use Rattle.std.specs.Prelude.{ℕ, Bool, true, false, not, ◌==◌, ◌&&◌, ◌||◌, nat_lt, Option, Some, None, if◌then◌else◌}
 use Rattle.fis.specs.Tags.{slot_count}
 use Rattle.trusted_cmds.specs.declared.command.Command.{Command}
-use Rattle.trusted_cmds.specs.declared.command.Command.TheVariants.{ReadQueued, WriteQueued, ReadDma, WriteDma, Send, Receive, Identify, ReadLog10, Flush}
+use Rattle.trusted_cmds.specs.declared.command.Command.TheVariants.{ReadQueued, WriteQueued}
 use Rattle.history.specs.Decisions.{any_below}
 use Rattle.port_history.specs.declared.stages.Put.{Put}
 use Rattle.port_history.specs.declared.stages.Stage.{Stage}
@@ -12,13 +12,7 @@ use Rattle.port_history.specs.declared.stages.Stage.TheVariants.{Free, Prepared,
 abbrev pub is_queued_command : Command → Bool
 is_queued_command (ReadQueued lba count) = true
 is_queued_command (WriteQueued lba count) = true
-is_queued_command (ReadDma lba count) = false
-is_queued_command (WriteDma lba count) = false
-is_queued_command (Send protocol com_id blocks dma) = false
-is_queued_command (Receive protocol com_id blocks dma) = false
-is_queued_command Identify = false
-is_queued_command (ReadLog10 dma) = false
-is_queued_command Flush = false
+is_queued_command _ = false
 
 abbrev pub is_queued_put : Option Put → Bool
 is_queued_put None = false

@@ -5,7 +5,7 @@ use Rattle.audit.specs.declared.reason.AuditLine.{AuditLine}
 use Rattle.device_data.specs.declared.log_page.Failure.{Failure}
 use Rattle.fis.specs.declared.any.Fis.{Fis}
 use Rattle.history.specs.Resets.{reset_kind_number}
-use Rattle.history.specs.Answers.{status_of, accepted_fises, accepted_data_of, completed_fises, completed_data}
+use Rattle.history.specs.Answers.{status_of, accepted_fises_of, accepted_data_of, completed_fises, completed_data}
 use Rattle.history.specs.Items.{Items}
 use Rattle.history.specs.Tcg.{tcg}
 use Rattle.history.specs.Audit.{line_for}
@@ -159,7 +159,7 @@ act_of before step = act_by (served_by (stage before) step) (payload before) ste
 abbrev pub effect_in : Items → Facts → Act → Effect
 effect_in items f (AcceptFis fis bytes) = record {
   event = event_in items f (AcceptFis fis bytes);
-  fises = accepted_fises fis (event_in items f (AcceptFis fis bytes));
+  fises = accepted_fises_of items f fis (event_in items f (AcceptFis fis bytes));
   bytes = accepted_data_of items f fis (event_in items f (AcceptFis fis bytes));
 }
 effect_in items f (CompleteTag tag bytes) = record {

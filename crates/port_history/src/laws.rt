@@ -1,7 +1,8 @@
 //! What follows from the definitions alone, and their limits.
 
 ghost use Rattle.std.specs.Prelude.{◌≡◌, ◌↔◌, IsTrue};
-ghost use Rattle.port_history.specs.Laws.{NeverMixes, FailureLaw, RegisterLaw, AnswerLaw, TakeLaw, OwnLaw, FedLaw, FullLaw};
+ghost use Rattle.port_history.specs.Laws.{NeverMixes, FailureLaw, RegisterLaw, AnswerLaw, TakeLaw, OwnLaw, FedLaw, FullLaw, IsForPorts};
+ghost use Rattle.history.specs.Tcg.{tcg};
 ghost use Rattle.port_history.specs.Refusals.{most_steps};
 ghost use Rattle.port_history.specs.Requests.{most_blocks};
 ghost use Rattle.port_history.specs.contracts.request.AnswerPartialEq.TheImpl as answers;
@@ -16,17 +17,18 @@ ghost use Rattle.port_history.specs.declared.step.Step.{Step};
 
 /// Laws of the definitions, over every origin and every lawful list of steps.
 ///
-/// `unmixed`: the port never mixes queues. The drive refuses no act of the list for mixing queued
+/// `ports`: the items of this drive are quiet, and read each FIS of a port as its command. `unmixed`: the port never mixes queues. The drive refuses no act of the list for mixing queued
 /// commands with others, nor for a fault of its FIS: each comes to its addresses and the policy, or
 /// reads the log page of a failed queue. `failure`: the drive's queue has failed exactly while the
 /// port has, and its log page names the tag. `registers`: PxSACT has exactly the queued tags that
 /// are Issued or Accepted, PxCI those that are Issued, and the failed tag. `answered`: each tag
-/// that is Answered has an answer, whatever quiet items do. `taken`: a client takes only what is its
+/// that is Answered has an answer, whatever such items do. `taken`: a client takes only what is its
 /// own, the answer to the newest command put into the slot and not taken since, which that client
 /// put. `own`: while the history has room, no client is refused such an answer. `fed`: each act
 /// brings as many bytes as its command wants. `full`: where the history is full, the engine may do
 /// nothing.
 pub fn laws_of_steps()
+    ensures ports { IsForPorts tcg }
     ensures unmixed { NeverMixes }
     ensures failure { FailureLaw }
     ensures registers { RegisterLaw }

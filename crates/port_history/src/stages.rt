@@ -40,6 +40,8 @@ pub fn is_queued(command: Command) -> bool
         | Command::Receive { .. }
         | Command::Identify
         | Command::ReadLog10 { .. }
-        | Command::Flush => false,
+        | Command::Flush
+        | Command::SetFeatures
+        | Command::ReadLog { .. } => false,
     }
 }

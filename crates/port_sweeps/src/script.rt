@@ -5,7 +5,7 @@ use basics::Bytes;
 use compacket::{ComId, MAX_PAYLOAD, Session, frame};
 use drive::{RangeRow, ResetKind};
 use port::{Request, Step};
-use script_lines::{PortLine, PutRequest, Reset};
+use script_lines::{Hex, PortLine, PutRequest, Reset};
 use std::alloc::{AllocError, Global};
 
 /// How many bytes a block has.
@@ -36,28 +36,60 @@ fn same_bytes(alloc: Global, count: u16, byte: u8) -> Result<Bytes, AllocError> 
     Ok(Bytes::from_vec(bytes))
 }
 
-/// A send of bytes, with zeros behind them to the end of a block.
-fn send_of(com_id: ComId, mut bytes: Vec<u8>) -> Result<Request, AllocError> {
+/// A queued write of sectors of one byte.
+fn write_of(alloc: Global, lba: u64, count: u16, byte: u8) -> Result<Request, AllocError> {
+    let bytes = same_bytes(alloc, count, byte)?;
+    Ok(Request::Write { lba, bytes })
+}
+
+/// A write of sectors of one byte that is not queued.
+fn write_dma_of(alloc: Global, lba: u64, count: u16, byte: u8) -> Result<Request, AllocError> {
+    let bytes = same_bytes(alloc, count, byte)?;
+    Ok(Request::WriteDma { lba, bytes })
+}
+
+/// The bytes that digits write.
+fn decoded(alloc: Global, digits: &Hex<'_>) -> Result<Vec<u8>, AllocError> {
+    let mut bytes = Vec::new(alloc);
+    digits.decode_into(&mut bytes)?;
+    Ok(bytes)
+}
+
+/// A send of bytes by a security protocol, with zeros behind them to the end of a block.
+fn send_of(protocol: u8, com_id: u16, mut bytes: Vec<u8>) -> Result<Request, AllocError> {
     let blocks = bytes.len().div_ceil(BLOCK);
     bytes.resize(blocks.saturating_mul(BLOCK), 0)?;
     Ok(Request::Send {
-        protocol: COM_ID_PROTOCOL,
+        protocol,
         com_id,
         bytes: Bytes::from_vec(bytes),
     })
 }
 
-/// The frame of tokens in a session; no bytes, which no port takes, where a frame has not so many.
-fn framed(
+/// A receive of blocks by a security protocol.
+fn receive_of(protocol: u8, com_id: u16, blocks: u16) -> Request {
+    Request::Receive {
+        protocol,
+        com_id,
+        blocks,
+    }
+}
+
+/// A send of tokens in a session; of no bytes, which no port takes, where a frame has not so many.
+fn call_of(
     alloc: Global,
     com_id: ComId,
     session: Session,
-    tokens: &[u8],
-) -> Result<Vec<u8>, AllocError> {
-    if tokens.is_empty() || tokens.len() > MAX_PAYLOAD {
-        return Ok(Vec::new(alloc));
-    }
-    frame(alloc, com_id, session, tokens)
+    tokens: &Hex<'_>,
+) -> Result<Request, AllocError> {
+    let tokens = decoded(alloc, tokens)?;
+    let frames = !tokens.is_empty() && tokens.len() <= MAX_PAYLOAD;
+    let bytes = if frames {
+        frame(alloc, com_id, session, &tokens)?
+    } else {
+        Vec::new(alloc)
+    };
+    send_of(COM_ID_PROTOCOL, com_id, bytes)
 }
 
 /// The request of a line.
@@ -67,37 +99,36 @@ fn request_of(alloc: Global, asked: &PutRequest<'_>) -> Result<Request, AllocErr
             lba: lba.number(),
             count: u32::from(*count),
         }),
-        PutRequest::Write { lba, count, byte } => Ok(Request::Write {
-            lba: lba.number(),
-            bytes: same_bytes(alloc, *count, *byte)?,
-        }),
+        PutRequest::Write { lba, count, byte } => write_of(alloc, lba.number(), *count, *byte),
         PutRequest::ReadDma { lba, count } => Ok(Request::ReadDma {
             lba: lba.number(),
             count: u32::from(*count),
         }),
-        PutRequest::WriteDma { lba, count, byte } => Ok(Request::WriteDma {
-            lba: lba.number(),
-            bytes: same_bytes(alloc, *count, *byte)?,
-        }),
+        PutRequest::WriteDma { lba, count, byte } => {
+            write_dma_of(alloc, lba.number(), *count, *byte)
+        }
         PutRequest::Call {
             com_id,
             session,
             tokens,
-        } => {
-            let mut bytes = Vec::new(alloc);
-            tokens.decode_into(&mut bytes)?;
-            send_of(*com_id, framed(alloc, *com_id, *session, &bytes)?)
-        }
+        } => call_of(alloc, *com_id, *session, tokens),
         PutRequest::Send { com_id, packet } => {
-            let mut bytes = Vec::new(alloc);
-            packet.decode_into(&mut bytes)?;
-            send_of(*com_id, bytes)
+            send_of(COM_ID_PROTOCOL, *com_id, decoded(alloc, packet)?)
         }
-        PutRequest::Receive { com_id, blocks } => Ok(Request::Receive {
-            protocol: COM_ID_PROTOCOL,
-            com_id: *com_id,
-            blocks: *blocks,
-        }),
+        PutRequest::Receive { com_id, blocks } => {
+            Ok(receive_of(COM_ID_PROTOCOL, *com_id, *blocks))
+        }
+        PutRequest::SecurityIn {
+            protocol,
+            sp_specific,
+            blocks,
+        } => Ok(receive_of(*protocol, *sp_specific, *blocks)),
+        PutRequest::SecurityOut {
+            protocol,
+            sp_specific,
+            payload,
+        } => send_of(*protocol, *sp_specific, decoded(alloc, payload)?),
+        PutRequest::Identify => Ok(Request::Identify),
     }
 }
 

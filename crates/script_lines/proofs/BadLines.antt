@@ -5,8 +5,8 @@ use Rattle.script_lines.specs.Words.{nth_word, after_words, first_word, after_wo
 use Rattle.script_lines.specs.Verbs.{verb_of}
 use Rattle.script_lines.specs.Fields.{◌>>=◌, or_fault, number_of_field}
 use Rattle.script_lines.specs.Groups.{range_in, transfer_in, dma_transfer_in}
-use Rattle.script_lines.specs.Lines.{ended, range_line, read_line, write_line, read_dma_line, write_dma_line, call_line, send_line, receive_line, log_line, reset_line, tper_reset_line, verb_line}
-use Rattle.script_lines.specs.PortLines.{transfer_words, slot_in, read_words, write_words, read_dma_words, write_dma_words, call_words, send_words, receive_words, request_words, range_words, put_words, issue_words, accept_words, complete_words, recover_words, reset_words, take_words, port_verb_words, port_verb_of, port_line_of}
+use Rattle.script_lines.specs.Lines.{ended, range_line, read_line, write_line, read_dma_line, write_dma_line, call_line, send_line, receive_line, security_in_line, security_out_line, identify_line, log_line, reset_line, tper_reset_line, verb_line}
+use Rattle.script_lines.specs.PortLines.{transfer_words, slot_in, read_words, write_words, read_dma_words, write_dma_words, call_words, send_words, receive_words, security_in_words, security_out_words, identify_words, request_words, range_words, put_words, issue_words, accept_words, complete_words, recover_words, reset_words, take_words, port_verb_words, port_verb_of, port_line_of}
 use Rattle.script_lines.specs.PortLines as port
 use Rattle.script_lines.specs.Spellings.{IsMadeOfWords}
 use Rattle.script_lines.specs.Faults.{none_left, any_left, range_fields, reset_fields, fields_of, fault_behind, in_line, request_fields, in_named_request, in_request_of, in_request, step_fields, behind_step, in_port_line, fault_in}
@@ -107,6 +107,23 @@ receive_line_is text =
     with_number fields.ComId (nth_word 1 text) _ _ (λ com_id.
     with_number fields.Blocks (nth_word 2 text) _ _ (λ blocks. end_is (after_words 3 text) (lines.Receive client com_id blocks))))
 
+security_in_line_is : (text : List ℕ) → fault_in (security_in_line text) ≡ in_text (fields_of verbs.SecurityIn) none_text text
+security_in_line_is text =
+    with_number fields.Client (nth_word 0 text) _ _ (λ client.
+    with_number fields.Protocol (nth_word 1 text) _ _ (λ protocol.
+    with_number fields.SpSpecific (nth_word 2 text) _ _ (λ sp_specific.
+    with_number fields.SecurityBlocks (nth_word 3 text) _ _ (λ blocks. end_is (after_words 4 text) (lines.SecurityIn client protocol sp_specific blocks)))))
+
+security_out_line_is : (text : List ℕ) → fault_in (security_out_line text) ≡ in_text (fields_of verbs.SecurityOut) none_text text
+security_out_line_is text =
+    with_number fields.Client (nth_word 0 text) _ _ (λ client.
+    with_number fields.Protocol (nth_word 1 text) _ _ (λ protocol.
+    with_number fields.SpSpecific (nth_word 2 text) _ _ (λ sp_specific.
+    with_hex fields.SecurityBytes (nth_word 3 text) _ _ (λ payload. end_is (after_words 4 text) (lines.SecurityOut client protocol sp_specific payload)))))
+
+identify_line_is : (text : List ℕ) → fault_in (identify_line text) ≡ in_text (fields_of verbs.Identify) none_text text
+identify_line_is text = with_number fields.Client (nth_word 0 text) _ _ (λ client. end_is (after_words 1 text) (lines.Identify client))
+
 log_line_is : (text : List ℕ) → fault_in (log_line text) ≡ in_text (fields_of verbs.Log) none_text text
 log_line_is text = with_number fields.Client (nth_word 0 text) _ _ (λ client. end_is (after_words 1 text) (lines.Log client))
 
@@ -138,6 +155,9 @@ behind_is verbs.WriteDma = none_is
 behind_is verbs.Call = none_is
 behind_is verbs.Send = none_is
 behind_is verbs.Receive = none_is
+behind_is verbs.SecurityIn = none_is
+behind_is verbs.SecurityOut = none_is
+behind_is verbs.Identify = none_is
 behind_is verbs.Log = none_is
 behind_is verbs.Reset = none_is
 behind_is verbs.TperReset = none_is
@@ -152,6 +172,9 @@ verb_is verbs.WriteDma text = write_dma_line_is text
 verb_is verbs.Call text = call_line_is text
 verb_is verbs.Send text = send_line_is text
 verb_is verbs.Receive text = receive_line_is text
+verb_is verbs.SecurityIn text = security_in_line_is text
+verb_is verbs.SecurityOut text = security_out_line_is text
+verb_is verbs.Identify text = identify_line_is text
 verb_is verbs.Log text = log_line_is text
 verb_is verbs.Reset text = reset_line_is text
 verb_is verbs.TperReset text = tper_reset_line_is text
@@ -219,6 +242,23 @@ receive_words_are text =
     with_number fields.PutComId (nth_word 0 text) _ _ (λ com_id.
     with_number fields.PutBlocks (nth_word 1 text) _ _ (λ blocks. then_none (after_words 2 text) _))
 
+security_in_words_are : (text : List ℕ)
+    → fault_in (security_in_words text) ≡ in_text (fields.PutProtocol ∷ fields.PutSpSpecific ∷ fields.PutSecurityBlocks ∷ []) none_text text
+security_in_words_are text =
+    with_number fields.PutProtocol (nth_word 0 text) _ _ (λ protocol.
+    with_number fields.PutSpSpecific (nth_word 1 text) _ _ (λ sp_specific.
+    with_number fields.PutSecurityBlocks (nth_word 2 text) _ _ (λ blocks. then_none (after_words 3 text) _)))
+
+security_out_words_are : (text : List ℕ)
+    → fault_in (security_out_words text) ≡ in_text (fields.PutProtocol ∷ fields.PutSpSpecific ∷ fields.PutSecurityBytes ∷ []) none_text text
+security_out_words_are text =
+    with_number fields.PutProtocol (nth_word 0 text) _ _ (λ protocol.
+    with_number fields.PutSpSpecific (nth_word 1 text) _ _ (λ sp_specific.
+    with_hex fields.PutSecurityBytes (nth_word 2 text) _ _ (λ payload. then_none (after_words 3 text) _)))
+
+identify_words_are : (text : List ℕ) → fault_in (identify_words text) ≡ in_text [] none_text text
+identify_words_are text = then_none text _
+
 -- a request
 abbrev named_text : Option (List Field) → List ℕ → Option LineFault
 named_text None text = Some UnknownRequest
@@ -254,6 +294,9 @@ request_words_are verbs.WriteDma text = write_dma_words_are text
 request_words_are verbs.Call text = call_words_are text
 request_words_are verbs.Send text = send_words_are text
 request_words_are verbs.Receive text = receive_words_are text
+request_words_are verbs.SecurityIn text = security_in_words_are text
+request_words_are verbs.SecurityOut text = security_out_words_are text
+request_words_are verbs.Identify text = identify_words_are text
 request_words_are verbs.TperReset text = refl
 request_words_are verbs.Range text = refl
 request_words_are verbs.Log text = refl

@@ -6,7 +6,7 @@ use Rattle.script_lines.specs.Verbs.{verb_of}
 use Rattle.script_lines.specs.Fields.{or_fault, ◌>>=◌}
 use Rattle.script_lines.specs.Lines.{verb_line, line_said}
 use Rattle.script_lines.specs.Spellings.{IsMadeOfWords}
-use Rattle.script_lines.specs.Says.{verb_name, Number, Byte, Bytes, range_items, transfer_items, dma_items, com_items, call_items, reset_number, Says}
+use Rattle.script_lines.specs.Says.{verb_name, Number, Byte, Bytes, range_items, transfer_items, dma_items, com_items, call_items, security_items, reset_number, Says}
 use Rattle.script_lines.specs.Laws.{GoodLineLaw}
 use Rattle.script_lines.specs.declared.fault.LineFault.TheVariants.{UnknownWord}
 use Rattle.script_lines.specs.declared.field.Field.TheVariants as fields
@@ -36,6 +36,11 @@ says (lines.Send client com_id packet) w ws rest is s h =
     named (codes "send") (com_items client com_id (Bytes fields.ComPacket packet ∷ [])) w ws rest is s h
 says (lines.Receive client com_id blocks) w ws rest is s h =
     named (codes "recv") (com_items client com_id (Number fields.Blocks blocks ∷ [])) w ws rest is s h
+says (lines.SecurityIn client protocol sp_specific blocks) w ws rest is s h =
+    named (codes "secin") (security_items client protocol sp_specific (Number fields.SecurityBlocks blocks)) w ws rest is s h
+says (lines.SecurityOut client protocol sp_specific payload) w ws rest is s h =
+    named (codes "secout") (security_items client protocol sp_specific (Bytes fields.SecurityBytes payload)) w ws rest is s h
+says (lines.Identify client) w ws rest is s h = named (codes "identify") (Number fields.Client client ∷ []) w ws rest is s h
 says (lines.Log client) w ws rest is s h = named (codes "log") (Number fields.Client client ∷ []) w ws rest is s h
 says (lines.Reset client kind) w ws rest is s h =
     named (codes "reset") (Number fields.Client client ∷ Number fields.ResetKind (reset_number kind) ∷ []) w ws rest is s h
@@ -70,6 +75,11 @@ read (lines.Send client com_id packet) ws text s h =
     name_then (codes "send") (com_items client com_id (Bytes fields.ComPacket packet ∷ [])) ws text s h
 read (lines.Receive client com_id blocks) ws text s h =
     name_then (codes "recv") (com_items client com_id (Number fields.Blocks blocks ∷ [])) ws text s h
+read (lines.SecurityIn client protocol sp_specific blocks) ws text s h =
+    name_then (codes "secin") (security_items client protocol sp_specific (Number fields.SecurityBlocks blocks)) ws text s h
+read (lines.SecurityOut client protocol sp_specific payload) ws text s h =
+    name_then (codes "secout") (security_items client protocol sp_specific (Bytes fields.SecurityBytes payload)) ws text s h
+read (lines.Identify client) ws text s h = name_then (codes "identify") (Number fields.Client client ∷ []) ws text s h
 read (lines.Log client) ws text s h = name_then (codes "log") (Number fields.Client client ∷ []) ws text s h
 read (lines.Reset client kind) ws text s h =
     name_then (codes "reset") (Number fields.Client client ∷ Number fields.ResetKind (reset_number kind) ∷ []) ws text s h

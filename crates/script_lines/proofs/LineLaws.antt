@@ -2,7 +2,7 @@
 use Rattle.std.proofs.Common.{◌≡◌, ℕ, suc, List, refl, sym, ap, ◌∙◌, Option, None, Some}
 use Rattle.script_lines.specs.Words.{first_word, after_word, nth_word}
 use Rattle.script_lines.specs.Fields.{or_fault, ◌>>=◌}
-use Rattle.script_lines.specs.Lines.{verb_line, range_line, read_line, write_line, read_dma_line, write_dma_line, call_line, send_line, receive_line, log_line, reset_line, tper_reset_line}
+use Rattle.script_lines.specs.Lines.{verb_line, range_line, read_line, write_line, read_dma_line, write_dma_line, call_line, send_line, receive_line, security_in_line, security_out_line, identify_line, log_line, reset_line, tper_reset_line}
 use Rattle.script_lines.specs.Verbs.{verb_of}
 use Rattle.script_lines.specs.declared.verb.Verb.{Verb}
 use Rattle.script_lines.specs.declared.verb.Verb.TheVariants as verbs
@@ -44,6 +44,15 @@ send_same a b w = rw (w 0, w 1, w 2, w 3) refl
 receive_same : (a b : List ℕ) → SameWords a b → receive_line a ≡ receive_line b
 receive_same a b w = rw (w 0, w 1, w 2, w 3) refl
 
+security_in_same : (a b : List ℕ) → SameWords a b → security_in_line a ≡ security_in_line b
+security_in_same a b w = rw (w 0, w 1, w 2, w 3, w 4) refl
+
+security_out_same : (a b : List ℕ) → SameWords a b → security_out_line a ≡ security_out_line b
+security_out_same a b w = rw (w 0, w 1, w 2, w 3, w 4) refl
+
+identify_same : (a b : List ℕ) → SameWords a b → identify_line a ≡ identify_line b
+identify_same a b w = rw (w 0, w 1) refl
+
 log_same : (a b : List ℕ) → SameWords a b → log_line a ≡ log_line b
 log_same a b w = rw (w 0, w 1) refl
 
@@ -62,6 +71,9 @@ verb_same verbs.WriteDma a b w = write_dma_same a b w
 verb_same verbs.Call a b w = call_same a b w
 verb_same verbs.Send a b w = send_same a b w
 verb_same verbs.Receive a b w = receive_same a b w
+verb_same verbs.SecurityIn a b w = security_in_same a b w
+verb_same verbs.SecurityOut a b w = security_out_same a b w
+verb_same verbs.Identify a b w = identify_same a b w
 verb_same verbs.Log a b w = log_same a b w
 verb_same verbs.Reset a b w = reset_same a b w
 verb_same verbs.TperReset a b w = tper_reset_same a b w

@@ -44,6 +44,10 @@ most_small fields.HostSession = omega arith
 most_small fields.Tokens = omega arith
 most_small fields.ComPacket = omega arith
 most_small fields.Blocks = omega arith
+most_small fields.Protocol = omega arith
+most_small fields.SpSpecific = omega arith
+most_small fields.SecurityBlocks = omega arith
+most_small fields.SecurityBytes = omega arith
 most_small fields.ResetKind = omega arith
 most_small fields.Slot = omega arith
 most_small fields.PutAddress = omega arith
@@ -55,6 +59,10 @@ most_small fields.PutHostSession = omega arith
 most_small fields.PutTokens = omega arith
 most_small fields.PutComPacket = omega arith
 most_small fields.PutBlocks = omega arith
+most_small fields.PutProtocol = omega arith
+most_small fields.PutSpSpecific = omega arith
+most_small fields.PutSecurityBlocks = omega arith
+most_small fields.PutSecurityBytes = omega arith
 
 -- Digits are their number as it is printed, behind the zeros in front.
 behind : (c : ℕ) (cs : List ℕ) → c ≡ 48 → WritesNumber (digits_value 10 cs) cs → WritesNumber (digits_value 10 (c ∷ cs)) (c ∷ cs)

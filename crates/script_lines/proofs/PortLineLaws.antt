@@ -4,7 +4,7 @@ use Rattle.std.specs.Prelude.{codes}
 use Rattle.std.specs.Str.{bytes_eq}
 use Rattle.script_lines.specs.Words.{first_word, after_word, after_words}
 use Rattle.script_lines.specs.Fields.{or_fault, ◌>>=◌, number_of_field}
-use Rattle.script_lines.specs.PortLines.{request_words, put_words, port_verb_words, port_verb_of, read_words, write_words, read_dma_words, write_dma_words, call_words, send_words, receive_words, range_words, issue_words, accept_words, complete_words, recover_words, reset_words, take_words}
+use Rattle.script_lines.specs.PortLines.{request_words, put_words, port_verb_words, port_verb_of, read_words, write_words, read_dma_words, write_dma_words, call_words, send_words, receive_words, security_in_words, security_out_words, identify_words, range_words, issue_words, accept_words, complete_words, recover_words, reset_words, take_words}
 use Rattle.script_lines.specs.Verbs.{verb_of}
 use Rattle.script_lines.specs.declared.field.Field.TheVariants as fields
 use Rattle.script_lines.specs.declared.verb.Verb.{Verb}
@@ -40,6 +40,15 @@ send_same a b w = rw (w 0, w 1, w 2) refl
 receive_same : (a b : List ℕ) → SameWords a b → receive_words a ≡ receive_words b
 receive_same a b w = rw (w 0, w 1, w 2) refl
 
+security_in_same : (a b : List ℕ) → SameWords a b → security_in_words a ≡ security_in_words b
+security_in_same a b w = rw (w 0, w 1, w 2, w 3) refl
+
+security_out_same : (a b : List ℕ) → SameWords a b → security_out_words a ≡ security_out_words b
+security_out_same a b w = rw (w 0, w 1, w 2, w 3) refl
+
+identify_same : (a b : List ℕ) → SameWords a b → identify_words a ≡ identify_words b
+identify_same a b w = rw (w 0) refl
+
 request_same : (verb : Verb) (a b : List ℕ) → SameWords a b → request_words verb a ≡ request_words verb b
 request_same verbs.Read a b w = read_same a b w
 request_same verbs.Write a b w = write_same a b w
@@ -48,6 +57,9 @@ request_same verbs.WriteDma a b w = write_dma_same a b w
 request_same verbs.Call a b w = call_same a b w
 request_same verbs.Send a b w = send_same a b w
 request_same verbs.Receive a b w = receive_same a b w
+request_same verbs.SecurityIn a b w = security_in_same a b w
+request_same verbs.SecurityOut a b w = security_out_same a b w
+request_same verbs.Identify a b w = identify_same a b w
 request_same verbs.TperReset a b w = refl
 request_same verbs.Range a b w = refl
 request_same verbs.Log a b w = refl

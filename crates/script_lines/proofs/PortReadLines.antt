@@ -6,7 +6,7 @@ use Rattle.script_lines.specs.Words.{first_word, after_words, nth_word}
 use Rattle.script_lines.specs.Verbs.{verb_of}
 use Rattle.script_lines.specs.Fields.{or_fault, number_of_field, byte_of_field, hex_in, ◌>>=◌}
 use Rattle.script_lines.specs.Groups.{range_in, reset_in}
-use Rattle.script_lines.specs.PortLines.{none_left, slot_in, transfer_words, read_words, write_words, read_dma_words, write_dma_words, call_words, send_words, receive_words, request_words, range_words, put_words, issue_words, accept_words, complete_words, recover_words, reset_words, take_words, port_verb_words}
+use Rattle.script_lines.specs.PortLines.{none_left, slot_in, transfer_words, read_words, write_words, read_dma_words, write_dma_words, call_words, send_words, receive_words, security_in_words, security_out_words, identify_words, request_words, range_words, put_words, issue_words, accept_words, complete_words, recover_words, reset_words, take_words, port_verb_words}
 use Rattle.script_lines.specs.Says.{SaidWord, Number, Byte, range_items, reset_number}
 use Rattle.script_lines.specs.PortSays.{request_verb, request_items, sector_items, put_items, slot_items}
 use Rattle.script_lines.specs.declared.fault.LineFault.{LineFault}
@@ -104,6 +104,30 @@ receive_back rest request h =
     let is = ok_is _ request n.2 in
     rw (← is) (refl, (a.1, (b.1, none_back (after_words 2 rest) n.0 n.1)))
 
+security_in_back : (rest : List ℕ) (request : PutRequest) → security_in_words rest ≡ Ok request → AsksBack verbs.SecurityIn request rest
+security_in_back rest request h =
+    let a = bind_ok (number_of_field fields.PutProtocol (nth_word 0 rest)) _ request h in
+    let b = bind_ok (number_of_field fields.PutSpSpecific (nth_word 1 rest)) _ request a.2 in
+    let c = bind_ok (number_of_field fields.PutSecurityBlocks (nth_word 2 rest)) _ request b.2 in
+    let n = bind_ok (none_left (after_words 3 rest)) _ request c.2 in
+    let is = ok_is _ request n.2 in
+    rw (← is) (refl, (a.1, (b.1, (c.1, none_back (after_words 3 rest) n.0 n.1))))
+
+security_out_back : (rest : List ℕ) (request : PutRequest) → security_out_words rest ≡ Ok request → AsksBack verbs.SecurityOut request rest
+security_out_back rest request h =
+    let a = bind_ok (number_of_field fields.PutProtocol (nth_word 0 rest)) _ request h in
+    let b = bind_ok (number_of_field fields.PutSpSpecific (nth_word 1 rest)) _ request a.2 in
+    let c = bind_ok (hex_in fields.PutSecurityBytes (nth_word 2 rest)) _ request b.2 in
+    let n = bind_ok (none_left (after_words 3 rest)) _ request c.2 in
+    let is = ok_is _ request n.2 in
+    rw (← is) (refl, (a.1, (b.1, (c.1, none_back (after_words 3 rest) n.0 n.1))))
+
+identify_back : (rest : List ℕ) (request : PutRequest) → identify_words rest ≡ Ok request → AsksBack verbs.Identify request rest
+identify_back rest request h =
+    let n = bind_ok (none_left rest) _ request h in
+    let is = ok_is _ request n.2 in
+    rw (← is) (refl, none_back rest n.0 n.1)
+
 request_back : (verb : Verb) (rest : List ℕ) (request : PutRequest) → request_words verb rest ≡ Ok request → AsksBack verb request rest
 request_back verbs.Read rest request h = read_back rest request h
 request_back verbs.Write rest request h = write_back rest request h
@@ -112,6 +136,9 @@ request_back verbs.WriteDma rest request h = write_dma_back rest request h
 request_back verbs.Call rest request h = call_back rest request h
 request_back verbs.Send rest request h = send_back rest request h
 request_back verbs.Receive rest request h = receive_back rest request h
+request_back verbs.SecurityIn rest request h = security_in_back rest request h
+request_back verbs.SecurityOut rest request h = security_out_back rest request h
+request_back verbs.Identify rest request h = identify_back rest request h
 request_back verbs.TperReset rest request h = cc h
 request_back verbs.Range rest request h = cc h
 request_back verbs.Log rest request h = cc h
@@ -126,6 +153,9 @@ request_known (requests.WriteDma lba count byte) rest h = rw (h.0, h.1.0, h.1.1.
 request_known (requests.Call com_id session tokens) rest h = rw (h.0, h.1.0, h.1.1.0, h.1.1.1.0, h.1.1.1.1) refl
 request_known (requests.Send com_id packet) rest h = rw (h.0, h.1.0, h.1.1) refl
 request_known (requests.Receive com_id blocks) rest h = rw (h.0, h.1.0, h.1.1) refl
+request_known (requests.SecurityIn protocol sp_specific blocks) rest h = rw (h.0, h.1.0, h.1.1.0, h.1.1.1) refl
+request_known (requests.SecurityOut protocol sp_specific payload) rest h = rw (h.0, h.1.0, h.1.1.0, h.1.1.1) refl
+request_known requests.Identify rest h = rw h refl
 
 -- what a line's words read as
 abbrev pub PortReadBy : PortLine → List ℕ → Type 0

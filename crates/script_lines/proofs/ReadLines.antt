@@ -8,8 +8,8 @@ use Rattle.locking.specs.declared.range.RangeRow.{RangeRow}
 use Rattle.script_lines.specs.Words.{first_word, after_words, nth_word}
 use Rattle.script_lines.specs.Fields.{most_of, number_of_field, flag_in, is_flag_set, byte_of_field, hex_in, ◌>>=◌}
 use Rattle.script_lines.specs.Groups.{range_in, transfer_in, dma_transfer_in, session_in, reset_in, reset_named}
-use Rattle.script_lines.specs.Lines.{ended, verb_line, range_line, read_line, write_line, read_dma_line, write_dma_line, call_line, send_line, receive_line, log_line, reset_line, tper_reset_line}
-use Rattle.script_lines.specs.Says.{SaidWord, Number, Byte, Bytes, flag_number, range_items, transfer_items, dma_items, com_items, call_items, reset_number}
+use Rattle.script_lines.specs.Lines.{ended, verb_line, range_line, read_line, write_line, read_dma_line, write_dma_line, call_line, send_line, receive_line, security_in_line, security_out_line, identify_line, log_line, reset_line, tper_reset_line}
+use Rattle.script_lines.specs.Says.{SaidWord, Number, Byte, Bytes, flag_number, range_items, transfer_items, dma_items, com_items, call_items, security_items, reset_number}
 use Rattle.script_lines.specs.declared.fault.LineFault.{LineFault}
 use Rattle.script_lines.specs.declared.fault.LineFault.TheVariants.{Extra}
 use Rattle.script_lines.specs.declared.field.Field.{Field}
@@ -152,6 +152,9 @@ ReadBy (lines.WriteDma t byte) rest = ReadEach (dma_items t (Byte fields.DmaByte
 ReadBy (lines.Call client com_id session tokens) rest = ReadEach (com_items client com_id (call_items session tokens)) rest
 ReadBy (lines.Send client com_id packet) rest = ReadEach (com_items client com_id (Bytes fields.ComPacket packet ∷ [])) rest
 ReadBy (lines.Receive client com_id blocks) rest = ReadEach (com_items client com_id (Number fields.Blocks blocks ∷ [])) rest
+ReadBy (lines.SecurityIn client protocol sp_specific blocks) rest = ReadEach (security_items client protocol sp_specific (Number fields.SecurityBlocks blocks)) rest
+ReadBy (lines.SecurityOut client protocol sp_specific payload) rest = ReadEach (security_items client protocol sp_specific (Bytes fields.SecurityBytes payload)) rest
+ReadBy (lines.Identify client) rest = ReadEach (Number fields.Client client ∷ []) rest
 ReadBy (lines.Log client) rest = ReadEach (Number fields.Client client ∷ []) rest
 ReadBy (lines.Reset client kind) rest = ReadEach (Number fields.Client client ∷ Number fields.ResetKind (reset_number kind) ∷ []) rest
 ReadBy (lines.TperReset client) rest = ReadEach (Number fields.Client client ∷ []) rest
@@ -166,6 +169,9 @@ verb_of_line (lines.WriteDma t byte) = verbs.WriteDma
 verb_of_line (lines.Call client com_id session tokens) = verbs.Call
 verb_of_line (lines.Send client com_id packet) = verbs.Send
 verb_of_line (lines.Receive client com_id blocks) = verbs.Receive
+verb_of_line (lines.SecurityIn client protocol sp_specific blocks) = verbs.SecurityIn
+verb_of_line (lines.SecurityOut client protocol sp_specific payload) = verbs.SecurityOut
+verb_of_line (lines.Identify client) = verbs.Identify
 verb_of_line (lines.Log client) = verbs.Log
 verb_of_line (lines.Reset client kind) = verbs.Reset
 verb_of_line (lines.TperReset client) = verbs.TperReset
@@ -277,6 +283,43 @@ receive_known : (rest : List ℕ) (client com_id blocks : ℕ) → ReadBy (lines
 receive_known rest client com_id blocks h =
     rw (h.0, h.1.0, h.1.1.0) (ended_known (after_words 3 rest) (lines.Receive client com_id blocks) h.1.1.1)
 
+security_in_back : (rest : List ℕ) (line : Line) → security_in_line rest ≡ Ok line → Back verbs.SecurityIn line rest
+security_in_back rest line h =
+    let a = bind_ok (number_of_field fields.Client (nth_word 0 rest)) _ line h in
+    let b = bind_ok (number_of_field fields.Protocol (nth_word 1 rest)) _ line a.2 in
+    let c = bind_ok (number_of_field fields.SpSpecific (nth_word 2 rest)) _ line b.2 in
+    let d = bind_ok (number_of_field fields.SecurityBlocks (nth_word 3 rest)) _ line c.2 in
+    let end = ended_back (after_words 4 rest) (lines.SecurityIn a.0 b.0 c.0 d.0) line d.2 in
+    rw (← end.1) (refl, (a.1, (b.1, (c.1, (d.1, end.0)))))
+
+security_in_known : (rest : List ℕ) (client protocol sp_specific blocks : ℕ) → ReadBy (lines.SecurityIn client protocol sp_specific blocks) rest
+    → security_in_line rest ≡ Ok (lines.SecurityIn client protocol sp_specific blocks)
+security_in_known rest client protocol sp_specific blocks h =
+    rw (h.0, h.1.0, h.1.1.0, h.1.1.1.0) (ended_known (after_words 4 rest) (lines.SecurityIn client protocol sp_specific blocks) h.1.1.1.1)
+
+security_out_back : (rest : List ℕ) (line : Line) → security_out_line rest ≡ Ok line → Back verbs.SecurityOut line rest
+security_out_back rest line h =
+    let a = bind_ok (number_of_field fields.Client (nth_word 0 rest)) _ line h in
+    let b = bind_ok (number_of_field fields.Protocol (nth_word 1 rest)) _ line a.2 in
+    let c = bind_ok (number_of_field fields.SpSpecific (nth_word 2 rest)) _ line b.2 in
+    let x = bind_ok (hex_in fields.SecurityBytes (nth_word 3 rest)) _ line c.2 in
+    let end = ended_back (after_words 4 rest) (lines.SecurityOut a.0 b.0 c.0 x.0) line x.2 in
+    rw (← end.1) (refl, (a.1, (b.1, (c.1, (x.1, end.0)))))
+
+security_out_known : (rest : List ℕ) (client protocol sp_specific : ℕ) (payload : List ℕ) → ReadBy (lines.SecurityOut client protocol sp_specific payload) rest
+    → security_out_line rest ≡ Ok (lines.SecurityOut client protocol sp_specific payload)
+security_out_known rest client protocol sp_specific payload h =
+    rw (h.0, h.1.0, h.1.1.0, h.1.1.1.0) (ended_known (after_words 4 rest) (lines.SecurityOut client protocol sp_specific payload) h.1.1.1.1)
+
+identify_back : (rest : List ℕ) (line : Line) → identify_line rest ≡ Ok line → Back verbs.Identify line rest
+identify_back rest line h =
+    let a = bind_ok (number_of_field fields.Client (nth_word 0 rest)) _ line h in
+    let end = ended_back (after_words 1 rest) (lines.Identify a.0) line a.2 in
+    rw (← end.1) (refl, (a.1, end.0))
+
+identify_known : (rest : List ℕ) (client : ℕ) → ReadBy (lines.Identify client) rest → identify_line rest ≡ Ok (lines.Identify client)
+identify_known rest client h = rw h.0 (ended_known (after_words 1 rest) (lines.Identify client) h.1)
+
 log_back : (rest : List ℕ) (line : Line) → log_line rest ≡ Ok line → Back verbs.Log line rest
 log_back rest line h =
     let a = bind_ok (number_of_field fields.Client (nth_word 0 rest)) _ line h in
@@ -322,6 +365,9 @@ back verbs.WriteDma rest line h = write_dma_back rest line h
 back verbs.Call rest line h = call_back rest line h
 back verbs.Send rest line h = send_back rest line h
 back verbs.Receive rest line h = receive_back rest line h
+back verbs.SecurityIn rest line h = security_in_back rest line h
+back verbs.SecurityOut rest line h = security_out_back rest line h
+back verbs.Identify rest line h = identify_back rest line h
 back verbs.Log rest line h = log_back rest line h
 back verbs.Reset rest line h = reset_line_back rest line h
 back verbs.TperReset rest line h = tper_back rest line h
@@ -336,6 +382,9 @@ known (lines.WriteDma t byte) rest h = write_dma_known rest t byte h
 known (lines.Call client com_id session tokens) rest h = call_known rest client com_id session tokens h
 known (lines.Send client com_id packet) rest h = send_known rest client com_id packet h
 known (lines.Receive client com_id blocks) rest h = receive_known rest client com_id blocks h
+known (lines.SecurityIn client protocol sp_specific blocks) rest h = security_in_known rest client protocol sp_specific blocks h
+known (lines.SecurityOut client protocol sp_specific payload) rest h = security_out_known rest client protocol sp_specific payload h
+known (lines.Identify client) rest h = identify_known rest client h
 known (lines.Log client) rest h = log_known rest client h
 known (lines.Reset client kind) rest h = reset_line_known rest client kind h
 known (lines.TperReset client) rest h = tper_known rest client h

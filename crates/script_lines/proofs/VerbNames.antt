@@ -17,6 +17,9 @@ is_name verbs.WriteDma = refl
 is_name verbs.Call = refl
 is_name verbs.Send = refl
 is_name verbs.Receive = refl
+is_name verbs.SecurityIn = refl
+is_name verbs.SecurityOut = refl
+is_name verbs.Identify = refl
 is_name verbs.Log = refl
 is_name verbs.Reset = refl
 is_name verbs.TperReset = refl
@@ -43,7 +46,7 @@ among_is (n ∷ others) w found all h =
 
 pub name_is : (w : List ℕ) (verb : Verb) → verb_of w ≡ Some verb → w ≡ verb_name verb
 name_is w verb h =
-    among_is words w verb (refl, (refl, (refl, (refl, (refl, (refl, (refl, (refl, (refl, (refl, (refl, (refl, tt)))))))))))) h
+    among_is words w verb (refl, (refl, (refl, (refl, (refl, (refl, (refl, (refl, (refl, (refl, (refl, (refl, (refl, (refl, (refl, tt))))))))))))))) h
 
 pub no_name : (verb : Verb) → [] ≡ verb_name verb → ⊥
 no_name verb h = let some = is_name verb in let e : verb_of [] ≡ Some verb = ap verb_of h ∙ some in none_there e where

@@ -25,6 +25,8 @@ takes fields.Tokens word = is_hex_up_to most_call_bytes word
 takes fields.PutTokens word = is_hex_up_to most_call_bytes word
 takes fields.ComPacket word = is_hex_up_to most_send_bytes word
 takes fields.PutComPacket word = is_hex_up_to most_send_bytes word
+takes fields.SecurityBytes word = is_hex_up_to most_send_bytes word
+takes fields.PutSecurityBytes word = is_hex_up_to most_send_bytes word
 takes field word = is_numeral word && nat_le (digits_value 10 word) (most_of field)
 
 -- what is wrong with words that stand for these fields, and with those behind them
@@ -71,6 +73,11 @@ fields_of verbs.Call =
     fields.Client ∷ fields.ComId ∷ fields.TperSession ∷ fields.HostSession ∷ fields.Tokens ∷ []
 fields_of verbs.Send = fields.Client ∷ fields.ComId ∷ fields.ComPacket ∷ []
 fields_of verbs.Receive = fields.Client ∷ fields.ComId ∷ fields.Blocks ∷ []
+fields_of verbs.SecurityIn =
+    fields.Client ∷ fields.Protocol ∷ fields.SpSpecific ∷ fields.SecurityBlocks ∷ []
+fields_of verbs.SecurityOut =
+    fields.Client ∷ fields.Protocol ∷ fields.SpSpecific ∷ fields.SecurityBytes ∷ []
+fields_of verbs.Identify = fields.Client ∷ []
 fields_of verbs.Log = fields.Client ∷ []
 fields_of verbs.Reset = reset_fields
 fields_of verbs.TperReset = fields.Client ∷ []
@@ -101,6 +108,11 @@ request_fields verbs.Call =
     Some (fields.PutComId ∷ fields.PutTperSession ∷ fields.PutHostSession ∷ fields.PutTokens ∷ [])
 request_fields verbs.Send = Some (fields.PutComId ∷ fields.PutComPacket ∷ [])
 request_fields verbs.Receive = Some (fields.PutComId ∷ fields.PutBlocks ∷ [])
+request_fields verbs.SecurityIn =
+    Some (fields.PutProtocol ∷ fields.PutSpSpecific ∷ fields.PutSecurityBlocks ∷ [])
+request_fields verbs.SecurityOut =
+    Some (fields.PutProtocol ∷ fields.PutSpSpecific ∷ fields.PutSecurityBytes ∷ [])
+request_fields verbs.Identify = Some []
 request_fields _ = None
 
 -- what is wrong with the words behind the name of a request

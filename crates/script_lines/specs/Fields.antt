@@ -17,7 +17,8 @@ most_call_bytes = 65480
 abbrev pub most_send_bytes : ℕ
 most_send_bytes = largest 16 * 512
 
--- the largest number that a field holds: a flag has 1 bit, a tag 5 (AHCI 1.3.1, 3.1.1), an address 48 (ACS-3), a ComID 16 and the
+-- the largest number that a field holds: a flag has 1 bit, a tag 5 (AHCI 1.3.1, 3.1.1), an address 48 (ACS-3), a security protocol 8 and its SP
+-- Specific field 16 (ACS-3, TRUSTED SEND), a ComID 16 and the
 -- number of a session 32 (TCG Core 2.01, 3.2.3); of hex text the most bytes
 abbrev pub most_of : Field → ℕ
 most_of fields.ReadLockEnabled = largest 1
@@ -33,6 +34,10 @@ most_of fields.Count = largest 16
 most_of fields.DmaCount = largest 16
 most_of fields.ComId = largest 16
 most_of fields.Blocks = largest 16
+most_of fields.Protocol = largest 8
+most_of fields.SpSpecific = largest 16
+most_of fields.SecurityBlocks = largest 16
+most_of fields.SecurityBytes = most_send_bytes
 most_of fields.Client = largest 32
 most_of fields.TperSession = largest 32
 most_of fields.HostSession = largest 32
@@ -52,6 +57,10 @@ most_of fields.PutHostSession = largest 32
 most_of fields.PutAddress = largest 48
 most_of fields.PutTokens = most_call_bytes
 most_of fields.PutComPacket = most_send_bytes
+most_of fields.PutProtocol = largest 8
+most_of fields.PutSpSpecific = largest 16
+most_of fields.PutSecurityBlocks = largest 16
+most_of fields.PutSecurityBytes = most_send_bytes
 
 -- the value, or the fault where there is none
 abbrev pub or_fault : {A : Type 0} → LineFault → Option A → Result A LineFault

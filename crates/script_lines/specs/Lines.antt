@@ -8,6 +8,9 @@
 --   call C ID TSN HSN HEX                client C sends the tokens HEX to the ComID ID, in the session of these numbers
 --   send C ID HEX                        client C sends the ComPacket HEX to the ComID ID
 --   recv C ID BLOCKS                     client C receives so many blocks from the ComID ID
+--   secin C P S BLOCKS                   client C receives so many blocks by the security protocol P, with S as SP Specific
+--   secout C P S HEX                     client C sends the bytes HEX by it, with zeros behind them to the end of a block
+--   identify C                           client C asks what the drive says that it is
 --   log C                                client C reads the log page of the last queued error
 --   reset C K                            client C turns the power off and on, where K is 0, or resets the hardware, where it is 1
 --   tper C                               client C sends one block of zeros as the command that resets the drive
@@ -74,6 +77,27 @@ receive_line rest = do
   blocks ← number_of_field fields.Blocks (nth_word 2 rest)
   ended (after_words 3 rest) (lines.Receive client com_id blocks)
 
+abbrev pub security_in_line : List ℕ → Result Line LineFault
+security_in_line rest = do
+  client ← number_of_field fields.Client (nth_word 0 rest)
+  protocol ← number_of_field fields.Protocol (nth_word 1 rest)
+  sp_specific ← number_of_field fields.SpSpecific (nth_word 2 rest)
+  blocks ← number_of_field fields.SecurityBlocks (nth_word 3 rest)
+  ended (after_words 4 rest) (lines.SecurityIn client protocol sp_specific blocks)
+
+abbrev pub security_out_line : List ℕ → Result Line LineFault
+security_out_line rest = do
+  client ← number_of_field fields.Client (nth_word 0 rest)
+  protocol ← number_of_field fields.Protocol (nth_word 1 rest)
+  sp_specific ← number_of_field fields.SpSpecific (nth_word 2 rest)
+  payload ← hex_in fields.SecurityBytes (nth_word 3 rest)
+  ended (after_words 4 rest) (lines.SecurityOut client protocol sp_specific payload)
+
+abbrev pub identify_line : List ℕ → Result Line LineFault
+identify_line rest = do
+  client ← number_of_field fields.Client (nth_word 0 rest)
+  ended (after_words 1 rest) (lines.Identify client)
+
 abbrev pub log_line : List ℕ → Result Line LineFault
 log_line rest = number_of_field fields.Client (nth_word 0 rest) >>= λ client. ended
     (after_words 1 rest)
@@ -99,6 +123,9 @@ verb_line verbs.WriteDma rest = write_dma_line rest
 verb_line verbs.Call rest = call_line rest
 verb_line verbs.Send rest = send_line rest
 verb_line verbs.Receive rest = receive_line rest
+verb_line verbs.SecurityIn rest = security_in_line rest
+verb_line verbs.SecurityOut rest = security_out_line rest
+verb_line verbs.Identify rest = identify_line rest
 verb_line verbs.Log rest = log_line rest
 verb_line verbs.Reset rest = reset_line rest
 verb_line verbs.TperReset rest = tper_reset_line rest
@@ -115,6 +142,8 @@ HasBytesWithinLimits (lines.Call client com_id session tokens) =
     (0 < length tokens) × (length tokens ≤ most_call_bytes)
 HasBytesWithinLimits (lines.Send client com_id packet) = (0 < length packet) ×
     (length packet ≤ most_send_bytes)
+HasBytesWithinLimits (lines.SecurityOut client protocol sp_specific payload) =
+    (0 < length payload) × (length payload ≤ most_send_bytes)
 HasBytesWithinLimits _ = ⊤
 
 -- the text that an `expect` line asks for: all that stands behind the word and one blank

@@ -8,6 +8,9 @@
 --   put C T call ID TSN HSN HEX          the tokens HEX for the ComID ID, in the session of these numbers
 --   put C T send ID HEX                  the ComPacket HEX for the ComID ID
 --   put C T recv ID BLOCKS               so many blocks from the ComID ID
+--   put C T secin P S BLOCKS             so many blocks by the security protocol P, with S as SP Specific
+--   put C T secout P S HEX               the bytes HEX by it, with zeros behind them to the end of a block
+--   put C T identify                     what the drive says that it is
 --   issue T, accept T, complete T        the port issues it; the drive takes it; the drive ends it
 --   recover                              the port recovers from a failed command
 --   reset C K                            client C resets the port and the drive: the power where K is 0, the hardware where it is 1
@@ -95,6 +98,27 @@ receive_words rest = do
   _ ← none_left (after_words 2 rest)
   Ok (requests.Receive com_id blocks)
 
+abbrev pub security_in_words : List ℕ → Result PutRequest LineFault
+security_in_words rest = do
+  protocol ← number_of_field fields.PutProtocol (nth_word 0 rest)
+  sp_specific ← number_of_field fields.PutSpSpecific (nth_word 1 rest)
+  blocks ← number_of_field fields.PutSecurityBlocks (nth_word 2 rest)
+  _ ← none_left (after_words 3 rest)
+  Ok (requests.SecurityIn protocol sp_specific blocks)
+
+abbrev pub security_out_words : List ℕ → Result PutRequest LineFault
+security_out_words rest = do
+  protocol ← number_of_field fields.PutProtocol (nth_word 0 rest)
+  sp_specific ← number_of_field fields.PutSpSpecific (nth_word 1 rest)
+  payload ← hex_in fields.PutSecurityBytes (nth_word 2 rest)
+  _ ← none_left (after_words 3 rest)
+  Ok (requests.SecurityOut protocol sp_specific payload)
+
+abbrev pub identify_words : List ℕ → Result PutRequest LineFault
+identify_words rest = do
+  _ ← none_left rest
+  Ok requests.Identify
+
 -- no other word names a request
 abbrev pub request_words : Verb → List ℕ → Result PutRequest LineFault
 request_words verbs.Read rest = read_words rest
@@ -104,6 +128,9 @@ request_words verbs.WriteDma rest = write_dma_words rest
 request_words verbs.Call rest = call_words rest
 request_words verbs.Send rest = send_words rest
 request_words verbs.Receive rest = receive_words rest
+request_words verbs.SecurityIn rest = security_in_words rest
+request_words verbs.SecurityOut rest = security_out_words rest
+request_words verbs.Identify rest = identify_words rest
 request_words verbs.TperReset rest = Err UnknownRequest
 request_words verbs.Range rest = Err UnknownRequest
 request_words verbs.Log rest = Err UnknownRequest
@@ -211,6 +238,8 @@ abbrev pub FitsPut : PutRequest → Type 0
 FitsPut (requests.Call com_id session tokens) =
     (0 < length tokens) × (length tokens ≤ most_call_bytes)
 FitsPut (requests.Send com_id packet) = (0 < length packet) × (length packet ≤ most_send_bytes)
+FitsPut (requests.SecurityOut protocol sp_specific payload) =
+    (0 < length payload) × (length payload ≤ most_send_bytes)
 FitsPut _ = ⊤
 
 abbrev pub FitsPort : PortLine → Type 0

@@ -18,6 +18,9 @@ request_verb (requests.WriteDma lba count byte) = verbs.WriteDma
 request_verb (requests.Call com_id session tokens) = verbs.Call
 request_verb (requests.Send com_id packet) = verbs.Send
 request_verb (requests.Receive com_id blocks) = verbs.Receive
+request_verb (requests.SecurityIn protocol sp_specific blocks) = verbs.SecurityIn
+request_verb (requests.SecurityOut protocol sp_specific payload) = verbs.SecurityOut
+request_verb requests.Identify = verbs.Identify
 
 -- first sector and count, and what else
 abbrev pub sector_items : ℕ → ℕ → List SaidWord → List SaidWord
@@ -41,6 +44,15 @@ request_items (requests.Send com_id packet) =
     Number fields.PutComId com_id ∷ Bytes fields.PutComPacket packet ∷ []
 request_items (requests.Receive com_id blocks) =
     Number fields.PutComId com_id ∷ Number fields.PutBlocks blocks ∷ []
+request_items (requests.SecurityIn protocol sp_specific blocks) =
+    Number fields.PutProtocol protocol ∷ Number fields.PutSpSpecific sp_specific
+    ∷ Number fields.PutSecurityBlocks blocks
+    ∷ []
+request_items (requests.SecurityOut protocol sp_specific payload) =
+    Number fields.PutProtocol protocol ∷ Number fields.PutSpSpecific sp_specific
+    ∷ Bytes fields.PutSecurityBytes payload
+    ∷ []
+request_items requests.Identify = []
 
 abbrev pub put_items : ℕ → ℕ → PutRequest → List SaidWord
 put_items client tag request =

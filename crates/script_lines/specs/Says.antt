@@ -41,6 +41,9 @@ verb_name verbs.WriteDma = codes "dwrite"
 verb_name verbs.Call = codes "call"
 verb_name verbs.Send = codes "send"
 verb_name verbs.Receive = codes "recv"
+verb_name verbs.SecurityIn = codes "secin"
+verb_name verbs.SecurityOut = codes "secout"
+verb_name verbs.Identify = codes "identify"
 verb_name verbs.Log = codes "log"
 verb_name verbs.Reset = codes "reset"
 verb_name verbs.TperReset = codes "tper"
@@ -104,6 +107,14 @@ call_items session tokens =
     Number fields.TperSession session.tsn ∷ Number fields.HostSession session.hsn
     ∷ Bytes fields.Tokens tokens ∷ []
 
+-- a client, a security protocol and its SP Specific field, and what else
+abbrev pub security_items : ℕ → ℕ → ℕ → SaidWord → List SaidWord
+security_items client protocol sp_specific more =
+    Number fields.Client client ∷ Number fields.Protocol protocol
+    ∷ Number fields.SpSpecific sp_specific
+    ∷ more
+    ∷ []
+
 abbrev pub reset_number : Reset → ℕ
 reset_number resets.Power = 0
 reset_number resets.Hardware = 1
@@ -127,6 +138,13 @@ Says (lines.Send client com_id packet) words =
     Are (codes "send") (com_items client com_id (Bytes fields.ComPacket packet ∷ [])) words
 Says (lines.Receive client com_id blocks) words =
     Are (codes "recv") (com_items client com_id (Number fields.Blocks blocks ∷ [])) words
+Says (lines.SecurityIn client protocol sp_specific blocks) words =
+    Are (codes "secin")
+    (security_items client protocol sp_specific (Number fields.SecurityBlocks blocks)) words
+Says (lines.SecurityOut client protocol sp_specific payload) words =
+    Are (codes "secout")
+    (security_items client protocol sp_specific (Bytes fields.SecurityBytes payload)) words
+Says (lines.Identify client) words = Are (codes "identify") (Number fields.Client client ∷ []) words
 Says (lines.Log client) words = Are (codes "log") (Number fields.Client client ∷ []) words
 Says (lines.Reset client kind) words =
     Are (codes "reset") (Number fields.Client client ∷ Number fields.ResetKind (reset_number kind)

@@ -19,6 +19,9 @@ words =
     ∷ (codes "log", verbs.Log)
     ∷ (codes "reset", verbs.Reset)
     ∷ (codes "tper", verbs.TperReset)
+    ∷ (codes "secin", verbs.SecurityIn)
+    ∷ (codes "secout", verbs.SecurityOut)
+    ∷ (codes "identify", verbs.Identify)
     ∷ []
 
 -- the verb of the first of these that is the same bytes

@@ -25,7 +25,12 @@ pub enum LineFault {
 fn write_wanted<W: fmt::Write>(f: &mut fmt::Formatter<W>, field: Field) -> fmt::Result {
     match field {
         Field::Byte | Field::DmaByte | Field::PutByte => f.write_str("two hex digits"),
-        Field::Tokens | Field::ComPacket | Field::PutTokens | Field::PutComPacket => {
+        Field::Tokens
+        | Field::ComPacket
+        | Field::SecurityBytes
+        | Field::PutTokens
+        | Field::PutComPacket
+        | Field::PutSecurityBytes => {
             write!(
                 f,
                 "hex text, two digits for each of 1 to {} bytes",
@@ -43,8 +48,9 @@ impl fmt::Display for LineFault {
             LineFault::UnknownWord => {
                 f.write_str("the first word is none of ")?;
                 f.write_str(
-                    "range, read, write, dread, dwrite, call, send, recv, log, reset, tper and expect",
-                )
+                    "range, read, write, dread, dwrite, call, send, recv, secin, secout, identify, ",
+                )?;
+                f.write_str("log, reset, tper and expect")
             }
             LineFault::UnknownStep => {
                 f.write_str("the first word is none of ")?;
@@ -52,7 +58,9 @@ impl fmt::Display for LineFault {
             }
             LineFault::UnknownRequest => {
                 f.write_str("word 4, the request, is none of ")?;
-                f.write_str("read, write, dread, dwrite, call, send and recv")
+                f.write_str(
+                    "read, write, dread, dwrite, call, send, recv, secin, secout and identify",
+                )
             }
             LineFault::Missing(field) => {
                 write!(f, "{field} is missing: ")?;

@@ -43,6 +43,11 @@ pub enum Field {
     Tokens,
     ComPacket,
     Blocks,
+    /// The words of a line that names a security protocol.
+    Protocol,
+    SpSpecific,
+    SecurityBlocks,
+    SecurityBytes,
     ResetKind,
     /// The tag of a slot, behind a verb of a port script.
     Slot,
@@ -56,6 +61,10 @@ pub enum Field {
     PutTokens,
     PutComPacket,
     PutBlocks,
+    PutProtocol,
+    PutSpSpecific,
+    PutSecurityBlocks,
+    PutSecurityBytes,
 }
 
 impl Field {
@@ -70,14 +79,23 @@ impl Field {
             | Field::WriteLocked
             | Field::ResetKind => 1,
             Field::Tag | Field::Slot => 31,
-            Field::Range | Field::Byte | Field::DmaByte | Field::PutByte => u64::from(u8::MAX),
+            Field::Range
+            | Field::Byte
+            | Field::DmaByte
+            | Field::PutByte
+            | Field::Protocol
+            | Field::PutProtocol => u64::from(u8::MAX),
             Field::Count
             | Field::DmaCount
             | Field::ComId
             | Field::Blocks
             | Field::PutCount
             | Field::PutComId
-            | Field::PutBlocks => u64::from(u16::MAX),
+            | Field::PutBlocks
+            | Field::SpSpecific
+            | Field::SecurityBlocks
+            | Field::PutSpSpecific
+            | Field::PutSecurityBlocks => u64::from(u16::MAX),
             Field::Client
             | Field::TperSession
             | Field::HostSession
@@ -86,51 +104,88 @@ impl Field {
             Field::Address | Field::DmaAddress | Field::PutAddress => u64::MAX >> 16,
             Field::Start | Field::Length => u64::MAX,
             Field::Tokens | Field::PutTokens => MOST_CALL_BYTES as u64,
-            Field::ComPacket | Field::PutComPacket => MOST_SEND_BYTES as u64,
+            Field::ComPacket
+            | Field::PutComPacket
+            | Field::SecurityBytes
+            | Field::PutSecurityBytes => MOST_SEND_BYTES as u64,
         }
     }
 
-    /// The word, by its place in the line and by its name.
+    /// Which word of the line it is.
+    fn place(self) -> u8 {
+        match self {
+            Field::Range | Field::Client | Field::Slot => 2,
+            Field::Start
+            | Field::Tag
+            | Field::DmaAddress
+            | Field::ComId
+            | Field::Protocol
+            | Field::ResetKind => 3,
+            Field::Length
+            | Field::Address
+            | Field::DmaCount
+            | Field::TperSession
+            | Field::ComPacket
+            | Field::Blocks
+            | Field::SpSpecific => 4,
+            Field::ReadLockEnabled
+            | Field::Count
+            | Field::DmaByte
+            | Field::HostSession
+            | Field::SecurityBlocks
+            | Field::SecurityBytes
+            | Field::PutAddress
+            | Field::PutComId
+            | Field::PutProtocol => 5,
+            Field::WriteLockEnabled
+            | Field::Byte
+            | Field::Tokens
+            | Field::PutCount
+            | Field::PutTperSession
+            | Field::PutComPacket
+            | Field::PutBlocks
+            | Field::PutSpSpecific => 6,
+            Field::ReadLocked
+            | Field::PutByte
+            | Field::PutHostSession
+            | Field::PutSecurityBlocks
+            | Field::PutSecurityBytes => 7,
+            Field::WriteLocked | Field::PutTokens => 8,
+        }
+    }
+
+    /// What the word stands for, by its name.
     fn name(self) -> &'static str {
         match self {
-            Field::Range => "word 2, the range N,",
-            Field::Start => "word 3, RangeStart,",
-            Field::Length => "word 4, RangeLength,",
-            Field::ReadLockEnabled => "word 5, ReadLockEnabled,",
-            Field::WriteLockEnabled => "word 6, WriteLockEnabled,",
-            Field::ReadLocked => "word 7, ReadLocked,",
-            Field::WriteLocked => "word 8, WriteLocked,",
-            Field::Client => "word 2, the client C,",
-            Field::Tag => "word 3, the tag T,",
-            Field::Address => "word 4, the first sector L,",
-            Field::Count => "word 5, the count N,",
-            Field::Byte => "word 6, the byte HH,",
-            Field::DmaAddress => "word 3, the first sector L,",
-            Field::DmaCount => "word 4, the count N,",
-            Field::DmaByte => "word 5, the byte HH,",
-            Field::ComId => "word 3, the ComID,",
-            Field::TperSession => "word 4, the TPer session number TSN,",
-            Field::HostSession => "word 5, the host session number HSN,",
-            Field::Tokens => "word 6, the tokens HEX,",
-            Field::ComPacket => "word 4, the ComPacket HEX,",
-            Field::Blocks => "word 4, the count of blocks,",
-            Field::ResetKind => "word 3, the kind of reset K,",
-            Field::Slot => "word 2, the tag T,",
-            Field::PutAddress => "word 5, the first sector L,",
-            Field::PutCount => "word 6, the count N,",
-            Field::PutByte => "word 7, the byte HH,",
-            Field::PutComId => "word 5, the ComID,",
-            Field::PutTperSession => "word 6, the TPer session number TSN,",
-            Field::PutHostSession => "word 7, the host session number HSN,",
-            Field::PutTokens => "word 8, the tokens HEX,",
-            Field::PutComPacket => "word 6, the ComPacket HEX,",
-            Field::PutBlocks => "word 6, the count of blocks,",
+            Field::Range => "the range N",
+            Field::Start => "RangeStart",
+            Field::Length => "RangeLength",
+            Field::ReadLockEnabled => "ReadLockEnabled",
+            Field::WriteLockEnabled => "WriteLockEnabled",
+            Field::ReadLocked => "ReadLocked",
+            Field::WriteLocked => "WriteLocked",
+            Field::Client => "the client C",
+            Field::Tag | Field::Slot => "the tag T",
+            Field::Address | Field::DmaAddress | Field::PutAddress => "the first sector L",
+            Field::Count | Field::DmaCount | Field::PutCount => "the count N",
+            Field::Byte | Field::DmaByte | Field::PutByte => "the byte HH",
+            Field::ComId | Field::PutComId => "the ComID",
+            Field::TperSession | Field::PutTperSession => "the TPer session number TSN",
+            Field::HostSession | Field::PutHostSession => "the host session number HSN",
+            Field::Tokens | Field::PutTokens => "the tokens HEX",
+            Field::ComPacket | Field::PutComPacket => "the ComPacket HEX",
+            Field::Blocks | Field::PutBlocks | Field::SecurityBlocks | Field::PutSecurityBlocks =>
+                "the count of blocks",
+            Field::Protocol | Field::PutProtocol => "the protocol P",
+            Field::SpSpecific | Field::PutSpSpecific => "the SP Specific field S",
+            Field::SecurityBytes | Field::PutSecurityBytes => "the bytes HEX",
+            Field::ResetKind => "the kind of reset K",
         }
     }
 }
 
 impl fmt::Display for Field {
     fn fmt<W: fmt::Write>(&self, f: &mut fmt::Formatter<W>) -> fmt::Result {
-        f.write_str(self.name())
+        write!(f, "word {}, {},", self.place(), self.name())
     }
 }

@@ -69,6 +69,24 @@ pub enum Line<'a> {
         com_id: ComId,
         blocks: u16,
     },
+    /// So many blocks that are received by a security protocol.
+    SecurityIn {
+        client: u32,
+        protocol: u8,
+        sp_specific: u16,
+        blocks: u16,
+    },
+    /// Bytes that are sent by a security protocol.
+    SecurityOut {
+        client: u32,
+        protocol: u8,
+        sp_specific: u16,
+        payload: Hex<'a>,
+    },
+    /// What the drive says that it is.
+    Identify {
+        client: u32,
+    },
     /// The log page of the last queued error.
     Log {
         client: u32,
@@ -90,7 +108,7 @@ impl<'a> Words<'a> {
     ghost use Rattle.script_lines.specs.Words.{first_word, after_word, after_words};
     ghost use Rattle.script_lines.specs.Fields.{most_of, number_of_field, flag_in, byte_of_field, hex_in};
     ghost use Rattle.script_lines.specs.Groups.{range_in, transfer_in, dma_transfer_in, session_in, reset_in};
-    ghost use Rattle.script_lines.specs.Lines.{HasBytesWithinLimits, ended, verb_line, range_line, read_line, write_line, read_dma_line, write_dma_line, call_line, send_line, receive_line, log_line, reset_line, tper_reset_line};
+    ghost use Rattle.script_lines.specs.Lines.{HasBytesWithinLimits, ended, verb_line, range_line, read_line, write_line, read_dma_line, write_dma_line, call_line, send_line, receive_line, security_in_line, security_out_line, identify_line, log_line, reset_line, tper_reset_line};
 
     /// The next word as the number of a field.
     pub(crate) fn number(&mut self, field: Field) -> Result<u64, LineFault>
@@ -331,6 +349,46 @@ impl<'a> Words<'a> {
         })
     }
 
+    fn security_in_line(&mut self) -> Result<Line<'a>, LineFault>
+        ensures exact { result ≡ security_in_line self.old.rest.now }
+        ensures fits { IfOk result HasBytesWithinLimits }
+    {
+        let client = self.number(Field::Client)? as u32;
+        let protocol = self.number(Field::Protocol)? as u8;
+        let sp_specific = self.number(Field::SpSpecific)? as u16;
+        let blocks = self.number(Field::SecurityBlocks)? as u16;
+        self.ended(Line::SecurityIn {
+            client,
+            protocol,
+            sp_specific,
+            blocks,
+        })
+    }
+
+    fn security_out_line(&mut self) -> Result<Line<'a>, LineFault>
+        ensures exact { result ≡ security_out_line self.old.rest.now }
+        ensures fits { IfOk result HasBytesWithinLimits }
+    {
+        let client = self.number(Field::Client)? as u32;
+        let protocol = self.number(Field::Protocol)? as u8;
+        let sp_specific = self.number(Field::SpSpecific)? as u16;
+        let payload = self.hex(Field::SecurityBytes)?;
+        self.ended(Line::SecurityOut {
+            client,
+            protocol,
+            sp_specific,
+            payload,
+        })
+    }
+
+    fn identify_line(&mut self) -> Result<Line<'a>, LineFault>
+        ensures exact { result ≡ identify_line self.old.rest.now }
+        ensures fits { IfOk result HasBytesWithinLimits }
+    {
+        let client = self.number(Field::Client)? as u32;
+        self.ended(Line::Identify { client })
+    }
+
     fn log_line(&mut self) -> Result<Line<'a>, LineFault>
         ensures exact { result ≡ log_line self.old.rest.now }
         ensures fits { IfOk result HasBytesWithinLimits }
@@ -370,6 +428,9 @@ impl<'a> Words<'a> {
             Verb::Call => self.call_line(),
             Verb::Send => self.send_line(),
             Verb::Receive => self.receive_line(),
+            Verb::SecurityIn => self.security_in_line(),
+            Verb::SecurityOut => self.security_out_line(),
+            Verb::Identify => self.identify_line(),
             Verb::Log => self.log_line(),
             Verb::Reset => self.reset_line(),
             Verb::TperReset => self.tper_reset_line(),

@@ -54,6 +54,20 @@ pub enum PutRequest<'a> {
         com_id: ComId,
         blocks: u16,
     },
+    /// So many blocks that are received by a security protocol.
+    SecurityIn {
+        protocol: u8,
+        sp_specific: u16,
+        blocks: u16,
+    },
+    /// Bytes that are sent by a security protocol.
+    SecurityOut {
+        protocol: u8,
+        sp_specific: u16,
+        payload: Hex<'a>,
+    },
+    /// What the drive says that it is.
+    Identify,
 }
 
 /// A line of a port script, behind the first.
@@ -93,7 +107,7 @@ pub enum PortLine<'a> {
 impl<'a> Words<'a> {
     ghost use Rattle.std.specs.Prelude.{◌≡◌, IfOk, OnOk};
     ghost use Rattle.script_lines.specs.Words.{first_word, after_word, after_words};
-    ghost use Rattle.script_lines.specs.PortLines.{none_left, slot_in, transfer_words, FitsPut, FitsPort, read_words, write_words, read_dma_words, write_dma_words, call_words, send_words, receive_words, request_words, range_words, put_words, issue_words, accept_words, complete_words, recover_words, reset_words, take_words, port_verb_words};
+    ghost use Rattle.script_lines.specs.PortLines.{none_left, slot_in, transfer_words, FitsPut, FitsPort, read_words, write_words, read_dma_words, write_dma_words, call_words, send_words, receive_words, security_in_words, security_out_words, identify_words, request_words, range_words, put_words, issue_words, accept_words, complete_words, recover_words, reset_words, take_words, port_verb_words};
 
     /// No word is left.
     fn end(&mut self) -> Result<(), LineFault>
@@ -199,6 +213,44 @@ impl<'a> Words<'a> {
         Ok(PutRequest::Receive { com_id, blocks })
     }
 
+    fn security_in_words(&mut self) -> Result<PutRequest<'a>, LineFault>
+        ensures exact { result ≡ security_in_words self.old.rest.now }
+        ensures fits { IfOk result FitsPut }
+    {
+        let protocol = self.number(Field::PutProtocol)? as u8;
+        let sp_specific = self.number(Field::PutSpSpecific)? as u16;
+        let blocks = self.number(Field::PutSecurityBlocks)? as u16;
+        self.end()?;
+        Ok(PutRequest::SecurityIn {
+            protocol,
+            sp_specific,
+            blocks,
+        })
+    }
+
+    fn security_out_words(&mut self) -> Result<PutRequest<'a>, LineFault>
+        ensures exact { result ≡ security_out_words self.old.rest.now }
+        ensures fits { IfOk result FitsPut }
+    {
+        let protocol = self.number(Field::PutProtocol)? as u8;
+        let sp_specific = self.number(Field::PutSpSpecific)? as u16;
+        let payload = self.hex(Field::PutSecurityBytes)?;
+        self.end()?;
+        Ok(PutRequest::SecurityOut {
+            protocol,
+            sp_specific,
+            payload,
+        })
+    }
+
+    fn identify_words(&mut self) -> Result<PutRequest<'a>, LineFault>
+        ensures exact { result ≡ identify_words self.old.rest.now }
+        ensures fits { IfOk result FitsPut }
+    {
+        self.end()?;
+        Ok(PutRequest::Identify)
+    }
+
     /// What is asked, by the word that says which request it is.
     fn request(&mut self, verb: Verb) -> Result<PutRequest<'a>, LineFault>
         ensures exact { result ≡ request_words verb self.old.rest.now }
@@ -212,6 +264,9 @@ impl<'a> Words<'a> {
             Verb::Call => self.call_words(),
             Verb::Send => self.send_words(),
             Verb::Receive => self.receive_words(),
+            Verb::SecurityIn => self.security_in_words(),
+            Verb::SecurityOut => self.security_out_words(),
+            Verb::Identify => self.identify_words(),
             Verb::Range | Verb::Log | Verb::Reset | Verb::TperReset | Verb::Expect => {
                 Err(LineFault::UnknownRequest)
             }

@@ -17,6 +17,9 @@ pub enum Verb {
     Call,
     Send,
     Receive,
+    SecurityIn,
+    SecurityOut,
+    Identify,
     Log,
     Reset,
     TperReset,
@@ -51,6 +54,12 @@ pub(crate) fn verb_of(word: &[u8]) -> Option<Verb>
         Some(Verb::Reset)
     } else if is_word(word, b"tper") {
         Some(Verb::TperReset)
+    } else if is_word(word, b"secin") {
+        Some(Verb::SecurityIn)
+    } else if is_word(word, b"secout") {
+        Some(Verb::SecurityOut)
+    } else if is_word(word, b"identify") {
+        Some(Verb::Identify)
     } else {
         None
     }

@@ -1,13 +1,20 @@
 -- What a drive is made with, and the limits of it.
-use Rattle.std.specs.Prelude.{◌≤◌, ℕ, List, length}
+use Rattle.std.specs.Prelude.{◌≡◌, ◌≤◌, ℕ, List, length, Bool, true, ◌&&◌, nat_le, codes}
+use Rattle.std.specs.List.{list_all}
 use Rattle.basics.specs.Addresses.{address_limit}
-use Rattle.sp_cells.specs.Limits.{most_mbr_sectors, most_pin_bytes}
+use Rattle.basics.specs.declared.profile.Profile.{Profile}
+use Rattle.basics.specs.declared.profile.Profile.TheVariants.{Base, Field}
+use Rattle.sp_cells.specs.Limits.{most_mbr_sectors, most_pin_bytes, most_serial_bytes, most_model_bytes}
 
--- the sectors of the drive, those that can be shadowed, and the PIN of a new drive's owner
+-- the sectors of the drive, those that can be shadowed, the PIN of a new drive's owner, and the profile with the names
+-- that the drive tells under it
 pub record Config : Type 0 where
   pub sectors : ℕ
   pub mbr_sectors : ℕ
   pub msid : List ℕ
+  pub profile : Profile
+  pub serial : List ℕ
+  pub model : List ℕ
 
 -- no more sectors than commands can name, a shadow within them, a PIN that fits a C_PIN row
 pub record IsWithinLimits (sectors mbr_sectors : ℕ) (msid : List ℕ) : Type 0 where
@@ -17,3 +24,44 @@ pub record IsWithinLimits (sectors mbr_sectors : ℕ) (msid : List ℕ) : Type 0
   pub shadow_within : mbr_sectors ≤ sectors
   pub some_byte : 1 ≤ length msid
   pub msid_short : length msid ≤ most_pin_bytes
+
+-- a name is printable ASCII (ACS-3, IDENTIFY DEVICE data, "ATA strings")
+abbrev pub is_printable : ℕ → Bool
+is_printable byte = nat_le 32 byte && nat_le byte 126
+
+-- a name that fits its words
+pub record IsAtaText (most : ℕ) (text : List ℕ) : Type 0 where
+  pub short : length text ≤ most
+  pub printable : list_all is_printable text ≡ true
+
+-- the serial number and the model number fit theirs
+pub record AreNames (serial model : List ℕ) : Type 0 where
+  pub serial_named : IsAtaText most_serial_bytes serial
+  pub model_named : IsAtaText most_model_bytes model
+
+-- the names of a drive that is given none (this drive)
+abbrev pub new_serial : List ℕ
+new_serial = codes "0000000001"
+
+abbrev pub new_model : List ℕ
+new_model = codes "Opalport"
+
+abbrev pub config_in : Profile → ℕ → ℕ → List ℕ → Config
+config_in profile sectors mbr_sectors msid = record {
+  sectors = sectors;
+  mbr_sectors = mbr_sectors;
+  msid = msid;
+  profile = profile;
+  serial = new_serial;
+  model = new_model;
+}
+
+abbrev pub base_config : ℕ → ℕ → List ℕ → Config
+base_config sectors mbr_sectors msid = config_in Base sectors mbr_sectors msid
+
+abbrev pub field_config : ℕ → ℕ → List ℕ → Config
+field_config sectors mbr_sectors msid = config_in Field sectors mbr_sectors msid
+
+-- the same drive with other names
+abbrev pub named_config : Config → List ℕ → List ℕ → Config
+named_config config serial model = record config { serial = serial; model = model }

@@ -9,6 +9,13 @@ most_mbr_sectors = 262144
 abbrev pub most_pin_bytes : ℕ
 most_pin_bytes = 32
 
+-- the bytes of a serial number, and of a model number (ACS-3, IDENTIFY DEVICE data, words 10 to 19 and 27 to 46)
+abbrev pub most_serial_bytes : ℕ
+most_serial_bytes = 20
+
+abbrev pub most_model_bytes : ℕ
+most_model_bytes = 40
+
 -- the elements of an expression (this drive)
 abbrev pub most_elements : ℕ
 most_elements = 31

@@ -1,14 +1,21 @@
 //! What a drive is made with.
 
 ghost use Rattle.std.specs.Prelude.{◌≡◌, ◌≤◌, ◌<◌, ◌^◌, List, length, IfOk, SomeIff};
-ghost use Rattle.sp_cells.specs.Config.{Config, IsWithinLimits};
-ghost use Rattle.sp_cells.specs.Limits.{most_pin_bytes};
+ghost use Rattle.std.specs.List.{list_all};
+ghost use Rattle.sp_cells.specs.Config.{Config, IsWithinLimits, IsAtaText, AreNames, is_printable, new_serial, new_model, config_in, base_config, field_config, named_config};
+ghost use Rattle.sp_cells.specs.Limits.{most_pin_bytes, most_serial_bytes, most_model_bytes};
 
-use crate::limits::{MOST_MBR_SECTORS, MOST_PIN_BYTES};
+use crate::limits::{MOST_MBR_SECTORS, MOST_MODEL_BYTES, MOST_PIN_BYTES, MOST_SERIAL_BYTES};
 use arrayvec::ArrayVec;
-use basics::ADDRESS_LIMIT;
+use basics::{ADDRESS_LIMIT, Profile};
 use std::alloc::AllocError;
 use std::marker::Model;
+
+/// The serial number of a drive that is given none.
+pub const NEW_SERIAL: [u8; 10] = *b"0000000001";
+
+/// The model number of a drive that is given none.
+pub const NEW_MODEL: [u8; 8] = *b"Opalport";
 
 /// What a drive is made with.
 #[derive(Drop)]
@@ -16,10 +23,13 @@ pub struct DriveConfig {
     sectors: u64,
     mbr_sectors: u64,
     msid: ArrayVec<u8, MOST_PIN_BYTES>,
+    profile: Profile,
+    serial: ArrayVec<u8, MOST_SERIAL_BYTES>,
+    model: ArrayVec<u8, MOST_MODEL_BYTES>,
 }
 
 impl Model for DriveConfig {
-    ghost use Rattle.sp_cells.specs.Config.{Config, IsWithinLimits};
+    ghost use Rattle.sp_cells.specs.Config.{Config, IsWithinLimits, AreNames};
 
     ghost Value = { Config };
 
@@ -27,17 +37,42 @@ impl Model for DriveConfig {
       sectors = c.sectors;
       mbr_sectors = c.mbr_sectors;
       msid = c.msid.items;
+      profile = c.profile;
+      serial = c.serial.items;
+      model = c.model.items;
     } };
 
-    ghost invariant = { λ c. IsWithinLimits c.sectors c.mbr_sectors c.msid.items };
+    ghost invariant = { λ c. IsWithinLimits c.sectors c.mbr_sectors c.msid.items
+        × AreNames c.serial.items c.model.items };
 }
 
 impl DriveConfig {
-    /// A drive of 1 to 2^48 sectors of 512 bytes, of which at most 262,144, and at most all, can be shadowed; the
-    /// MSID has 1 to 32 bytes. None exactly where a number is outside these limits.
+    /// A drive of the profile `Base`: 1 to 2^48 sectors of 512 bytes, of which at most 262,144, and at most all, can be
+    /// shadowed; the MSID has 1 to 32 bytes. None exactly where a number is outside these limits.
     pub fn new(sectors: u64, mbr_sectors: u64, msid: &[u8]) -> Option<DriveConfig>
         ensures { SomeIff result (IsWithinLimits sectors mbr_sectors msid.now)
-            (record { sectors = sectors; mbr_sectors = mbr_sectors; msid = msid.now }) }
+            (base_config sectors mbr_sectors msid.now) }
+    {
+        DriveConfig::of_profile(Profile::Base, sectors, mbr_sectors, msid)
+    }
+
+    /// A drive of the profile `Field`, with the same limits.
+    pub fn field(sectors: u64, mbr_sectors: u64, msid: &[u8]) -> Option<DriveConfig>
+        ensures { SomeIff result (IsWithinLimits sectors mbr_sectors msid.now)
+            (field_config sectors mbr_sectors msid.now) }
+    {
+        DriveConfig::of_profile(Profile::Field, sectors, mbr_sectors, msid)
+    }
+
+    /// A drive of this profile, with the same limits.
+    pub fn of_profile(
+        profile: Profile,
+        sectors: u64,
+        mbr_sectors: u64,
+        msid: &[u8],
+    ) -> Option<DriveConfig>
+        ensures { SomeIff result (IsWithinLimits sectors mbr_sectors msid.now)
+            (config_in profile sectors mbr_sectors msid.now) }
     {
         if sectors == 0 || sectors > ADDRESS_LIMIT {
             return None;
@@ -51,7 +86,29 @@ impl DriveConfig {
         Some(DriveConfig {
             sectors,
             mbr_sectors,
-            msid: msid_of(msid),
+            msid: kept(msid),
+            profile,
+            serial: kept(&NEW_SERIAL),
+            model: kept(&NEW_MODEL),
+        })
+    }
+
+    /// The same drive with these names, a serial number of at most 20 bytes and a model number of at most 40, of
+    /// printable ASCII. None exactly where one is longer or has another byte. Only `Field` tells them.
+    pub fn with_names(self, serial: &[u8], model: &[u8]) -> Option<DriveConfig>
+        ensures { SomeIff result (AreNames serial.now model.now)
+            (named_config self serial.now model.now) }
+    {
+        if serial.len() > MOST_SERIAL_BYTES || !are_printable(serial) {
+            return None;
+        }
+        if model.len() > MOST_MODEL_BYTES || !are_printable(model) {
+            return None;
+        }
+        Some(DriveConfig {
+            serial: kept(serial),
+            model: kept(model),
+            ..self
         })
     }
 
@@ -79,27 +136,62 @@ impl DriveConfig {
         self.msid.as_slice()
     }
 
+    /// The drive's profile.
+    pub fn profile(&self) -> Profile
+        ensures { result ≡ self.now.profile }
+    {
+        self.profile
+    }
+
+    /// The serial number.
+    pub fn serial(&self) -> &[u8]
+        ensures value { result.now ≡ self.now.serial }
+        ensures limits { AreNames self.now.serial self.now.model }
+    {
+        self.serial.as_slice()
+    }
+
+    /// The model number.
+    pub fn model(&self) -> &[u8]
+        ensures value { result.now ≡ self.now.model }
+        ensures limits { AreNames self.now.serial self.now.model }
+    {
+        self.model.as_slice()
+    }
+
     /// The same configuration once more. It takes no memory of its own.
     pub fn copy(&self) -> Result<DriveConfig, AllocError>
         ensures { IfOk result (λ c. c ≡ self.now) }
     {
         let msid = self.msid.clone()?;
+        let serial = self.serial.clone()?;
+        let model = self.model.clone()?;
         Ok(DriveConfig {
             sectors: self.sectors,
             mbr_sectors: self.mbr_sectors,
             msid,
+            profile: self.profile,
+            serial,
+            model,
         })
     }
 }
 
+/// Whether each byte is printable ASCII.
+fn are_printable(bytes: &[u8]) -> bool
+    ensures { result ≡ list_all is_printable bytes.now }
+{
+    bytes.iter().all(|byte| *byte >= 32 && *byte <= 126)
+}
+
 /// The bytes, kept.
-fn msid_of(bytes: &[u8]) -> ArrayVec<u8, MOST_PIN_BYTES>
-    requires { length bytes.now ≤ most_pin_bytes }
+fn kept<const MOST: usize>(bytes: &[u8]) -> ArrayVec<u8, MOST>
+    requires { length bytes.now ≤ MOST }
     ensures { result.items ≡ bytes.now }
 {
-    let mut msid = ArrayVec::new();
+    let mut copy = ArrayVec::new();
     for byte in bytes {
-        msid.push(*byte);
+        copy.push(*byte);
     }
-    msid
+    copy
 }

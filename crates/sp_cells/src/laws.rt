@@ -8,7 +8,7 @@ ghost use Rattle.sp_cells.specs.Names.{ace_anybody, ace_admins, ace_anybody_get_
 ghost use Rattle.sp_cells.specs.ColumnNames.{uid_column, name_column, common_name_column, life_cycle_state_column, programmatic_reset_enable_column, pin_column, char_set_column, try_limit_column, tries_column, persistence_column};
 ghost use Rattle.sp_cells.specs.ColumnNames.{is_class_column, class_column, enabled_column, operation_column, credential_column, boolean_expr_column, columns_column};
 ghost use Rattle.sp_cells.specs.ColumnNames.{range_start_column, range_length_column, read_lock_enabled_column, write_lock_enabled_column, read_locked_column, write_locked_column, lock_on_reset_column, mbr_enable_column, mbr_done_column, mbr_done_on_reset_column};
-ghost use Rattle.sp_cells.specs.Limits.{most_mbr_sectors, most_pin_bytes, most_elements, new_try_limit, no_try_limit, manufactured_inactive, manufactured};
+ghost use Rattle.sp_cells.specs.Limits.{most_mbr_sectors, most_pin_bytes, most_serial_bytes, most_model_bytes, most_elements, new_try_limit, no_try_limit, manufactured_inactive, manufactured};
 ghost use Rattle.sp_cells.specs.declared.names.TheConstants.{RANGES, USERS, ADMINS};
 ghost use Rattle.sp_cells.specs.declared.names.TheConstants.Uid as uids;
 ghost use Rattle.sp_cells.specs.declared.names.TheConstants.Column as columns;
@@ -82,6 +82,8 @@ pub fn laws_of_limits()
     ensures sectors { address_limit ≡ 2 ^ 48 }
     ensures shadow { (limits.MOST_MBR_SECTORS ≡ most_mbr_sectors) × (most_mbr_sectors ≡ 262144) }
     ensures pin { (limits.MOST_PIN_BYTES ≡ most_pin_bytes) × (most_pin_bytes ≡ 32) }
+    ensures serial { (limits.MOST_SERIAL_BYTES ≡ most_serial_bytes) × (most_serial_bytes ≡ 20) }
+    ensures model { (limits.MOST_MODEL_BYTES ≡ most_model_bytes) × (most_model_bytes ≡ 40) }
     ensures expression { (limits.MOST_ELEMENTS ≡ most_elements) × (most_elements ≡ 31) }
     ensures tries { (limits.NEW_TRY_LIMIT ≡ new_try_limit) × (new_try_limit ≡ 5) }
     ensures any_tries { (limits.NO_TRY_LIMIT ≡ no_try_limit) × (no_try_limit ≡ 0) }

@@ -6,6 +6,12 @@ pub const MOST_MBR_SECTORS: u64 = 262_144;
 /// The most bytes of a PIN.
 pub const MOST_PIN_BYTES: usize = 32;
 
+/// The most bytes of a serial number.
+pub const MOST_SERIAL_BYTES: usize = 20;
+
+/// The most bytes of a model number.
+pub const MOST_MODEL_BYTES: usize = 40;
+
 /// The most elements of an expression.
 pub const MOST_ELEMENTS: usize = 31;
 

@@ -1,5 +1,6 @@
 -- The token at the front of bytes, or the fault that it earns (TCG Core 2.01, section 3.2.2).
-use Rattle.std.specs.Prelude.{ℕ, ◌%◌, ◌^◌, List, [], ◌∷◌, length, take, drop, Option, Some, None, Result, Ok, Err, Bool, nat_lt, ◌==◌, if◌then◌else◌}
+use Rattle.tcg_tokens.specs.declared.token.Mark.TheVariants.{EndOfSession}
+use Rattle.std.specs.Prelude.{ℕ, ◌%◌, ◌^◌, List, [], ◌∷◌, length, take, drop, Option, Some, None, Result, Ok, Err, Bool, false, nat_lt, ◌==◌, if◌then◌else◌}
 use Rattle.std.specs.List.{find}
 use Rattle.tcg_tokens.specs.declared.error.TokenError.{TokenError}
 use Rattle.tcg_tokens.specs.declared.error.TokenError.TheVariants.{Truncated, Reserved, Signed, Continued, TooBig}
@@ -79,3 +80,11 @@ first_lexeme (b ∷ bs) = lexeme_at b bs
 
 abbrev pub token_at : List ℕ → Result (Lexeme × List ℕ) TokenError
 token_at text = first_lexeme (skip text)
+
+-- The first token is the end of a session (TCG Core 2.01, section 3.3.7.1.4), whatever follows.
+abbrev pub is_end_byte : List ℕ → Bool
+is_end_byte [] = false
+is_end_byte (b ∷ bs) = b == code_of EndOfSession
+
+abbrev pub begins_with_end : List ℕ → Bool
+begins_with_end text = is_end_byte (skip text)

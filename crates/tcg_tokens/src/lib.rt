@@ -27,5 +27,6 @@ pub use length::item_len;
 pub use limits::laws_of_limits;
 pub use read::read_item;
 pub use text::{fault_text, item_text, value_text};
+pub use token::begins_with_end;
 pub use value::{Call, Item, Value};
 pub use write::{write_item, write_item_into};

@@ -2,7 +2,7 @@
 
 ghost use Rattle.std.specs.Prelude.{◌≡◌, ◌≤◌, ◌<◌, ◌^◌, length, nat_lt, Some, None, if◌then◌else◌};
 ghost use Rattle.tcg_tokens.specs.Gives.{TellsReadingFault};
-ghost use Rattle.tcg_tokens.specs.Lex.{content_at, atom_at, form_at, mark_of, mark_at, lexeme_at, token_at, skip};
+ghost use Rattle.tcg_tokens.specs.Lex.{content_at, atom_at, form_at, mark_of, mark_at, lexeme_at, token_at, skip, begins_with_end};
 ghost use Rattle.tcg_tokens.specs.Lexeme.{code_of, number_from, same, is_mark, seen};
 ghost use Rattle.tcg_tokens.specs.declared.token.Mark.TheVariants.{EndList};
 
@@ -170,6 +170,16 @@ pub(crate) fn skipped(bytes: &[u8]) -> &[u8]
         rest = after;
     }
     rest
+}
+
+/// Whether the first token is the end of a session, whatever follows.
+pub fn begins_with_end(bytes: &[u8]) -> bool
+    ensures { result ≡ begins_with_end bytes.now }
+{
+    match skipped(bytes) {
+        [] => false,
+        [first, ..] => *first == Mark::EndOfSession.code(),
+    }
 }
 
 /// A token behind its first byte.

@@ -1,13 +1,16 @@
 -- The bytes of FISes, and what they are read back as.
-use Rattle.std.proofs.Common.{◌≡◌, ◌∙◌, ◌+◌, ◌/◌, ◌%◌, ◌^◌, nat_le, ℕ, Bool, true, false, List, slice_index, refl, sym, ap, subst, arith}
+use Rattle.std.proofs.Common.{◌≡◌, ◌∙◌, ◌+◌, ◌/◌, ◌%◌, ◌^◌, nat_le, ℕ, Bool, true, false, List, length, slice_index, refl, sym, ap, subst, arith}
 use Rattle.std.specs.Prelude.{if◌then◌else◌, ◌==◌, ◌∷◌}
 use Rattle.std.proofs.lemmas.Bool.{le-leb, lt-leb}
 use Rattle.fis.specs.Bytes.{bit}
 use Rattle.fis.specs.H2d.{h2d_at, IsH2d, IsH2dSpelling}
 use Rattle.fis.specs.Types.{h2d_type}
 use Rattle.fis.specs.declared.h2d.RegH2d.{RegH2d}
-use Rattle.trusted_cmds.specs.Commands.{fis_of}
+use Rattle.sp_cells.specs.Config.{Config}
+use Rattle.trusted_cmds.specs.Commands.{fis_of, payload_length}
+use Rattle.trusted_cmds.specs.Profiles.{payload_length_in}
 use Rattle.trusted_cmds.specs.declared.command.Command.{Command}
+use Rattle.history.specs.Answers.{payload_of}
 use Rattle.history.specs.Opening.{Origin}
 use Rattle.history.specs.Events.{Event}
 use Rattle.history.specs.Facts.{Facts, facts}
@@ -17,7 +20,7 @@ use Rattle.history.specs.History.{Act, Accept, log, event}
 use Rattle.drive.specs.Answers.{IsAnswer}
 use Rattle.drive.specs.State.{DriveState, KeepsDrive, Agrees}
 use Rattle.drive.specs.declared.answer.Accepted.{Accepted}
-use Rattle.port_history.proofs.Fises.{fis_back}
+use Rattle.port_history.proofs.Fises.{fis_back, fis_brings}
 use Rattle.tool.specs.Acts.{accept_of, step_of}
 
 flag-of : (n : ℕ) (b : Bool) → n / 128 ≡ bit b → nat_le 128 n ≡ b
@@ -39,6 +42,25 @@ read-back bytes h is =
       is.icc,
       is.control,
     ) refl
+
+-- the bytes that come with the spelling of a command are as many under each profile
+spelling-brings : (config : Config) (command : Command) (tag : ℕ) (bytes : List ℕ)
+    → IsH2d bytes (fis_of command tag)
+    → payload_of config bytes ≡ payload_length (fis_of command tag)
+spelling-brings config command tag bytes is =
+    ap
+    (λ kind. if kind == h2d_type then payload_length_in config.profile (h2d_at bytes) else 0)
+    is.kind
+    ∙ ap (payload_length_in config.profile) (read-back bytes (fis_of command tag) is)
+    ∙ sym (ap (payload_length_in config.profile) (fis_back command tag))
+    ∙ fis_brings config command tag
+
+pub brings : (config : Config) (command : Command) (tag : ℕ) (h : RegH2d) (bytes payload : List ℕ)
+    → length payload ≡ payload_length (fis_of command tag) → h ≡ fis_of command tag
+    → IsH2dSpelling bytes h → length payload ≡ payload_of config bytes
+brings config command tag h bytes payload size same spelt =
+    size
+    ∙ sym (spelling-brings config command tag bytes (subst (IsH2dSpelling bytes) same spelt).writing)
 
 by-command : (f : Facts) (command : Command) (tag : ℕ) (bytes payload : List ℕ)
     → IsH2d bytes (fis_of command tag)

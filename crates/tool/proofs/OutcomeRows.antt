@@ -1,11 +1,11 @@
 -- What small scripts come to, computed from the definitions alone.
 use Rattle.std.proofs.Common.{◌≡◌, List, [], ◌∷◌, ◌++◌, ℕ, codes, refl}
-use Rattle.sp_cells.specs.Config.{Config}
+use Rattle.sp_cells.specs.Config.{Config, base_config}
 use Rattle.tool.specs.Scripts.{lines_of_text}
 use Rattle.tool.specs.Outcomes.{RunOutcome, ends, outcome_on, outcome_from, run_outcome_of}
 
 abbrev drive : Config
-drive = record { sectors = 1000; mbr_sectors = 8; msid = codes "OPALMSID" }
+drive = base_config 1000 8 (codes "OPALMSID")
 
 -- the texts of lines, each with its line feed
 abbrev script : List (List ℕ) → List ℕ

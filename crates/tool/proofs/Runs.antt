@@ -52,6 +52,12 @@ doing (lines.Send client com_id packet) text turn old new o acts before after ru
     has-run new o before after _ does.0
 doing (lines.Receive client com_id blocks) text turn old new o acts before after runs does =
     has-run new o before after _ does.0
+doing (lines.SecurityIn client protocol sp_specific blocks) text turn old new o acts before after runs does =
+    has-run new o before after _ does.0
+doing (lines.SecurityOut client protocol sp_specific payload) text turn old new o acts before after runs does =
+    has-run new o before after _ does.0
+doing (lines.Identify client) text turn old new o acts before after runs does =
+    has-run new o before after _ does.0
 doing (lines.Log client) text turn old new o acts before after runs does =
     has-run new o before after _ does.0
 doing (lines.Reset client kind) text turn old new o acts before after runs does =

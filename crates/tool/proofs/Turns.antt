@@ -75,6 +75,12 @@ does-so (lines.Send client com_id packet) text turn old new o acts before after 
     goes-so turn _ new o before after _ does.1 does.0
 does-so (lines.Receive client com_id blocks) text turn old new o acts before after runs does =
     goes-so turn _ new o before after _ does.1 does.0
+does-so (lines.SecurityIn client protocol sp_specific blocks) text turn old new o acts before after runs does =
+    goes-so turn _ new o before after _ does.1 does.0
+does-so (lines.SecurityOut client protocol sp_specific payload) text turn old new o acts before after runs does =
+    goes-so turn _ new o before after _ does.1 does.0
+does-so (lines.Identify client) text turn old new o acts before after runs does =
+    goes-so turn _ new o before after _ does.1 does.0
 does-so (lines.Log client) text turn old new o acts before after runs does =
     goes-so turn _ new o before after _ does.1 does.0
 does-so (lines.Reset client kind) text turn old new o acts before after runs does =

@@ -58,11 +58,11 @@ abbrev pub in_blocks : List ℕ → List ℕ
 in_blocks bytes = sized (sector_size * block_count (length bytes)) bytes
 
 -- the trusted commands, whose data go by DMA
-abbrev pub send_of : ℕ → ℕ → Command
-send_of com_id blocks = Send com_id_protocol com_id blocks true
+abbrev pub sent_by : ℕ → ℕ → ℕ → Command
+sent_by protocol sp_specific blocks = Send protocol sp_specific blocks true
 
-abbrev pub receive_of : ℕ → ℕ → Command
-receive_of com_id blocks = Receive com_id_protocol com_id blocks true
+abbrev pub received_by : ℕ → ℕ → ℕ → Command
+received_by protocol sp_specific blocks = Receive protocol sp_specific blocks true
 
 -- the command that resets the drive, with one block of zeros
 abbrev pub tper_reset : Command

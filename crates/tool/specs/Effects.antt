@@ -1,9 +1,10 @@
 -- What the lines of a script do to their drive, and what they print.
-use Rattle.std.specs.Prelude.{◌≡◌, ℕ, ◌==◌, true, false, if◌then◌else◌, List, [], ◌∷◌, length, take, Option, None, Some, unwrap_or, is_some}
+use Rattle.std.specs.Prelude.{◌≡◌, ℕ, ◌==◌, true, false, if◌then◌else◌, List, [], ◌∷◌, length, take, slice_range, ◌+◌, Option, None, Some, unwrap_or, is_some}
+use Rattle.std.specs.Int.{w16, from_be_bytes}
 use Rattle.std.specs.Str.{bytes_eq}
 use Rattle.trusted_cmds.specs.Commands.{fis_of}
 use Rattle.trusted_cmds.specs.declared.command.Command.{Command}
-use Rattle.trusted_cmds.specs.declared.command.Command.TheVariants.{ReadDma, Receive, ReadLog10}
+use Rattle.trusted_cmds.specs.declared.command.Command.TheVariants.{ReadDma, Receive, Identify, ReadLog10}
 use Rattle.compacket.specs.Frames.{com_packet_size}
 use Rattle.compacket.specs.Spelling.{frame_bytes}
 use Rattle.device_data.specs.declared.level0.TheConstants.{DISCOVERY_LENGTH}
@@ -25,7 +26,7 @@ use Rattle.script_lines.specs.declared.line.Reset.{Reset}
 use Rattle.script_lines.specs.declared.report.Report.{Report}
 use Rattle.script_lines.specs.declared.line.Line as told
 use Rattle.script_lines.specs.declared.line.Line.TheVariants as lines
-use Rattle.tool.specs.Acts.{accept_of, completion, step_of, read_of, write_of, read_dma_of, write_dma_of, write_bytes, block_count, in_blocks, send_of, receive_of, tper_reset, zero_block, act_of_reset}
+use Rattle.tool.specs.Acts.{accept_of, completion, step_of, read_of, write_of, read_dma_of, write_dma_of, write_bytes, com_id_protocol, block_count, in_blocks, sent_by, received_by, tper_reset, zero_block, act_of_reset}
 use Rattle.tool.specs.declared.ending.Fault.TheVariants.{LateRange}
 use Rattle.tool.specs.declared.running.Turn.{Turn}
 use Rattle.tool.specs.declared.running.Turn.TheVariants.{Goes, ExpectationFailed, Bad}
@@ -84,17 +85,24 @@ transferred o acts command transfer byte =
     once_accepted o (accept_of command transfer.tag [] ∷ acts) transfer byte
     (event o (log o acts) (accept_of command transfer.tag []))
 
--- what a receive shows: on the ComID of Level 0 discovery its bytes, else the header of the
--- ComPacket and the bytes that it counts
-abbrev pub shown_bytes : ℕ → List ℕ → List ℕ
-shown_bytes com_id bytes =
-    if com_id == discovery_com_id then take DISCOVERY_LENGTH bytes
-    else take (com_packet_size bytes) bytes
+-- the list of security protocols has its length in bytes 6 and 7, the high byte first (SPC-4)
+abbrev pub protocol_list_size : List ℕ → ℕ
+protocol_list_size bytes = 8 + from_be_bytes w16 (slice_range bytes 6 8)
+
+-- what a receive shows: by security protocol 00h the list of protocols, on the ComID of Level 0
+-- discovery its bytes, else the header of the ComPacket and the bytes that it counts
+abbrev pub shown_bytes : ℕ → ℕ → List ℕ → List ℕ
+shown_bytes protocol com_id bytes =
+    if protocol == 0 then take (protocol_list_size bytes) bytes
+    else (if com_id == discovery_com_id then take DISCOVERY_LENGTH bytes
+    else take (com_packet_size bytes) bytes)
 
 -- what a command that was served prints of its data
 abbrev pub served_text : Command → List ℕ → List ℕ
 served_text (ReadDma lba count) bytes = data_text bytes
-served_text (Receive protocol com_id blocks dma) bytes = hex_text (shown_bytes com_id bytes)
+served_text (Receive protocol com_id blocks dma) bytes =
+    hex_text (shown_bytes protocol com_id bytes)
+served_text Identify bytes = hex_text bytes
 served_text (ReadLog10 dma) bytes = hex_text bytes
 served_text _ bytes = done_text
 
@@ -125,10 +133,15 @@ command_effect o acts client command payload =
     unqueued_effect o acts client command (accept_of command 0 payload)
     (event o (log o acts) (accept_of command 0 payload))
 
--- bytes are sent to a ComID
-abbrev pub sends : Origin → List Act → ℕ → ℕ → List ℕ → LineEffect
-sends o acts client com_id bytes =
-    command_effect o acts client (send_of com_id (block_count (length bytes))) (in_blocks bytes)
+-- bytes are sent by a security protocol, or blocks are received by it
+abbrev pub sends : Origin → List Act → ℕ → ℕ → ℕ → List ℕ → LineEffect
+sends o acts client protocol sp_specific bytes =
+    command_effect o acts client (sent_by protocol sp_specific (block_count (length bytes)))
+    (in_blocks bytes)
+
+abbrev pub receives : Origin → List Act → ℕ → ℕ → ℕ → ℕ → LineEffect
+receives o acts client protocol sp_specific blocks =
+    command_effect o acts client (received_by protocol sp_specific blocks) []
 
 -- the drive is reset
 abbrev pub reset_effect : List Act → Reset → LineEffect
@@ -143,10 +156,16 @@ effect_of o acts (lines.ReadDma transfer) =
 effect_of o acts (lines.WriteDma transfer byte) =
     command_effect o acts transfer.client (write_dma_of transfer) (write_bytes transfer byte)
 effect_of o acts (lines.Call client com_id session tokens) =
-    sends o acts client com_id (frame_bytes com_id session tokens)
-effect_of o acts (lines.Send client com_id packet) = sends o acts client com_id packet
+    sends o acts client com_id_protocol com_id (frame_bytes com_id session tokens)
+effect_of o acts (lines.Send client com_id packet) =
+    sends o acts client com_id_protocol com_id packet
 effect_of o acts (lines.Receive client com_id blocks) =
-    command_effect o acts client (receive_of com_id blocks) []
+    receives o acts client com_id_protocol com_id blocks
+effect_of o acts (lines.SecurityIn client protocol sp_specific blocks) =
+    receives o acts client protocol sp_specific blocks
+effect_of o acts (lines.SecurityOut client protocol sp_specific payload) =
+    sends o acts client protocol sp_specific payload
+effect_of o acts (lines.Identify client) = command_effect o acts client Identify []
 effect_of o acts (lines.Log client) = command_effect o acts client (ReadLog10 true) []
 effect_of o acts (lines.Reset client kind) = reset_effect acts kind
 effect_of o acts (lines.TperReset client) = command_effect o acts client tper_reset zero_block

@@ -54,6 +54,11 @@ request_of (asked.Call com_id session tokens) =
     requests.Send com_id_protocol com_id (in_blocks (frame_bytes com_id session tokens))
 request_of (asked.Send com_id packet) = requests.Send com_id_protocol com_id (in_blocks packet)
 request_of (asked.Receive com_id blocks) = requests.Receive com_id_protocol com_id blocks
+request_of (asked.SecurityIn protocol sp_specific blocks) =
+    requests.Receive protocol sp_specific blocks
+request_of (asked.SecurityOut protocol sp_specific payload) =
+    requests.Send protocol sp_specific (in_blocks payload)
+request_of asked.Identify = requests.Identify
 
 -- A refusal is told by its number.
 abbrev pub refused_lines : PortError → List (List ℕ)
@@ -63,8 +68,9 @@ refused_lines error = refused_text (refusal_number error) ∷ []
 abbrev pub command_text : Command → List ℕ → List ℕ
 command_text (commands.ReadQueued lba count) bytes = data_text bytes
 command_text (commands.ReadDma lba count) bytes = data_text bytes
-command_text (commands.Receive protocol com_id blocks dma) bytes = hex_text
-    (shown_bytes com_id bytes)
+command_text (commands.Receive protocol com_id blocks dma) bytes =
+    hex_text (shown_bytes protocol com_id bytes)
+command_text commands.Identify bytes = hex_text bytes
 command_text _ bytes = done_text
 
 abbrev pub bytes_text : Option Put → List ℕ → List ℕ

@@ -2,9 +2,8 @@
 
 ghost use Rattle.std.specs.Prelude.{◌≡◌, ◌<◌, ◌^◌, IfSome};
 ghost use Rattle.trusted_cmds.specs.Commands.{lba_of, IsCounted};
-ghost use Rattle.tool.specs.Acts.{read_of, write_of, read_dma_of, write_dma_of, send_of, receive_of, tper_reset, kind_named};
+ghost use Rattle.tool.specs.Acts.{read_of, write_of, read_dma_of, write_dma_of, sent_by, received_by, tper_reset, kind_named};
 
-use compacket::ComId;
 use drive::ResetKind;
 use script_lines::{DmaTransfer, Reset, Transfer};
 use trusted_cmds::{Command, RESET_COM_ID, RESET_PROTOCOL, sectors};
@@ -60,25 +59,25 @@ pub fn write_dma_of(transfer: &DmaTransfer) -> Command
     }
 }
 
-/// A send of so many blocks to a ComID.
-pub fn send_of(com_id: ComId, blocks: u16) -> Command
-    ensures { result ≡ send_of com_id blocks }
+/// A send of so many blocks by a security protocol.
+pub fn sent_by(protocol: u8, sp_specific: u16, blocks: u16) -> Command
+    ensures { result ≡ sent_by protocol sp_specific blocks }
 {
     Command::Send {
-        protocol: COM_ID_PROTOCOL,
-        sp_specific: com_id,
+        protocol,
+        sp_specific,
         blocks,
         dma: true,
     }
 }
 
-/// A receive of so many blocks from a ComID.
-pub fn receive_of(com_id: ComId, blocks: u16) -> Command
-    ensures { result ≡ receive_of com_id blocks }
+/// A receive of so many blocks by a security protocol.
+pub fn received_by(protocol: u8, sp_specific: u16, blocks: u16) -> Command
+    ensures { result ≡ received_by protocol sp_specific blocks }
 {
     Command::Receive {
-        protocol: COM_ID_PROTOCOL,
-        sp_specific: com_id,
+        protocol,
+        sp_specific,
         blocks,
         dma: true,
     }

@@ -1,10 +1,14 @@
 //! What a drive is opened with.
 
-use basics::ADDRESS_LIMIT;
+ghost use Rattle.std.specs.Prelude.{◌≡◌};
+ghost use Rattle.tool.specs.OptionTexts.{profile_named, text_or};
+
+use basics::{ADDRESS_LIMIT, Profile};
 use hex::FromHexError;
 use script_lines::number_up_to;
 use sp_cells::DriveConfig;
-use sp_cells::limits::{MOST_MBR_SECTORS, MOST_PIN_BYTES};
+use sp_cells::config::{NEW_MODEL, NEW_SERIAL};
+use sp_cells::limits::{MOST_MBR_SECTORS, MOST_MODEL_BYTES, MOST_PIN_BYTES, MOST_SERIAL_BYTES};
 use std::alloc::Global;
 use std::error::Error;
 use std::fmt;
@@ -16,12 +20,18 @@ pub enum OptionsFault {
     Sectors,
     Shadow,
     Msid(FromHexError),
+    /// The text names no profile.
+    Profile,
+    /// A drive of the profile `Base` tells no names.
+    NamesOfBase,
     /// The values are not within the limits of a configuration.
     NoDrive {
         sectors: u64,
         shadow: u64,
         msid: usize,
     },
+    /// The serial number or the model number is not printable ASCII, or too long.
+    Names,
     OutOfMemory,
 }
 
@@ -62,11 +72,20 @@ impl fmt::Display for OptionsFault {
             OptionsFault::Sectors => f.write_str("--sectors is no decimal number of 64 bits"),
             OptionsFault::Shadow => f.write_str("--shadow is no decimal number of 64 bits"),
             OptionsFault::Msid(fault) => write!(f, "--msid is not written in hex: {fault}"),
+            OptionsFault::Profile => f.write_str("--profile is neither base nor field"),
+            OptionsFault::NamesOfBase => {
+                f.write_str("--serial and --model want --profile field")
+            }
             OptionsFault::NoDrive {
                 sectors,
                 shadow,
                 msid,
             } => write_limit(f, sectors, shadow, msid),
+            OptionsFault::Names => write!(
+                f,
+                "--serial has at most {MOST_SERIAL_BYTES} and --model at most {MOST_MODEL_BYTES} \
+                 characters of printable ASCII"
+            ),
             OptionsFault::OutOfMemory => f.write_str("out of memory"),
         }
     }
@@ -74,64 +93,90 @@ impl fmt::Display for OptionsFault {
 
 impl Error for OptionsFault {}
 
+/// The options that say which drive, as they are written. An empty serial number or model number stands for that of a
+/// drive that is given none.
+#[derive(Clone, Copy)]
+pub struct DriveTexts<'a> {
+    pub sectors: &'a str,
+    pub shadow: &'a str,
+    pub msid: &'a str,
+    pub profile: &'a str,
+    pub serial: &'a str,
+    pub model: &'a str,
+}
+
+/// The profile of a name.
+fn profile_named(name: &[u8]) -> Option<Profile>
+    ensures { result ≡ profile_named name.now }
+{
+    if name == b"base".as_slice() {
+        Some(Profile::Base)
+    } else if name == b"field".as_slice() {
+        Some(Profile::Field)
+    } else {
+        None
+    }
+}
+
+/// A text, or another one where it is empty.
+fn text_or<'a>(text: &'a [u8], other: &'a [u8]) -> &'a [u8]
+    ensures { result.now ≡ text_or text.now other.now }
+{
+    if text.is_empty() { other } else { text }
+}
+
 /// What a drive is opened with: within the limits of a configuration.
 #[derive(Drop)]
 pub struct Options {
-    sectors: u64,
-    shadow: u64,
-    msid: Vec<u8>,
+    config: DriveConfig,
 }
 
 impl Model for Options {
-    ghost use Rattle.sp_cells.specs.Config.{Config, IsWithinLimits};
+    ghost use Rattle.sp_cells.specs.Config.{Config, IsWithinLimits, AreNames};
 
     ghost Value = { Config };
 
-    ghost view = { λ o. record {
-      sectors = o.sectors;
-      mbr_sectors = o.shadow;
-      msid =
-          o.msid.items;
-    } };
+    ghost view = { λ o. o.config };
 
-    ghost invariant = { λ o. IsWithinLimits o.sectors o.shadow o.msid.items };
+    ghost invariant = { λ o. IsWithinLimits o.config.sectors o.config.mbr_sectors o.config.msid
+        × AreNames o.config.serial o.config.model };
 }
 
 impl Options {
     ghost use Rattle.std.specs.Prelude.{◌≡◌, IfOk, IfErr};
-    ghost use Rattle.tool.specs.OptionTexts.{WritesConfig, IsFirstOptionFault};
+    ghost use Rattle.tool.specs.OptionTexts.{WritesConfig, IsFirstOptionFault, drive_text};
 
-    /// Reads the values as they are written on the command line: two decimal numbers, and hex. The
-    /// first fault is told: `Sectors`, `Shadow`, `Msid`, `NoDrive`.
-    pub fn parse(
-        alloc: Global,
-        sectors: &[u8],
-        shadow: &[u8],
-        msid: &[u8],
-    ) -> Result<Options, OptionsFault>
-        ensures read { IfOk result (λ options. WritesConfig sectors.now shadow.now msid.now
-            options) }
-        ensures fault { IfErr result
-            (λ fault. IsFirstOptionFault sectors.now shadow.now msid.now fault) }
+    /// Reads the values as they are written on the command line: two decimal numbers, hex, the name of a profile, and
+    /// two names. The first fault is told: `Sectors`, `Shadow`, `Msid`, `Profile`, `NamesOfBase`, `NoDrive`, `Names`.
+    pub fn parse(alloc: Global, texts: &DriveTexts<'_>) -> Result<Options, OptionsFault>
+        ensures read { IfOk result (λ options. WritesConfig (drive_text texts.now) options) }
+        ensures fault { IfErr result (λ fault. IsFirstOptionFault (drive_text texts.now) fault) }
     {
-        let sectors = number_up_to(u64::MAX, sectors).ok_or(OptionsFault::Sectors)?;
-        let shadow = number_up_to(u64::MAX, shadow).ok_or(OptionsFault::Shadow)?;
-        let msid = match hex::decode(alloc, msid) {
+        let sectors = number_up_to(u64::MAX, texts.sectors.as_bytes()).ok_or(
+            OptionsFault::Sectors,
+        )?;
+        let shadow = number_up_to(u64::MAX, texts.shadow.as_bytes()).ok_or(OptionsFault::Shadow)?;
+        let msid = match hex::decode(alloc, texts.msid.as_bytes()) {
             Ok(msid) => msid,
             Err(FromHexError::OutOfMemory) => return Err(OptionsFault::OutOfMemory),
             Err(fault) => return Err(OptionsFault::Msid(fault)),
         };
-        match DriveConfig::new(sectors, shadow, &msid) {
-            None => Err(OptionsFault::NoDrive {
+        let profile = profile_named(texts.profile.as_bytes()).ok_or(OptionsFault::Profile)?;
+        if !texts.may_have_names(profile) {
+            return Err(OptionsFault::NamesOfBase);
+        }
+        let Some(config) = DriveConfig::of_profile(profile, sectors, shadow, &msid) else {
+            return Err(OptionsFault::NoDrive {
                 sectors,
                 shadow,
                 msid: msid.len(),
-            }),
-            Some(_) => Ok(Options {
-                sectors,
-                shadow,
-                msid,
-            }),
+            });
+        };
+        let serial = text_or(texts.serial.as_bytes(), &NEW_SERIAL);
+        let model = text_or(texts.model.as_bytes(), &NEW_MODEL);
+        match config.with_names(serial, model) {
+            Some(config) => Ok(Options { config }),
+            None => Err(OptionsFault::Names),
         }
     }
 
@@ -139,6 +184,37 @@ impl Options {
     pub fn config(&self) -> DriveConfig
         ensures { result ≡ self.now }
     {
-        DriveConfig::new(self.sectors, self.shadow, &self.msid).unwrap()
+        let config = &self.config;
+        DriveConfig::of_profile(
+            config.profile(),
+            config.sectors(),
+            config.mbr_sectors(),
+            config.msid(),
+        )
+        .unwrap()
+        .with_names(config.serial(), config.model())
+        .unwrap()
+    }
+}
+
+impl DriveTexts<'_> {
+    ghost use Rattle.std.specs.Prelude.{◌≡◌};
+    ghost use Rattle.tool.specs.OptionTexts.{drive_text, has_names, may_have_names};
+
+    /// Whether a serial number or a model number is given.
+    fn has_names(&self) -> bool
+        ensures { result ≡ has_names (drive_text self.now) }
+    {
+        !self.serial.is_empty() || !self.model.is_empty()
+    }
+
+    /// Whether a drive of this profile may have the names that are given.
+    fn may_have_names(&self, profile: Profile) -> bool
+        ensures { result ≡ may_have_names profile (drive_text self.now) }
+    {
+        match profile {
+            Profile::Base => !self.has_names(),
+            Profile::Field => true,
+        }
     }
 }

@@ -14,13 +14,13 @@ use crate::commands::{COM_ID_PROTOCOL, kind_named};
 use crate::ending::Fault;
 use crate::payload::{fill, pad};
 use crate::printing::shown;
-use crate::running::Turn;
+use crate::running::{Turn, expectation};
 use audit::AuditLine;
 use basics::Bytes;
 use compacket::{ComId, Session, frame};
-use fis::Tag;
+use fis::{Lba, Tag};
 use port::{Answer, Port, PortError, Put, Request, Stage};
-use script_lines::{Hex, PortLine, PutRequest, Report, Reset, expected_text};
+use script_lines::{Hex, PortLine, PutRequest, Report, Reset};
 use std::alloc::{AllocError, Global};
 use trusted_cmds::{Command, SECTOR_SIZE};
 
@@ -69,6 +69,75 @@ fn packed(alloc: Global, packet: &Hex<'_>) -> Result<Bytes, AllocError>
     in_blocks(bytes)
 }
 
+/// A queued write of sectors whose bytes are all the same.
+fn write_of(alloc: Global, lba: Lba, count: u16, byte: u8) -> Result<Request, AllocError>
+    ensures { IfOk result (λ request. request ≡ requests.Write lba (same_bytes count byte)) }
+{
+    let bytes = same_bytes(alloc, count, byte)?;
+    let lba = lba.number();
+    Ok(Request::Write { lba, bytes })
+}
+
+/// The same, not queued.
+fn write_dma_of(alloc: Global, lba: Lba, count: u16, byte: u8) -> Result<Request, AllocError>
+    ensures { IfOk result (λ request. request ≡ requests.WriteDma lba (same_bytes count byte)) }
+{
+    let bytes = same_bytes(alloc, count, byte)?;
+    let lba = lba.number();
+    Ok(Request::WriteDma { lba, bytes })
+}
+
+/// A send of bytes by a security protocol, in whole blocks.
+fn send_of(
+    alloc: Global,
+    protocol: u8,
+    com_id: u16,
+    payload: &Hex<'_>,
+) -> Result<Request, AllocError>
+    requires { length payload.now ≤ most_send_bytes }
+    ensures { IfOk result
+        (λ request. request ≡ requests.Send protocol com_id (in_blocks payload.now)) }
+{
+    let bytes = packed(alloc, payload)?;
+    Ok(Request::Send {
+        protocol,
+        com_id,
+        bytes,
+    })
+}
+
+/// A receive of blocks by a security protocol.
+fn receive_of(protocol: u8, com_id: u16, blocks: u16) -> Request
+    ensures { result ≡ requests.Receive protocol com_id blocks }
+{
+    Request::Receive {
+        protocol,
+        com_id,
+        blocks,
+    }
+}
+
+/// A send of a ComPacket that carries tokens.
+fn call_of(
+    alloc: Global,
+    com_id: ComId,
+    session: Session,
+    tokens: &Hex<'_>,
+) -> Result<Request, AllocError>
+    requires some { 0 < length tokens.now }
+    requires most { length tokens.now ≤ most_call_bytes }
+    ensures { IfOk result (λ request. request
+        ≡ requests.Send com_id_protocol com_id
+        (in_blocks (frame_bytes com_id session tokens.now))) }
+{
+    let bytes = framed(alloc, com_id, session, tokens)?;
+    Ok(Request::Send {
+        protocol: COM_ID_PROTOCOL,
+        com_id,
+        bytes,
+    })
+}
+
 /// The request that a `put` line asks.
 pub fn request_of(alloc: Global, asked: &PutRequest<'_>) -> Result<Request, AllocError>
     requires { FitsPut asked.now }
@@ -79,48 +148,32 @@ pub fn request_of(alloc: Global, asked: &PutRequest<'_>) -> Result<Request, Allo
             lba: lba.number(),
             count: u32::from(*count),
         }),
-        PutRequest::Write { lba, count, byte } => {
-            let bytes = same_bytes(alloc, *count, *byte)?;
-            let lba = lba.number();
-            Ok(Request::Write { lba, bytes })
-        }
+        PutRequest::Write { lba, count, byte } => write_of(alloc, *lba, *count, *byte),
         PutRequest::ReadDma { lba, count } => Ok(Request::ReadDma {
             lba: lba.number(),
             count: u32::from(*count),
         }),
-        PutRequest::WriteDma { lba, count, byte } => {
-            let bytes = same_bytes(alloc, *count, *byte)?;
-            let lba = lba.number();
-            Ok(Request::WriteDma { lba, bytes })
-        }
+        PutRequest::WriteDma { lba, count, byte } => write_dma_of(alloc, *lba, *count, *byte),
         PutRequest::Call {
             com_id,
             session,
             tokens,
-        } => {
-            let bytes = framed(alloc, *com_id, *session, tokens)?;
-            Ok(send_of(*com_id, bytes))
+        } => call_of(alloc, *com_id, *session, tokens),
+        PutRequest::Send { com_id, packet } => send_of(alloc, COM_ID_PROTOCOL, *com_id, packet),
+        PutRequest::Receive { com_id, blocks } => {
+            Ok(receive_of(COM_ID_PROTOCOL, *com_id, *blocks))
         }
-        PutRequest::Send { com_id, packet } => {
-            let bytes = packed(alloc, packet)?;
-            Ok(send_of(*com_id, bytes))
-        }
-        PutRequest::Receive { com_id, blocks } => Ok(Request::Receive {
-            protocol: COM_ID_PROTOCOL,
-            com_id: *com_id,
-            blocks: *blocks,
-        }),
-    }
-}
-
-/// A send of blocks to a ComID.
-fn send_of(com_id: ComId, bytes: Bytes) -> Request
-    ensures { result ≡ requests.Send com_id_protocol com_id bytes }
-{
-    Request::Send {
-        protocol: COM_ID_PROTOCOL,
-        com_id,
-        bytes,
+        PutRequest::SecurityIn {
+            protocol,
+            sp_specific,
+            blocks,
+        } => Ok(receive_of(*protocol, *sp_specific, *blocks)),
+        PutRequest::SecurityOut {
+            protocol,
+            sp_specific,
+            payload,
+        } => send_of(alloc, *protocol, *sp_specific, payload),
+        PutRequest::Identify => Ok(Request::Identify),
     }
 }
 
@@ -170,7 +223,12 @@ fn print_bytes(put: Option<Put>, bytes: &[u8], report: &mut Report) -> Result<()
     };
     match put.command {
         Command::ReadQueued { .. } | Command::ReadDma { .. } => report.print_data(bytes)?,
-        Command::Receive { sp_specific, .. } => report.print_hex(shown(sp_specific, bytes))?,
+        Command::Receive {
+            protocol,
+            sp_specific,
+            ..
+        } => report.print_hex(shown(protocol, sp_specific, bytes))?,
+        Command::Identify => report.print_hex(bytes)?,
         _ => report.print_ok()?,
     }
     Ok(())
@@ -280,13 +338,7 @@ impl PortPhase {
             PortLine::Recover => self.recover(report),
             PortLine::Reset { client, kind } => self.reset(*client, *kind, report),
             PortLine::Take { client, tag } => self.take(*client, *tag, report),
-            PortLine::Expect => {
-                if report.last.as_slice() == expected_text(text) {
-                    Ok(Turn::Goes { aborted: false })
-                } else {
-                    Ok(Turn::ExpectationFailed)
-                }
-            }
+            PortLine::Expect => Ok(expectation(text, report)),
         }
     }
 

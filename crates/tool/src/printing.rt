@@ -3,7 +3,7 @@
 ghost use Rattle.std.specs.Prelude.{◌≡◌, ◌∷◌, [], OnOk, take};
 ghost use Rattle.compacket.specs.Frames.{com_packet_size};
 ghost use Rattle.script_lines.specs.Texts.{Prints};
-ghost use Rattle.tool.specs.Effects.{shown_bytes, served_text, told_lines};
+ghost use Rattle.tool.specs.Effects.{protocol_list_size, shown_bytes, served_text, told_lines};
 
 use audit::AuditLine;
 use byteorder::{BigEndian, ByteOrder};
@@ -17,6 +17,9 @@ use trusted_cmds::Command;
 /// The ComID of Level 0 discovery.
 const DISCOVERY_COM_ID: ComId = 1;
 
+/// How many bytes stand in front of the security protocols that are listed.
+const PROTOCOL_LIST_HEADER: usize = 8;
+
 /// The header of a ComPacket and the bytes that it counts, as far as they are there.
 fn com_packet(bytes: &[u8]) -> &[u8]
     ensures { result.now ≡ take (com_packet_size bytes.now) bytes.now }
@@ -28,11 +31,24 @@ fn com_packet(bytes: &[u8]) -> &[u8]
     &bytes[..size.min(bytes.len())]
 }
 
-/// What a receive shows.
-pub fn shown(com_id: ComId, bytes: &[u8]) -> &[u8]
-    ensures { result.now ≡ shown_bytes com_id bytes.now }
+/// The list of security protocols, as far as it is there.
+fn protocol_list(bytes: &[u8]) -> &[u8]
+    ensures { result.now ≡ take (protocol_list_size bytes.now) bytes.now }
 {
-    if com_id == DISCOVERY_COM_ID {
+    if bytes.len() < PROTOCOL_LIST_HEADER {
+        return bytes;
+    }
+    let size = PROTOCOL_LIST_HEADER + usize::from(BigEndian::read_u16(&bytes[6..]));
+    &bytes[..size.min(bytes.len())]
+}
+
+/// What a receive shows.
+pub fn shown(protocol: u8, com_id: ComId, bytes: &[u8]) -> &[u8]
+    ensures { result.now ≡ shown_bytes protocol com_id bytes.now }
+{
+    if protocol == 0 {
+        protocol_list(bytes)
+    } else if com_id == DISCOVERY_COM_ID {
         &bytes[..DISCOVERY_LENGTH.min(bytes.len())]
     } else {
         com_packet(bytes)
@@ -45,8 +61,12 @@ fn print_served(report: &mut Report, command: &Command, bytes: &[u8]) -> Result<
 {
     match *command {
         Command::ReadDma { .. } => report.print_data(bytes)?,
-        Command::Receive { sp_specific, .. } => report.print_hex(shown(sp_specific, bytes))?,
-        Command::ReadLog10 { .. } => report.print_hex(bytes)?,
+        Command::Receive {
+            protocol,
+            sp_specific,
+            ..
+        } => report.print_hex(shown(protocol, sp_specific, bytes))?,
+        Command::Identify | Command::ReadLog10 { .. } => report.print_hex(bytes)?,
         _ => report.print_ok()?,
     }
     Ok(())

@@ -1,7 +1,12 @@
 //! The running phase of a script: a drive, and what the lines do with it.
 
+ghost use Rattle.std.specs.Prelude.{◌≡◌, false, if◌then◌else◌};
+ghost use Rattle.std.specs.Str.{bytes_eq};
+ghost use Rattle.script_lines.specs.Lines.{expected_text};
+
 use crate::commands::{
-    kind_named, read_dma_of, read_of, receive_of, send_of, tper_reset, write_dma_of, write_of,
+    COM_ID_PROTOCOL, kind_named, read_dma_of, read_of, received_by, sent_by, tper_reset,
+    write_dma_of, write_of,
 };
 use crate::ending::Fault;
 use crate::payload::{fill, pad, put_frame};
@@ -21,6 +26,18 @@ pub enum Turn {
     Goes { aborted: bool },
     ExpectationFailed,
     Bad(Fault),
+}
+
+/// What becomes of an `expect` line, behind what was printed.
+pub fn expectation(text: &[u8], report: &Report) -> Turn
+    ensures { result ≡ (if bytes_eq report.now.last.items (expected_text text.now)
+        then Turn.Goes false else Turn.ExpectationFailed) }
+{
+    if report.last.as_slice() == expected_text(text) {
+        Turn::Goes { aborted: false }
+    } else {
+        Turn::ExpectationFailed
+    }
 }
 
 /// A drive that a script runs on.
@@ -47,7 +64,7 @@ impl RunningPhase {
     ghost use Rattle.history.specs.Opening.{Origin};
     ghost use Rattle.history.specs.History.{Act};
     ghost use Rattle.drive.specs.State.{Agrees};
-    ghost use Rattle.tool.specs.Effects.{RunsOn, IsReached, Accepts, Has, Makes, completion_effect, transferred, command_effect, sends, effect_of, Does};
+    ghost use Rattle.tool.specs.Effects.{RunsOn, IsReached, Accepts, Has, Makes, completion_effect, transferred, command_effect, sends, receives, effect_of, Does};
     ghost use Rattle.tool.specs.Courses.{line_course, DriveSteps};
     ghost use Rattle.tool.specs.declared.ending.Fault.{Fault};
 
@@ -110,27 +127,35 @@ impl RunningPhase {
                 client,
                 com_id,
                 packet,
-            } => self.send(*client, *com_id, packet, report),
+            } => self.send(*client, COM_ID_PROTOCOL, *com_id, packet, report),
             Line::Receive {
                 client,
                 com_id,
                 blocks,
-            } => self.receive(*client, *com_id, *blocks, report),
+            } => self.receive(*client, COM_ID_PROTOCOL, *com_id, *blocks, report),
+            Line::SecurityIn {
+                client,
+                protocol,
+                sp_specific,
+                blocks,
+            } => self.receive(*client, *protocol, *sp_specific, *blocks, report),
+            Line::SecurityOut {
+                client,
+                protocol,
+                sp_specific,
+                payload,
+            } => self.send(*client, *protocol, *sp_specific, payload, report),
+            Line::Identify { client } => self.identify(*client, report),
             Line::Log { client } => self.read_log(*client, report),
             Line::Reset { kind, .. } => self.reset(*kind, report),
             Line::TperReset { client } => self.reset_tper(*client, report),
-            Line::Expect => {
-                if report.last.as_slice() == expected_text(text) {
-                    Ok(Turn::Goes { aborted: false })
-                } else {
-                    Ok(Turn::ExpectationFailed)
-                }
-            }
+            Line::Expect => Ok(expectation(text, report)),
         }
     }
 
     /// Gives the drive the FIS of a command, with the payload at hand.
     #[inline(always)]
+    #[tactic(auto, using(crate::proofs::Acts::brings))]
     fn accept(&mut self, command: &Command, tag: Tag) -> Result<Accepted, AllocError>
         requires address { IfSome (lba_of command.now) (λ lba. lba < 2 ^ 48) }
         requires counted { IsCounted command.now }
@@ -277,19 +302,21 @@ impl RunningPhase {
         Ok(Turn::Goes { aborted })
     }
 
-    /// Sends the bytes at hand to a ComID.
+    /// Sends the bytes at hand by a security protocol.
     fn send_bytes(
         &mut self,
         client: u32,
-        com_id: ComId,
+        protocol: u8,
+        sp_specific: u16,
         report: &mut Report,
     ) -> Result<Turn, AllocError>
         requires { length self.old.payload.items ≤ most_send_bytes }
-        ensures { IfOk result (Makes (λ o acts. sends o acts client com_id self.old.payload.items)
+        ensures { IfOk result
+            (Makes (λ o acts. sends o acts client protocol sp_specific self.old.payload.items)
             self.old self.new report.old report.new) }
     {
         let blocks = pad(&mut self.payload)?;
-        let aborted = self.command(client, &send_of(com_id, blocks), report)?;
+        let aborted = self.command(client, &sent_by(protocol, sp_specific, blocks), report)?;
         Ok(Turn::Goes { aborted })
     }
 
@@ -310,39 +337,50 @@ impl RunningPhase {
         self.tokens.clear();
         tokens.decode_into(&mut self.tokens)?;
         put_frame(com_id, session, &self.tokens, &mut self.payload)?;
-        self.send_bytes(client, com_id, report)
+        self.send_bytes(client, COM_ID_PROTOCOL, com_id, report)
     }
 
     fn send(
         &mut self,
         client: u32,
-        com_id: ComId,
-        packet: &Hex<'_>,
+        protocol: u8,
+        sp_specific: u16,
+        payload: &Hex<'_>,
         report: &mut Report,
     ) -> Result<Turn, AllocError>
-        requires { length packet.now ≤ most_send_bytes }
+        requires { length payload.now ≤ most_send_bytes }
         ensures { IfOk result
-            (Makes (λ o acts. effect_of o acts (Line.Send client com_id packet.now))
+            (Makes (λ o acts. sends o acts client protocol sp_specific payload.now)
             self.old self.new report.old report.new) }
     {
         self.payload.clear();
-        packet.decode_into(&mut self.payload)?;
-        self.send_bytes(client, com_id, report)
+        payload.decode_into(&mut self.payload)?;
+        self.send_bytes(client, protocol, sp_specific, report)
     }
 
     fn receive(
         &mut self,
         client: u32,
-        com_id: ComId,
+        protocol: u8,
+        sp_specific: u16,
         blocks: u16,
         report: &mut Report,
     ) -> Result<Turn, AllocError>
         ensures { IfOk result
-            (Makes (λ o acts. effect_of o acts (Line.Receive client com_id blocks))
+            (Makes (λ o acts. receives o acts client protocol sp_specific blocks)
             self.old self.new report.old report.new) }
     {
         self.payload.clear();
-        let aborted = self.command(client, &receive_of(com_id, blocks), report)?;
+        let aborted = self.command(client, &received_by(protocol, sp_specific, blocks), report)?;
+        Ok(Turn::Goes { aborted })
+    }
+
+    fn identify(&mut self, client: u32, report: &mut Report) -> Result<Turn, AllocError>
+        ensures { IfOk result (Makes (λ o acts. effect_of o acts (Line.Identify client))
+            self.old self.new report.old report.new) }
+    {
+        self.payload.clear();
+        let aborted = self.command(client, &Command::Identify, report)?;
         Ok(Turn::Goes { aborted })
     }
 

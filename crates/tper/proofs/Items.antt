@@ -1,13 +1,16 @@
 -- What an item comes to: answers that change nothing, calls of a session, StartSession; and that each can be carried.
-use Rattle.std.proofs.Common.{◌≡◌, ℕ, true, false, List, Option, None, refl, sym, subst, ◌∙◌, ap}
-use Rattle.std.specs.Prelude.{Result, Err, map}
+use Rattle.history.specs.History.{log}
+use Rattle.tcg_tokens.specs.Reading.{reading as message_in}
+use Rattle.sp_cells.specs.Config.{Config}
+use Rattle.std.proofs.Common.{◌≡◌, ℕ, true, false, List, Option, None, refl, sym, subst, ◌∙◌, ap, Bool, if◌then◌else◌}
+use Rattle.std.specs.Prelude.{Result, Err, map, Ok}
 use Rattle.sp_cells.specs.declared.names.Uid.{Uid}
 use Rattle.sp_cells.specs.Names.{session_manager, start_session}
 use Rattle.tcg_tokens.specs.declared.error.TokenError.{TokenError}
 use Rattle.tcg_tokens.specs.declared.error.TokenError.TheVariants.{OutOfMemory}
 use Rattle.tcg_tokens.specs.declared.value.Call.{Call}
 use Rattle.tcg_tokens.specs.Tree.{Tree, tree, trees}
-use Rattle.tcg_tokens.specs.Message.{Message, message}
+use Rattle.tcg_tokens.specs.Message.{Message, message, end_session}
 use Rattle.tcg_tokens.specs.Gives.{Fails}
 use Rattle.audit.specs.declared.reason.Why.{Why}
 use Rattle.call_shapes.specs.Asks.{ask_of, uid_of}
@@ -23,9 +26,9 @@ use Rattle.methods.specs.declared.outcome.Outcome.{Outcome as Answered}
 use Rattle.methods.specs.Calls.{standing_in, judged_with, judged_call, outcome_of, outcome_in, Fulfils}
 use Rattle.history.specs.Opening.{Origin}
 use Rattle.history.specs.Events.{Event}
-use Rattle.sessions.specs.Deeds.{Unchanged, Outcome, says}
+use Rattle.sessions.specs.Deeds.{Unchanged, Outcome, says, Ended}
 use Rattle.history.specs.Facts.{Facts, facts}
-use Rattle.history.specs.Tcg.{called_manager, to_manager, in_session, judgement_on, started}
+use Rattle.history.specs.Tcg.{called_manager, to_manager, in_session, judgement_on, started, item_in, ends_session}
 use Rattle.history.specs.KeptStore.{KeepsStore}
 use Rattle.history.specs.KeptSessions.{KeepsSessions, id_of}
 use Rattle.sessions.specs.Made.{Meets}
@@ -94,6 +97,32 @@ fault-is _ read n h = h
 
 pub read-in : (read r : Result Message TokenError) (session : SessionId) (said : Answered) (s t : Stored) (l m : Live) → read ≡ r → OfSession (λ f its. in_session f its r) session said s t l m → OfSession (λ f its. in_session f its read) session said s t l m
 read-in read r session said s t l m h g = subst (λ (x : Result Message TokenError). OfSession (λ f its. in_session f its x) session said s t l m) (sym h) g
+
+-- what a payload has for a session, by what is kept and by the past
+item-as : (tokens : List ℕ) (session : SessionId) (said : Answered) (s t : Stored) (l m : Live)
+    → OfSession (λ f its. in_session f its (item_in s.config.profile tokens)) session said s t l m
+    → OfSession (λ f its. in_session f its (item_in f.config.profile tokens)) session said s t l m
+item-as tokens session said s t l m g = λ o acts its ks kl lives same.
+    subst (λ (config : Config). AnswersAs (in_session (facts o (log o acts)) its (item_in config.profile tokens)) said s t l m)
+    ks.config (g o acts its ks kl lives same)
+
+pub ended : (tokens : List ℕ) (session : SessionId) (said : Answered) (s t : Stored) (l m : Live)
+    → ends_session s.config.profile tokens ≡ true
+    → OfSession (λ f its. says (Ended its.sp) end_session) session said s t l m
+    → OfSession (λ f its. in_session f its (item_in f.config.profile tokens)) session said s t l m
+ended tokens session said s t l m is g =
+    item-as tokens session said s t l m
+    (read-in (item_in s.config.profile tokens) (Ok end_session) session said s t l m
+    (ap (λ (b : Bool). if b then Ok end_session else message_in tokens) is) g)
+
+pub unended : (tokens : List ℕ) (session : SessionId) (said : Answered) (s t : Stored) (l m : Live)
+    → ends_session s.config.profile tokens ≡ false
+    → OfSession (λ f its. in_session f its (message_in tokens)) session said s t l m
+    → OfSession (λ f its. in_session f its (item_in f.config.profile tokens)) session said s t l m
+unended tokens session said s t l m is g =
+    item-as tokens session said s t l m
+    (read-in (item_in s.config.profile tokens) (message_in tokens) session said s t l m
+    (ap (λ (b : Bool). if b then Ok end_session else message_in tokens) is) g)
 
 pub read-by : (read r : Result Message TokenError) (com_id : ℕ) (said : Answered) (s t : Stored) (l m : Live) → read ≡ r → OfManager (λ f. to_manager f com_id r) said s t l m → OfManager (λ f. to_manager f com_id read) said s t l m
 read-by read r com_id said s t l m h g = subst (λ (x : Result Message TokenError). OfManager (λ f. to_manager f com_id x) said s t l m) (sym h) g

@@ -14,7 +14,7 @@ use Rattle.sessions.specs.Deeds.{Begun}
 use Rattle.history.specs.Events.{Event, Nothing, did}
 use Rattle.history.specs.Readers.{session_on}
 use Rattle.history.specs.Facts.{Facts, facts, session_named}
-use Rattle.history.specs.Tcg.{is_manager, answers, to_manager, in_session, to_session, framed, sent}
+use Rattle.history.specs.Tcg.{is_manager, answers, to_manager, in_session, to_session, framed, sent, item_in}
 use Rattle.history.specs.History.{Act, log}
 use Rattle.history.specs.KeptSessions.{KeepsSessions, id_of}
 use Rattle.history.proofs.Items.{named-lives}
@@ -160,7 +160,7 @@ abbrev pub ByManager : Tper → Tper → ℕ → Frame → Sent → Type 0
 ByManager t u com_id frame s = Handles (λ said. OfManager (λ f. to_manager f com_id (message_in frame.payload)) said t.store u.store t.live u.live) com_id frame.session s t u
 
 abbrev pub BySession : Tper → Tper → ℕ → Frame → SessionId → Sent → Type 0
-BySession t u com_id frame id s = Handles (λ said. OfSession (λ f its. in_session f its (message_in frame.payload)) id said t.store u.store t.live u.live) com_id frame.session s t u
+BySession t u com_id frame id s = Handles (λ said. OfSession (λ f its. in_session f its (item_in f.config.profile frame.payload)) id said t.store u.store t.live u.live) com_id frame.session s t u
 
 pub manager-kept : (t u : Tper) (o : Origin) (acts : List Act) (com_id : ℕ) (read : Result Frame FrameError) (frame : Frame) (s : Sent) → IsFor read com_id frame → is_manager frame.session ≡ true
     → ByManager t u com_id frame s → Keeps t o (log o acts) → Keeps u o (sent (facts o (log o acts)) com_id read ∷ log o acts)

@@ -12,19 +12,20 @@ ghost use Rattle.tcg_tokens.specs.Tree.{trees};
 ghost use Rattle.methods.specs.Effects.{live_holder};
 ghost use Rattle.sessions.specs.Live.{Live};
 ghost use Rattle.sessions.specs.Deeds.{Ended, says};
-ghost use Rattle.history.specs.Tcg.{to_manager, called_manager, in_session, judgement_on, begins_on, ends_on};
+ghost use Rattle.history.specs.Tcg.{to_manager, called_manager, item_in, ends_session, in_session, judgement_on, begins_on, ends_on};
 ghost use Rattle.methods.specs.Calls.{outcome_of};
 ghost use Rattle.methods.specs.Said.{refusal_of};
 ghost use Rattle.history.specs.Facts.{has_open};
 ghost use Rattle.tper.specs.Items.{OfManager, OfSession};
 
+use basics::Profile;
 use call_shapes::{status, uid_of};
 use compacket::ComId;
 use methods::{MethodFault, Outcome, invoke};
 use sessions::Sessions;
 use sp_cells::Uid;
 use std::alloc::{AllocError, Global};
-use tcg_tokens::{Call, Item, TokenError, read_item};
+use tcg_tokens::{Call, Item, TokenError, begins_with_end, read_item};
 use transactions::{SessionId, Store};
 
 /// An answer that nothing denied, and whether rows or bytes may have changed.
@@ -208,8 +209,8 @@ fn end_session(store: &mut Store, sessions: &mut Sessions, session: SessionId) -
     answer(Item::EndSession, true)
 }
 
-/// What is sent to a live session.
-pub(crate) fn in_session(
+/// What an item comes to in a live session.
+fn read_in_session(
     alloc: Global,
     store: &mut Store,
     sessions: &mut Sessions,
@@ -234,4 +235,39 @@ pub(crate) fn in_session(
         Ok(Item::Reply { .. }) => Ok(failed(alloc)),
         Err(fault) => no_item(alloc, fault),
     }
+}
+
+/// Whether a payload ends the session that it is sent to, whatever follows.
+fn ends_session(store: &Store, tokens: &[u8]) -> bool
+    ensures { result ≡ ends_session store.now.config.profile tokens.now }
+{
+    match store.committed().config().profile() {
+        Profile::Base => false,
+        Profile::Field => begins_with_end(tokens),
+    }
+}
+
+/// What is sent to a live session.
+pub(crate) fn in_session(
+    alloc: Global,
+    store: &mut Store,
+    sessions: &mut Sessions,
+    session: SessionId,
+    tokens: &[u8],
+) -> Result<Outcome, AllocError>
+    requires lives { live_holder sessions.old session ≢ None }
+    ensures met { IfOk result (λ said. OfSession
+        (λ f its. in_session f its (item_in f.config.profile tokens.now)) session said
+        store.old store.new sessions.old sessions.new) }
+    ensures carried { IfOk result (λ said. is_carried (message said.reply) ≡ true) }
+    ensures unchanged { IfOk result (λ said. said.changes ≡ false → store.new ≡ store.old) }
+    ensures err_store { OnErr result (store.new ≡ store.old) }
+    ensures err_sessions { OnErr result (sessions.new ≡ sessions.old) }
+    ensures config { store.new.config ≡ store.old.config }
+{
+    if ends_session(store, tokens) {
+        return Ok(end_session(store, sessions, session));
+    }
+    let outcome = read_in_session(alloc, store, sessions, session, tokens)?;
+    Ok(outcome)
 }

@@ -10,7 +10,7 @@ ghost use Rattle.transactions.specs.Sights.{look_up, committed_sight};
 ghost use Rattle.transactions.specs.Stored.{after_reset};
 ghost use Rattle.sessions.specs.Live.{session_at};
 ghost use Rattle.history.specs.Agreement.{HasNoTries};
-ghost use Rattle.history.specs.Tcg.{received_bytes, sent, to_manager, in_session};
+ghost use Rattle.history.specs.Tcg.{received_bytes, sent, to_manager, in_session, item_in};
 ghost use Rattle.history.specs.Decisions.{is_session_com_id, lets_reset, received};
 ghost use Rattle.history.specs.Events.{Event, WasReset, did};
 ghost use Rattle.history.specs.Facts.{facts};
@@ -231,8 +231,8 @@ impl Tper {
         requires com_id { is_session_com_id com_id ≡ true }
         requires lives { live_holder self.old.live id ≢ None }
         ensures handled { IfOk result
-            (λ s. Handles (λ said. OfSession (λ f its. in_session f its (message_in tokens.now)) id
-            said
+            (λ s. Handles (λ said. OfSession
+            (λ f its. in_session f its (item_in f.config.profile tokens.now)) id said
             self.old.store self.new.store self.old.live self.new.live) com_id session s self.old
             self.new) }
         ensures unchanged { IfOk result (λ s. s.changes ≡ false → self.new.store ≡ self.old.store) }

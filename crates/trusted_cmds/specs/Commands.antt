@@ -2,7 +2,9 @@
 use Rattle.std.specs.Prelude.{◌≡◌, ℕ, ◌+◌, ◌*◌, ◌/◌, ◌%◌, ◌<◌, ◌≤◌, ◌==◌, Bool, true, false, not, ◌&&◌, ◌||◌, nat_lt, Option, Some, None, IfSome, Result, Ok, Err, if◌then◌else◌}
 use Rattle.fis.specs.declared.h2d.RegH2d.{RegH2d}
 use Rattle.trusted_cmds.specs.declared.command.Command.{Command}
-use Rattle.trusted_cmds.specs.declared.command.Command.TheVariants.{ReadQueued, WriteQueued, ReadDma, WriteDma, Send, Receive, Identify, ReadLog10, Flush}
+use Rattle.trusted_cmds.specs.declared.command.Command.TheVariants.{ReadQueued, WriteQueued, ReadDma, WriteDma, Send, Receive, Identify, ReadLog10, Flush, SetFeatures, ReadLog}
+use Rattle.trusted_cmds.specs.declared.command.DevicePage.{DevicePage}
+use Rattle.trusted_cmds.specs.declared.command.DevicePage.TheVariants.{LogDirectory, PageList, Security}
 use Rattle.trusted_cmds.specs.declared.command.CommandError.{CommandError}
 use Rattle.trusted_cmds.specs.declared.command.CommandError.TheVariants.{Unknown, NotCommand, LogPage, Device}
 
@@ -42,6 +44,9 @@ identify_device = 0xec
 
 abbrev pub flush_cache : ℕ
 flush_cache = 0xea
+
+abbrev pub set_features : ℕ
+set_features = 0xef
 
 -- how many bytes a sector has, and a block of a trusted command
 abbrev pub sector_size : ℕ
@@ -116,6 +121,13 @@ abbrev pub is_programmatic_reset : Command → Bool
 is_programmatic_reset (Send protocol sp_specific count dma) =
     protocol == reset_protocol && sp_specific == reset_com_id && nat_lt 0 count
 is_programmatic_reset _ = false
+
+-- A receive that asks for the list of security protocols: protocol 00h, SP Specific 0000h, one block at least (SPC-4,
+-- SECURITY PROTOCOL IN, "Security protocol information").
+abbrev pub is_protocol_list : Command → Bool
+is_protocol_list (Receive protocol sp_specific count dma) =
+    protocol == 0 && sp_specific == 0 && nat_lt 0 count
+is_protocol_list _ = false
 
 -- The tag of a queued command: bits 7 to 3 of Count.
 abbrev pub tag_of : RegH2d → ℕ
@@ -264,6 +276,17 @@ abbrev pub trusted_fis : ℕ → ℕ → ℕ → ℕ → RegH2d
 trusted_fis code protocol sp_specific count =
     fis_with code protocol (count / 256 + 256 * sp_specific) 0 (count % 256)
 
+-- A read of one page of a log has its place in LBA.
+abbrev pub log_read_fis : ℕ → Bool → RegH2d
+log_read_fis place dma = fis_with (by_dma dma read_log read_log_dma) 0 place 0 1
+
+-- Where a page of the device's logs stands: the log's address below the page's number. The directory of the logs, and
+-- of the log at address 30h, IDENTIFY DEVICE data, the list of its pages and the page on security (ACS-3, annex on logs).
+abbrev pub log_place : DevicePage → ℕ
+log_place LogDirectory = 0
+log_place PageList = 0x30
+log_place Security = 0x630
+
 -- The writer's spelling of a command under a tag.
 abbrev pub fis_of : Command → ℕ → RegH2d
 fis_of (ReadQueued lba count) tag = queued_fis read_queued lba count tag
@@ -275,8 +298,10 @@ fis_of (Send protocol sp_specific count dma) tag =
 fis_of (Receive protocol sp_specific count dma) tag =
     trusted_fis (by_dma dma trusted_receive trusted_receive_dma) protocol sp_specific count
 fis_of Identify tag = fis_with identify_device 0 0 0 0
-fis_of (ReadLog10 dma) tag = fis_with (by_dma dma read_log read_log_dma) 0 error_log_address 0 1
+fis_of (ReadLog10 dma) tag = log_read_fis error_log_address dma
 fis_of Flush tag = fis_with flush_cache 0 0 0 0
+fis_of SetFeatures tag = fis_with set_features 0 0 0 0
+fis_of (ReadLog page dma) tag = log_read_fis (log_place page) dma
 
 -- The tag that a command is read back with: only a queued one has it.
 abbrev pub tag_with : Command → ℕ → Option ℕ

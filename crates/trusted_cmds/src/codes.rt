@@ -2,6 +2,7 @@
 
 ghost use Rattle.std.specs.Prelude.{◌≡◌, ◌==◌, ◌||◌};
 ghost use Rattle.trusted_cmds.specs.Commands.{is_queued, is_transfer, is_send, is_receive, is_log_read, is_known_code};
+ghost use Rattle.trusted_cmds.specs.Profiles.{is_short_transfer};
 
 pub(crate) const READ_DMA: u8 = 0x25;
 
@@ -23,9 +24,17 @@ pub(crate) const READ_QUEUED: u8 = 0x60;
 
 pub(crate) const WRITE_QUEUED: u8 = 0x61;
 
+pub(crate) const SHORT_READ_DMA: u8 = 0xc8;
+
+pub(crate) const SHORT_WRITE_DMA: u8 = 0xca;
+
+pub(crate) const SHORT_FLUSH_CACHE: u8 = 0xe7;
+
 pub(crate) const FLUSH_CACHE: u8 = 0xea;
 
 pub(crate) const IDENTIFY_DEVICE: u8 = 0xec;
+
+pub(crate) const SET_FEATURES: u8 = 0xef;
 
 /// Whether a command code is one of the queued commands, READ and WRITE FPDMA QUEUED.
 pub fn is_queued(command: u8) -> bool
@@ -39,6 +48,13 @@ pub(crate) fn is_transfer(command: u8) -> bool
     ensures { result ≡ is_transfer command }
 {
     is_queued(command) || command == READ_DMA || command == WRITE_DMA
+}
+
+/// Whether a command code is one of those that move sectors at addresses of 28 bits.
+pub(crate) fn is_short_transfer(command: u8) -> bool
+    ensures { result ≡ is_short_transfer command }
+{
+    command == SHORT_READ_DMA || command == SHORT_WRITE_DMA
 }
 
 /// Whether a command code is TRUSTED SEND, or its form by DMA.

@@ -48,6 +48,25 @@ pub enum Command {
     },
     /// FLUSH CACHE EXT (ACS-3, "FLUSH CACHE EXT").
     Flush,
+    /// SET FEATURES (ACS-3, "SET FEATURES"), of any subcommand. Only `Field` has it.
+    SetFeatures,
+    /// READ LOG EXT and READ LOG DMA EXT of a page of the device's own logs (ACS-3, "READ LOG EXT"). Only `Field` has it.
+    ReadLog {
+        page: DevicePage,
+        dma: bool,
+    },
+}
+
+/// A page of the logs that tell of the device (ACS-3, annex on logs): one of the General Purpose Log directory, address
+/// 00h, and two of IDENTIFY DEVICE data, address 30h.
+#[derive(Clone, Copy, Debug, PartialEq, Eq)]
+pub enum DevicePage {
+    /// The directory, page 00h.
+    LogDirectory,
+    /// The list of the pages of IDENTIFY DEVICE data, page 00h.
+    PageList,
+    /// What IDENTIFY DEVICE data tells of security, page 06h.
+    Security,
 }
 
 /// Why a FIS is no command of the drive: `NotCommand` is told first, then `Unknown`, `Device`, `LogPage`.

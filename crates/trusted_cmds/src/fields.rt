@@ -1,8 +1,10 @@
 //! The fields of a FIS, as the commands read them (ACS-3, the commands' tables of inputs).
 
 ghost use Rattle.std.specs.Prelude.{◌≡◌, ◌<◌, ◌≤◌, ◌+◌, ◌*◌, ◌/◌, ◌%◌, ◌==◌, ◌&&◌};
-ghost use Rattle.trusted_cmds.specs.Commands.{most_sectors, sectors, sectors_field, has_lba_bit, tag_of, protocol_of, sp_specific_of, blocks, names_error_log, error_log_address};
+ghost use Rattle.trusted_cmds.specs.Commands.{most_sectors, sectors, sectors_field, has_lba_bit, tag_of, protocol_of, sp_specific_of, blocks, names_error_log, error_log_address, log_place};
+ghost use Rattle.trusted_cmds.specs.Profiles.{short_lba, short_sectors, names_page, page_named};
 
+use crate::command::DevicePage;
 use fis::{RegH2d, Tag};
 
 /// How many sectors a command moves at most.
@@ -84,4 +86,57 @@ pub(crate) fn names_error_log(h: &RegH2d) -> bool
         && lba / 256 % 256 == 0
         && lba / 0x1_0000_0000 % 256 == 0
         && h.count == 1
+}
+
+/// The first sector of a transfer of 28 bits: LBA 23:0, and LBA 27:24 in Device 3:0.
+pub(crate) fn short_lba(h: &RegH2d) -> u64
+    ensures { result ≡ short_lba h.now }
+{
+    h.lba.number() % 0x100_0000 + 0x100_0000 * u64::from(h.device % 16)
+}
+
+/// The sectors of a transfer of 28 bits: Count 7:0, and 256 for 0.
+pub(crate) fn short_sectors(h: &RegH2d) -> u32
+    ensures value { result ≡ short_sectors h.now }
+    ensures some { 0 < result }
+    ensures most { result ≤ 256 }
+{
+    match h.count % 256 {
+        0 => 256,
+        count => u32::from(count),
+    }
+}
+
+/// The address of a log in LBA 7:0, with the number of a page in LBA 15:8.
+pub(crate) fn log_place(page: &DevicePage) -> u64
+    ensures { result ≡ log_place page.now }
+{
+    match *page {
+        DevicePage::LogDirectory => 0,
+        DevicePage::PageList => 0x30,
+        DevicePage::Security => 0x630,
+    }
+}
+
+/// Whether a read of a log names this page, and one page.
+fn names_page(page: &DevicePage, h: &RegH2d) -> bool
+    ensures { result ≡ names_page page.now h.now }
+{
+    let lba = h.lba.number();
+    lba % 65_536 == log_place(page) && lba / 0x1_0000_0000 % 256 == 0 && h.count == 1
+}
+
+/// The page that a read of a log names.
+pub(crate) fn page_named(h: &RegH2d) -> Option<DevicePage>
+    ensures { result ≡ page_named h.now }
+{
+    if names_page(&DevicePage::LogDirectory, h) {
+        Some(DevicePage::LogDirectory)
+    } else if names_page(&DevicePage::PageList, h) {
+        Some(DevicePage::PageList)
+    } else if names_page(&DevicePage::Security, h) {
+        Some(DevicePage::Security)
+    } else {
+        None
+    }
 }

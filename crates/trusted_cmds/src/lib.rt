@@ -10,9 +10,9 @@ mod reset;
 mod spelling;
 
 pub use codes::is_queued;
-pub use command::{Command, CommandError};
+pub use command::{Command, CommandError, DevicePage};
 pub use fields::{sectors, tag_of};
 pub use payload::{SECTOR_SIZE, payload_len};
-pub use reading::of_fis;
-pub use reset::{RESET_COM_ID, RESET_PROTOCOL, is_programmatic_reset};
+pub use reading::{laws_of_profiles, of_fis};
+pub use reset::{RESET_COM_ID, RESET_PROTOCOL, is_programmatic_reset, is_protocol_list};
 pub use spelling::to_fis;

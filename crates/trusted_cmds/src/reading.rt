@@ -1,14 +1,18 @@
 //! The command that a FIS carries.
 
-ghost use Rattle.std.specs.Prelude.{◌≡◌, MatchResult, Option, Some, None, IfOk, Ok, ℕ};
+ghost use Rattle.std.specs.Prelude.{◌≡◌, Option, Some, None, IfOk, IfErr, IfSome, Ok, ℕ};
 ghost use Rattle.trusted_cmds.specs.declared.command.Command.{Command};
 ghost use Rattle.trusted_cmds.specs.Commands.{Carries, IsCounted, fault_of, command_of, command_without_sectors, tag_in, reading};
+ghost use Rattle.trusted_cmds.specs.Profiles.{CarriesIn, CarriesBeside, short_transfer, plain_or_page, beside, reading_in};
+ghost use Rattle.basics.specs.declared.profile.Profile.TheVariants.{Base};
 
 use crate::codes::*;
 use crate::command::{Command, CommandError};
 use crate::fields::{
-    blocks, has_lba_bit, names_error_log, protocol_of, sectors, sp_specific_of, tag_of,
+    blocks, has_lba_bit, names_error_log, page_named, protocol_of, sectors, short_lba,
+    short_sectors, sp_specific_of, tag_of,
 };
+use basics::Profile;
 use fis::{RegH2d, Tag};
 
 /// The first thing that is wrong with a FIS, if something is.
@@ -92,17 +96,94 @@ fn tag_in(h: &RegH2d) -> Option<Tag>
     }
 }
 
-/// The command that a FIS carries, with its tag where it is queued. The errors come in this order:
-/// `NotCommand`, `Unknown`, `Device`, `LogPage`.
-pub fn of_fis(h: &RegH2d) -> Result<(Command, Option<Tag>), CommandError>
+/// What each drive reads in a FIS.
+fn base_of(h: &RegH2d) -> Result<(Command, Option<Tag>), CommandError>
     ensures exact { result ≡ reading h.now }
     ensures found { IfOk result (λ r. Carries h.now r.0 r.1) }
     ensures only { (c : Command) (t : Option ℕ) → Carries h.now c t → result ≡ Ok (c, t) }
     ensures counted { IfOk result (λ r. IsCounted r.0) }
-    ensures fault { MatchResult result (λ _. fault_of h.now ≡ None) (λ e. fault_of h.now ≡ Some e) }
+    ensures fault { IfErr result (λ e. fault_of h.now ≡ Some e) }
 {
     match fault_of(h) {
         Some(error) => Err(error),
         None => Ok((command_of(h), tag_in(h))),
     }
 }
+
+/// The command of a transfer of 28 bits.
+fn short_transfer(h: &RegH2d) -> Command
+    ensures value { result ≡ short_transfer h.now }
+    ensures counted { IsCounted result }
+{
+    let lba = short_lba(h);
+    let count = short_sectors(h);
+    match h.command {
+        SHORT_READ_DMA => Command::ReadDma { lba, count },
+        _ => Command::WriteDma { lba, count },
+    }
+}
+
+/// A command without fields, or a page that is read.
+fn plain_or_page(h: &RegH2d) -> Option<Command>
+    ensures value { result ≡ plain_or_page h.now }
+    ensures counted { IfSome result (λ c. IsCounted c) }
+{
+    match h.command {
+        SHORT_FLUSH_CACHE => Some(Command::Flush),
+        SET_FEATURES => Some(Command::SetFeatures),
+        READ_LOG | READ_LOG_DMA => {
+            let dma = h.command == READ_LOG_DMA;
+            let page = page_named(h)?;
+            Some(Command::ReadLog { page, dma })
+        }
+        _ => None,
+    }
+}
+
+/// What `Field` reads in a FIS, beside what each drive reads.
+fn beside(h: &RegH2d) -> Option<Command>
+    ensures value { result ≡ beside h.now }
+    ensures found { IfSome result (λ c. CarriesBeside h.now c None) }
+    ensures only { (c : Command) (t : Option ℕ) → CarriesBeside h.now c t
+        → (t ≡ None) × (result ≡ Some c) }
+    ensures counted { IfSome result (λ c. IsCounted c) }
+{
+    if h.is_command && is_short_transfer(h.command) {
+        if has_lba_bit(h.device) {
+            Some(short_transfer(h))
+        } else {
+            None
+        }
+    } else if h.is_command {
+        plain_or_page(h)
+    } else {
+        None
+    }
+}
+
+/// The command that a FIS carries under a profile, with its tag where it is queued. What `Base` reads, `Field` reads the
+/// same; a few FISes that `Base` refuses are commands under `Field`. The errors come in this order: `NotCommand`,
+/// `Unknown`, `Device`, `LogPage`.
+#[tactic(auto, using(crate::proofs::Profiles::faulty))]
+pub fn of_fis(profile: Profile, h: &RegH2d) -> Result<(Command, Option<Tag>), CommandError>
+    ensures exact { result ≡ reading_in profile h.now }
+    ensures found { IfOk result (λ r. CarriesIn profile h.now r.0 r.1) }
+    ensures only { (c : Command) (t : Option ℕ) → CarriesIn profile h.now c t → result ≡ Ok (c, t) }
+    ensures counted { IfOk result (λ r. IsCounted r.0) }
+    ensures fault { IfErr result (λ e. fault_of h.now ≡ Some e) }
+{
+    let read = base_of(h);
+    match (read, profile) {
+        (Err(error), Profile::Field) => match beside(h) {
+            Some(command) => Ok((command, None)),
+            None => Err(error),
+        },
+        (read, _) => read,
+    }
+}
+
+/// What each drive reads, it reads under every profile, and `Base` reads nothing else.
+pub fn laws_of_profiles()
+    ensures base { (h : RegH2d) → reading_in Base h ≡ reading h }
+    ensures known { (p : Profile) (h : RegH2d) → fault_of h ≡ None → reading_in p h ≡ reading h }
+{}

@@ -1,7 +1,8 @@
-//! The reset that a command makes (TCG Storage, TPER_RESET).
+//! What trusted commands ask for that go to no ComID of a session: the reset (TCG Storage, TPER_RESET), and the list of
+//! security protocols (SPC-4).
 
 ghost use Rattle.std.specs.Prelude.{◌≡◌};
-ghost use Rattle.trusted_cmds.specs.Commands.{is_programmatic_reset};
+ghost use Rattle.trusted_cmds.specs.Commands.{is_programmatic_reset, is_protocol_list};
 
 use crate::command::Command;
 
@@ -23,6 +24,22 @@ pub fn is_programmatic_reset(command: &Command) -> bool
             blocks,
             ..
         } => protocol == RESET_PROTOCOL && sp_specific == RESET_COM_ID && blocks > 0,
+        _ => false,
+    }
+}
+
+/// Whether a command asks for the list of security protocols: a TRUSTED RECEIVE, by DMA or not, of one block at least, of
+/// security protocol 00h with 0000h as SP Specific.
+pub fn is_protocol_list(command: &Command) -> bool
+    ensures { result ≡ is_protocol_list command.now }
+{
+    match *command {
+        Command::Receive {
+            protocol,
+            sp_specific,
+            blocks,
+            ..
+        } => protocol == 0 && sp_specific == 0 && blocks > 0,
         _ => false,
     }
 }

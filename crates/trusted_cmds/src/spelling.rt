@@ -1,11 +1,13 @@
 //! The FIS of a command.
 
-ghost use Rattle.std.specs.Prelude.{◌≡◌, ◌<◌, ◌≤◌, ◌+◌, ◌*◌, ◌/◌, ◌%◌, ◌^◌, IfSome, Ok};
-ghost use Rattle.trusted_cmds.specs.Commands.{most_sectors, IsCounted, reading, by_dma, lba_of, fis_with, queued_fis, unqueued_fis, trusted_fis, fis_of, tag_with};
+ghost use Rattle.std.specs.Prelude.{◌≡◌, ◌<◌, ◌≤◌, ◌+◌, ◌*◌, ◌/◌, ◌%◌, ◌^◌, IfSome, Ok, true};
+ghost use Rattle.trusted_cmds.specs.Commands.{most_sectors, IsCounted, by_dma, lba_of, fis_with, queued_fis, unqueued_fis, trusted_fis, log_read_fis, fis_of, tag_with};
+ghost use Rattle.trusted_cmds.specs.Profiles.{is_offered, reading_in};
+ghost use Rattle.basics.specs.declared.profile.Profile.{Profile};
 
 use crate::codes::*;
 use crate::command::Command;
-use crate::fields::{ERROR_LOG_ADDRESS, LBA_DEVICE, sectors_field};
+use crate::fields::{ERROR_LOG_ADDRESS, LBA_DEVICE, log_place, sectors_field};
 use fis::{Lba, PortNumber, RegH2d, Tag};
 
 /// A FIS with these fields, and zeros in those that no command has.
@@ -60,13 +62,22 @@ fn by_dma(dma: bool, pio_code: u8, dma_code: u8) -> u8
     if dma { dma_code } else { pio_code }
 }
 
+/// A read of one page of a log.
+fn log_read(place: u64, dma: bool) -> RegH2d
+    requires { place < 2 ^ 48 }
+    ensures { result ≡ log_read_fis place dma }
+{
+    fis_with(by_dma(dma, READ_LOG, READ_LOG_DMA), 0, place, 0, 1)
+}
+
 /// The FIS that carries the command, under the tag where it is queued, with zeros in the fields that it does not name.
-/// `of_fis` gives the command back, and the tag of one that is queued.
+/// `of_fis` gives the command back under each profile that has it, and the tag of one that is queued.
 pub fn to_fis(command: &Command, tag: Tag) -> RegH2d
     requires address { IfSome (lba_of command.now) (λ lba. lba < 2 ^ 48) }
     requires counted { IsCounted command.now }
     ensures exact { result ≡ fis_of command.now tag }
-    ensures back { reading result ≡ Ok (command.now, tag_with command.now tag) }
+    ensures back { (p : Profile) → is_offered p command.now ≡ true
+        → reading_in p result ≡ Ok (command.now, tag_with command.now tag) }
 {
     match *command {
         Command::ReadQueued { lba, count } => queued(READ_QUEUED, lba, count, tag),
@@ -96,15 +107,9 @@ pub fn to_fis(command: &Command, tag: Tag) -> RegH2d
             blocks,
         ),
         Command::Identify => fis_with(IDENTIFY_DEVICE, 0, 0, 0, 0),
-        Command::ReadLog10 { dma } => {
-            fis_with(
-                by_dma(dma, READ_LOG, READ_LOG_DMA),
-                0,
-                ERROR_LOG_ADDRESS,
-                0,
-                1,
-            )
-        }
+        Command::ReadLog10 { dma } => log_read(ERROR_LOG_ADDRESS, dma),
         Command::Flush => fis_with(FLUSH_CACHE, 0, 0, 0, 0),
+        Command::SetFeatures => fis_with(SET_FEATURES, 0, 0, 0, 0),
+        Command::ReadLog { page, dma } => log_read(log_place(&page), dma),
     }
 }

@@ -8,7 +8,7 @@ ghost use Rattle.history.specs.Facts.{facts};
 ghost use Rattle.history.specs.History.{Act, Accept, event, log};
 ghost use Rattle.history.specs.Opening.{Origin};
 
-use drive::{Accepted, Drive, payload_of};
+use drive::{Accepted, Drive};
 use fis::H2D_LENGTH;
 use std::alloc::AllocError;
 
@@ -27,7 +27,7 @@ pub fn hand_over(
         (event o (log o acts) (Accept fis.now payload.now)) accepted)) }
     ensures nothing { result ≡ Ok None → drive.new ≡ drive.old }
 {
-    if payload.len() != payload_of(fis) {
+    if payload.len() != drive.payload_len(fis) {
         return Ok(None);
     }
     let accepted = drive.accept(fis, payload)?;

@@ -1,4 +1,4 @@
-use Rattle.std.proofs.Common.{◌≡◌, ◌∙◌, ◌||◌, ap, sym, arith}
+use Rattle.std.proofs.Common.{◌∙◌, ◌||◌, ap, sym, arith}
 use Rattle.device_data.specs.Discovery.{has_lock, any_range_below}
 use Rattle.device_data.proofs.Below.{any_range_below-next}
 use Rattle.device_data.proofs.level0.is_locked.Goals as goal

@@ -1,12 +1,11 @@
 -- By the operations.
-use Rattle.std.proofs.Common.{refl, length}
+use Rattle.std.proofs.Common.{refl}
 use Rattle.fis.specs.H2d.{h2d_at}
 use Rattle.history.specs.Answers.{is_holding}
 use Rattle.history.specs.Facts.{facts}
-use Rattle.history.specs.History.{Accept, Complete, log, event_by}
-use Rattle.trusted_cmds.specs.Commands.{reading}
+use Rattle.history.specs.History.{Accept, log, event_by}
+use Rattle.history.specs.Tcg.{command_read}
 use Rattle.hba.specs.History.{Wrote, Powered, Signed, Missed, Controlled, Fetched, Completed, account, acts_of, regs_of, effect_after}
-use Rattle.hba.specs.Memory.{have_room}
 use Rattle.hba.specs.Laws.{ActiveLaw}
 use Rattle.hba.proofs.Active.{fetched_same, completed_told}
 use Rattle.hba.proofs.laws.laws_of_queues.Goals as goal
@@ -15,16 +14,16 @@ active_law : ActiveLaw
 active_law o before (Wrote offset value) = tt
 active_law o before Powered = tt
 active_law o before Signed = refl
-active_law o before Missed = refl
+active_law o before (Missed miss) = refl
 active_law o before (Controlled tag) = refl
-active_law o before (Fetched tag fis payload places) =
+active_law o before (Fetched tag fis payload missed) =
     let f = facts o (log o (acts_of o before)) in
     let event = event_by f (Accept fis payload) in
-    fetched_same (have_room places (length (effect_after o (account o before) (Accept fis payload)).bytes)) tag (regs_of o before)
-    event.failed (is_holding event.deed) (reading (h2d_at fis)) (effect_after o (account o before) (Accept fis payload)).fises refl
-active_law o before (Completed tag payload places) =
+    fetched_same missed tag (regs_of o before)
+    event.failed (is_holding event.deed) (command_read f.config (h2d_at fis)) (effect_after o (account o before) (Accept fis payload)).fises refl
+active_law o before (Completed tag payload missed) =
     let f = facts o (log o (acts_of o before)) in
-    completed_told (have_room places (length (effect_after o (account o before) (Complete tag payload)).bytes)) tag (regs_of o before) (f.held tag)
+    completed_told missed tag (regs_of o before) (f.held tag)
 
 pub returns : goal.returns
 returns c = active_law

@@ -18,4 +18,7 @@ returns c =
     let with_run = c.in_ok-subcommand.ensures.shape run_plain.globals ∙ ap₂ with_subcommand top (ap (λ (a : App). a.top) run_line) in
     let with_level0 = c.in_ok-subcommand-2.ensures.shape level0_plain.globals ∙ ap₂ with_subcommand with_run (ap (λ (a : App). a.top) level0_line) in
     let with_threads = c.in_ok-subcommand-3.ensures.shape threads_plain.globals ∙ ap₂ with_subcommand with_level0 (ap (λ (a : App). a.top) threads_line) in
-    IfOk-weaker c.subcommand-4.result _ _ (λ command adds. adds.shape tokens_plain.globals ∙ ap₂ with_subcommand with_threads (ap (λ (a : App). a.top) tokens_line)) c.subcommand-4.ensures
+    let hba_line = c.in_ok-hba_command.ensures in
+    let hba_plain = plain_fields c.in_ok-hba_command.field-0 (ap (λ (a : App). a.top.is_plain) hba_line) in
+    let with_tokens = c.in_ok-subcommand-4.ensures.shape tokens_plain.globals ∙ ap₂ with_subcommand with_threads (ap (λ (a : App). a.top) tokens_line) in
+    IfOk-weaker c.subcommand-5.result _ _ (λ command adds. adds.shape hba_plain.globals ∙ ap₂ with_subcommand with_tokens (ap (λ (a : App). a.top) hba_line)) c.subcommand-5.ensures

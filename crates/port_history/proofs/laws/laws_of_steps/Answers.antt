@@ -1,3 +1,4 @@
+use Rattle.port_history.proofs.Acted.{tcg_for_ports}
 use Rattle.port_history.proofs.AnswerProofs.{answer_law}
 use Rattle.port_history.proofs.FedProofs.{fed_law}
 use Rattle.port_history.proofs.FullProofs.{full_law}
@@ -8,6 +9,7 @@ use Rattle.port_history.proofs.laws.laws_of_steps.Goals as goal
 
 pub returns : goal.returns
 returns c = record {
+  ports = tcg_for_ports;
   unmixed = never_mixes;
   failure = failure_law;
   registers = register_law;

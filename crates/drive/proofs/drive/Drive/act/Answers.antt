@@ -1,9 +1,10 @@
+use Rattle.drive.proofs.Brought.{moved-size}
 use Rattle.std.proofs.Common.{◌≡◌, ◌<◌, ◌∙◌, ap, sym, subst, refl, ℕ}
 use Rattle.history.specs.Facts.{facts}
 use Rattle.history.specs.History.{log}
 use Rattle.drive.specs.declared.decision.Decision.{Decision}
 use Rattle.drive.specs.Decision.{IsDue}
-use Rattle.drive.proofs.Acting.{aborts-done, fails-done, holds-done, moves-done, executes-done, restarts-done}
+use Rattle.drive.proofs.Acting.{aborts-done, fails-done, holds-done, moves-done, executes-done, restarts-done, read-as}
 use Rattle.drive.proofs.drive.Drive.act.Goals as goal
 
 pub returns-in-Aborts-clause-done : goal.returns-in-Aborts-clause-done
@@ -22,7 +23,7 @@ pub returns-in-Holds-clause-done : goal.returns-in-Holds-clause-done
 returns-in-Holds-clause-done c = λ o acts k.
     let e = c.held.ensures in
     let due = subst (λ (x : Decision). IsDue c.args.self.now c.args.h.now x) c.in-Holds.is c.requires.due in
-    holds-done (facts o (log o acts)) c.args.h.now c.args.self.now c.hold.new.self o (log o acts) c.args.payload.now c.in-Holds.tag c.in-Holds.held c.args.decision c.held.result due.slot c.in-Holds.is c.hold.ensures due.reads
+    holds-done (facts o (log o acts)) c.args.h.now c.args.self.now c.hold.new.self o (log o acts) c.args.payload.now c.in-Holds.tag c.in-Holds.held c.args.decision c.held.result due.slot c.in-Holds.is c.hold.ensures (read-as c.args.self.now o (log o acts) c.args.h.now _ k due.reads)
     (record { status_is = e.status; error_is = e.error; held_is = e.held; fises_are = e.fises; bytes_are = e.bytes; denied_is = e.denied }) k
 
 pub returns-in_ok-bytes-in-Moves-clause-done : goal.returns-in_ok-bytes-in-Moves-clause-done
@@ -38,12 +39,17 @@ returns-in_ok-bytes-in-Executes-clause-done c = λ o acts k.
     let e = c.served-in-Executes.ensures in
     let x = c.in_ok-bytes-in-Executes.ensures in
     let due = subst (λ (x : Decision). IsDue c.args.self.now c.args.h.now x) c.in-Executes.is c.requires.due in
-    executes-done (facts o (log o acts)) c.args.h.now c.execute.new.self o (log o acts) c.args.payload.now c.in-Executes.command c.args.decision c.served-in-Executes.result c.in-Executes.is due
+    executes-done (facts o (log o acts)) c.args.h.now c.execute.new.self o (log o acts) c.args.payload.now c.in-Executes.command c.args.decision c.served-in-Executes.result c.in-Executes.is (read-as c.args.self.now o (log o acts) c.args.h.now _ k due.0, due.1)
     (record { status_is = e.status; error_is = e.error; held_is = e.held; fises_are = e.fises ∙ c.served_fises.ensures; bytes_are = e.bytes ∙ x.data o acts k; denied_is = e.denied ∙ x.denied o acts k }) (x.kept o acts k)
 
 pub returns-in-Restarts-clause-done : goal.returns-in-Restarts-clause-done
 returns-in-Restarts-clause-done c = λ o acts k.
     let e = c.served-in-Restarts.ensures in
     let due = subst (λ (x : Decision). IsDue c.args.self.now c.args.h.now x) c.in-Restarts.is c.requires.due in
-    restarts-done (facts o (log o acts)) c.args.h.now c.restart.new.self o (log o acts) c.args.payload.now c.in-Restarts.command c.args.decision c.served-in-Restarts.result c.in-Restarts.is due
+    restarts-done (facts o (log o acts)) c.args.h.now c.restart.new.self o (log o acts) c.args.payload.now c.in-Restarts.command c.args.decision c.served-in-Restarts.result c.in-Restarts.is (read-as c.args.self.now o (log o acts) c.args.h.now _ k due.0, due.1)
     (record { status_is = e.status; error_is = e.error; held_is = e.held; fises_are = e.fises ∙ c.served_fises-in-Restarts.ensures; bytes_are = e.bytes ∙ c.new.ensures.items; denied_is = e.denied }) (c.restart.ensures o (log o acts) k)
+
+pub carry_out-requires-clause-length : goal.carry_out-requires-clause-length
+carry_out-requires-clause-length c =
+    let due = subst (λ (x : Decision). IsDue c.args.self.now c.args.h.now x) c.in-Moves.is c.requires.due in
+    c.requires.payload ∙ moved-size c.args.self.now.tper.store.config.profile c.args.h.now c.in-Moves.held.transfer due.reads

@@ -8,17 +8,21 @@ use Rattle.history.specs.History.{log}
 use Rattle.drive.specs.Decision.{executed}
 use Rattle.drive.specs.State.{KeepsDrive}
 use Rattle.drive.proofs.Keeping.{seen-is, nothing-keeps, mended-keeps}
+use Rattle.trusted_cmds.specs.Commands.{is_protocol_list}
+use Rattle.drive.proofs.Acting.{protocols-keeps, received-data}
 use Rattle.drive.proofs.drive.Drive.execute.Goals as goal
 
 pub returns-in_ok-bytes-in-Receive-clause-kept : goal.returns-in_ok-bytes-in-Receive-clause-kept
 returns-in_ok-bytes-in-Receive-clause-kept c = λ o acts k.
     subst (λ (x : Command). KeepsDrive c.received.new.self o (executed (facts o (log o acts)) c.args.payload.now x ∷ log o acts)) (sym c.in-Receive.is)
-    (c.in_ok-bytes-in-Receive.ensures.kept o (log o acts) c.in-Receive.blocks (ap (λ (n : ℕ). sector_size * n) c.from.ensures) k)
+    (c.in_ok-bytes-in-Receive.ensures.kept o (log o acts) c.in-Receive.blocks (ap (λ (n : ℕ). sector_size * n) c.from-room.ensures) k)
 
 pub returns-in_ok-bytes-in-Receive-clause-data : goal.returns-in_ok-bytes-in-Receive-clause-data
 returns-in_ok-bytes-in-Receive-clause-data c = λ o acts k.
     subst (λ (x : Command). c.in_ok-bytes-in-Receive.bytes.items ≡ data_of (facts o (log o acts)) x) (sym c.in-Receive.is)
-    (c.in_ok-bytes-in-Receive.ensures.data o acts k ∙ ap (λ (n : ℕ). receive_data (facts o (log o acts)) c.in-Receive.sp_specific (sector_size * n)) c.from.ensures)
+    (c.in_ok-bytes-in-Receive.ensures.data o acts k ∙ ap (λ (n : ℕ). receive_data (facts o (log o acts)) c.in-Receive.sp_specific (sector_size * n)) c.from-room.ensures
+    ∙ received-data (facts o (log o acts)) c.in-Receive.protocol c.in-Receive.sp_specific c.in-Receive.blocks c.in-Receive.dma
+    (ap is_protocol_list (sym c.in-Receive.is) ∙ sym c.is_protocol_list.ensures ∙ c.if-is_protocol_list.false))
 
 pub returns-in_ok-identify-in-Identify-clause-kept : goal.returns-in_ok-identify-in-Identify-clause-kept
 returns-in_ok-identify-in-Identify-clause-kept c = λ o acts k.
@@ -39,3 +43,18 @@ pub returns-in-Flush-clause-kept : goal.returns-in-Flush-clause-kept
 returns-in-Flush-clause-kept c = λ o acts k.
     subst (λ (x : Command). KeepsDrive c.args.self.now o (executed (facts o (log o acts)) c.args.payload.now x ∷ log o acts)) (sym c.in-Flush.is)
     (nothing-keeps c.args.self.now o (log o acts) _ refl k)
+
+pub returns-in-SetFeatures-clause-kept : goal.returns-in-SetFeatures-clause-kept
+returns-in-SetFeatures-clause-kept c = λ o acts k.
+    subst (λ (x : Command). KeepsDrive c.args.self.now o (executed (facts o (log o acts)) c.args.payload.now x ∷ log o acts)) (sym c.in-SetFeatures.is)
+    (nothing-keeps c.args.self.now o (log o acts) _ refl k)
+
+pub returns-in_ok-device_page-in-ReadLog-clause-kept : goal.returns-in_ok-device_page-in-ReadLog-clause-kept
+returns-in_ok-device_page-in-ReadLog-clause-kept c = λ o acts k.
+    subst (λ (x : Command). KeepsDrive c.args.self.now o (executed (facts o (log o acts)) c.args.payload.now x ∷ log o acts)) (sym c.in-ReadLog.is)
+    (nothing-keeps c.args.self.now o (log o acts) _ refl k)
+
+pub returns-then-is_protocol_list-clause-kept : goal.returns-then-is_protocol_list-clause-kept
+returns-then-is_protocol_list-clause-kept c = λ o acts k.
+    protocols-keeps c.args.self.now o (log o acts) c.args.payload.now c.args.command.now
+    (sym c.is_protocol_list.ensures ∙ c.if-is_protocol_list.true) k

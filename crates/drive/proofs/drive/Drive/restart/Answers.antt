@@ -9,7 +9,7 @@ use Rattle.drive.proofs.drive.Drive.restart.Goals as goal
 pub invariant_of-self : goal.invariant_of-self
 invariant_of-self c =
     let i = c.self.invariant in
-    (i.0, ap (λ (config : Config). config.sectors) c.reset.ensures.config ∙ i.1, search rules, i.3, c.new-self-inside.ensures.fits c.self.inside.sectors c.reset.new.self.store.config.mbr_sectors)
+    (i.0, ap (λ (config : Config). config.sectors) c.reset.ensures.config ∙ i.1, search rules, i.3, c.new-self-inside.ensures.fits c.self.inside.sectors c.reset.new.self.store.config.mbr_sectors, ap (λ (config : Config). config.profile) c.reset.ensures.config ∙ i.5)
 
 pub returns : goal.returns
 returns c = λ o past k.

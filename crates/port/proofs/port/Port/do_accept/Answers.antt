@@ -22,9 +22,9 @@ returns-clause-state c = rw (← c.self.view_is) (λ f e.
     let answer = c.in-Ok-accept.answer in
     let filled = c.take_in-len.ensures.filled in
     let same : c.in-Ok.command ≡ f = ok_same c.in-Ok.command f (c.in-Ok.ensures.exact ∙ e) in
-    let payload : c.front-payload.result.now ≡ buffer_front memory tag (payload_of c.in-Ok.command.fis) =
+    let payload : c.front-payload.result.now ≡ buffer_front memory tag (payload_of c.self.inside.drive.tper.store.config c.in-Ok.command.fis) =
     c.front-payload.ensures.value
-    ∙ ap (buffer_front memory tag) c.payload_of-len.ensures in
+    ∙ ap (buffer_front memory tag) c.payload_len-len.ensures.stands in
     record {
       put = c.in_ok-put.put;
       was = rw (← c.self.view_is) at c.in_ok-put.ensures.put;
@@ -32,10 +32,10 @@ returns-clause-state c = rw (← c.self.view_is) (λ f e.
       bytes = filled.0;
       took = record {
         drive = λ o acts h.
-            subst (λ (g : Fetched). DriveAgrees c.accept.new.self o (AcceptFis g.fis (buffer_front memory tag (payload_of g.fis)) ∷ acts)) same
+            subst (λ (g : Fetched). DriveAgrees c.accept.new.self o (AcceptFis g.fis (buffer_front memory tag (payload_of c.self.inside.drive.tper.store.config g.fis)) ∷ acts)) same
             (subst (λ (xs : List ℕ). DriveAgrees c.accept.new.self o (AcceptFis c.in-Ok.command.fis xs ∷ acts)) payload (c.in-Ok-accept.ensures.agrees o acts h));
         answers = λ o acts h.
-            subst (λ (g : Fetched). IsAnswer (facts o (log o acts)) (h2d_at g.fis) (event o (log o acts) (AcceptFis g.fis (buffer_front memory tag (payload_of g.fis)))) answer) same
+            subst (λ (g : Fetched). IsAnswer (facts o (log o acts)) (h2d_at g.fis) (event o (log o acts) (AcceptFis g.fis (buffer_front memory tag (payload_of c.self.inside.drive.tper.store.config g.fis)))) answer) same
             (subst (λ (xs : List ℕ). IsAnswer (facts o (log o acts)) (h2d_at c.in-Ok.command.fis) (event o (log o acts) (AcceptFis c.in-Ok.command.fis xs)) answer) payload (c.in-Ok-accept.ensures.answer o acts h));
       };
       memory =

@@ -1,6 +1,6 @@
+use Rattle.port_history.proofs.Acted.{tcg_for_ports}
 use Rattle.history.specs.Tcg.{tcg}
 use Rattle.history.proofs.Elsewhere.{tcg_views}
-use Rattle.history.proofs.QuietProofs.{tcg_quiet}
 use Rattle.headline.proofs.AuditLaws.{audit_law}
 use Rattle.headline.proofs.MethodLaws.{method_law}
 use Rattle.headline.proofs.NoTraceLaws.{open_law_of_steps, abort_law_of_steps}
@@ -8,7 +8,7 @@ use Rattle.headline.proofs.TransferLaws.{transfer_law}
 use Rattle.port.proofs.port.Port.headline.Goals as goal
 
 pub returns-clause-transfers : goal.returns-clause-transfers
-returns-clause-transfers c = λ o list h. transfer_law tcg tcg_quiet o list h.lawful
+returns-clause-transfers c = λ o list h. transfer_law tcg tcg_for_ports o list h.lawful
 
 pub returns-clause-methods : goal.returns-clause-methods
 returns-clause-methods c = λ o list h. method_law o list h.lawful

@@ -1,13 +1,52 @@
 use Rattle.std.proofs.Common.{rules, refl}
+use Rattle.sp_cells.specs.Config.{new_serial, new_model}
+use Rattle.tool.specs.OptionTexts.{text_or}
 use Rattle.tool.proofs.options.Options.parse.Goals as goal
 
--- src/options.rt:48:5
-pub returns-in-None-clause-fault : goal.returns-in-None-clause-fault
-returns-in-None-clause-fault c = (
-  record { sectors = c.in_ok-sectors.sectors; mbr_sectors = c.in_ok-shadow.shadow; msid = c.in-Ok.msid.items },
-  record { sectors_written = search rules; shadow_written = search rules; msid_written = search rules },
+pub returns-in_default-clause-fault : goal.returns-in_default-clause-fault
+returns-in_default-clause-fault c = (
+  record {
+    sectors = c.in_ok-sectors.sectors;
+    mbr_sectors = c.in_ok-shadow.shadow;
+    msid = c.in-Ok.msid.items;
+    profile = c.in_ok-profile.profile;
+    serial = text_or c.args.texts.now.serial.now new_serial;
+    model = text_or c.args.texts.now.model.now new_model;
+  },
+  record {
+    sectors_written = search rules;
+    shadow_written = search rules;
+    msid_written = search rules;
+    profile_written = search rules;
+    serial_written = refl;
+    model_written = refl;
+    names_wanted = search rules;
+  },
   search rules,
   refl,
   refl,
+  search rules,
+)
+
+pub returns-clause-fault : goal.returns-clause-fault
+returns-clause-fault c = (
+  record {
+    sectors = c.in_ok-sectors.sectors;
+    mbr_sectors = c.in_ok-shadow.shadow;
+    msid = c.in-Ok.msid.items;
+    profile = c.in_ok-profile.profile;
+    serial = text_or c.args.texts.now.serial.now new_serial;
+    model = text_or c.args.texts.now.model.now new_model;
+  },
+  record {
+    sectors_written = search rules;
+    shadow_written = search rules;
+    msid_written = search rules;
+    profile_written = search rules;
+    serial_written = refl;
+    model_written = refl;
+    names_wanted = search rules;
+  },
+  search rules,
   search rules,
 )

@@ -7,6 +7,15 @@ returns-in-Send c = rw c.in-Send.is c.send.ensures
 pub returns-in-Receive : goal.returns-in-Receive
 returns-in-Receive c = rw c.in-Receive.is c.receive.ensures
 
+pub returns-in-SecurityIn : goal.returns-in-SecurityIn
+returns-in-SecurityIn c = rw c.in-SecurityIn.is c.receive-in-SecurityIn.ensures
+
+pub returns-in-SecurityOut : goal.returns-in-SecurityOut
+returns-in-SecurityOut c = rw c.in-SecurityOut.is c.send-in-SecurityOut.ensures
+
+pub returns-in-Identify : goal.returns-in-Identify
+returns-in-Identify c = rw c.in-Identify.is c.identify.ensures
+
 pub returns-in-Reset : goal.returns-in-Reset
 returns-in-Reset c =
     rw c.in-Reset.is

@@ -1,5 +1,6 @@
 use Rattle.std.proofs.Common.{ap, ◌∙◌, ◌++◌}
 use Rattle.compacket.specs.Spelling.{frame_bytes}
+use Rattle.tool.specs.Acts.{com_id_protocol}
 use Rattle.tool.specs.Effects.{Makes, sends}
 use Rattle.tool.proofs.Runs.{of-same}
 use Rattle.tool.proofs.running.RunningPhase.call.Goals as goal
@@ -9,7 +10,7 @@ returns c =
     let tokens = c.args.tokens.now in
     of-same c.send_bytes.result
     (λ payload. Makes
-    (λ o acts. sends o acts c.args.client c.args.com_id payload) c.args.self.now
+    (λ o acts. sends o acts c.args.client com_id_protocol c.args.com_id payload) c.args.self.now
     c.send_bytes.new.self c.args.report.now c.send_bytes.new.report)
     c.put_frame.new.buffer.items (frame_bytes c.args.com_id c.args.session tokens)
     (c.in_ok-put_frame.ensures ∙ ap (frame_bytes c.args.com_id c.args.session)

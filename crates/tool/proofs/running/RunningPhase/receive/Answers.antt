@@ -1,5 +1,5 @@
 use Rattle.std.proofs.Common.{[]}
-use Rattle.tool.specs.Acts.{receive_of}
+use Rattle.tool.specs.Acts.{received_by}
 use Rattle.tool.specs.Effects.{Makes, command_effect}
 use Rattle.tool.specs.declared.running.Turn.TheVariants.{Goes}
 use Rattle.tool.proofs.Runs.{as-given}
@@ -10,6 +10,6 @@ returns c = as-given
     (λ command payload. Makes
     (λ o acts. command_effect o acts c.args.client command payload) c.args.self.now
     c.command.new.self c.args.report.now c.command.new.report (Goes c.in_ok-aborted.aborted))
-    c.receive_of.result
-    (receive_of c.args.com_id c.args.blocks) c.clear.new.self.items [] c.receive_of.ensures
+    c.received_by.result
+    (received_by c.args.protocol c.args.sp_specific c.args.blocks) c.clear.new.self.items [] c.received_by.ensures
     c.clear.ensures.items c.in_ok-aborted.ensures

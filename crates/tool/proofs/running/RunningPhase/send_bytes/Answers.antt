@@ -1,5 +1,5 @@
 use Rattle.std.proofs.Common.{ap, ◌∙◌, length}
-use Rattle.tool.specs.Acts.{send_of, block_count, in_blocks}
+use Rattle.tool.specs.Acts.{sent_by, block_count, in_blocks}
 use Rattle.tool.specs.Effects.{Makes, command_effect}
 use Rattle.tool.specs.declared.running.Turn.TheVariants.{Goes}
 use Rattle.tool.proofs.Runs.{as-given}
@@ -12,6 +12,6 @@ returns c =
     (λ command payload. Makes
     (λ o acts. command_effect o acts c.args.client command payload) c.args.self.now
     c.command.new.self c.args.report.now c.command.new.report (Goes c.in_ok-aborted.aborted))
-    c.send_of.result (send_of c.args.com_id (block_count (length bytes))) _ (in_blocks bytes)
-    (c.send_of.ensures ∙ ap (send_of c.args.com_id) c.in_ok-blocks.ensures.blocks)
+    c.sent_by.result (sent_by c.args.protocol c.args.sp_specific (block_count (length bytes))) _ (in_blocks bytes)
+    (c.sent_by.ensures ∙ ap (sent_by c.args.protocol c.args.sp_specific) c.in_ok-blocks.ensures.blocks)
     c.in_ok-blocks.ensures.bytes c.in_ok-aborted.ensures

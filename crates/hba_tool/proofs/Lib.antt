@@ -1,0 +1,3 @@
+mod Rows
+mod Steps
+mod Writers

@@ -1,0 +1,10 @@
+//! A controller over standard streams: it does what a host asks for, line by line.
+#![tactic(auto)]
+
+mod opening;
+mod serving;
+mod session;
+
+pub use hba_wire::WireError;
+pub use opening::{RangeFault, drive_with_ranges};
+pub use serving::serve;

@@ -1,0 +1,12 @@
+//! The host's memory, as a controller reaches it.
+#![tactic(auto)]
+
+mod host;
+mod laws;
+mod reach;
+mod window;
+
+pub use host::HostMemory;
+pub use laws::laws_of_windows;
+pub use reach::{read_array, read_at, read_vec, write_at};
+pub use window::Window;

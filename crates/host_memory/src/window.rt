@@ -1,0 +1,87 @@
+//! A host's memory of bytes that stand at a base address.
+
+ghost use Rattle.std.specs.Prelude.{◌≡◌, ◌≤◌, ◌+◌, ◌-◌, ◌^◌, ◌<◌, length, true};
+ghost use Rattle.host_memory.specs.Access.{read_answer};
+ghost use Rattle.host_memory.specs.Window.{is_held, bytes_held_at, bytes_laid};
+
+use crate::host::HostMemory;
+
+/// Bytes of the host's memory, from a base address on. Those that stand past 4 GiB are never reached.
+#[derive(Drop)]
+pub struct Window<'a> {
+    pub base: u32,
+    pub bytes: &'a mut [u8],
+}
+
+/// Whether so many bytes at an address stand among these.
+fn is_held(base: u32, bytes: &[u8], at: u64, len: usize) -> bool
+    requires { at + len ≤ 0x100000000 }
+    ensures { result ≡ is_held base bytes.now at len }
+{
+    let base = u64::from(base);
+    base <= at && at + len as u64 <= base + bytes.len() as u64
+}
+
+/// Fills with the bytes at an address, where they stand among these.
+fn fill(base: u32, bytes: &[u8], at: u64, into: &mut [u8]) -> bool
+    requires { at + length into.old ≤ 0x100000000 }
+    ensures { read_answer result into.new ≡ bytes_held_at base bytes.now at (length into.old) }
+{
+    if !is_held(base, bytes, at, into.len()) {
+        return false;
+    }
+    let place = (at - u64::from(base)) as usize;
+    into.copy_from_slice(&bytes[place..place + into.len()]);
+    true
+}
+
+/// Writes bytes at an address, where they stand among these.
+fn put(base: u32, bytes: &mut [u8], at: u64, others: &[u8]) -> bool
+    requires { at + length others.now ≤ 0x100000000 }
+    ensures done { result ≡ is_held base bytes.old at (length others.now) }
+    ensures bytes { bytes.new ≡ bytes_laid base bytes.old at others.now }
+{
+    if !is_held(base, bytes, at, others.len()) {
+        return false;
+    }
+    let place = (at - u64::from(base)) as usize;
+    bytes[place..place + others.len()].copy_from_slice(others);
+    true
+}
+
+impl<'a> Window<'a> {
+    ghost use Rattle.std.specs.Prelude.{◌≡◌, ◌≤◌, ◌+◌, length};
+    ghost use Rattle.host_memory.specs.Access.{read_answer};
+    ghost use Rattle.host_memory.specs.Window.{bytes_held_at};
+
+    /// Bytes that stand at a base address.
+    pub fn new(base: u32, bytes: &'a mut [u8]) -> Window<'a>
+        ensures same_reference { result.bytes.ghost_name ≡ bytes.entry.ghost_name }
+        ensures base { result.base ≡ base }
+        ensures bytes { result.bytes.now ≡ bytes.old }
+    {
+        Window { base, bytes }
+    }
+
+    fn fill(&self, at: u64, into: &mut [u8]) -> bool
+        requires { at + length into.old ≤ 0x100000000 }
+        ensures { read_answer result into.new
+            ≡ bytes_held_at self.now.base self.now.bytes.now at (length into.old) }
+    {
+        fill(self.base, self.bytes, at, into)
+    }
+}
+
+impl HostMemory for Window<'_> {
+    ghost use Rattle.host_memory.specs.WindowLaws.{WindowDoes};
+
+    ghost does = { WindowDoes };
+
+    fn read(&mut self, at: u64, into: &mut [u8]) -> bool {
+        self.fill(at, into)
+    }
+
+    fn write(&mut self, at: u64, bytes: &[u8]) -> bool {
+        put(self.base, self.bytes, at, bytes)
+    }
+}
