@@ -1,11 +1,13 @@
 -- The fixed access list, for each method of each object its access control list (ACL): which ACEs may allow a method of an object (Core 2.01, section 5.3, table AccessControl; Opal SSC 2.01, sections 4.2 and 4.3).
 use Rattle.std.specs.Prelude.{◌≡◌, ◌==◌, ◌&&◌, List, [], ◌∷◌, ◌++◌, map, drop, Option, None, Some, if◌then◌else◌, option_map}
 use Rattle.arrayvec.specs.ArrayVec.{ArrayVec}
+use Rattle.basics.specs.declared.profile.Profile.{Profile}
+use Rattle.basics.specs.declared.profile.Profile.TheVariants.{Base, Field}
 use Rattle.sp_cells.specs.declared.names.Uid.{Uid}
 use Rattle.sp_cells.specs.declared.names.Sp.{Sp}
 use Rattle.sp_cells.specs.declared.names.Sp.TheVariants.{Admin, Locking}
-use Rattle.sp_cells.specs.Names.{get, set, authenticate, revert, activate, this_sp, admin_sp, locking_sp, anybody, sid, admin_uid, user_uid, c_pin_sid, c_pin_msid, admin_pin_uid, user_pin_uid, global_range, range_uid, mbr_control, mbr_table, tper_info}
-use Rattle.sp_cells.specs.Names.{ace_anybody, ace_admins, ace_anybody_get_common_name, ace_c_pin_sid_get_nopin, ace_c_pin_sid_set_pin, ace_c_pin_msid_get_pin, ace_sp_sid, ace_tper_info_set_programmatic_reset_enable, ace_ace_set_boolean_expression, ace_authority_set_enabled, ace_c_pin_admins_get_all_nopin, ace_c_pin_admins_set_pin, ace_c_pin_user_set_pin, ace_locking_get_all, ace_range_set_read_locked, ace_range_set_write_locked, ace_locking_global_range_admins_set, ace_locking_admins_set, ace_mbr_control_admins_set, ace_mbr_control_set_done_to_dor}
+use Rattle.sp_cells.specs.Names.{get, set, authenticate, revert, activate, this_sp, admin_sp, locking_sp, anybody, sid, admin_uid, user_uid, c_pin_sid, c_pin_msid, admin_pin_uid, user_pin_uid, global_range, range_uid, mbr_control, mbr_table, tper_info, psid, c_pin_psid, locking_info, mbr_table_row}
+use Rattle.sp_cells.specs.Names.{ace_anybody, ace_admins, ace_anybody_get_common_name, ace_c_pin_sid_get_nopin, ace_c_pin_sid_set_pin, ace_c_pin_msid_get_pin, ace_c_pin_get_psid_nopin, ace_sp_psid, ace_sp_sid, ace_tper_info_set_programmatic_reset_enable, ace_ace_set_boolean_expression, ace_authority_set_enabled, ace_c_pin_admins_get_all_nopin, ace_c_pin_admins_set_pin, ace_c_pin_user_set_pin, ace_locking_get_all, ace_range_get, ace_key_gen_key, ace_range_set_read_locked, ace_range_set_write_locked, ace_locking_global_range_admins_set, ace_locking_admins_set, ace_mbr_control_admins_set, ace_mbr_control_set_done_to_dor}
 use Rattle.sp_cells.specs.Authorities.{admins, users, numbered_ranges, all_ranges, authorities_of_locking}
 use Rattle.sp_cells.specs.Flat.{sp_eq}
 
@@ -23,14 +25,24 @@ grant sp object method acl = record { sp = sp; object = object; method = method;
 abbrev pub grants : Sp → List Uid → Uid → List Uid → List Grant
 grants sp objects method acl = map (λ object. grant sp object method acl) objects
 
+-- those of a drive of the profile `Field` alone
+abbrev pub of_field : Profile → List Grant → List Grant
+of_field Base gs = []
+of_field Field gs = gs
+
 -- the SPs themselves
 unfoldable pub this_sp_grants : List Grant
 this_sp_grants = grant Admin this_sp authenticate (ace_anybody ∷ [])
     ∷ grant Locking this_sp authenticate (ace_anybody ∷ []) ∷ []
 
+-- who may revert the drive: its owner, and under Field who holds its label (PSID feature set 1.00)
+abbrev pub reverters : Profile → List Uid
+reverters Base = ace_sp_sid ∷ []
+reverters Field = ace_sp_sid ∷ ace_sp_psid ∷ []
+
 -- the Admin SP
-unfoldable pub admin_grants : List Grant
-admin_grants =
+unfoldable pub owner_grants : Profile → List Grant
+owner_grants profile =
     grants Admin (admin_sp ∷ locking_sp ∷ anybody ∷ sid ∷ ace_anybody ∷ ace_c_pin_sid_get_nopin
     ∷ ace_c_pin_sid_set_pin ∷ ace_c_pin_msid_get_pin ∷ ace_sp_sid
     ∷ ace_tper_info_set_programmatic_reset_enable ∷ tper_info ∷ []) get (ace_anybody ∷ [])
@@ -39,9 +51,18 @@ admin_grants =
     ∷ grant Admin c_pin_msid get (ace_c_pin_msid_get_pin ∷ [])
     ∷ grant Admin locking_sp activate (ace_sp_sid ∷ [])
     ∷ grant Admin locking_sp revert (ace_sp_sid ∷ [])
-    ∷ grant Admin admin_sp revert (ace_sp_sid ∷ [])
+    ∷ grant Admin admin_sp revert (reverters profile)
     ∷ grant Admin tper_info set (ace_tper_info_set_programmatic_reset_enable ∷ [])
     ∷ []
+
+-- the label's authority, PIN and ACEs
+unfoldable pub label_grants : List Grant
+label_grants =
+    grants Admin (psid ∷ ace_c_pin_get_psid_nopin ∷ ace_sp_psid ∷ []) get (ace_anybody ∷ [])
+    ++ grant Admin c_pin_psid get (ace_c_pin_get_psid_nopin ∷ []) ∷ []
+
+abbrev pub admin_grants : Profile → List Grant
+admin_grants profile = owner_grants profile ++ of_field profile label_grants
 
 unfoldable pub authority_grants : List Grant
 authority_grants =
@@ -58,7 +79,7 @@ settable aces = grants Locking aces get (ace_admins ∷ ace_anybody_get_common_n
 abbrev pub fixed_aces : List Uid
 fixed_aces = ace_anybody ∷ ace_admins ∷ ace_anybody_get_common_name ∷ ace_ace_set_boolean_expression
     ∷ ace_authority_set_enabled ∷ ace_c_pin_admins_get_all_nopin ∷ ace_c_pin_admins_set_pin
-    ∷ ace_locking_get_all ∷ ace_locking_global_range_admins_set ∷ ace_locking_admins_set
+    ∷ ace_locking_global_range_admins_set ∷ ace_locking_admins_set
     ∷ ace_mbr_control_admins_set ∷ []
 
 unfoldable pub fixed_ace_gets : List Grant
@@ -66,6 +87,15 @@ fixed_ace_gets = grants Locking fixed_aces get (ace_admins ∷ ace_anybody_get_c
 
 unfoldable pub user_ace_grants : List Grant
 user_ace_grants = settable (map ace_c_pin_user_set_pin users)
+
+-- under Field each range has an ACE for reading it, and one for making a key
+unfoldable pub range_get_ace_grants : Profile → List Grant
+range_get_ace_grants Base =
+    grants Locking (ace_locking_get_all ∷ []) get (ace_admins ∷ ace_anybody_get_common_name ∷ [])
+range_get_ace_grants Field = settable (map ace_range_get all_ranges)
+
+unfoldable pub gen_key_ace_grants : List Grant
+gen_key_ace_grants = settable (map ace_key_gen_key all_ranges)
 
 unfoldable pub read_locked_ace_grants : List Grant
 read_locked_ace_grants = settable (map ace_range_set_read_locked all_ranges)
@@ -85,11 +115,16 @@ pin_grants =
     ++ map (λ n. grant Locking (user_pin_uid n) set (ace_c_pin_user_set_pin n ∷ [])) users
 
 -- its ranges
-unfoldable pub range_grants : List Grant
-range_grants =
-    grants Locking (map range_uid all_ranges) get
+unfoldable pub range_get_grants : Profile → List Grant
+range_get_grants Base = grants Locking (map range_uid all_ranges) get
     (ace_locking_get_all ∷ ace_anybody_get_common_name ∷ [])
-    ++ grant Locking global_range set
+range_get_grants Field =
+    map (λ n. grant Locking (range_uid n) get
+    (ace_range_get n ∷ ace_anybody_get_common_name ∷ [])) all_ranges
+
+unfoldable pub range_set_grants : List Grant
+range_set_grants =
+    grant Locking global_range set
     (ace_locking_global_range_admins_set ∷ ace_range_set_read_locked 0
     ∷ ace_range_set_write_locked 0 ∷ [])
     ∷ map (λ n. grant Locking (range_uid n) set
@@ -106,14 +141,20 @@ mbr_grants =
     ∷ grant Locking mbr_table set (ace_admins ∷ [])
     ∷ []
 
+-- what the drive says of itself
+unfoldable pub info_grants : List Grant
+info_grants = grants Locking (locking_info ∷ mbr_table_row ∷ []) get (ace_anybody ∷ [])
+
 -- the Locking SP
-abbrev pub locking_grants : List Grant
-locking_grants = authority_grants ++ fixed_ace_gets ++ user_ace_grants ++ read_locked_ace_grants
-    ++ write_locked_ace_grants ++ done_ace_grants ++ pin_grants ++ range_grants ++ mbr_grants
+abbrev pub locking_grants : Profile → List Grant
+locking_grants profile = authority_grants ++ fixed_ace_gets ++ user_ace_grants
+    ++ range_get_ace_grants profile ++ read_locked_ace_grants ++ write_locked_ace_grants
+    ++ done_ace_grants ++ pin_grants ++ range_get_grants profile ++ range_set_grants ++ mbr_grants
+    ++ of_field profile (gen_key_ace_grants ++ info_grants)
 
 -- the whole list
-abbrev pub access_list : List Grant
-access_list = this_sp_grants ++ admin_grants ++ locking_grants
+abbrev pub access_list : Profile → List Grant
+access_list profile = this_sp_grants ++ admin_grants profile ++ locking_grants profile
 
 -- the ACL that a list has for a method of an object
 abbrev pub acl_in : List Grant → Sp → Uid → Uid → Option (List Uid)

@@ -1,38 +1,75 @@
 //! The access control list (ACL) of each method of each object: which ACEs may allow it.
 
-ghost use Rattle.std.specs.Prelude.{◌≡◌, ◌<◌, ◌≤◌, ◌==◌, [], ◌∷◌, map, option_map, Some, None, if◌then◌else◌};
+ghost use Rattle.std.specs.Prelude.{◌≡◌, ◌<◌, ◌≤◌, ◌==◌, [], ◌∷◌, ◌++◌, map, option_map, Some, None, if◌then◌else◌};
 ghost use Rattle.sp_cells.specs.Names.{get, set, ace_admins, ace_anybody_get_common_name, ace_ace_set_boolean_expression};
 ghost use Rattle.sp_cells.specs.Authorities.{authorities_of_locking};
-ghost use Rattle.access_list.specs.Access.{IsAnsweredByGrants, admin_grants, authority_grants, fixed_ace_gets, user_ace_grants, read_locked_ace_grants, write_locked_ace_grants, done_ace_grants, pin_grants, range_grants, mbr_grants, locking_grants, access_list};
+ghost use Rattle.access_list.specs.Access.{IsAnsweredByGrants, of_field, reverters as reverters_of, owner_grants, label_grants, admin_grants, authority_grants, fixed_ace_gets, user_ace_grants, range_get_ace_grants, gen_key_ace_grants, read_locked_ace_grants, write_locked_ace_grants, done_ace_grants, pin_grants, range_get_grants, range_set_grants, mbr_grants, info_grants, locking_grants, access_list};
 ghost use Rattle.sp_cells.specs.declared.names.Sp.TheVariants.{Admin, Locking};
 
 use arrayvec::ArrayVec;
+use basics::Profile;
 use sp_cells::{Sp, Uid};
 
 /// The ACEs that may allow a method of an object, in their order; None where the method is not offered.
 #[tactic(auto, using(crate::proofs::Joins::joins), unfolding(crate::specs::Access::this_sp_grants))]
-pub fn access_row(sp: Sp, object: Uid, method: Uid) -> Option<ArrayVec<Uid, 4>>
-    ensures { IsAnsweredByGrants access_list sp object method result }
+pub fn access_row(profile: Profile, sp: Sp, object: Uid, method: Uid) -> Option<ArrayVec<Uid, 4>>
+    ensures { IsAnsweredByGrants (access_list profile) sp object method result }
 {
     if object == Uid::THIS_SP && method == Uid::AUTHENTICATE {
         return Some(one(Uid::ACE_ANYBODY));
     }
     match sp {
-        Sp::Admin => admin_row(object, method),
-        Sp::Locking => locking_row(object, method),
+        Sp::Admin => admin_row(profile, object, method),
+        Sp::Locking => locking_row(profile, object, method),
     }
 }
 
-#[tactic(auto, unfolding(crate::specs::Access::admin_grants))]
-fn admin_row(object: Uid, method: Uid) -> Option<ArrayVec<Uid, 4>>
-    ensures { IsAnsweredByGrants admin_grants Admin object method result }
+#[tactic(auto, using(crate::proofs::Joins::joins))]
+fn admin_row(profile: Profile, object: Uid, method: Uid) -> Option<ArrayVec<Uid, 4>>
+    ensures { IsAnsweredByGrants (admin_grants profile) Admin object method result }
+{
+    if let Some(aces) = owner_row(profile, object, method) {
+        return Some(aces);
+    }
+    label_row(profile, object, method)
+}
+
+/// The ACEs that may revert the drive.
+fn reverters(profile: Profile) -> ArrayVec<Uid, 4>
+    ensures { result.items ≡ reverters_of profile }
+{
+    match profile {
+        Profile::Base => one(Uid::ACE_SP_SID),
+        Profile::Field => two(Uid::ACE_SP_SID, Uid::ACE_SP_PSID),
+    }
+}
+
+#[tactic(auto, unfolding(crate::specs::Access::label_grants))]
+fn label_row(profile: Profile, object: Uid, method: Uid) -> Option<ArrayVec<Uid, 4>>
+    ensures { IsAnsweredByGrants (of_field profile label_grants) Admin object method result }
+{
+    if profile == Profile::Base {
+        return None;
+    }
+    match (object, method) {
+        (Uid::PSID | Uid::ACE_C_PIN_GET_PSID_NOPIN | Uid::ACE_SP_PSID, Uid::GET) => {
+            Some(one(Uid::ACE_ANYBODY))
+        }
+        (Uid::C_PIN_PSID, Uid::GET) => Some(one(Uid::ACE_C_PIN_GET_PSID_NOPIN)),
+        _ => None,
+    }
+}
+
+#[tactic(auto, unfolding(crate::specs::Access::owner_grants))]
+fn owner_row(profile: Profile, object: Uid, method: Uid) -> Option<ArrayVec<Uid, 4>>
+    ensures { IsAnsweredByGrants (owner_grants profile) Admin object method result }
 {
     match (object, method) {
         (Uid::C_PIN_SID, Uid::GET) => Some(one(Uid::ACE_C_PIN_SID_GET_NOPIN)),
         (Uid::C_PIN_SID, Uid::SET) => Some(one(Uid::ACE_C_PIN_SID_SET_PIN)),
         (Uid::C_PIN_MSID, Uid::GET) => Some(one(Uid::ACE_C_PIN_MSID_GET_PIN)),
         (Uid::LOCKING_SP, Uid::ACTIVATE | Uid::REVERT) => Some(one(Uid::ACE_SP_SID)),
-        (Uid::ADMIN_SP, Uid::REVERT) => Some(one(Uid::ACE_SP_SID)),
+        (Uid::ADMIN_SP, Uid::REVERT) => Some(reverters(profile)),
         (Uid::TPER_INFO, Uid::SET) => Some(one(Uid::ACE_TPER_INFO_SET_PROGRAMMATIC_RESET_ENABLE)),
         (
             Uid::ADMIN_SP
@@ -53,8 +90,8 @@ fn admin_row(object: Uid, method: Uid) -> Option<ArrayVec<Uid, 4>>
 }
 
 #[tactic(auto, using(crate::proofs::Joins::joins))]
-fn locking_row(object: Uid, method: Uid) -> Option<ArrayVec<Uid, 4>>
-    ensures { IsAnsweredByGrants locking_grants Locking object method result }
+fn locking_row(profile: Profile, object: Uid, method: Uid) -> Option<ArrayVec<Uid, 4>>
+    ensures { IsAnsweredByGrants (locking_grants profile) Locking object method result }
 {
     if let Some(aces) = authority_row(object, method) {
         return Some(aces);
@@ -63,6 +100,9 @@ fn locking_row(object: Uid, method: Uid) -> Option<ArrayVec<Uid, 4>>
         return Some(aces);
     }
     if let Some(aces) = user_ace(object, method) {
+        return Some(aces);
+    }
+    if let Some(aces) = range_get_ace(profile, object, method) {
         return Some(aces);
     }
     if let Some(aces) = read_locked_ace(object, method) {
@@ -77,10 +117,49 @@ fn locking_row(object: Uid, method: Uid) -> Option<ArrayVec<Uid, 4>>
     if let Some(aces) = pin_row(object, method) {
         return Some(aces);
     }
-    if let Some(aces) = range_row(object, method) {
+    if let Some(aces) = range_get(profile, object, method) {
         return Some(aces);
     }
-    mbr_row(object, method)
+    if let Some(aces) = range_set(object, method) {
+        return Some(aces);
+    }
+    if let Some(aces) = mbr_row(object, method) {
+        return Some(aces);
+    }
+    field_row(profile, object, method)
+}
+
+/// The ACEs of what a drive of the profile `Field` alone has.
+#[tactic(auto, using(crate::proofs::Joins::joins))]
+fn field_row(profile: Profile, object: Uid, method: Uid) -> Option<ArrayVec<Uid, 4>>
+    ensures { IsAnsweredByGrants (of_field profile (gen_key_ace_grants ++ info_grants))
+        Locking object method result }
+{
+    if profile == Profile::Base {
+        return None;
+    }
+    if let Some(aces) = gen_key_ace(object, method) {
+        return Some(aces);
+    }
+    info_row(object, method)
+}
+
+#[tactic(auto, unfolding(crate::specs::Access::gen_key_ace_grants))]
+fn gen_key_ace(object: Uid, method: Uid) -> Option<ArrayVec<Uid, 4>>
+    ensures { IsAnsweredByGrants gen_key_ace_grants Locking object method result }
+{
+    object.gen_key_ace_number()?;
+    settable(method)
+}
+
+#[tactic(auto, unfolding(crate::specs::Access::info_grants))]
+fn info_row(object: Uid, method: Uid) -> Option<ArrayVec<Uid, 4>>
+    ensures { IsAnsweredByGrants info_grants Locking object method result }
+{
+    match (object, method) {
+        (Uid::LOCKING_INFO | Uid::MBR_TABLE_ROW, Uid::GET) => Some(one(Uid::ACE_ANYBODY)),
+        _ => None,
+    }
 }
 
 #[tactic(auto, unfolding(crate::specs::Access::authority_grants, sp_cells::specs::Authorities::authorities_of_locking))]
@@ -114,7 +193,6 @@ fn fixed_ace(object: Uid, method: Uid) -> Option<ArrayVec<Uid, 4>>
         | Uid::ACE_AUTHORITY_SET_ENABLED
         | Uid::ACE_C_PIN_ADMINS_GET_ALL_NOPIN
         | Uid::ACE_C_PIN_ADMINS_SET_PIN
-        | Uid::ACE_LOCKING_GET_ALL
         | Uid::ACE_LOCKING_GLOBAL_RANGE_ADMINS_SET
         | Uid::ACE_LOCKING_ADMINS_SET
         | Uid::ACE_MBR_CONTROL_ADMINS_SET => {
@@ -143,6 +221,24 @@ fn user_ace(object: Uid, method: Uid) -> Option<ArrayVec<Uid, 4>>
 {
     object.user_ace_number()?;
     settable(method)
+}
+
+#[tactic(auto, unfolding(crate::specs::Access::range_get_ace_grants))]
+fn range_get_ace(profile: Profile, object: Uid, method: Uid) -> Option<ArrayVec<Uid, 4>>
+    ensures { IsAnsweredByGrants (range_get_ace_grants profile) Locking object method result }
+{
+    match profile {
+        Profile::Base => match (object, method) {
+            (Uid::ACE_LOCKING_GET_ALL, Uid::GET) => {
+                Some(two(Uid::ACE_ADMINS, Uid::ACE_ANYBODY_GET_COMMON_NAME))
+            }
+            _ => None,
+        },
+        Profile::Field => {
+            object.range_get_ace_number()?;
+            settable(method)
+        }
+    }
 }
 
 #[tactic(auto, unfolding(crate::specs::Access::read_locked_ace_grants))]
@@ -187,24 +283,34 @@ fn pin_row(object: Uid, method: Uid) -> Option<ArrayVec<Uid, 4>>
     }
 }
 
-#[tactic(auto, unfolding(crate::specs::Access::range_grants))]
-fn range_row(object: Uid, method: Uid) -> Option<ArrayVec<Uid, 4>>
-    ensures { IsAnsweredByGrants range_grants Locking object method result }
+#[tactic(auto, unfolding(crate::specs::Access::range_get_grants))]
+fn range_get(profile: Profile, object: Uid, method: Uid) -> Option<ArrayVec<Uid, 4>>
+    ensures { IsAnsweredByGrants (range_get_grants profile) Locking object method result }
 {
     let range = object.range_number()?;
-    match method {
-        Uid::GET => Some(two(Uid::ACE_LOCKING_GET_ALL, Uid::ACE_ANYBODY_GET_COMMON_NAME)),
-        Uid::SET => {
-            let first = if range == 0 {
-                Uid::ACE_LOCKING_GLOBAL_RANGE_ADMINS_SET
-            } else {
-                Uid::ACE_LOCKING_ADMINS_SET
-            };
-            let read = Uid::ace_range_set_read_locked(range);
-            Some(three(first, read, Uid::ace_range_set_write_locked(range)))
-        }
-        _ => None,
+    let all = match (profile, method) {
+        (Profile::Base, Uid::GET) => Uid::ACE_LOCKING_GET_ALL,
+        (Profile::Field, Uid::GET) => Uid::ace_range_get(range),
+        _ => return None,
+    };
+    Some(two(all, Uid::ACE_ANYBODY_GET_COMMON_NAME))
+}
+
+#[tactic(auto, unfolding(crate::specs::Access::range_set_grants))]
+fn range_set(object: Uid, method: Uid) -> Option<ArrayVec<Uid, 4>>
+    ensures { IsAnsweredByGrants range_set_grants Locking object method result }
+{
+    let range = object.range_number()?;
+    if method != Uid::SET {
+        return None;
     }
+    let first = if range == 0 {
+        Uid::ACE_LOCKING_GLOBAL_RANGE_ADMINS_SET
+    } else {
+        Uid::ACE_LOCKING_ADMINS_SET
+    };
+    let read = Uid::ace_range_set_read_locked(range);
+    Some(three(first, read, Uid::ace_range_set_write_locked(range)))
 }
 
 #[tactic(auto, unfolding(crate::specs::Access::mbr_grants))]

@@ -1,4 +1,5 @@
 -- Which ACE is found.
+use Rattle.basics.specs.declared.profile.Profile.{Profile}
 use Rattle.std.proofs.Common.{◌≡◌, ◌||◌, Bool, true, false, cond, ◌⊎◌, inl, inr, List, [], ◌∷◌, Option, None, Some, refl, sym, ◌∙◌, ap, ◌↔◌, arith}
 use Rattle.std.specs.Prelude.{filter, unwrap_or, is_some, Result, Ok, Err, IsOk, MatchResult, if◌then◌else◌}
 use Rattle.std.proofs.lemmas.Bool.Decides.{nat_tests, eqb_tells}
@@ -75,19 +76,19 @@ cell_holds held (Some (Numbers n)) h = absurd h
 cell_holds held (Some (Columns n)) h = absurd h
 
 -- an ACE is found exactly where the column has one
-pub some_ace : (look : LookUp) (sp : Sp) (o m : Uid) (k : Option Column) (held : List Uid) (u : Uid) → ace_of look sp o m k held ≡ Some u → HasAce look sp o m k held
-some_ace look sp o m k held u h =
-    let row : List Uid = unwrap_or (acl_at sp o m) [] in
+pub some_ace : (profile : Profile) (look : LookUp) (sp : Sp) (o m : Uid) (k : Option Column) (held : List Uid) (u : Uid) → ace_of profile look sp o m k held ≡ Some u → HasAce profile look sp o m k held
+some_ace profile look sp o m k held u h =
+    let row : List Uid = unwrap_or (acl_at profile sp o m) [] in
     record { ace = u; in_row = found_in look sp k held row u h; named = found_names look sp k held row u h; holds = holds_cell held (look sp u boolean_expr_column) (found_holds look sp k held row u h) }
 
 none_some : (o : Option Uid) → o ≡ None → is_some o ≡ true → ⊥
 none_some None h g = clash g
 none_some (Some u) h g = cc
 
-pub no_ace : (look : LookUp) (sp : Sp) (o m : Uid) (k : Option Column) (held : List Uid) → ace_of look sp o m k held ≡ None → HasAce look sp o m k held → ⊥
-no_ace look sp o m k held h e = none_some (ace_of look sp o m k held) h (not_passed look sp k held (unwrap_or (acl_at sp o m) []) e.ace e.in_row e.named (cell_holds held (look sp e.ace boolean_expr_column) e.holds))
+pub no_ace : (profile : Profile) (look : LookUp) (sp : Sp) (o m : Uid) (k : Option Column) (held : List Uid) → ace_of profile look sp o m k held ≡ None → HasAce profile look sp o m k held → ⊥
+no_ace profile look sp o m k held h e = none_some (ace_of profile look sp o m k held) h (not_passed look sp k held (unwrap_or (acl_at profile sp o m) []) e.ace e.in_row e.named (cell_holds held (look sp e.ace boolean_expr_column) e.holds))
 
 -- what the call answers
-pub allowed_by : (look : LookUp) (sp : Sp) (o m : Uid) (k : Option Column) (held : List Uid) (r : Result Uid Missing) → MatchResult r (λ u. ace_of look sp o m k held ≡ Some u) (λ missing. (ace_of look sp o m k held ≡ None) × (missing.row ≡ is_some (acl_at sp o m)) × (missing.need.items ≡ naming look sp k (acl_at sp o m))) → IsOk r ↔ HasAce look sp o m k held
-allowed_by look sp o m k held (Ok u) h = ((λ i. some_ace look sp o m k held u h), (λ e. refl))
-allowed_by look sp o m k held (Err missing) h = ((λ i. absurd (clash i)), (λ e. absurd (no_ace look sp o m k held h.0 e)))
+pub allowed_by : (profile : Profile) (look : LookUp) (sp : Sp) (o m : Uid) (k : Option Column) (held : List Uid) (r : Result Uid Missing) → MatchResult r (λ u. ace_of profile look sp o m k held ≡ Some u) (λ missing. (ace_of profile look sp o m k held ≡ None) × (missing.row ≡ is_some (acl_at profile sp o m)) × (missing.need.items ≡ naming look sp k (acl_at profile sp o m))) → IsOk r ↔ HasAce profile look sp o m k held
+allowed_by profile look sp o m k held (Ok u) h = ((λ i. some_ace profile look sp o m k held u h), (λ e. refl))
+allowed_by profile look sp o m k held (Err missing) h = ((λ i. absurd (clash i)), (λ e. absurd (no_ace profile look sp o m k held h.0 e)))

@@ -1,4 +1,5 @@
 -- Which ACE allows a method (Core 2.01, section 5.3, tables AccessControl and ACE).
+use Rattle.basics.specs.declared.profile.Profile.{Profile}
 use Rattle.std.specs.Prelude.{◌≡◌, ◌==◌, Bool, true, false, List, [], ◌∷◌, Option, None, Some, unwrap_or, is_some, filter, Result, MatchResult, if◌then◌else◌}
 use Rattle.std.specs.List.{list_any}
 use Rattle.sp_cells.specs.declared.names.Uid.{Uid}
@@ -50,28 +51,29 @@ first_holding look sp held [] = None
 first_holding look sp held (e ∷ es) =
     if holds_at look sp held e then Some e else first_holding look sp held es
 
--- the ACL of a method of an object
-abbrev pub acl_at : Sp → Uid → Uid → Option (List Uid)
-acl_at sp object method = acl_in access_list sp object method
+-- the ACL of a method of an object, in a drive of this profile
+abbrev pub acl_at : Profile → Sp → Uid → Uid → Option (List Uid)
+acl_at profile sp object method = acl_in (access_list profile) sp object method
 
 -- the ACE that allows the column: the first of the ACL that names it and holds
-abbrev pub ace_of : LookUp → Sp → Uid → Uid → Option Column → List Uid → Option Uid
-ace_of look sp object method k held =
-    first_holding look sp held (naming look sp k (acl_at sp object method))
+abbrev pub ace_of : Profile → LookUp → Sp → Uid → Uid → Option Column → List Uid
+    → Option Uid
+ace_of profile look sp object method k held =
+    first_holding look sp held (naming look sp k (acl_at profile sp object method))
 
 -- what is answered: the ACE that allows the column, or else whether the method is offered and the ACEs that name it
-abbrev pub Answers : LookUp → Sp → Uid → Uid → Option Column → List Uid → Result Uid Missing
-    → Type 0
-Answers look sp object method k held result = MatchResult result
-    (λ ace. ace_of look sp object method k held ≡ Some ace)
-    (λ missing. (ace_of look sp object method k held ≡ None)
-    × (missing.row ≡ is_some (acl_at sp object method))
-    × (missing.need.items ≡ naming look sp k (acl_at sp object method)))
+abbrev pub Answers : Profile → LookUp → Sp → Uid → Uid → Option Column → List Uid
+    → Result Uid Missing → Type 0
+Answers profile look sp object method k held result = MatchResult result
+    (λ ace. ace_of profile look sp object method k held ≡ Some ace)
+    (λ missing. (ace_of profile look sp object method k held ≡ None)
+    × (missing.row ≡ is_some (acl_at profile sp object method))
+    × (missing.need.items ≡ naming look sp k (acl_at profile sp object method)))
 
 -- the column has an ACE: some ACE of the ACL names it, and its expression holds
-pub record HasAce (look : LookUp) (sp : Sp) (object method : Uid) (k : Option Column)
-    (held : List Uid) : Type 0 where
+pub record HasAce (profile : Profile) (look : LookUp) (sp : Sp) (object method : Uid)
+    (k : Option Column) (held : List Uid) : Type 0 where
   pub ace : Uid
-  pub in_row : has (unwrap_or (acl_at sp object method) []) ace ≡ true
+  pub in_row : has (unwrap_or (acl_at profile sp object method) []) ace ≡ true
   pub named : names look sp k ace ≡ true
   pub holds : HoldsIn held (look sp ace boolean_expr_column)

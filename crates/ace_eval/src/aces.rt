@@ -29,8 +29,10 @@ pub fn entry<R: Rows>(
     column: Option<Column>,
     held: &Authorities,
 ) -> Result<Uid, Missing>
-    ensures exact { Answers (R.look_up rows.now) sp object method column held.now result }
-    ensures allowed { IsOk result ↔ HasAce (R.look_up rows.now) sp object method column held.now }
+    ensures exact { Answers (R.profile_of rows.now) (R.look_up rows.now) sp object method column
+        held.now result }
+    ensures allowed { IsOk result ↔ HasAce (R.profile_of rows.now) (R.look_up rows.now) sp object
+        method column held.now }
 {
     find(rows, sp, object, method, column, held)
 }
@@ -43,9 +45,10 @@ fn find<R: Rows>(
     column: Option<Column>,
     held: &Authorities,
 ) -> Result<Uid, Missing>
-    ensures { Answers (R.look_up rows.now) sp object method column held.now result }
+    ensures { Answers (R.profile_of rows.now) (R.look_up rows.now) sp object method column held.now
+        result }
 {
-    let Some(row) = access_row(sp, object, method) else {
+    let Some(row) = access_row(rows.profile(), sp, object, method) else {
         return Err(Missing {
             row: false,
             need: ArrayVec::new(),

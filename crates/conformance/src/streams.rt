@@ -91,6 +91,7 @@ fn options(alloc: Global, sectors: &str) -> Result<Options, Fail> {
         profile: "base",
         serial: "",
         model: "",
+        psid: "",
     };
     Ok(Options::parse(alloc, &texts)?)
 }

@@ -306,16 +306,16 @@ judged_so_far o before step session object method args ask h c shaped = record {
         → IsGrantedAt o before session object method ask
         → Lists o before step session object method args c first last
     lists first last is valid granted = record {
-      cells = listed (standing f session).rows session.sp (uid_of object) first last (standing f session).held;
+      cells = listed (standing f session).profile (standing f session).rows session.sp (uid_of object) first last (standing f session).held;
       says =
           here ∙ ap Some ((law valid).1 granted)
           ∙ ap (λ (j : Judgement). Some (answers c.com_id c.frame.session (outcome_of f.rows session.sp j)))
           (ap (does (standing f session) (uid_of object)) is
           ∙ gives_cells (standing f session) (uid_of object) first last
           (subst (λ (a : Ask). takes_effect (does (standing f session) (uid_of object) a) ≡ true) is valid));
-      exactly = λ column cell. list_law (standing f session).rows session.sp (uid_of object) first last
+      exactly = λ column cell. list_law (standing f session).profile (standing f session).rows session.sp (uid_of object) first last
           (standing f session).held column cell;
-      rises = listed_rises (standing f session).rows session.sp (uid_of object) first last
+      rises = listed_rises (standing f session).profile (standing f session).rows session.sp (uid_of object) first last
           (standing f session).held;
     }
 

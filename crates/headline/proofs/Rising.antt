@@ -1,4 +1,5 @@
 -- What Get lists rises by its columns, as the columns of a kind do.
+use Rattle.basics.specs.declared.profile.Profile.{Profile}
 use Rattle.std.proofs.Common.{◌≡◌, ℕ, nat_lt, Bool, true, false, ◌&&◌, List, [], ◌∷◌, map, Option, None, Some, refl, arith, cond}
 use Rattle.std.specs.Prelude.{filter, ◌++◌}
 use Rattle.std.specs.List.{flat_map}
@@ -68,9 +69,9 @@ among test cell (k ∷ ks) h =
     by_test true over g = with_shown k (cell k) ks _ over g
     by_test false over g = without k ks _ over g
 
-pub listed_rises : (look : LookUp) (sp : Sp) (object : Uid) (first last : ℕ) (held : List Uid)
-    → are_rising (names (listed look sp object first last held)) ≡ true
+pub listed_rises : (profile : Profile) (look : LookUp) (sp : Sp) (object : Uid) (first last : ℕ) (held : List Uid)
+    → are_rising (names (listed profile look sp object first last held)) ≡ true
 unfolding listed_among
-listed_rises look sp object first last held =
-    (among (is_listed look sp object first last held) (look sp object) (columns_of (kind_of sp object))
+listed_rises profile look sp object first last held =
+    (among (is_listed profile look sp object first last held) (look sp object) (columns_of (kind_of sp object))
     (rise_law (kind_of sp object))).all

@@ -9,7 +9,7 @@ use Rattle.sp_cells.specs.declared.cells.Cell.TheVariants.{Number}
 use Rattle.sp_cells.specs.declared.names.Sp.TheVariants.{Locking}
 use Rattle.sp_cells.specs.ColumnNames.{read_locked_column}
 use Rattle.sp_cells.specs.Names.{range_uid}
-use Rattle.sp_rows.specs.Factory.{admin_sps, admin_authorities, locking_authorities, admin_pins, locking_pins, locking_ranges, locking_mbr_controls, admin_aces, authority_aces, pin_aces, range_aces, mbr_aces}
+use Rattle.sp_rows.specs.Factory.{admin_sps, admin_authorities, locking_authorities, admin_pins, locking_pins, locking_ranges, locking_mbr_controls, admin_aces, authority_aces, pin_aces, range_get_aces, range_aces, mbr_aces}
 use Rattle.locking.specs.Ranges.{ranges_in}
 use Rattle.locking.specs.Verdict.{verdict_of}
 use Rattle.locking.specs.declared.range.Op.{Op}
@@ -89,11 +89,11 @@ read_denied : (are_lawful_by one_byte enabled locked ≡ true)
     × (answer (trace_of one_byte enabled locked) 1 ≡ Some (answers.Failed 0x51 0x04))
     × (are_lawful enabled locked ≡ true)
     × (answer (trace enabled locked) 1 ≡ Some (answers.Done (replicate 512 0)))
-unfolding admin_sps admin_authorities locking_authorities admin_pins locking_pins locking_ranges locking_mbr_controls admin_aces authority_aces pin_aces range_aces mbr_aces any_below ranges_in verdict_of is_range zeros sectors_from
+unfolding admin_sps admin_authorities locking_authorities admin_pins locking_pins locking_ranges locking_mbr_controls admin_aces authority_aces pin_aces range_get_aces range_aces mbr_aces any_below ranges_in verdict_of is_range zeros sectors_from
 read_denied = (refl, refl, refl, refl)
 
 read_answered : IsAnswered one_byte enabled locked 1 (record { op = ops.Read; lba = 100; count = 1 }) (answers.Failed 0x51 0x04)
-unfolding admin_sps admin_authorities locking_authorities admin_pins locking_pins locking_ranges locking_mbr_controls admin_aces authority_aces pin_aces range_aces mbr_aces any_below ranges_in verdict_of is_range zeros sectors_from
+unfolding admin_sps admin_authorities locking_authorities admin_pins locking_pins locking_ranges locking_mbr_controls admin_aces authority_aces pin_aces range_get_aces range_aces mbr_aces any_below ranges_in verdict_of is_range zeros sectors_from
 read_answered = record {
   put = record { client = 1; number = 4; command = commands.ReadDma 100 1 };
   stands = refl;
@@ -120,7 +120,7 @@ within = locked ++ says 2 2
 read_within : (are_lawful_by one_byte enabled within ≡ true)
     × (open_on (past_of one_byte enabled within) Locking ≡ Some 7)
     × (answer (trace_of one_byte enabled within) 1 ≡ Some (answers.Done (replicate 512 0)))
-unfolding admin_sps admin_authorities locking_authorities admin_pins locking_pins locking_ranges locking_mbr_controls admin_aces authority_aces pin_aces range_aces mbr_aces any_below ranges_in verdict_of is_range zeros sectors_from
+unfolding admin_sps admin_authorities locking_authorities admin_pins locking_pins locking_ranges locking_mbr_controls admin_aces authority_aces pin_aces range_get_aces range_aces mbr_aces any_below ranges_in verdict_of is_range zeros sectors_from
 read_within = (refl, refl, refl)
 
 verdicts_within : (op : Op) (lba count : ℕ)
@@ -141,7 +141,7 @@ read_aborted : (are_lawful_by one_byte enabled aborted ≡ true)
     × (event_after one_byte enabled aborting (Accept 3) ≡ Some (in_it (Aborted Locking)))
     × (open_on (past_of one_byte enabled aborted) Locking ≡ None)
     × (answer (trace_of one_byte enabled aborted) 4 ≡ Some (answers.Done (replicate 512 0)))
-unfolding admin_sps admin_authorities locking_authorities admin_pins locking_pins locking_ranges locking_mbr_controls admin_aces authority_aces pin_aces range_aces mbr_aces any_below ranges_in verdict_of is_range zeros sectors_from
+unfolding admin_sps admin_authorities locking_authorities admin_pins locking_pins locking_ranges locking_mbr_controls admin_aces authority_aces pin_aces range_get_aces range_aces mbr_aces any_below ranges_in verdict_of is_range zeros sectors_from
 read_aborted = (refl, refl, refl, refl, refl)
 
 is_abort : Aborts Locking (in_it (Aborted Locking))

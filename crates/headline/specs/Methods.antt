@@ -123,8 +123,8 @@ pub record Lists (o : Origin) (before : List Step) (step : Step) (session : Begu
       ≡ Some (answers c.com_id c.frame.session
       (says Unchanged (reply_of (list (trees_of (map cell_value cells)) ∷ []) success)))
   pub exactly : (column : Column) (cell : Cell) → IsAmong {A = Column × Cell} cells (column, cell)
-      ↔ IsListed (standing_at o before session).rows session.sp (uid_of object) first last
-      (standing_at o before session).held column cell
+      ↔ IsListed (standing_at o before session).profile (standing_at o before session).rows
+      session.sp (uid_of object) first last (standing_at o before session).held column cell
   pub rises : are_rising (map (λ (pair : Column × Cell). pair.0) cells) ≡ true
 
 -- Of a call of the right shape: with valid values it takes effect exactly where it is granted, and

@@ -1,4 +1,6 @@
 -- What is asked belongs to its method; which objects have an access row.
+use Rattle.basics.specs.declared.profile.Profile.{Profile}
+use Rattle.basics.specs.declared.profile.Profile.TheVariants.{Base, Field}
 use Rattle.std.proofs.Common.{◌≡◌, ℕ, ◌==◌, Bool, true, false, ◌&&◌, ◌||◌, not, List, [], ◌∷◌, Option, Some, None, refl, sym, ◌∙◌, ap, cond, eqb-true}
 use Rattle.std.specs.Prelude.{◌-◌, ◌^◌, length, option_map, nat_le}
 use Rattle.std.specs.List.{list_all}
@@ -8,7 +10,7 @@ use Rattle.sp_cells.specs.declared.names.Sp.TheVariants.{Admin, Locking}
 use Rattle.sp_cells.specs.Names.{get, set, authenticate, activate, revert, c_pin_sid, tper_info}
 use Rattle.sp_cells.specs.Authorities.{authorities_of_locking}
 use Rattle.sp_cells.specs.Flat.{sp_eq}
-use Rattle.access_list.specs.Access.{Grant, access_list, acl_in, this_sp_grants, admin_grants, authority_grants, fixed_ace_gets, user_ace_grants, read_locked_ace_grants, write_locked_ace_grants, done_ace_grants, pin_grants, range_grants, mbr_grants}
+use Rattle.access_list.specs.Access.{Grant, access_list, acl_in, this_sp_grants, owner_grants, label_grants, authority_grants, fixed_ace_gets, user_ace_grants, read_locked_ace_grants, write_locked_ace_grants, done_ace_grants, pin_grants, range_get_ace_grants, range_get_grants, range_set_grants, mbr_grants, info_grants, gen_key_ace_grants}
 use Rattle.tcg_tokens.specs.Tree.{Tree, Trees}
 use Rattle.tcg_tokens.specs.Tree as tree
 use Rattle.call_shapes.specs.Parameters.{start_row_parameter, end_row_parameter, start_column_parameter, end_column_parameter, where_parameter, values_parameter, proof_parameter}
@@ -164,29 +166,32 @@ rows-among q sp object method (g ∷ gs) row ok h =
     let parts = and-true (not (is_row_of sp method g) || q g.object.0) (list_all (λ g. not (is_row_of sp method g) || q g.object.0) gs) ok in
     row-step q sp object method g (acl_in gs sp object method) row (sp_eq g.sp sp) (g.object.0 == object.0) (g.method.0 == method.0) refl refl refl parts.0 (rows-among q sp object method gs row parts.1) h
 
-same-method : (method wanted : Uid) (sp : Sp) (object : Uid) (row : List Uid) → (method.0 == wanted.0) ≡ true → acl_in access_list sp object method ≡ Some row → acl_in access_list sp object wanted ≡ Some row
-same-method method wanted sp object row is h = ap (λ (n : ℕ). acl_in access_list sp object (record { 0 = n })) (sym (eqb-true method.0 wanted.0 is)) ∙ h
+same-method : (profile : Profile) (method wanted : Uid) (sp : Sp) (object : Uid) (row : List Uid) → (method.0 == wanted.0) ≡ true → acl_in (access_list profile) sp object method ≡ Some row → acl_in (access_list profile) sp object wanted ≡ Some row
+same-method profile method wanted sp object row is h = ap (λ (n : ℕ). acl_in (access_list profile) sp object (record { 0 = n })) (sym (eqb-true method.0 wanted.0 is)) ∙ h
 
-no_activate : list_all (λ g. not (is_row_of Locking activate g) || false) access_list ≡ true
-unfolding this_sp_grants admin_grants authority_grants fixed_ace_gets user_ace_grants read_locked_ace_grants write_locked_ace_grants done_ace_grants pin_grants range_grants mbr_grants authorities_of_locking
-no_activate = refl
+no_activate : (profile : Profile) → list_all (λ g. not (is_row_of Locking activate g) || false) (access_list profile) ≡ true
+unfolding this_sp_grants owner_grants label_grants authority_grants fixed_ace_gets user_ace_grants range_get_ace_grants gen_key_ace_grants read_locked_ace_grants write_locked_ace_grants done_ace_grants pin_grants range_get_grants range_set_grants mbr_grants info_grants authorities_of_locking
+no_activate Base = refl
+no_activate Field = refl
 
-no_revert : list_all (λ g. not (is_row_of Locking revert g) || false) access_list ≡ true
-unfolding this_sp_grants admin_grants authority_grants fixed_ace_gets user_ace_grants read_locked_ace_grants write_locked_ace_grants done_ace_grants pin_grants range_grants mbr_grants authorities_of_locking
-no_revert = refl
+no_revert : (profile : Profile) → list_all (λ g. not (is_row_of Locking revert g) || false) (access_list profile) ≡ true
+unfolding this_sp_grants owner_grants label_grants authority_grants fixed_ace_gets user_ace_grants range_get_ace_grants gen_key_ace_grants read_locked_ace_grants write_locked_ace_grants done_ace_grants pin_grants range_get_grants range_set_grants mbr_grants info_grants authorities_of_locking
+no_revert Base = refl
+no_revert Field = refl
 
-only_two_rows : list_all (λ g. not (is_row_of Admin set g) || is_set_in_admin g.object) access_list ≡ true
-unfolding this_sp_grants admin_grants authority_grants fixed_ace_gets user_ace_grants read_locked_ace_grants write_locked_ace_grants done_ace_grants pin_grants range_grants mbr_grants authorities_of_locking
-only_two_rows = refl
+only_two_rows : (profile : Profile) → list_all (λ g. not (is_row_of Admin set g) || is_set_in_admin g.object) (access_list profile) ≡ true
+unfolding this_sp_grants owner_grants label_grants authority_grants fixed_ace_gets user_ace_grants range_get_ace_grants gen_key_ace_grants read_locked_ace_grants write_locked_ace_grants done_ace_grants pin_grants range_get_grants range_set_grants mbr_grants info_grants authorities_of_locking
+only_two_rows Base = refl
+only_two_rows Field = refl
 
 -- Activate and Revert are of the Admin SP; a Set there is of one of two rows
-pub activate-admin : (sp : Sp) (object method : Uid) (row : List Uid) → (method.0 == activate.0) ≡ true → acl_in access_list sp object method ≡ Some row → sp ≡ Admin
-activate-admin Admin object method row is h = refl
-activate-admin Locking object method row is h = let g : false ≡ true = rows-among (λ n. false) Locking object activate access_list row no_activate (same-method method activate Locking object row is h) in cc
+pub activate-admin : (profile : Profile) (sp : Sp) (object method : Uid) (row : List Uid) → (method.0 == activate.0) ≡ true → acl_in (access_list profile) sp object method ≡ Some row → sp ≡ Admin
+activate-admin profile Admin object method row is h = refl
+activate-admin profile Locking object method row is h = let g : false ≡ true = rows-among (λ n. false) Locking object activate (access_list profile) row (no_activate profile) (same-method profile method activate Locking object row is h) in cc
 
-pub revert-admin : (sp : Sp) (object method : Uid) (row : List Uid) → (method.0 == revert.0) ≡ true → acl_in access_list sp object method ≡ Some row → sp ≡ Admin
-revert-admin Admin object method row is h = refl
-revert-admin Locking object method row is h = let g : false ≡ true = rows-among (λ n. false) Locking object revert access_list row no_revert (same-method method revert Locking object row is h) in cc
+pub revert-admin : (profile : Profile) (sp : Sp) (object method : Uid) (row : List Uid) → (method.0 == revert.0) ≡ true → acl_in (access_list profile) sp object method ≡ Some row → sp ≡ Admin
+revert-admin profile Admin object method row is h = refl
+revert-admin profile Locking object method row is h = let g : false ≡ true = rows-among (λ n. false) Locking object revert (access_list profile) row (no_revert profile) (same-method profile method revert Locking object row is h) in cc
 
-pub set-in-admin : (object method : Uid) (row : List Uid) → (method.0 == set.0) ≡ true → acl_in access_list Admin object method ≡ Some row → is_set_in_admin object ≡ true
-set-in-admin object method row is h = rows-among (λ n. (n == c_pin_sid.0) || (n == tper_info.0)) Admin object set access_list row only_two_rows (same-method method set Admin object row is h)
+pub set-in-admin : (profile : Profile) (object method : Uid) (row : List Uid) → (method.0 == set.0) ≡ true → acl_in (access_list profile) Admin object method ≡ Some row → is_set_in_admin object ≡ true
+set-in-admin profile object method row is h = rows-among (λ n. (n == c_pin_sid.0) || (n == tper_info.0)) Admin object set (access_list profile) row (only_two_rows profile) (same-method profile method set Admin object row is h)

@@ -1,4 +1,5 @@
 -- Authorities are asked by `has` alone: a set and a list of them give the same entries.
+use Rattle.basics.specs.declared.profile.Profile.{Profile}
 use Rattle.std.proofs.Common.{◌≡◌, ℕ, ◌&&◌, Bool, List, [], ◌∷◌, Option, Some, None, refl, ◌∙◌, ap, cond, option_and_then}
 use Rattle.sp_cells.specs.declared.names.Uid.{Uid}
 use Rattle.sp_cells.specs.declared.names.Sp.{Sp}
@@ -61,27 +62,27 @@ first-alike look sp held other h [] = refl
 first-alike look sp held other h (e ∷ es) =
     ap (λ b. cond b (Some e) (first_holding look sp other es)) (holds_in-alike held other h (look sp e boolean_expr_column)) ∙ ap (cond (holds_at look sp held e) (Some e)) (first-alike look sp held other h es)
 
-pub entry-alike : (look : LookUp) (sp : Sp) (object method : Uid) (k : Option Column) (held other : List Uid) → SameHeld held other → ace_of look sp object method k other ≡ ace_of look sp object method k held
-entry-alike look sp object method k held other h = first-alike look sp held other h (naming look sp k (acl_at sp object method))
+pub entry-alike : (profile : Profile) (look : LookUp) (sp : Sp) (object method : Uid) (k : Option Column) (held other : List Uid) → SameHeld held other → ace_of profile look sp object method k other ≡ ace_of profile look sp object method k held
+entry-alike profile look sp object method k held other h = first-alike look sp held other h (naming look sp k (acl_at profile sp object method))
 
 -- and so the same judgement
 abbrev pub with_held : Standing → List Uid → Standing
 with_held s other = record s { held = other }
 
-denial-alike : (look : LookUp) (sp : Sp) (object method : Uid) (held other : List Uid) → SameHeld held other → (ks : List (Option Column))
-    → first_some (map (denial_of look sp object method other) ks) ≡ first_some (map (denial_of look sp object method held) ks)
-denial-alike look sp object method held other h [] = refl
-denial-alike look sp object method held other h (k ∷ ks) =
-    ap (λ x. option_or (unless_allowed x (why_denied look sp object method k (acl_at sp object method))) (first_some (map (denial_of look sp object method other) ks))) (entry-alike look sp object method k held other h)
-    ∙ ap (option_or (denial_of look sp object method held k)) (denial-alike look sp object method held other h ks)
+denial-alike : (profile : Profile) (look : LookUp) (sp : Sp) (object method : Uid) (held other : List Uid) → SameHeld held other → (ks : List (Option Column))
+    → first_some (map (denial_of profile look sp object method other) ks) ≡ first_some (map (denial_of profile look sp object method held) ks)
+denial-alike profile look sp object method held other h [] = refl
+denial-alike profile look sp object method held other h (k ∷ ks) =
+    ap (λ x. option_or (unless_allowed x (why_denied look sp object method k (acl_at profile sp object method))) (first_some (map (denial_of profile look sp object method other) ks))) (entry-alike profile look sp object method k held other h)
+    ∙ ap (option_or (denial_of profile look sp object method held k)) (denial-alike profile look sp object method held other h ks)
 
-listed-alike : (look : LookUp) (sp : Sp) (object : Uid) (first last : ℕ) (held other : List Uid) → SameHeld held other → listed look sp object first last other ≡ listed look sp object first last held
+listed-alike : (profile : Profile) (look : LookUp) (sp : Sp) (object : Uid) (first last : ℕ) (held other : List Uid) → SameHeld held other → listed profile look sp object first last other ≡ listed profile look sp object first last held
 unfolding listed_among
-listed-alike look sp object first last held other h =
-    ap (λ p. flat_map (λ k. shown_column k (look sp object k)) (filter p (columns_of (kind_of sp object)))) (fun_ext (λ k. ap (λ x. is_asked first last k && is_some x) (entry-alike look sp object get (Some k) held other h)))
+listed-alike profile look sp object first last held other h =
+    ap (λ p. flat_map (λ k. shown_column k (look sp object k)) (filter p (columns_of (kind_of sp object)))) (fun_ext (λ k. ap (λ x. is_asked first last k && is_some x) (entry-alike profile look sp object get (Some k) held other h)))
 
 done-alike : (s : Standing) (other : List Uid) → SameHeld s.held other → (object : Uid) (ask : Ask) → does_ask (with_held s other) object ask ≡ does_ask s object ask
-done-alike s other h object (GetCells a b) = ap (λ values. gives (list (trees_of (map cell_value values)) ∷ [])) (listed-alike s.rows s.sp object a b s.held other h)
+done-alike s other h object (GetCells a b) = ap (λ values. gives (list (trees_of (map cell_value values)) ∷ [])) (listed-alike s.profile s.rows s.sp object a b s.held other h)
 done-alike s other h object (GetBytes a b) = refl
 done-alike s other h object (SetCells values) = refl
 done-alike s other h object (SetBytes a b) = refl
@@ -93,4 +94,4 @@ done-alike s other h object Other = refl
 pub judged-alike : (s : Standing) (other : List Uid) → SameHeld s.held other → (object method : Uid) (ask : Option Ask) → judged (with_held s other) object method ask ≡ judged s object method ask
 judged-alike s other h object method None = refl
 judged-alike s other h object method (Some ask) =
-    ap (λ d. unless_denied d (does (with_held s other) object ask)) (denial-alike s.rows s.sp object method s.held other h (wanted ask)) ∙ ap (unless_denied (denial s object method ask)) (done-alike s other h object (ask_at s.sp object ask))
+    ap (λ d. unless_denied d (does (with_held s other) object ask)) (denial-alike s.profile s.rows s.sp object method s.held other h (wanted ask)) ∙ ap (unless_denied (denial s object method ask)) (done-alike s other h object (ask_at s.sp object ask))

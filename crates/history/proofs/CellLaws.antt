@@ -1,4 +1,6 @@
 -- No change makes a cell, and no opening has one behind the last column.
+use Rattle.basics.specs.declared.profile.Profile.{Profile}
+use Rattle.basics.specs.declared.profile.Profile.TheVariants.{Base, Field}
 use Rattle.std.proofs.Common.{◌≡◌, ℕ, ◌+◌, ◌<◌, ◌==◌, Bool, true, false, ◌&&◌, List, [], ◌∷◌, Option, Some, None, refl, ◌∙◌, ap, cond, arith}
 use Rattle.std.specs.Prelude.{nat_le, option_map, Result, Ok, Err}
 use Rattle.std.specs.List.{list_all}
@@ -17,9 +19,9 @@ use Rattle.sp_cells.specs.Names.{locking_sp, range_uid, admin_pin_uid, mbr_contr
 use Rattle.sp_cells.specs.ColumnNames.{credential_column, lock_on_reset_column, mbr_done_column, mbr_done_on_reset_column}
 use Rattle.sp_cells.specs.Flat.{PlacedCell, sp_eq, cell_at}
 use Rattle.sp_rows.specs.Items.{Item, on, with_item, with_items}
-use Rattle.sp_rows.specs.Factory.{admin_factory, locking_factory, admin_sps, admin_authorities, locking_authorities, admin_pins, locking_pins, locking_ranges, locking_mbr_controls, admin_aces, authority_aces, pin_aces, range_aces, mbr_aces}
+use Rattle.sp_rows.specs.Factory.{admin_factory, locking_factory, admin_sps, admin_authorities, label_authorities, admin_pins, label_pins, admin_aces, label_aces, locking_authorities, locking_pins, locking_ranges, locking_mbr_controls, authority_aces, pin_aces, range_get_aces, range_aces, mbr_aces, gen_key_aces, range_keys, locking_infos, byte_tables}
 use Rattle.sp_tables.specs.AtReset.{has_kind}
-use Rattle.sp_tables.specs.Contents.{Contents, factory_contents, cells_look_up, flat}
+use Rattle.sp_tables.specs.Contents.{new_admin, new_locking, Contents, factory_contents, cells_look_up, flat}
 use Rattle.sp_tables.specs.Looks.{RowLook, put_in, puts_in}
 use Rattle.sp_tables.specs.Tries.{is_tries}
 use Rattle.locking.specs.declared.range.RangeRow.{RangeRow}
@@ -28,7 +30,7 @@ use Rattle.sessions.specs.Deeds.{cells_set, bytes_set, Change, Sets, Restores, R
 use Rattle.history.specs.Changes.{reset_rows, apply, apply_all, with_tries}
 use Rattle.history.specs.Opening.{Origin, factory_origin, life_cycle, pin, activated_origin, changes_of, row_fault, with_range, unless, origin_after}
 use Rattle.history.specs.Readers.{open_on, open_changes, changes, tries, factory_rows, rows_after, rows_within, is_of}
-use Rattle.history.specs.Bounds.{CellLaw, HasNoColumn, ColumnLaw}
+use Rattle.history.specs.Bounds.{CellLaw, HasNoColumn, last_column, ColumnLaw}
 
 -- another value in a cell that is none
 none-if : (b : Bool) (x y : Option Cell) → x ≡ None → y ≡ None → cond b x y ≡ None
@@ -79,8 +81,8 @@ cell_law o past sp object column h =
     by_owner number w a false = tries-none (tries past sp) (rows_after o past sp) object column a
 
 -- columns of what drives start from
-abbrev are_few : List Item → Bool
-are_few items = list_all (λ i. nat_le i.column.0 credential_column.0) items
+abbrev are_few : ℕ → List Item → Bool
+are_few most items = list_all (λ i. nat_le i.column.0 most) items
 
 clash : true ≡ false → ⊥
 clash h = cc
@@ -89,70 +91,72 @@ and-parts : (a b : Bool) → (a && b) ≡ true → (a ≡ true) × (b ≡ true)
 and-parts true b h = (refl, h)
 and-parts false b h = cc
 
-above : (k n : ℕ) → nat_le k 10 ≡ true → 10 < n → (k == n) ≡ false
-above k n h lt = grind (arith, nat_tests)
+above : (k most n : ℕ) → nat_le k most ≡ true → most < n → (k == n) ≡ false
+above k most n h lt = grind (arith, nat_tests)
 
-lacks : (es : List PlacedCell) (sp : Sp) (object : Uid) (column : Column) → credential_column.0 < column.0 → list_all (λ e. nat_le e.column.0 credential_column.0) es ≡ true → cell_at es sp object column ≡ None
-lacks [] sp object column lt h = refl
-lacks (e ∷ es) sp object column lt h =
-    let parts = and-parts (nat_le e.column.0 credential_column.0) (list_all (λ e. nat_le e.column.0 credential_column.0) es) h in
-    by_place (sp_eq e.sp sp) (e.object.0 == object.0) (above e.column.0 column.0 parts.0 lt) (lacks es sp object column lt parts.1)
+lacks : (most : ℕ) (es : List PlacedCell) (sp : Sp) (object : Uid) (column : Column) → most < column.0 → list_all (λ e. nat_le e.column.0 most) es ≡ true → cell_at es sp object column ≡ None
+lacks most [] sp object column lt h = refl
+lacks most (e ∷ es) sp object column lt h =
+    let parts = and-parts (nat_le e.column.0 most) (list_all (λ e. nat_le e.column.0 most) es) h in
+    by_place (sp_eq e.sp sp) (e.object.0 == object.0) (above e.column.0 most column.0 parts.0 lt) (lacks most es sp object column lt parts.1)
   where
     by_place : (a b : Bool) → (e.column.0 == column.0) ≡ false → cell_at es sp object column ≡ None → cond (a && b && (e.column.0 == column.0)) (Some e.value) (cell_at es sp object column) ≡ None
     by_place true true is rest = ap (λ t. cond t (Some e.value) (cell_at es sp object column)) is ∙ rest
     by_place true false is rest = rest
     by_place false b is rest = rest
 
-on-few : (sp : Sp) (items : List Item) → are_few items ≡ true → list_all (λ e. nat_le e.column.0 credential_column.0) (on sp items) ≡ true
-on-few sp [] h = refl
-on-few sp (i ∷ is) h =
-    let parts = and-parts (nat_le i.column.0 credential_column.0) (are_few is) h in
-    ap (λ b. b && list_all (λ e. nat_le e.column.0 credential_column.0) (on sp is)) parts.0 ∙ on-few sp is parts.1
+on-few : (most : ℕ) (sp : Sp) (items : List Item) → are_few most items ≡ true → list_all (λ e. nat_le e.column.0 most) (on sp items) ≡ true
+on-few most sp [] h = refl
+on-few most sp (i ∷ is) h =
+    let parts = and-parts (nat_le i.column.0 most) (are_few most is) h in
+    ap (λ b. b && list_all (λ e. nat_le e.column.0 most) (on sp is)) parts.0 ∙ on-few most sp is parts.1
 
-record AreFew (t : Contents) : Type 0 where
-  admin : are_few t.admin ≡ true
-  locking : are_few t.locking ≡ true
+record AreFew (most : ℕ) (t : Contents) : Type 0 where
+  admin : are_few most t.admin ≡ true
+  locking : are_few most t.locking ≡ true
 
-tables-lack : (t : Contents) → AreFew t → (sp : Sp) (object : Uid) (column : Column) → credential_column.0 < column.0 → cells_look_up t sp object column ≡ None
-tables-lack t h sp object column lt =
-    lacks (flat t) sp object column lt
-    (list_all-append (λ e. nat_le e.column.0 credential_column.0) (on Admin t.admin) (on Locking t.locking)
-    ∙ ap (λ b. b && list_all (λ e. nat_le e.column.0 credential_column.0) (on Locking t.locking)) (on-few Admin t.admin h.admin)
-    ∙ on-few Locking t.locking h.locking)
+tables-lack : (most : ℕ) (t : Contents) → AreFew most t → (sp : Sp) (object : Uid) (column : Column) → most < column.0 → cells_look_up t sp object column ≡ None
+tables-lack most t h sp object column lt =
+    lacks most (flat t) sp object column lt
+    (list_all-append (λ e. nat_le e.column.0 most) (on Admin t.admin) (on Locking t.locking)
+    ∙ ap (λ b. b && list_all (λ e. nat_le e.column.0 most) (on Locking t.locking)) (on-few most Admin t.admin h.admin)
+    ∙ on-few most Locking t.locking h.locking)
 
-item-few : (items : List Item) (object : Uid) (column : Column) (v : Cell) → are_few items ≡ true → are_few (with_item items object column v) ≡ true
-item-few [] object column v h = refl
-item-few (i ∷ is) object column v h =
-    let parts = and-parts (nat_le i.column.0 credential_column.0) (are_few is) h in
-    by_place ((i.object.0 == object.0) && (i.column.0 == column.0)) parts.0 parts.1 (item-few is object column v parts.1)
+item-few : (most : ℕ) (items : List Item) (object : Uid) (column : Column) (v : Cell) → are_few most items ≡ true → are_few most (with_item items object column v) ≡ true
+item-few most [] object column v h = refl
+item-few most (i ∷ is) object column v h =
+    let parts = and-parts (nat_le i.column.0 most) (are_few most is) h in
+    by_place ((i.object.0 == object.0) && (i.column.0 == column.0)) parts.0 parts.1 (item-few most is object column v parts.1)
   where
-    by_place : (b : Bool) → nat_le i.column.0 credential_column.0 ≡ true → are_few is ≡ true → are_few (with_item is object column v) ≡ true → are_few (cond b (record i { value = v } ∷ is) (i ∷ with_item is object column v)) ≡ true
-    by_place true here rest new = ap (λ t. t && are_few is) here ∙ rest
-    by_place false here rest new = ap (λ t. t && are_few (with_item is object column v)) here ∙ new
+    by_place : (b : Bool) → nat_le i.column.0 most ≡ true → are_few most is ≡ true → are_few most (with_item is object column v) ≡ true → are_few most (cond b (record i { value = v } ∷ is) (i ∷ with_item is object column v)) ≡ true
+    by_place true here rest new = ap (λ t. t && are_few most is) here ∙ rest
+    by_place false here rest new = ap (λ t. t && are_few most (with_item is object column v)) here ∙ new
 
-items-few : (items : List Item) (object : Uid) (changes : List (Column × Cell)) → are_few items ≡ true → are_few (with_items items object changes) ≡ true
-items-few items object [] h = h
-items-few items object (p ∷ ps) h = items-few (with_item items object p.0 p.1) object ps (item-few items object p.0 p.1 h)
+items-few : (most : ℕ) (items : List Item) (object : Uid) (changes : List (Column × Cell)) → are_few most items ≡ true → are_few most (with_items items object changes) ≡ true
+items-few most items object [] h = h
+items-few most items object (p ∷ ps) h = items-few most (with_item items object p.0 p.1) object ps (item-few most items object p.0 p.1 h)
 
-admin-few : (msid : List ℕ) → are_few (admin_factory msid) ≡ true
-unfolding admin_sps admin_authorities admin_pins admin_aces
-admin-few msid = refl
+admin-few : (p : Profile) (msid psid : List ℕ) → are_few (last_column p).0 (admin_factory p msid psid) ≡ true
+unfolding admin_sps admin_authorities label_authorities admin_pins label_pins admin_aces label_aces
+admin-few Base msid psid = refl
+admin-few Field msid psid = refl
 
-locking-few : are_few locking_factory ≡ true
-unfolding locking_authorities locking_pins locking_ranges locking_mbr_controls authority_aces pin_aces range_aces mbr_aces
-locking-few = refl
+locking-few : (p : Profile) (shadow : ℕ) → are_few (last_column p).0 (locking_factory p shadow) ≡ true
+unfolding locking_authorities locking_pins locking_ranges locking_mbr_controls authority_aces pin_aces range_get_aces range_aces mbr_aces gen_key_aces range_keys locking_infos byte_tables
+locking-few Base shadow = refl
+locking-few Field shadow = refl
 
-factory-few : (config : Config) → AreFew (factory_origin config).tables
-factory-few config = record { admin = admin-few config.msid; locking = locking-few }
+factory-few : (config : Config) → AreFew (last_column config.profile).0 (factory_origin config).tables
+factory-few config = record { admin = admin-few config.profile config.msid config.psid; locking = locking-few config.profile config.mbr_sectors }
 
-activated-few : (config : Config) → AreFew (activated_origin config).tables
+activated-few : (config : Config) → AreFew (last_column config.profile).0 (activated_origin config).tables
 activated-few config = record {
-  admin = items-few (admin_factory config.msid) locking_sp life_cycle (admin-few config.msid);
-  locking = items-few locking_factory (admin_pin_uid 1) (pin config.msid) locking-few;
+  admin = items-few (last_column config.profile).0 (new_admin config) locking_sp life_cycle (admin-few config.profile config.msid config.psid);
+  locking = items-few (last_column config.profile).0 (new_locking config) (admin_pin_uid 1) (pin config.msid) (locking-few config.profile config.mbr_sectors);
 }
 
-range-few : (row : RangeRow) (o : Origin) → AreFew o.tables → AreFew (with_range row o).tables
-range-few row o h = record { admin = h.admin; locking = items-few o.tables.locking (range_uid row.range) (changes_of row) h.locking }
+range-few : (most : ℕ) (row : RangeRow) (o : Origin) → AreFew most o.tables → AreFew most (with_range row o).tables
+range-few most row o h = record { admin = h.admin; locking = items-few most o.tables.locking (range_uid row.range) (changes_of row) h.locking }
 
 abbrev opens : Origin → Result Origin SetError
 opens o = Ok o
@@ -160,11 +164,11 @@ opens o = Ok o
 ok-same : {x y : Origin} → opens x ≡ opens y → x ≡ y
 ok-same h = cc
 
-rows-few : (rows : List RangeRow) (o made : Origin) → AreFew o.tables → origin_after rows o ≡ Ok made → AreFew made.tables
-rows-few [] o made few h = let same : o ≡ made = ok-same h in rw (← same) few
-rows-few (row ∷ rows) o made few h = by_fault (row_fault o row) h (rows-few rows (with_range row o) made (range-few row o few))
+rows-few : (most : ℕ) (rows : List RangeRow) (o made : Origin) → AreFew most o.tables → origin_after rows o ≡ Ok made → AreFew most made.tables
+rows-few most [] o made few h = let same : o ≡ made = ok-same h in rw (← same) few
+rows-few most (row ∷ rows) o made few h = by_fault (row_fault o row) h (rows-few most rows (with_range row o) made (range-few most row o few))
   where
-    by_fault : (x : Option SetError) → unless x (origin_after rows (with_range row o)) ≡ Ok made → (origin_after rows (with_range row o) ≡ Ok made → AreFew made.tables) → AreFew made.tables
+    by_fault : (x : Option SetError) → unless x (origin_after rows (with_range row o)) ≡ Ok made → (origin_after rows (with_range row o) ≡ Ok made → AreFew most made.tables) → AreFew most made.tables
     by_fault None g rest = rest g
     by_fault (Some fault) g rest = absurd (refused g)
       where
@@ -186,14 +190,26 @@ rows-new (row ∷ rows) o made new h = by_fault (row_fault o row) h (rows-new ro
         refused : {e : SetError} {x : Origin} → Err e ≡ Ok x → ⊥
         refused k = cc
 
-nowhere : (o : Origin) → IsOfFactory o → AreFew o.tables → (column : Column) → credential_column.0 < column.0 → HasNoColumn o column
-nowhere o new h column lt sp object = record {
-  opened = tables-lack o.tables h sp object column lt;
-  factory = ap (λ (t : Contents). cells_look_up t sp object column) new ∙ tables-lack (factory_contents o.tables.config) (factory-few o.tables.config) sp object column lt;
+-- nor does their configuration change
+rows-config : (rows : List RangeRow) (o made : Origin) (config : Config) → o.tables.config ≡ config → origin_after rows o ≡ Ok made → made.tables.config ≡ config
+rows-config [] o made config new h = let same : o ≡ made = ok-same h in rw (← same) new
+rows-config (row ∷ rows) o made config new h = by_fault (row_fault o row) h (rows-config rows (with_range row o) made config new)
+  where
+    by_fault : (x : Option SetError) → unless x (origin_after rows (with_range row o)) ≡ Ok made → (origin_after rows (with_range row o) ≡ Ok made → made.tables.config ≡ config) → made.tables.config ≡ config
+    by_fault None g rest = rest g
+    by_fault (Some fault) g rest = absurd (refused g)
+      where
+        refused : {e : SetError} {x : Origin} → Err e ≡ Ok x → ⊥
+        refused k = cc
+
+nowhere : (config : Config) (o : Origin) → o.tables.config ≡ config → IsOfFactory o → AreFew (last_column config.profile).0 o.tables → (column : Column) → (last_column config.profile).0 < column.0 → HasNoColumn o column
+nowhere config o same new h column lt sp object = record {
+  opened = tables-lack (last_column config.profile).0 o.tables h sp object column lt;
+  factory = ap (λ (t : Contents). cells_look_up t sp object column) (new ∙ ap factory_contents same) ∙ tables-lack (last_column config.profile).0 (factory_contents config) (factory-few config) sp object column lt;
 }
 
 pub column_law : ColumnLaw
 column_law config column lt = (
-  nowhere (factory_origin config) refl (factory-few config) column lt,
-  λ rows o h. nowhere o (rows-new rows (activated_origin config) o refl h) (rows-few rows (activated_origin config) o (activated-few config) h) column lt,
+  nowhere config (factory_origin config) refl refl (factory-few config) column lt,
+  λ rows o h. nowhere config o (rows-config rows (activated_origin config) o config refl h) (rows-new rows (activated_origin config) o refl h) (rows-few (last_column config.profile).0 rows (activated_origin config) o (activated-few config) h) column lt,
 )

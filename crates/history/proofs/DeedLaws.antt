@@ -115,11 +115,11 @@ record Granted (s : Standing) (object method : Uid) (k : ℕ) (j : Judgement) : 
   ask : Ask
   own : is_own ask method ≡ true
   row : List Uid
-  has : acl_at s.sp object method ≡ Some row
+  has : acl_at s.profile s.sp object method ≡ Some row
   does : does_ask s object ask ≡ j
   kind : ask_kind ask ≡ suc k
 
-with-case : (s : Standing) (object method : Uid) (k : ℕ) (j : Judgement) (ask : Ask) → is_own ask method ≡ true → (row : List Uid) → acl_at s.sp object method ≡ Some row → (b : Bool) → does_ask s object (cond b ask Other) ≡ j → kind j ≡ suc k → Granted s object method k j
+with-case : (s : Standing) (object method : Uid) (k : ℕ) (j : Judgement) (ask : Ask) → is_own ask method ≡ true → (row : List Uid) → acl_at s.profile s.sp object method ≡ Some row → (b : Bool) → does_ask s object (cond b ask Other) ≡ j → kind j ≡ suc k → Granted s object method k j
 with-case s object method k j ask own row has true h g =
     record { ask = ask; own = own; row = row; has = has; does = h; kind = does-kind s object ask k (ap kind h ∙ g) }
 with-case s object method k j ask own row has false h g = absurd (zero-one (ap kind h ∙ g))
@@ -159,14 +159,14 @@ revert-is Other method own h = cc
 activates-outside : (s : Standing) (object method : Uid) → Granted s object method 3 Activates → (s.sp ≡ Admin) × (s.is_open ≡ false)
 activates-outside s object method g =
     let x = activate-is g.ask method g.own g.kind in (
-      activate-admin s.sp object method g.row x.1 g.has,
+      activate-admin s.profile s.sp object method g.row x.1 g.has,
       (open-kind s.is_open Activates 3 (ap (λ a. kind (does_ask s object a)) (sym x.0) ∙ ap kind g.does)).1,
     )
 
 reverts-outside : (s : Standing) (object method : Uid) (sp : Sp) → Granted s object method 4 (Reverts sp) → (s.sp ≡ Admin) × (s.is_open ≡ false)
 reverts-outside s object method sp g =
     let x = revert-is g.ask method g.own g.kind in (
-      revert-admin s.sp object method g.row x.1 g.has,
+      revert-admin s.profile s.sp object method g.row x.1 g.has,
       (open-kind s.is_open (Reverts (sp_of_row object)) 4 (ap (λ a. kind (does_ask s object a)) (sym x.0) ∙ ap kind g.does)).1,
     )
 
@@ -225,6 +225,8 @@ setting-fit p sp sectors object fit (Some kinds.Ace) ask set h = asked-fit p sp 
 setting-fit p sp sectors object fit (Some kinds.Locking) ask set h = asked-fit p sp sectors object fit (set_types_of (Some kinds.Locking)) ask set h
 setting-fit p sp sectors object fit (Some kinds.MbrControl) ask set h = asked-fit p sp sectors object fit (set_types_of (Some kinds.MbrControl)) ask set h
 setting-fit p sp sectors object fit (Some kinds.TperInfo) ask set h = asked-fit p sp sectors object fit (set_types_of (Some kinds.TperInfo)) ask set h
+setting-fit p sp sectors object fit (Some kinds.LockingInfo) ask set h = asked-fit p sp sectors object fit (set_types_of (Some kinds.LockingInfo)) ask set h
+setting-fit p sp sectors object fit (Some kinds.Table) ask set h = asked-fit p sp sectors object fit (set_types_of (Some kinds.Table)) ask set h
 
 unfaulted : (fault : Option SetError) (set made : Setting) → unless_fault fault set ≡ Some made → made ≡ set
 unfaulted None set made h = some-same h
@@ -279,7 +281,7 @@ set-is Other method own h = cc
 makes-one : (s : Standing) (object method : Uid) (c : Setting) → Granted s object method 1 (Makes c) → s.sp ≡ Admin → is_of_row is_set_in_admin (Sets c) ≡ true
 makes-one s object method c g admin =
     makes-fit (λ y. is_of_row is_set_in_admin (Sets y)) s object
-    (row-fit is_set_in_admin s object (set-in-admin object method g.row (set-is g.ask method g.own g.kind) (ap (λ x. acl_at x object method) (sym admin) ∙ g.has)))
+    (row-fit is_set_in_admin s object (set-in-admin s.profile object method g.row (set-is g.ask method g.own g.kind) (ap (λ x. acl_at s.profile x object method) (sym admin) ∙ g.has)))
     g.ask c g.kind g.does
 
 -- the live session of an SP is on it

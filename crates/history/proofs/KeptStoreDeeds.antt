@@ -15,8 +15,7 @@ use Rattle.sp_cells.specs.ColumnNames.{life_cycle_state_column, pin_column, trie
 use Rattle.sp_cells.specs.Limits.{manufactured, manufactured_inactive}
 use Rattle.sp_cells.specs.Ranges.{number}
 use Rattle.sp_rows.specs.Items.{item_at, with_item}
-use Rattle.sp_rows.specs.Factory.{admin_factory, locking_factory}
-use Rattle.sp_tables.specs.Contents.{Contents, items_of, factory_contents, cells_look_up}
+use Rattle.sp_tables.specs.Contents.{new_admin, new_locking, Contents, items_of, factory_contents, cells_look_up}
 use Rattle.sp_tables.specs.Looks.{put_in}
 use Rattle.sp_tables.specs.AtReset.{locking_tries_after}
 use Rattle.sp_tables.specs.Tries.{is_tries}
@@ -250,13 +249,14 @@ factory-clean config sp = no-tries-in (factory_origin config) (factory_law confi
 new-rows : (o : Origin) → HasKnownRows o → (sp : Sp) → factory_rows o sp ≡ item_at (items_of (factory_contents o.tables.config) sp)
 new-rows o known sp = ap (λ (t : Contents). cells_look_up t sp) known.factory ∙ look_up-sp (factory_contents o.tables.config) sp
 
-locking-part : (s : Stored) (o : Origin) (e : Event) (past : List Event) → KeepsStore s o past → turns Locking e.deed ≡ Some None → brought past Locking e.deed ≡ Restores ∷ [] → ((u : Uid) → tries (e ∷ past) Locking u ≡ 0) → KeepsPart (part_from locking_factory (blank s.locking.bytes)) o (e ∷ past) Locking
+locking-part : (s : Stored) (o : Origin) (e : Event) (past : List Event) → KeepsStore s o past → turns Locking e.deed ≡ Some None → brought past Locking e.deed ≡ Restores ∷ [] → ((u : Uid) → tries (e ∷ past) Locking u ≡ 0) → KeepsPart (part_from (new_locking s.config) (blank s.locking.bytes)) o (e ∷ past) Locking
 locking-part s o e past h turn bring zeros =
-    restored-part locking_factory (blank s.locking.bytes) o (e ∷ past) Locking (turned Locking e past None turn) (rows-by o e past Locking (Restores ∷ []) bring ∙ new-rows o h.known Locking) zeros (factory-clean s.config Locking)
+    restored-part (new_locking s.config) (blank s.locking.bytes) o (e ∷ past) Locking (turned Locking e past None turn)
+    (rows-by o e past Locking (Restores ∷ []) bring ∙ new-rows o h.known Locking ∙ ap (λ (c : Config). item_at (new_locking c)) (sym h.config)) zeros (factory-clean s.config Locking)
 
-locking-bytes : (s : Stored) (o : Origin) (e : Event) (past : List Event) → KeepsStore s o past → brought past Locking e.deed ≡ Restores ∷ [] → KeepsBytes (part_from locking_factory (blank s.locking.bytes)) o (e ∷ past)
+locking-bytes : (s : Stored) (o : Origin) (e : Event) (past : List Event) → KeepsStore s o past → brought past Locking e.deed ≡ Restores ∷ [] → KeepsBytes (part_from (new_locking s.config) (blank s.locking.bytes)) o (e ∷ past)
 locking-bytes s o e past h bring =
-    closed-bytes (part_from locking_factory (blank s.locking.bytes)) o (e ∷ past) (Restores ∷ changes past Locking) refl (ap (λ cs. cs ++ changes past Locking) bring) (blank-length s.locking.bytes ∙ h.bytes.size) (λ place. blank-at s.locking.bytes place)
+    closed-bytes (part_from (new_locking s.config) (blank s.locking.bytes)) o (e ∷ past) (Restores ∷ changes past Locking) refl (ap (λ cs. cs ++ changes past Locking) bring) (blank-length s.locking.bytes ∙ h.bytes.size) (λ place. blank-at s.locking.bytes place)
 
 reverted-kept : (s : Stored) (o : Origin) (past : List Event) (x : Option ℕ) (w : Option Why) (sp : Sp) (wipes : Bool) (r : Response) → KeepsStore s o past → KeepsStore (reverted sp s) o (doing x w (InSession (Reverted sp wipes) r) ∷ past)
 reverted-kept s o past x w Admin wipes r h = record { config = h.config; known = h.known; parts = parts; bytes = locking-bytes s o e past h refl }
@@ -266,8 +266,8 @@ reverted-kept s o past x w Admin wipes r h = record { config = h.config; known =
 
     parts : (sp : Sp) → KeepsPart (part (reverted Admin s) sp) o (e ∷ past) sp
     parts Admin =
-        restored-part (admin_factory s.config.msid) [] o (e ∷ past) Admin (turned Admin e past None refl)
-        (rows-by o e past Admin (Restores ∷ []) refl ∙ new-rows o h.known Admin ∙ ap (λ (c : Config). item_at (admin_factory c.msid)) (sym h.config))
+        restored-part (new_admin s.config) [] o (e ∷ past) Admin (turned Admin e past None refl)
+        (rows-by o e past Admin (Restores ∷ []) refl ∙ new-rows o h.known Admin ∙ ap (λ (c : Config). item_at (new_admin c)) (sym h.config))
         (λ u. refl) (factory-clean s.config Admin)
     parts Locking = locking-part s o e past h refl refl (λ u. refl)
 reverted-kept s o past x w Locking wipes r h = record { config = h.config; known = h.known; parts = parts; bytes = locking-bytes s o e past h refl }

@@ -1,4 +1,6 @@
 -- What a store keeps over what a drive starts from; and which rows count attempts there.
+use Rattle.basics.specs.declared.profile.Profile.{Profile}
+use Rattle.basics.specs.declared.profile.Profile.TheVariants.{Base, Field}
 use Rattle.std.proofs.Common.{◌≡◌, ℕ, ◌==◌, ◌*◌, Bool, true, false, ◌&&◌, not, List, [], ◌∷◌, Option, Some, None, refl, sym, ◌∙◌, ap, cond, eqb-true}
 use Rattle.std.specs.Prelude.{option_map, Result, Ok, Err}
 use Rattle.std.specs.List.{list_all}
@@ -12,8 +14,8 @@ use Rattle.sp_cells.specs.declared.error.SetError.{SetError}
 use Rattle.sp_cells.specs.Config.{Config}
 use Rattle.sp_cells.specs.Names.{admin_pin_uid, locking_sp, range_uid}
 use Rattle.sp_rows.specs.Items.{Item, item_at, with_items}
-use Rattle.sp_rows.specs.Factory.{admin_factory, locking_factory, admin_sps, admin_authorities, locking_authorities, admin_pins, locking_pins, locking_ranges, locking_mbr_controls, admin_aces, authority_aces, pin_aces, range_aces, mbr_aces}
-use Rattle.sp_tables.specs.Contents.{Contents, items_of, cells_look_up}
+use Rattle.sp_rows.specs.Factory.{admin_factory, locking_factory, admin_sps, admin_authorities, label_authorities, admin_pins, label_pins, admin_aces, label_aces, locking_authorities, locking_pins, locking_ranges, locking_mbr_controls, authority_aces, pin_aces, range_get_aces, range_aces, mbr_aces, gen_key_aces, range_keys, locking_infos, byte_tables}
+use Rattle.sp_tables.specs.Contents.{new_admin, new_locking, Contents, items_of, cells_look_up}
 use Rattle.sp_tables.specs.Looks.{RowLook}
 use Rattle.sp_tables.specs.Tries.{is_tries}
 use Rattle.sp_tables.proofs.LookLemmas.{look_up-sp, item_at-puts}
@@ -94,17 +96,20 @@ counts_else sp object column = is_tries object column && not (is_cleared sp obje
 abbrev locks_here : Uid → Column → Bool
 locks_here object column = has_locks object
 
-admin-counts : (msid : List ℕ) → lack (counts_else Admin) (admin_factory msid) ≡ true
-unfolding admin_sps admin_authorities admin_pins admin_aces in_family
-admin-counts msid = refl
+admin-counts : (p : Profile) (msid psid : List ℕ) → lack (counts_else Admin) (admin_factory p msid psid) ≡ true
+unfolding admin_sps admin_authorities label_authorities admin_pins label_pins admin_aces label_aces in_family
+admin-counts Base msid psid = refl
+admin-counts Field msid psid = refl
 
-locking-counts : lack (counts_else Locking) locking_factory ≡ true
-unfolding locking_authorities locking_pins locking_ranges locking_mbr_controls authority_aces pin_aces range_aces mbr_aces in_family
-locking-counts = refl
+locking-counts : (p : Profile) (shadow : ℕ) → lack (counts_else Locking) (locking_factory p shadow) ≡ true
+unfolding locking_authorities locking_pins locking_ranges locking_mbr_controls authority_aces pin_aces range_get_aces range_aces mbr_aces gen_key_aces range_keys locking_infos byte_tables in_family
+locking-counts Base shadow = refl
+locking-counts Field shadow = refl
 
-admin-locks : (msid : List ℕ) → lack locks_here (admin_factory msid) ≡ true
-unfolding admin_sps admin_authorities admin_pins admin_aces is_range
-admin-locks msid = refl
+admin-locks : (p : Profile) (msid psid : List ℕ) → lack locks_here (admin_factory p msid psid) ≡ true
+unfolding admin_sps admin_authorities label_authorities admin_pins label_pins admin_aces label_aces is_range
+admin-locks Base msid psid = refl
+admin-locks Field msid psid = refl
 
 else-where : (a b : Bool) → a ≡ true → b ≡ false → (a && not b) ≡ true
 else-where true false h g = refl
@@ -133,18 +138,18 @@ known-rows o new h = record {
 
 factory-known : (config : Config) → Known (factory_origin config).tables
 factory-known config = record {
-  admin = λ object column is apart. lacks (counts_else Admin) (admin_factory config.msid) object column (else-where (is_tries object column) (is_cleared Admin object) is apart) (admin-counts config.msid);
-  locking = λ object column is apart. lacks (counts_else Locking) locking_factory object column (else-where (is_tries object column) (is_cleared Locking object) is apart) locking-counts;
-  locks = λ object column is. lacks locks_here (admin_factory config.msid) object column is (admin-locks config.msid);
+  admin = λ object column is apart. lacks (counts_else Admin) (new_admin config) object column (else-where (is_tries object column) (is_cleared Admin object) is apart) (admin-counts config.profile config.msid config.psid);
+  locking = λ object column is apart. lacks (counts_else Locking) (new_locking config) object column (else-where (is_tries object column) (is_cleared Locking object) is apart) (locking-counts config.profile config.mbr_sectors);
+  locks = λ object column is. lacks locks_here (new_admin config) object column is (admin-locks config.profile config.msid config.psid);
 }
 
 activated-known : (config : Config) → Known (activated_origin config).tables
 activated-known config =
     let h = factory-known config in
     record {
-      admin = λ object column is apart. items-none (admin_factory config.msid) locking_sp life_cycle object column (h.admin object column is apart);
-      locking = λ object column is apart. items-none locking_factory (admin_pin_uid 1) (pin config.msid) object column (h.locking object column is apart);
-      locks = λ object column is. items-none (admin_factory config.msid) locking_sp life_cycle object column (h.locks object column is);
+      admin = λ object column is apart. items-none (new_admin config) locking_sp life_cycle object column (h.admin object column is apart);
+      locking = λ object column is apart. items-none (new_locking config) (admin_pin_uid 1) (pin config.msid) object column (h.locking object column is apart);
+      locks = λ object column is. items-none (new_admin config) locking_sp life_cycle object column (h.locks object column is);
     }
 
 range-known : (row : RangeRow) (o : Origin) → Known o.tables → Known (with_range row o).tables

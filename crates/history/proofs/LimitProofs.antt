@@ -9,7 +9,7 @@ use Rattle.audit.specs.declared.reason.AttemptFailure.{AttemptFailure}
 use Rattle.tcg_tokens.specs.declared.error.TokenError.{TokenError}
 use Rattle.tcg_tokens.specs.Message.{Message, call, reply, end_session, begin, end}
 use Rattle.sp_cells.specs.ColumnNames.{pin_column, try_limit_column, tries_column, is_class_column, enabled_column}
-use Rattle.sessions.specs.Attempts.{attempt_failure as failure_of, credential, is_pin, is_used_up}
+use Rattle.sessions.specs.Attempts.{attempt_failure as failure_of, is_there, credential, is_pin, is_used_up}
 use Rattle.call_shapes.specs.Asks.{uid_of}
 use Rattle.sessions.specs.Deeds.{Begun, SessionDeed, Unchanged, Tried, Activated, Outcome, says}
 use Rattle.call_shapes.specs.Statuses.{fail}
@@ -29,7 +29,6 @@ use Rattle.methods.specs.Said.{refusal_of}
 use Rattle.history.proofs.Items.{item-from}
 use Rattle.sp_cells.specs.Ranges.{number}
 use Rattle.audit.specs.declared.reason.AttemptFailure.TheVariants.{WrongPin, LockedOut, Disabled, Unknown}
-use Rattle.sessions.specs.Known.{is_known}
 use Rattle.history.specs.TriesLaw.{is_below_limit, LimitLaw}
 
 -- the tests of an attempt
@@ -44,7 +43,7 @@ failed-below : (look : LookUp) (sp : Sp) (authority : Uid) (proof : List ℕ) �
     → not (is_used_up (number look sp (credential look sp authority) try_limit_column) (number look sp (credential look sp authority) tries_column)) ≡ true
 failed-below look sp authority proof h =
     let row : Uid = credential look sp authority in
-    by-tests (not (is_known sp authority) || (number look sp authority is_class_column == 1)) (not (number look sp authority enabled_column == 1)) (authority.0 == anybody.0)
+    by-tests (not (is_there look sp authority) || (number look sp authority is_class_column == 1)) (not (number look sp authority enabled_column == 1)) (authority.0 == anybody.0)
     (is_used_up (number look sp row try_limit_column) (number look sp row tries_column)) (is_pin proof (look sp row pin_column)) h
 
 -- a StartSession that fails by its attempt

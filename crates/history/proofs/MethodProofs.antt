@@ -61,14 +61,14 @@ pub denial-none : (s : Standing) (object method : Uid) (ask : Ask) → denial s 
 denial-none s object method ask h = (grants s object method ask).0 h
 
 -- some ACE is wanted, and so the method is offered
-first-row : (s : Standing) (object method : Uid) (ks : List (Option Column)) (k : Option Column) (rest : List (Option Column)) → ks ≡ k ∷ rest → EachHasAce s.rows s.sp object method s.held ks → (r : List Uid) × (acl_at s.sp object method ≡ Some r)
+first-row : (s : Standing) (object method : Uid) (ks : List (Option Column)) (k : Option Column) (rest : List (Option Column)) → ks ≡ k ∷ rest → EachHasAce s.profile s.rows s.sp object method s.held ks → (r : List Uid) × (acl_at s.profile s.sp object method ≡ Some r)
 first-row s object method ks k rest is h =
-    let e : EachHasAce s.rows s.sp object method s.held (k ∷ rest) = subst (EachHasAce s.rows s.sp object method s.held) is h in row-there (acl_at s.sp object method) e.0.ace e.0.in_row
+    let e : EachHasAce s.profile s.rows s.sp object method s.held (k ∷ rest) = subst (EachHasAce s.profile s.rows s.sp object method s.held) is h in row-there (acl_at s.profile s.sp object method) e.0.ace e.0.in_row
 
 not-empty : (p : ℕ × Tree) (ps : List (ℕ × Tree)) → (length (p ∷ ps) == 0) ≡ false
 not-empty p ps = grind (arith, nat_tests)
 
-pub granted-row : (s : Standing) (object method : Uid) (ask : Ask) → IsGranted s object method ask → (r : List Uid) × (acl_at s.sp object method ≡ Some r)
+pub granted-row : (s : Standing) (object method : Uid) (ask : Ask) → IsGranted s object method ask → (r : List Uid) × (acl_at s.profile s.sp object method ≡ Some r)
 granted-row s object method (SetCells []) h = first-row s object method (None ∷ []) None [] refl h
 granted-row s object method (SetCells (p ∷ ps)) h = first-row s object method (wanted (SetCells (p ∷ ps))) (Some (col p.0)) (map (λ q. Some (col q.0)) ps) (ap (λ b. cond b (None ∷ []) (map (λ q. Some (col q.0)) (p ∷ ps))) (not-empty p ps)) h
 granted-row s object method (GetCells a b) h = first-row s object method (None ∷ []) None [] refl h
@@ -133,18 +133,18 @@ unoffered-access : (look : LookUp) (sp : Sp) (object method : Uid) (k : Option C
 unoffered-access look sp object method k None = refl
 unoffered-access look sp object method k (Some row) = refl
 
-column-access : (s : Standing) (object method : Uid) (k : Option Column) (x : Option Uid) (why : Why) → unless_allowed x (why_denied s.rows s.sp object method k (acl_at s.sp object method)) ≡ Some why → of_access why ≡ true
-column-access s object method k None why h = ap of_access (sym (same-why h)) ∙ unoffered-access s.rows s.sp object method k (acl_at s.sp object method)
+column-access : (s : Standing) (object method : Uid) (k : Option Column) (x : Option Uid) (why : Why) → unless_allowed x (why_denied s.rows s.sp object method k (acl_at s.profile s.sp object method)) ≡ Some why → of_access why ≡ true
+column-access s object method k None why h = ap of_access (sym (same-why h)) ∙ unoffered-access s.rows s.sp object method k (acl_at s.profile s.sp object method)
 column-access s object method k (Some ace) why h = absurd (none-some h)
 
 either-some : (x y : Option Why) (why : Why) → option_or x y ≡ Some why → (x ≡ Some why) ⊎ (y ≡ Some why)
 either-some None y why h = inr h
 either-some (Some w) y why h = inl h
 
-wanted-access : (s : Standing) (object method : Uid) (ks : List (Option Column)) (why : Why) → first_some (map (denial_of s.rows s.sp object method s.held) ks) ≡ Some why → of_access why ≡ true
+wanted-access : (s : Standing) (object method : Uid) (ks : List (Option Column)) (why : Why) → first_some (map (denial_of s.profile s.rows s.sp object method s.held) ks) ≡ Some why → of_access why ≡ true
 wanted-access s object method [] why h = absurd (none-some h)
-wanted-access s object method (k ∷ ks) why h = elim (either-some (denial_of s.rows s.sp object method s.held k) (first_some (map (denial_of s.rows s.sp object method s.held) ks)) why h) [
-  | inl g ↦ column-access s object method k (ace_of s.rows s.sp object method k s.held) why g
+wanted-access s object method (k ∷ ks) why h = elim (either-some (denial_of s.profile s.rows s.sp object method s.held k) (first_some (map (denial_of s.profile s.rows s.sp object method s.held) ks)) why h) [
+  | inl g ↦ column-access s object method k (ace_of s.profile s.rows s.sp object method k s.held) why g
   | inr g ↦ wanted-access s object method ks why g
 ]
 

@@ -1,4 +1,6 @@
 -- A drive that has done no act agrees with none.
+use Rattle.basics.specs.declared.profile.Profile.{Profile}
+use Rattle.basics.specs.declared.profile.Profile.TheVariants.{Base, Field}
 use Rattle.std.proofs.Common.{◌≡◌, ℕ, ◌==◌, ◌+◌, ◌/◌, suc, zero, Bool, true, false, ◌&&◌, ◌||◌, not, List, [], ◌∷◌, Option, Some, None, refl, ◌∙◌, ap, cond, eqb-true, arith}
 use Rattle.std.specs.Prelude.{option_map, Result, Ok, Err}
 use Rattle.std.specs.List.{list_all}
@@ -15,8 +17,8 @@ use Rattle.sp_cells.specs.Config.{Config}
 use Rattle.sp_cells.specs.Flat.{PlacedCell, sp_eq, cell_at}
 use Rattle.sp_cells.specs.Names.{c_pin_table, range_base, locking_sp, range_uid, admin_pin_uid}
 use Rattle.sp_rows.specs.Items.{Item, on, with_item, with_items}
-use Rattle.sp_rows.specs.Factory.{admin_factory, locking_factory, admin_sps, admin_authorities, locking_authorities, admin_pins, locking_pins, locking_ranges, locking_mbr_controls, admin_aces, authority_aces, pin_aces, range_aces, mbr_aces}
-use Rattle.sp_tables.specs.Contents.{Contents, cells_look_up, flat}
+use Rattle.sp_rows.specs.Factory.{admin_factory, locking_factory, admin_sps, admin_authorities, label_authorities, admin_pins, label_pins, admin_aces, label_aces, locking_authorities, locking_pins, locking_ranges, locking_mbr_controls, authority_aces, pin_aces, range_get_aces, range_aces, mbr_aces, gen_key_aces, range_keys, locking_infos, byte_tables}
+use Rattle.sp_tables.specs.Contents.{new_admin, new_locking, Contents, cells_look_up, flat}
 use Rattle.sp_tables.specs.Tries.{is_pin_row, is_tries, names_tries}
 use Rattle.locking.specs.declared.range.RangeRow.{RangeRow}
 use Rattle.history.specs.Opening.{Origin, factory_origin, life_cycle, pin, activated_origin, changes_of, row_fault, with_range, unless, origin_after}
@@ -129,21 +131,23 @@ no-tries object [] h = refl
 no-tries object (p ∷ ps) h = ap (λ b. (b && (p.0.0 == 6)) || names_tries object ps) h ∙ no-tries object ps h
 
 -- the factory's rows, and those of openings
-admin-clean : (msid : List ℕ) → are_clean (admin_factory msid) ≡ true
-unfolding admin_sps admin_authorities admin_pins admin_aces
-admin-clean msid = refl
+admin-clean : (p : Profile) (msid psid : List ℕ) → are_clean (admin_factory p msid psid) ≡ true
+unfolding admin_sps admin_authorities label_authorities admin_pins label_pins admin_aces label_aces
+admin-clean Base msid psid = refl
+admin-clean Field msid psid = refl
 
-locking-clean : are_clean locking_factory ≡ true
-unfolding locking_authorities locking_pins locking_ranges locking_mbr_controls authority_aces pin_aces range_aces mbr_aces
-locking-clean = refl
+locking-clean : (p : Profile) (shadow : ℕ) → are_clean (locking_factory p shadow) ≡ true
+unfolding locking_authorities locking_pins locking_ranges locking_mbr_controls authority_aces pin_aces range_get_aces range_aces mbr_aces gen_key_aces range_keys locking_infos byte_tables
+locking-clean Base shadow = refl
+locking-clean Field shadow = refl
 
 factory-clean : (config : Config) → AreClean (factory_origin config).tables
-factory-clean config = record { admin = admin-clean config.msid; locking = locking-clean }
+factory-clean config = record { admin = admin-clean config.profile config.msid config.psid; locking = locking-clean config.profile config.mbr_sectors }
 
 activated-clean : (config : Config) → AreClean (activated_origin config).tables
 activated-clean config = record {
-  admin = items-clean (admin_factory config.msid) locking_sp life_cycle refl (admin-clean config.msid);
-  locking = items-clean locking_factory (admin_pin_uid 1) (pin config.msid) refl locking-clean;
+  admin = items-clean (new_admin config) locking_sp life_cycle refl (admin-clean config.profile config.msid config.psid);
+  locking = items-clean (new_locking config) (admin_pin_uid 1) (pin config.msid) refl (locking-clean config.profile config.mbr_sectors);
 }
 
 range-clean : (row : RangeRow) (o : Origin) → AreClean o.tables → AreClean (with_range row o).tables

@@ -1,10 +1,12 @@
 -- What is nowhere, after any acts: cells that no table has, bytes of the shadow past its table,
 -- responses on other ComIDs.
+use Rattle.basics.specs.declared.profile.Profile.{Profile}
+use Rattle.basics.specs.declared.profile.Profile.TheVariants.{Base, Field}
 use Rattle.std.specs.Prelude.{◌≡◌, ℕ, ◌*◌, ◌≤◌, ◌<◌, false, List, [], ◌∷◌, length, None, Ok}
 use Rattle.sp_cells.specs.declared.names.Sp.{Sp}
 use Rattle.sp_cells.specs.declared.names.Uid.{Uid}
 use Rattle.sp_cells.specs.declared.names.Column.{Column}
-use Rattle.sp_cells.specs.ColumnNames.{credential_column}
+use Rattle.sp_cells.specs.ColumnNames.{credential_column, recommended_access_granularity_column}
 use Rattle.sp_cells.specs.Config.{Config}
 use Rattle.sp_tables.specs.Contents.{cells_look_up}
 use Rattle.shadow_mbr.specs.Stored.{sector_size, zeros}
@@ -34,13 +36,17 @@ CellLaw =
     → IsNowhere o sp object column
     → HasNone o past sp object column
 
--- No opening has a column behind the last one that tables have.
+-- No opening has a column behind the last one that tables have, in a drive of this profile.
+abbrev pub last_column : Profile → Column
+last_column Base = credential_column
+last_column Field = recommended_access_granularity_column
+
 abbrev pub HasNoColumn : Origin → Column → Type 0
 HasNoColumn o column = (sp : Sp) (object : Uid) → IsNowhere o sp object column
 
 abbrev pub ColumnLaw : Type 0
 ColumnLaw =
-    (config : Config) (column : Column) → credential_column.0 < column.0
+    (config : Config) (column : Column) → (last_column config.profile).0 < column.0
     → HasNoColumn (factory_origin config) column
     × ((rows : List RangeRow) (o : Origin) → origin_with config rows ≡ Ok o → HasNoColumn o column)
 

@@ -1,6 +1,8 @@
 -- Each method of the access list has a case, and each cell of a new drive stands in a column of its kind.
 use Rattle.std.proofs.Common.{◌≡◌, ◌==◌, ◌&&◌, ◌||◌, ◌-◌, ◌^◌, ℕ, Bool, true, false, List, [], ◌∷◌, Option, None, Some, is_some, option_map, refl, ap, sym, subst, ◌∙◌, if◌then◌else◌, inl, inr}
 use Rattle.sp_cells.specs.Names.{uid, none, col, get, set, authenticate, activate, revert}
+use Rattle.basics.specs.declared.profile.Profile.{Profile}
+use Rattle.basics.specs.declared.profile.Profile.TheVariants.{Base, Field}
 use Rattle.std.specs.List.{list_all, list_any}
 use Rattle.std.proofs.lemmas.Bool.Decides.{eqb_tells}
 use Rattle.sp_cells.specs.declared.names.Uid.{Uid}
@@ -12,8 +14,8 @@ use Rattle.sp_cells.specs.ColumnNames.{uid_column}
 use Rattle.sp_cells.specs.Config.{Config}
 use Rattle.sp_cells.specs.Flat.{sp_eq}
 use Rattle.sp_rows.specs.Items.{Item, is_here, item_at}
-use Rattle.sp_rows.specs.Factory.{admin_sps, admin_authorities, locking_authorities, admin_pins, locking_pins, locking_ranges, locking_mbr_controls, admin_aces, authority_aces, pin_aces, range_aces, mbr_aces}
-use Rattle.access_list.specs.Access.{Grant, acl_in, this_sp_grants, admin_grants, authority_grants, fixed_ace_gets, user_ace_grants, read_locked_ace_grants, write_locked_ace_grants, done_ace_grants, pin_grants, range_grants, mbr_grants, access_list}
+use Rattle.sp_rows.specs.Factory.{admin_factory, locking_factory, admin_sps, admin_authorities, label_authorities, locking_authorities, admin_pins, label_pins, locking_pins, locking_ranges, locking_mbr_controls, admin_aces, label_aces, authority_aces, pin_aces, range_get_aces, range_aces, mbr_aces, gen_key_aces, range_keys, locking_infos, byte_tables}
+use Rattle.access_list.specs.Access.{Grant, acl_in, this_sp_grants, owner_grants, label_grants, authority_grants, fixed_ace_gets, user_ace_grants, range_get_ace_grants, gen_key_ace_grants, read_locked_ace_grants, write_locked_ace_grants, done_ace_grants, pin_grants, range_get_grants, range_set_grants, mbr_grants, info_grants, access_list}
 use Rattle.tcg_tokens.specs.Tree.{Tree, number, bytes, list, named}
 use Rattle.call_shapes.specs.declared.ask.Ask.{Ask}
 use Rattle.call_shapes.specs.declared.ask.Ask.TheVariants.{GetCells, GetBytes, SetCells, SetBytes, Authenticate, Activate, Revert, Other}
@@ -23,10 +25,9 @@ use Rattle.call_shapes.specs.Asks.{uid_of, is_mbr_table, cellblock, columns_betw
 use Rattle.methods.specs.declared.kinds.Kind.{Kind}
 use Rattle.methods.specs.declared.kinds.Kind.TheVariants as kinds
 use Rattle.methods.specs.Kinds.{kind_of}
-use Rattle.methods.specs.Columns.{columns_of}
 use Rattle.methods.specs.Effects.{has_ask}
 use Rattle.methods.specs.Laws.{IsAmong}
-use Rattle.methods.specs.Cases.{CaseLaw, KindColumnLaw, HasCell, new_cells}
+use Rattle.methods.specs.Cases.{CaseLaw, KindColumnLaw, HasCell, new_cells, columns_under}
 
 -- ---- what is asked, by its shape alone
 
@@ -120,6 +121,22 @@ same_shape (Some kinds.TperInfo) (Authenticate a p) = refl
 same_shape (Some kinds.TperInfo) Activate = refl
 same_shape (Some kinds.TperInfo) Revert = refl
 same_shape (Some kinds.TperInfo) Other = refl
+same_shape (Some kinds.LockingInfo) (GetCells f l) = refl
+same_shape (Some kinds.LockingInfo) (GetBytes f l) = refl
+same_shape (Some kinds.LockingInfo) (SetCells ps) = refl
+same_shape (Some kinds.LockingInfo) (SetBytes a b) = refl
+same_shape (Some kinds.LockingInfo) (Authenticate a p) = refl
+same_shape (Some kinds.LockingInfo) Activate = refl
+same_shape (Some kinds.LockingInfo) Revert = refl
+same_shape (Some kinds.LockingInfo) Other = refl
+same_shape (Some kinds.Table) (GetCells f l) = refl
+same_shape (Some kinds.Table) (GetBytes f l) = refl
+same_shape (Some kinds.Table) (SetCells ps) = refl
+same_shape (Some kinds.Table) (SetBytes a b) = refl
+same_shape (Some kinds.Table) (Authenticate a p) = refl
+same_shape (Some kinds.Table) Activate = refl
+same_shape (Some kinds.Table) Revert = refl
+same_shape (Some kinds.Table) Other = refl
 same_shape (Some kinds.MbrTable) (GetCells f l) = refl
 same_shape (Some kinds.MbrTable) (GetBytes f l) = refl
 same_shape (Some kinds.MbrTable) (SetCells ps) = refl
@@ -235,9 +252,10 @@ has_case sp object method = has_ask (kind_of sp object) (sketch_of sp object met
 covered : Grant → Bool
 covered g = has_case g.sp g.object g.method
 
-all_covered : list_all covered access_list ≡ true
-unfolding covered authorities_of_locking this_sp_grants admin_grants authority_grants fixed_ace_gets user_ace_grants read_locked_ace_grants write_locked_ace_grants done_ace_grants pin_grants range_grants mbr_grants
-all_covered = refl
+all_covered : (profile : Profile) → list_all covered (access_list profile) ≡ true
+unfolding covered authorities_of_locking this_sp_grants owner_grants label_grants authority_grants fixed_ace_gets user_ace_grants range_get_ace_grants gen_key_ace_grants read_locked_ace_grants write_locked_ace_grants done_ace_grants pin_grants range_get_grants range_set_grants mbr_grants info_grants
+all_covered Base = refl
+all_covered Field = refl
 
 clash : false ≡ true → ⊥
 clash h = cc
@@ -280,35 +298,53 @@ found_covered [] sp object method all some = cc
 found_covered (g ∷ gs) sp object method all some = found_step g gs sp object method (sp_eq g.sp sp && (g.object.0 == object.0) && (g.method.0 == method.0)) refl all some (found_covered gs sp object method)
 
 pub cases_of_grants : CaseLaw
-cases_of_grants sp object method args ask some shaped =
+cases_of_grants profile sp object method args ask some shaped =
     same_shape (kind_of sp object) ask
     ∙ ap (has_ask (kind_of sp object)) (fitting (ask_of sp object method args) (sketch_of sp object method) ask (asked_fits sp object method args) shaped)
-    ∙ found_covered access_list sp object method all_covered some
+    ∙ found_covered (access_list profile) sp object method (all_covered profile) some
 
 -- ---- columns
 
 -- the cells stand in columns of their kinds
-abbrev stands : Sp → Item → Bool
-stands sp i = list_any (λ k. k.0 == i.column.0) (columns_of (kind_of sp i.object))
+abbrev stands : Profile → Sp → Item → Bool
+stands profile sp i = list_any (λ k. k.0 == i.column.0) (columns_under profile (kind_of sp i.object))
 
 -- behind the first cell of a row follow those of its other columns
-abbrev is_whole : Sp → Item → List Item → Bool
-is_whole sp i is = list_all (λ k. is_some (item_at (i ∷ is) i.object k)) (columns_of (kind_of sp i.object))
+abbrev is_whole : Profile → Sp → Item → List Item → Bool
+is_whole profile sp i is = list_all (λ k. is_some (item_at (i ∷ is) i.object k)) (columns_under profile (kind_of sp i.object))
 
-abbrev are_whole : Sp → List Item → Bool
-are_whole sp [] = true
-are_whole sp (i ∷ is) = (if i.column.0 == uid_column.0 then is_whole sp i is else true) && are_whole sp is
+abbrev are_whole : Profile → Sp → List Item → Bool
+are_whole profile sp [] = true
+are_whole profile sp (i ∷ is) = (if i.column.0 == uid_column.0 then is_whole profile sp i is else true) && are_whole profile sp is
 
 -- of each SP
-all_stand : (config : Config) (sp : Sp) → list_all (stands sp) (new_cells config sp) ≡ true
-unfolding admin_sps admin_authorities locking_authorities admin_pins locking_pins locking_ranges locking_mbr_controls admin_aces authority_aces pin_aces range_aces mbr_aces
-all_stand config Admin = refl
-all_stand config Locking = refl
+items_new : Profile → (msid psid : List ℕ) → ℕ → Sp → List Item
+items_new profile msid psid shadow Admin = admin_factory profile msid psid
+items_new profile msid psid shadow Locking = locking_factory profile shadow
 
-all_whole : (config : Config) (sp : Sp) → are_whole sp (new_cells config sp) ≡ true
-unfolding admin_sps admin_authorities locking_authorities admin_pins locking_pins locking_ranges locking_mbr_controls admin_aces authority_aces pin_aces range_aces mbr_aces
-all_whole config Admin = refl
-all_whole config Locking = refl
+stand_new : (profile : Profile) (msid psid : List ℕ) (shadow : ℕ) (sp : Sp) → list_all (stands profile sp) (items_new profile msid psid shadow sp) ≡ true
+unfolding items_new admin_sps admin_authorities label_authorities locking_authorities admin_pins label_pins locking_pins locking_ranges locking_mbr_controls admin_aces label_aces authority_aces pin_aces range_get_aces range_aces mbr_aces gen_key_aces range_keys locking_infos byte_tables
+stand_new Base msid psid shadow Admin = refl
+stand_new Base msid psid shadow Locking = refl
+stand_new Field msid psid shadow Admin = refl
+stand_new Field msid psid shadow Locking = refl
+
+all_stand : (config : Config) (sp : Sp) → list_all (stands config.profile sp) (new_cells config sp) ≡ true
+unfolding items_new
+all_stand config Admin = stand_new config.profile config.msid config.psid config.mbr_sectors Admin
+all_stand config Locking = stand_new config.profile config.msid config.psid config.mbr_sectors Locking
+
+whole_new : (profile : Profile) (msid psid : List ℕ) (shadow : ℕ) (sp : Sp) → are_whole profile sp (items_new profile msid psid shadow sp) ≡ true
+unfolding items_new admin_sps admin_authorities label_authorities locking_authorities admin_pins label_pins locking_pins locking_ranges locking_mbr_controls admin_aces label_aces authority_aces pin_aces range_get_aces range_aces mbr_aces gen_key_aces range_keys locking_infos byte_tables
+whole_new Base msid psid shadow Admin = refl
+whole_new Base msid psid shadow Locking = refl
+whole_new Field msid psid shadow Admin = refl
+whole_new Field msid psid shadow Locking = refl
+
+all_whole : (config : Config) (sp : Sp) → are_whole config.profile sp (new_cells config sp) ≡ true
+unfolding items_new
+all_whole config Admin = whole_new config.profile config.msid config.psid config.mbr_sectors Admin
+all_whole config Locking = whole_new config.profile config.msid config.psid config.mbr_sectors Locking
 
 same_column : (k l : Column) → (k.0 == l.0) ≡ true → k ≡ l
 same_column k l h = elim (eqb_tells k.0 l.0) [
@@ -332,17 +368,17 @@ all_among p (l ∷ ks) k h (inr at) = all_among p ks k (both (p l) (list_all p k
 two : (a b : Bool) → (a && b) ≡ true → (a ≡ true) × (b ≡ true)
 two a b h = both a b h
 
-alone_step : (sp : Sp) (i : Item) (is : List Item) (object : Uid) (k : Column) (b : Bool) → is_here object k i ≡ b → list_all (stands sp) (i ∷ is) ≡ true → is_some (if b then Some i.value else item_at is object k) ≡ true
-    → (list_all (stands sp) is ≡ true → is_some (item_at is object k) ≡ true → IsAmong (columns_of (kind_of sp object)) k) → IsAmong (columns_of (kind_of sp object)) k
-alone_step sp i is object k false e all some rest = rest (both (stands sp i) (list_all (stands sp) is) all).1 some
-alone_step sp i is object k true e all some rest =
+alone_step : (profile : Profile) (sp : Sp) (i : Item) (is : List Item) (object : Uid) (k : Column) (b : Bool) → is_here object k i ≡ b → list_all (stands profile sp) (i ∷ is) ≡ true → is_some (if b then Some i.value else item_at is object k) ≡ true
+    → (list_all (stands profile sp) is ≡ true → is_some (item_at is object k) ≡ true → IsAmong (columns_under profile (kind_of sp object)) k) → IsAmong (columns_under profile (kind_of sp object)) k
+alone_step profile sp i is object k false e all some rest = rest (both (stands profile sp i) (list_all (stands profile sp) is) all).1 some
+alone_step profile sp i is object k true e all some rest =
     let at = two (i.object.0 == object.0) (i.column.0 == k.0) e in
-    let here : IsAmong (columns_of (kind_of sp i.object)) i.column = among_any (columns_of (kind_of sp i.object)) i.column (both (stands sp i) (list_all (stands sp) is) all).0 in
-    subst (λ (o : Uid). IsAmong (columns_of (kind_of sp o)) k) (same_uid i.object object at.0) (subst (λ (l : Column). IsAmong (columns_of (kind_of sp i.object)) l) (same_column i.column k at.1) here)
+    let here : IsAmong (columns_under profile (kind_of sp i.object)) i.column = among_any (columns_under profile (kind_of sp i.object)) i.column (both (stands profile sp i) (list_all (stands profile sp) is) all).0 in
+    subst (λ (o : Uid). IsAmong (columns_under profile (kind_of sp o)) k) (same_uid i.object object at.0) (subst (λ (l : Column). IsAmong (columns_under profile (kind_of sp i.object)) l) (same_column i.column k at.1) here)
 
-alone : (sp : Sp) (is : List Item) (object : Uid) (k : Column) → list_all (stands sp) is ≡ true → HasCell is object k → IsAmong (columns_of (kind_of sp object)) k
-alone sp [] object k all some = absurd (clash some)
-alone sp (i ∷ is) object k all some = alone_step sp i is object k (is_here object k i) refl all some (alone sp is object k)
+alone : (profile : Profile) (sp : Sp) (is : List Item) (object : Uid) (k : Column) → list_all (stands profile sp) is ≡ true → HasCell is object k → IsAmong (columns_under profile (kind_of sp object)) k
+alone profile sp [] object k all some = absurd (clash some)
+alone profile sp (i ∷ is) object k all some = alone_step profile sp i is object k (is_here object k i) refl all some (alone profile sp is object k)
 
 -- a cell that the rest has the whole has
 kept : (i : Item) (is : List Item) (object : Uid) (k : Column) (b : Bool) → HasCell is object k → is_some (if b then Some i.value else item_at is object k) ≡ true
@@ -353,24 +389,24 @@ whole_here : (b w : Bool) → b ≡ true → (if b then w else true) ≡ true �
 whole_here true w e h = h
 whole_here false w e h = absurd (clash e)
 
-each_step : (sp : Sp) (i : Item) (is : List Item) (object : Uid) (k : Column) (b : Bool) → is_here object uid_column i ≡ b → are_whole sp (i ∷ is) ≡ true → is_some (if b then Some i.value else item_at is object uid_column) ≡ true
-    → IsAmong (columns_of (kind_of sp object)) k → (are_whole sp is ≡ true → HasCell is object uid_column → HasCell is object k) → HasCell (i ∷ is) object k
-each_step sp i is object k false e all some at rest = kept i is object k (is_here object k i) (rest (both (if i.column.0 == uid_column.0 then is_whole sp i is else true) (are_whole sp is) all).1 some)
-each_step sp i is object k true e all some at rest =
+each_step : (profile : Profile) (sp : Sp) (i : Item) (is : List Item) (object : Uid) (k : Column) (b : Bool) → is_here object uid_column i ≡ b → are_whole profile sp (i ∷ is) ≡ true → is_some (if b then Some i.value else item_at is object uid_column) ≡ true
+    → IsAmong (columns_under profile (kind_of sp object)) k → (are_whole profile sp is ≡ true → HasCell is object uid_column → HasCell is object k) → HasCell (i ∷ is) object k
+each_step profile sp i is object k false e all some at rest = kept i is object k (is_here object k i) (rest (both (if i.column.0 == uid_column.0 then is_whole profile sp i is else true) (are_whole profile sp is) all).1 some)
+each_step profile sp i is object k true e all some at rest =
     let here = two (i.object.0 == object.0) (i.column.0 == uid_column.0) e in
     let same : i.object ≡ object = same_uid i.object object here.0 in
-    let whole : is_whole sp i is ≡ true = whole_here (i.column.0 == uid_column.0) (is_whole sp i is) here.1 (both (if i.column.0 == uid_column.0 then is_whole sp i is else true) (are_whole sp is) all).0 in
-    let found : is_some (item_at (i ∷ is) i.object k) ≡ true = all_among (λ l. is_some (item_at (i ∷ is) i.object l)) (columns_of (kind_of sp i.object)) k whole (subst (λ (o : Uid). IsAmong (columns_of (kind_of sp o)) k) (sym same) at) in
+    let whole : is_whole profile sp i is ≡ true = whole_here (i.column.0 == uid_column.0) (is_whole profile sp i is) here.1 (both (if i.column.0 == uid_column.0 then is_whole profile sp i is else true) (are_whole profile sp is) all).0 in
+    let found : is_some (item_at (i ∷ is) i.object k) ≡ true = all_among (λ l. is_some (item_at (i ∷ is) i.object l)) (columns_under profile (kind_of sp i.object)) k whole (subst (λ (o : Uid). IsAmong (columns_under profile (kind_of sp o)) k) (sym same) at) in
     subst (λ (o : Uid). is_some (item_at (i ∷ is) o k) ≡ true) same found
 
-each : (sp : Sp) (is : List Item) (object : Uid) (k : Column) → are_whole sp is ≡ true → HasCell is object uid_column → IsAmong (columns_of (kind_of sp object)) k → HasCell is object k
-each sp [] object k all some at = absurd (clash some)
-each sp (i ∷ is) object k all some at = each_step sp i is object k (is_here object uid_column i) refl all some at (λ all' some'. each sp is object k all' some' at)
+each : (profile : Profile) (sp : Sp) (is : List Item) (object : Uid) (k : Column) → are_whole profile sp is ≡ true → HasCell is object uid_column → IsAmong (columns_under profile (kind_of sp object)) k → HasCell is object k
+each profile sp [] object k all some at = absurd (clash some)
+each profile sp (i ∷ is) object k all some at = each_step profile sp i is object k (is_here object uid_column i) refl all some at (λ all' some'. each profile sp is object k all' some' at)
 
 pub columns_of_rows : KindColumnLaw
 columns_of_rows config sp object k = record {
-  alone = alone sp (new_cells config sp) object k (all_stand config sp);
-  each = each sp (new_cells config sp) object k (all_whole config sp);
+  alone = alone config.profile sp (new_cells config sp) object k (all_stand config sp);
+  each = each config.profile sp (new_cells config sp) object k (all_whole config sp);
 }
 
 pub ruleset of_cases = (cases_of_grants, columns_of_rows)

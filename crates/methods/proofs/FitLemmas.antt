@@ -68,6 +68,8 @@ setting-fits mbr_sectors sp object (Some kinds.Ace) ask = cells-fit mbr_sectors 
 setting-fits mbr_sectors sp object (Some kinds.Locking) ask = cells-fit mbr_sectors sp object (set_types_of (Some kinds.Locking)) ask
 setting-fits mbr_sectors sp object (Some kinds.MbrControl) ask = cells-fit mbr_sectors sp object (set_types_of (Some kinds.MbrControl)) ask
 setting-fits mbr_sectors sp object (Some kinds.TperInfo) ask = cells-fit mbr_sectors sp object (set_types_of (Some kinds.TperInfo)) ask
+setting-fits mbr_sectors sp object (Some kinds.LockingInfo) ask = cells-fit mbr_sectors sp object (set_types_of (Some kinds.LockingInfo)) ask
+setting-fits mbr_sectors sp object (Some kinds.Table) ask = cells-fit mbr_sectors sp object (set_types_of (Some kinds.Table)) ask
 setting-fits mbr_sectors sp object (Some kinds.MbrTable) ask = bytes-fit mbr_sectors sp ask
 
 -- with what a fault tells

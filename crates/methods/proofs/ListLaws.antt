@@ -1,4 +1,5 @@
 -- A column is listed exactly where it has an ACE.
+use Rattle.basics.specs.declared.profile.Profile.{Profile}
 use Rattle.std.proofs.Common.{◌≡◌, ℕ, ◌≤◌, Bool, true, false, ◌&&◌, List, [], ◌∷◌, ◌++◌, Option, None, Some, refl, sym, ◌∙◌, ap, cond, ◌⊎◌, inl, inr, arith}
 use Rattle.std.specs.Prelude.{filter, is_some, nat_le}
 use Rattle.std.specs.List.{flat_map}
@@ -78,13 +79,13 @@ shown_in k cell (Some v) h = inl (ap (λ (c : Option Cell). (k, at_some c)) h) w
   at_some None = v
   at_some (Some w) = w
 
-ace_there : (look : LookUp) (sp : Sp) (object : Uid) (k : Column) (held : List Uid) (x : Option Uid) → ace_of look sp object get (Some k) held ≡ x → is_some x ≡ true → HasAce look sp object get (Some k) held
-ace_there look sp object k held (Some u) is h = some_ace look sp object get (Some k) held u is
-ace_there look sp object k held None is h = absurd (clash h)
+ace_there : (profile : Profile) (look : LookUp) (sp : Sp) (object : Uid) (k : Column) (held : List Uid) (x : Option Uid) → ace_of profile look sp object get (Some k) held ≡ x → is_some x ≡ true → HasAce profile look sp object get (Some k) held
+ace_there profile look sp object k held (Some u) is h = some_ace profile look sp object get (Some k) held u is
+ace_there profile look sp object k held None is h = absurd (clash h)
 
-there_ace : (look : LookUp) (sp : Sp) (object : Uid) (k : Column) (held : List Uid) (x : Option Uid) → ace_of look sp object get (Some k) held ≡ x → HasAce look sp object get (Some k) held → is_some x ≡ true
-there_ace look sp object k held (Some u) is h = refl
-there_ace look sp object k held None is h = absurd (no_ace look sp object get (Some k) held is h)
+there_ace : (profile : Profile) (look : LookUp) (sp : Sp) (object : Uid) (k : Column) (held : List Uid) (x : Option Uid) → ace_of profile look sp object get (Some k) held ≡ x → HasAce profile look sp object get (Some k) held → is_some x ≡ true
+there_ace profile look sp object k held (Some u) is h = refl
+there_ace profile look sp object k held None is h = absurd (no_ace profile look sp object get (Some k) held is h)
 
 three : (a b c : Bool) → ((a && b) && c) ≡ true → (a ≡ true) × (b ≡ true) × (c ≡ true)
 three true true true h = (refl, refl, refl)
@@ -101,28 +102,28 @@ le_of a b h = grind (arith, nat_tests)
 of_le : (a b : ℕ) → a ≤ b → nat_le a b ≡ true
 of_le a b h = grind (arith, nat_tests)
 
-listed_is : (look : LookUp) (sp : Sp) (object : Uid) (first last : ℕ) (held : List Uid) (k : Column) (cell : Cell) → IsAmong {A = Column × Cell} (listed look sp object first last held) (k, cell) → IsListed look sp object first last held k cell
+listed_is : (profile : Profile) (look : LookUp) (sp : Sp) (object : Uid) (first last : ℕ) (held : List Uid) (k : Column) (cell : Cell) → IsAmong {A = Column × Cell} (listed profile look sp object first last held) (k, cell) → IsListed profile look sp object first last held k cell
 unfolding listed_among
-listed_is look sp object first last held k cell h =
-    let w = in_flat {B = Column × Cell} (λ n. shown_column n (look sp object n)) (filter (is_listed look sp object first last held) (columns_of (kind_of sp object))) (k, cell) h in
+listed_is profile look sp object first last held k cell h =
+    let w = in_flat {B = Column × Cell} (λ n. shown_column n (look sp object n)) (filter (is_listed profile look sp object first last held) (columns_of (kind_of sp object))) (k, cell) h in
     let x = shown_is w.0 k cell (look sp object w.0) w.2 in
-    let f = in_filter (is_listed look sp object first last held) (columns_of (kind_of sp object)) w.0 w.1 in
+    let f = in_filter (is_listed profile look sp object first last held) (columns_of (kind_of sp object)) w.0 w.1 in
     here w.0 x.0 f.0 f.1 x.1
   where
-    here : (n : Column) → n ≡ k → IsAmong (columns_of (kind_of sp object)) n → is_listed look sp object first last held n ≡ true → look sp object n ≡ Some cell → IsListed look sp object first last held k cell
+    here : (n : Column) → n ≡ k → IsAmong (columns_of (kind_of sp object)) n → is_listed profile look sp object first last held n ≡ true → look sp object n ≡ Some cell → IsListed profile look sp object first last held k cell
     here n same known asked seen =
-        let t = three (nat_le first n.0) (nat_le n.0 last) (is_some (ace_of look sp object get (Some n) held)) asked in
-        rw (← same) (record { known = known; from = le_of first n.0 t.0; to = le_of n.0 last t.1; ace = ace_there look sp object n held (ace_of look sp object get (Some n) held) refl t.2; in_view = seen })
+        let t = three (nat_le first n.0) (nat_le n.0 last) (is_some (ace_of profile look sp object get (Some n) held)) asked in
+        rw (← same) (record { known = known; from = le_of first n.0 t.0; to = le_of n.0 last t.1; ace = ace_there profile look sp object n held (ace_of profile look sp object get (Some n) held) refl t.2; in_view = seen })
 
-is_listed_there : (look : LookUp) (sp : Sp) (object : Uid) (first last : ℕ) (held : List Uid) (k : Column) (cell : Cell) → IsListed look sp object first last held k cell → IsAmong {A = Column × Cell} (listed look sp object first last held) (k, cell)
+is_listed_there : (profile : Profile) (look : LookUp) (sp : Sp) (object : Uid) (first last : ℕ) (held : List Uid) (k : Column) (cell : Cell) → IsListed profile look sp object first last held k cell → IsAmong {A = Column × Cell} (listed profile look sp object first last held) (k, cell)
 unfolding listed_among
-is_listed_there look sp object first last held k cell w =
-    flat_in {B = Column × Cell} (λ n. shown_column n (look sp object n)) (filter (is_listed look sp object first last held) (columns_of (kind_of sp object))) k (k, cell)
-    (filter_in (is_listed look sp object first last held) (columns_of (kind_of sp object)) k w.known (all_three (nat_le first k.0) (nat_le k.0 last) (is_some (ace_of look sp object get (Some k) held)) (of_le first k.0 w.from) (of_le k.0 last w.to) (there_ace look sp object k held (ace_of look sp object get (Some k) held) refl w.ace)))
+is_listed_there profile look sp object first last held k cell w =
+    flat_in {B = Column × Cell} (λ n. shown_column n (look sp object n)) (filter (is_listed profile look sp object first last held) (columns_of (kind_of sp object))) k (k, cell)
+    (filter_in (is_listed profile look sp object first last held) (columns_of (kind_of sp object)) k w.known (all_three (nat_le first k.0) (nat_le k.0 last) (is_some (ace_of profile look sp object get (Some k) held)) (of_le first k.0 w.from) (of_le k.0 last w.to) (there_ace profile look sp object k held (ace_of profile look sp object get (Some k) held) refl w.ace)))
     (shown_in k cell (look sp object k) w.in_view)
 
 pub list_law : ListLaw
-list_law look sp object first last held k cell = (listed_is look sp object first last held k cell, is_listed_there look sp object first last held k cell)
+list_law profile look sp object first last held k cell = (listed_is profile look sp object first last held k cell, is_listed_there profile look sp object first last held k cell)
 
 pub rise_law : RiseLaw
 rise_law None = refl
@@ -134,6 +135,8 @@ rise_law (Some kinds.Ace) = refl
 rise_law (Some kinds.Locking) = refl
 rise_law (Some kinds.MbrControl) = refl
 rise_law (Some kinds.TperInfo) = refl
+rise_law (Some kinds.LockingInfo) = refl
+rise_law (Some kinds.Table) = refl
 rise_law (Some kinds.MbrTable) = refl
 
 pub ruleset of_lists = (list_law, rise_law)

@@ -1,4 +1,5 @@
 -- What Get lists of an object of a kind.
+use Rattle.basics.specs.declared.profile.Profile.{Profile}
 use Rattle.std.proofs.Common.{◌≡◌, ℕ, List, map, IfOk, Result, Option}
 use Rattle.std.specs.declared.vec.Vec.{Vec}
 use Rattle.std.specs.declared.alloc.AllocError.{AllocError}
@@ -13,5 +14,5 @@ use Rattle.methods.specs.Columns.{columns_of}
 use Rattle.methods.specs.Listed.{listed_among, cell_value}
 
 -- the values are those of the listed columns of an object of this kind
-abbrev pub Lists : LookUp → Sp → Uid → (first last : ℕ) → List Uid → Result (Vec Value Global) AllocError → Option Kind → Type 0
-Lists look sp object first last held result kind = IfOk result (λ vs. map tree vs.items ≡ map cell_value (listed_among look sp object first last held (columns_of kind)))
+abbrev pub Lists : Profile → LookUp → Sp → Uid → (first last : ℕ) → List Uid → Result (Vec Value Global) AllocError → Option Kind → Type 0
+Lists profile look sp object first last held result kind = IfOk result (λ vs. map tree vs.items ≡ map cell_value (listed_among profile look sp object first last held (columns_of kind)))

@@ -76,6 +76,8 @@ cells_of_object sp n object o cells (Some kinds.Ace) ask e = asked_there object 
 cells_of_object sp n object o cells (Some kinds.Locking) ask e = asked_there object o cells (set_types_of (Some kinds.Locking)) ask e
 cells_of_object sp n object o cells (Some kinds.MbrControl) ask e = asked_there object o cells (set_types_of (Some kinds.MbrControl)) ask e
 cells_of_object sp n object o cells (Some kinds.TperInfo) ask e = asked_there object o cells (set_types_of (Some kinds.TperInfo)) ask e
+cells_of_object sp n object o cells (Some kinds.LockingInfo) ask e = asked_there object o cells (set_types_of (Some kinds.LockingInfo)) ask e
+cells_of_object sp n object o cells (Some kinds.Table) ask e = asked_there object o cells (set_types_of (Some kinds.Table)) ask e
 cells_of_object sp n object o cells None ask e = asked_there object o cells (set_types_of None) ask e
 
 -- no bytes are set in the Admin SP
@@ -89,6 +91,8 @@ bytes_of_locking n object at bs (Some kinds.Ace) ask e = no_bytes object at bs (
 bytes_of_locking n object at bs (Some kinds.Locking) ask e = no_bytes object at bs (set_types_of (Some kinds.Locking)) ask e
 bytes_of_locking n object at bs (Some kinds.MbrControl) ask e = no_bytes object at bs (set_types_of (Some kinds.MbrControl)) ask e
 bytes_of_locking n object at bs (Some kinds.TperInfo) ask e = no_bytes object at bs (set_types_of (Some kinds.TperInfo)) ask e
+bytes_of_locking n object at bs (Some kinds.LockingInfo) ask e = no_bytes object at bs (set_types_of (Some kinds.LockingInfo)) ask e
+bytes_of_locking n object at bs (Some kinds.Table) ask e = no_bytes object at bs (set_types_of (Some kinds.Table)) ask e
 bytes_of_locking n object at bs None ask e = no_bytes object at bs (set_types_of None) ask e
 
 -- where the object that a call names has Set, the object of what it sets has it

@@ -102,6 +102,8 @@ set_there sp n object target cells (Some kinds.Ace) ask is = asked_there object 
 set_there sp n object target cells (Some kinds.Locking) ask is = asked_there object target cells (set_types_of (Some kinds.Locking)) ask is
 set_there sp n object target cells (Some kinds.MbrControl) ask is = asked_there object target cells (set_types_of (Some kinds.MbrControl)) ask is
 set_there sp n object target cells (Some kinds.TperInfo) ask is = asked_there object target cells (set_types_of (Some kinds.TperInfo)) ask is
+set_there sp n object target cells (Some kinds.LockingInfo) ask is = asked_there object target cells (set_types_of (Some kinds.LockingInfo)) ask is
+set_there sp n object target cells (Some kinds.Table) ask is = asked_there object target cells (set_types_of (Some kinds.Table)) ask is
 set_there sp n object target cells None ask is = asked_there object target cells (set_types_of None) ask is
 
 pub set_law : SetLaw

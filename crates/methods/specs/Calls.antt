@@ -30,6 +30,7 @@ use Rattle.methods.specs.Judgement.{Standing, Judgement, Refuses, Gives, Makes, 
 -- what the rules ask of a session that holds these authorities, of what is kept
 abbrev pub standing_on : Stored → SessionId → List Uid → Standing
 standing_on s session held = record {
+  profile = s.config.profile;
   sectors = s.config.sectors;
   mbr_sectors = s.config.mbr_sectors;
   rows = seen_by s session;

@@ -1,13 +1,45 @@
 -- The columns that Get lists and that Set takes (Core 2.01, section 5.3; Opal SSC 2.01, sections 4.2 and 4.3).
-use Rattle.std.specs.Prelude.{List, [], ◌∷◌, map, Option, None, Some}
+use Rattle.std.specs.Prelude.{List, [], ◌∷◌, ◌++◌, map, Option, None, Some}
 use Rattle.sp_cells.specs.declared.names.Column.{Column}
 use Rattle.sp_cells.specs.declared.values.ColumnType.{ColumnType}
 use Rattle.sp_cells.specs.declared.values.ColumnType.TheVariants as types
 use Rattle.sp_cells.specs.ColumnNames.{pin_column, enabled_column, boolean_expr_column, mbr_enable_column, mbr_done_column, mbr_done_on_reset_column, programmatic_reset_enable_column}
 use Rattle.sp_cells.specs.ColumnNames.{range_start_column, range_length_column, read_lock_enabled_column, write_lock_enabled_column, read_locked_column, write_locked_column, lock_on_reset_column}
+use Rattle.sp_cells.specs.ColumnNames.{uid_column, name_column, common_name_column, active_key_column, version_column, encrypt_support_column, max_ranges_column, max_re_encryptions_column, keys_available_cfg_column, alignment_required_column, logical_block_size_column, alignment_granularity_column, lowest_aligned_lba_column, kind_column, rows_column, mandatory_write_granularity_column, recommended_access_granularity_column}
 use Rattle.sp_cells.specs.Values.{sp_types, ace_types, authority_types, c_pin_types, locking_types, mbr_control_types, tper_info_types}
 use Rattle.methods.specs.declared.kinds.Kind.{Kind}
 use Rattle.methods.specs.declared.kinds.Kind.TheVariants as kinds
+
+-- those of a range: under the profile `Field` it tells its key
+abbrev pub range_types : List (Column × ColumnType)
+range_types = locking_types ++ (active_key_column, types.Object) ∷ []
+
+-- those of LockingInfo, and of a row of the Table table (Core 2.01, sections 5.7 and 5.3)
+abbrev pub locking_info_types : List (Column × ColumnType)
+locking_info_types =
+    (uid_column, types.Object)
+    ∷ (name_column, types.Name)
+    ∷ (version_column, types.Number)
+    ∷ (encrypt_support_column, types.Number)
+    ∷ (max_ranges_column, types.Number)
+    ∷ (max_re_encryptions_column, types.Number)
+    ∷ (keys_available_cfg_column, types.Number)
+    ∷ (alignment_required_column, types.Flag)
+    ∷ (logical_block_size_column, types.Number)
+    ∷ (alignment_granularity_column, types.Number)
+    ∷ (lowest_aligned_lba_column, types.Number)
+    ∷ []
+
+abbrev pub table_row_types : List (Column × ColumnType)
+table_row_types =
+    (uid_column, types.Object)
+    ∷ (name_column, types.Name)
+    ∷ (common_name_column, types.Name)
+    ∷ (kind_column, types.Number)
+    ∷ (rows_column, types.Number)
+    ∷ (mandatory_write_granularity_column, types.Number)
+    ∷ (recommended_access_granularity_column, types.Number)
+    ∷ []
 
 -- the columns of a kind of object, rising, with the types of their values
 abbrev pub types_of : Option Kind → List (Column × ColumnType)
@@ -17,9 +49,11 @@ types_of (Some kinds.Sp) = sp_types
 types_of (Some kinds.Authority) = authority_types
 types_of (Some kinds.CPin) = c_pin_types
 types_of (Some kinds.Ace) = ace_types
-types_of (Some kinds.Locking) = locking_types
+types_of (Some kinds.Locking) = range_types
 types_of (Some kinds.MbrControl) = mbr_control_types
 types_of (Some kinds.TperInfo) = tper_info_types
+types_of (Some kinds.LockingInfo) = locking_info_types
+types_of (Some kinds.Table) = table_row_types
 types_of (Some kinds.MbrTable) = []
 
 -- without their types

@@ -1,4 +1,5 @@
 -- Whether a call is granted (Core 2.01, section 5.3, tables AccessControl and ACE).
+use Rattle.basics.specs.declared.profile.Profile.{Profile}
 use Rattle.std.specs.Prelude.{◌==◌, List, [], ◌∷◌, length, map, Option, None, Some, if◌then◌else◌}
 use Rattle.std.specs.Option.{option_or}
 use Rattle.sp_cells.specs.declared.names.Uid.{Uid}
@@ -23,10 +24,10 @@ unless_allowed (Some ace) why = None
 unless_allowed None why = Some why
 
 -- why a method is denied for a column, or for no column in particular; None where an ACE allows it
-abbrev pub denial : LookUp → Sp → Uid → Uid → List Uid → Option Column → Option Why
-denial look sp object method held k =
-    unless_allowed (ace_of look sp object method k held)
-    (why_denied look sp object method k (acl_at sp object method))
+abbrev pub denial : Profile → LookUp → Sp → Uid → Uid → List Uid → Option Column → Option Why
+denial profile look sp object method held k =
+    unless_allowed (ace_of profile look sp object method k held)
+    (why_denied look sp object method k (acl_at profile sp object method))
 
 -- the columns for each of which an ACE is wanted: those that Set names; without any, and for all else, any ACE of the
 -- method will do
@@ -40,6 +41,6 @@ first_some [] = None
 first_some (o ∷ os) = option_or o (first_some os)
 
 -- why a call is denied: by the first column, in the call's order, that has no ACE; None where it is granted
-abbrev pub denied : LookUp → Sp → Uid → Uid → List Uid → Ask → Option Why
-denied look sp object method held ask =
-    first_some (map (denial look sp object method held) (wanted ask))
+abbrev pub denied : Profile → LookUp → Sp → Uid → Uid → List Uid → Ask → Option Why
+denied profile look sp object method held ask =
+    first_some (map (denial profile look sp object method held) (wanted ask))

@@ -1,4 +1,5 @@
 -- What comes of a call in a session: its shape, its ACEs, its values, in this order. Over any view and any authorities.
+use Rattle.basics.specs.declared.profile.Profile.{Profile}
 use Rattle.std.specs.Prelude.{ℕ, ◌+◌, ◌*◌, ◌==◌, ◌||◌, ◌-◌, Bool, true, false, nat_le, nat_lt, List, [], ◌∷◌, map, Option, Some, None, if◌then◌else◌}
 use Rattle.sp_cells.specs.declared.names.Uid.{Uid}
 use Rattle.sp_cells.specs.declared.names.Sp.{Sp}
@@ -26,10 +27,11 @@ use Rattle.sessions.specs.Deeds.{Setting, cells_set, bytes_set}
 use Rattle.methods.specs.Said.{reply_of}
 use Rattle.methods.specs.Effects.{ask_at, last_row, sp_of_row, unless_fault}
 
--- what the rules ask of a session: the drive's sectors, those of its shadow, the rows and the shadow's bytes in its
+-- what the rules ask of a session: the drive's profile, its sectors, those of its shadow, the rows and the shadow's bytes in its
 -- view, its SP, the rows there by which a change is judged, the authorities that it holds, and whether it has a
 -- transaction open
 pub record Standing : Type 0 where
+  pub profile : Profile
   pub sectors : ℕ
   pub mbr_sectors : ℕ
   pub rows : LookUp
@@ -53,7 +55,7 @@ pub data Judgement : Type 0 where
 
 -- what denies a call
 abbrev pub denial : Standing → Uid → Uid → Ask → Option Why
-denial s object method ask = denied s.rows s.sp object method s.held ask
+denial s object method ask = denied s.profile s.rows s.sp object method s.held ask
 
 -- results, where a response can carry them
 abbrev pub gives : List Tree → Judgement
@@ -62,12 +64,12 @@ gives results =
     then Gives results else Refuses response_overflow None
 
 -- what a Get of columns gives: those that are listed, with their values
-abbrev pub list_given : LookUp → Sp → Uid → ℕ → ℕ → List Uid → List Tree
-list_given look sp object first last held =
-    list (trees_of (map cell_value (listed look sp object first last held))) ∷ []
+abbrev pub list_given : Profile → LookUp → Sp → Uid → ℕ → ℕ → List Uid → List Tree
+list_given profile look sp object first last held =
+    list (trees_of (map cell_value (listed profile look sp object first last held))) ∷ []
 
 abbrev pub listing : Standing → Uid → ℕ → ℕ → List Tree
-listing s object first last = list_given s.rows s.sp object first last s.held
+listing s object first last = list_given s.profile s.rows s.sp object first last s.held
 
 -- what a Get of bytes gives: rows of the shadow's table
 abbrev pub bytes_between : (ℕ → ℕ) → ℕ → ℕ → List Tree

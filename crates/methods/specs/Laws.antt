@@ -1,5 +1,6 @@
 -- What calls come to, in the words of ACEs: a call does what it asks exactly where it is granted, it is denied by the
 -- first column without an ACE, and Get lists a column exactly where it has one.
+use Rattle.basics.specs.declared.profile.Profile.{Profile}
 use Rattle.std.specs.Prelude.{◌≡◌, ◌≤◌, ◌⊎◌, ◌↔◌, nat_lt, ℕ, Bool, true, false, ◌&&◌, List, [], ◌∷◌, ◌++◌, Option, None, Some}
 use Rattle.sp_cells.specs.declared.names.Uid.{Uid}
 use Rattle.sp_cells.specs.declared.names.Sp.{Sp}
@@ -24,14 +25,15 @@ use Rattle.methods.specs.Judgement.{Standing, Judgement, Refuses, Gives, Makes, 
 
 -- each of these columns has an ACE: one that names it, and whose expression is the postorder writing of a tree that is
 -- true of the authorities held
-abbrev pub EachHasAce : LookUp → Sp → Uid → Uid → List Uid → List (Option Column) → Type 0
-EachHasAce look sp object method held [] = Unit {0}
-EachHasAce look sp object method held (k ∷ ks) = HasAce look sp object method k held
-    × EachHasAce look sp object method held ks
+abbrev pub EachHasAce : Profile → LookUp → Sp → Uid → Uid → List Uid → List (Option Column)
+    → Type 0
+EachHasAce profile look sp object method held [] = Unit {0}
+EachHasAce profile look sp object method held (k ∷ ks) = HasAce profile look sp object method k held
+    × EachHasAce profile look sp object method held ks
 
 -- each column for which a call wants an ACE has one, of those that the session holds in its view
 abbrev pub IsGranted : Standing → Uid → Uid → Ask → Type 0
-IsGranted s object method ask = EachHasAce s.rows s.sp object method s.held (wanted ask)
+IsGranted s object method ask = EachHasAce s.profile s.rows s.sp object method s.held (wanted ask)
 
 abbrev pub GrantLaw : Type 0
 GrantLaw = (s : Standing) (object method : Uid) (ask : Ask)
@@ -43,9 +45,10 @@ pub record IsDeniedBy (s : Standing) (object method : Uid) (ask : Ask) (why : Wh
   pub column : Option Column
   pub after : List (Option Column)
   pub order : wanted ask ≡ before ++ column ∷ after
-  pub granted : EachHasAce s.rows s.sp object method s.held before
-  pub without : HasAce s.rows s.sp object method column s.held → ⊥
-  pub reason : why ≡ why_denied s.rows s.sp object method column (acl_at s.sp object method)
+  pub granted : EachHasAce s.profile s.rows s.sp object method s.held before
+  pub without : HasAce s.profile s.rows s.sp object method column s.held → ⊥
+  pub reason : why
+      ≡ why_denied s.rows s.sp object method column (acl_at s.profile s.sp object method)
 
 abbrev pub DenyLaw : Type 0
 DenyLaw = (s : Standing) (object method : Uid) (ask : Ask) (why : Why)
@@ -79,18 +82,19 @@ IsAmong (x ∷ xs) y = (x ≡ y) ⊎ IsAmong xs y
 
 -- a column is listed with its cell: the object's kind has the column, it is asked for, it has an ACE, and the cell is
 -- what the session sees there
-pub record IsListed (look : LookUp) (sp : Sp) (object : Uid) (first last : ℕ) (held : List Uid)
-    (k : Column) (cell : Cell) : Type 0 where
+pub record IsListed (profile : Profile) (look : LookUp) (sp : Sp) (object : Uid) (first last : ℕ)
+    (held : List Uid) (k : Column) (cell : Cell) : Type 0 where
   pub known : IsAmong (columns_of (kind_of sp object)) k
   pub from : first ≤ k.0
   pub to : k.0 ≤ last
-  pub ace : HasAce look sp object get (Some k) held
+  pub ace : HasAce profile look sp object get (Some k) held
   pub in_view : look sp object k ≡ Some cell
 
 abbrev pub ListLaw : Type 0
-ListLaw = (look : LookUp) (sp : Sp) (object : Uid) (first last : ℕ) (held : List Uid) (k : Column)
-    (cell : Cell) → IsAmong {A = Column × Cell} (listed look sp object first last held) (k, cell)
-    ↔ IsListed look sp object first last held k cell
+ListLaw = (profile : Profile) (look : LookUp) (sp : Sp) (object : Uid) (first last : ℕ)
+    (held : List Uid) (k : Column) (cell : Cell)
+    → IsAmong {A = Column × Cell} (listed profile look sp object first last held) (k, cell)
+    ↔ IsListed profile look sp object first last held k cell
 
 -- each number is above those before it
 abbrev pub is_below : ℕ → List Column → Bool

@@ -31,7 +31,7 @@ macro_rules! method_cases {
                 GetCells [
                     UID Object, NAME Name, COMMON_NAME Name, RANGE_START Number, RANGE_LENGTH Number,
                     READ_LOCK_ENABLED Flag, WRITE_LOCK_ENABLED Flag, READ_LOCKED Flag, WRITE_LOCKED Flag,
-                    LOCK_ON_RESET Resets
+                    LOCK_ON_RESET Resets, ACTIVE_KEY Object
                 ] ReadCells,
                 SetCells [
                     RANGE_START Number, RANGE_LENGTH Number, READ_LOCK_ENABLED Flag, WRITE_LOCK_ENABLED Flag,
@@ -43,6 +43,17 @@ macro_rules! method_cases {
             [TperInfo:
                 GetCells [UID Object, PROGRAMMATIC_RESET_ENABLE Flag] ReadCells,
                 SetCells [PROGRAMMATIC_RESET_ENABLE Flag] WriteCells]
+            [LockingInfo:
+                GetCells [
+                    UID Object, NAME Name, VERSION Number, ENCRYPT_SUPPORT Number, MAX_RANGES Number,
+                    MAX_RE_ENCRYPTIONS Number, KEYS_AVAILABLE_CFG Number, ALIGNMENT_REQUIRED Flag,
+                    LOGICAL_BLOCK_SIZE Number, ALIGNMENT_GRANULARITY Number, LOWEST_ALIGNED_LBA Number
+                ] ReadCells]
+            [Table:
+                GetCells [
+                    UID Object, NAME Name, COMMON_NAME Name, KIND Number, ROWS Number,
+                    MANDATORY_WRITE_GRANULARITY Number, RECOMMENDED_ACCESS_GRANULARITY Number
+                ] ReadCells]
             [MbrTable:
                 GetBytes [] ReadBytes,
                 SetBytes [] WriteBytes]

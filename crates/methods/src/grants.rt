@@ -18,7 +18,8 @@ pub fn denial<R: Rows>(
     held: &Authorities,
     column: Option<Column>,
 ) -> Option<Why>
-    ensures { result ≡ denial_of (R.look_up rows.now) sp object method held.now column }
+    ensures { result ≡ denial_of (R.profile_of rows.now) (R.look_up rows.now) sp object method
+        held.now column }
 {
     match entry(rows, sp, object, method, column, held) {
         Ok(_) => None,
@@ -43,7 +44,8 @@ fn first_denial<R: Rows>(
     assignments: &Assignments,
 ) -> Option<Why>
     ensures { result
-        ≡ first_some (map (denial_of (R.look_up rows.now) sp object method held.now)
+        ≡ first_some (map (denial_of (R.profile_of rows.now) (R.look_up rows.now) sp object method
+        held.now)
         (map (λ p. Some (col p.0)) assignments.now)) }
 {
     for (column, _) in assignments.as_slice() {
@@ -65,7 +67,8 @@ pub fn denied<R: Rows>(
     held: &Authorities,
     ask: &Ask,
 ) -> Option<Why>
-    ensures { result ≡ denied_by (R.look_up rows.now) sp object method held.now ask.now }
+    ensures { result ≡ denied_by (R.profile_of rows.now) (R.look_up rows.now) sp object method
+        held.now ask.now }
 {
     match ask {
         Ask::SetCells(assignments) if !assignments.is_empty() => {

@@ -39,7 +39,8 @@ fn columns_outcome<R: Rows>(
     held: &Authorities,
 ) -> Result<Outcome, AllocError>
     ensures { IfOk result
-        (Tells (gives (list_given (R.look_up rows.now) sp object first last held.now))) }
+        (Tells (gives (list_given (R.profile_of rows.now) (R.look_up rows.now) sp object first last
+        held.now))) }
 {
     let listed = list_columns(alloc, rows, sp, object, first, last, held)?;
     let mut results = Vec::with_capacity(alloc, 1)?;

@@ -17,6 +17,8 @@ pub enum Kind {
     Locking,
     MbrControl,
     TperInfo,
+    LockingInfo,
+    Table,
     MbrTable,
 }
 
@@ -44,6 +46,8 @@ fn table_kind(table: u64) -> Option<Kind>
         tables::LOCKING => Some(Kind::Locking),
         tables::MBR_CONTROL => Some(Kind::MbrControl),
         tables::TPER_INFO => Some(Kind::TperInfo),
+        tables::LOCKING_INFO => Some(Kind::LockingInfo),
+        tables::TABLE => Some(Kind::Table),
         _ => None,
     }
 }

@@ -47,7 +47,8 @@ fn is_listed<R: Rows>(
     held: &Authorities,
     column: Column,
 ) -> bool
-    ensures { result ≡ is_listed_by (R.look_up rows.now) sp object first last held.now column }
+    ensures { result ≡ is_listed_by (R.profile_of rows.now) (R.look_up rows.now) sp object first
+        last held.now column }
 {
     first <= column.0
         && column.0 <= last
@@ -88,7 +89,8 @@ fn list_each<R: Rows>(
     columns: &[(Column, ColumnType)],
 ) -> Result<Vec<Value>, AllocError>
     ensures { IfOk result (λ vs. map tree vs.items
-        ≡ map cell_value (listed_among (R.look_up rows.now) sp object first last held.now
+        ≡ map cell_value (listed_among (R.profile_of rows.now) (R.look_up rows.now) sp object first
+        last held.now
         (columns_in columns.now))) }
 {
     let mut values = Vec::new(alloc);
@@ -116,7 +118,8 @@ pub fn list_columns<R: Rows>(
     held: &Authorities,
 ) -> Result<Vec<Value>, AllocError>
     ensures { IfOk result (λ vs. map tree vs.items
-        ≡ map cell_value (listed (R.look_up rows.now) sp object first last held.now)) }
+        ≡ map cell_value (listed (R.profile_of rows.now) (R.look_up rows.now) sp object first last
+        held.now)) }
 {
     method_cases!(column_arms(
         kind_of(sp, object),

@@ -17,18 +17,22 @@ option_rule name default =
 abbrev pub free_rule : Text → Rule
 free_rule name = record (new_rule name) { long = Some name; value_names = 1 }
 
+-- with the options of a field drive: what it tells of itself, and the PIN on its label
+abbrev pub with_label_rules : App → App
+with_label_rules app =
+    with_rule (with_rule (with_rule app (free_rule (codes "serial"))) (free_rule (codes "model")))
+    (free_rule (codes "psid"))
+
 -- a command that opens a drive, with the options that say which
 abbrev pub drive_line : Text → App
 drive_line name =
-    with_rule
-    (with_rule
+    with_label_rules
     (with_rule
     (with_rule
     (with_rule (with_rule (new_app name) (option_rule (codes "sectors") (codes "1000")))
     (option_rule (codes "shadow") (codes "8")))
     (option_rule (codes "msid") (codes "4f50414c4d534944")))
-    (option_rule (codes "profile") (codes "base"))) (free_rule (codes "serial")))
-    (free_rule (codes "model"))
+    (option_rule (codes "profile") (codes "base")))
 
 -- `--range TEXT`, as often as it is wanted
 abbrev pub range_rule : Rule
@@ -102,6 +106,7 @@ drive_in rows = record {
   profile = text_of (codes "profile") rows;
   serial = text_of (codes "serial") rows;
   model = text_of (codes "model") rows;
+  psid = text_of (codes "psid") rows;
 }
 
 -- the texts of the ranges, in their order

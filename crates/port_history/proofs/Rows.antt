@@ -2,7 +2,7 @@
 use Rattle.std.proofs.Common.{◌≡◌, ◌&&◌, Bool, true, false, List, [], ◌∷◌, replicate, Some, None, refl}
 use Rattle.std.specs.Prelude.{is_none}
 use Rattle.audit.specs.declared.reason.Why.TheVariants.{ReadLocked}
-use Rattle.sp_rows.specs.Factory.{admin_sps, admin_authorities, locking_authorities, admin_pins, locking_pins, locking_ranges, locking_mbr_controls, admin_aces, authority_aces, pin_aces, range_aces, mbr_aces}
+use Rattle.sp_rows.specs.Factory.{admin_sps, admin_authorities, locking_authorities, admin_pins, locking_pins, locking_ranges, locking_mbr_controls, admin_aces, authority_aces, pin_aces, range_get_aces, range_aces, mbr_aces}
 use Rattle.sp_cells.specs.Authorities.{authorities_of_locking}
 use Rattle.locking.specs.Ranges.{ranges_in}
 use Rattle.locking.specs.Verdict.{verdict_of}
@@ -42,29 +42,29 @@ fails =
 
 row_audit : audit (trace locked fails) ≡ (record { step = 6; client = 1; why = ReadLocked 100 1 1 })
     ∷ []
-unfolding locked fails ranges_in admin_sps admin_authorities locking_authorities admin_pins locking_pins locking_ranges locking_mbr_controls admin_aces authority_aces pin_aces range_aces mbr_aces authorities_of_locking verdict_of any_below zeros is_range
+unfolding locked fails ranges_in admin_sps admin_authorities locking_authorities admin_pins locking_pins locking_ranges locking_mbr_controls admin_aces authority_aces pin_aces range_get_aces range_aces mbr_aces authorities_of_locking verdict_of any_below zeros is_range
 row_audit = refl
 
 row_failed : failed (trace locked fails) ≡ Some 3
-unfolding locked fails ranges_in admin_sps admin_authorities locking_authorities admin_pins locking_pins locking_ranges locking_mbr_controls admin_aces authority_aces pin_aces range_aces mbr_aces authorities_of_locking verdict_of any_below zeros is_range
+unfolding locked fails ranges_in admin_sps admin_authorities locking_authorities admin_pins locking_pins locking_ranges locking_mbr_controls admin_aces authority_aces pin_aces range_get_aces range_aces mbr_aces authorities_of_locking verdict_of any_below zeros is_range
 row_failed = refl
 
 row_waits : refusal (trace locked fails) (Issue 5) ≡ Some Failed
-unfolding locked fails ranges_in admin_sps admin_authorities locking_authorities admin_pins locking_pins locking_ranges locking_mbr_controls admin_aces authority_aces pin_aces range_aces mbr_aces authorities_of_locking verdict_of any_below zeros is_range
+unfolding locked fails ranges_in admin_sps admin_authorities locking_authorities admin_pins locking_pins locking_ranges locking_mbr_controls admin_aces authority_aces pin_aces range_get_aces range_aces mbr_aces authorities_of_locking verdict_of any_below zeros is_range
 row_waits = refl
 
 -- the recovery answers tag 3, and gives tag 5 back with its number
 row_recovered : answer (trace locked (Recover ∷ fails)) 3 ≡ Some (answers.Failed 0x51 0x04)
-unfolding locked fails ranges_in admin_sps admin_authorities locking_authorities admin_pins locking_pins locking_ranges locking_mbr_controls admin_aces authority_aces pin_aces range_aces mbr_aces authorities_of_locking verdict_of any_below zeros is_range
+unfolding locked fails ranges_in admin_sps admin_authorities locking_authorities admin_pins locking_pins locking_ranges locking_mbr_controls admin_aces authority_aces pin_aces range_get_aces range_aces mbr_aces authorities_of_locking verdict_of any_below zeros is_range
 row_recovered = refl
 
 row_again : stage (trace locked (Recover ∷ fails)) 5
     ≡ Prepared (record { client = 1; number = 2; command = ReadQueued 200 1 })
-unfolding locked fails ranges_in admin_sps admin_authorities locking_authorities admin_pins locking_pins locking_ranges locking_mbr_controls admin_aces authority_aces pin_aces range_aces mbr_aces authorities_of_locking verdict_of any_below zeros is_range
+unfolding locked fails ranges_in admin_sps admin_authorities locking_authorities admin_pins locking_pins locking_ranges locking_mbr_controls admin_aces authority_aces pin_aces range_get_aces range_aces mbr_aces authorities_of_locking verdict_of any_below zeros is_range
 row_again = refl
 
 row_lawful : are_lawful locked (Recover ∷ fails) ≡ true
-unfolding are_lawful locked fails ranges_in admin_sps admin_authorities locking_authorities admin_pins locking_pins locking_ranges locking_mbr_controls admin_aces authority_aces pin_aces range_aces mbr_aces authorities_of_locking verdict_of any_below zeros is_range
+unfolding are_lawful locked fails ranges_in admin_sps admin_authorities locking_authorities admin_pins locking_pins locking_ranges locking_mbr_controls admin_aces authority_aces pin_aces range_get_aces range_aces mbr_aces authorities_of_locking verdict_of any_below zeros is_range
 row_lawful = refl
 
 -- Two queued reads are accepted, and an unqueued send waits until both are completed.
@@ -74,34 +74,34 @@ reads =
     ∷ Put 1 1 (Read 1 1) ∷ Put 1 0 (Read 0 1) ∷ []
 
 row_kept_back : refusal (trace locked reads) (Issue 2) ≡ Some Queue
-unfolding locked reads ranges_in admin_sps admin_authorities locking_authorities admin_pins locking_pins locking_ranges locking_mbr_controls admin_aces authority_aces pin_aces range_aces mbr_aces authorities_of_locking verdict_of any_below zeros is_range
+unfolding locked reads ranges_in admin_sps admin_authorities locking_authorities admin_pins locking_pins locking_ranges locking_mbr_controls admin_aces authority_aces pin_aces range_get_aces range_aces mbr_aces authorities_of_locking verdict_of any_below zeros is_range
 row_kept_back = refl
 
 row_still_back : refusal (trace locked (Complete 0 ∷ reads)) (Issue 2) ≡ Some Queue
-unfolding locked reads ranges_in admin_sps admin_authorities locking_authorities admin_pins locking_pins locking_ranges locking_mbr_controls admin_aces authority_aces pin_aces range_aces mbr_aces authorities_of_locking verdict_of any_below zeros is_range
+unfolding locked reads ranges_in admin_sps admin_authorities locking_authorities admin_pins locking_pins locking_ranges locking_mbr_controls admin_aces authority_aces pin_aces range_get_aces range_aces mbr_aces authorities_of_locking verdict_of any_below zeros is_range
 row_still_back = refl
 
 row_goes : refusal (trace locked (Complete 1 ∷ Complete 0 ∷ reads)) (Issue 2) ≡ None
-unfolding locked reads ranges_in admin_sps admin_authorities locking_authorities admin_pins locking_pins locking_ranges locking_mbr_controls admin_aces authority_aces pin_aces range_aces mbr_aces authorities_of_locking verdict_of any_below zeros is_range
+unfolding locked reads ranges_in admin_sps admin_authorities locking_authorities admin_pins locking_pins locking_ranges locking_mbr_controls admin_aces authority_aces pin_aces range_get_aces range_aces mbr_aces authorities_of_locking verdict_of any_below zeros is_range
 row_goes = refl
 
 -- Then PxCI has its bit, and PxSACT none.
 row_issued : (registers (trace locked (Issue 2 ∷ Complete 1 ∷ Complete 0 ∷ reads))).issued ≡ 4
-unfolding locked reads ranges_in admin_sps admin_authorities locking_authorities admin_pins locking_pins locking_ranges locking_mbr_controls admin_aces authority_aces pin_aces range_aces mbr_aces authorities_of_locking verdict_of any_below zeros is_range
+unfolding locked reads ranges_in admin_sps admin_authorities locking_authorities admin_pins locking_pins locking_ranges locking_mbr_controls admin_aces authority_aces pin_aces range_get_aces range_aces mbr_aces authorities_of_locking verdict_of any_below zeros is_range
 row_issued = refl
 
 row_active : (registers (trace locked (Issue 2 ∷ Complete 1 ∷ Complete 0 ∷ reads))).active ≡ 0
-unfolding locked reads ranges_in admin_sps admin_authorities locking_authorities admin_pins locking_pins locking_ranges locking_mbr_controls admin_aces authority_aces pin_aces range_aces mbr_aces authorities_of_locking verdict_of any_below zeros is_range
+unfolding locked reads ranges_in admin_sps admin_authorities locking_authorities admin_pins locking_pins locking_ranges locking_mbr_controls admin_aces authority_aces pin_aces range_get_aces range_aces mbr_aces authorities_of_locking verdict_of any_below zeros is_range
 row_active = refl
 
 -- A queued read put behind the issued send waits for it.
 row_behind : refusal (trace locked (Put 1 0 (Read 0 1) ∷ Take 1 0 ∷ Issue 2 ∷ Complete 1
     ∷ Complete 0 ∷ reads)) (Issue 0) ≡ Some Queue
-unfolding locked reads ranges_in admin_sps admin_authorities locking_authorities admin_pins locking_pins locking_ranges locking_mbr_controls admin_aces authority_aces pin_aces range_aces mbr_aces authorities_of_locking verdict_of any_below zeros is_range
+unfolding locked reads ranges_in admin_sps admin_authorities locking_authorities admin_pins locking_pins locking_ranges locking_mbr_controls admin_aces authority_aces pin_aces range_get_aces range_aces mbr_aces authorities_of_locking verdict_of any_below zeros is_range
 row_behind = refl
 
 row_lawful_reads : are_lawful locked (Issue 2 ∷ Complete 1 ∷ Complete 0 ∷ reads) ≡ true
-unfolding are_lawful locked reads ranges_in admin_sps admin_authorities locking_authorities admin_pins locking_pins locking_ranges locking_mbr_controls admin_aces authority_aces pin_aces range_aces mbr_aces authorities_of_locking verdict_of any_below zeros is_range
+unfolding are_lawful locked reads ranges_in admin_sps admin_authorities locking_authorities admin_pins locking_pins locking_ranges locking_mbr_controls admin_aces authority_aces pin_aces range_get_aces range_aces mbr_aces authorities_of_locking verdict_of any_below zeros is_range
 row_lawful_reads = refl
 
 -- Both locks of range 1, which is 100+10, are enabled, and none is set.
@@ -114,23 +114,23 @@ stopped =
     Reset 1 Hardware ∷ Accept 0 ∷ Issue 0 ∷ Put 1 0 (Write 100 (replicate 512 0xaa)) ∷ []
 
 row_reset : answer (trace enabled stopped) 0 ≡ Some answers.Reset
-unfolding enabled stopped ranges_in admin_sps admin_authorities locking_authorities admin_pins locking_pins locking_ranges locking_mbr_controls admin_aces authority_aces pin_aces range_aces mbr_aces authorities_of_locking verdict_of any_below zeros is_range
+unfolding enabled stopped ranges_in admin_sps admin_authorities locking_authorities admin_pins locking_pins locking_ranges locking_mbr_controls admin_aces authority_aces pin_aces range_get_aces range_aces mbr_aces authorities_of_locking verdict_of any_below zeros is_range
 row_reset = refl
 
 read_again : List Step
 read_again = Complete 0 ∷ Accept 0 ∷ Issue 0 ∷ Put 1 0 (Read 100 1) ∷ Take 1 0 ∷ stopped
 
 row_zeros : answer (trace enabled read_again) 0 ≡ Some (answers.Done (replicate 512 0))
-unfolding enabled stopped read_again ranges_in admin_sps admin_authorities locking_authorities admin_pins locking_pins locking_ranges locking_mbr_controls admin_aces authority_aces pin_aces range_aces mbr_aces authorities_of_locking verdict_of any_below zeros is_range sectors_from
+unfolding enabled stopped read_again ranges_in admin_sps admin_authorities locking_authorities admin_pins locking_pins locking_ranges locking_mbr_controls admin_aces authority_aces pin_aces range_get_aces range_aces mbr_aces authorities_of_locking verdict_of any_below zeros is_range sectors_from
 row_zeros = refl
 
 -- A power cycle sets the locks: the same read is denied.
 row_locked : audit (trace enabled (Accept 0 ∷ Issue 0 ∷ Put 1 0 (Read 100 1) ∷ Reset 1 Power
     ∷ Take 1 0 ∷ read_again)) ≡ (record { step = 14; client = 1; why = ReadLocked 100 1 1 }) ∷ []
-unfolding enabled stopped read_again ranges_in admin_sps admin_authorities locking_authorities admin_pins locking_pins locking_ranges locking_mbr_controls admin_aces authority_aces pin_aces range_aces mbr_aces authorities_of_locking verdict_of any_below zeros is_range
+unfolding enabled stopped read_again ranges_in admin_sps admin_authorities locking_authorities admin_pins locking_pins locking_ranges locking_mbr_controls admin_aces authority_aces pin_aces range_get_aces range_aces mbr_aces authorities_of_locking verdict_of any_below zeros is_range
 row_locked = refl
 
 row_lawful_reset : are_lawful enabled (Accept 0 ∷ Issue 0 ∷ Put 1 0 (Read 100 1) ∷ Reset 1 Power
     ∷ Take 1 0 ∷ read_again) ≡ true
-unfolding are_lawful enabled stopped read_again ranges_in admin_sps admin_authorities locking_authorities admin_pins locking_pins locking_ranges locking_mbr_controls admin_aces authority_aces pin_aces range_aces mbr_aces authorities_of_locking verdict_of any_below zeros is_range
+unfolding are_lawful enabled stopped read_again ranges_in admin_sps admin_authorities locking_authorities admin_pins locking_pins locking_ranges locking_mbr_controls admin_aces authority_aces pin_aces range_get_aces range_aces mbr_aces authorities_of_locking verdict_of any_below zeros is_range
 row_lawful_reset = refl

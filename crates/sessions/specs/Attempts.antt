@@ -1,13 +1,13 @@
 -- What comes of an attempt to authenticate (Core 2.01, section 5.3.4.1; Opal SSC 2.01, section 5.1). It goes by the
 -- rows in force, never by those of an open transaction.
-use Rattle.std.specs.Prelude.{◌==◌, nat_le, ℕ, Bool, false, ◌&&◌, ◌||◌, not, List, Option, None, Some, if◌then◌else◌}
+use Rattle.std.specs.Prelude.{◌==◌, nat_le, ℕ, Bool, false, ◌&&◌, ◌||◌, not, List, Option, None, Some, is_some, if◌then◌else◌}
 use Rattle.std.specs.Str.{bytes_eq}
 use Rattle.sp_cells.specs.declared.names.Sp.{Sp}
 use Rattle.sp_cells.specs.declared.names.Uid.{Uid as UidType}
 use Rattle.sp_cells.specs.declared.cells.Cell.{Cell}
 use Rattle.sp_cells.specs.declared.cells.Cell.TheVariants.{Bytes, Uid}
 use Rattle.sp_cells.specs.Names.{none, anybody}
-use Rattle.sp_cells.specs.ColumnNames.{credential_column, enabled_column, is_class_column, pin_column, tries_column, try_limit_column}
+use Rattle.sp_cells.specs.ColumnNames.{uid_column, credential_column, enabled_column, is_class_column, pin_column, tries_column, try_limit_column}
 use Rattle.sp_cells.specs.Flat.{LookUp}
 use Rattle.sp_cells.specs.Ranges.{number}
 use Rattle.audit.specs.declared.reason.AttemptFailure.{AttemptFailure}
@@ -38,10 +38,14 @@ pin_failure look sp pin proof =
     then Some LockedOut else
     if is_pin proof (look sp pin pin_column) then None else Some WrongPin
 
+-- the SP has this authority: it is one of its, and a drive of this profile has its row
+abbrev pub is_there : LookUp → Sp → UidType → Bool
+is_there look sp authority = is_known sp authority && is_some (look sp authority uid_column)
+
 -- how an attempt fails; None where it is right. Anybody needs no PIN
 abbrev pub attempt_failure : LookUp → Sp → UidType → List ℕ → Option AttemptFailure
 attempt_failure look sp authority proof =
-    if not (is_known sp authority) || (number look sp authority is_class_column == 1)
+    if not (is_there look sp authority) || (number look sp authority is_class_column == 1)
     then Some Unknown else
     if not (number look sp authority enabled_column == 1) then Some Disabled else
     if authority.0 == anybody.0 then None else

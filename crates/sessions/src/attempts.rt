@@ -2,7 +2,7 @@
 
 ghost use Rattle.std.specs.Prelude.{◌≡◌, ◌<◌, ◌==◌, ◌≤◌, None, Some, option_copied};
 ghost use Rattle.sessions.specs.Known.{is_known as is_known_to};
-ghost use Rattle.sessions.specs.Attempts.{object_named as uid_in_cell, credential as credential_of, is_pin as is_pin_of, is_used_up as is_used_up_by, pin_failure as pin_failure_of, attempt_failure as failure_of};
+ghost use Rattle.sessions.specs.Attempts.{object_named as uid_in_cell, is_there as is_there_by, credential as credential_of, is_pin as is_pin_of, is_used_up as is_used_up_by, pin_failure as pin_failure_of, attempt_failure as failure_of};
 ghost use Rattle.sp_cells.specs.ColumnNames.{pin_column};
 
 use audit::AttemptFailure;
@@ -13,9 +13,16 @@ pub(crate) fn is_known(sp: Sp, authority: Uid) -> bool
     ensures { result ≡ is_known_to sp authority }
 {
     match sp {
-        Sp::Admin => authority == Uid::ANYBODY || authority == Uid::SID,
+        Sp::Admin => matches!(authority, Uid::ANYBODY | Uid::SID | Uid::PSID),
         Sp::Locking => is_locking_authority(authority),
     }
+}
+
+/// Whether the SP has this authority: it is one of its, and has a row.
+fn is_there<R: Rows>(rows: &R, sp: Sp, authority: Uid) -> bool
+    ensures { result ≡ is_there_by (R.look_up rows.now) sp authority }
+{
+    is_known(sp, authority) && rows.cell(sp, authority, Column::UID).is_some()
 }
 
 /// The object that a cell names; none where it names none.
@@ -76,7 +83,7 @@ pub(crate) fn failure<R: Rows>(
 ) -> Option<AttemptFailure>
     ensures { result ≡ failure_of (R.look_up rows.now) sp authority proof.now }
 {
-    if !is_known(sp, authority) || number_at(rows, sp, authority, Column::IS_CLASS) == 1 {
+    if !is_there(rows, sp, authority) || number_at(rows, sp, authority, Column::IS_CLASS) == 1 {
         return Some(AttemptFailure::Unknown);
     }
     if number_at(rows, sp, authority, Column::ENABLED) != 1 {

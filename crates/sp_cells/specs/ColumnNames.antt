@@ -81,6 +81,50 @@ write_locked_column = col 8
 abbrev pub lock_on_reset_column : Column
 lock_on_reset_column = col 9
 
+abbrev pub active_key_column : Column
+active_key_column = col 10
+
+-- LockingInfo (Core 2.01, section 5.7; Opal SSC 2.01, section 4.3)
+abbrev pub version_column : Column
+version_column = col 2
+
+abbrev pub encrypt_support_column : Column
+encrypt_support_column = col 3
+
+abbrev pub max_ranges_column : Column
+max_ranges_column = col 4
+
+abbrev pub max_re_encryptions_column : Column
+max_re_encryptions_column = col 5
+
+abbrev pub keys_available_cfg_column : Column
+keys_available_cfg_column = col 6
+
+abbrev pub alignment_required_column : Column
+alignment_required_column = col 7
+
+abbrev pub logical_block_size_column : Column
+logical_block_size_column = col 8
+
+abbrev pub alignment_granularity_column : Column
+alignment_granularity_column = col 9
+
+abbrev pub lowest_aligned_lba_column : Column
+lowest_aligned_lba_column = col 10
+
+-- Table (Core 2.01, section 5.3)
+abbrev pub kind_column : Column
+kind_column = col 4
+
+abbrev pub rows_column : Column
+rows_column = col 7
+
+abbrev pub mandatory_write_granularity_column : Column
+mandatory_write_granularity_column = col 13
+
+abbrev pub recommended_access_granularity_column : Column
+recommended_access_granularity_column = col 14
+
 -- MBRControl (Core 2.01, section 5.7)
 abbrev pub mbr_enable_column : Column
 mbr_enable_column = col 1

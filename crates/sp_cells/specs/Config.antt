@@ -7,7 +7,7 @@ use Rattle.basics.specs.declared.profile.Profile.TheVariants.{Base, Field}
 use Rattle.sp_cells.specs.Limits.{most_mbr_sectors, most_pin_bytes, most_serial_bytes, most_model_bytes}
 
 -- the sectors of the drive, those that can be shadowed, the PIN of a new drive's owner, and the profile with the names
--- that the drive tells under it
+-- that the drive tells under it, and with the PIN on its label
 pub record Config : Type 0 where
   pub sectors : ℕ
   pub mbr_sectors : ℕ
@@ -15,6 +15,7 @@ pub record Config : Type 0 where
   pub profile : Profile
   pub serial : List ℕ
   pub model : List ℕ
+  pub psid : List ℕ
 
 -- no more sectors than commands can name, a shadow within them, a PIN that fits a C_PIN row
 pub record IsWithinLimits (sectors mbr_sectors : ℕ) (msid : List ℕ) : Type 0 where
@@ -39,12 +40,21 @@ pub record AreNames (serial model : List ℕ) : Type 0 where
   pub serial_named : IsAtaText most_serial_bytes serial
   pub model_named : IsAtaText most_model_bytes model
 
+-- the PIN on the label fits a C_PIN row (PSID feature set 1.00)
+pub record IsLabel (psid : List ℕ) : Type 0 where
+  pub some : 1 ≤ length psid
+  pub short : length psid ≤ most_pin_bytes
+
 -- the names of a drive that is given none (this drive)
 abbrev pub new_serial : List ℕ
 new_serial = codes "0000000001"
 
 abbrev pub new_model : List ℕ
 new_model = codes "Opalport"
+
+-- and the PIN on its label
+abbrev pub new_psid : List ℕ
+new_psid = codes "the PSID of the label"
 
 abbrev pub config_in : Profile → ℕ → ℕ → List ℕ → Config
 config_in profile sectors mbr_sectors msid = record {
@@ -54,6 +64,7 @@ config_in profile sectors mbr_sectors msid = record {
   profile = profile;
   serial = new_serial;
   model = new_model;
+  psid = new_psid;
 }
 
 abbrev pub base_config : ℕ → ℕ → List ℕ → Config
@@ -65,3 +76,7 @@ field_config sectors mbr_sectors msid = config_in Field sectors mbr_sectors msid
 -- the same drive with other names
 abbrev pub named_config : Config → List ℕ → List ℕ → Config
 named_config config serial model = record config { serial = serial; model = model }
+
+-- the same drive with another PIN on its label
+abbrev pub labelled_config : Config → List ℕ → Config
+labelled_config config psid = record config { psid = psid }

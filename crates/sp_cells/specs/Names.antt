@@ -12,6 +12,9 @@ uid n = record { 0 = n }
 abbrev pub table_of : Uid → ℕ
 table_of object = object.0 / 0x100000000
 
+abbrev pub table_table : ℕ
+table_table = 0x0001
+
 abbrev pub ace_table : ℕ
 ace_table = 0x0008
 
@@ -23,6 +26,9 @@ c_pin_table = 0x000b
 
 abbrev pub sp_table : ℕ
 sp_table = 0x0205
+
+abbrev pub locking_info_table : ℕ
+locking_info_table = 0x0801
 
 abbrev pub locking_table : ℕ
 locking_table = 0x0802
@@ -62,6 +68,10 @@ anybody = uid 0x0000000900000001
 abbrev pub sid : Uid
 sid = uid 0x0000000900000006
 
+-- who holds the label of the drive (PSID feature set 1.00)
+abbrev pub psid : Uid
+psid = uid 0x000000090001ff01
+
 -- an Admin and a User of the Locking SP, and their classes
 abbrev pub admin_base : ℕ
 admin_base = 0x0000000900010000
@@ -81,7 +91,7 @@ admins_class = uid 0x0000000900000002
 abbrev pub users_class : Uid
 users_class = user_uid 0
 
--- the C_PIN rows: the owner's, the one that anybody may read, an Admin's, a User's
+-- the C_PIN rows: the owner's, the one that anybody may read, the label's, an Admin's, a User's
 abbrev pub admin_pin_base : ℕ
 admin_pin_base = 0x0000000b00010000
 
@@ -93,6 +103,9 @@ c_pin_sid = uid 0x0000000b00000001
 
 abbrev pub c_pin_msid : Uid
 c_pin_msid = uid 0x0000000b00008402
+
+abbrev pub c_pin_psid : Uid
+c_pin_psid = uid 0x0000000b0001ff01
 
 abbrev pub admin_pin_uid : ℕ → Uid
 admin_pin_uid n = uid (admin_pin_base + n)
@@ -111,12 +124,30 @@ abbrev pub range_uid : ℕ → Uid
 range_uid zero = global_range
 range_uid (suc n) = uid (range_base + suc n)
 
--- the shadow MBR: the one row of the MBRControl table, and the byte table
+-- the one row of the LockingInfo table
+abbrev pub locking_info : Uid
+locking_info = uid 0x0000080100000001
+
+-- the key of a range (table K_AES_256), that of the global range being number 0
+abbrev pub key_base : ℕ
+key_base = 0x0000080600030000
+
+abbrev pub global_key : Uid
+global_key = uid 0x0000080600000001
+
+abbrev pub key_uid : ℕ → Uid
+key_uid zero = global_key
+key_uid (suc n) = uid (key_base + suc n)
+
+-- the shadow MBR: the one row of the MBRControl table, and the byte table, with its row in the Table table
 abbrev pub mbr_control : Uid
 mbr_control = uid 0x0000080300000001
 
 abbrev pub mbr_table : Uid
 mbr_table = uid 0x0000080400000000
+
+abbrev pub mbr_table_row : Uid
+mbr_table_row = uid 0x0000000100000804
 
 -- an ACE, by its number
 abbrev pub ace_base : ℕ
@@ -135,7 +166,8 @@ ace_admins = ace_uid 2
 abbrev pub ace_anybody_get_common_name : Uid
 ace_anybody_get_common_name = ace_uid 3
 
--- the Admin SP: who may read and set SID's PIN, read the MSID, change the SPs, and let a command reset the drive
+-- the Admin SP: who may read and set SID's PIN, read the MSID and PSID's row, change the SPs, and let a command reset
+-- the drive
 abbrev pub ace_c_pin_sid_get_nopin : Uid
 ace_c_pin_sid_get_nopin = ace_uid 0x8c02
 
@@ -144,6 +176,12 @@ ace_c_pin_sid_set_pin = ace_uid 0x8c03
 
 abbrev pub ace_c_pin_msid_get_pin : Uid
 ace_c_pin_msid_get_pin = ace_uid 0x8c04
+
+abbrev pub ace_c_pin_get_psid_nopin : Uid
+ace_c_pin_get_psid_nopin = ace_uid 0x100e0
+
+abbrev pub ace_sp_psid : Uid
+ace_sp_psid = ace_uid 0x100e1
 
 abbrev pub ace_sp_sid : Uid
 ace_sp_sid = ace_uid 0x30002
@@ -171,9 +209,24 @@ user_ace_base = ace_base + 0x3a800
 abbrev pub ace_c_pin_user_set_pin : ℕ → Uid
 ace_c_pin_user_set_pin n = uid (user_ace_base + n)
 
--- who may read its ranges, and set the ReadLocked flag and the WriteLocked flag of one
+-- who may read its ranges; under the profile `Field` each range has an ACE of its own, the global range being number 0
 abbrev pub ace_locking_get_all : Uid
 ace_locking_get_all = ace_uid 0x3d000
+
+abbrev pub range_get_ace_base : ℕ
+range_get_ace_base = ace_base + 0x3d000
+
+abbrev pub ace_range_get : ℕ → Uid
+ace_range_get n = uid (range_get_ace_base + n)
+
+-- who may make a new key for one
+abbrev pub gen_key_ace_base : ℕ
+gen_key_ace_base = ace_base + 0x3b800
+
+abbrev pub ace_key_gen_key : ℕ → Uid
+ace_key_gen_key n = uid (gen_key_ace_base + n)
+
+-- who may set the ReadLocked flag and the WriteLocked flag of one
 
 abbrev pub read_locked_ace_base : ℕ
 read_locked_ace_base = ace_base + 0x3e000

@@ -2,7 +2,7 @@
 use Rattle.std.specs.Prelude.{◌+◌, ◌-◌, ◌==◌, ◌&&◌, ℕ, nat_lt, nat_le, Option, Some, None, if◌then◌else◌}
 use Rattle.sp_cells.specs.declared.names.TheConstants.{RANGES, USERS, ADMINS}
 use Rattle.sp_cells.specs.declared.names.Uid.{Uid}
-use Rattle.sp_cells.specs.Names.{admin_base, user_base, admin_pin_base, user_pin_base, global_range, range_base, user_ace_base, read_locked_ace_base, write_locked_ace_base}
+use Rattle.sp_cells.specs.Names.{admin_base, user_base, admin_pin_base, user_pin_base, global_range, range_base, user_ace_base, range_get_ace_base, gen_key_ace_base, read_locked_ace_base, write_locked_ace_base}
 
 -- the number of an object, where it is one of the first rows behind a base
 abbrev pub number_behind : (base count : ℕ) → Uid → Option ℕ
@@ -31,9 +31,15 @@ user_pin_number = number_behind user_pin_base USERS
 abbrev pub range_number : Uid → Option ℕ
 range_number = member_number_from global_range.0 range_base RANGES
 
--- the ACEs of a User's PIN, and of the two flags of a range
+-- the ACEs of a User's PIN, of the columns and the key of a range, and of its two flags
 abbrev pub user_ace_number : Uid → Option ℕ
 user_ace_number = number_behind user_ace_base USERS
+
+abbrev pub range_get_ace_number : Uid → Option ℕ
+range_get_ace_number = member_number_from range_get_ace_base range_get_ace_base RANGES
+
+abbrev pub gen_key_ace_number : Uid → Option ℕ
+gen_key_ace_number = member_number_from gen_key_ace_base gen_key_ace_base RANGES
 
 abbrev pub read_locked_ace_number : Uid → Option ℕ
 read_locked_ace_number = member_number_from read_locked_ace_base read_locked_ace_base RANGES

@@ -2,7 +2,7 @@
 
 ghost use Rattle.std.specs.Prelude.{◌≡◌, ◌≤◌, ◌<◌, ◌^◌, List, length, IfOk, SomeIff};
 ghost use Rattle.std.specs.List.{list_all};
-ghost use Rattle.sp_cells.specs.Config.{Config, IsWithinLimits, IsAtaText, AreNames, is_printable, new_serial, new_model, config_in, base_config, field_config, named_config};
+ghost use Rattle.sp_cells.specs.Config.{Config, IsWithinLimits, IsAtaText, AreNames, IsLabel, is_printable, new_serial, new_model, new_psid, config_in, base_config, field_config, named_config, labelled_config};
 ghost use Rattle.sp_cells.specs.Limits.{most_pin_bytes, most_serial_bytes, most_model_bytes};
 
 use crate::limits::{MOST_MBR_SECTORS, MOST_MODEL_BYTES, MOST_PIN_BYTES, MOST_SERIAL_BYTES};
@@ -17,6 +17,9 @@ pub const NEW_SERIAL: [u8; 10] = *b"0000000001";
 /// The model number of a drive that is given none.
 pub const NEW_MODEL: [u8; 8] = *b"Opalport";
 
+/// The PSID of a drive that is given none.
+pub const NEW_PSID: [u8; 21] = *b"the PSID of the label";
+
 /// What a drive is made with.
 #[derive(Drop)]
 pub struct DriveConfig {
@@ -26,10 +29,11 @@ pub struct DriveConfig {
     profile: Profile,
     serial: ArrayVec<u8, MOST_SERIAL_BYTES>,
     model: ArrayVec<u8, MOST_MODEL_BYTES>,
+    psid: ArrayVec<u8, MOST_PIN_BYTES>,
 }
 
 impl Model for DriveConfig {
-    ghost use Rattle.sp_cells.specs.Config.{Config, IsWithinLimits, AreNames};
+    ghost use Rattle.sp_cells.specs.Config.{Config, IsWithinLimits, AreNames, IsLabel};
 
     ghost Value = { Config };
 
@@ -40,10 +44,11 @@ impl Model for DriveConfig {
       profile = c.profile;
       serial = c.serial.items;
       model = c.model.items;
+      psid = c.psid.items;
     } };
 
     ghost invariant = { λ c. IsWithinLimits c.sectors c.mbr_sectors c.msid.items
-        × AreNames c.serial.items c.model.items };
+        × AreNames c.serial.items c.model.items × IsLabel c.psid.items };
 }
 
 impl DriveConfig {
@@ -90,6 +95,7 @@ impl DriveConfig {
             profile,
             serial: kept(&NEW_SERIAL),
             model: kept(&NEW_MODEL),
+            psid: kept(&NEW_PSID),
         })
     }
 
@@ -108,6 +114,20 @@ impl DriveConfig {
         Some(DriveConfig {
             serial: kept(serial),
             model: kept(model),
+            ..self
+        })
+    }
+
+    /// The same drive with this PIN on its label, of 1 to 32 bytes; None exactly where it has none or more. Only `Field`
+    /// takes it.
+    pub fn with_psid(self, psid: &[u8]) -> Option<DriveConfig>
+        ensures { SomeIff result (IsLabel psid.now) (labelled_config self psid.now) }
+    {
+        if psid.is_empty() || psid.len() > MOST_PIN_BYTES {
+            return None;
+        }
+        Some(DriveConfig {
+            psid: kept(psid),
             ..self
         })
     }
@@ -159,6 +179,14 @@ impl DriveConfig {
         self.model.as_slice()
     }
 
+    /// The PIN on the label, which PSID has.
+    pub fn psid(&self) -> &[u8]
+        ensures value { result.now ≡ self.now.psid }
+        ensures limits { IsLabel self.now.psid }
+    {
+        self.psid.as_slice()
+    }
+
     /// The same configuration once more. It takes no memory of its own.
     pub fn copy(&self) -> Result<DriveConfig, AllocError>
         ensures { IfOk result (λ c. c ≡ self.now) }
@@ -166,6 +194,7 @@ impl DriveConfig {
         let msid = self.msid.clone()?;
         let serial = self.serial.clone()?;
         let model = self.model.clone()?;
+        let psid = self.psid.clone()?;
         Ok(DriveConfig {
             sectors: self.sectors,
             mbr_sectors: self.mbr_sectors,
@@ -173,6 +202,7 @@ impl DriveConfig {
             profile: self.profile,
             serial,
             model,
+            psid,
         })
     }
 }

@@ -2,12 +2,13 @@
 
 ghost use Rattle.std.specs.Prelude.{◌≡◌, ◌^◌};
 ghost use Rattle.basics.specs.Addresses.{address_limit};
-ghost use Rattle.sp_cells.specs.Names.{none, this_sp, admin_sp, locking_sp, anybody, sid, admins_class, users_class, c_pin_sid, c_pin_msid, global_range, mbr_control, mbr_table, get, set, authenticate, revert, activate, session_manager, properties, start_session, sync_session, tper_info};
-ghost use Rattle.sp_cells.specs.Names.{ace_table, authority_table, c_pin_table, sp_table, locking_table, mbr_control_table, tper_info_table};
-ghost use Rattle.sp_cells.specs.Names.{ace_anybody, ace_admins, ace_anybody_get_common_name, ace_c_pin_sid_get_nopin, ace_c_pin_sid_set_pin, ace_c_pin_msid_get_pin, ace_sp_sid, ace_tper_info_set_programmatic_reset_enable, ace_ace_set_boolean_expression, ace_authority_set_enabled, ace_c_pin_admins_get_all_nopin, ace_c_pin_admins_set_pin, ace_locking_get_all, ace_locking_global_range_admins_set, ace_locking_admins_set, ace_mbr_control_admins_set, ace_mbr_control_set_done_to_dor};
+ghost use Rattle.sp_cells.specs.Names.{none, this_sp, admin_sp, locking_sp, anybody, sid, admins_class, users_class, c_pin_sid, c_pin_msid, psid, c_pin_psid, locking_info, global_key, global_range, mbr_control, mbr_table, mbr_table_row, get, set, authenticate, revert, activate, session_manager, properties, start_session, sync_session, tper_info};
+ghost use Rattle.sp_cells.specs.Names.{table_table, ace_table, authority_table, c_pin_table, sp_table, locking_info_table, locking_table, mbr_control_table, tper_info_table};
+ghost use Rattle.sp_cells.specs.Names.{ace_anybody, ace_admins, ace_anybody_get_common_name, ace_c_pin_sid_get_nopin, ace_c_pin_sid_set_pin, ace_c_pin_msid_get_pin, ace_c_pin_get_psid_nopin, ace_sp_psid, ace_sp_sid, ace_tper_info_set_programmatic_reset_enable, ace_ace_set_boolean_expression, ace_authority_set_enabled, ace_c_pin_admins_get_all_nopin, ace_c_pin_admins_set_pin, ace_locking_get_all, ace_locking_global_range_admins_set, ace_locking_admins_set, ace_mbr_control_admins_set, ace_mbr_control_set_done_to_dor};
 ghost use Rattle.sp_cells.specs.ColumnNames.{uid_column, name_column, common_name_column, life_cycle_state_column, programmatic_reset_enable_column, pin_column, char_set_column, try_limit_column, tries_column, persistence_column};
 ghost use Rattle.sp_cells.specs.ColumnNames.{is_class_column, class_column, enabled_column, operation_column, credential_column, boolean_expr_column, columns_column};
 ghost use Rattle.sp_cells.specs.ColumnNames.{range_start_column, range_length_column, read_lock_enabled_column, write_lock_enabled_column, read_locked_column, write_locked_column, lock_on_reset_column, mbr_enable_column, mbr_done_column, mbr_done_on_reset_column};
+ghost use Rattle.sp_cells.specs.ColumnNames.{active_key_column, version_column, encrypt_support_column, max_ranges_column, max_re_encryptions_column, keys_available_cfg_column, alignment_required_column, logical_block_size_column, alignment_granularity_column, lowest_aligned_lba_column, kind_column, rows_column, mandatory_write_granularity_column, recommended_access_granularity_column};
 ghost use Rattle.sp_cells.specs.Limits.{most_mbr_sectors, most_pin_bytes, most_serial_bytes, most_model_bytes, most_elements, new_try_limit, no_try_limit, manufactured_inactive, manufactured};
 ghost use Rattle.sp_cells.specs.declared.names.TheConstants.{RANGES, USERS, ADMINS};
 ghost use Rattle.sp_cells.specs.declared.names.TheConstants.Uid as uids;
@@ -24,7 +25,13 @@ pub fn laws_of_names()
     ensures authorities { (uids.ANYBODY ≡ anybody) × (uids.SID ≡ sid) × (uids.ADMINS ≡ admins_class)
         × (uids.USERS ≡ users_class) }
     ensures pins { (uids.C_PIN_SID ≡ c_pin_sid) × (uids.C_PIN_MSID ≡ c_pin_msid) }
+    ensures label { (uids.PSID ≡ psid) × (uids.C_PIN_PSID ≡ c_pin_psid)
+        × (uids.ACE_C_PIN_GET_PSID_NOPIN ≡ ace_c_pin_get_psid_nopin)
+        × (uids.ACE_SP_PSID ≡ ace_sp_psid) }
     ensures tper_info { (uids.TPER_INFO ≡ tper_info) }
+    ensures locking_info { (uids.LOCKING_INFO ≡ locking_info) }
+    ensures keys { (uids.GLOBAL_KEY ≡ global_key) }
+    ensures table_rows { (uids.MBR_TABLE_ROW ≡ mbr_table_row) }
     ensures ranges { (uids.GLOBAL_RANGE ≡ global_range) }
     ensures mbr { (uids.MBR_CONTROL ≡ mbr_control) × (uids.MBR_TABLE ≡ mbr_table) }
     ensures methods { (uids.GET ≡ get) × (uids.SET ≡ set) × (uids.AUTHENTICATE ≡ authenticate)
@@ -49,8 +56,10 @@ pub fn laws_of_names()
         × (uids.ACE_LOCKING_ADMINS_SET ≡ ace_locking_admins_set) }
     ensures mbr_aces { (uids.ACE_MBR_CONTROL_ADMINS_SET ≡ ace_mbr_control_admins_set)
         × (uids.ACE_MBR_CONTROL_SET_DONE_TO_DOR ≡ ace_mbr_control_set_done_to_dor) }
-    ensures tables { (tables.ACE ≡ ace_table) × (tables.AUTHORITY ≡ authority_table)
+    ensures tables { (tables.TABLE ≡ table_table) × (tables.ACE ≡ ace_table)
+        × (tables.AUTHORITY ≡ authority_table)
         × (tables.C_PIN ≡ c_pin_table) × (tables.SP ≡ sp_table)
+        × (tables.LOCKING_INFO ≡ locking_info_table)
         × (tables.LOCKING ≡ locking_table) × (tables.MBR_CONTROL ≡ mbr_control_table)
         × (tables.TPER_INFO ≡ tper_info_table) }
     ensures every_row { (columns.UID ≡ uid_column) × (columns.NAME ≡ name_column)
@@ -72,6 +81,19 @@ pub fn laws_of_names()
         × (columns.READ_LOCKED ≡ read_locked_column)
         × (columns.WRITE_LOCKED ≡ write_locked_column)
         × (columns.LOCK_ON_RESET ≡ lock_on_reset_column) }
+    ensures range_key { (columns.ACTIVE_KEY ≡ active_key_column) }
+    ensures locking_info_row { (columns.VERSION ≡ version_column)
+        × (columns.ENCRYPT_SUPPORT ≡ encrypt_support_column)
+        × (columns.MAX_RANGES ≡ max_ranges_column)
+        × (columns.MAX_RE_ENCRYPTIONS ≡ max_re_encryptions_column)
+        × (columns.KEYS_AVAILABLE_CFG ≡ keys_available_cfg_column)
+        × (columns.ALIGNMENT_REQUIRED ≡ alignment_required_column)
+        × (columns.LOGICAL_BLOCK_SIZE ≡ logical_block_size_column)
+        × (columns.ALIGNMENT_GRANULARITY ≡ alignment_granularity_column)
+        × (columns.LOWEST_ALIGNED_LBA ≡ lowest_aligned_lba_column) }
+    ensures table_row { (columns.KIND ≡ kind_column) × (columns.ROWS ≡ rows_column)
+        × (columns.MANDATORY_WRITE_GRANULARITY ≡ mandatory_write_granularity_column)
+        × (columns.RECOMMENDED_ACCESS_GRANULARITY ≡ recommended_access_granularity_column) }
     ensures mbr_control_row { (columns.MBR_ENABLE ≡ mbr_enable_column)
         × (columns.MBR_DONE ≡ mbr_done_column)
         × (columns.MBR_DONE_ON_RESET ≡ mbr_done_on_reset_column) }

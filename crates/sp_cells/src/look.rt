@@ -3,9 +3,11 @@
 ghost use Rattle.std.specs.Prelude.{◌≡◌, ℕ, option_copied};
 ghost use Rattle.sp_cells.specs.Flat.{LookUp};
 ghost use Rattle.sp_cells.specs.Ranges.{AreApart, number};
+ghost use Rattle.basics.specs.declared.profile.Profile.{Profile};
 
 use crate::cells::Cell;
 use crate::names::{Column, Sp, Uid};
+use basics::Profile;
 
 /// Rows that can be read: those in force, or those that a session sees.
 pub trait Rows {
@@ -18,9 +20,15 @@ pub trait Rows {
         ensures value { option_copied result ≡ look_up self.now sp object column }
         ensures apart { AreApart (look_up self.now) };
 
+    ghost profile_of: { Self → Profile };
+
     /// The sectors of the drive that can be shadowed.
     fn mbr_sectors(&self) -> u64
         ensures { result ≡ shadow_sectors self.now };
+
+    /// The profile of the drive.
+    fn profile(&self) -> Profile
+        ensures { result ≡ profile_of self.now };
 }
 
 /// The number at a place; 0 where there is none.

@@ -2,8 +2,8 @@
 
 ghost use Rattle.std.specs.Prelude.{◌≡◌, ◌+◌, ◌-◌, ◌<◌, ◌≤◌, ◌^◌};
 ghost use Rattle.std.specs.Int.{w64, to_be_bytes, from_be_bytes};
-ghost use Rattle.sp_cells.specs.Names.{table_of, range_uid, admin_uid, user_uid, admin_pin_uid, user_pin_uid, ace_c_pin_user_set_pin, ace_range_set_read_locked, ace_range_set_write_locked};
-ghost use Rattle.sp_cells.specs.Numbers.{number_behind, admin_number, user_number, admin_pin_number, user_pin_number, range_number, user_ace_number, read_locked_ace_number, write_locked_ace_number};
+ghost use Rattle.sp_cells.specs.Names.{table_of, range_uid, key_uid, admin_uid, user_uid, admin_pin_uid, user_pin_uid, ace_c_pin_user_set_pin, ace_range_get, ace_range_set_read_locked, ace_range_set_write_locked, ace_key_gen_key};
+ghost use Rattle.sp_cells.specs.Numbers.{number_behind, admin_number, user_number, admin_pin_number, user_pin_number, range_number, user_ace_number, range_get_ace_number, read_locked_ace_number, write_locked_ace_number, gen_key_ace_number};
 
 /// The number of ranges beside the global one: they are numbered from 1.
 pub const RANGES: u8 = 16;
@@ -26,12 +26,20 @@ const RANGE_BASE: u64 = 0x0000_0802_0003_0000;
 
 const USER_ACE_BASE: u64 = 0x0000_0008_0003_a800;
 
+const KEY_BASE: u64 = 0x0000_0806_0003_0000;
+
+const GEN_KEY_ACE_BASE: u64 = 0x0000_0008_0003_b800;
+
+const RANGE_GET_ACE_BASE: u64 = 0x0000_0008_0003_d000;
+
 const READ_LOCKED_ACE_BASE: u64 = 0x0000_0008_0003_e000;
 
 const WRITE_LOCKED_ACE_BASE: u64 = 0x0000_0008_0003_e800;
 
 /// The tables of objects, as the upper four bytes of their rows' names have them.
 pub mod tables {
+    pub const TABLE: u64 = 0x0001;
+
     pub const ACE: u64 = 0x0008;
 
     pub const AUTHORITY: u64 = 0x0009;
@@ -39,6 +47,8 @@ pub mod tables {
     pub const C_PIN: u64 = 0x000b;
 
     pub const SP: u64 = 0x0205;
+
+    pub const LOCKING_INFO: u64 = 0x0801;
 
     pub const LOCKING: u64 = 0x0802;
 
@@ -87,17 +97,32 @@ impl Uid {
     /// The class of the Locking SP's Users.
     pub const USERS: Uid = Uid(0x0000_0009_0003_0000);
 
+    /// Who holds the label of the drive (PSID feature set 1.00).
+    pub const PSID: Uid = Uid(0x0000_0009_0001_ff01);
+
     /// The PIN row of SID.
     pub const C_PIN_SID: Uid = Uid(0x0000_000b_0000_0001);
 
     /// The PIN row that anybody may read.
     pub const C_PIN_MSID: Uid = Uid(0x0000_000b_0000_8402);
 
+    /// The PIN row of PSID.
+    pub const C_PIN_PSID: Uid = Uid(0x0000_000b_0001_ff01);
+
+    /// The one row of the LockingInfo table.
+    pub const LOCKING_INFO: Uid = Uid(0x0000_0801_0000_0001);
+
     /// The row of the global range in the Locking table.
     pub const GLOBAL_RANGE: Uid = Uid(0x0000_0802_0000_0001);
 
     /// The one row of the MBRControl table.
     pub const MBR_CONTROL: Uid = Uid(0x0000_0803_0000_0001);
+
+    /// The key of the global range.
+    pub const GLOBAL_KEY: Uid = Uid(0x0000_0806_0000_0001);
+
+    /// The row of the Table table that tells of the byte table of the shadow MBR.
+    pub const MBR_TABLE_ROW: Uid = Uid(0x0000_0001_0000_0804);
 
     /// The byte table of the shadow MBR.
     pub const MBR_TABLE: Uid = Uid(0x0000_0804_0000_0000);
@@ -119,6 +144,12 @@ impl Uid {
 
     /// Who may read the MSID.
     pub const ACE_C_PIN_MSID_GET_PIN: Uid = Uid(0x0000_0008_0000_8c04);
+
+    /// Who may read the C_PIN row of PSID but for its PIN.
+    pub const ACE_C_PIN_GET_PSID_NOPIN: Uid = Uid(0x0000_0008_0001_00e0);
+
+    /// PSID may revert the drive.
+    pub const ACE_SP_PSID: Uid = Uid(0x0000_0008_0001_00e1);
 
     /// Who may activate and revert the SPs.
     pub const ACE_SP_SID: Uid = Uid(0x0000_0008_0003_0002);
@@ -201,6 +232,17 @@ impl Uid {
         self.number_behind(RANGE_BASE, RANGES)
     }
 
+    /// The key of a range; 0 is the global range.
+    pub fn key(number: u8) -> Uid
+        ensures { result ≡ key_uid number }
+    {
+        if number == 0 {
+            Uid::GLOBAL_KEY
+        } else {
+            Uid(KEY_BASE + u64::from(number))
+        }
+    }
+
     /// An Admin of the Locking SP, numbered from 1.
     pub fn admin(number: u8) -> Uid
         ensures { result ≡ admin_uid number }
@@ -269,6 +311,42 @@ impl Uid {
         ensures { result ≡ user_ace_number self }
     {
         self.number_behind(USER_ACE_BASE, USERS)
+    }
+
+    /// Who may read a range under the profile `Field`, 0 being the global one
+    /// (ACE_Locking_GlobalRange_Get_RangeStartToActiveKey and those behind it).
+    pub fn ace_range_get(number: u8) -> Uid
+        ensures { result ≡ ace_range_get number }
+    {
+        Uid(RANGE_GET_ACE_BASE + u64::from(number))
+    }
+
+    /// The number of the range that this ACE lets read.
+    pub fn range_get_ace_number(self) -> Option<u8>
+        ensures { result ≡ range_get_ace_number self }
+    {
+        if self.0 == RANGE_GET_ACE_BASE {
+            return Some(0);
+        }
+        self.number_behind(RANGE_GET_ACE_BASE, RANGES)
+    }
+
+    /// Who may make a new key for a range, 0 being the global one (ACE_K_AES_256_GlobalRange_GenKey and those behind
+    /// it).
+    pub fn ace_key_gen_key(number: u8) -> Uid
+        ensures { result ≡ ace_key_gen_key number }
+    {
+        Uid(GEN_KEY_ACE_BASE + u64::from(number))
+    }
+
+    /// The number of the range for which this ACE lets make a key.
+    pub fn gen_key_ace_number(self) -> Option<u8>
+        ensures { result ≡ gen_key_ace_number self }
+    {
+        if self.0 == GEN_KEY_ACE_BASE {
+            return Some(0);
+        }
+        self.number_behind(GEN_KEY_ACE_BASE, RANGES)
     }
 
     /// Who may set the ReadLocked flag of a range, 0 being the global one (ACE_Locking_GlobalRange_Set_RdLocked and
@@ -408,6 +486,48 @@ impl Column {
 
     /// The resets that lock a range.
     pub const LOCK_ON_RESET: Column = Column(9);
+
+    /// The key of a range.
+    pub const ACTIVE_KEY: Column = Column(10);
+
+    /// The version of the LockingInfo table.
+    pub const VERSION: Column = Column(2);
+
+    /// Whether the drive encrypts.
+    pub const ENCRYPT_SUPPORT: Column = Column(3);
+
+    /// How many ranges the drive has beside the global one.
+    pub const MAX_RANGES: Column = Column(4);
+
+    /// How many ranges can be encrypted anew at once.
+    pub const MAX_RE_ENCRYPTIONS: Column = Column(5);
+
+    /// How keys are kept.
+    pub const KEYS_AVAILABLE_CFG: Column = Column(6);
+
+    /// Whether ranges must lie at multiples of the granularity.
+    pub const ALIGNMENT_REQUIRED: Column = Column(7);
+
+    /// The bytes of a sector.
+    pub const LOGICAL_BLOCK_SIZE: Column = Column(8);
+
+    /// The sectors at whose multiples ranges should lie.
+    pub const ALIGNMENT_GRANULARITY: Column = Column(9);
+
+    /// The first sector that is aligned.
+    pub const LOWEST_ALIGNED_LBA: Column = Column(10);
+
+    /// Whether a table has bytes or objects.
+    pub const KIND: Column = Column(4);
+
+    /// The rows of a table; of a byte table its bytes.
+    pub const ROWS: Column = Column(7);
+
+    /// The bytes by whose multiples a byte table is written.
+    pub const MANDATORY_WRITE_GRANULARITY: Column = Column(13);
+
+    /// The bytes by whose multiples a byte table is best read and written.
+    pub const RECOMMENDED_ACCESS_GRANULARITY: Column = Column(14);
 
     /// Whether the shadow MBR is in use.
     pub const MBR_ENABLE: Column = Column(1);

@@ -9,9 +9,13 @@ use Rattle.sp_rows.specs.declared.rows.LockingRow.{LockingRow}
 use Rattle.sp_rows.specs.declared.rows.MbrControlRow.{MbrControlRow}
 use Rattle.sp_rows.specs.declared.rows.TperInfoRow.{TperInfoRow}
 use Rattle.sp_rows.specs.declared.rows.AceRow.{AceRow}
+use Rattle.sp_rows.specs.declared.rows.RangeKeyRow.{RangeKeyRow}
+use Rattle.sp_rows.specs.declared.rows.LockingInfoRow.{LockingInfoRow}
+use Rattle.sp_rows.specs.declared.rows.TableRow.{TableRow}
 use Rattle.sp_cells.specs.ColumnNames.{uid_column, name_column, common_name_column, life_cycle_state_column, programmatic_reset_enable_column, pin_column, char_set_column, try_limit_column, tries_column, persistence_column}
 use Rattle.sp_cells.specs.ColumnNames.{is_class_column, class_column, enabled_column, operation_column, credential_column, boolean_expr_column, columns_column}
 use Rattle.sp_cells.specs.ColumnNames.{range_start_column, range_length_column, read_lock_enabled_column, write_lock_enabled_column, read_locked_column, write_locked_column, lock_on_reset_column, mbr_enable_column, mbr_done_column, mbr_done_on_reset_column}
+use Rattle.sp_cells.specs.ColumnNames.{active_key_column, version_column, encrypt_support_column, max_ranges_column, max_re_encryptions_column, keys_available_cfg_column, alignment_required_column, logical_block_size_column, alignment_granularity_column, lowest_aligned_lba_column, kind_column, rows_column, mandatory_write_granularity_column, recommended_access_granularity_column}
 
 -- SP (Core 2.01, section 5.4, table SP)
 abbrev pub sp_columns : SpRow → List (Column × Cell)
@@ -86,4 +90,36 @@ ace_columns r =
     ∷ (common_name_column, r.common_name)
     ∷ (boolean_expr_column, r.boolean_expr)
     ∷ (columns_column, r.columns)
+    ∷ []
+
+-- the key of a range, in the Locking table (Core 2.01, section 5.7)
+abbrev pub range_key_columns : RangeKeyRow → List (Column × Cell)
+range_key_columns r = (active_key_column, r.active_key) ∷ []
+
+-- LockingInfo (Core 2.01, section 5.7; Opal SSC 2.01, section 4.3)
+abbrev pub locking_info_columns : LockingInfoRow → List (Column × Cell)
+locking_info_columns r =
+    (uid_column, r.uid)
+    ∷ (name_column, r.name)
+    ∷ (version_column, r.version)
+    ∷ (encrypt_support_column, r.encrypt_support)
+    ∷ (max_ranges_column, r.max_ranges)
+    ∷ (max_re_encryptions_column, r.max_re_encryptions)
+    ∷ (keys_available_cfg_column, r.keys_available_cfg)
+    ∷ (alignment_required_column, r.alignment_required)
+    ∷ (logical_block_size_column, r.logical_block_size)
+    ∷ (alignment_granularity_column, r.alignment_granularity)
+    ∷ (lowest_aligned_lba_column, r.lowest_aligned_lba)
+    ∷ []
+
+-- Table (Core 2.01, section 5.3, table Table)
+abbrev pub table_columns : TableRow → List (Column × Cell)
+table_columns r =
+    (uid_column, r.uid)
+    ∷ (name_column, r.name)
+    ∷ (common_name_column, r.common_name)
+    ∷ (kind_column, r.kind)
+    ∷ (rows_column, r.rows)
+    ∷ (mandatory_write_granularity_column, r.mandatory_write_granularity)
+    ∷ (recommended_access_granularity_column, r.recommended_access_granularity)
     ∷ []

@@ -1,7 +1,9 @@
 -- The cells of a new drive (Opal SSC 2.01, sections 4.2 and 4.3).
-use Rattle.std.specs.Prelude.{◌≡◌, ◌≤◌, ◌+◌, ◌==◌, ℕ, true, false, List, [], ◌∷◌, ◌++◌, zero, suc, codes, if◌then◌else◌}
+use Rattle.std.specs.Prelude.{◌≡◌, ◌≤◌, ◌+◌, ◌*◌, ◌==◌, ℕ, true, false, List, [], ◌∷◌, ◌++◌, zero, suc, codes, if◌then◌else◌}
 use Rattle.std.specs.Fmt.{decimal}
 use Rattle.std.specs.List.{flat_map}
+use Rattle.basics.specs.declared.profile.Profile.{Profile}
+use Rattle.basics.specs.declared.profile.Profile.TheVariants.{Base, Field}
 use Rattle.sp_cells.specs.declared.names.TheConstants.{RANGES, USERS, ADMINS}
 use Rattle.sp_cells.specs.declared.names.Uid.{Uid}
 use Rattle.sp_cells.specs.declared.names.Column.{Column}
@@ -10,11 +12,12 @@ use Rattle.sp_cells.specs.declared.cells.Cell.TheVariants.{Number, Bytes, Uid as
 use Rattle.sp_cells.specs.declared.cells.Element.{Element}
 use Rattle.sp_cells.specs.declared.cells.Element.TheVariants.{Authority, Or}
 use Rattle.sp_cells.specs.Limits.{new_try_limit, no_try_limit, manufactured, manufactured_inactive}
-use Rattle.sp_cells.specs.Names.{uid, none, admin_sp, locking_sp, anybody, sid, admins_class, admin_base, admin_uid, users_class, user_base, user_uid, c_pin_sid, c_pin_msid, admin_pin_base, admin_pin_uid, user_pin_base, user_pin_uid, global_range, range_base, range_uid, mbr_control, tper_info}
-use Rattle.sp_cells.specs.Names.{ace_anybody, ace_admins, ace_anybody_get_common_name, ace_c_pin_sid_get_nopin, ace_c_pin_sid_set_pin, ace_c_pin_msid_get_pin, ace_sp_sid, ace_tper_info_set_programmatic_reset_enable, ace_ace_set_boolean_expression, ace_authority_set_enabled, ace_c_pin_admins_get_all_nopin, ace_c_pin_admins_set_pin, user_ace_base, ace_c_pin_user_set_pin, ace_locking_get_all, read_locked_ace_base, ace_range_set_read_locked, write_locked_ace_base, ace_range_set_write_locked, ace_locking_global_range_admins_set, ace_locking_admins_set, ace_mbr_control_admins_set, ace_mbr_control_set_done_to_dor}
+use Rattle.sp_cells.specs.Names.{uid, none, admin_sp, locking_sp, anybody, sid, admins_class, admin_base, admin_uid, users_class, user_base, user_uid, c_pin_sid, c_pin_msid, admin_pin_base, admin_pin_uid, user_pin_base, user_pin_uid, global_range, range_base, range_uid, mbr_control, tper_info, psid as psid_authority, c_pin_psid, locking_info, key_uid, mbr_table_row}
+use Rattle.sp_cells.specs.Names.{ace_anybody, ace_admins, ace_anybody_get_common_name, ace_c_pin_sid_get_nopin, ace_c_pin_sid_set_pin, ace_c_pin_msid_get_pin, ace_c_pin_get_psid_nopin, ace_sp_psid, ace_sp_sid, ace_tper_info_set_programmatic_reset_enable, ace_ace_set_boolean_expression, ace_authority_set_enabled, ace_c_pin_admins_get_all_nopin, ace_c_pin_admins_set_pin, user_ace_base, ace_c_pin_user_set_pin, ace_locking_get_all, range_get_ace_base, ace_range_get, gen_key_ace_base, ace_key_gen_key, read_locked_ace_base, ace_range_set_read_locked, write_locked_ace_base, ace_range_set_write_locked, ace_locking_global_range_admins_set, ace_locking_admins_set, ace_mbr_control_admins_set, ace_mbr_control_set_done_to_dor}
 use Rattle.sp_cells.specs.ColumnNames.{uid_column, name_column, common_name_column, life_cycle_state_column, programmatic_reset_enable_column, pin_column, char_set_column, try_limit_column, tries_column, persistence_column}
 use Rattle.sp_cells.specs.ColumnNames.{is_class_column, class_column, enabled_column, operation_column, credential_column, boolean_expr_column, columns_column}
 use Rattle.sp_cells.specs.ColumnNames.{range_start_column, range_length_column, read_lock_enabled_column, write_lock_enabled_column, read_locked_column, write_locked_column, lock_on_reset_column, mbr_enable_column, mbr_done_column, mbr_done_on_reset_column}
+use Rattle.sp_cells.specs.ColumnNames.{active_key_column, version_column, encrypt_support_column, max_ranges_column, max_re_encryptions_column, keys_available_cfg_column, alignment_required_column, logical_block_size_column, alignment_granularity_column, lowest_aligned_lba_column, kind_column, rows_column, mandatory_write_granularity_column, recommended_access_granularity_column}
 use Rattle.sp_rows.specs.declared.runs.Run.{Run}
 use Rattle.sp_rows.specs.Items.{Item, row_items, rows_from}
 use Rattle.sp_rows.specs.Runs.{run_items}
@@ -102,6 +105,37 @@ new_ace object name expr columns =
     ∷ (columns_column, Columns columns)
     ∷ []
 
+abbrev pub new_range_key : Uid → List (Column × Cell)
+new_range_key key = (active_key_column, Object key) ∷ []
+
+-- the drive encrypts, has so many ranges, and they need not be aligned
+abbrev pub new_locking_info : Uid → List ℕ → List (Column × Cell)
+new_locking_info object name =
+    (uid_column, Object object)
+    ∷ (name_column, Bytes name)
+    ∷ (version_column, Number 1)
+    ∷ (encrypt_support_column, Number 1)
+    ∷ (max_ranges_column, Number RANGES)
+    ∷ (max_re_encryptions_column, Number 0)
+    ∷ (keys_available_cfg_column, Number 0)
+    ∷ (alignment_required_column, Number 0)
+    ∷ (logical_block_size_column, Number 512)
+    ∷ (alignment_granularity_column, Number 1)
+    ∷ (lowest_aligned_lba_column, Number 0)
+    ∷ []
+
+-- a table of so many bytes, any of which can be written alone
+abbrev pub new_byte_table : Uid → List ℕ → ℕ → List (Column × Cell)
+new_byte_table object name size =
+    (uid_column, Object object)
+    ∷ (name_column, Bytes name)
+    ∷ (common_name_column, Bytes [])
+    ∷ (kind_column, Number 2)
+    ∷ (rows_column, Number size)
+    ∷ (mandatory_write_granularity_column, Number 1)
+    ∷ (recommended_access_granularity_column, Number 1)
+    ∷ []
+
 -- an ACE that one authority, or one class, fulfils
 abbrev pub ace_row : Uid → List ℕ → Uid → List Column → List Item
 ace_row ace name authority columns =
@@ -118,6 +152,11 @@ bounds = range_start_column ∷ range_length_column ∷ []
 abbrev pub locks : List Column
 locks = read_lock_enabled_column ∷ write_lock_enabled_column ∷ read_locked_column
     ∷ write_locked_column ∷ lock_on_reset_column ∷ []
+
+-- rows that a drive of the profile `Field` alone has
+abbrev pub in_field : Profile → List Item → List Item
+in_field Base items = []
+in_field Field items = items
 
 -- these runs of rows have these cells
 abbrev pub HasRows : {R : Type 0} → (R → List (Column × Cell)) → List (Run R) → List Item → Type 0
@@ -157,6 +196,11 @@ unfoldable pub admin_authorities : List Item
 admin_authorities = row_items anybody (new_group anybody (codes "Anybody") 0)
     ++ row_items sid (new_member sid (codes "SID") none 1 c_pin_sid)
 
+-- the label's is Field's
+unfoldable pub label_authorities : List Item
+label_authorities =
+    row_items psid_authority (new_member psid_authority (codes "PSID") none 1 c_pin_psid)
+
 abbrev pub admin_authority : ℕ → List (Column × Cell)
 admin_authority n = new_member (admin_uid n) (codes "Admin" ++ decimal n) admins_class
     (if n == 1 then 1 else 0) (admin_pin_uid n)
@@ -178,6 +222,9 @@ unfoldable pub admin_pins : List ℕ → List Item
 admin_pins msid = row_items c_pin_sid (new_pin c_pin_sid (codes "C_PIN_SID") msid new_try_limit)
     ++ row_items c_pin_msid (new_pin c_pin_msid (codes "C_PIN_MSID") msid no_try_limit)
 
+unfoldable pub label_pins : List ℕ → List Item
+label_pins psid = row_items c_pin_psid (new_pin c_pin_psid (codes "C_PIN_PSID") psid new_try_limit)
+
 abbrev pub admin_pin : ℕ → List (Column × Cell)
 admin_pin n = new_pin (admin_pin_uid n) (codes "C_PIN_Admin" ++ decimal n) [] new_try_limit
 
@@ -194,6 +241,21 @@ numbered_range n = new_range (range_uid n) (codes "Locking_Range" ++ decimal n)
 unfoldable pub locking_ranges : List Item
 locking_ranges = row_items global_range (new_range global_range (codes "Locking_GlobalRange"))
     ++ family range_base numbered_range RANGES
+
+-- under Field each has a key
+abbrev pub range_key : ℕ → List (Column × Cell)
+range_key n = new_range_key (key_uid n)
+
+unfoldable pub range_keys : List Item
+range_keys = row_items global_range (range_key 0) ++ family range_base range_key RANGES
+
+-- and the drive says what it can, and how large its byte table is
+unfoldable pub locking_infos : List Item
+locking_infos = row_items locking_info (new_locking_info locking_info (codes "LockingInfo"))
+
+unfoldable pub byte_tables : ℕ → List Item
+byte_tables mbr_sectors =
+    row_items mbr_table_row (new_byte_table mbr_table_row (codes "MBR") (512 * mbr_sectors))
 
 -- the shadow MBR
 unfoldable pub locking_mbr_controls : List Item
@@ -214,6 +276,11 @@ admin_aces =
     ++ ace_row ace_sp_sid (codes "SP_SID") sid []
     ++ ace_row ace_tper_info_set_programmatic_reset_enable
     (codes "TPerInfo_Set_ProgrammaticResetEnable") sid (programmatic_reset_enable_column ∷ [])
+
+unfoldable pub label_aces : List Item
+label_aces =
+    ace_row ace_c_pin_get_psid_nopin (codes "C_PIN_Get_PSID_NOPIN") anybody but_pin
+    ++ ace_row ace_sp_psid (codes "SP_PSID") psid_authority []
 
 unfoldable pub authority_aces : List Item
 authority_aces =
@@ -257,9 +324,30 @@ abbrev pub write_locked_aces : List Item
 write_locked_aces = row_items (ace_range_set_write_locked 0) (write_locked_ace 0)
     ++ family write_locked_ace_base write_locked_ace RANGES
 
-unfoldable pub range_aces : List Item
-range_aces =
+-- who may read a range: one ACE for all of them, or under Field one for each, which names its key, too
+abbrev pub range_get_ace : ℕ → List (Column × Cell)
+range_get_ace n = new_ace (ace_range_get n) (codes "Range_" ++ decimal n ++ codes "_Get")
+    (Authority admins_class ∷ []) (bounds ++ locks ++ active_key_column ∷ [])
+
+unfoldable pub range_get_aces : Profile → List Item
+range_get_aces Base =
     ace_row ace_locking_get_all (codes "Locking_Get") admins_class (bounds ++ locks)
+range_get_aces Field = row_items (ace_range_get 0) (range_get_ace 0)
+    ++ family range_get_ace_base range_get_ace RANGES
+
+-- who may make a new key for one
+abbrev pub gen_key_ace : ℕ → List (Column × Cell)
+gen_key_ace n =
+    new_ace (ace_key_gen_key n) (codes "K_AES_256_Range_" ++ decimal n ++ codes "_GenKey")
+    (Authority admins_class ∷ []) []
+
+unfoldable pub gen_key_aces : List Item
+gen_key_aces = row_items (ace_key_gen_key 0) (gen_key_ace 0)
+    ++ family gen_key_ace_base gen_key_ace RANGES
+
+unfoldable pub range_aces : Profile → List Item
+range_aces profile =
+    range_get_aces profile
     ++ read_locked_aces
     ++ write_locked_aces
     ++ ace_row ace_locking_global_range_admins_set (codes "Locking_Global_Set") admins_class locks
@@ -272,13 +360,21 @@ mbr_aces =
     ++ ace_row ace_mbr_control_set_done_to_dor (codes "MBRControl_Set_DoneToDOR") admins_class
     (mbr_done_column ∷ mbr_done_on_reset_column ∷ [])
 
--- the Admin SP of a drive with this MSID
-abbrev pub admin_factory : List ℕ → List Item
-admin_factory msid =
-    admin_sps ++ (admin_authorities ++ (admin_pins msid ++ (admin_tper_infos ++ admin_aces)))
+-- the Admin SP of a drive with this MSID, and this PIN on its label
+abbrev pub admin_factory : Profile → (msid psid : List ℕ) → List Item
+admin_factory profile msid psid =
+    admin_sps ++ ((admin_authorities ++ in_field profile label_authorities)
+    ++ ((admin_pins msid ++ in_field profile (label_pins psid))
+    ++ (admin_tper_infos ++ (admin_aces ++ in_field profile label_aces))))
 
--- the Locking SP
-abbrev pub locking_factory : List Item
-locking_factory = locking_authorities
+abbrev pub locking_aces : Profile → List Item
+locking_aces profile = authority_aces ++ pin_aces ++ range_aces profile ++ mbr_aces
+    ++ in_field profile gen_key_aces
+
+-- the Locking SP of a drive with so many sectors of a shadow
+abbrev pub locking_factory : Profile → ℕ → List Item
+locking_factory profile mbr_sectors = locking_authorities
     ++ (locking_pins ++ (locking_ranges
-    ++ (locking_mbr_controls ++ (authority_aces ++ pin_aces ++ range_aces ++ mbr_aces))))
+    ++ (locking_mbr_controls ++ (locking_aces profile
+    ++ (in_field profile range_keys ++ (in_field profile locking_infos
+    ++ in_field profile (byte_tables mbr_sectors)))))))

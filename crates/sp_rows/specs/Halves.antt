@@ -1,10 +1,24 @@
 -- The cells of the tables of one SP.
 use Rattle.std.specs.Prelude.{List, ◌++◌}
 use Rattle.std.specs.List.{flat_map}
+use Rattle.sp_rows.specs.declared.runs.Run.{Run}
+use Rattle.sp_rows.specs.declared.rows.AceRow.{AceRow}
 use Rattle.sp_rows.specs.declared.halves.SpTables.{SpTables}
+use Rattle.sp_rows.specs.declared.halves.FieldTables.{FieldTables}
 use Rattle.sp_rows.specs.Items.{Item}
 use Rattle.sp_rows.specs.Runs.{run_items}
-use Rattle.sp_rows.specs.Columns.{sp_columns, authority_columns, c_pin_columns, locking_columns, mbr_control_columns, tper_info_columns, ace_columns}
+use Rattle.sp_rows.specs.Columns.{sp_columns, authority_columns, c_pin_columns, locking_columns, mbr_control_columns, tper_info_columns, ace_columns, range_key_columns, locking_info_columns, table_columns}
+
+-- those of the profile `Field`
+abbrev pub field_items : FieldTables → List Item
+field_items t =
+    flat_map (run_items range_key_columns) t.range_keys.items
+    ++ (flat_map (run_items locking_info_columns) t.locking_infos.items
+    ++ flat_map (run_items table_columns) t.tables.items)
+
+-- the ACEs and those
+abbrev pub last_items : List (Run AceRow) → FieldTables → List Item
+last_items aces field = flat_map (run_items ace_columns) aces ++ field_items field
 
 -- table behind table
 abbrev pub half_items : SpTables → List Item
@@ -15,4 +29,4 @@ half_items t =
     ++ (flat_map (run_items locking_columns) t.ranges.items
     ++ (flat_map (run_items mbr_control_columns) t.mbr_controls.items
     ++ (flat_map (run_items tper_info_columns) t.tper_infos.items
-    ++ flat_map (run_items ace_columns) t.aces.items)))))
+    ++ last_items t.aces.items t.field)))))

@@ -2,27 +2,31 @@
 
 ghost use Rattle.std.specs.Prelude.{◌≡◌, ◌+◌, ◌<◌, ◌≤◌, ◌^◌, [], ◌∷◌, ◌++◌, IfOk, OnOk, string_bytes, map};
 ghost use Rattle.std.specs.List.{flat_map};
-ghost use Rattle.sp_cells.specs.declared.cells.Element.TheVariants as elements;
 ghost use Rattle.sp_cells.specs.Names.{user_ace_base, read_locked_ace_base, ace_range_set_read_locked, write_locked_ace_base, ace_range_set_write_locked};
 ghost use Rattle.sp_rows.specs.Items.{row_items, rows_from};
 ghost use Rattle.sp_rows.specs.Runs.{run_items};
 ghost use Rattle.sp_rows.specs.Halves.{half_items};
 ghost use Rattle.sp_rows.specs.Columns.{sp_columns, authority_columns, c_pin_columns, locking_columns, mbr_control_columns, tper_info_columns, ace_columns};
-ghost use Rattle.sp_rows.specs.Factory.{HasRows, AddsRows, ace_row, family, user_ace, read_locked_aces, write_locked_aces, admin_sps, admin_authorities, admin_pins, admin_tper_infos, admin_aces, locking_authorities, locking_pins, locking_ranges, locking_mbr_controls, authority_aces, pin_aces, range_aces, mbr_aces, admin_factory, locking_factory};
+ghost use Rattle.sp_rows.specs.Factory.{HasRows, AddsRows, in_field, ace_row, family, user_ace, read_locked_aces, write_locked_aces, admin_sps, admin_authorities, label_authorities, admin_pins, label_pins, admin_tper_infos, admin_aces, label_aces, locking_authorities, locking_pins, locking_ranges, locking_mbr_controls, authority_aces, pin_aces, range_aces, mbr_aces, locking_aces, range_keys, locking_infos, byte_tables, admin_factory, locking_factory};
+ghost use Rattle.sp_cells.specs.Limits.{most_mbr_sectors};
 
+use crate::adding::{push_ace, push_group, push_member, push_one, push_pin, push_run};
 use crate::families::{
     admin_pin_rows, admin_rows, range_rows, read_locked_ace_row, read_locked_ace_rows,
     user_ace_rows, user_pin_rows, user_rows, write_locked_ace_row, write_locked_ace_rows,
 };
-use crate::new_rows::{
-    ace, group, mbr_control, member, only, pin, push_row, range, sp_row, tper_info,
+use crate::field_rows::{
+    byte_tables_made, locking_infos_made, push_gen_key_aces, push_label_aces, push_label_authority,
+    push_label_pin, push_range_get_aces, range_keys_made,
 };
+use crate::new_rows::{group, mbr_control, range, sp_row, tper_info};
 use crate::{
-    AceRow, AuthorityRow, CPinRow, LockingRow, MbrControlRow, Row, Run, SpRow, SpTables,
+    AceRow, AuthorityRow, CPinRow, FieldTables, LockingRow, MbrControlRow, Run, SpRow, SpTables,
     TperInfoRow,
 };
+use basics::Profile;
 use sp_cells::limits::{MANUFACTURED, MANUFACTURED_INACTIVE, NEW_TRY_LIMIT, NO_TRY_LIMIT};
-use sp_cells::{Column, RANGES, USERS, Uid};
+use sp_cells::{Column, DriveConfig, USERS, Uid};
 use std::alloc::{AllocError, Global};
 
 /// The columns of a C_PIN row but for its names and the PIN.
@@ -54,55 +58,6 @@ const PLACE_AND_LOCKS: [Column; 7] = [
     Column::LOCK_ON_RESET,
 ];
 
-/// Adds rows whose names follow one another.
-#[tactic(auto, using(crate::proofs::FamilyLemmas::pushing))]
-fn push_run<R: Row + Drop>(
-    runs: &mut Vec<Run<R>>,
-    first: Uid,
-    rows: Vec<R>,
-) -> Result<(), AllocError>
-    ensures { OnOk result
-        (AddsRows R.held runs.old.items runs.new.items (rows_from R.held first.0 rows.items)) }
-{
-    push_row(runs, Run { first, rows })?;
-    Ok(())
-}
-
-/// Adds one row.
-#[tactic(auto, using(crate::proofs::FamilyLemmas::pushing))]
-fn push_one<R: Row + Drop>(
-    alloc: Global,
-    runs: &mut Vec<Run<R>>,
-    object: Uid,
-    row: R,
-) -> Result<(), AllocError>
-    ensures { OnOk result
-        (AddsRows R.held runs.old.items runs.new.items (row_items object (R.held row))) }
-{
-    let mut rows = Vec::with_capacity(alloc, 1)?;
-    push_row(&mut rows, row)?;
-    push_run(runs, object, rows)?;
-    Ok(())
-}
-
-/// Adds an ACE that one authority, or one class, fulfils.
-fn push_ace(
-    alloc: Global,
-    runs: &mut Vec<Run<AceRow>>,
-    uid: Uid,
-    name: &str,
-    authority: Uid,
-    columns: &[Column],
-) -> Result<(), AllocError>
-    ensures { OnOk result (AddsRows ace_columns runs.old.items runs.new.items
-        (ace_row uid name.now authority columns.now)) }
-{
-    let name = String::from_str(alloc, name)?;
-    let expr = only(alloc, authority)?;
-    push_one(alloc, runs, uid, ace(alloc, uid, name, expr, columns)?)?;
-    Ok(())
-}
-
 #[tactic(auto, unfolding(crate::specs::Factory::admin_sps))]
 fn admin_sps_made(alloc: Global) -> Result<Vec<Run<SpRow>>, AllocError>
     ensures { IfOk result (λ runs. HasRows sp_columns runs.items admin_sps) }
@@ -125,21 +80,30 @@ fn admin_sps_made(alloc: Global) -> Result<Vec<Run<SpRow>>, AllocError>
     Ok(runs)
 }
 
-#[tactic(auto, unfolding(crate::specs::Factory::admin_authorities))]
-fn admin_authorities_made(alloc: Global) -> Result<Vec<Run<AuthorityRow>>, AllocError>
-    ensures { IfOk result (λ runs. HasRows authority_columns runs.items admin_authorities) }
+/// Adds the authorities of the Admin SP.
+#[tactic(auto, using(crate::proofs::FamilyLemmas::pushing), unfolding(crate::specs::Factory::admin_authorities))]
+fn push_admin_authorities(
+    alloc: Global,
+    runs: &mut Vec<Run<AuthorityRow>>,
+) -> Result<(), AllocError>
+    ensures { OnOk result
+        (AddsRows authority_columns runs.old.items runs.new.items admin_authorities) }
+{
+    push_group(alloc, runs, Uid::ANYBODY, "Anybody", 0)?;
+    push_member(alloc, runs, Uid::SID, "SID", Uid::C_PIN_SID)?;
+    Ok(())
+}
+
+fn admin_authorities_made(
+    alloc: Global,
+    profile: Profile,
+) -> Result<Vec<Run<AuthorityRow>>, AllocError>
+    ensures { IfOk result (λ runs. HasRows authority_columns runs.items
+        (admin_authorities ++ in_field profile label_authorities)) }
 {
     let mut runs = Vec::new(alloc);
-    let anybody = String::from_str(alloc, "Anybody")?;
-    push_one(
-        alloc,
-        &mut runs,
-        Uid::ANYBODY,
-        group(alloc, Uid::ANYBODY, anybody, 0),
-    )?;
-    let sid = String::from_str(alloc, "SID")?;
-    let row = member(alloc, Uid::SID, sid, Uid::NONE, 1, Uid::C_PIN_SID);
-    push_one(alloc, &mut runs, Uid::SID, row)?;
+    push_admin_authorities(alloc, &mut runs)?;
+    push_label_authority(alloc, profile, &mut runs)?;
     Ok(runs)
 }
 
@@ -174,17 +138,43 @@ fn locking_authorities_made(alloc: Global) -> Result<Vec<Run<AuthorityRow>>, All
     Ok(runs)
 }
 
-#[tactic(auto, unfolding(crate::specs::Factory::admin_pins))]
-fn admin_pins_made(alloc: Global, msid: &[u8]) -> Result<Vec<Run<CPinRow>>, AllocError>
-    ensures { IfOk result (λ runs. HasRows c_pin_columns runs.items (admin_pins msid.now)) }
+/// Adds the PINs of the Admin SP.
+#[tactic(auto, using(crate::proofs::FamilyLemmas::pushing), unfolding(crate::specs::Factory::admin_pins))]
+fn push_admin_pins(
+    alloc: Global,
+    msid: &[u8],
+    runs: &mut Vec<Run<CPinRow>>,
+) -> Result<(), AllocError>
+    ensures { OnOk result
+        (AddsRows c_pin_columns runs.old.items runs.new.items (admin_pins msid.now)) }
+{
+    push_pin(
+        alloc,
+        runs,
+        Uid::C_PIN_SID,
+        "C_PIN_SID",
+        msid,
+        NEW_TRY_LIMIT,
+    )?;
+    push_pin(
+        alloc,
+        runs,
+        Uid::C_PIN_MSID,
+        "C_PIN_MSID",
+        msid,
+        NO_TRY_LIMIT,
+    )?;
+    Ok(())
+}
+
+fn admin_pins_made(alloc: Global, config: &DriveConfig) -> Result<Vec<Run<CPinRow>>, AllocError>
+    ensures { IfOk result (λ runs. HasRows c_pin_columns runs.items
+        (admin_pins config.now.msid
+        ++ in_field config.now.profile (label_pins config.now.psid))) }
 {
     let mut runs = Vec::new(alloc);
-    let sid = String::from_str(alloc, "C_PIN_SID")?;
-    let sid_row = pin(alloc, Uid::C_PIN_SID, sid, msid, NEW_TRY_LIMIT)?;
-    push_one(alloc, &mut runs, Uid::C_PIN_SID, sid_row)?;
-    let public = String::from_str(alloc, "C_PIN_MSID")?;
-    let msid_row = pin(alloc, Uid::C_PIN_MSID, public, msid, NO_TRY_LIMIT)?;
-    push_one(alloc, &mut runs, Uid::C_PIN_MSID, msid_row)?;
+    push_admin_pins(alloc, config.msid(), &mut runs)?;
+    push_label_pin(alloc, config.profile(), config.psid(), &mut runs)?;
     Ok(runs)
 }
 
@@ -278,11 +268,13 @@ fn push_admin_aces(alloc: Global, runs: &mut Vec<Run<AceRow>>) -> Result<(), All
     Ok(())
 }
 
-fn admin_aces_made(alloc: Global) -> Result<Vec<Run<AceRow>>, AllocError>
-    ensures { IfOk result (λ runs. HasRows ace_columns runs.items admin_aces) }
+fn admin_aces_made(alloc: Global, profile: Profile) -> Result<Vec<Run<AceRow>>, AllocError>
+    ensures { IfOk result
+        (λ runs. HasRows ace_columns runs.items (admin_aces ++ in_field profile label_aces)) }
 {
     let mut runs = Vec::new(alloc);
     push_admin_aces(alloc, &mut runs)?;
+    push_label_aces(alloc, profile, &mut runs)?;
     Ok(runs)
 }
 
@@ -392,17 +384,15 @@ fn push_pin_aces(alloc: Global, runs: &mut Vec<Run<AceRow>>) -> Result<(), Alloc
 
 /// Adds the ACEs on ranges.
 #[tactic(auto, using(crate::proofs::FamilyLemmas::pushing), unfolding(crate::specs::Factory::range_aces))]
-fn push_range_aces(alloc: Global, runs: &mut Vec<Run<AceRow>>) -> Result<(), AllocError>
-    ensures { OnOk result (AddsRows ace_columns runs.old.items runs.new.items range_aces) }
+fn push_range_aces(
+    alloc: Global,
+    profile: Profile,
+    runs: &mut Vec<Run<AceRow>>,
+) -> Result<(), AllocError>
+    ensures { OnOk result
+        (AddsRows ace_columns runs.old.items runs.new.items (range_aces profile)) }
 {
-    push_ace(
-        alloc,
-        runs,
-        Uid::ACE_LOCKING_GET_ALL,
-        "Locking_Get",
-        Uid::ADMINS,
-        &PLACE_AND_LOCKS,
-    )?;
+    push_range_get_aces(alloc, profile, runs)?;
     push_read_locked_aces(alloc, runs)?;
     push_write_locked_aces(alloc, runs)?;
     push_ace(
@@ -452,38 +442,45 @@ fn push_mbr_aces(alloc: Global, runs: &mut Vec<Run<AceRow>>) -> Result<(), Alloc
     Ok(())
 }
 
-fn locking_aces_made(alloc: Global) -> Result<Vec<Run<AceRow>>, AllocError>
-    ensures { IfOk result
-        (λ runs. HasRows ace_columns runs.items
-        (authority_aces ++ pin_aces ++ range_aces ++ mbr_aces)) }
+fn locking_aces_made(alloc: Global, profile: Profile) -> Result<Vec<Run<AceRow>>, AllocError>
+    ensures { IfOk result (λ runs. HasRows ace_columns runs.items (locking_aces profile)) }
 {
     let mut runs = Vec::new(alloc);
     push_authority_aces(alloc, &mut runs)?;
     push_pin_aces(alloc, &mut runs)?;
-    push_range_aces(alloc, &mut runs)?;
+    push_range_aces(alloc, profile, &mut runs)?;
     push_mbr_aces(alloc, &mut runs)?;
+    push_gen_key_aces(alloc, profile, &mut runs)?;
     Ok(runs)
 }
 
 /// The tables of a new Admin SP.
-pub fn new_admin_sp(alloc: Global, msid: &[u8]) -> Result<SpTables, AllocError>
-    ensures { IfOk result (λ t. half_items t ≡ admin_factory msid.now) }
+pub fn new_admin_sp(alloc: Global, config: &DriveConfig) -> Result<SpTables, AllocError>
+    ensures { IfOk result (λ t. half_items t
+        ≡ admin_factory config.now.profile config.now.msid config.now.psid) }
 {
     Ok(SpTables {
         sps: admin_sps_made(alloc)?,
-        authorities: admin_authorities_made(alloc)?,
-        pins: admin_pins_made(alloc, msid)?,
+        authorities: admin_authorities_made(alloc, config.profile())?,
+        pins: admin_pins_made(alloc, config)?,
         ranges: Vec::new(alloc),
         mbr_controls: Vec::new(alloc),
         tper_infos: tper_infos_made(alloc)?,
-        aces: admin_aces_made(alloc)?,
+        aces: admin_aces_made(alloc, config.profile())?,
+        field: FieldTables {
+            range_keys: Vec::new(alloc),
+            locking_infos: Vec::new(alloc),
+            tables: Vec::new(alloc),
+        },
     })
 }
 
 /// The tables of a new Locking SP.
-pub fn new_locking_sp(alloc: Global) -> Result<SpTables, AllocError>
-    ensures { IfOk result (λ t. half_items t ≡ locking_factory) }
+pub fn new_locking_sp(alloc: Global, config: &DriveConfig) -> Result<SpTables, AllocError>
+    ensures { IfOk result
+        (λ t. half_items t ≡ locking_factory config.now.profile config.now.mbr_sectors) }
 {
+    let profile = config.profile();
     Ok(SpTables {
         sps: Vec::new(alloc),
         authorities: locking_authorities_made(alloc)?,
@@ -491,6 +488,11 @@ pub fn new_locking_sp(alloc: Global) -> Result<SpTables, AllocError>
         ranges: locking_ranges_made(alloc)?,
         mbr_controls: mbr_controls_made(alloc)?,
         tper_infos: Vec::new(alloc),
-        aces: locking_aces_made(alloc)?,
+        aces: locking_aces_made(alloc, profile)?,
+        field: FieldTables {
+            range_keys: range_keys_made(alloc, profile)?,
+            locking_infos: locking_infos_made(alloc, profile)?,
+            tables: byte_tables_made(alloc, profile, config.mbr_sectors())?,
+        },
     })
 }

@@ -1,13 +1,13 @@
 //! The rows that come in families: of Admins, Users and numbered ranges.
 
 ghost use Rattle.std.specs.Prelude.{◌≡◌, ◌+◌, ◌<◌, ◌≤◌, ◌^◌, [], ◌∷◌, ◌++◌, IfOk, OnOk, Ok, string_bytes};
-ghost use Rattle.sp_cells.specs.Names.{admin_base, user_base, admin_pin_base, user_pin_base, range_base, user_ace_base, read_locked_ace_base, write_locked_ace_base};
+ghost use Rattle.sp_cells.specs.Names.{admin_base, user_base, admin_pin_base, user_pin_base, range_base, user_ace_base, range_get_ace_base, gen_key_ace_base, read_locked_ace_base, write_locked_ace_base};
 ghost use Rattle.sp_rows.specs.Items.{rows_from};
-ghost use Rattle.sp_rows.specs.Columns.{authority_columns, c_pin_columns, locking_columns, ace_columns};
-ghost use Rattle.sp_rows.specs.Factory.{family, IsFamily, IsFamilyOf, admin_authority, user_authority, admin_pin, user_pin, numbered_range, user_ace, read_locked_ace, write_locked_ace};
+ghost use Rattle.sp_rows.specs.Columns.{authority_columns, c_pin_columns, locking_columns, ace_columns, range_key_columns};
+ghost use Rattle.sp_rows.specs.Factory.{family, IsFamily, IsFamilyOf, admin_authority, user_authority, admin_pin, user_pin, numbered_range, range_key, user_ace, range_get_ace, gen_key_ace, read_locked_ace, write_locked_ace};
 
-use crate::new_rows::{ace, either, member, only, pin, push_row, range};
-use crate::{AceRow, AuthorityRow, CPinRow, LockingRow, Row};
+use crate::new_rows::{ace, either, member, only, pin, push_row, range, range_key as key_row};
+use crate::{AceRow, AuthorityRow, CPinRow, LockingRow, RangeKeyRow, Row};
 use sp_cells::limits::NEW_TRY_LIMIT;
 use sp_cells::{ADMINS, Column, RANGES, USERS, Uid};
 use std::alloc::{AllocError, Global};
@@ -127,6 +127,72 @@ pub fn range_rows(alloc: Global) -> Result<Vec<LockingRow>, AllocError>
         (λ rows. IsFamily locking_columns range_base numbered_range RANGES rows.items) }
 {
     let rows = numbered(alloc, RANGES, range_row)?;
+    Ok(rows)
+}
+
+/// The key of a numbered range.
+fn range_key_row(_alloc: Global, n: u8) -> Result<RangeKeyRow, AllocError>
+    ensures { IfOk result (λ r. range_key_columns r ≡ range_key n) }
+{
+    Ok(key_row(Uid::key(n)))
+}
+
+/// All of them, by number.
+pub fn range_key_rows(alloc: Global) -> Result<Vec<RangeKeyRow>, AllocError>
+    ensures { IfOk result
+        (λ rows. IsFamily range_key_columns range_base range_key RANGES rows.items) }
+{
+    let rows = numbered(alloc, RANGES, range_key_row)?;
+    Ok(rows)
+}
+
+/// The columns of a range that its own ACE lets read.
+const BUT_NAMES: [Column; 8] = [
+    Column::RANGE_START,
+    Column::RANGE_LENGTH,
+    Column::READ_LOCK_ENABLED,
+    Column::WRITE_LOCK_ENABLED,
+    Column::READ_LOCKED,
+    Column::WRITE_LOCKED,
+    Column::LOCK_ON_RESET,
+    Column::ACTIVE_KEY,
+];
+
+/// Who may read a range.
+pub fn range_get_ace_row(alloc: Global, n: u8) -> Result<AceRow, AllocError>
+    ensures { IfOk result (λ r. ace_columns r ≡ range_get_ace n) }
+{
+    let name = format!(in alloc; "Range_{n}_Get")?;
+    let expr = only(alloc, Uid::ADMINS)?;
+    let row = ace(alloc, Uid::ace_range_get(n), name, expr, &BUT_NAMES)?;
+    Ok(row)
+}
+
+/// All of them, by number.
+pub fn range_get_ace_rows(alloc: Global) -> Result<Vec<AceRow>, AllocError>
+    ensures { IfOk result
+        (λ rows. IsFamily ace_columns range_get_ace_base range_get_ace RANGES rows.items) }
+{
+    let rows = numbered(alloc, RANGES, range_get_ace_row)?;
+    Ok(rows)
+}
+
+/// Who may make a new key for a range.
+pub fn gen_key_ace_row(alloc: Global, n: u8) -> Result<AceRow, AllocError>
+    ensures { IfOk result (λ r. ace_columns r ≡ gen_key_ace n) }
+{
+    let name = format!(in alloc; "K_AES_256_Range_{n}_GenKey")?;
+    let expr = only(alloc, Uid::ADMINS)?;
+    let row = ace(alloc, Uid::ace_key_gen_key(n), name, expr, &[])?;
+    Ok(row)
+}
+
+/// All of them, by number.
+pub fn gen_key_ace_rows(alloc: Global) -> Result<Vec<AceRow>, AllocError>
+    ensures { IfOk result
+        (λ rows. IsFamily ace_columns gen_key_ace_base gen_key_ace RANGES rows.items) }
+{
+    let rows = numbered(alloc, RANGES, gen_key_ace_row)?;
     Ok(rows)
 }
 

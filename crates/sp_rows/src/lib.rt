@@ -2,9 +2,11 @@
 //! exchange of a cell among them, and the rows of a new drive.
 #![tactic(auto)]
 
+mod adding;
 pub mod exchange;
 pub mod factory;
 mod families;
+mod field_rows;
 pub mod halves;
 mod new_rows;
 pub mod rows;
@@ -12,6 +14,9 @@ pub mod runs;
 
 pub use exchange::{exchange_all, new_cells};
 pub use factory::{new_admin_sp, new_locking_sp};
-pub use halves::SpTables;
-pub use rows::{AceRow, AuthorityRow, CPinRow, LockingRow, MbrControlRow, Row, SpRow, TperInfoRow};
+pub use halves::{FieldTables, SpTables};
+pub use rows::{
+    AceRow, AuthorityRow, CPinRow, LockingInfoRow, LockingRow, MbrControlRow, RangeKeyRow, Row,
+    SpRow, TableRow, TperInfoRow,
+};
 pub use runs::{Run, find_cell, swap_in};

@@ -7,14 +7,15 @@ ghost use Rattle.sp_cells.specs.declared.cells.Element.TheVariants as elements;
 ghost use Rattle.sp_cells.specs.Names.{uid, ace_uid};
 ghost use Rattle.sp_rows.specs.Items.{row_items, rows_from};
 ghost use Rattle.sp_rows.specs.Runs.{run_items};
-ghost use Rattle.sp_rows.specs.Columns.{sp_columns, authority_columns, c_pin_columns, locking_columns, mbr_control_columns, tper_info_columns, ace_columns};
-ghost use Rattle.sp_rows.specs.Factory.{new_sp, new_group, new_member, new_pin, new_range, new_mbr_control, new_tper_info, new_ace};
+ghost use Rattle.sp_rows.specs.Columns.{sp_columns, authority_columns, c_pin_columns, locking_columns, mbr_control_columns, tper_info_columns, ace_columns, range_key_columns, locking_info_columns, table_columns};
+ghost use Rattle.sp_rows.specs.Factory.{new_sp, new_group, new_member, new_pin, new_range, new_mbr_control, new_tper_info, new_ace, new_range_key, new_locking_info, new_byte_table};
 
 use crate::{
-    AceRow, AuthorityRow, CPinRow, LockingRow, MbrControlRow, Row, Run, SpRow, TperInfoRow,
+    AceRow, AuthorityRow, CPinRow, LockingInfoRow, LockingRow, MbrControlRow, RangeKeyRow, Row,
+    Run, SpRow, TableRow, TperInfoRow,
 };
 use arrayvec::ArrayVec;
-use sp_cells::{Bytes, Cell, Column, Columns, Element, Expr, ResetTypes, Uid};
+use sp_cells::{Bytes, Cell, Column, Columns, Element, Expr, RANGES, ResetTypes, Uid};
 use std::alloc::{AllocError, Global};
 
 /// A name as a cell.
@@ -155,6 +156,52 @@ pub fn tper_info(object: Uid) -> TperInfoRow
     TperInfoRow {
         uid: Cell::Uid(object),
         programmatic_reset_enable: Cell::Number(0),
+    }
+}
+
+/// The key of a range.
+pub fn range_key(key: Uid) -> RangeKeyRow
+    ensures { range_key_columns result ≡ new_range_key key }
+{
+    RangeKeyRow {
+        active_key: Cell::Uid(key),
+    }
+}
+
+/// The row of LockingInfo: this drive has so many ranges, and encrypts; they need not be aligned.
+pub fn locking_info(object: Uid, name: String) -> LockingInfoRow
+    ensures { locking_info_columns result ≡ new_locking_info object (string_bytes name) }
+{
+    LockingInfoRow {
+        uid: Cell::Uid(object),
+        name: text(name),
+        version: Cell::Number(1),
+        encrypt_support: Cell::Number(1),
+        max_ranges: Cell::Number(u64::from(RANGES)),
+        max_re_encryptions: Cell::Number(0),
+        keys_available_cfg: Cell::Number(0),
+        alignment_required: Cell::Number(0),
+        logical_block_size: Cell::Number(512),
+        alignment_granularity: Cell::Number(1),
+        lowest_aligned_lba: Cell::Number(0),
+    }
+}
+
+/// What Kind is of a byte table.
+const BYTE_TABLE: u64 = 2;
+
+/// The row of a byte table of so many bytes.
+pub fn byte_table(alloc: Global, object: Uid, name: String, bytes: u64) -> TableRow
+    ensures { table_columns result ≡ new_byte_table object (string_bytes name) bytes }
+{
+    TableRow {
+        uid: Cell::Uid(object),
+        name: text(name),
+        common_name: no_text(alloc),
+        kind: Cell::Number(BYTE_TABLE),
+        rows: Cell::Number(bytes),
+        mandatory_write_granularity: Cell::Number(1),
+        recommended_access_granularity: Cell::Number(1),
     }
 }
 

@@ -321,3 +321,125 @@ impl Row for AceRow {
         ace_columns!(swap_of self, column, cell)
     }
 }
+
+/// The column of the Locking table that tells the key of a range.
+#[derive(Drop)]
+pub struct RangeKeyRow {
+    pub active_key: Cell,
+}
+
+/// The columns, and the field of each, for one of the two matches.
+macro_rules! range_key_columns {
+    ($matched:ident $($given:ident),+) => {
+        $matched!(
+            $($given),+;
+            ACTIVE_KEY: active_key
+        )
+    };
+}
+
+impl Row for RangeKeyRow {
+    ghost use Rattle.sp_rows.specs.Columns.{range_key_columns};
+
+    ghost held = { range_key_columns };
+
+    fn cell(&self, column: Column) -> Option<&Cell> {
+        range_key_columns!(cell_of self, column)
+    }
+
+    fn swap(&mut self, column: Column, cell: &mut Cell) -> bool {
+        range_key_columns!(swap_of self, column, cell)
+    }
+}
+
+/// The row of the LockingInfo table.
+#[derive(Drop)]
+pub struct LockingInfoRow {
+    pub uid: Cell,
+    pub name: Cell,
+    pub version: Cell,
+    pub encrypt_support: Cell,
+    pub max_ranges: Cell,
+    pub max_re_encryptions: Cell,
+    pub keys_available_cfg: Cell,
+    pub alignment_required: Cell,
+    pub logical_block_size: Cell,
+    pub alignment_granularity: Cell,
+    pub lowest_aligned_lba: Cell,
+}
+
+/// The columns of the table, and the field of each, for one of the two matches.
+macro_rules! locking_info_columns {
+    ($matched:ident $($given:ident),+) => {
+        $matched!(
+            $($given),+;
+            UID: uid,
+            NAME: name,
+            VERSION: version,
+            ENCRYPT_SUPPORT: encrypt_support,
+            MAX_RANGES: max_ranges,
+            MAX_RE_ENCRYPTIONS: max_re_encryptions,
+            KEYS_AVAILABLE_CFG: keys_available_cfg,
+            ALIGNMENT_REQUIRED: alignment_required,
+            LOGICAL_BLOCK_SIZE: logical_block_size,
+            ALIGNMENT_GRANULARITY: alignment_granularity,
+            LOWEST_ALIGNED_LBA: lowest_aligned_lba
+        )
+    };
+}
+
+impl Row for LockingInfoRow {
+    ghost use Rattle.sp_rows.specs.Columns.{locking_info_columns};
+
+    ghost held = { locking_info_columns };
+
+    fn cell(&self, column: Column) -> Option<&Cell> {
+        locking_info_columns!(cell_of self, column)
+    }
+
+    fn swap(&mut self, column: Column, cell: &mut Cell) -> bool {
+        locking_info_columns!(swap_of self, column, cell)
+    }
+}
+
+/// A row of the Table table, which tells of another table.
+#[derive(Drop)]
+pub struct TableRow {
+    pub uid: Cell,
+    pub name: Cell,
+    pub common_name: Cell,
+    pub kind: Cell,
+    pub rows: Cell,
+    pub mandatory_write_granularity: Cell,
+    pub recommended_access_granularity: Cell,
+}
+
+/// The columns of the table, and the field of each, for one of the two matches.
+macro_rules! table_columns {
+    ($matched:ident $($given:ident),+) => {
+        $matched!(
+            $($given),+;
+            UID: uid,
+            NAME: name,
+            COMMON_NAME: common_name,
+            KIND: kind,
+            ROWS: rows,
+            MANDATORY_WRITE_GRANULARITY: mandatory_write_granularity,
+            RECOMMENDED_ACCESS_GRANULARITY: recommended_access_granularity
+        )
+    };
+}
+
+impl Row for TableRow {
+    ghost use Rattle.sp_rows.specs.Columns.{table_columns};
+
+    ghost held = { table_columns };
+
+    fn cell(&self, column: Column) -> Option<&Cell> {
+        table_columns!(cell_of self, column)
+    }
+
+    fn swap(&mut self, column: Column, cell: &mut Cell) -> bool {
+        table_columns!(swap_of self, column, cell)
+    }
+}

@@ -13,8 +13,7 @@ use Rattle.sp_cells.specs.Flat.{LookUp}
 use Rattle.sp_cells.specs.Ranges.{range_start, range_length, AreApart, cell_number, of_range, ranges_meet}
 use Rattle.sp_rows.specs.Items.{Item, item_at, with_item, with_items}
 use Rattle.sp_cells.specs.Config.{Config}
-use Rattle.sp_rows.specs.Factory.{locking_factory}
-use Rattle.sp_tables.specs.Contents.{Contents, cells_look_up, factory_contents}
+use Rattle.sp_tables.specs.Contents.{Contents, cells_look_up, new_locking, factory_contents}
 use Rattle.sp_tables.specs.Undo.{RangesApart, KeepsApart, IsNoBound, put_back, with_row_back}
 use Rattle.sp_tables.specs.Tries.{is_pin_row, tries_put, family_cleared, locking_cleared}
 use Rattle.sp_tables.specs.AtReset.{has_kind, range_after, locks_after_reset, shadow_after, locking_after, is_power_cycle, locking_tries_after}
@@ -153,8 +152,8 @@ apart-tries admin locking new config pin n before is = apart-same (with_cells_of
 pub apart-at_reset : (admin locking other new : List Item) (config : Config) (kind : ℕ) → AreApart (cells_look_up (record { admin = admin; locking = locking; config = config })) → new ≡ locking_tries_after kind (locking_after kind locking) → AreApart (cells_look_up (record { admin = other; locking = new; config = config }))
 apart-at_reset admin locking other new config kind before is = apart-same (with_cells_of admin locking config) (with_cells_of other new config) (subst (SameRanges locking) (sym is) (same-at_reset kind locking)) before
 
-pub apart-restored : (admin new : List Item) (config : Config) → new ≡ locking_factory → AreApart (cells_look_up (record { admin = admin; locking = new; config = config }))
-apart-restored admin new config is = apart-same (factory_contents config) (with_cells_of admin new config) (subst (SameRanges locking_factory) (sym is) (same-refl locking_factory)) (apart-factory config)
+pub apart-restored : (admin new : List Item) (config : Config) → new ≡ new_locking config → AreApart (cells_look_up (record { admin = admin; locking = new; config = config }))
+apart-restored admin new config is = apart-same (factory_contents config) (with_cells_of admin new config) (subst (SameRanges (new_locking config)) (sym is) (same-refl (new_locking config))) (apart-factory config)
 
 -- rows put back into the Locking SP
 pub apart-put_back : (s t : Contents) (sp : Sp) (o : Uid) (ps : List (Column × Cell)) (new : List Item) → s ≡ t → sp ≡ Locking → KeepsApart sp (with_row_back sp o ps t) → new ≡ put_back s.locking o ps → AreApart (cells_look_up (record { admin = s.admin; locking = new; config = s.config }))

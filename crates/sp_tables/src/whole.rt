@@ -7,6 +7,7 @@ ghost use Rattle.sp_tables.specs.Contents.{Contents, items_of, flat as flat_list
 ghost use Rattle.sp_tables.specs.Faults.{set_fault, TellsFault};
 ghost use Rattle.sp_cells.specs.Ranges.{AreApart};
 
+use basics::Profile;
 use sp_cells::{Cell, Column, DriveConfig, Rows, SetError, Sp, Uid};
 use sp_rows::{SpTables, exchange_all, new_admin_sp, new_cells, new_locking_sp};
 use std::alloc::{AllocError, Global};
@@ -53,8 +54,8 @@ impl Tables {
         Ok(Tables {
             alloc,
             config: config.copy()?,
-            admin: new_admin_sp(alloc, config.msid())?,
-            locking: new_locking_sp(alloc)?,
+            admin: new_admin_sp(alloc, config)?,
+            locking: new_locking_sp(alloc, config)?,
         })
     }
 
@@ -155,11 +156,17 @@ impl Rows for Tables {
 
     ghost shadow_sectors = { λ t. t.config.mbr_sectors };
 
+    ghost profile_of = { λ t. t.config.profile };
+
     fn cell(&self, sp: Sp, object: Uid, column: Column) -> Option<&Cell> {
         self.get_cell(sp, object, column)
     }
 
     fn mbr_sectors(&self) -> u64 {
         self.config.mbr_sectors()
+    }
+
+    fn profile(&self) -> Profile {
+        self.config.profile()
     }
 }

@@ -1,13 +1,17 @@
 //! What a drive is opened with.
 
 ghost use Rattle.std.specs.Prelude.{◌≡◌};
-ghost use Rattle.tool.specs.OptionTexts.{profile_named, text_or};
+ghost use Rattle.std.specs.Prelude.{IfOk, IfErr, Ok, Err, ◌≢◌};
+ghost use Rattle.tool.specs.OptionTexts.{profile_named, text_or, label_of};
+ghost use Rattle.hex.specs.Hex.{decode_of};
+ghost use Rattle.hex.specs.declared.error.FromHexError.{FromHexError};
+ghost use Rattle.hex.specs.declared.error.FromHexError.TheVariants as hex_faults;
 
 use basics::{ADDRESS_LIMIT, Profile};
 use hex::FromHexError;
 use script_lines::number_up_to;
 use sp_cells::DriveConfig;
-use sp_cells::config::{NEW_MODEL, NEW_SERIAL};
+use sp_cells::config::{NEW_MODEL, NEW_PSID, NEW_SERIAL};
 use sp_cells::limits::{MOST_MBR_SECTORS, MOST_MODEL_BYTES, MOST_PIN_BYTES, MOST_SERIAL_BYTES};
 use std::alloc::Global;
 use std::error::Error;
@@ -20,9 +24,10 @@ pub enum OptionsFault {
     Sectors,
     Shadow,
     Msid(FromHexError),
+    Psid(FromHexError),
     /// The text names no profile.
     Profile,
-    /// A drive of the profile `Base` tells no names.
+    /// A drive of the profile `Base` tells no names, and has no label.
     NamesOfBase,
     /// The values are not within the limits of a configuration.
     NoDrive {
@@ -32,6 +37,10 @@ pub enum OptionsFault {
     },
     /// The serial number or the model number is not printable ASCII, or too long.
     Names,
+    /// The PIN on the label has no byte, or too many.
+    Label {
+        psid: usize,
+    },
     OutOfMemory,
 }
 
@@ -72,9 +81,10 @@ impl fmt::Display for OptionsFault {
             OptionsFault::Sectors => f.write_str("--sectors is no decimal number of 64 bits"),
             OptionsFault::Shadow => f.write_str("--shadow is no decimal number of 64 bits"),
             OptionsFault::Msid(fault) => write!(f, "--msid is not written in hex: {fault}"),
+            OptionsFault::Psid(fault) => write!(f, "--psid is not written in hex: {fault}"),
             OptionsFault::Profile => f.write_str("--profile is neither base nor field"),
             OptionsFault::NamesOfBase => {
-                f.write_str("--serial and --model want --profile field")
+                f.write_str("--serial, --model and --psid want --profile field")
             }
             OptionsFault::NoDrive {
                 sectors,
@@ -86,6 +96,9 @@ impl fmt::Display for OptionsFault {
                 "--serial has at most {MOST_SERIAL_BYTES} and --model at most {MOST_MODEL_BYTES} \
                  characters of printable ASCII"
             ),
+            OptionsFault::Label { psid } => {
+                write!(f, "--psid: a PSID has 1 to {MOST_PIN_BYTES} bytes, not {psid}")
+            }
             OptionsFault::OutOfMemory => f.write_str("out of memory"),
         }
     }
@@ -93,8 +106,8 @@ impl fmt::Display for OptionsFault {
 
 impl Error for OptionsFault {}
 
-/// The options that say which drive, as they are written. An empty serial number or model number stands for that of a
-/// drive that is given none.
+/// The options that say which drive, as they are written. An empty serial number, model number or PSID stands for that
+/// of a drive that is given none.
 #[derive(Clone, Copy)]
 pub struct DriveTexts<'a> {
     pub sectors: &'a str,
@@ -103,6 +116,7 @@ pub struct DriveTexts<'a> {
     pub profile: &'a str,
     pub serial: &'a str,
     pub model: &'a str,
+    pub psid: &'a str,
 }
 
 /// The profile of a name.
@@ -125,6 +139,18 @@ fn text_or<'a>(text: &'a [u8], other: &'a [u8]) -> &'a [u8]
     if text.is_empty() { other } else { text }
 }
 
+/// The bytes that the hex writes; where it is empty, the PSID of a drive that is given none.
+fn label_in(alloc: Global, text: &[u8]) -> Result<Vec<u8>, FromHexError>
+    ensures read { IfOk result (λ psid. label_of text.now ≡ Ok psid.items) }
+    ensures fault { IfErr result (λ fault. fault ≢ hex_faults.OutOfMemory
+        → label_of text.now ≡ Err fault) }
+{
+    if text.is_empty() {
+        return Ok(NEW_PSID.to_vec(alloc)?);
+    }
+    hex::decode(alloc, text)
+}
+
 /// What a drive is opened with: within the limits of a configuration.
 #[derive(Drop)]
 pub struct Options {
@@ -132,22 +158,23 @@ pub struct Options {
 }
 
 impl Model for Options {
-    ghost use Rattle.sp_cells.specs.Config.{Config, IsWithinLimits, AreNames};
+    ghost use Rattle.sp_cells.specs.Config.{Config, IsWithinLimits, AreNames, IsLabel};
 
     ghost Value = { Config };
 
     ghost view = { λ o. o.config };
 
     ghost invariant = { λ o. IsWithinLimits o.config.sectors o.config.mbr_sectors o.config.msid
-        × AreNames o.config.serial o.config.model };
+        × AreNames o.config.serial o.config.model × IsLabel o.config.psid };
 }
 
 impl Options {
     ghost use Rattle.std.specs.Prelude.{◌≡◌, IfOk, IfErr};
     ghost use Rattle.tool.specs.OptionTexts.{WritesConfig, IsFirstOptionFault, drive_text};
 
-    /// Reads the values as they are written on the command line: two decimal numbers, hex, the name of a profile, and
-    /// two names. The first fault is told: `Sectors`, `Shadow`, `Msid`, `Profile`, `NamesOfBase`, `NoDrive`, `Names`.
+    /// Reads the values as they are written on the command line: two decimal numbers, hex, the name of a profile, two
+    /// names, and hex. The first fault is told: `Sectors`, `Shadow`, `Msid`, `Psid`, `Profile`, `NamesOfBase`, `NoDrive`,
+    /// `Names`, `Label`.
     pub fn parse(alloc: Global, texts: &DriveTexts<'_>) -> Result<Options, OptionsFault>
         ensures read { IfOk result (λ options. WritesConfig (drive_text texts.now) options) }
         ensures fault { IfErr result (λ fault. IsFirstOptionFault (drive_text texts.now) fault) }
@@ -160,6 +187,11 @@ impl Options {
             Ok(msid) => msid,
             Err(FromHexError::OutOfMemory) => return Err(OptionsFault::OutOfMemory),
             Err(fault) => return Err(OptionsFault::Msid(fault)),
+        };
+        let psid = match label_in(alloc, texts.psid.as_bytes()) {
+            Ok(psid) => psid,
+            Err(FromHexError::OutOfMemory) => return Err(OptionsFault::OutOfMemory),
+            Err(fault) => return Err(OptionsFault::Psid(fault)),
         };
         let profile = profile_named(texts.profile.as_bytes()).ok_or(OptionsFault::Profile)?;
         if !texts.may_have_names(profile) {
@@ -174,9 +206,12 @@ impl Options {
         };
         let serial = text_or(texts.serial.as_bytes(), &NEW_SERIAL);
         let model = text_or(texts.model.as_bytes(), &NEW_MODEL);
-        match config.with_names(serial, model) {
+        let Some(config) = config.with_names(serial, model) else {
+            return Err(OptionsFault::Names);
+        };
+        match config.with_psid(&psid) {
             Some(config) => Ok(Options { config }),
-            None => Err(OptionsFault::Names),
+            None => Err(OptionsFault::Label { psid: psid.len() }),
         }
     }
 
@@ -194,6 +229,8 @@ impl Options {
         .unwrap()
         .with_names(config.serial(), config.model())
         .unwrap()
+        .with_psid(config.psid())
+        .unwrap()
     }
 }
 
@@ -201,11 +238,11 @@ impl DriveTexts<'_> {
     ghost use Rattle.std.specs.Prelude.{◌≡◌};
     ghost use Rattle.tool.specs.OptionTexts.{drive_text, has_names, may_have_names};
 
-    /// Whether a serial number or a model number is given.
+    /// Whether a serial number, a model number or a PSID is given.
     fn has_names(&self) -> bool
         ensures { result ≡ has_names (drive_text self.now) }
     {
-        !self.serial.is_empty() || !self.model.is_empty()
+        !self.serial.is_empty() || !self.model.is_empty() || !self.psid.is_empty()
     }
 
     /// Whether a drive of this profile may have the names that are given.

@@ -5,12 +5,12 @@ ghost use Rattle.sp_cells.specs.declared.names.Sp.TheVariants.{Admin, Locking};
 ghost use Rattle.sp_cells.specs.Names.{c_pin_sid};
 ghost use Rattle.sp_cells.specs.ColumnNames.{pin_column};
 ghost use Rattle.sp_rows.specs.Items.{with_items};
-ghost use Rattle.sp_rows.specs.Factory.{locking_factory};
 ghost use Rattle.sp_tables.specs.Faults.{TellsFault};
 ghost use Rattle.sp_tables.specs.Undo.{IsNoBound};
 ghost use Rattle.sp_tables.specs.Tries.{is_tries as is_tries_of, names_tries as names_tries_of};
 ghost use Rattle.shadow_mbr.specs.Stored.{sector_size};
 ghost use Rattle.transactions.specs.Bytes.{written, blank};
+ghost use Rattle.sp_tables.specs.Contents.{new_locking};
 ghost use Rattle.transactions.specs.Stored.{part, at_part, is_open as is_open_in, part_begin, part_change, part_set, part_commit, part_close, part_tries, part_put, part_from, new_store, reverted, after_reset};
 ghost use Rattle.transactions.specs.Sights.{committed_sight, sight_of, look_up, is_manufactured as is_manufactured_in, activated};
 ghost use Rattle.transactions.specs.declared.change.TransactionError.TheVariants as errors;
@@ -42,6 +42,7 @@ pub struct Store {
 }
 
 impl Model for Store {
+    ghost use Rattle.sp_tables.specs.Contents.{new_locking};
     ghost use Rattle.transactions.specs.Stored.{Stored};
 
     ghost Value = { Stored };
@@ -374,7 +375,8 @@ impl Store {
 
     fn restore_locking(&mut self) -> Result<(), AllocError>
         ensures ok { OnOk result (self.new
-            ≡ at_part Locking (λ p. part_from locking_factory (blank p.bytes)) self.old) }
+            ≡ at_part Locking
+            (λ p. part_from (new_locking self.old.config) (blank p.bytes)) self.old) }
         ensures err { OnErr result (self.new ≡ self.old) }
     {
         self.tables.restore_factory(Sp::Locking)?;

@@ -9,5 +9,5 @@ use Rattle.methods.proofs.lists.list_each.Given as goal
 abbrev pub invariant-loop-column : goal.invariant-loop-column
 invariant-loop-column g l =
     map tree l.values.items
-    ++ map cell_value (flat_map (λ k. shown_column k (g.R.Rows.look_up l.rows l.sp l.object k)) (filter (is_listed (g.R.Rows.look_up l.rows) l.sp l.object l.first l.last l.held) (columns_in (drop l.column-index l.columns))))
-    ≡ map cell_value (flat_map (λ k. shown_column k (g.R.Rows.look_up l.rows l.sp l.object k)) (filter (is_listed (g.R.Rows.look_up l.rows) l.sp l.object l.first l.last l.held) (columns_in l.columns)))
+    ++ map cell_value (flat_map (λ k. shown_column k (g.R.Rows.look_up l.rows l.sp l.object k)) (filter (is_listed (g.R.Rows.profile_of l.rows) (g.R.Rows.look_up l.rows) l.sp l.object l.first l.last l.held) (columns_in (drop l.column-index l.columns))))
+    ≡ map cell_value (flat_map (λ k. shown_column k (g.R.Rows.look_up l.rows l.sp l.object k)) (filter (is_listed (g.R.Rows.profile_of l.rows) (g.R.Rows.look_up l.rows) l.sp l.object l.first l.last l.held) (columns_in l.columns)))

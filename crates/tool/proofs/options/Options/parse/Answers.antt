@@ -12,6 +12,7 @@ returns-in_default-clause-fault c = (
     profile = c.in_ok-profile.profile;
     serial = text_or c.args.texts.now.serial.now new_serial;
     model = text_or c.args.texts.now.model.now new_model;
+    psid = c.in-Ok-2.psid.items;
   },
   record {
     sectors_written = search rules;
@@ -20,6 +21,7 @@ returns-in_default-clause-fault c = (
     profile_written = search rules;
     serial_written = refl;
     model_written = refl;
+    psid_written = search rules;
     names_wanted = search rules;
   },
   search rules,
@@ -37,6 +39,7 @@ returns-clause-fault c = (
     profile = c.in_ok-profile.profile;
     serial = text_or c.args.texts.now.serial.now new_serial;
     model = text_or c.args.texts.now.model.now new_model;
+    psid = c.in-Ok-2.psid.items;
   },
   record {
     sectors_written = search rules;
@@ -45,6 +48,7 @@ returns-clause-fault c = (
     profile_written = search rules;
     serial_written = refl;
     model_written = refl;
+    psid_written = search rules;
     names_wanted = search rules;
   },
   search rules,

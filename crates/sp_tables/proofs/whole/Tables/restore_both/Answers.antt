@@ -1,0 +1,5 @@
+use Rattle.sp_tables.proofs.KeepLemmas.{apart-restored}
+use Rattle.sp_tables.proofs.whole.Tables.restore_both.Goals as goal
+
+pub invariant_of-self : goal.invariant_of-self
+invariant_of-self c = apart-restored _ _ c.self.inside.config c.in_ok-locking.ensures
