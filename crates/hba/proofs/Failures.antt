@@ -1,5 +1,5 @@
 -- A command that fails.
-use Rattle.std.proofs.Common.{◌≡◌, ℕ, ◌+◌, ◌||◌, Bool, true, false, zero, suc, List, [], ◌∷◌, ◌++◌, Option, Some, None, refl, ap, sym, ◌∙◌, subst, add-zero}
+use Rattle.std.proofs.Common.{◌≡◌, ℕ, ◌+◌, ◌||◌, Bool, true, false, zero, suc, List, [], ◌∷◌, ◌++◌, Option, Some, None, refl, ap, sym, ◌∙◌, subst}
 use Rattle.fis.specs.declared.any.Fis.{Fis}
 use Rattle.fis.specs.declared.h2d.RegH2d.{RegH2d}
 use Rattle.host_memory.specs.Access.{Access}
@@ -52,17 +52,19 @@ scatters_none : (at n : ℕ) (talk : List Access) (missed : Option Miss) → Sca
 scatters_none at zero talk missed h = h
 scatters_none at (suc n) talk missed h = h
 
-pub gives_nothing : (place : Place) (moved error : ℕ) (fises : List Fis) (bytes : List ℕ)
+pub gives_nothing : (place : Place) (brought error : ℕ) (fises : List Fis) (bytes : List ℕ)
     (talk : List Access) (missed : Option Miss) → fises ≡ answer_fis true errored error ∷ []
-    → bytes ≡ [] → Delivers place moved fises bytes talk missed
-    → GivesNothing place moved error talk missed
-gives_nothing place moved error fises bytes talk missed f b h =
-    let g : Delivers place moved (answer_fis true errored error ∷ []) [] talk missed =
-    subst (λ (xs : List ℕ). Delivers place moved (answer_fis true errored error ∷ []) xs talk missed) b
-    (subst (λ (fs : List Fis). Delivers place moved fs bytes talk missed) f h) in
+    → bytes ≡ [] → Delivers place brought fises bytes talk missed
+    → GivesNothing place error talk missed
+gives_nothing place brought error fises bytes talk missed f b h =
+    let told : List Fis = answer_fis true errored error ∷ [] in
+    let g : Delivers place brought told [] talk missed =
+    subst (λ (xs : List ℕ). Delivers place brought told xs talk missed) b
+    (subst (λ (fs : List Fis). Delivers place brought fs bytes talk missed) f h) in
     let n = scatters_none (descriptors_of place.header) place.header.entries g.0 g.2 g.4 in
-    let same : talk ≡ g.1 = g.3 ∙ ap (λ (xs : List Access). xs ++ g.1) n.0 in
-    let rest : After None (Then (Counts place.at (moved + 0)) (PostsTo place.to (answer_fis true errored error ∷ []))) g.1 missed =
-    subst (λ (m : Option Miss). After m (Then (Counts place.at (moved + 0)) (PostsTo place.to (answer_fis true errored error ∷ []))) g.1 missed) n.1 g.5 in
-    subst (λ (xs : List Access). GivesNothing place moved error xs missed) (sym same)
-    (subst (λ (k : ℕ). Then (Counts place.at k) (PostsTo place.to (answer_fis true errored error ∷ [])) g.1 missed) (add-zero moved) rest)
+    let rest : Then (Counts place.at 0) (PostsTo place.to told) g.1 missed =
+    subst (λ (m : Option Miss). After m (Then (Counts place.at 0) (PostsTo place.to told)) g.1 missed) n.1 g.5 in
+    let same : talk ≡ rest.1 =
+    g.3 ∙ ap (λ (xs : List Access). xs ++ g.1) n.0 ∙ rest.3 ∙ ap (λ (xs : List Access). xs ++ rest.1) rest.4.0 in
+    subst (λ (xs : List Access). GivesNothing place error xs missed) (sym same)
+    (subst (λ (m : Option Miss). After m (PostsTo place.to told) rest.1 missed) rest.4.1 rest.5)

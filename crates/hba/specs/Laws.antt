@@ -18,7 +18,7 @@ use Rattle.hba.specs.declared.registers.Registers.{Registers}
 use Rattle.host_memory.specs.Access.{Access}
 use Rattle.hba_memory.specs.declared.miss.Miss.{Miss}
 use Rattle.hba_memory.specs.declared.delivery.Place.{Place}
-use Rattle.hba_memory.specs.Memory.{Counts, Delivers, PostsTo, Then}
+use Rattle.hba_memory.specs.Memory.{Delivers, PostsTo}
 use Rattle.hba.specs.History.{Operation, Wrote, Powered, Fetched, Completed, account, acts_of, regs_of, effect_after}
 
 -- The registers tell the error: PxTFD has it, and PxIS has TFES.
@@ -34,10 +34,10 @@ pub record Halts (before after : Registers) : Type 0 where
   pub active : after.port.active ≡ before.port.active
   pub halted : after.is_halted ≡ true
 
--- No data reach the memory: at most the count of bytes that moved, and the FIS of the error.
-abbrev pub GivesNothing : Place → ℕ → ℕ → List Access → Option Miss → Type 0
-GivesNothing place moved error talk missed =
-    Then (Counts place.at moved) (PostsTo place.to (answer_fis true errored error ∷ [])) talk missed
+-- Nothing reaches the memory but the FIS of the error.
+abbrev pub GivesNothing : Place → ℕ → List Access → Option Miss → Type 0
+GivesNothing place error talk missed =
+    PostsTo place.to (answer_fis true errored error ∷ []) talk missed
 
 -- A fetched command fails with an error, in registers and memory; where memory misses something
 -- behind the act, it halts all the same.
@@ -51,7 +51,7 @@ pub record FailsSo (o : Origin) (before : List Operation) (tag : ℕ) (fis paylo
       → Delivers place (length payload)
       (effect_after o (account o before) (Accept fis payload)).fises
       (effect_after o (account o before) (Accept fis payload)).bytes talk missed
-      → GivesNothing place (length payload) error talk missed
+      → GivesNothing place error talk missed
 
 -- Each command that the drive fails does so.
 abbrev pub HostFailureLaw : Type 0

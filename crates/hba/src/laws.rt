@@ -5,8 +5,8 @@ ghost use Rattle.hba.specs.Laws.{HostFailureLaw, HostDenialLaw, ActiveLaw};
 /// Laws of the definitions, over every origin and every list of operations.
 ///
 /// `failed`: where the drive fails a fetched command, PxTFD tells the error, PxIS has TFES, PxCI and PxSACT keep their
-/// bits, the port is halted, and no data reach the host's memory. `denied`: so it is for each transfer that comes to the
-/// policy and that a range denies by the rows in force at its fetch.
+/// bits, the port is halted, and nothing reaches the host's memory but the FIS of the error. `denied`: so it is for each
+/// transfer that comes to the policy and that a range denies by the rows in force at its fetch.
 pub fn laws_of_failures()
     ensures failed { HostFailureLaw }
     ensures denied { HostDenialLaw }

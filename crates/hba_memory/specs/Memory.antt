@@ -5,6 +5,7 @@ use Rattle.byteorder.specs.Endian.{little_bytes}
 use Rattle.fis.specs.Fis.{IsSpelling}
 use Rattle.fis.specs.Types.{h2d_type}
 use Rattle.fis.specs.declared.any.Fis.{Fis}
+use Rattle.fis.specs.declared.any.Fis.TheVariants as kinds
 use Rattle.slots.specs.Layout.{descriptor_size, descriptors_at, received_at, received_place}
 use Rattle.slots.specs.Header.{fis_words, entry_count, table_at, table_upper, table_alignment, little_endian_at}
 use Rattle.slots.specs.Table.{byte_count_field}
@@ -134,6 +135,20 @@ CountsIf false header n talk missed =
 abbrev pub Counts : ℕ → ℕ → List Access → Option Miss → Type 0
 Counts header n talk missed = CountsIf (n == 0) header n talk missed
 
+-- A register FIS with ERR in its status (ACS-3, Status field).
+abbrev pub tells_error : Fis → Bool
+tells_error (kinds.D2h f) = f.status % 2 == 1
+tells_error (kinds.H2d f) = false
+tells_error (kinds.PioSetup f) = false
+tells_error (kinds.DmaSetup f) = false
+tells_error (kinds.SetDeviceBits f) = false
+
+-- How many of the bytes that were brought the device took: it fails a command by such a FIS before it
+-- asks for data, by DMA Activate or PIO Setup (Serial ATA, device command layer).
+abbrev pub data_taken : List Fis → ℕ → ℕ
+data_taken [] n = n
+data_taken (fis ∷ more) n = if tells_error fis then 0 else n
+
 -- Where a FIS stands among those received (4.2.1).
 abbrev pub offset_of : Fis → ℕ
 offset_of fis = received_place fis - received_at
@@ -168,8 +183,10 @@ Then First Next talk missed =
     (before later : List Access) × (first : Option Miss) × (talk ≡ before ++ later)
     × First before first × After first Next later missed
 
--- What an act gives reaches the memory: its data, the count of the bytes that moved, and its FISes.
+-- What an act gives reaches the memory: its data, the count of the bytes that moved, where so many
+-- were brought, and its FISes.
 abbrev pub Delivers : Place → ℕ → List Fis → List ℕ → List Access → Option Miss → Type 0
-Delivers place moved fises bytes talk missed =
+Delivers place brought fises bytes talk missed =
     Then (Scatters (descriptors_of place.header) place.header.entries bytes)
-    (Then (Counts place.at (moved + length bytes)) (PostsTo place.to fises)) talk missed
+    (Then (Counts place.at (data_taken fises brought + length bytes)) (PostsTo place.to fises))
+    talk missed

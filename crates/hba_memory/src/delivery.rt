@@ -4,7 +4,7 @@ ghost use Rattle.std.specs.Prelude.{◌≡◌, ◌≤◌, ◌<◌, ◌+◌, ◌^
 ghost use Rattle.std.specs.Result.{result_err};
 ghost use Rattle.fis.specs.Fis.{IsSpelling};
 ghost use Rattle.host_memory.specs.Access.{Access, Accessed};
-ghost use Rattle.hba_memory.specs.Memory.{offset_of, Scatters, Counts, Posts, PostsTo, Delivers};
+ghost use Rattle.hba_memory.specs.Memory.{offset_of, tells_error, data_taken, Scatters, Counts, Posts, PostsTo, Delivers};
 
 use crate::miss::Miss;
 use crate::reading::{DESCRIPTOR, Header, data_at, data_len};
@@ -83,6 +83,27 @@ fn count<M: HostMemory>(memory: &mut M, header: u64, moved: usize) -> Result<(),
     }
 }
 
+/// Whether a FIS tells that the device fails its command.
+fn tells_error(fis: &Fis) -> bool
+    ensures { result ≡ tells_error fis.now }
+{
+    match fis {
+        Fis::D2h(f) => f.status % 2 == 1,
+        Fis::H2d(_) | Fis::PioSetup(_) | Fis::DmaSetup(_) | Fis::SetDeviceBits(_) => false,
+    }
+}
+
+/// How many of the bytes that were brought the device took: none where it fails the command.
+fn data_taken(fises: &[Fis], brought: usize) -> usize
+    ensures value { result ≡ data_taken fises.now brought }
+    ensures most { result ≤ brought }
+{
+    match fises {
+        [fis, ..] if tells_error(fis) => 0,
+        _ => brought,
+    }
+}
+
 /// Stores received FISes at a place, in their order.
 ///
 /// # Errors
@@ -125,7 +146,7 @@ pub struct Place {
 }
 
 /// What an act gives reaches the memory: its data over their blocks, the count of the bytes that moved, those that it
-/// took among them, and its FISes.
+/// took of what was brought among them, and its FISes.
 ///
 /// # Errors
 ///
@@ -133,14 +154,14 @@ pub struct Place {
 pub fn deliver<M: HostMemory>(
     memory: &mut M,
     place: Place,
-    moved: usize,
+    brought: usize,
     fises: &[Fis],
     bytes: &[u8],
 ) -> Result<(), Miss>
     requires near { place.at < 2 ^ 40 }
-    requires short { moved < 2 ^ 63 }
+    requires short { brought < 2 ^ 63 }
     ensures { (talk : List Access) × Accessed M.does memory.old talk memory.new
-        × Delivers place moved fises.now bytes.now talk (result_err result) }
+        × Delivers place brought fises.now bytes.now talk (result_err result) }
 {
     scatter(
         memory,
@@ -148,6 +169,6 @@ pub fn deliver<M: HostMemory>(
         place.header.entries,
         bytes,
     )?;
-    count(memory, place.at, moved + bytes.len())?;
+    count(memory, place.at, data_taken(fises, brought) + bytes.len())?;
     post_all(memory, place.to, fises)
 }

@@ -20,6 +20,8 @@ use Rattle.hba_lines.specs.declared.request.Request.TheVariants as asks
 use Rattle.hba_lines.specs.declared.request.RequestFault.{RequestFault}
 use Rattle.hba_wire.specs.Wires.{Accesses, left_of, SameWriter, SameMarks, TakesOne}
 use Rattle.hba_wire.specs.declared.wire.Wire.{Wire}
+use Rattle.sp_cells.specs.Config.{Config}
+use Rattle.hba_tool.specs.Openings.{option_rows, OpensAs}
 use Rattle.hba_tool.specs.Sayings.{work_tag, work_reply, denials_text, sector_line, kept_denial}
 use Rattle.hba_tool.specs.declared.session.Session.{Session}
 
@@ -222,21 +224,31 @@ pub record DoesAll {R W : Type 0} (remaining : R → Option (List ℕ)) (content
   pub is_status : status ≡ lines_status after.wire
 
 -- at the start: the whole input is left, nothing is said, and the controller is over this drive
-pub record StartsServing {R W : Type 0} (remaining : R → Option (List ℕ)) (input : Option (List ℕ))
-    (output : W) (drive : DriveState) (first : Stand R W) : Type 0 where
+pub record StartsServing {R W : Type 0} (remaining : R → Option (List ℕ))
+    (contents : W → Option (List ℕ)) (drive : DriveState) (input written : Option (List ℕ))
+    (first : Stand R W) : Type 0 where
   pub hba : (o : Origin) → Agrees drive o [] → AgreesHba first.hba o []
   pub denials : first.denials ≡ []
   pub left : left_of remaining first.wire ≡ input
-  pub unwritten : first.wire.output.now ≡ output
+  pub unwritten : contents first.wire.output.now ≡ written
   pub cut_off : first.wire.is_cut_off ≡ false
   pub complained : first.wire.has_complained ≡ false
   pub failure : first.wire.failure ≡ None
 
--- a host is served to the end of its lines
+-- A host is served to the end of its lines: `input` is what it said, `old` and `new` are what the writer
+-- held before and behind.
 pub record ServesHost {R W : Type 0} (remaining : R → Option (List ℕ))
-    (contents : W → Option (List ℕ)) (input : R) (drive : DriveState) (status : ℕ)
-    (output : W) : Type 0 where
+    (contents : W → Option (List ℕ)) (drive : DriveState) (input : Option (List ℕ)) (status : ℕ)
+    (old new : Option (List ℕ)) : Type 0 where
   pub first : Stand R W
   pub last : Stand R W
-  pub starts : StartsServing remaining (remaining input) output drive first
+  pub starts : StartsServing remaining contents drive input old first
   pub does : DoesAll remaining contents status first last
+  pub written : contents last.wire.output.now ≡ new
+
+-- the same by the controller of a drive that the configuration and the texts of ranges open
+abbrev pub ServesOpened : {R W : Type 0} → (R → Option (List ℕ)) → (W → Option (List ℕ)) → Config
+    → List (List ℕ) → Option (List ℕ) → ℕ → Option (List ℕ) → Option (List ℕ) → Type 0
+ServesOpened remaining contents config ranges input status old new =
+    (o : Origin) × (drive : DriveState) × OpensAs config (option_rows ranges) o
+    × Agrees drive o [] × ServesHost remaining contents drive input status old new

@@ -91,11 +91,12 @@ pub fn serve<R: Read + Drop, W: Write>(
     drive: Drive,
 ) -> Result<u8, WireError>
     ensures most { IfOk result (λ status. status ≤ 2) }
-    ensures served { IfOk result (λ status. ServesHost R.remaining W.contents input drive status
-        output.old) }
+    ensures served { IfOk result (λ status. ServesHost R.remaining W.contents drive
+        (R.remaining input) status (W.contents output.old) (W.contents output.new)) }
 {
     let mut wire = Wire::new(alloc, input, output)?;
     let mut session = Session::new(alloc, drive);
     let status = host_served(&mut session, &mut wire)?;
+    let _ = wire.into_output();
     Ok(status)
 }

@@ -74,6 +74,24 @@ impl<'a, R: Read + Drop, W: Write> Wire<'a, R, W> {
         })
     }
 
+    /// The writer that was lent; what was read ahead is dropped.
+    pub fn into_output(self) -> &'a mut W
+        ensures same { result.ghost_name ≡ self.entry.output.ghost_name }
+        ensures now { result.now ≡ self.entry.output.now }
+    {
+        let Wire {
+            alloc: _alloc,
+            reader: _reader,
+            output,
+            line: _line,
+            text: _text,
+            is_cut_off: _is_cut_off,
+            has_complained: _has_complained,
+            failure: _failure,
+        } = self;
+        output
+    }
+
     /// The line that was read last, without its line feed.
     pub fn line(&self) -> &[u8]
         ensures { result.now ≡ strip_last 10 self.now.line.items }

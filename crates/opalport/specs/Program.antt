@@ -11,6 +11,9 @@ use Rattle.tool.specs.OptionTexts.{DriveText, WritesConfig, IsOfDrive}
 use Rattle.tool.specs.Outcomes.{ScriptYields}
 use Rattle.tool.specs.Level0.{level0_text}
 use Rattle.tool.specs.TokenLines.{token_text}
+use Rattle.hba_tool.specs.Openings.{option_rows, IsFaultOf}
+use Rattle.hba_tool.specs.Steps.{ServesOpened}
+use Rattle.hba_tool.specs.declared.opening.RangeFault.{RangeFault}
 use Rattle.clap.specs.Words.{IsAmong, Kinds, Text, fault_of}
 use Rattle.clap.specs.declared.error.kind.ErrorKind.{ErrorKind}
 use Rattle.clap.specs.declared.error.kind.ErrorKind.TheVariants.{DisplayHelp, DisplayVersion}
@@ -51,21 +54,46 @@ TokensEnd hex status old new =
     × Appends old new (token_text bytes ++ 10 ∷ []))
     ⊎ ((e : FromHexError) × (decode_of hex ≡ Err e) × (status ≡ 2) × (new ≡ old))
 
+-- the configuration has no drive with the ranges that the texts write
+abbrev pub RefusesRanges : Config → List Text → Type 0
+RefusesRanges config ranges = (fault : RangeFault) × IsFaultOf config (option_rows ranges) fault
+
+-- the controller of the drive with these ranges serves the host; where one of the ranges is refused, the status is 2,
+-- and nothing is printed
+abbrev pub ControllerEnds : {R W : Type 0} → (R → Option (List ℕ)) → (W → Option (List ℕ)) → Config
+    → List Text → Option (List ℕ) → ℕ → Option (List ℕ) → Option (List ℕ) → Type 0
+ControllerEnds remaining contents config ranges input status old new =
+    ServesOpened remaining contents config ranges input status old new
+    ⊎ (RefusesRanges config ranges × (status ≡ 2) × (new ≡ old))
+
+-- the same with the drive of the options; where they open no drive, the status is 2, and nothing is printed
+abbrev pub HbaEnds : {R W : Type 0} → (R → Option (List ℕ)) → (W → Option (List ℕ)) → DriveText
+    → List Text → Option (List ℕ) → ℕ → Option (List ℕ) → Option (List ℕ) → Type 0
+HbaEnds remaining contents texts ranges input status old new =
+    ((config : Config) × WritesConfig texts config × IsOfDrive config
+    × ControllerEnds remaining contents config ranges input status old new)
+    ⊎ ((WritesLimitedConfig texts → ⊥) × (status ≡ 2) × (new ≡ old))
+
 -- help and the version have status 0; any other fault of the words has status 2, and nothing is printed
 pub record EndsByWords (kind : ErrorKind) (status : ℕ) (old new : Option (List ℕ)) : Type 0 where
   pub help : kind ≡ DisplayHelp → status ≡ 0
   pub version : kind ≡ DisplayVersion → status ≡ 0
   pub fault : kind ≢ DisplayHelp → kind ≢ DisplayVersion → (status ≡ 2) × (new ≡ old)
 
--- the words ask for something, and this is how it ends
-abbrev pub Serves : Option Wanted → Option (List ℕ) → ℕ → Option (List ℕ) → Option (List ℕ) → Type 0
-Serves None input status old new = status ≡ 2
-Serves (Some (run texts)) input status old new = RunEnds texts input status old new
-Serves (Some (level0 texts)) input status old new = Level0Ends texts status old new
-Serves (Some (threads clients rounds)) input status old new =
+-- The words ask for something, and this is how it ends. `remaining` says what a reader has still to give, and `contents`
+-- what a writer holds.
+abbrev pub Serves : {R W : Type 0} → (R → Option (List ℕ)) → (W → Option (List ℕ)) → Option Wanted
+    → Option (List ℕ) → ℕ → Option (List ℕ) → Option (List ℕ) → Type 0
+Serves remaining contents None input status old new = status ≡ 2
+Serves remaining contents (Some (run texts)) input status old new =
+    RunEnds texts input status old new
+Serves remaining contents (Some (level0 texts)) input status old new =
+    Level0Ends texts status old new
+Serves remaining contents (Some (threads clients rounds)) input status old new =
     ThreadsEnd clients rounds status old new
-Serves (Some (tokens hex)) input status old new = TokensEnd hex status old new
-Serves (Some (hba texts ranges)) input status old new = status ≤ 2
+Serves remaining contents (Some (tokens hex)) input status old new = TokensEnd hex status old new
+Serves remaining contents (Some (hba texts ranges)) input status old new =
+    HbaEnds remaining contents texts ranges input status old new
 
 -- the words are no command line, and one of their faults is told
 abbrev pub Refuses : Kinds → ℕ → Option (List ℕ) → Option (List ℕ) → Type 0
@@ -73,7 +101,9 @@ Refuses kinds status old new = (kind : ErrorKind) × IsAmong kind kinds
     × EndsByWords kind status old new
 
 -- how the program ends on these words and this input, where the writer's bytes were the old ones and are the new ones
-abbrev pub Ends : List Text → Option (List ℕ) → ℕ → Option (List ℕ) → Option (List ℕ) → Type 0
-Ends words input status old new =
-    ((fault_of opalport_line words ≡ []) × Serves (asked_by words) input status old new)
+abbrev pub Ends : {R W : Type 0} → (R → Option (List ℕ)) → (W → Option (List ℕ)) → List Text
+    → Option (List ℕ) → ℕ → Option (List ℕ) → Option (List ℕ) → Type 0
+Ends remaining contents words input status old new =
+    ((fault_of opalport_line words ≡ [])
+    × Serves remaining contents (asked_by words) input status old new)
     ⊎ Refuses (fault_of opalport_line words) status old new

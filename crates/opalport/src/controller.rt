@@ -1,6 +1,8 @@
 //! A controller that serves a host.
 
-ghost use Rattle.std.specs.Prelude.{◌≤◌, IfOk};
+ghost use Rattle.std.specs.Prelude.{◌≤◌, IfOk, map};
+ghost use Rattle.tool.specs.OptionTexts.{drive_text};
+ghost use Rattle.opalport.specs.Program.{ControllerEnds, HbaEnds};
 
 use crate::command_line::HbaTexts;
 use crate::error::ProgramError;
@@ -9,7 +11,7 @@ use std::alloc::Global;
 use std::io::{Read, Write};
 use tool::{Options, OptionsFault, RunError};
 
-/// Serves a host on the drive of a configuration and of ranges, and gives the status.
+/// Serves a host on the drive of a configuration and of ranges, and gives the status: 2 where a range is refused.
 fn on_drive<R: Read + Drop, W: Write, E: Write>(
     alloc: Global,
     options: &Options,
@@ -18,7 +20,10 @@ fn on_drive<R: Read + Drop, W: Write, E: Write>(
     output: &mut W,
     faults: &mut E,
 ) -> Result<u8, ProgramError>
-    ensures { IfOk result (λ status. status ≤ 2) }
+    ensures most { IfOk result (λ status. status ≤ 2) }
+    ensures ends { IfOk result (λ status. ControllerEnds R.remaining W.contents options.now
+        (map (λ s. s.now) ranges.now) (R.remaining input) status (W.contents output.old)
+        (W.contents output.new)) }
 {
     match drive_with_ranges(alloc, options.config(), ranges) {
         Ok(drive) => Ok(serve(alloc, input, output, drive)?),
@@ -30,7 +35,7 @@ fn on_drive<R: Read + Drop, W: Write, E: Write>(
     }
 }
 
-/// Serves a host on the drive that the options open, and gives the status.
+/// Serves a host on the drive that the options open, and gives the status: 2 where they open none.
 pub(crate) fn serve_controller<R: Read + Drop, W: Write, E: Write>(
     alloc: Global,
     texts: &HbaTexts<'_>,
@@ -38,7 +43,10 @@ pub(crate) fn serve_controller<R: Read + Drop, W: Write, E: Write>(
     output: &mut W,
     faults: &mut E,
 ) -> Result<u8, ProgramError>
-    ensures { IfOk result (λ status. status ≤ 2) }
+    ensures most { IfOk result (λ status. status ≤ 2) }
+    ensures ends { IfOk result (λ status. HbaEnds R.remaining W.contents
+        (drive_text texts.now.drive) (map (λ s. s.now) texts.now.ranges.items)
+        (R.remaining input) status (W.contents output.old) (W.contents output.new)) }
 {
     match Options::parse(alloc, &texts.drive) {
         Ok(options) => on_drive(alloc, &options, &texts.ranges, input, output, faults),

@@ -140,8 +140,8 @@ pub fn ends<T: Threads + Wait + Sync, R: Read + Drop, W: Write, E: Write>(
     faults: &mut E,
 ) -> Result<u8, ProgramError>
     ensures most { IfOk result (λ status. status ≤ 2) }
-    ensures ends { IfOk result (λ status. Ends (map string_bytes words.now) (R.remaining input)
-        status (W.contents output.old) (W.contents output.new)) }
+    ensures ends { IfOk result (λ status. Ends R.remaining W.contents (map string_bytes words.now)
+        (R.remaining input) status (W.contents output.old) (W.contents output.new)) }
 {
     match request_of(alloc, words) {
         Ok(Some(Request::Run(drive))) => Ok(run(alloc, &drive, input, output, faults)?),

@@ -1,4 +1,4 @@
-use Rattle.std.proofs.Common.{◌≡◌}
+use Rattle.std.proofs.Common.{◌≡◌, rules, ap}
 use Rattle.hba_tool.specs.Steps.{stand}
 use Rattle.hba_tool.proofs.serving.serve.Goals as goal
 
@@ -10,10 +10,11 @@ returns-clause-served g c = record {
     hba = c.new-session.ensures.hba;
     denials = c.new-session.ensures.denials;
     left = c.in_ok-wire.ensures.left;
-    unwritten = c.in_ok-wire.ensures.unwritten;
+    unwritten = ap g.W.Write.contents c.in_ok-wire.ensures.unwritten;
     cut_off = c.in_ok-wire.ensures.marks.0;
     complained = c.in_ok-wire.ensures.marks.1;
     failure = c.in_ok-wire.ensures.marks.2;
   };
   does = c.in_ok-status.ensures.done;
+  written = search rules;
 }
