@@ -18,6 +18,7 @@ use Rattle.call_shapes.specs.declared.ask.Ask.{Ask}
 use Rattle.call_shapes.specs.declared.ask.Ask.TheVariants.{GetCells, GetBytes, SetCells, SetBytes, Authenticate, Activate, Revert, Other}
 use Rattle.call_shapes.specs.Limits.{most_response}
 use Rattle.sessions.specs.Starts.{is_in_use}
+use Rattle.shadow_mbr.specs.Erasure.{no_sectors, all_sectors}
 use Rattle.methods.specs.Effects.{has_ask}
 use Rattle.methods.specs.Kinds.{kind_of}
 use Rattle.sessions.specs.Deeds.{Setting, Sets, Unchanged, Changed, Activated, Reverted, Begun}
@@ -222,10 +223,15 @@ activates_deed f session false false valid is = (
 
 reverts_deed : (f : Facts) (session : Begun) (reverted : Sp) (is_open : Bool)
     → takes_effect (unless_open is_open (Reverts reverted)) ≡ true
-    → (outcome_of f.rows session.sp (unless_open is_open (Reverts reverted))).deed
-    ≡ Reverted reverted (is_in_use f.rows Locking)
+    → (is_in_use f.rows Locking ≡ true → (outcome_of f.rows session.sp (unless_open is_open (Reverts reverted))).deed
+    ≡ Reverted reverted all_sectors)
+    × (is_in_use f.rows Locking ≡ false → (outcome_of f.rows session.sp (unless_open is_open (Reverts reverted))).deed
+    ≡ Reverted reverted no_sectors)
 reverts_deed f session reverted true valid = absurd (cc)
-reverts_deed f session reverted false valid = refl
+reverts_deed f session reverted false valid = (
+  λ e. ap (λ (b : Bool). Reverted reverted (if b then all_sectors else no_sectors)) e,
+  λ e. ap (λ (b : Bool). Reverted reverted (if b then all_sectors else no_sectors)) e,
+)
 
 effect_is : (f : Facts) (session : Begun) (object : Uid) (ask : Ask) (has : Bool)
     → takes_effect (does_ask (standing f session) object (if has then ask else Other)) ≡ true

@@ -16,6 +16,7 @@ use Rattle.tcg_tokens.specs.Tree.{Trees, trees_of}
 use Rattle.trusted_cmds.specs.declared.command.Command.TheVariants.{Send}
 use Rattle.call_shapes.specs.Asks.{uid_of}
 use Rattle.call_shapes.specs.declared.ask.Ask.TheVariants.{SetCells, Revert}
+use Rattle.shadow_mbr.specs.Erasure.{no_sectors, all_sectors}
 use Rattle.methods.specs.Laws.{are_rising, takes_effect}
 use Rattle.methods.specs.Listed.{listed, listed_among}
 use Rattle.methods.specs.Judgement.{asked}
@@ -163,15 +164,15 @@ get_listed = (refl, refl)
 -- A Revert of the Locking SP: what the law says that it does where the SP is in use, and where not.
 revert_says : (deed : SessionDeed)
     → EffectIs (facts_after tcg activated (begins by_admin)) (session_of (anybody ∷ [])) locking_sp Revert deed
-    → deed ≡ Reverted Locking true
+    → deed ≡ Reverted Locking all_sectors
 unfolding admin_sps admin_authorities locking_authorities admin_pins locking_pins locking_ranges locking_mbr_controls admin_aces authority_aces pin_aces range_aces mbr_aces this_sp_grants admin_grants authority_grants fixed_ace_gets user_ace_grants read_locked_ace_grants write_locked_ace_grants done_ace_grants pin_grants range_grants mbr_grants first_lexeme expect number_at uid_at values_up_to list_with list_value_with named_with value_after_token list_at status_at call_at reply_at message_at message_in number_spelling bytes_spelling any_below ranges_in verdict_of is_range listed_among cells_for zeros sectors_from authorities_of_locking any_to
-revert_says deed effect = effect
+revert_says deed effect = effect.0 refl
 
 revert_of_a_new_drive : (deed : SessionDeed)
     → EffectIs (facts_after tcg new_drive []) (session_of (anybody ∷ [])) locking_sp Revert deed
-    → deed ≡ Reverted Locking false
+    → deed ≡ Reverted Locking no_sectors
 unfolding admin_sps admin_authorities locking_authorities admin_pins locking_pins locking_ranges locking_mbr_controls admin_aces authority_aces pin_aces range_aces mbr_aces this_sp_grants admin_grants authority_grants fixed_ace_gets user_ace_grants read_locked_ace_grants write_locked_ace_grants done_ace_grants pin_grants range_grants mbr_grants first_lexeme expect number_at uid_at values_up_to list_with list_value_with named_with value_after_token list_at status_at call_at reply_at message_at message_in number_spelling bytes_spelling any_below ranges_in verdict_of is_range listed_among cells_for zeros sectors_from authorities_of_locking any_to
-revert_of_a_new_drive deed effect = effect
+revert_of_a_new_drive deed effect = effect.1 refl
 
 -- A list with a column twice does not rise.
 not_twice : (k : Column) (v w : Cell) (rest : List (Column × Cell))

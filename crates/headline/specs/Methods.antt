@@ -17,6 +17,7 @@ use Rattle.call_shapes.specs.Asks.{uid_of}
 use Rattle.call_shapes.specs.Statuses.{success, not_authorized}
 use Rattle.call_shapes.specs.declared.ask.Ask.{Ask}
 use Rattle.call_shapes.specs.declared.ask.Ask.TheVariants.{GetCells, GetBytes, SetCells, SetBytes, Authenticate, Activate, Revert, Other}
+use Rattle.shadow_mbr.specs.Erasure.{no_sectors, all_sectors}
 use Rattle.methods.specs.Laws.{IsAmong, IsListed, are_rising, IsGranted, takes_effect}
 use Rattle.methods.specs.Listed.{cell_value}
 use Rattle.methods.specs.Said.{reply_of}
@@ -79,7 +80,7 @@ comes_to o before session object ask = does (standing_at o before session) (uid_
 -- What it means that a method takes effect: Get changes nothing; Set changes the named cells, or
 -- bytes, in its SP; Authenticate makes its attempt, on the credential of the authority by the rows in
 -- force; Activate activates the Locking SP, with the PIN of SID, where it is not yet in use; Revert
--- reverts the SP of the row.
+-- reverts the SP of the row, and erases all sectors where the Locking SP is in use, and else none.
 abbrev pub EffectIs : Facts → Begun → Uid → Ask → SessionDeed → Type 0
 EffectIs f session object (GetCells first last) deed = deed ≡ Unchanged
 EffectIs f session object (GetBytes first last) deed = deed ≡ Unchanged
@@ -98,7 +99,8 @@ EffectIs f session object Activate deed =
     (is_in_use f.rows Locking ≡ true → deed ≡ Unchanged)
     × (is_in_use f.rows Locking ≡ false → deed ≡ Activated (f.rows Admin c_pin_sid pin_column))
 EffectIs f session object Revert deed =
-    deed ≡ Reverted (sp_of_row object) (is_in_use f.rows Locking)
+    (is_in_use f.rows Locking ≡ true → deed ≡ Reverted (sp_of_row object) all_sectors)
+    × (is_in_use f.rows Locking ≡ false → deed ≡ Reverted (sp_of_row object) no_sectors)
 EffectIs f session object Other deed = ⊥
 
 -- A call that is refused for want of an entry: it changes nothing, and is answered NOT_AUTHORIZED,

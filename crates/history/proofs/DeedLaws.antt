@@ -16,7 +16,7 @@ use Rattle.tcg_tokens.specs.declared.error.TokenError.{TokenError}
 use Rattle.tcg_tokens.specs.Message.{Message, call, reply, end_session, begin, end}
 use Rattle.tcg_tokens.specs.Tree.{Tree, Trees}
 use Rattle.history.specs.Opening.{Origin}
-use Rattle.sessions.specs.Deeds.{Sets, Begun, Setting, cells_set, bytes_set, SessionDeed, Unchanged, Started, Tried, Changed, Began, Committed, Aborted, Ended, Activated, Reverted, Outcome, says}
+use Rattle.sessions.specs.Deeds.{Sets, Begun, Setting, cells_set, bytes_set, SessionDeed, Unchanged, Started, Tried, Changed, Began, Committed, Aborted, Ended, Activated, Reverted, Erased, Outcome, says}
 use Rattle.sp_cells.specs.ColumnNames.{pin_column}
 use Rattle.sessions.specs.Attempts.{attempt_failure as failure_of}
 use Rattle.call_shapes.specs.Asks.{uid_of}
@@ -309,6 +309,7 @@ lives-on sp (Began t n) s h = cc
 lives-on sp (Committed t) s h = cc
 lives-on sp (Aborted t) s h = cc
 lives-on sp (Activated pin) s h = cc
+lives-on sp (Erased w) s h = cc
 
 living-on : (sp : Sp) (d : Deed) (s : Begun) → living sp d ≡ Some (Some s) → s.sp ≡ sp
 living-on sp (InSession d r) s h = lives-on sp d s h

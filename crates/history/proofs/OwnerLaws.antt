@@ -18,7 +18,7 @@ use Rattle.sp_tables.specs.Looks.{RowLook, put_in, puts_in}
 use Rattle.sp_cells.specs.declared.names.TheConstants.{RANGES}
 use Rattle.sp_tables.specs.AtReset.{has_kind}
 use Rattle.transactions.specs.Resets.{is_range, locks_seen}
-use Rattle.sessions.specs.Deeds.{cells_set, bytes_set, Change, Sets, Restores, Resets, Begun, SessionDeed, Unchanged, Started, Tried, Changed, Began, Committed, Aborted, Ended, Activated, Reverted}
+use Rattle.sessions.specs.Deeds.{cells_set, bytes_set, Change, Sets, Restores, Resets, Begun, SessionDeed, Unchanged, Started, Tried, Changed, Began, Committed, Aborted, Ended, Activated, Reverted, Erased}
 use Rattle.history.specs.Changes.{reset_rows, apply, apply_all}
 use Rattle.sessions.specs.Starts.{is_in_use}
 use Rattle.history.specs.Events.{Response, Deed, Nothing, InSession, OfQueue, Wrote, Took, WasReset, Event}
@@ -63,6 +63,7 @@ began-is sp (InSession (Tried attempt) r) n h = cc
 began-is sp (InSession (Changed s c) r) n h = cc
 began-is sp (InSession (Activated pin) r) n h = cc
 began-is sp (InSession (Reverted s w) r) n h = cc
+began-is sp (InSession (Erased w) r) n h = cc
 began-is sp Nothing n h = cc
 began-is sp (OfQueue d) n h = cc
 began-is sp (Wrote lba bytes) n h = cc
@@ -97,6 +98,7 @@ start-is sp (InSession (Began s n) r) x h g = cc
 start-is sp (InSession (Committed s) r) x h g = cc
 start-is sp (InSession (Aborted s) r) x h g = cc
 start-is sp (InSession (Activated pin) r) x h g = cc
+start-is sp (InSession (Erased w) r) x h g = cc
 start-is sp Nothing x h g = cc
 start-is sp (OfQueue d) x h g = cc
 start-is sp (Wrote lba bytes) x h g = cc
@@ -127,6 +129,7 @@ begun-is sp (InSession (Began t n) r) s h = cc
 begun-is sp (InSession (Committed t) r) s h = cc
 begun-is sp (InSession (Aborted t) r) s h = cc
 begun-is sp (InSession (Activated pin) r) s h = cc
+begun-is sp (InSession (Erased w) r) s h = cc
 begun-is sp Nothing s h = cc
 begun-is sp (OfQueue d) s h = cc
 begun-is sp (Wrote lba bytes) s h = cc
@@ -161,6 +164,7 @@ changed-is sp (InSession (Aborted s) r) c h = cc
 changed-is sp (InSession (Ended s) r) c h = cc
 changed-is sp (InSession (Activated pin) r) c h = cc
 changed-is sp (InSession (Reverted s w) r) c h = cc
+changed-is sp (InSession (Erased w) r) c h = cc
 changed-is sp Nothing c h = cc
 changed-is sp (OfQueue d) c h = cc
 changed-is sp (Wrote lba bytes) c h = cc
@@ -296,6 +300,7 @@ brought-spare o es (InSession (Tried attempt) r) can own h = refl
 brought-spare o es (InSession (Began s n) r) can own h = refl
 brought-spare o es (InSession (Aborted s) r) can own h = refl
 brought-spare o es (InSession (Ended s) r) can own h = refl
+brought-spare o es (InSession (Erased w) r) can own h = refl
 brought-spare o es (InSession (Activated pin) r) can own h = cc
 brought-spare o es (InSession (Reverted s w) r) can own h = cc
 brought-spare o es Nothing can own h = refl
@@ -317,6 +322,7 @@ activation-is (InSession (Began s n) r) h = cc
 activation-is (InSession (Committed s) r) h = cc
 activation-is (InSession (Aborted s) r) h = cc
 activation-is (InSession (Ended s) r) h = cc
+activation-is (InSession (Erased w) r) h = cc
 activation-is Nothing h = cc
 activation-is (OfQueue d) h = cc
 activation-is (Wrote lba bytes) h = cc

@@ -6,8 +6,9 @@ use Rattle.sp_cells.specs.declared.names.Sp.TheVariants.{Admin, Locking}
 use Rattle.sp_cells.specs.Names.{c_pin_sid, tper_info}
 use Rattle.sp_cells.specs.declared.names.Uid.{Uid}
 use Rattle.sp_cells.specs.declared.cells.Cell.{Cell}
+use Rattle.shadow_mbr.specs.declared.erasure.Erasure.{Erasure}
 use Rattle.history.specs.Opening.{Origin}
-use Rattle.sessions.specs.Deeds.{cells_set, bytes_set, Change, Sets, Restores, Resets, Begun, SessionDeed, Unchanged, Started, Tried, Changed, Began, Committed, Aborted, Ended, Activated, Reverted}
+use Rattle.sessions.specs.Deeds.{cells_set, bytes_set, Change, Sets, Restores, Resets, Begun, SessionDeed, Unchanged, Started, Tried, Changed, Began, Committed, Aborted, Ended, Activated, Reverted, Erased}
 use Rattle.sessions.specs.Made.{is_within}
 use Rattle.sessions.specs.Starts.{is_in_use}
 use Rattle.history.specs.Events.{Response, InSession, Event}
@@ -79,7 +80,8 @@ CanDo o past (Committed sp) = Closes past sp
 CanDo o past (Aborted sp) = Closes past sp
 CanDo o past (Ended sp) = (session : Begun) × IsIn past sp session
 CanDo o past (Activated pin) = IsOutside past × (is_in_use (in_force o past) Locking ≡ false)
-CanDo o past (Reverted sp wipes) = IsOutside past
+CanDo o past (Reverted sp erasure) = IsOutside past
+CanDo o past (Erased erasure) = (session : Begun) × IsIn past Locking session
 
 abbrev pub DeedLaw : Type 0
 DeedLaw =
@@ -110,7 +112,8 @@ ActivateLaw =
 -- the Revert ends.
 abbrev pub RevertLaw : Type 0
 RevertLaw =
-    (o : Origin) (acts : List Act) (act : Act) (sp : Sp) (wipes : Bool) (response : Response)
-    → (event o (log o acts) act).deed ≡ InSession (Reverted sp wipes) response
+    (o : Origin) (acts : List Act) (act : Act) (sp : Sp) (erasure : Erasure)
+    (response : Response)
+    → (event o (log o acts) act).deed ≡ InSession (Reverted sp erasure) response
     → (open_on (log o acts) Admin ≡ None)
     × (session_on (event o (log o acts) act ∷ log o acts) Locking ≡ None)

@@ -12,6 +12,7 @@ use Rattle.tcg_tokens.specs.Tree.{Tree}
 use Rattle.tcg_tokens.specs.Message.{message}
 use Rattle.transactions.specs.declared.change.SessionId.{SessionId}
 use Rattle.transactions.specs.Stored.{Stored}
+use Rattle.shadow_mbr.specs.Erasure.{no_sectors}
 use Rattle.sessions.specs.Answers.{rows_in_force, attempt, after_attempt, gaining_if}
 use Rattle.sessions.specs.Deeds.{Setting}
 use Rattle.sessions.specs.Live.{Live, session_at, AreOnOwnSps}
@@ -54,27 +55,27 @@ changed out h k = absurd (let differ : true ≡ false = sym h ∙ k in cc)
 
 -- a Set
 pub set-made : (x : Option Setting) (set : Setting) (session : SessionId) (out : Outcome) (s t : Stored) (l : Live) → x ≡ Some set → CanSet s.config.mbr_sectors session.sp set
-    → message out.reply ≡ done → out.denied ≡ None → out.wipe ≡ false → out.changes ≡ true → t ≡ set_stored s session.sp set → Fulfils (outcome_in s session (makes x)) out s t l l
-set-made x set session out s t l is can answer denied wipe changes store =
+    → message out.reply ≡ done → out.denied ≡ None → out.erases ≡ no_sectors → out.changes ≡ true → t ≡ set_stored s session.sp set → Fulfils (outcome_in s session (makes x)) out s t l l
+set-made x set session out s t l is can answer denied erases changes store =
     subst (λ y. Fulfils (outcome_in s session (makes y)) out s t l l) (sym is)
     (record {
-      met = record { answer = answer; denied = denied; wipe = wipe; store = (can, store); sessions = record { next = refl; at = λ n. refl } };
+      met = record { answer = answer; denied = denied; erases = erases; store = (can, store); sessions = record { next = refl; at = λ n. refl } };
       unchanged = λ h. changed out changes h;
     })
 
 -- an attempt
 pub attempts : (authority : Uid) (pin : List ℕ) (session : SessionId) (out : Outcome) (s t : Stored) (l m : Live) → AreOnOwnSps l.sessions → (live_holder l session ≡ None → ⊥)
-    → message out.reply ≡ attempt_reply (attempt s session.sp authority pin) → out.denied ≡ attempt_denied session.sp authority (attempt s session.sp authority pin) → out.wipe ≡ false
+    → message out.reply ≡ attempt_reply (attempt s session.sp authority pin) → out.denied ≡ attempt_denied session.sp authority (attempt s session.sp authority pin) → out.erases ≡ no_sectors
     → (out.changes ≡ false → t ≡ s) → t ≡ after_attempt session.sp authority (attempt s session.sp authority pin) s
     → m.next ≡ l.next → ((n : ℕ) → session_at m n ≡ (if session.tsn == n then gaining_if (rows_in_force s) authority (attempt s session.sp authority pin) (session_at l n) else session_at l n))
     → Fulfils (outcome_in s session (Attempts authority pin)) out s t l m
-attempts authority pin session out s t l m apart lives answer denied wipe unchanged store next points =
+attempts authority pin session out s t l m apart lives answer denied erases unchanged store next points =
     let x : Option AttemptFailure = attempt s session.sp authority pin in
     record {
       met = record {
         answer = answer;
         denied = denied;
-        wipe = wipe;
+        erases = erases;
         store = subst (λ (u : Stored). StoresAs (outcome_in s session (Attempts authority pin)).deed s u) (sym store) (attempt-stores s session.sp authority x);
         sessions = record {
           next = next;

@@ -25,6 +25,7 @@ use Rattle.sessions.specs.Starts.{is_in_use}
 use Rattle.methods.specs.declared.outcome.Outcome.{Outcome as Answered}
 use Rattle.methods.specs.Said.{reply_of, refusal_of, done, attempt_reply, attempt_denied}
 use Rattle.methods.specs.Effects.{held_in, seen_by, has_transaction}
+use Rattle.methods.specs.Erasures.{erased_by_revert}
 use Rattle.methods.specs.Judgement.{Standing, Judgement, Refuses, Gives, Makes, Attempts, Activates, Reverts, judged}
 
 -- what the rules ask of a session that holds these authorities, of what is kept
@@ -74,7 +75,7 @@ outcome_of rows sp (Makes setting) = says (Changed sp (Sets setting)) done
 outcome_of rows sp (Attempts authority pin) =
     tried_in rows sp authority (failure_of rows sp authority pin)
 outcome_of rows sp Activates = activates rows
-outcome_of rows sp (Reverts reverted) = says (Reverted reverted (is_in_use rows Locking)) done
+outcome_of rows sp (Reverts reverted) = says (Reverted reverted (erased_by_revert rows)) done
 
 -- in a session, by those that are kept
 abbrev pub outcome_in : Stored → SessionId → Judgement → Outcome
@@ -82,7 +83,7 @@ outcome_in s session judgement = outcome_of (rows_in_force s) session.sp judgeme
 
 -- what is answered, and what is made of the store and of the sessions, is what an outcome says
 pub record Fulfils (outcome : Outcome) (out : Answered) (s t : Stored) (l m : Live) : Type 0 where
-  pub met : Meets outcome (message out.reply) out.denied out.wipe s t l m
+  pub met : Meets outcome (message out.reply) out.denied out.erases s t l m
   pub unchanged : out.changes ≡ false → t ≡ s
 
 -- so it is of a judgement that changes nothing, whatever is kept

@@ -7,6 +7,8 @@ ghost use Rattle.transactions.specs.Sights.{sight_of, is_manufactured};
 ghost use Rattle.sessions.specs.Live.{Live};
 ghost use Rattle.methods.specs.Kinds.{kind_of as kind_of_object};
 ghost use Rattle.methods.specs.Changes.{setting_seen};
+ghost use Rattle.sessions.specs.Answers.{rows_in_force};
+ghost use Rattle.methods.specs.Erasures.{erased_by_revert};
 ghost use Rattle.methods.specs.Effects.{live_holder, has_transaction, has_set, sp_of_row as sp_of};
 ghost use Rattle.methods.specs.Judgement.{Attempts, Activates, Reverts, list_given, listing, gives, bytes_given, to_set, makes, unless_open};
 ghost use Rattle.methods.specs.Calls.{standing_on, standing_in, outcome_in, Tells, Fulfils};
@@ -21,7 +23,7 @@ use audit::{AttemptFailure, Why};
 use call_shapes::limits::MOST_RESPONSE;
 use call_shapes::{Ask, list_value, status};
 use sessions::{AuthAnswer, Sessions};
-use shadow_mbr::SECTOR_SIZE;
+use shadow_mbr::{Erasure, SECTOR_SIZE};
 use sp_cells::limits::MANUFACTURED;
 use sp_cells::{Column, Rows, Sp, Uid, number_at};
 use std::alloc::{AllocError, Global};
@@ -172,7 +174,7 @@ pub(crate) fn write(
         return Ok(refused(alloc, status::INVALID_PARAMETER, None));
     };
     if apply_set(alloc, store, session, &change)? {
-        Ok(said(Vec::new(alloc), None, false))
+        Ok(said(Vec::new(alloc), None, Erasure::none()))
     } else {
         Ok(refused(alloc, status::INVALID_PARAMETER, None))
     }
@@ -198,8 +200,8 @@ pub(crate) fn authenticate(
     let right = number_result(alloc, 1)?;
     let wrong = number_result(alloc, 0)?;
     match sessions.authenticate(store, session, authority, proof) {
-        AuthAnswer::Right => Ok(said(right, None, false)),
-        AuthAnswer::Wrong(why) => Ok(said(wrong, Some(why), false)),
+        AuthAnswer::Right => Ok(said(right, None, Erasure::none())),
+        AuthAnswer::Wrong(why) => Ok(said(wrong, Some(why), Erasure::none())),
         AuthAnswer::LockedOut => Ok(refused(
             alloc,
             status::AUTHORITY_LOCKED_OUT,
@@ -229,7 +231,7 @@ pub(crate) fn activate(
         return Ok(refused(alloc, status::FAIL, None));
     }
     store.activate()?;
-    Ok(said(Vec::new(alloc), None, false))
+    Ok(said(Vec::new(alloc), None, Erasure::none()))
 }
 
 /// Whether the Locking SP is in use.
@@ -242,6 +244,17 @@ fn is_in_use(store: &Store) -> bool
         Uid::LOCKING_SP,
         Column::LIFE_CYCLE_STATE,
     ) == MANUFACTURED
+}
+
+/// What a Revert erases: all sectors where the Locking SP is in use, and else none.
+fn erased_by_revert(store: &Store) -> Erasure
+    ensures { result ≡ erased_by_revert (rows_in_force store.now) }
+{
+    if is_in_use(store) {
+        Erasure::all()
+    } else {
+        Erasure::none()
+    }
 }
 
 /// The SP that a row of the SP table names.
@@ -273,12 +286,12 @@ pub(crate) fn revert(
     if store.is_open(session) {
         return Ok(refused(alloc, status::FAIL, None));
     }
-    let wipe = is_in_use(store);
+    let erases = erased_by_revert(store);
     let sp = sp_of_row(object);
     store.revert(sp)?;
     match sp {
         Sp::Admin => sessions.end_all(),
         Sp::Locking => sessions.end_on(Sp::Locking),
     }
-    Ok(said(Vec::new(alloc), None, wipe))
+    Ok(said(Vec::new(alloc), None, erases))
 }
