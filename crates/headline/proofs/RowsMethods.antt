@@ -17,6 +17,7 @@ use Rattle.trusted_cmds.specs.declared.command.Command.TheVariants.{Send}
 use Rattle.call_shapes.specs.Asks.{uid_of}
 use Rattle.call_shapes.specs.declared.ask.Ask.TheVariants.{SetCells, Revert}
 use Rattle.shadow_mbr.specs.Erasure.{no_sectors, all_sectors}
+use Rattle.basics.specs.declared.profile.Profile.TheVariants.{Base}
 use Rattle.methods.specs.Laws.{are_rising, takes_effect}
 use Rattle.methods.specs.Listed.{listed, listed_among}
 use Rattle.methods.specs.Judgement.{asked}
@@ -141,7 +142,7 @@ call_by_anybody = record {
 }
 
 -- Its shape and its values are right in both.
-set_valid : (asked Locking (uid_of (to_be_bytes w64 (range_uid 2).0)) (uid_of (to_be_bytes w64 set.0)) set_args
+set_valid : (asked Base Locking (uid_of (to_be_bytes w64 (range_uid 2).0)) (uid_of (to_be_bytes w64 set.0)) set_args
     ≡ Some (SetCells ((7, tree.number 1) ∷ [])))
     × (takes_effect (comes_to activated set_by_anybody (session_of (anybody ∷ [])) (to_be_bytes w64 (range_uid 2).0)
     (SetCells ((7, tree.number 1) ∷ []))) ≡ true)

@@ -24,7 +24,7 @@ use Rattle.sessions.specs.Starts.{is_in_use}
 use Rattle.history.specs.Events.{Response, Deed, Nothing, InSession, OfQueue, Wrote, Took, WasReset, Event}
 use Rattle.history.specs.Readers.{restores, living, session_on, open_on, is_of, in_force, turns, begins, changes_on, own_changes, if_open, open_changes, only_on, unless_any_open, brought, changes, factory_rows}
 use Rattle.history.specs.History.{Act, event, log}
-use Rattle.history.specs.Deeds.{IsNew, is_set_in_admin, is_of_row, Begins, Changes, IsOutside, CanDo, OwnerLaw, LifeLaw, ActivateLaw, RevertLaw}
+use Rattle.history.specs.Deeds.{IsNew, is_set_in_admin, is_of_row, Begins, Changes, IsOutside, IsRevert, IsRevertSp, CanDo, OwnerLaw, LifeLaw, ActivateLaw, RevertLaw}
 use Rattle.history.proofs.Words.{latest-here, latest-skip, sp-is}
 use Rattle.history.proofs.Emptied.{every-since-more, closed}
 use Rattle.history.proofs.DeedLaws.{deed_law}
@@ -395,7 +395,7 @@ none-open o acts sp s h g = by_open (open_on (log o acts) sp) refl
 pub activate_law : ActivateLaw
 activate_law o acts act pin r is sp = by_sp sp
   where
-    can : IsOutside (log o acts) × (is_in_use (in_force o (log o acts)) Locking ≡ false)
+    can : IsOutside (log o acts) Admin × (is_in_use (in_force o (log o acts)) Locking ≡ false)
     can = deed_law o (log o acts) act (Activated pin) r is
 
     by_locking : (x : Option ℕ) → open_on (log o acts) Locking ≡ x → open_on (log o acts) Locking ≡ None
@@ -407,11 +407,24 @@ activate_law o acts act pin r is sp = by_sp sp
     by_sp Locking = by_locking (open_on (log o acts) Locking) refl
 
 pub revert_law : RevertLaw
-revert_law o acts act sp w r is = (none-open o acts Admin can.session can.lives.lives can.outside, ended sp is)
+revert_law o acts act sp w r is = (by_can can, closes, ended sp is)
   where
-    can : IsOutside (log o acts)
-    can = deed_law o (log o acts) act (Reverted sp w) r is
+    past : List Event
+    past = log o acts
 
-    ended : (s : Sp) → (event o (log o acts) act).deed ≡ InSession (Reverted s w) r → session_on (event o (log o acts) act ∷ log o acts) Locking ≡ None
-    ended Admin h = ap (λ x. unwrap_or x None) (latest-here (living Locking) (event o (log o acts) act) (log o acts) None (ap (living Locking) h))
-    ended Locking h = ap (λ x. unwrap_or x None) (latest-here (living Locking) (event o (log o acts) act) (log o acts) None (ap (living Locking) h))
+    e : Event
+    e = event o past act
+
+    can : IsRevert o past w ⊎ IsRevertSp o past sp w
+    can = deed_law o past act (Reverted sp w) r is
+
+    by_can : IsRevert o past w ⊎ IsRevertSp o past sp w → (IsRevert o past w × (open_on past Admin ≡ None)) ⊎ (IsRevertSp o past sp w × (open_on past Locking ≡ None))
+    by_can (inl a) = inl (a, none-open o acts Admin a.outside.session a.outside.lives.lives a.outside.outside)
+    by_can (inr b) = inr (b, none-open o acts Locking b.outside.session b.outside.lives.lives b.outside.outside)
+
+    closes : (s : Sp) → open_on (e ∷ past) s ≡ None
+    closes s = ap (λ x. unwrap_or x None) (latest-here (turns s) e past None (ap (turns s) is))
+
+    ended : (s : Sp) → e.deed ≡ InSession (Reverted s w) r → session_on (e ∷ past) Locking ≡ None
+    ended Admin h = ap (λ x. unwrap_or x None) (latest-here (living Locking) e past None (ap (living Locking) h))
+    ended Locking h = ap (λ x. unwrap_or x None) (latest-here (living Locking) e past None (ap (living Locking) h))

@@ -7,7 +7,7 @@ use Rattle.audit.specs.declared.reason.AttemptFailure.{AttemptFailure}
 use Rattle.call_shapes.specs.Limits.{most_response}
 use Rattle.call_shapes.specs.Statuses.{invalid_parameter, response_overflow}
 use Rattle.call_shapes.specs.declared.ask.Ask.{Ask}
-use Rattle.call_shapes.specs.declared.ask.Ask.TheVariants.{GetCells, GetBytes, SetCells, SetBytes, Authenticate, Activate, Revert, Other}
+use Rattle.call_shapes.specs.declared.ask.Ask.TheVariants.{GetCells, GetBytes, SetCells, SetBytes, Authenticate, Activate, Revert, GenKey, RevertSp, Other}
 use Rattle.tcg_tokens.specs.Tree.{Tree}
 use Rattle.tcg_tokens.specs.Message.{message}
 use Rattle.transactions.specs.declared.change.SessionId.{SessionId}
@@ -97,6 +97,8 @@ set-is its object (GetBytes a b) h = cc
 set-is its object (Authenticate a b) h = cc
 set-is its object Activate h = cc
 set-is its object Revert h = cc
+set-is its object GenKey h = cc
+set-is its object (RevertSp keep) h = cc
 set-is its object Other h = cc
 
 pub activate-is : (ask : Ask) → handles handlers.Activate ask ≡ true → ask ≡ Activate
@@ -107,4 +109,18 @@ activate-is (SetCells ps) h = cc
 activate-is (SetBytes a b) h = cc
 activate-is (Authenticate a b) h = cc
 activate-is Revert h = cc
+activate-is GenKey h = cc
+activate-is (RevertSp keep) h = cc
 activate-is Other h = cc
+
+pub gen-key-is : (ask : Ask) → handles handlers.GenKey ask ≡ true → ask ≡ GenKey
+gen-key-is GenKey h = refl
+gen-key-is (GetCells a b) h = cc
+gen-key-is (GetBytes a b) h = cc
+gen-key-is (SetCells ps) h = cc
+gen-key-is (SetBytes a b) h = cc
+gen-key-is (Authenticate a b) h = cc
+gen-key-is Activate h = cc
+gen-key-is Revert h = cc
+gen-key-is (RevertSp keep) h = cc
+gen-key-is Other h = cc

@@ -135,5 +135,6 @@ rise_law (Some kinds.Locking) = refl
 rise_law (Some kinds.MbrControl) = refl
 rise_law (Some kinds.TperInfo) = refl
 rise_law (Some kinds.MbrTable) = refl
+rise_law (Some kinds.Key) = refl
 
 pub ruleset of_lists = (list_law, rise_law)

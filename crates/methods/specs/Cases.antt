@@ -1,6 +1,7 @@
 -- Each method that the access list offers has a case, and each column of a row stands in the table of columns (Core
 -- 2.01, section 5.3; Opal SSC 2.01, section 5.1).
 use Rattle.std.specs.Prelude.{◌≡◌, true, List, Some, is_some}
+use Rattle.basics.specs.declared.profile.Profile.{Profile}
 use Rattle.sp_cells.specs.declared.names.Uid.{Uid}
 use Rattle.sp_cells.specs.declared.names.Sp.{Sp}
 use Rattle.sp_cells.specs.declared.names.Column.{Column}
@@ -19,8 +20,8 @@ use Rattle.methods.specs.Laws.{IsAmong}
 
 -- where a method is offered, and its arguments have the shape that it wants, the object's kind has what is asked
 abbrev pub CaseLaw : Type 0
-CaseLaw = (sp : Sp) (object method : Uid) (args : List Tree) (ask : Ask)
-    → is_some (acl_at sp object method) ≡ true → ask_of sp object method args ≡ Some ask
+CaseLaw = (profile : Profile) (sp : Sp) (object method : Uid) (args : List Tree) (ask : Ask)
+    → is_some (acl_at sp object method) ≡ true → ask_of profile sp object method args ≡ Some ask
     → has_ask (kind_of sp object) ask ≡ true
 
 -- the cells of a new drive's SP

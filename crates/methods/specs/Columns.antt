@@ -21,6 +21,7 @@ types_of (Some kinds.Locking) = locking_types
 types_of (Some kinds.MbrControl) = mbr_control_types
 types_of (Some kinds.TperInfo) = tper_info_types
 types_of (Some kinds.MbrTable) = []
+types_of (Some kinds.Key) = []
 
 -- without their types
 abbrev pub columns_in : List (Column × ColumnType) → List Column

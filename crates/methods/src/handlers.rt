@@ -9,12 +9,14 @@ ghost use Rattle.methods.specs.Kinds.{kind_of as kind_of_object};
 ghost use Rattle.methods.specs.Changes.{setting_seen};
 ghost use Rattle.sessions.specs.Answers.{rows_in_force};
 ghost use Rattle.methods.specs.Erasures.{erased_by_revert};
-ghost use Rattle.methods.specs.Effects.{live_holder, has_transaction, has_set, sp_of_row as sp_of};
-ghost use Rattle.methods.specs.Judgement.{Attempts, Activates, Reverts, list_given, listing, gives, bytes_given, to_set, makes, unless_open};
+ghost use Rattle.sp_cells.specs.Numbers.{key_number};
+ghost use Rattle.methods.specs.Effects.{live_holder, seen_by, has_transaction, has_set, sp_of_row as sp_of};
+ghost use Rattle.methods.specs.Judgement.{Attempts, Activates, Reverts, list_given, listing, gives, bytes_given, to_set, makes, unless_open, erases, reverts_sp};
 ghost use Rattle.methods.specs.Calls.{standing_on, standing_in, outcome_in, Tells, Fulfils};
 ghost use Rattle.methods.specs.declared.outcome.MethodFault.TheVariants as faults;
 
 use crate::changes::apply_set;
+use crate::erasures::{erased_by_key, erased_by_revert_sp, is_wholly_locked};
 use crate::lists::list_columns;
 use crate::outcome::{MethodFault, Outcome, fitting, number_result, refused, said};
 use crate::settings::check_set;
@@ -293,5 +295,58 @@ pub(crate) fn revert(
         Sp::Admin => sessions.end_all(),
         Sp::Locking => sessions.end_on(Sp::Locking),
     }
+    Ok(said(Vec::new(alloc), None, erases))
+}
+
+/// GenKey of a range's key. The rows stay.
+pub(crate) fn gen_key(
+    alloc: Global,
+    store: &Store,
+    session: SessionId,
+    object: Uid,
+) -> Result<Outcome, MethodFault>
+    ensures fulfils { (l : Live) → IfOk result (λ out.
+        Fulfils (outcome_in store.now session
+        (unless_open (has_transaction store.now session) (erases (key_number object))))
+        out store.now store.now l l) }
+    ensures memory { IfErr result (λ e. e ≡ faults.OutOfMemory) }
+{
+    if store.is_open(session) {
+        return Ok(refused(alloc, status::FAIL, None));
+    }
+    match object.key_number() {
+        Some(range) => Ok(said(
+            Vec::new(alloc),
+            None,
+            erased_by_key(&store.committed(), range),
+        )),
+        None => Ok(refused(alloc, status::FAIL, None)),
+    }
+}
+
+/// RevertSP: the Locking SP's own Revert, by its session.
+pub(crate) fn revert_sp(
+    alloc: Global,
+    store: &mut Store,
+    sessions: &mut Sessions,
+    session: SessionId,
+    keep: bool,
+) -> Result<Outcome, MethodFault>
+    ensures fulfils { IfOk result (λ out.
+        Fulfils (outcome_in store.old session
+        (unless_open (has_transaction store.old session) (reverts_sp (seen_by store.old session) keep)))
+        out store.old store.new sessions.old sessions.new) }
+    ensures err { OnErr result ((store.new ≡ store.old) × (sessions.new ≡ sessions.old)) }
+    ensures memory { IfErr result (λ e. e ≡ faults.OutOfMemory) }
+{
+    if store.is_open(session) {
+        return Ok(refused(alloc, status::FAIL, None));
+    }
+    if keep && is_wholly_locked(&store.view(session)) {
+        return Ok(refused(alloc, status::FAIL, None));
+    }
+    let erases = erased_by_revert_sp(&store.committed(), keep);
+    store.revert(Sp::Locking)?;
+    sessions.end_on(Sp::Locking);
     Ok(said(Vec::new(alloc), None, erases))
 }

@@ -18,6 +18,7 @@ pub enum Kind {
     MbrControl,
     TperInfo,
     MbrTable,
+    Key,
 }
 
 /// What does a call of a method that a kind of object has.
@@ -30,6 +31,8 @@ pub enum Handler {
     Authenticate,
     Activate,
     Revert,
+    GenKey,
+    RevertSp,
 }
 
 /// The kind of the rows of a table, by the upper four bytes of their names.
@@ -44,6 +47,7 @@ fn table_kind(table: u64) -> Option<Kind>
         tables::LOCKING => Some(Kind::Locking),
         tables::MBR_CONTROL => Some(Kind::MbrControl),
         tables::TPER_INFO => Some(Kind::TperInfo),
+        tables::K_AES_256 => Some(Kind::Key),
         _ => None,
     }
 }

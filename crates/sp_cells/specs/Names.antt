@@ -33,6 +33,9 @@ mbr_control_table = 0x0803
 abbrev pub tper_info_table : ℕ
 tper_info_table = 0x0201
 
+abbrev pub key_table : ℕ
+key_table = 0x0806
+
 -- the column of this number
 abbrev pub col : ℕ → Column
 col n = record { 0 = n }
@@ -110,6 +113,17 @@ global_range = uid 0x0000080200000001
 abbrev pub range_uid : ℕ → Uid
 range_uid zero = global_range
 range_uid (suc n) = uid (range_base + suc n)
+
+-- the row of a range's key in the K_AES_256 table, the global range being number 0
+abbrev pub key_base : ℕ
+key_base = 0x0000080600030000
+
+abbrev pub global_key : Uid
+global_key = uid 0x0000080600000001
+
+abbrev pub key_uid : ℕ → Uid
+key_uid zero = global_key
+key_uid (suc n) = uid (key_base + suc n)
 
 -- the shadow MBR: the one row of the MBRControl table, and the byte table
 abbrev pub mbr_control : Uid
@@ -216,6 +230,13 @@ revert = uid 0x0000000600000202
 
 abbrev pub activate : Uid
 activate = uid 0x0000000600000203
+
+-- the methods of the field profile alone
+abbrev pub gen_key : Uid
+gen_key = uid 0x0000000600000010
+
+abbrev pub revert_sp : Uid
+revert_sp = uid 0x0000000600000011
 
 -- the session manager and its methods (Core 2.01, section 5.2)
 abbrev pub session_manager : Uid

@@ -63,7 +63,7 @@ call-met s t l m session call said fulfils = λ o acts its ks kl lives same.
 pub call-carried : (s t : Stored) (l m : Live) (session : SessionId) (call : Call) (said : Answered) → Fulfils (outcome_in s session (judged_call s l session call)) said s t l m → is_carried (message said.reply) ≡ true
 call-carried s t l m session call said h =
     carried-as (message said.reply) _ h.met.answer
-    (call_carried (rows_in_force s) session.sp (standing_in s l session) (uid_of call.object) (uid_of call.method) (ask_of session.sp (uid_of call.object) (uid_of call.method) (map tree call.args.items)))
+    (call_carried (rows_in_force s) session.sp (standing_in s l session) (uid_of call.object) (uid_of call.method) (ask_of s.config.profile session.sp (uid_of call.object) (uid_of call.method) (map tree call.args.items)))
 
 -- ---- the session manager
 
