@@ -3,7 +3,7 @@
 ghost use Rattle.std.specs.Prelude.{◌≡◌, ◌<◌, ◌≤◌, ◌==◌, [], ◌∷◌, ◌++◌, map, option_map, Some, None, if◌then◌else◌};
 ghost use Rattle.sp_cells.specs.Names.{get, set, ace_admins, ace_anybody_get_common_name, ace_ace_set_boolean_expression};
 ghost use Rattle.sp_cells.specs.Authorities.{authorities_of_locking};
-ghost use Rattle.access_list.specs.Access.{IsAnsweredByGrants, of_field, reverters as reverters_of, owner_grants, label_grants, admin_grants, authority_grants, fixed_ace_gets, user_ace_grants, range_get_ace_grants, gen_key_ace_grants, read_locked_ace_grants, write_locked_ace_grants, done_ace_grants, pin_grants, range_get_grants, range_set_grants, mbr_grants, info_grants, locking_grants, access_list};
+ghost use Rattle.access_list.specs.Access.{IsAnsweredByGrants, of_field, reverters as reverters_of, owner_grants, label_grants, admin_grants, authority_grants, fixed_ace_gets, user_ace_grants, range_get_ace_grants, gen_key_ace_grants, read_locked_ace_grants, write_locked_ace_grants, done_ace_grants, pin_grants, range_get_grants, range_set_grants, mbr_grants, info_grants, key_grants, locking_grants, access_list};
 ghost use Rattle.sp_cells.specs.declared.names.Sp.TheVariants.{Admin, Locking};
 
 use arrayvec::ArrayVec;
@@ -132,7 +132,7 @@ fn locking_row(profile: Profile, object: Uid, method: Uid) -> Option<ArrayVec<Ui
 /// The ACEs of what a drive of the profile `Field` alone has.
 #[tactic(auto, using(crate::proofs::Joins::joins))]
 fn field_row(profile: Profile, object: Uid, method: Uid) -> Option<ArrayVec<Uid, 4>>
-    ensures { IsAnsweredByGrants (of_field profile (gen_key_ace_grants ++ info_grants))
+    ensures { IsAnsweredByGrants (of_field profile (gen_key_ace_grants ++ info_grants ++ key_grants))
         Locking object method result }
 {
     if profile == Profile::Base {
@@ -141,7 +141,21 @@ fn field_row(profile: Profile, object: Uid, method: Uid) -> Option<ArrayVec<Uid,
     if let Some(aces) = gen_key_ace(object, method) {
         return Some(aces);
     }
-    info_row(object, method)
+    if let Some(aces) = info_row(object, method) {
+        return Some(aces);
+    }
+    key_row(object, method)
+}
+
+#[tactic(auto, unfolding(crate::specs::Access::key_grants))]
+fn key_row(object: Uid, method: Uid) -> Option<ArrayVec<Uid, 4>>
+    ensures { IsAnsweredByGrants key_grants Locking object method result }
+{
+    match (object.key_number(), method) {
+        (Some(range), Uid::GEN_KEY) => Some(one(Uid::ace_key_gen_key(range))),
+        (None, Uid::REVERT_SP) if object == Uid::THIS_SP => Some(one(Uid::ACE_ADMINS)),
+        _ => None,
+    }
 }
 
 #[tactic(auto, unfolding(crate::specs::Access::gen_key_ace_grants))]

@@ -33,6 +33,10 @@ host_challenge_parameter = 0
 abbrev pub host_signing_authority_parameter : ℕ
 host_signing_authority_parameter = 3
 
+-- RevertSP: whether the data of the global range are kept
+abbrev pub keep_global_range_key_parameter : ℕ
+keep_global_range_key_parameter = 0x060000
+
 -- Properties: those of the host
 abbrev pub host_properties_parameter : ℕ
 host_properties_parameter = 0

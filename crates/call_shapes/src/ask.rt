@@ -5,13 +5,14 @@ ghost use Rattle.std.specs.Int.{w64, from_be_bytes};
 ghost use Rattle.tcg_tokens.specs.Tree.{tree};
 ghost use Rattle.call_shapes.specs.Named.{options as options_of, pair_of};
 ghost use Rattle.call_shapes.specs.Parameters.{start_row_parameter, end_row_parameter, start_column_parameter, end_column_parameter};
-ghost use Rattle.call_shapes.specs.Asks.{uid_of as uid_of_octets, is_mbr_table as is_mbr_table_of, cellblock, columns_asked_in, rows_in, cells_in, bytes_in, proof_in, attempt_in, without_arguments as without_arguments_of, get_of, set_of, ask_of as ask_by};
+ghost use Rattle.call_shapes.specs.Asks.{uid_of as uid_of_octets, is_mbr_table as is_mbr_table_of, cellblock, columns_asked_in, rows_in, cells_in, bytes_in, proof_in, attempt_in, without_arguments as without_arguments_of, get_of, set_of, revert_sp_in, field_ask_of, other_ask_of, ask_of as ask_by};
 
 use crate::named::{
     Assignments, Pair, bytes_or_empty, list_in, number_if_any, number_or, read_assignments,
     read_options, read_pair,
 };
 use crate::parameter;
+use basics::Profile;
 use sp_cells::{Sp, Uid};
 use std::alloc::{AllocError, Global};
 use std::marker::Model;
@@ -69,7 +70,13 @@ pub enum Ask<'a> {
 
     Revert,
 
-    /// A method that is none of the five.
+    /// GenKey: a new key for the data of a range.
+    GenKey,
+
+    /// RevertSP: whether the data of the global range are kept.
+    RevertSp { keep: bool },
+
+    /// A method that the profile does not know.
     Other,
 }
 
@@ -201,16 +208,61 @@ fn without_arguments<'a>(ask: Ask<'a>, args: &[Value]) -> Option<Ask<'a>>
     }
 }
 
+/// RevertSP: its one optional argument says by 0 or 1 whether the global range's data are kept.
+fn revert_sp_asked<'a>(alloc: Global, args: &'a [Value]) -> Result<Option<Ask<'a>>, AllocError>
+    ensures { IfOk result (λ ask. ask ≡ revert_sp_in (map tree args.now)) }
+{
+    let Some(named) = read_options(alloc, &[parameter::KEEP_GLOBAL_RANGE_KEY], args)? else {
+        return Ok(None);
+    };
+    match number_or(0, named.get(parameter::KEEP_GLOBAL_RANGE_KEY)) {
+        Some(0) => Ok(Some(Ask::RevertSp { keep: false })),
+        Some(1) => Ok(Some(Ask::RevertSp { keep: true })),
+        _ => Ok(None),
+    }
+}
+
+/// A method that the field profile has besides; any other takes any arguments.
+fn field_asked<'a>(
+    alloc: Global,
+    method: Uid,
+    args: &'a [Value],
+) -> Result<Option<Ask<'a>>, AllocError>
+    ensures { IfOk result (λ ask. ask ≡ field_ask_of method (map tree args.now)) }
+{
+    match method {
+        Uid::GEN_KEY => Ok(without_arguments(Ask::GenKey, args)),
+        Uid::REVERT_SP => revert_sp_asked(alloc, args),
+        _ => Ok(Some(Ask::Other)),
+    }
+}
+
+/// A method that is none of the five: the base profile knows no other.
+fn other_asked<'a>(
+    alloc: Global,
+    profile: Profile,
+    method: Uid,
+    args: &'a [Value],
+) -> Result<Option<Ask<'a>>, AllocError>
+    ensures { IfOk result (λ ask. ask ≡ other_ask_of profile method (map tree args.now)) }
+{
+    match profile {
+        Profile::Base => Ok(Some(Ask::Other)),
+        Profile::Field => field_asked(alloc, method, args),
+    }
+}
+
 /// What a call in a session of an SP asks; None where its arguments have not the shape that its method wants. A
-/// method other than the five takes any.
+/// method that the profile does not know takes any.
 pub fn read_ask<'a>(
     alloc: Global,
+    profile: Profile,
     sp: Sp,
     object: Uid,
     method: Uid,
     args: &'a [Value],
 ) -> Result<Option<Ask<'a>>, AllocError>
-    ensures { IfOk result (λ ask. ask ≡ ask_by sp object method (map tree args.now)) }
+    ensures { IfOk result (λ ask. ask ≡ ask_by profile sp object method (map tree args.now)) }
 {
     match method {
         Uid::GET => Ok(get_asked(is_mbr_table(sp, object), args)),
@@ -218,7 +270,7 @@ pub fn read_ask<'a>(
         Uid::AUTHENTICATE => attempt_asked(alloc, args),
         Uid::ACTIVATE => Ok(without_arguments(Ask::Activate, args)),
         Uid::REVERT => Ok(without_arguments(Ask::Revert, args)),
-        _ => Ok(Some(Ask::Other)),
+        _ => other_asked(alloc, profile, method, args),
     }
 }
 

@@ -28,5 +28,8 @@ pub const HOST_CHALLENGE: u64 = 0;
 /// StartSession: the authority that signs.
 pub const HOST_SIGNING_AUTHORITY: u64 = 3;
 
+/// RevertSP: whether the data of the global range are kept.
+pub const KEEP_GLOBAL_RANGE_KEY: u64 = 0x06_0000;
+
 /// Properties: those of the host.
 pub const HOST_PROPERTIES: u64 = 0;

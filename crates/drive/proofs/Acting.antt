@@ -52,19 +52,21 @@ use Rattle.std.proofs.lemmas.Bool.Decides.{nat_tests}
 use Rattle.std.proofs.lemmas.List.{reverse-append}
 use Rattle.drive.specs.State.{DriveState, kept_facts, KeepsDrive, Agrees, AgreesInOrder}
 use Rattle.drive.specs.Answers.{IsAnswer, IsDoneAndAnswered}
-use Rattle.drive.proofs.Keeping.{seen-is, nothing-keeps, failed-keeps, holds-keeps, moved-keeps, mended-keeps, tper-keeps, sends-of-tper, sends-wipe, sent-deed, IsOfTper}
+use Rattle.shadow_mbr.specs.declared.erasure.Erasure.{Erasure}
+use Rattle.shadow_mbr.specs.Erasure.{is_erased}
+use Rattle.drive.proofs.Keeping.{seen-is, nothing-keeps, failed-keeps, holds-keeps, moved-keeps, mended-keeps, tper-keeps, sends-of-tper, sends-erase, sent-deed, IsOfTper}
 
 -- what is sent and received
 
 pub send-keeps : (d e : DriveState) (o : Origin) (acts : List Act) (com_id : ℕ) (r : Result Frame FrameError) (s : Sent)
     → KeepsTper e.tper o (sent (facts o (log o acts)) com_id r ∷ log o acts) → IsToldOfSend (sent (facts o (log o acts)) com_id r) s
-    → e.queue ≡ d.queue → ((x : ℕ) → sector_at e.media x ≡ (if s.wipes then zeros else sector_at d.media x))
+    → e.queue ≡ d.queue → ((x : ℕ) → sector_at e.media x ≡ (if is_erased s.erases x then zeros else sector_at d.media x))
     → KeepsDrive d o (log o acts) → KeepsDrive e o (sent (facts o (log o acts)) com_id r ∷ log o acts)
 send-keeps d e o acts com_id r s tper is queue media k =
     let f : Facts = facts o (log o acts) in
     tper-keeps d e o (log o acts) (sent f com_id r) (sends-of-tper (sent f com_id r).deed (sent-deed f com_id r)) tper queue
-    (λ x. media x ∙ ap (λ (w : Bool). if w then zeros else sector_at d.media x) is.wipes
-    ∙ sends-wipe (sent f com_id r).deed x (sector_at d.media x) (sent-deed f com_id r)) k
+    (λ x. media x ∙ ap (λ (w : Erasure). if is_erased w x then zeros else sector_at d.media x) is.erases
+    ∙ sends-erase (sent f com_id r).deed x (sector_at d.media x) (sent-deed f com_id r)) k
 
 -- a receive does nothing, or takes what waits
 took-of : (com_id : ℕ) (b : Bool) → IsOfTper (if b then did (Took com_id) else did Nothing).deed

@@ -13,16 +13,17 @@ use Rattle.compacket.specs.declared.error.FrameError.{FrameError}
 use Rattle.compacket.specs.declared.session.Session.{Session}
 use Rattle.locking.specs.declared.ranges.Verdict.{Verdict}
 use Rattle.tcg_tokens.specs.Reading.{reading as message_in}
-use Rattle.sessions.specs.Deeds.{Begun, wipes_by, SessionDeed, Unchanged, Started, Tried, Changed, Began, Committed, Aborted, Ended, Activated, Reverted}
+use Rattle.shadow_mbr.specs.Erasure.{is_erased}
+use Rattle.sessions.specs.Deeds.{Begun, erased_by}
 use Rattle.history.specs.Decisions.{completed}
 use Rattle.history.specs.Tcg.{sent, framed, to_session, to_manager, answers, is_manager}
 use Rattle.history.specs.Opening.{Origin}
 use Rattle.history.specs.Events.{HeldCommand, QueueDeed, Held as HeldDeed, Completed, CompletedWrite, QueueFailed, QueueMended, Deed, Nothing, OfQueue, Wrote, Took, WasReset, InSession, Event, did, or_else, latest}
-use Rattle.history.specs.Readers.{holding, held, failing, failure, writing, sector, wipes as wiped_to}
+use Rattle.history.specs.Readers.{holding, held, failing, failure, writing, sector}
 use Rattle.history.specs.Facts.{Facts, facts, session_named}
 use Rattle.history.specs.KeptStore.{ReadsStore}
 use Rattle.history.proofs.KeptStoreReads.{store_read_law}
-use Rattle.tper.specs.Tper.{Tper, Keeps as KeepsTper, response_at, deed_wipes}
+use Rattle.tper.specs.Tper.{Tper, Keeps as KeepsTper, response_at, erased_by_deed}
 use Rattle.tper.proofs.KeptBeside.{spares, kept_beside}
 use Rattle.drive.specs.declared.queue.Queue.{Queue}
 use Rattle.drive.specs.declared.transfer.Held.{Held}
@@ -176,18 +177,9 @@ tper-keeps d e o past ev its tper queue media k =
     media k
 
 -- media after what was sent
-wipe-here : (w : Bool) (s : ℕ) (deed : SessionDeed) (before : List ℕ) → wipes_by deed ≡ w → (if w then zeros else before) ≡ unwrap_or (wiped_to deed) before
-wipe-here w s Unchanged before h = rw (← h) refl
-wipe-here w s (Started session row) before h = rw (← h) refl
-wipe-here w s (Tried attempt) before h = rw (← h) refl
-wipe-here w s (Changed sp change) before h = rw (← h) refl
-wipe-here w s (Began sp number) before h = rw (← h) refl
-wipe-here w s (Committed sp) before h = rw (← h) refl
-wipe-here w s (Aborted sp) before h = rw (← h) refl
-wipe-here w s (Ended sp) before h = rw (← h) refl
-wipe-here w s (Activated pin) before h = rw (← h) refl
-wipe-here w s (Reverted sp true) before h = rw (← h) refl
-wipe-here w s (Reverted sp false) before h = rw (← h) refl
+erase-here : (b : Bool) (before : List ℕ) → (if b then zeros else before) ≡ unwrap_or (if b then Some zeros else None) before
+erase-here true before = refl
+erase-here false before = refl
 
 -- what is sent does nothing, or something in a session
 abbrev pub IsSendDeed : Deed → Type 0
@@ -203,13 +195,13 @@ sends-of-tper (Wrote lba bytes) h = absurd h
 sends-of-tper (Took com_id) h = absurd h
 sends-of-tper (WasReset kind) h = absurd h
 
-pub sends-wipe : (d : Deed) (s : ℕ) (before : List ℕ) → IsSendDeed d → (if deed_wipes d then zeros else before) ≡ unwrap_or (writing s d) before
-sends-wipe Nothing s before h = refl
-sends-wipe (InSession deed response) s before h = wipe-here (wipes_by deed) s deed before refl
-sends-wipe (OfQueue deed) s before h = absurd h
-sends-wipe (Wrote lba bytes) s before h = absurd h
-sends-wipe (Took com_id) s before h = absurd h
-sends-wipe (WasReset kind) s before h = absurd h
+pub sends-erase : (d : Deed) (s : ℕ) (before : List ℕ) → IsSendDeed d → (if is_erased (erased_by_deed d) s then zeros else before) ≡ unwrap_or (writing s d) before
+sends-erase Nothing s before h = refl
+sends-erase (InSession deed response) s before h = erase-here (is_erased (erased_by deed) s) before
+sends-erase (OfQueue deed) s before h = absurd h
+sends-erase (Wrote lba bytes) s before h = absurd h
+sends-erase (Took com_id) s before h = absurd h
+sends-erase (WasReset kind) s before h = absurd h
 
 to-session-deed : (f : Facts) (com_id : ℕ) (named : Session) (payload : List ℕ) (b : Option Begun) → IsSendDeed (to_session f com_id named payload b).deed
 to-session-deed f com_id named payload None = tt

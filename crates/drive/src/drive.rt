@@ -3,7 +3,6 @@
 ghost use Rattle.std.specs.Prelude.{◌≡◌, ℕ, false, length, OnOk, OnErr, IfOk, if◌then◌else◌};
 ghost use Rattle.device_data.specs.ErrorLog.{sized};
 ghost use Rattle.fis.specs.Tags.{slot_count};
-ghost use Rattle.shadow_mbr.specs.Stored.{sector_at, zeros};
 ghost use Rattle.locking.specs.Ranges.{ranges_in};
 ghost use Rattle.transactions.specs.Sights.{look_up};
 
@@ -28,17 +27,6 @@ use std::mem::replace;
 use tper::{Tper, sized};
 use transactions::View;
 use trusted_cmds::{Command, is_programmatic_reset};
-
-/// Makes all media zeros, where they are to be.
-fn wipe_where(wipes: bool, media: &mut Media)
-    ensures size { media.new.sectors ≡ media.old.sectors }
-    ensures sectors { (s : ℕ) → sector_at media.new s
-        ≡ (if wipes then zeros else sector_at media.old s) }
-{
-    if wipes {
-        media.wipe();
-    }
-}
 
 /// Makes these the ranges that the rows describe, where they may be others.
 fn refresh_where(changes: bool, ranges: &mut Ranges, rows: &View<'_>)
@@ -305,7 +293,7 @@ impl Drive {
         ensures err { OnErr result (self.new ≡ self.old) }
     {
         let sent = self.tper.send(com_id, payload, &mut self.spare)?;
-        wipe_where(sent.wipes, &mut self.media);
+        self.media.erase(&sent.erases);
         refresh_where(sent.changes, &mut self.ranges, &self.tper.in_force());
         Ok(sent.denied)
     }

@@ -13,17 +13,20 @@ use Rattle.trusted_cmds.specs.declared.command.Command.{Command}
 use Rattle.trusted_cmds.specs.declared.command.Command.TheVariants.{Send}
 use Rattle.trusted_cmds.specs.Commands.{fis_of, tag_with, is_queued as is_queued_code}
 use Rattle.call_shapes.specs.Asks.{uid_of}
-use Rattle.call_shapes.specs.Statuses.{invalid_parameter, response_overflow, not_authorized}
+use Rattle.call_shapes.specs.Statuses.{fail, invalid_parameter, response_overflow, not_authorized}
 use Rattle.call_shapes.specs.declared.ask.Ask.{Ask}
-use Rattle.call_shapes.specs.declared.ask.Ask.TheVariants.{GetCells, GetBytes, SetCells, SetBytes, Authenticate, Activate, Revert, Other}
+use Rattle.call_shapes.specs.declared.ask.Ask.TheVariants.{GetCells, GetBytes, SetCells, SetBytes, Authenticate, Activate, Revert, GenKey, RevertSp, Other}
 use Rattle.call_shapes.specs.Limits.{most_response}
 use Rattle.sessions.specs.Starts.{is_in_use}
+use Rattle.shadow_mbr.specs.Erasure.{no_sectors, all_sectors}
 use Rattle.methods.specs.Effects.{has_ask}
 use Rattle.methods.specs.Kinds.{kind_of}
-use Rattle.sessions.specs.Deeds.{Setting, Sets, Unchanged, Changed, Activated, Reverted, Begun}
+use Rattle.sessions.specs.Deeds.{Setting, Sets, Unchanged, Changed, Activated, Reverted, Erased, Begun}
 use Rattle.methods.specs.Listed.{listed}
 use Rattle.methods.proofs.ListLaws.{list_law}
-use Rattle.methods.specs.Judgement.{Judgement, Refuses, Gives, Activates, Reverts, Standing, table_size, bytes_between, rows_given, gives, listing, makes, unless_open, does_ask, does, judged, asked}
+use Rattle.sp_cells.specs.Numbers.{key_number}
+use Rattle.methods.specs.Erasures.{erased_by_key, erased_by_revert_sp, is_wholly_locked}
+use Rattle.methods.specs.Judgement.{RevertsSp, erases, Judgement, Refuses, Gives, Activates, Reverts, Standing, table_size, bytes_between, rows_given, gives, listing, makes, unless_open, does_ask, does, judged, asked}
 use Rattle.history.specs.Decisions.{is_session_com_id, is_trusted}
 use Rattle.history.specs.Tcg.{answers, tcg}
 use Rattle.methods.specs.Calls.{outcome_of}
@@ -222,10 +225,33 @@ activates_deed f session false false valid is = (
 
 reverts_deed : (f : Facts) (session : Begun) (reverted : Sp) (is_open : Bool)
     → takes_effect (unless_open is_open (Reverts reverted)) ≡ true
-    → (outcome_of f.rows session.sp (unless_open is_open (Reverts reverted))).deed
-    ≡ Reverted reverted (is_in_use f.rows Locking)
+    → (is_in_use f.rows Locking ≡ true → (outcome_of f.rows session.sp (unless_open is_open (Reverts reverted))).deed
+    ≡ Reverted reverted all_sectors)
+    × (is_in_use f.rows Locking ≡ false → (outcome_of f.rows session.sp (unless_open is_open (Reverts reverted))).deed
+    ≡ Reverted reverted no_sectors)
 reverts_deed f session reverted true valid = absurd (cc)
-reverts_deed f session reverted false valid = refl
+reverts_deed f session reverted false valid = (
+  λ e. ap (λ (b : Bool). Reverted reverted (if b then all_sectors else no_sectors)) e,
+  λ e. ap (λ (b : Bool). Reverted reverted (if b then all_sectors else no_sectors)) e,
+)
+
+erases_deed : (f : Facts) (session : Begun) (x : Option ℕ) (is_open : Bool)
+    → takes_effect (unless_open is_open (erases x)) ≡ true
+    → (range : ℕ) × (x ≡ Some range)
+    × ((outcome_of f.rows session.sp (unless_open is_open (erases x))).deed ≡ Erased (erased_by_key f.rows range))
+erases_deed f session x true valid = absurd (cc)
+erases_deed f session None false valid = absurd (cc)
+erases_deed f session (Some range) false valid = (range, refl, refl)
+
+reverts_sp_deed : (f : Facts) (session : Begun) (locked keep is_open : Bool)
+    → takes_effect (unless_open is_open (if keep && locked then Refuses fail None else RevertsSp keep)) ≡ true
+    → (keep ≡ true → locked ≡ false)
+    × ((outcome_of f.rows session.sp (unless_open is_open (if keep && locked then Refuses fail None else RevertsSp keep))).deed
+    ≡ Reverted Locking (erased_by_revert_sp f.rows keep))
+reverts_sp_deed f session locked keep true valid = absurd (cc)
+reverts_sp_deed f session true true false valid = absurd (cc)
+reverts_sp_deed f session false true false valid = (λ e. refl, refl)
+reverts_sp_deed f session locked false false valid = (λ e. absurd (cc), refl)
 
 effect_is : (f : Facts) (session : Begun) (object : Uid) (ask : Ask) (has : Bool)
     → takes_effect (does_ask (standing f session) object (if has then ask else Other)) ≡ true
@@ -241,12 +267,14 @@ effect_is f session object (Authenticate authority pin) true valid =
 effect_is f session object Activate true valid =
     activates_deed f session (is_in_use f.rows Locking) _ valid refl
 effect_is f session object Revert true valid = reverts_deed f session _ _ valid
+effect_is f session object GenKey true valid = erases_deed f session (key_number object) _ valid
+effect_is f session object (RevertSp keep) true valid = reverts_sp_deed f session (is_wholly_locked (f.rows_of session.number)) keep _ valid
 effect_is f session object Other true valid = absurd (cc)
 
 judged_so_far : (o : Origin) (before : List Step) (step : Step) (session : Begun)
     (object method : List ℕ) (args : Trees) (ask : Ask) → IsLawful o (step ∷ before)
     → (c : IsCallStep o before step session object method args)
-    → asked session.sp (uid_of object) (uid_of method) args ≡ Some ask
+    → asked o.tables.config.profile session.sp (uid_of object) (uid_of method) args ≡ Some ask
     → IsJudged o before step session object method args c ask
 unfolding called looked
 judged_so_far o before step session object method args ask h c shaped = record {

@@ -16,6 +16,8 @@ use Rattle.tcg_tokens.specs.Tree.{Trees, trees_of}
 use Rattle.trusted_cmds.specs.declared.command.Command.TheVariants.{Send}
 use Rattle.call_shapes.specs.Asks.{uid_of}
 use Rattle.call_shapes.specs.declared.ask.Ask.TheVariants.{SetCells, Revert}
+use Rattle.shadow_mbr.specs.Erasure.{no_sectors, all_sectors}
+use Rattle.basics.specs.declared.profile.Profile.TheVariants.{Base}
 use Rattle.methods.specs.Laws.{are_rising, takes_effect}
 use Rattle.methods.specs.Listed.{listed, listed_among}
 use Rattle.methods.specs.Judgement.{asked}
@@ -140,7 +142,7 @@ call_by_anybody = record {
 }
 
 -- Its shape and its values are right in both.
-set_valid : (asked Locking (uid_of (to_be_bytes w64 (range_uid 2).0)) (uid_of (to_be_bytes w64 set.0)) set_args
+set_valid : (asked Base Locking (uid_of (to_be_bytes w64 (range_uid 2).0)) (uid_of (to_be_bytes w64 set.0)) set_args
     ≡ Some (SetCells ((7, tree.number 1) ∷ [])))
     × (takes_effect (comes_to activated set_by_anybody (session_of (anybody ∷ [])) (to_be_bytes w64 (range_uid 2).0)
     (SetCells ((7, tree.number 1) ∷ []))) ≡ true)
@@ -163,15 +165,15 @@ get_listed = (refl, refl)
 -- A Revert of the Locking SP: what the law says that it does where the SP is in use, and where not.
 revert_says : (deed : SessionDeed)
     → EffectIs (facts_after tcg activated (begins by_admin)) (session_of (anybody ∷ [])) locking_sp Revert deed
-    → deed ≡ Reverted Locking true
+    → deed ≡ Reverted Locking all_sectors
 unfolding admin_sps admin_authorities locking_authorities admin_pins locking_pins locking_ranges locking_mbr_controls admin_aces authority_aces pin_aces range_get_aces range_aces mbr_aces this_sp_grants owner_grants authority_grants fixed_ace_gets user_ace_grants read_locked_ace_grants write_locked_ace_grants done_ace_grants pin_grants range_get_ace_grants range_get_grants range_set_grants mbr_grants first_lexeme expect number_at uid_at values_up_to list_with list_value_with named_with value_after_token list_at status_at call_at reply_at message_at message_in number_spelling bytes_spelling any_below ranges_in verdict_of is_range listed_among cells_for zeros sectors_from authorities_of_locking any_to
-revert_says deed effect = effect
+revert_says deed effect = effect.0 refl
 
 revert_of_a_new_drive : (deed : SessionDeed)
     → EffectIs (facts_after tcg new_drive []) (session_of (anybody ∷ [])) locking_sp Revert deed
-    → deed ≡ Reverted Locking false
+    → deed ≡ Reverted Locking no_sectors
 unfolding admin_sps admin_authorities locking_authorities admin_pins locking_pins locking_ranges locking_mbr_controls admin_aces authority_aces pin_aces range_get_aces range_aces mbr_aces this_sp_grants owner_grants authority_grants fixed_ace_gets user_ace_grants read_locked_ace_grants write_locked_ace_grants done_ace_grants pin_grants range_get_ace_grants range_get_grants range_set_grants mbr_grants first_lexeme expect number_at uid_at values_up_to list_with list_value_with named_with value_after_token list_at status_at call_at reply_at message_at message_in number_spelling bytes_spelling any_below ranges_in verdict_of is_range listed_among cells_for zeros sectors_from authorities_of_locking any_to
-revert_of_a_new_drive deed effect = effect
+revert_of_a_new_drive deed effect = effect.1 refl
 
 -- A list with a column twice does not rise.
 not_twice : (k : Column) (v w : Cell) (rest : List (Column × Cell))

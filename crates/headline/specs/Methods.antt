@@ -16,14 +16,17 @@ use Rattle.trusted_cmds.specs.declared.command.Command.TheVariants.{Send}
 use Rattle.call_shapes.specs.Asks.{uid_of}
 use Rattle.call_shapes.specs.Statuses.{success, not_authorized}
 use Rattle.call_shapes.specs.declared.ask.Ask.{Ask}
-use Rattle.call_shapes.specs.declared.ask.Ask.TheVariants.{GetCells, GetBytes, SetCells, SetBytes, Authenticate, Activate, Revert, Other}
+use Rattle.call_shapes.specs.declared.ask.Ask.TheVariants.{GetCells, GetBytes, SetCells, SetBytes, Authenticate, Activate, Revert, GenKey, RevertSp, Other}
+use Rattle.shadow_mbr.specs.Erasure.{no_sectors, all_sectors}
+use Rattle.sp_cells.specs.Numbers.{key_number}
+use Rattle.methods.specs.Erasures.{erased_by_key, erased_by_revert_sp, is_wholly_locked}
 use Rattle.methods.specs.Laws.{IsAmong, IsListed, are_rising, IsGranted, takes_effect}
 use Rattle.methods.specs.Listed.{cell_value}
 use Rattle.methods.specs.Said.{reply_of}
 use Rattle.sessions.specs.Attempts.{attempt_failure as failure_of, credential}
 use Rattle.sessions.specs.Starts.{is_in_use}
 use Rattle.methods.specs.Effects.{sp_of_row}
-use Rattle.sessions.specs.Deeds.{Setting, Sets, Outcome, says, Attempt, SessionDeed, Unchanged, Tried, Changed, Activated, Reverted, Begun}
+use Rattle.sessions.specs.Deeds.{Setting, Sets, Outcome, says, Attempt, SessionDeed, Unchanged, Tried, Changed, Activated, Reverted, Erased, Begun}
 use Rattle.methods.specs.Judgement.{Judgement, Standing, asked, does, to_set}
 use Rattle.history.specs.Decisions.{is_session_com_id}
 use Rattle.history.specs.Tcg.{answers, is_manager, tcg, item_in}
@@ -79,7 +82,10 @@ comes_to o before session object ask = does (standing_at o before session) (uid_
 -- What it means that a method takes effect: Get changes nothing; Set changes the named cells, or
 -- bytes, in its SP; Authenticate makes its attempt, on the credential of the authority by the rows in
 -- force; Activate activates the Locking SP, with the PIN of SID, where it is not yet in use; Revert
--- reverts the SP of the row.
+-- reverts the SP of the row, and erases all sectors where the Locking SP is in use, and else none;
+-- GenKey erases the sectors of the range whose key the object is, by the rows in force; RevertSP reverts
+-- the Locking SP, and erases all sectors, or those of the numbered ranges by the rows in force before
+-- it, where it keeps the global range, which then is not locked both ways.
 abbrev pub EffectIs : Facts → Begun → Uid → Ask → SessionDeed → Type 0
 EffectIs f session object (GetCells first last) deed = deed ≡ Unchanged
 EffectIs f session object (GetBytes first last) deed = deed ≡ Unchanged
@@ -98,7 +104,13 @@ EffectIs f session object Activate deed =
     (is_in_use f.rows Locking ≡ true → deed ≡ Unchanged)
     × (is_in_use f.rows Locking ≡ false → deed ≡ Activated (f.rows Admin c_pin_sid pin_column))
 EffectIs f session object Revert deed =
-    deed ≡ Reverted (sp_of_row object) (is_in_use f.rows Locking)
+    (is_in_use f.rows Locking ≡ true → deed ≡ Reverted (sp_of_row object) all_sectors)
+    × (is_in_use f.rows Locking ≡ false → deed ≡ Reverted (sp_of_row object) no_sectors)
+EffectIs f session object GenKey deed =
+    (range : ℕ) × (key_number object ≡ Some range) × (deed ≡ Erased (erased_by_key f.rows range))
+EffectIs f session object (RevertSp keep) deed =
+    (keep ≡ true → is_wholly_locked (f.rows_of session.number) ≡ false)
+    × (deed ≡ Reverted Locking (erased_by_revert_sp f.rows keep))
 EffectIs f session object Other deed = ⊥
 
 -- A call that is refused for want of an entry: it changes nothing, and is answered NOT_AUTHORIZED,
@@ -154,7 +166,7 @@ AreJudged o all =
     (later before : List Step) (step : Step) (session : Begun) (object method : List ℕ)
     (args : Trees) (ask : Ask) → all ≡ later ++ step ∷ before
     → (c : IsCallStep o before step session object method args)
-    → asked session.sp (uid_of object) (uid_of method) args ≡ Some ask
+    → asked o.tables.config.profile session.sp (uid_of object) (uid_of method) args ≡ Some ask
     → IsJudged o before step session object method args c ask
 
 abbrev pub MethodLaw : Type 0

@@ -4,33 +4,46 @@ use Rattle.basics.specs.declared.profile.Profile.TheVariants.{Base, Field}
 use Rattle.std.proofs.Common.{◌≡◌, ℕ, ◌==◌, Bool, true, false, ◌&&◌, ◌||◌, not, List, [], ◌∷◌, Option, Some, None, refl, sym, ◌∙◌, ap, cond, eqb-true}
 use Rattle.std.specs.Prelude.{◌-◌, ◌^◌, length, option_map, nat_le}
 use Rattle.std.specs.List.{list_all}
+use Rattle.basics.specs.declared.profile.Profile.{Profile}
+use Rattle.basics.specs.declared.profile.Profile.TheVariants.{Base, Field}
 use Rattle.sp_cells.specs.declared.names.Uid.{Uid}
 use Rattle.sp_cells.specs.declared.names.Sp.{Sp}
 use Rattle.sp_cells.specs.declared.names.Sp.TheVariants.{Admin, Locking}
-use Rattle.sp_cells.specs.Names.{get, set, authenticate, activate, revert, c_pin_sid, tper_info}
+use Rattle.sp_cells.specs.Names.{get, set, authenticate, activate, revert, gen_key, revert_sp, c_pin_sid, tper_info}
 use Rattle.sp_cells.specs.Authorities.{authorities_of_locking}
 use Rattle.sp_cells.specs.Flat.{sp_eq}
-use Rattle.access_list.specs.Access.{Grant, access_list, acl_in, this_sp_grants, owner_grants, label_grants, authority_grants, fixed_ace_gets, user_ace_grants, read_locked_ace_grants, write_locked_ace_grants, done_ace_grants, pin_grants, range_get_ace_grants, range_get_grants, range_set_grants, mbr_grants, info_grants, gen_key_ace_grants}
+use Rattle.access_list.specs.Access.{Grant, access_list, acl_in, this_sp_grants, owner_grants, label_grants, authority_grants, fixed_ace_gets, user_ace_grants, read_locked_ace_grants, write_locked_ace_grants, done_ace_grants, pin_grants, range_get_ace_grants, range_get_grants, range_set_grants, mbr_grants, info_grants, key_grants, gen_key_ace_grants}
 use Rattle.tcg_tokens.specs.Tree.{Tree, Trees}
 use Rattle.tcg_tokens.specs.Tree as tree
-use Rattle.call_shapes.specs.Parameters.{start_row_parameter, end_row_parameter, start_column_parameter, end_column_parameter, where_parameter, values_parameter, proof_parameter}
+use Rattle.call_shapes.specs.Parameters.{start_row_parameter, end_row_parameter, start_column_parameter, end_column_parameter, where_parameter, values_parameter, proof_parameter, keep_global_range_key_parameter}
 use Rattle.call_shapes.specs.Named.{values_of, list_in, assignments, value_of, options, number_or, number_if_any, bytes_or_empty}
-use Rattle.call_shapes.specs.Asks.{uid_of, is_mbr_table, cellblock, columns_between, columns_asked_in, is_ordered, rows_between, rows_in, cells_of, cells_to_set, cells_in, bytes_to_set, bytes_in, proof_of, proof_in, attempt_in, without_arguments, get_of, set_of, ask_of}
+use Rattle.call_shapes.specs.Asks.{uid_of, is_mbr_table, cellblock, columns_between, columns_asked_in, is_ordered, rows_between, rows_in, cells_of, cells_to_set, cells_in, bytes_to_set, bytes_in, proof_of, proof_in, attempt_in, without_arguments, get_of, set_of, keep_of, keep_in, other_ask_of, ask_of}
 use Rattle.call_shapes.specs.declared.ask.Ask.{Ask}
-use Rattle.call_shapes.specs.declared.ask.Ask.TheVariants.{GetCells, GetBytes, SetCells, SetBytes, Authenticate, Activate, Revert, Other}
+use Rattle.call_shapes.specs.declared.ask.Ask.TheVariants.{GetCells, GetBytes, SetCells, SetBytes, Authenticate, Activate, Revert, GenKey, RevertSp, Other}
 use Rattle.methods.specs.Judgement.{asked}
 use Rattle.history.specs.Deeds.{is_set_in_admin}
 
 -- the method that an ask is of; any for one that the drive does not know
-abbrev pub is_own : Ask → Uid → Bool
-is_own (GetCells first last) method = method.0 == get.0
-is_own (GetBytes first last) method = method.0 == get.0
-is_own (SetCells values) method = method.0 == set.0
-is_own (SetBytes at content) method = method.0 == set.0
-is_own (Authenticate authority pin) method = method.0 == authenticate.0
-is_own Activate method = method.0 == activate.0
-is_own Revert method = method.0 == revert.0
-is_own Other method = true
+abbrev is_own_of_field : Profile → Uid → Uid → Bool
+is_own_of_field Base wanted method = false
+is_own_of_field Field wanted method = method.0 == wanted.0
+
+abbrev pub is_own : Profile → Ask → Uid → Bool
+is_own profile (GetCells first last) method = method.0 == get.0
+is_own profile (GetBytes first last) method = method.0 == get.0
+is_own profile (SetCells values) method = method.0 == set.0
+is_own profile (SetBytes at content) method = method.0 == set.0
+is_own profile (Authenticate authority pin) method = method.0 == authenticate.0
+is_own profile Activate method = method.0 == activate.0
+is_own profile Revert method = method.0 == revert.0
+is_own profile GenKey method = is_own_of_field profile gen_key method
+is_own profile (RevertSp keep) method = is_own_of_field profile revert_sp method
+is_own profile Other method = true
+
+-- a method of the field profile
+pub own-of-field : (profile : Profile) (wanted method : Uid) → is_own_of_field profile wanted method ≡ true → (profile ≡ Field) × ((method.0 == wanted.0) ≡ true)
+own-of-field Base wanted method h = cc
+own-of-field Field wanted method h = (refl, h)
 
 -- where something is given, it passes
 record Gives {A : Type 0} (p : A → Bool) (o : Option A) : Type 0 where
@@ -133,17 +146,32 @@ by-test : (p : Ask → Bool) (b : Bool) (x y : Option Ask) → (b ≡ true → G
 by-test p true x y h g = h refl
 by-test p false x y h g = g refl
 
-asked-gives : (sp : Sp) (object method : Uid) (args : List Tree) → Gives (λ ask. is_own ask method) (ask_of sp object method args)
-asked-gives sp object method args =
-    let p : Ask → Bool = λ ask. is_own ask method in
+keep-gives : (p : Ask → Bool) (x : Option (List (ℕ × Tree))) → ((keep : Bool) → p (RevertSp keep) ≡ true) → Gives p (keep_in x)
+keep-gives p None h = gives-none p
+keep-gives p (Some ps) h = by_number (number_or 0 (value_of keep_global_range_key_parameter ps))
+  where
+    by_number : (x : Option ℕ) → Gives p (keep_of x)
+    by_number None = gives-none p
+    by_number (Some n) = gives-if p (n == 0) _ _ (gives-some p (RevertSp false) (h false)) (gives-if p (n == 1) _ _ (gives-some p (RevertSp true) (h true)) (gives-none p))
+
+other-gives : (profile : Profile) (method : Uid) (args : List Tree) → Gives (λ ask. is_own profile ask method) (other_ask_of profile method args)
+other-gives Base method args = gives-some (λ ask. is_own Base ask method) Other refl
+other-gives Field method args =
+    let p : Ask → Bool = λ ask. is_own Field ask method in
+    by-test p (method.0 == gen_key.0) _ _ (λ is. nothing-gives p GenKey args is) (λ no_key.
+    by-test p (method.0 == revert_sp.0) _ _ (λ is. keep-gives p (options (keep_global_range_key_parameter ∷ []) args) (λ keep. is)) (λ no_revert. gives-some p Other refl))
+
+asked-gives : (profile : Profile) (sp : Sp) (object method : Uid) (args : List Tree) → Gives (λ ask. is_own profile ask method) (ask_of profile sp object method args)
+asked-gives profile sp object method args =
+    let p : Ask → Bool = λ ask. is_own profile ask method in
     by-test p (method.0 == get.0) _ _ (λ is. get-gives p (is_mbr_table sp object) args (λ a b. is) (λ a b. is)) (λ no_get.
     by-test p (method.0 == set.0) _ _ (λ is. set-gives p (is_mbr_table sp object) args (λ a b. is) (λ a. is)) (λ no_set.
     by-test p (method.0 == authenticate.0) _ _ (λ is. attempt-gives p args (λ a b. is)) (λ no_authenticate.
     by-test p (method.0 == activate.0) _ _ (λ is. nothing-gives p Activate args is) (λ no_activate.
-    by-test p (method.0 == revert.0) _ _ (λ is. nothing-gives p Revert args is) (λ no_revert. gives-some p Other refl)))))
+    by-test p (method.0 == revert.0) _ _ (λ is. nothing-gives p Revert args is) (λ no_revert. other-gives profile method args)))))
 
-pub asked-own : (sp : Sp) (object method : Uid) (args : Trees) (ask : Ask) → asked sp object method args ≡ Some ask → is_own ask method ≡ true
-asked-own sp object method args ask h = (asked-gives sp object method (values_of args)).it ask h
+pub asked-own : (profile : Profile) (sp : Sp) (object method : Uid) (args : Trees) (ask : Ask) → asked profile sp object method args ≡ Some ask → is_own profile ask method ≡ true
+asked-own profile sp object method args ask h = (asked-gives profile sp object method (values_of args)).it ask h
 
 -- the objects that have a row
 abbrev pub is_row_of : Sp → Uid → Grant → Bool
@@ -170,17 +198,27 @@ same-method : (profile : Profile) (method wanted : Uid) (sp : Sp) (object : Uid)
 same-method profile method wanted sp object row is h = ap (λ (n : ℕ). acl_in (access_list profile) sp object (record { 0 = n })) (sym (eqb-true method.0 wanted.0 is)) ∙ h
 
 no_activate : (profile : Profile) → list_all (λ g. not (is_row_of Locking activate g) || false) (access_list profile) ≡ true
-unfolding this_sp_grants owner_grants label_grants authority_grants fixed_ace_gets user_ace_grants range_get_ace_grants gen_key_ace_grants read_locked_ace_grants write_locked_ace_grants done_ace_grants pin_grants range_get_grants range_set_grants mbr_grants info_grants authorities_of_locking
+unfolding this_sp_grants owner_grants label_grants authority_grants fixed_ace_gets user_ace_grants range_get_ace_grants gen_key_ace_grants read_locked_ace_grants write_locked_ace_grants done_ace_grants pin_grants range_get_grants range_set_grants mbr_grants info_grants key_grants authorities_of_locking
 no_activate Base = refl
 no_activate Field = refl
 
 no_revert : (profile : Profile) → list_all (λ g. not (is_row_of Locking revert g) || false) (access_list profile) ≡ true
-unfolding this_sp_grants owner_grants label_grants authority_grants fixed_ace_gets user_ace_grants range_get_ace_grants gen_key_ace_grants read_locked_ace_grants write_locked_ace_grants done_ace_grants pin_grants range_get_grants range_set_grants mbr_grants info_grants authorities_of_locking
+unfolding this_sp_grants owner_grants label_grants authority_grants fixed_ace_gets user_ace_grants range_get_ace_grants gen_key_ace_grants read_locked_ace_grants write_locked_ace_grants done_ace_grants pin_grants range_get_grants range_set_grants mbr_grants info_grants key_grants authorities_of_locking
 no_revert Base = refl
 no_revert Field = refl
 
+no_gen_key : (profile : Profile) → list_all (λ g. not (is_row_of Admin gen_key g) || false) (access_list profile) ≡ true
+unfolding this_sp_grants owner_grants label_grants authority_grants fixed_ace_gets user_ace_grants range_get_ace_grants gen_key_ace_grants read_locked_ace_grants write_locked_ace_grants done_ace_grants pin_grants range_get_grants range_set_grants mbr_grants info_grants key_grants authorities_of_locking
+no_gen_key Base = refl
+no_gen_key Field = refl
+
+no_revert_sp : (profile : Profile) → list_all (λ g. not (is_row_of Admin revert_sp g) || false) (access_list profile) ≡ true
+unfolding this_sp_grants owner_grants label_grants authority_grants fixed_ace_gets user_ace_grants range_get_ace_grants gen_key_ace_grants read_locked_ace_grants write_locked_ace_grants done_ace_grants pin_grants range_get_grants range_set_grants mbr_grants info_grants key_grants authorities_of_locking
+no_revert_sp Base = refl
+no_revert_sp Field = refl
+
 only_two_rows : (profile : Profile) → list_all (λ g. not (is_row_of Admin set g) || is_set_in_admin g.object) (access_list profile) ≡ true
-unfolding this_sp_grants owner_grants label_grants authority_grants fixed_ace_gets user_ace_grants range_get_ace_grants gen_key_ace_grants read_locked_ace_grants write_locked_ace_grants done_ace_grants pin_grants range_get_grants range_set_grants mbr_grants info_grants authorities_of_locking
+unfolding this_sp_grants owner_grants label_grants authority_grants fixed_ace_gets user_ace_grants range_get_ace_grants gen_key_ace_grants read_locked_ace_grants write_locked_ace_grants done_ace_grants pin_grants range_get_grants range_set_grants mbr_grants info_grants key_grants authorities_of_locking
 only_two_rows Base = refl
 only_two_rows Field = refl
 
@@ -192,6 +230,15 @@ activate-admin profile Locking object method row is h = let g : false ≡ true =
 pub revert-admin : (profile : Profile) (sp : Sp) (object method : Uid) (row : List Uid) → (method.0 == revert.0) ≡ true → acl_in (access_list profile) sp object method ≡ Some row → sp ≡ Admin
 revert-admin profile Admin object method row is h = refl
 revert-admin profile Locking object method row is h = let g : false ≡ true = rows-among (λ n. false) Locking object revert (access_list profile) row (no_revert profile) (same-method profile method revert Locking object row is h) in cc
+
+-- GenKey and RevertSP are of the Locking SP
+pub gen-key-locking : (profile : Profile) (sp : Sp) (object method : Uid) (row : List Uid) → (method.0 == gen_key.0) ≡ true → acl_in (access_list profile) sp object method ≡ Some row → sp ≡ Locking
+gen-key-locking profile Locking object method row is h = refl
+gen-key-locking profile Admin object method row is h = let g : false ≡ true = rows-among (λ n. false) Admin object gen_key (access_list profile) row (no_gen_key profile) (same-method profile method gen_key Admin object row is h) in cc
+
+pub revert-sp-locking : (profile : Profile) (sp : Sp) (object method : Uid) (row : List Uid) → (method.0 == revert_sp.0) ≡ true → acl_in (access_list profile) sp object method ≡ Some row → sp ≡ Locking
+revert-sp-locking profile Locking object method row is h = refl
+revert-sp-locking profile Admin object method row is h = let g : false ≡ true = rows-among (λ n. false) Admin object revert_sp (access_list profile) row (no_revert_sp profile) (same-method profile method revert_sp Admin object row is h) in cc
 
 pub set-in-admin : (profile : Profile) (object method : Uid) (row : List Uid) → (method.0 == set.0) ≡ true → acl_in (access_list profile) Admin object method ≡ Some row → is_set_in_admin object ≡ true
 set-in-admin profile object method row is h = rows-among (λ n. (n == c_pin_sid.0) || (n == tper_info.0)) Admin object set (access_list profile) row (only_two_rows profile) (same-method profile method set Admin object row is h)

@@ -13,7 +13,7 @@ use Rattle.std.specs.Prelude.{is_some, map, filter}
 use Rattle.std.specs.List.{flat_map}
 use Rattle.tcg_tokens.specs.Tree.{list, trees_of}
 use Rattle.call_shapes.specs.declared.ask.Ask.{Ask}
-use Rattle.call_shapes.specs.declared.ask.Ask.TheVariants.{GetCells, GetBytes, SetCells, SetBytes, Authenticate, Activate, Revert, Other}
+use Rattle.call_shapes.specs.declared.ask.Ask.TheVariants.{GetCells, GetBytes, SetCells, SetBytes, Authenticate, Activate, Revert, GenKey, RevertSp, Other}
 use Rattle.std.specs.Option.{option_or}
 use Rattle.methods.specs.Kinds.{kind_of}
 use Rattle.methods.specs.Columns.{columns_of}
@@ -89,6 +89,8 @@ done-alike s other h object (SetBytes a b) = refl
 done-alike s other h object (Authenticate a b) = refl
 done-alike s other h object Activate = refl
 done-alike s other h object Revert = refl
+done-alike s other h object GenKey = refl
+done-alike s other h object (RevertSp keep) = refl
 done-alike s other h object Other = refl
 
 pub judged-alike : (s : Standing) (other : List Uid) → SameHeld s.held other → (object method : Uid) (ask : Option Ask) → judged (with_held s other) object method ask ≡ judged s object method ask

@@ -1,5 +1,5 @@
 -- Which deed an item can do, and what follows for open transactions.
-use Rattle.std.proofs.Common.{◌≡◌, ℕ, ◌==◌, ◌+◌, Bool, true, false, not, ◌||◌, map, List, [], ◌∷◌, ◌++◌, Option, Some, None, refl, sym, ◌∙◌, ap, cond, inl, inr}
+use Rattle.std.proofs.Common.{◌≡◌, ℕ, ◌==◌, ◌+◌, Bool, true, false, not, ◌&&◌, ◌||◌, map, List, [], ◌∷◌, ◌++◌, Option, Some, None, refl, sym, ◌∙◌, ap, cond, inl, inr}
 use Rattle.std.specs.Prelude.{◌-◌, nat_le, nat_lt, zero, suc, unwrap_or, Result, Ok, Err}
 use Rattle.std.specs.List.{list_any}
 use Rattle.sp_cells.specs.declared.names.Uid.{Uid}
@@ -8,7 +8,7 @@ use Rattle.sp_cells.specs.declared.names.Sp.TheVariants.{Admin, Locking}
 use Rattle.sp_cells.specs.declared.names.Column.{Column}
 use Rattle.sp_cells.specs.declared.cells.Cell.{Cell}
 use Rattle.sp_cells.specs.declared.error.SetError.{SetError}
-use Rattle.sp_cells.specs.Names.{set, activate, revert, c_pin_sid, properties, start_session}
+use Rattle.sp_cells.specs.Names.{set, activate, revert, gen_key, revert_sp, c_pin_sid, properties, start_session}
 use Rattle.ace_eval.specs.Aces.{acl_at}
 use Rattle.audit.specs.declared.reason.AttemptFailure.{AttemptFailure}
 use Rattle.audit.specs.declared.reason.Why.{Why}
@@ -16,7 +16,7 @@ use Rattle.tcg_tokens.specs.declared.error.TokenError.{TokenError}
 use Rattle.tcg_tokens.specs.Message.{Message, call, reply, end_session, begin, end}
 use Rattle.tcg_tokens.specs.Tree.{Tree, Trees}
 use Rattle.history.specs.Opening.{Origin}
-use Rattle.sessions.specs.Deeds.{Sets, Begun, Setting, cells_set, bytes_set, SessionDeed, Unchanged, Started, Tried, Changed, Began, Committed, Aborted, Ended, Activated, Reverted, Outcome, says}
+use Rattle.sessions.specs.Deeds.{Sets, Begun, Setting, cells_set, bytes_set, SessionDeed, Unchanged, Started, Tried, Changed, Began, Committed, Aborted, Ended, Activated, Reverted, Erased, Outcome, says}
 use Rattle.sp_cells.specs.ColumnNames.{pin_column}
 use Rattle.sessions.specs.Attempts.{attempt_failure as failure_of}
 use Rattle.call_shapes.specs.Asks.{uid_of}
@@ -25,6 +25,10 @@ use Rattle.sessions.specs.Properties.{properties_message}
 use Rattle.call_shapes.specs.Carried.{is_carried}
 use Rattle.methods.specs.declared.kinds.Kind.{Kind}
 use Rattle.methods.specs.declared.kinds.Kind.TheVariants as kinds
+use Rattle.basics.specs.declared.profile.Profile.{Profile}
+use Rattle.basics.specs.declared.profile.Profile.TheVariants.{Field}
+use Rattle.sp_cells.specs.Numbers.{key_number}
+use Rattle.methods.specs.Erasures.{is_wholly_locked}
 use Rattle.methods.specs.Kinds.{kind_of}
 use Rattle.methods.specs.Columns.{set_types_of}
 use Rattle.methods.specs.Settings.{cells_for, setting_of_cells, cells_of_ask, bytes_of_ask, setting}
@@ -33,7 +37,7 @@ use Rattle.methods.specs.Said.{reply_of, refusal_of}
 use Rattle.call_shapes.specs.Limits.{most_response}
 use Rattle.methods.specs.Effects.{has_ask, last_row, unless_fault, sp_of_row}
 use Rattle.sp_cells.specs.declared.values.ColumnType.{ColumnType}
-use Rattle.methods.specs.Judgement.{asked, Standing, Judgement, Refuses, Gives, Makes, Attempts, Activates, Reverts, denial, gives, listing, table_size, bytes_between, rows_given, fault_by, valid, to_set, makes, unless_open, does_ask, does, unless_denied, judged}
+use Rattle.methods.specs.Judgement.{asked, Standing, Judgement, Refuses, Gives, Makes, Attempts, Activates, Reverts, Erases, RevertsSp, erases, reverts_sp, denial, gives, listing, table_size, bytes_between, rows_given, fault_by, valid, to_set, makes, unless_open, does_ask, does, unless_denied, judged}
 use Rattle.sessions.specs.declared.opening.Opening.{Opening}
 use Rattle.sessions.specs.declared.opening.StartVerdict.{StartVerdict}
 use Rattle.sessions.specs.declared.opening.StartVerdict.TheVariants.{Refused, Attempted}
@@ -42,17 +46,19 @@ use Rattle.sessions.specs.Starts.{opening_of, is_in_use, sp_named, is_full, open
 use Rattle.call_shapes.specs.Named.{values_of}
 use Rattle.sp_cells.specs.Flat.{LookUp, sp_eq}
 use Rattle.call_shapes.specs.declared.ask.Ask.{Ask}
-use Rattle.call_shapes.specs.declared.ask.Ask.TheVariants.{GetCells, GetBytes, SetCells, SetBytes, Authenticate, Activate, Revert, Other}
+use Rattle.call_shapes.specs.declared.ask.Ask.TheVariants.{GetCells, GetBytes, SetCells, SetBytes, Authenticate, Activate, Revert, GenKey, RevertSp, Other}
 use Rattle.history.specs.Events.{Deed, Nothing, InSession, OfQueue, Wrote, Took, WasReset, Event}
-use Rattle.history.specs.Readers.{living, lives_by, restores, session_on, open_on, is_of, in_force}
+use Rattle.sp_tables.specs.Looks.{RowLook}
+use Rattle.history.specs.Changes.{with_tries}
+use Rattle.history.specs.Readers.{view, tries, rows_within, rows_after, living, lives_by, restores, session_on, open_on, is_of, in_force}
 use Rattle.history.specs.Facts.{facts, numbered, live, has_open, standing}
 use Rattle.history.specs.Tcg.{start_verdict, deed_of_start, start_deed, started, is_method_of_manager, to_manager, judgement_on, begins_on, transaction_end, ends_on, in_session}
 use Rattle.methods.specs.Calls.{tried_in, outcome_of}
-use Rattle.history.specs.Deeds.{IsIn, is_set_in_admin, is_of_row, is_inside, CanDo, DeedLaw}
+use Rattle.history.specs.Deeds.{IsIn, IsOutside, is_set_in_admin, is_of_row, is_inside, CanDo, DeedLaw}
 use Rattle.history.proofs.Words.{latest-here, latest-skip, sp-is, sp-same}
 use Rattle.history.proofs.Items.{item-from}
 use Rattle.history.proofs.MethodProofs.{denial-none, granted-row}
-use Rattle.history.proofs.Asked.{is_own, asked-own, activate-admin, revert-admin, set-in-admin}
+use Rattle.history.proofs.Asked.{is_own, own-of-field, gen-key-locking, revert-sp-locking, asked-own, activate-admin, revert-admin, set-in-admin}
 
 -- the kinds of judgements, a refusal being 0, and of asks
 abbrev kind : Judgement → ℕ
@@ -62,6 +68,8 @@ kind (Makes setting) = 2
 kind (Attempts authority pin) = 3
 kind Activates = 4
 kind (Reverts sp) = 5
+kind (Erases range) = 6
+kind (RevertsSp keep) = 7
 
 abbrev ask_kind : Ask → ℕ
 ask_kind (GetCells first last) = 1
@@ -71,6 +79,8 @@ ask_kind (SetBytes at content) = 2
 ask_kind (Authenticate authority pin) = 3
 ask_kind Activate = 4
 ask_kind Revert = 5
+ask_kind GenKey = 6
+ask_kind (RevertSp keep) = 7
 ask_kind Other = 0
 
 zero-one : {k : ℕ} → 0 ≡ suc k → ⊥
@@ -100,6 +110,14 @@ open-kind : (b : Bool) (j : Judgement) (k : ℕ) → kind (unless_open b j) ≡ 
 open-kind true j k h = absurd (zero-one h)
 open-kind false j k h = (h, refl)
 
+erases-kind : (x : Option ℕ) (k : ℕ) → kind (erases x) ≡ suc k → 6 ≡ suc k
+erases-kind None k h = absurd (zero-one h)
+erases-kind (Some range) k h = h
+
+reverts-kind : (b keep : Bool) (k : ℕ) → kind (cond b (Refuses 0x3f None) (RevertsSp keep)) ≡ suc k → 7 ≡ suc k
+reverts-kind true keep k h = absurd (zero-one h)
+reverts-kind false keep k h = h
+
 does-kind : (s : Standing) (object : Uid) (ask : Ask) (k : ℕ) → kind (does_ask s object ask) ≡ suc k → ask_kind ask ≡ suc k
 does-kind s object (GetCells first last) k h = gives-kind (listing s object first last) k h
 does-kind s object (GetBytes first last) k h = rows-kind s first (last_row (table_size s) last) k h
@@ -108,66 +126,126 @@ does-kind s object (SetBytes place content) k h = makes-kind (to_set s object (S
 does-kind s object (Authenticate a pin) k h = h
 does-kind s object Activate k h = (open-kind s.is_open Activates k h).0
 does-kind s object Revert k h = (open-kind s.is_open (Reverts (sp_of_row object)) k h).0
+does-kind s object GenKey k h = erases-kind (key_number object) k (open-kind s.is_open (erases (key_number object)) k h).0
+does-kind s object (RevertSp keep) k h = reverts-kind (keep && is_wholly_locked s.rows) keep k (open-kind s.is_open (reverts_sp s.rows keep) k h).0
 does-kind s object Other k h = absurd (zero-one h)
 
 -- a judgement that is no refusal: its ask is of the method, the method is offered, and it is what the ask comes to
 record Granted (s : Standing) (object method : Uid) (k : ℕ) (j : Judgement) : Type 0 where
   ask : Ask
-  own : is_own ask method ≡ true
+  own : is_own s.profile ask method ≡ true
   row : List Uid
   has : acl_at s.profile s.sp object method ≡ Some row
   does : does_ask s object ask ≡ j
   kind : ask_kind ask ≡ suc k
 
-with-case : (s : Standing) (object method : Uid) (k : ℕ) (j : Judgement) (ask : Ask) → is_own ask method ≡ true → (row : List Uid) → acl_at s.profile s.sp object method ≡ Some row → (b : Bool) → does_ask s object (cond b ask Other) ≡ j → kind j ≡ suc k → Granted s object method k j
+with-case : (s : Standing) (object method : Uid) (k : ℕ) (j : Judgement) (ask : Ask) → is_own s.profile ask method ≡ true → (row : List Uid) → acl_at s.profile s.sp object method ≡ Some row → (b : Bool) → does_ask s object (cond b ask Other) ≡ j → kind j ≡ suc k → Granted s object method k j
 with-case s object method k j ask own row has true h g =
     record { ask = ask; own = own; row = row; has = has; does = h; kind = does-kind s object ask k (ap kind h ∙ g) }
 with-case s object method k j ask own row has false h g = absurd (zero-one (ap kind h ∙ g))
 
-granted-by : (s : Standing) (object method : Uid) (k : ℕ) (j : Judgement) (ask : Ask) → is_own ask method ≡ true → (why : Option Why) → denial s object method ask ≡ why → unless_denied why (does s object ask) ≡ j → kind j ≡ suc k → Granted s object method k j
+granted-by : (s : Standing) (object method : Uid) (k : ℕ) (j : Judgement) (ask : Ask) → is_own s.profile ask method ≡ true → (why : Option Why) → denial s object method ask ≡ why → unless_denied why (does s object ask) ≡ j → kind j ≡ suc k → Granted s object method k j
 granted-by s object method k j ask own (Some why) is h g = absurd (zero-one (ap kind h ∙ g))
 granted-by s object method k j ask own None is h g =
     let r = granted-row s object method ask (denial-none s object method ask is) in
     with-case s object method k j ask own r.0 r.1 (has_ask (kind_of s.sp object) ask) h g
 
-granted : (s : Standing) (object method : Uid) (args : Trees) (k : ℕ) (j : Judgement) (ask : Option Ask) → asked s.sp object method args ≡ ask → judged s object method ask ≡ j → kind j ≡ suc k → Granted s object method k j
+granted : (s : Standing) (object method : Uid) (args : Trees) (k : ℕ) (j : Judgement) (ask : Option Ask) → asked s.profile s.sp object method args ≡ ask → judged s object method ask ≡ j → kind j ≡ suc k → Granted s object method k j
 granted s object method args k j None is h g = absurd (zero-one (ap kind h ∙ g))
 granted s object method args k j (Some ask) is h g =
-    granted-by s object method k j ask (asked-own s.sp object method args ask is) (denial s object method ask) refl h g
+    granted-by s object method k j ask (asked-own s.profile s.sp object method args ask is) (denial s object method ask) refl h g
 
 -- Activate and Revert: a session of the Admin SP that has no transaction open
-activate-is : (ask : Ask) (method : Uid) → is_own ask method ≡ true → ask_kind ask ≡ 4 → (ask ≡ Activate) × ((method.0 == activate.0) ≡ true)
-activate-is Activate method own h = (refl, own)
-activate-is (GetCells a b) method own h = cc
-activate-is (GetBytes a b) method own h = cc
-activate-is (SetCells a) method own h = cc
-activate-is (SetBytes a b) method own h = cc
-activate-is (Authenticate a b) method own h = cc
-activate-is Revert method own h = cc
-activate-is Other method own h = cc
+activate-is : (profile : Profile) (ask : Ask) (method : Uid) → is_own profile ask method ≡ true → ask_kind ask ≡ 4 → (ask ≡ Activate) × ((method.0 == activate.0) ≡ true)
+activate-is profile Activate method own h = (refl, own)
+activate-is profile (GetCells a b) method own h = cc
+activate-is profile (GetBytes a b) method own h = cc
+activate-is profile (SetCells a) method own h = cc
+activate-is profile (SetBytes a b) method own h = cc
+activate-is profile (Authenticate a b) method own h = cc
+activate-is profile Revert method own h = cc
+activate-is profile GenKey method own h = cc
+activate-is profile (RevertSp keep) method own h = cc
+activate-is profile Other method own h = cc
 
-revert-is : (ask : Ask) (method : Uid) → is_own ask method ≡ true → ask_kind ask ≡ 5 → (ask ≡ Revert) × ((method.0 == revert.0) ≡ true)
-revert-is Revert method own h = (refl, own)
-revert-is (GetCells a b) method own h = cc
-revert-is (GetBytes a b) method own h = cc
-revert-is (SetCells a) method own h = cc
-revert-is (SetBytes a b) method own h = cc
-revert-is (Authenticate a b) method own h = cc
-revert-is Activate method own h = cc
-revert-is Other method own h = cc
+revert-is : (profile : Profile) (ask : Ask) (method : Uid) → is_own profile ask method ≡ true → ask_kind ask ≡ 5 → (ask ≡ Revert) × ((method.0 == revert.0) ≡ true)
+revert-is profile Revert method own h = (refl, own)
+revert-is profile (GetCells a b) method own h = cc
+revert-is profile (GetBytes a b) method own h = cc
+revert-is profile (SetCells a) method own h = cc
+revert-is profile (SetBytes a b) method own h = cc
+revert-is profile (Authenticate a b) method own h = cc
+revert-is profile Activate method own h = cc
+revert-is profile GenKey method own h = cc
+revert-is profile (RevertSp keep) method own h = cc
+revert-is profile Other method own h = cc
 
 activates-outside : (s : Standing) (object method : Uid) → Granted s object method 3 Activates → (s.sp ≡ Admin) × (s.is_open ≡ false)
 activates-outside s object method g =
-    let x = activate-is g.ask method g.own g.kind in (
+    let x = activate-is s.profile g.ask method g.own g.kind in (
       activate-admin s.profile s.sp object method g.row x.1 g.has,
       (open-kind s.is_open Activates 3 (ap (λ a. kind (does_ask s object a)) (sym x.0) ∙ ap kind g.does)).1,
     )
 
 reverts-outside : (s : Standing) (object method : Uid) (sp : Sp) → Granted s object method 4 (Reverts sp) → (s.sp ≡ Admin) × (s.is_open ≡ false)
 reverts-outside s object method sp g =
-    let x = revert-is g.ask method g.own g.kind in (
+    let x = revert-is s.profile g.ask method g.own g.kind in (
       revert-admin s.profile s.sp object method g.row x.1 g.has,
       (open-kind s.is_open (Reverts (sp_of_row object)) 4 (ap (λ a. kind (does_ask s object a)) (sym x.0) ∙ ap kind g.does)).1,
+    )
+
+-- GenKey and RevertSP: a session of the Locking SP that has no transaction open, under the field profile
+gen-key-is : (profile : Profile) (ask : Ask) (method : Uid) → is_own profile ask method ≡ true → ask_kind ask ≡ 6 → (ask ≡ GenKey) × (profile ≡ Field) × ((method.0 == gen_key.0) ≡ true)
+gen-key-is profile GenKey method own h = let f = own-of-field profile gen_key method own in (refl, f.0, f.1)
+gen-key-is profile (RevertSp keep) method own h = cc
+gen-key-is profile (GetCells a b) method own h = cc
+gen-key-is profile (GetBytes a b) method own h = cc
+gen-key-is profile (SetCells a) method own h = cc
+gen-key-is profile (SetBytes a b) method own h = cc
+gen-key-is profile (Authenticate a b) method own h = cc
+gen-key-is profile Activate method own h = cc
+gen-key-is profile Revert method own h = cc
+gen-key-is profile Other method own h = cc
+
+record IsOfSp (ask : Ask) (profile : Profile) (method : Uid) : Type 0 where
+  keep : Bool
+  is : ask ≡ RevertSp keep
+  field : profile ≡ Field
+  named : (method.0 == revert_sp.0) ≡ true
+
+revert-sp-is : (profile : Profile) (ask : Ask) (method : Uid) → is_own profile ask method ≡ true → ask_kind ask ≡ 7 → IsOfSp ask profile method
+revert-sp-is profile (RevertSp keep) method own h = let f = own-of-field profile revert_sp method own in record { keep = keep; is = refl; field = f.0; named = f.1 }
+revert-sp-is profile GenKey method own h = cc
+revert-sp-is profile (GetCells a b) method own h = cc
+revert-sp-is profile (GetBytes a b) method own h = cc
+revert-sp-is profile (SetCells a) method own h = cc
+revert-sp-is profile (SetBytes a b) method own h = cc
+revert-sp-is profile (Authenticate a b) method own h = cc
+revert-sp-is profile Activate method own h = cc
+revert-sp-is profile Revert method own h = cc
+revert-sp-is profile Other method own h = cc
+
+erases-outside : (s : Standing) (object method : Uid) (range : ℕ) → Granted s object method 5 (Erases range) → (s.sp ≡ Locking) × (s.is_open ≡ false) × (s.profile ≡ Field)
+erases-outside s object method range g =
+    let x = gen-key-is s.profile g.ask method g.own g.kind in (
+      gen-key-locking s.sp object method g.row x.2 g.has,
+      (open-kind s.is_open (erases (key_number object)) 5 (ap (λ a. kind (does_ask s object a)) (sym x.0) ∙ ap kind g.does)).1,
+      x.1,
+    )
+
+unlocked-by : (b k l keep : Bool) → unless_open b (cond (k && l) (Refuses 0x3f None) (RevertsSp k)) ≡ RevertsSp keep → keep ≡ true → l ≡ false
+unlocked-by true k l keep h is = absurd (zero-one (ap kind h))
+unlocked-by false true true keep h is = absurd (zero-one (ap kind h))
+unlocked-by false true false keep h is = refl
+unlocked-by false false l keep h is = let same : false ≡ keep = cc in let no : false ≡ true = same ∙ is in cc
+
+reverts-sp-outside : (s : Standing) (object method : Uid) (keep : Bool) → Granted s object method 6 (RevertsSp keep) → (s.sp ≡ Locking) × (s.is_open ≡ false) × (s.profile ≡ Field) × (keep ≡ true → is_wholly_locked s.rows ≡ false)
+reverts-sp-outside s object method keep g =
+    let x = revert-sp-is s.profile g.ask method g.own g.kind in (
+      revert-sp-locking s.sp object method g.row x.named g.has,
+      (open-kind s.is_open (reverts_sp s.rows x.keep) 6 (ap (λ a. kind (does_ask s object a)) (sym x.is) ∙ ap kind g.does)).1,
+      x.field,
+      unlocked-by s.is_open x.keep (is_wholly_locked s.rows) keep (ap (does_ask s object) (sym x.is) ∙ g.does),
     )
 
 -- a Set is of the object that was called
@@ -197,6 +275,8 @@ asked-fit p sp sectors object fit types (GetBytes a b) set h = absurd (none-some
 asked-fit p sp sectors object fit types (Authenticate a b) set h = absurd (none-some h)
 asked-fit p sp sectors object fit types Activate set h = absurd (none-some h)
 asked-fit p sp sectors object fit types Revert set h = absurd (none-some h)
+asked-fit p sp sectors object fit types GenKey set h = absurd (none-some h)
+asked-fit p sp sectors object fit types (RevertSp keep) set h = absurd (none-some h)
 asked-fit p sp sectors object fit types Other set h = absurd (none-some h)
 
 bytes-if : (p : Setting → Bool) (place : ℕ) (content : List ℕ) (b : Bool) (set : Setting) → (b ≡ true → p (bytes_set place content) ≡ true) → cond b (Some (bytes_set place content)) None ≡ Some set → p set ≡ true
@@ -212,6 +292,8 @@ bytes-fit p Locking sectors object fit (GetBytes a b) set h = absurd (none-some 
 bytes-fit p Locking sectors object fit (Authenticate a b) set h = absurd (none-some h)
 bytes-fit p Locking sectors object fit Activate set h = absurd (none-some h)
 bytes-fit p Locking sectors object fit Revert set h = absurd (none-some h)
+bytes-fit p Locking sectors object fit GenKey set h = absurd (none-some h)
+bytes-fit p Locking sectors object fit (RevertSp keep) set h = absurd (none-some h)
 bytes-fit p Locking sectors object fit Other set h = absurd (none-some h)
 
 setting-fit : (p : Setting → Bool) (sp : Sp) (sectors : ℕ) (object : Uid) → AreFit p sp sectors object → (k : Option Kind) (ask : Ask) (set : Setting) → setting sp sectors object k ask ≡ Some set → p set ≡ true
@@ -227,6 +309,7 @@ setting-fit p sp sectors object fit (Some kinds.MbrControl) ask set h = asked-fi
 setting-fit p sp sectors object fit (Some kinds.TperInfo) ask set h = asked-fit p sp sectors object fit (set_types_of (Some kinds.TperInfo)) ask set h
 setting-fit p sp sectors object fit (Some kinds.LockingInfo) ask set h = asked-fit p sp sectors object fit (set_types_of (Some kinds.LockingInfo)) ask set h
 setting-fit p sp sectors object fit (Some kinds.Table) ask set h = asked-fit p sp sectors object fit (set_types_of (Some kinds.Table)) ask set h
+setting-fit p sp sectors object fit (Some kinds.Key) ask set h = asked-fit p sp sectors object fit (set_types_of (Some kinds.Key)) ask set h
 
 unfaulted : (fault : Option SetError) (set made : Setting) → unless_fault fault set ≡ Some made → made ≡ set
 unfaulted None set made h = some-same h
@@ -250,6 +333,8 @@ makes-fit p s object fit (GetBytes a b) c k h = cc
 makes-fit p s object fit (Authenticate a b) c k h = cc
 makes-fit p s object fit Activate c k h = cc
 makes-fit p s object fit Revert c k h = cc
+makes-fit p s object fit GenKey c k h = cc
+makes-fit p s object fit (RevertSp keep) c k h = cc
 makes-fit p s object fit Other c k h = cc
 
 row-fit : (p : Uid → Bool) (s : Standing) (object : Uid) → p object ≡ true → AreFit (λ y. is_of_row p (Sets y)) s.sp s.mbr_sectors object
@@ -268,20 +353,22 @@ inside-fit s object = record {
 makes-inside : (s : Standing) (object method : Uid) (c : Setting) → Granted s object method 1 (Makes c) → is_inside s.mbr_sectors s.sp (Sets c) ≡ true
 makes-inside s object method c g = makes-fit (λ y. is_inside s.mbr_sectors s.sp (Sets y)) s object (inside-fit s object) g.ask c g.kind g.does
 
-set-is : (ask : Ask) (method : Uid) → is_own ask method ≡ true → ask_kind ask ≡ 2 → (method.0 == set.0) ≡ true
-set-is (SetCells a) method own h = own
-set-is (SetBytes a b) method own h = own
-set-is Activate method own h = cc
-set-is (GetCells a b) method own h = cc
-set-is (GetBytes a b) method own h = cc
-set-is (Authenticate a b) method own h = cc
-set-is Revert method own h = cc
-set-is Other method own h = cc
+set-is : (profile : Profile) (ask : Ask) (method : Uid) → is_own profile ask method ≡ true → ask_kind ask ≡ 2 → (method.0 == set.0) ≡ true
+set-is profile (SetCells a) method own h = own
+set-is profile (SetBytes a b) method own h = own
+set-is profile Activate method own h = cc
+set-is profile (GetCells a b) method own h = cc
+set-is profile (GetBytes a b) method own h = cc
+set-is profile (Authenticate a b) method own h = cc
+set-is profile Revert method own h = cc
+set-is profile GenKey method own h = cc
+set-is profile (RevertSp keep) method own h = cc
+set-is profile Other method own h = cc
 
 makes-one : (s : Standing) (object method : Uid) (c : Setting) → Granted s object method 1 (Makes c) → s.sp ≡ Admin → is_of_row is_set_in_admin (Sets c) ≡ true
 makes-one s object method c g admin =
     makes-fit (λ y. is_of_row is_set_in_admin (Sets y)) s object
-    (row-fit is_set_in_admin s object (set-in-admin s.profile object method g.row (set-is g.ask method g.own g.kind) (ap (λ x. acl_at s.profile x object method) (sym admin) ∙ g.has)))
+    (row-fit is_set_in_admin s object (set-in-admin s.profile object method g.row (set-is s.profile g.ask method g.own g.kind) (ap (λ x. acl_at s.profile x object method) (sym admin) ∙ g.has)))
     g.ask c g.kind g.does
 
 -- the live session of an SP is on it
@@ -311,6 +398,7 @@ lives-on sp (Began t n) s h = cc
 lives-on sp (Committed t) s h = cc
 lives-on sp (Aborted t) s h = cc
 lives-on sp (Activated pin) s h = cc
+lives-on sp (Erased w) s h = cc
 
 living-on : (sp : Sp) (d : Deed) (s : Begun) → living sp d ≡ Some (Some s) → s.sp ≡ sp
 living-on sp (InSession d r) s h = lives-on sp d s h
@@ -329,8 +417,12 @@ session-on [] sp s h = cc
 session-on (e ∷ es) sp s h = session-step sp s e es (living sp e.deed) refl h (session-on es sp s)
 
 -- what an item of a live session can do
-in-admin : (past : List Event) (s : Begun) → session_on past s.sp ≡ Some s → s.sp ≡ Admin → IsIn past Admin s
-in-admin past s h admin = record { lives = ap (session_on past) (sym admin) ∙ h; on = admin }
+outside-of : (o : Origin) (past : List Event) (s : Begun) → session_on past s.sp ≡ Some s → (sp : Sp) → s.sp ≡ sp → has_open (facts o past) s ≡ false → IsOutside past sp
+outside-of o past s h sp on outside = record {
+  session = s;
+  lives = record { lives = ap (session_on past) (sym on) ∙ h; on = on };
+  outside = ap (λ x. is_of s.number (open_on past x)) (sym on) ∙ outside;
+}
 
 judged-can : (o : Origin) (past : List Event) (s : Begun) → session_on past s.sp ≡ Some s → (object method : Uid) (args : Trees) (j : Judgement) → judgement_on (facts o past) s object method args ≡ j → CanDo o past (outcome_of (in_force o past) s.sp j).deed
 judged-can o past s h object method args (Refuses status denied) is = tt
@@ -338,8 +430,8 @@ judged-can o past s h object method args (Gives results) is = tt
 judged-can o past s h object method args (Makes c) is = record {
   session = s;
   lives = record { lives = h; on = refl };
-  row = λ admin. makes-one (standing (facts o past) s) object method c (granted (standing (facts o past) s) object method args 1 (Makes c) (asked s.sp object method args) refl is refl) admin;
-  inside = makes-inside (standing (facts o past) s) object method c (granted (standing (facts o past) s) object method args 1 (Makes c) (asked s.sp object method args) refl is refl);
+  row = λ admin. makes-one (standing (facts o past) s) object method c (granted (standing (facts o past) s) object method args 1 (Makes c) (asked o.tables.config.profile s.sp object method args) refl is refl) admin;
+  inside = makes-inside (standing (facts o past) s) object method c (granted (standing (facts o past) s) object method args 1 (Makes c) (asked o.tables.config.profile s.sp object method args) refl is refl);
 }
 judged-can o past s h object method args (Attempts authority pin) is = by_failure (failure_of (in_force o past) s.sp authority pin)
   where
@@ -349,15 +441,26 @@ judged-can o past s h object method args (Attempts authority pin) is = by_failur
 judged-can o past s h object method args Activates is = by_state (is_in_use (in_force o past) Locking) refl
   where
     outside : (s.sp ≡ Admin) × (has_open (facts o past) s ≡ false)
-    outside = activates-outside (standing (facts o past) s) object method (granted (standing (facts o past) s) object method args 3 Activates (asked s.sp object method args) refl is refl)
+    outside = activates-outside (standing (facts o past) s) object method (granted (standing (facts o past) s) object method args 3 Activates (asked o.tables.config.profile s.sp object method args) refl is refl)
 
     by_state : (b : Bool) → is_in_use (in_force o past) Locking ≡ b → CanDo o past (cond b Unchanged (Activated (in_force o past Admin c_pin_sid pin_column)))
     by_state true g = tt
-    by_state false g = (record { session = s; lives = in-admin past s h outside.0; outside = ap (λ x. is_of s.number (open_on past x)) (sym outside.0) ∙ outside.1 }, g)
-judged-can o past s h object method args (Reverts sp) is = record { session = s; lives = in-admin past s h outside.0; outside = ap (λ x. is_of s.number (open_on past x)) (sym outside.0) ∙ outside.1 }
+    by_state false g = (outside-of o past s h Admin outside.0 outside.1, g)
+judged-can o past s h object method args (Reverts sp) is = inl (record { outside = outside-of o past s h Admin outside.0 outside.1; erases = refl })
   where
     outside : (s.sp ≡ Admin) × (has_open (facts o past) s ≡ false)
-    outside = reverts-outside (standing (facts o past) s) object method sp (granted (standing (facts o past) s) object method args 4 (Reverts sp) (asked s.sp object method args) refl is refl)
+    outside = reverts-outside (standing (facts o past) s) object method sp (granted (standing (facts o past) s) object method args 4 (Reverts sp) (asked o.tables.config.profile s.sp object method args) refl is refl)
+judged-can o past s h object method args (Erases range) is = record { outside = outside-of o past s h Locking outside.0 outside.1; profile = outside.2; range = range; erases = refl }
+  where
+    outside : (s.sp ≡ Locking) × (has_open (facts o past) s ≡ false) × (o.tables.config.profile ≡ Field)
+    outside = erases-outside (standing (facts o past) s) object method range (granted (standing (facts o past) s) object method args 5 (Erases range) (asked o.tables.config.profile s.sp object method args) refl is refl)
+judged-can o past s h object method args (RevertsSp keep) is = inr (record { outside = outside-of o past s h Locking outside.0 outside.1; profile = outside.2; reverts = refl; keep = keep; erases = refl; unlocked = λ kept. ap (λ (rows : RowLook). is_wholly_locked (λ _. rows)) seen ∙ outside.3 kept })
+  where
+    outside : (s.sp ≡ Locking) × (has_open (facts o past) s ≡ false) × (o.tables.config.profile ≡ Field) × (keep ≡ true → is_wholly_locked (view o past s.number) ≡ false)
+    outside = reverts-sp-outside (standing (facts o past) s) object method keep (granted (standing (facts o past) s) object method args 6 (RevertsSp keep) (asked o.tables.config.profile s.sp object method args) refl is refl)
+
+    seen : in_force o past Locking ≡ view o past s.number Locking
+    seen = ap (λ b. with_tries (tries past Locking) (cond b (rows_within o past Locking) (rows_after o past Locking))) (sym (ap (λ x. is_of s.number (open_on past x)) (sym outside.0) ∙ outside.1))
 
 ended-can : (o : Origin) (past : List Event) (s : Begun) → session_on past s.sp ≡ Some s → is_of s.number (open_on past s.sp) ≡ true → (n : ℕ) → CanDo o past (transaction_end s.sp n).deed
 ended-can o past s h own zero = record { session = s; lives = record { lives = h; on = refl }; own = own }

@@ -37,9 +37,11 @@ use Rattle.call_shapes.specs.Carried.{is_carried}
 use Rattle.methods.specs.Said.{reply_of, refusal_of}
 use Rattle.call_shapes.specs.Limits.{most_response}
 use Rattle.methods.specs.Effects.{ask_at, last_row, sp_of_row}
-use Rattle.methods.specs.Judgement.{asked, Standing, Judgement, Refuses, Gives, Makes, Attempts, Activates, Reverts, denial, gives, listing, table_size, bytes_between, rows_given, to_set, makes, unless_open, does_ask, does, unless_denied, judged}
+use Rattle.sp_cells.specs.Numbers.{key_number}
+use Rattle.methods.specs.Erasures.{is_wholly_locked}
+use Rattle.methods.specs.Judgement.{asked, Standing, Judgement, Refuses, Gives, Makes, Attempts, Activates, Reverts, Erases, RevertsSp, erases, reverts_sp, denial, gives, listing, table_size, bytes_between, rows_given, to_set, makes, unless_open, does_ask, does, unless_denied, judged}
 use Rattle.call_shapes.specs.declared.ask.Ask.{Ask}
-use Rattle.call_shapes.specs.declared.ask.Ask.TheVariants.{GetCells, GetBytes, SetCells, SetBytes, Authenticate, Activate, Revert, Other}
+use Rattle.call_shapes.specs.declared.ask.Ask.TheVariants.{GetCells, GetBytes, SetCells, SetBytes, Authenticate, Activate, Revert, GenKey, RevertSp, Other}
 use Rattle.history.specs.Events.{Nothing, Wrote, Took, HeldCommand, Event, did, WasReset}
 use Rattle.history.specs.Facts.{Facts, session_named, has_open, standing}
 use Rattle.history.specs.Decisions.{not_found, fails, refuses, aborted, fails_queue, on_drive, verdict_on, queued_by, admitted, unqueued_by, is_trusted, is_session_com_id, discovery_com_id, received, while_failed, is_busy, completed_by, completed, resets, is_received}
@@ -121,6 +123,8 @@ reason (Makes setting) = None
 reason (Attempts authority pin) = None
 reason Activates = None
 reason (Reverts sp) = None
+reason (Erases range) = None
+reason (RevertsSp keep) = None
 
 clean-if : (b : Bool) (x y : Judgement) → reason x ≡ None → reason y ≡ None → reason (cond b x y) ≡ None
 clean-if true x y h g = h
@@ -142,6 +146,10 @@ open-clean : (b : Bool) (j : Judgement) → reason j ≡ None → reason (unless
 open-clean true j h = refl
 open-clean false j h = h
 
+erases-clean : (x : Option ℕ) → reason (erases x) ≡ None
+erases-clean None = refl
+erases-clean (Some range) = refl
+
 done-clean : (s : Standing) (object : Uid) (ask : Ask) → reason (does_ask s object ask) ≡ None
 done-clean s object (GetCells a b) = gives-clean (listing s object a b)
 done-clean s object (GetBytes a b) = rows-clean s a (last_row (table_size s) b)
@@ -150,13 +158,15 @@ done-clean s object (SetBytes place content) = makes-clean (to_set s object (Set
 done-clean s object (Authenticate a pin) = refl
 done-clean s object Activate = open-clean s.is_open Activates refl
 done-clean s object Revert = open-clean s.is_open (Reverts (sp_of_row object)) refl
+done-clean s object GenKey = open-clean s.is_open (erases (key_number object)) (erases-clean (key_number object))
+done-clean s object (RevertSp keep) = open-clean s.is_open (reverts_sp s.rows keep) (clean-if (keep && is_wholly_locked s.rows) (Refuses 0x3f None) (RevertsSp keep) refl refl)
 done-clean s object Other = refl
 
 does-clean : (s : Standing) (object : Uid) (ask : Ask) → reason (does s object ask) ≡ None
 does-clean s object ask = done-clean s object (ask_at s.sp object ask)
 
 -- a call of a session
-refused-is : (f : Facts) (act : Act) (why : Why) (session : Begun) (object method : List ℕ) (args : Trees) → IsCall f act session object method args → (x : Option Ask) → asked session.sp (uid_of object) (uid_of method) args ≡ x
+refused-is : (f : Facts) (act : Act) (why : Why) (session : Begun) (object method : List ℕ) (args : Trees) → IsCall f act session object method args → (x : Option Ask) → asked f.config.profile session.sp (uid_of object) (uid_of method) args ≡ x
     → reason (judged (standing f session) (uid_of object) (uid_of method) x) ≡ Some why → IsDenied f act why
 refused-is f act why session object method args c None is h = absurd (nothing h)
 refused-is f act why session object method args c (Some ask) is h = by_denial (denial (standing f session) (uid_of object) (uid_of method) ask) refl h
@@ -173,12 +183,14 @@ attempt-is f act why session object method args c authority pin j (Some failure)
 
 judged-is : (f : Facts) (act : Act) (why : Why) (session : Begun) (object method : List ℕ) (args : Trees) → IsCall f act session object method args → (j : Judgement) → judgement_on f session (uid_of object) (uid_of method) args ≡ j → (outcome_of f.rows session.sp j).denied ≡ Some why → IsDenied f act why
 judged-is f act why session object method args c (Refuses status denied) is h =
-    refused-is f act why session object method args c (asked session.sp (uid_of object) (uid_of method) args) refl (ap reason is ∙ h)
+    refused-is f act why session object method args c (asked f.config.profile session.sp (uid_of object) (uid_of method) args) refl (ap reason is ∙ h)
 judged-is f act why session object method args c (Attempts authority pin) is h = attempt-is f act why session object method args c authority pin is (failure_of f.rows session.sp authority pin) refl h
 judged-is f act why session object method args c (Gives results) is h = absurd (nothing h)
 judged-is f act why session object method args c (Makes change) is h = absurd (nothing h)
 judged-is f act why session object method args c Activates is h = absurd (nothing h)
 judged-is f act why session object method args c (Reverts sp) is h = absurd (nothing h)
+judged-is f act why session object method args c (Erases range) is h = absurd (nothing h)
+judged-is f act why session object method args c (RevertsSp keep) is h = absurd (nothing h)
 
 begun-none : (sp : Sp) (n : ℕ) (x : Option ℕ) → (begins_on sp n x).denied ≡ None
 begun-none sp n None = refl

@@ -6,7 +6,7 @@ use Rattle.sp_cells.specs.Flat.{sp_eq}
 use Rattle.sessions.specs.Live.{Live, session_at, unless_on}
 use Rattle.sessions.specs.Made.{ended_by, LeavesAll}
 use Rattle.history.specs.Events.{Deed, Nothing, InSession, OfQueue, Wrote, Took, WasReset, Event}
-use Rattle.sessions.specs.Deeds.{Unchanged, Started, Tried, Changed, Began, Committed, Aborted, Ended, Activated, Reverted}
+use Rattle.sessions.specs.Deeds.{Unchanged, Started, Tried, Changed, Began, Committed, Aborted, Ended, Activated, Reverted, Erased}
 use Rattle.history.specs.Readers.{is_start, living, restores, starts, gains}
 use Rattle.history.specs.KeptSessions.{KeepsSessions, LivesBy, SessionsOpeningLaw, SessionsLaw}
 use Rattle.history.proofs.KeptSessionsNumbers.{none-apart, none-kept}
@@ -52,11 +52,11 @@ sessions_law past e l m k lives = by_deed e.deed refl lives
         left-kept e past (sp_eq sp) (unless_on sp) l m
         (record { none = refl; some = λ h. ap (λ b. cond b None (Some h)) (sp-flip h.sp sp); turns = λ s. ap (living s) is; starts_none = λ s. ap (starts s) is; gains_none = λ s. ap (gains s) is; is_no_start = ap is_start is })
         k v
-    by_deed (InSession (Reverted Admin wipes) r) is v =
+    by_deed (InSession (Reverted Admin erasure) r) is v =
         left-kept e past (restores Admin) (ended_by Admin) l m
         (record { none = refl; some = λ h. refl; turns = λ s. ap (living s) is; starts_none = λ s. ap (starts s) is; gains_none = λ s. ap (gains s) is; is_no_start = ap is_start is })
         k v
-    by_deed (InSession (Reverted Locking wipes) r) is v =
+    by_deed (InSession (Reverted Locking erasure) r) is v =
         left-kept e past (restores Locking) (ended_by Locking) l m
         (record { none = refl; some = λ h. ap (λ b. cond b None (Some h)) (sp-flip h.sp Locking); turns = λ s. ap (living s) is; starts_none = λ s. ap (starts s) is; gains_none = λ s. ap (gains s) is; is_no_start = ap is_start is })
         k v
@@ -70,6 +70,7 @@ sessions_law past e l m k lives = by_deed e.deed refl lives
     by_deed (InSession (Committed sp) r) is v = spared-kept e past l m (InSession (Committed sp) r) is (record { turns = λ s. refl; starts_none = λ s. refl; gains_none = λ s. refl; is_no_start = refl }) k v
     by_deed (InSession (Aborted sp) r) is v = spared-kept e past l m (InSession (Aborted sp) r) is (record { turns = λ s. refl; starts_none = λ s. refl; gains_none = λ s. refl; is_no_start = refl }) k v
     by_deed (InSession (Activated pin) r) is v = spared-kept e past l m (InSession (Activated pin) r) is (record { turns = λ s. refl; starts_none = λ s. refl; gains_none = λ s. refl; is_no_start = refl }) k v
+    by_deed (InSession (Erased erasure) r) is v = spared-kept e past l m (InSession (Erased erasure) r) is (record { turns = λ s. refl; starts_none = λ s. refl; gains_none = λ s. refl; is_no_start = refl }) k v
     by_deed Nothing is v = spared-kept e past l m Nothing is (record { turns = λ s. refl; starts_none = λ s. refl; gains_none = λ s. refl; is_no_start = refl }) k v
     by_deed (OfQueue deed) is v = spared-kept e past l m (OfQueue deed) is (record { turns = λ s. refl; starts_none = λ s. refl; gains_none = λ s. refl; is_no_start = refl }) k v
     by_deed (Wrote lba bytes) is v = spared-kept e past l m (Wrote lba bytes) is (record { turns = λ s. refl; starts_none = λ s. refl; gains_none = λ s. refl; is_no_start = refl }) k v

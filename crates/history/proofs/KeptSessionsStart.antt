@@ -23,7 +23,8 @@ use Rattle.sessions.specs.Gains.{first_held}
 use Rattle.sessions.specs.Live.{Holder, Live, session_at, lives_on, AreNumbered}
 use Rattle.sessions.specs.Starts.{opening_of, sp_named, is_in_use, is_full, opening_verdict_on, verdict, host_of, reply_to, denied_with, stored_by, stored_with, begun_by, begun_with, next_by}
 use Rattle.history.specs.Opening.{Origin}
-use Rattle.sessions.specs.Deeds.{Begun, wipes_by}
+use Rattle.shadow_mbr.specs.Erasure.{no_sectors}
+use Rattle.sessions.specs.Deeds.{Begun, erased_by}
 use Rattle.history.specs.Events.{Event}
 use Rattle.history.specs.Readers.{session_on}
 use Rattle.history.specs.Facts.{Facts, facts, numbered, live}
@@ -192,16 +193,16 @@ lives-with f com_id look l m rows next (Some opening) verdicts after points =
     subst (λ v. LivesAs (deed_of_start f com_id opening v) l m) verdicts
     (lives-by f com_id opening look l m rows next (verdict look l (Some opening)) (λ sp g is. free-by look l opening sp g (sp_named opening.spid) is) after points)
 
--- No StartSession wipes.
+-- No StartSession erases.
 
-wipes-by : (f : Facts) (com_id : ℕ) (opening : Opening) (v : StartVerdict) → false ≡ wipes_by (deed_of_start f com_id opening v)
-wipes-by f com_id opening (Refused status) = refl
-wipes-by f com_id opening (Attempted sp None) = refl
-wipes-by f com_id opening (Attempted sp (Some failure)) = refl
+erases-by : (f : Facts) (com_id : ℕ) (opening : Opening) (v : StartVerdict) → no_sectors ≡ erased_by (deed_of_start f com_id opening v)
+erases-by f com_id opening (Refused status) = refl
+erases-by f com_id opening (Attempted sp None) = refl
+erases-by f com_id opening (Attempted sp (Some failure)) = refl
 
-wipes-with : (f : Facts) (com_id : ℕ) (x : Option Opening) → false ≡ wipes_by (start_deed f com_id x)
-wipes-with f com_id None = refl
-wipes-with f com_id (Some opening) = wipes-by f com_id opening (start_verdict f (Some opening))
+erases-with : (f : Facts) (com_id : ℕ) (x : Option Opening) → no_sectors ≡ erased_by (start_deed f com_id x)
+erases-with f com_id None = refl
+erases-with f com_id (Some opening) = erases-by f com_id opening (start_verdict f (Some opening))
 
 pub start_law : StartLaw
 start_law o past s l m com_id args store k are after points =
@@ -212,7 +213,7 @@ start_law o past s l m com_id args store k are after points =
     record {
       answer = ap (λ n. reply_to (host_of args) n (verdict (rows_in_force s) l x)) k.next ∙ ap (reply_to (host_of args) f.next_number) verdicts;
       denied = ap (denied_with x) verdicts;
-      wipe = wipes-with f com_id x;
+      erases = erases-with f com_id x;
       store = store-with f com_id s l rows x verdicts;
       sessions = lives-with f com_id (rows_in_force s) l m rows k.next x verdicts after points;
     }

@@ -28,7 +28,8 @@ use Rattle.transactions.specs.Bytes.{blank}
 use Rattle.transactions.specs.Stored.{Transaction, Part, Stored, part, at_part, part_begin, part_commit, part_close, part_tries, part_put, part_from, reverted, after_reset}
 use Rattle.transactions.specs.Sights.{activated_with, with_pin}
 use Rattle.sessions.specs.Answers.{rows_in_force, up}
-use Rattle.sessions.specs.Deeds.{Setting, cells_set, bytes_set, Sets, Restores, Resets, Begun, Attempt, Unchanged, Started, Tried, Changed, Began, Committed, Aborted, Ended, Activated, Reverted}
+use Rattle.shadow_mbr.specs.declared.erasure.Erasure.{Erasure}
+use Rattle.sessions.specs.Deeds.{Setting, cells_set, bytes_set, Sets, Restores, Resets, Begun, Attempt, Unchanged, Started, Tried, Changed, Began, Committed, Aborted, Ended, Activated, Reverted, Erased}
 use Rattle.sessions.specs.Made.{part_with, StoresChange, with_count, CanSet}
 use Rattle.history.specs.Opening.{Origin, factory_origin}
 use Rattle.history.specs.Changes.{byte_in, reset_rows}
@@ -258,11 +259,11 @@ locking-bytes : (s : Stored) (o : Origin) (e : Event) (past : List Event) → Ke
 locking-bytes s o e past h bring =
     closed-bytes (part_from (new_locking s.config) (blank s.locking.bytes)) o (e ∷ past) (Restores ∷ changes past Locking) refl (ap (λ cs. cs ++ changes past Locking) bring) (blank-length s.locking.bytes ∙ h.bytes.size) (λ place. blank-at s.locking.bytes place)
 
-reverted-kept : (s : Stored) (o : Origin) (past : List Event) (x : Option ℕ) (w : Option Why) (sp : Sp) (wipes : Bool) (r : Response) → KeepsStore s o past → KeepsStore (reverted sp s) o (doing x w (InSession (Reverted sp wipes) r) ∷ past)
-reverted-kept s o past x w Admin wipes r h = record { config = h.config; known = h.known; parts = parts; bytes = locking-bytes s o e past h refl }
+reverted-kept : (s : Stored) (o : Origin) (past : List Event) (x : Option ℕ) (w : Option Why) (sp : Sp) (erasure : Erasure) (r : Response) → KeepsStore s o past → KeepsStore (reverted sp s) o (doing x w (InSession (Reverted sp erasure) r) ∷ past)
+reverted-kept s o past x w Admin erasure r h = record { config = h.config; known = h.known; parts = parts; bytes = locking-bytes s o e past h refl }
   where
     e : Event
-    e = doing x w (InSession (Reverted Admin wipes) r)
+    e = doing x w (InSession (Reverted Admin erasure) r)
 
     parts : (sp : Sp) → KeepsPart (part (reverted Admin s) sp) o (e ∷ past) sp
     parts Admin =
@@ -270,10 +271,10 @@ reverted-kept s o past x w Admin wipes r h = record { config = h.config; known =
         (rows-by o e past Admin (Restores ∷ []) refl ∙ new-rows o h.known Admin ∙ ap (λ (c : Config). item_at (new_admin c)) (sym h.config))
         (λ u. refl) (factory-clean s.config Admin)
     parts Locking = locking-part s o e past h refl refl (λ u. refl)
-reverted-kept s o past x w Locking wipes r h = record { config = h.config; known = h.known; parts = parts; bytes = locking-bytes s o e past h refl }
+reverted-kept s o past x w Locking erasure r h = record { config = h.config; known = h.known; parts = parts; bytes = locking-bytes s o e past h refl }
   where
     e : Event
-    e = doing x w (InSession (Reverted Locking wipes) r)
+    e = doing x w (InSession (Reverted Locking erasure) r)
 
     parts : (sp : Sp) → KeepsPart (part (reverted Locking s) sp) o (e ∷ past) sp
     parts Admin = put-part s.admin locking_sp life_cycle_state_column (Number manufactured_inactive) o e past Admin (h.parts Admin) (turned Admin e past None refl) (rows-by o e past Admin _ refl) (λ u. refl)
@@ -322,7 +323,8 @@ deed-kept s t o past x w (InSession (Aborted Locking) r) h by = keep-as _ t o _ 
 deed-kept s t o past x w (InSession (Ended Admin) r) h by = keep-as _ t o _ by (closed-kept s o (doing x w (InSession (Ended Admin) r)) past Admin h refl refl (λ u. refl) (record { turn = refl; start = refl; change = refl; bring = refl }) (λ u. refl))
 deed-kept s t o past x w (InSession (Ended Locking) r) h by = keep-as _ t o _ by (closed-kept s o (doing x w (InSession (Ended Locking) r)) past Locking h refl refl (λ u. refl) (record { turn = refl; start = refl; change = refl; bring = refl }) (λ u. refl))
 deed-kept s t o past x w (InSession (Activated pin) r) h by = keep-as _ t o _ by (activated-kept s o past x w pin r h)
-deed-kept s t o past x w (InSession (Reverted sp wipes) r) h by = keep-as _ t o _ by (reverted-kept s o past x w sp wipes r h)
+deed-kept s t o past x w (InSession (Reverted sp erasure) r) h by = keep-as _ t o _ by (reverted-kept s o past x w sp erasure r h)
+deed-kept s t o past x w (InSession (Erased erasure) r) h by = keep-as s t o _ by (left s o (doing x w (InSession (Erased erasure) r)) past h (λ sp. record { turn = refl; start = refl; change = refl; bring = refl }) (λ sp u. refl))
 deed-kept s t o past x w (WasReset kind) h by = keep-as _ t o _ by (reset-kept s o past x w kind h)
 
 pub store_law : StoreLaw

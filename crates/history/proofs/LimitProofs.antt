@@ -14,7 +14,7 @@ use Rattle.call_shapes.specs.Asks.{uid_of}
 use Rattle.sessions.specs.Deeds.{Begun, SessionDeed, Unchanged, Tried, Activated, Outcome, says}
 use Rattle.call_shapes.specs.Statuses.{fail}
 use Rattle.sessions.specs.Properties.{properties_message}
-use Rattle.methods.specs.Judgement.{Judgement, Refuses, Gives, Makes, Attempts, Activates, Reverts}
+use Rattle.methods.specs.Judgement.{Judgement, Refuses, Gives, Makes, Attempts, Activates, Reverts, Erases, RevertsSp}
 use Rattle.sessions.specs.declared.opening.Opening.{Opening}
 use Rattle.sessions.specs.declared.opening.StartVerdict.{StartVerdict}
 use Rattle.sessions.specs.declared.opening.StartVerdict.TheVariants.{Refused, Attempted}
@@ -100,6 +100,8 @@ judged-below f sp Activates = by_state (is_in_use f.rows Locking)
     by_state true = tt
     by_state false = tt
 judged-below f sp (Reverts r) = tt
+judged-below f sp (Erases range) = tt
+judged-below f sp (RevertsSp keep) = tt
 
 begun-below : (f : Facts) (sp : Sp) (n : ℕ) (x : Option ℕ) → Below f (begins_on sp n x).deed
 begun-below f sp n None = tt

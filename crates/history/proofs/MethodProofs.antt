@@ -25,12 +25,12 @@ use Rattle.tcg_tokens.specs.Tree.{Tree}
 use Rattle.trusted_cmds.specs.declared.command.Command.{Command}
 use Rattle.trusted_cmds.specs.declared.command.Command.TheVariants.{Send}
 use Rattle.call_shapes.specs.declared.ask.Ask.{Ask}
-use Rattle.call_shapes.specs.declared.ask.Ask.TheVariants.{GetCells, GetBytes, SetCells, SetBytes, Authenticate, Activate, Revert, Other}
+use Rattle.call_shapes.specs.declared.ask.Ask.TheVariants.{GetCells, GetBytes, SetCells, SetBytes, Authenticate, Activate, Revert, GenKey, RevertSp, Other}
 use Rattle.std.specs.Option.{option_or}
 use Rattle.methods.specs.Grants.{why_denied, unless_allowed, denial as denial_of, wanted, first_some}
 use Rattle.methods.specs.Laws.{EachHasAce, IsGranted, takes_effect}
 use Rattle.methods.proofs.GrantLaws.{grant_law as grants, effect_law as judges}
-use Rattle.methods.specs.Judgement.{Standing, Judgement, Refuses, Gives, Makes, Attempts, Activates, Reverts, denial, does, unless_denied, judged}
+use Rattle.methods.specs.Judgement.{Standing, Judgement, Refuses, Gives, Makes, Attempts, Activates, Reverts, Erases, RevertsSp, denial, does, unless_denied, judged}
 use Rattle.history.specs.Events.{Event, Nothing, did, WasReset}
 use Rattle.history.specs.Items.{Items}
 use Rattle.history.specs.Facts.{Facts, standing, session_named}
@@ -77,6 +77,8 @@ granted-row s object method (SetBytes a b) h = first-row s object method (None �
 granted-row s object method (Authenticate a b) h = first-row s object method (None ∷ []) None [] refl h
 granted-row s object method Activate h = first-row s object method (None ∷ []) None [] refl h
 granted-row s object method Revert h = first-row s object method (None ∷ []) None [] refl h
+granted-row s object method GenKey h = first-row s object method (None ∷ []) None [] refl h
+granted-row s object method (RevertSp keep) h = first-row s object method (None ∷ []) None [] refl h
 granted-row s object method Other h = first-row s object method (None ∷ []) None [] refl h
 
 -- what is looked at
@@ -170,6 +172,8 @@ effect-reason f sp (Makes change) h = refl
 effect-reason f sp (Attempts authority pin) h = tried-reason f sp authority (failure_of f.rows sp authority pin)
 effect-reason f sp Activates h = refl
 effect-reason f sp (Reverts r) h = refl
+effect-reason f sp (Erases range) h = refl
+effect-reason f sp (RevertsSp keep) h = refl
 
 effect-back : (f : Facts) (session : Begun) (object method : Uid) (ask : Ask) (d : Option Why) → denial (standing f session) object method ask ≡ d → takes_effect (does (standing f session) object ask) ≡ true
     → (outcome_of f.rows session.sp (unless_denied d (does (standing f session) object ask))).denied ≡ (outcome_of f.rows session.sp (does (standing f session) object ask)).denied → IsGranted (standing f session) object method ask

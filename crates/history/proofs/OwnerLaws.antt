@@ -18,13 +18,13 @@ use Rattle.sp_tables.specs.Looks.{RowLook, put_in, puts_in}
 use Rattle.sp_cells.specs.declared.names.TheConstants.{RANGES}
 use Rattle.sp_tables.specs.AtReset.{has_kind}
 use Rattle.transactions.specs.Resets.{is_range, locks_seen}
-use Rattle.sessions.specs.Deeds.{cells_set, bytes_set, Change, Sets, Restores, Resets, Begun, SessionDeed, Unchanged, Started, Tried, Changed, Began, Committed, Aborted, Ended, Activated, Reverted}
+use Rattle.sessions.specs.Deeds.{cells_set, bytes_set, Change, Sets, Restores, Resets, Begun, SessionDeed, Unchanged, Started, Tried, Changed, Began, Committed, Aborted, Ended, Activated, Reverted, Erased}
 use Rattle.history.specs.Changes.{reset_rows, apply, apply_all}
 use Rattle.sessions.specs.Starts.{is_in_use}
 use Rattle.history.specs.Events.{Response, Deed, Nothing, InSession, OfQueue, Wrote, Took, WasReset, Event}
 use Rattle.history.specs.Readers.{restores, living, session_on, open_on, is_of, in_force, turns, begins, changes_on, own_changes, if_open, open_changes, only_on, unless_any_open, brought, changes, factory_rows}
 use Rattle.history.specs.History.{Act, event, log}
-use Rattle.history.specs.Deeds.{IsNew, is_set_in_admin, is_of_row, Begins, Changes, IsOutside, CanDo, OwnerLaw, LifeLaw, ActivateLaw, RevertLaw}
+use Rattle.history.specs.Deeds.{IsNew, is_set_in_admin, is_of_row, Begins, Changes, IsOutside, IsRevert, IsRevertSp, CanDo, OwnerLaw, LifeLaw, ActivateLaw, RevertLaw}
 use Rattle.history.proofs.Words.{latest-here, latest-skip, sp-is}
 use Rattle.history.proofs.Emptied.{every-since-more, closed}
 use Rattle.history.proofs.DeedLaws.{deed_law}
@@ -63,6 +63,7 @@ began-is sp (InSession (Tried attempt) r) n h = cc
 began-is sp (InSession (Changed s c) r) n h = cc
 began-is sp (InSession (Activated pin) r) n h = cc
 began-is sp (InSession (Reverted s w) r) n h = cc
+began-is sp (InSession (Erased w) r) n h = cc
 began-is sp Nothing n h = cc
 began-is sp (OfQueue d) n h = cc
 began-is sp (Wrote lba bytes) n h = cc
@@ -97,6 +98,7 @@ start-is sp (InSession (Began s n) r) x h g = cc
 start-is sp (InSession (Committed s) r) x h g = cc
 start-is sp (InSession (Aborted s) r) x h g = cc
 start-is sp (InSession (Activated pin) r) x h g = cc
+start-is sp (InSession (Erased w) r) x h g = cc
 start-is sp Nothing x h g = cc
 start-is sp (OfQueue d) x h g = cc
 start-is sp (Wrote lba bytes) x h g = cc
@@ -127,6 +129,7 @@ begun-is sp (InSession (Began t n) r) s h = cc
 begun-is sp (InSession (Committed t) r) s h = cc
 begun-is sp (InSession (Aborted t) r) s h = cc
 begun-is sp (InSession (Activated pin) r) s h = cc
+begun-is sp (InSession (Erased w) r) s h = cc
 begun-is sp Nothing s h = cc
 begun-is sp (OfQueue d) s h = cc
 begun-is sp (Wrote lba bytes) s h = cc
@@ -161,6 +164,7 @@ changed-is sp (InSession (Aborted s) r) c h = cc
 changed-is sp (InSession (Ended s) r) c h = cc
 changed-is sp (InSession (Activated pin) r) c h = cc
 changed-is sp (InSession (Reverted s w) r) c h = cc
+changed-is sp (InSession (Erased w) r) c h = cc
 changed-is sp Nothing c h = cc
 changed-is sp (OfQueue d) c h = cc
 changed-is sp (Wrote lba bytes) c h = cc
@@ -296,6 +300,7 @@ brought-spare o es (InSession (Tried attempt) r) can own h = refl
 brought-spare o es (InSession (Began s n) r) can own h = refl
 brought-spare o es (InSession (Aborted s) r) can own h = refl
 brought-spare o es (InSession (Ended s) r) can own h = refl
+brought-spare o es (InSession (Erased w) r) can own h = refl
 brought-spare o es (InSession (Activated pin) r) can own h = cc
 brought-spare o es (InSession (Reverted s w) r) can own h = cc
 brought-spare o es Nothing can own h = refl
@@ -317,6 +322,7 @@ activation-is (InSession (Began s n) r) h = cc
 activation-is (InSession (Committed s) r) h = cc
 activation-is (InSession (Aborted s) r) h = cc
 activation-is (InSession (Ended s) r) h = cc
+activation-is (InSession (Erased w) r) h = cc
 activation-is Nothing h = cc
 activation-is (OfQueue d) h = cc
 activation-is (Wrote lba bytes) h = cc
@@ -389,7 +395,7 @@ none-open o acts sp s h g = by_open (open_on (log o acts) sp) refl
 pub activate_law : ActivateLaw
 activate_law o acts act pin r is sp = by_sp sp
   where
-    can : IsOutside (log o acts) × (is_in_use (in_force o (log o acts)) Locking ≡ false)
+    can : IsOutside (log o acts) Admin × (is_in_use (in_force o (log o acts)) Locking ≡ false)
     can = deed_law o (log o acts) act (Activated pin) r is
 
     by_locking : (x : Option ℕ) → open_on (log o acts) Locking ≡ x → open_on (log o acts) Locking ≡ None
@@ -401,11 +407,24 @@ activate_law o acts act pin r is sp = by_sp sp
     by_sp Locking = by_locking (open_on (log o acts) Locking) refl
 
 pub revert_law : RevertLaw
-revert_law o acts act sp w r is = (none-open o acts Admin can.session can.lives.lives can.outside, ended sp is)
+revert_law o acts act sp w r is = (by_can can, closes, ended sp is)
   where
-    can : IsOutside (log o acts)
-    can = deed_law o (log o acts) act (Reverted sp w) r is
+    past : List Event
+    past = log o acts
 
-    ended : (s : Sp) → (event o (log o acts) act).deed ≡ InSession (Reverted s w) r → session_on (event o (log o acts) act ∷ log o acts) Locking ≡ None
-    ended Admin h = ap (λ x. unwrap_or x None) (latest-here (living Locking) (event o (log o acts) act) (log o acts) None (ap (living Locking) h))
-    ended Locking h = ap (λ x. unwrap_or x None) (latest-here (living Locking) (event o (log o acts) act) (log o acts) None (ap (living Locking) h))
+    e : Event
+    e = event o past act
+
+    can : IsRevert o past w ⊎ IsRevertSp o past sp w
+    can = deed_law o past act (Reverted sp w) r is
+
+    by_can : IsRevert o past w ⊎ IsRevertSp o past sp w → (IsRevert o past w × (open_on past Admin ≡ None)) ⊎ (IsRevertSp o past sp w × (open_on past Locking ≡ None))
+    by_can (inl a) = inl (a, none-open o acts Admin a.outside.session a.outside.lives.lives a.outside.outside)
+    by_can (inr b) = inr (b, none-open o acts Locking b.outside.session b.outside.lives.lives b.outside.outside)
+
+    closes : (s : Sp) → open_on (e ∷ past) s ≡ None
+    closes s = ap (λ x. unwrap_or x None) (latest-here (turns s) e past None (ap (turns s) is))
+
+    ended : (s : Sp) → e.deed ≡ InSession (Reverted s w) r → session_on (e ∷ past) Locking ≡ None
+    ended Admin h = ap (λ x. unwrap_or x None) (latest-here (living Locking) e past None (ap (living Locking) h))
+    ended Locking h = ap (λ x. unwrap_or x None) (latest-here (living Locking) e past None (ap (living Locking) h))

@@ -27,7 +27,9 @@ use Rattle.history.specs.Facts.{Facts, facts, session_named}
 use Rattle.history.specs.Decisions.{aborted, not_found, fails, refuses, fails_queue, on_drive, verdict_on, queued_by, queued_transfer, admitted, unqueued_by, unqueued_transfer, is_trusted, is_session_com_id, discovery_com_id, received, while_failed, is_busy, completed_by, completed, resets, is_received}
 use Rattle.history.specs.Tcg.{answers, to_manager, is_manager, to_session, framed, sent, unqueued, known, commanded, tcg, command_read}
 use Rattle.history.specs.History.{Act, Accept, Complete, Reset, event_by, log}
-use Rattle.history.specs.Readers.{part_of, wipes, writing, sector}
+use Rattle.shadow_mbr.specs.Erasure.{is_erased}
+use Rattle.sessions.specs.Deeds.{erased_by}
+use Rattle.history.specs.Readers.{part_of, writing, sector}
 use Rattle.history.specs.Bounds.{IsFed, SectorLaw}
 use Rattle.std.proofs.lemmas.Bool.Decides.{nat_tests}
 use Rattle.shadow_mbr.specs.Stored.{zeros}
@@ -245,10 +247,9 @@ left place here past = unwrap_or (or_else here (latest (writing place) past)) ze
 left-none : (place : ℕ) (past : List Event) (x : Option (List ℕ)) → x ≡ None → sector past place ≡ zeros → left place x past ≡ zeros
 left-none place past x is rest = ap (λ y. left place y past) is ∙ rest
 
-wiped : (place : ℕ) (past : List Event) (d : SessionDeed) → sector past place ≡ zeros → left place (wipes d) past ≡ zeros
-wiped place past (Reverted s true) rest = refl
-wiped place past (Reverted s false) rest = rest
-wiped place past _ rest = rest
+erased-left : (place : ℕ) (past : List Event) (b : Bool) → sector past place ≡ zeros → left place (cond b (Some zeros) None) past ≡ zeros
+erased-left place past true rest = refl
+erased-left place past false rest = rest
 
 true-false : true ≡ false → ⊥
 true-false h = cc
@@ -263,7 +264,7 @@ queue-left place past QueueMended h rest = rest
 deed-left : (f : Facts) (act : Act) (place : ℕ) (past : List Event) (d : Deed) → IsFed f act → f.config.sectors ≤ place → (event_by f act).deed ≡ d → quiet d ≡ true → sector past place ≡ zeros → left place (writing place d) past ≡ zeros
 deed-left f act place past (Wrote lba bytes) fed le is h rest = left-none place past (part_of place lba bytes) (wrote-none f act place lba bytes fed le is) rest
 deed-left f act place past (OfQueue d) fed le is h rest = queue-left place past d h rest
-deed-left f act place past (InSession d r) fed le is h rest = wiped place past d rest
+deed-left f act place past (InSession d r) fed le is h rest = erased-left place past (is_erased (erased_by d) place) rest
 deed-left f act place past Nothing fed le is h rest = rest
 deed-left f act place past (Took c) fed le is h rest = rest
 deed-left f act place past (WasReset kind) fed le is h rest = rest

@@ -11,6 +11,7 @@ use Rattle.std.specs.List.{flat_map}
 use Rattle.sp_cells.specs.Flat.{sp_eq}
 use Rattle.sp_cells.specs.declared.names.Uid.{Uid}
 use Rattle.sp_cells.specs.ColumnNames.{life_cycle_state_column, pin_column}
+use Rattle.shadow_mbr.specs.declared.erasure.Erasure.{Erasure}
 use Rattle.sessions.specs.Deeds.{Begun, Change, Restores, Attempt, Started, Tried, Changed, Began, Committed, Aborted, Ended, Activated, Reverted}
 use Rattle.history.specs.Opening.{Origin}
 use Rattle.sp_tables.specs.Looks.{RowLook, puts_in}
@@ -94,11 +95,11 @@ pub activated : (o : Origin) (e : Event) (es : List Event) (pin : Cell) (r : Res
 activated o e es pin r is = (rows-by o e es Admin _ (ap (brought es Admin) is), rows-by o e es Locking _ (ap (brought es Locking) is))
 
 -- a Revert of the Locking SP, and of the Admin SP
-pub reverted-locking : (o : Origin) (e : Event) (es : List Event) (w : Bool) (r : Response) → e.deed ≡ InSession (Reverted Locking w) r
+pub reverted-locking : (o : Origin) (e : Event) (es : List Event) (w : Erasure) (r : Response) → e.deed ≡ InSession (Reverted Locking w) r
     → (rows_after o (e ∷ es) Admin ≡ puts_in locking_sp ((life_cycle_state_column, Number manufactured_inactive) ∷ []) (rows_after o es Admin)) × (rows_after o (e ∷ es) Locking ≡ factory_rows o Locking)
 reverted-locking o e es w r is = (rows-by o e es Admin _ (ap (brought es Admin) is), rows-by o e es Locking (Restores ∷ []) (ap (brought es Locking) is))
 
-pub reverted-admin : (o : Origin) (e : Event) (es : List Event) (w : Bool) (r : Response) (s : Sp) → e.deed ≡ InSession (Reverted Admin w) r → rows_after o (e ∷ es) s ≡ factory_rows o s
+pub reverted-admin : (o : Origin) (e : Event) (es : List Event) (w : Erasure) (r : Response) (s : Sp) → e.deed ≡ InSession (Reverted Admin w) r → rows_after o (e ∷ es) s ≡ factory_rows o s
 reverted-admin o e es w r s is = rows-by o e es s (Restores ∷ []) (ap (brought es s) is)
 
 -- a reset

@@ -1,13 +1,16 @@
 -- Which deed an item can do after a past: a law over every act. And with it, when no transaction
 -- can be open.
-use Rattle.std.specs.Prelude.{◌≡◌, ◌==◌, ◌||◌, ℕ, Bool, true, false, List, ◌∷◌, Option, Some, None}
+use Rattle.std.specs.Prelude.{◌≡◌, ◌⊎◌, ◌==◌, ◌||◌, ℕ, Bool, true, false, List, ◌∷◌, Option, Some, None}
 use Rattle.sp_cells.specs.declared.names.Sp.{Sp}
 use Rattle.sp_cells.specs.declared.names.Sp.TheVariants.{Admin, Locking}
 use Rattle.sp_cells.specs.Names.{c_pin_sid, tper_info}
 use Rattle.sp_cells.specs.declared.names.Uid.{Uid}
 use Rattle.sp_cells.specs.declared.cells.Cell.{Cell}
+use Rattle.basics.specs.declared.profile.Profile.TheVariants.{Field}
+use Rattle.shadow_mbr.specs.declared.erasure.Erasure.{Erasure}
+use Rattle.methods.specs.Erasures.{erased_by_revert, erased_by_key, erased_by_revert_sp, is_wholly_locked}
 use Rattle.history.specs.Opening.{Origin}
-use Rattle.sessions.specs.Deeds.{cells_set, bytes_set, Change, Sets, Restores, Resets, Begun, SessionDeed, Unchanged, Started, Tried, Changed, Began, Committed, Aborted, Ended, Activated, Reverted}
+use Rattle.sessions.specs.Deeds.{cells_set, bytes_set, Change, Sets, Restores, Resets, Begun, SessionDeed, Unchanged, Started, Tried, Changed, Began, Committed, Aborted, Ended, Activated, Reverted, Erased}
 use Rattle.sessions.specs.Made.{is_within}
 use Rattle.sessions.specs.Starts.{is_in_use}
 use Rattle.history.specs.Events.{Response, InSession, Event}
@@ -36,11 +39,33 @@ pub record Closes (past : List Event) (sp : Sp) : Type 0 where
   pub lives : IsIn past sp session
   pub own : is_of session.number (open_on past sp) ≡ true
 
--- A session of the Admin SP that has no transaction open.
-pub record IsOutside (past : List Event) : Type 0 where
+-- A session of an SP that has no transaction open.
+pub record IsOutside (past : List Event) (sp : Sp) : Type 0 where
   pub session : Begun
-  pub lives : IsIn past Admin session
-  pub outside : is_of session.number (open_on past Admin) ≡ false
+  pub lives : IsIn past sp session
+  pub outside : is_of session.number (open_on past sp) ≡ false
+
+-- A Revert: of a session of the Admin SP.
+pub record IsRevert (o : Origin) (past : List Event) (erasure : Erasure) : Type 0 where
+  pub outside : IsOutside past Admin
+  pub erases : erasure ≡ erased_by_revert (in_force o past)
+
+-- A RevertSP: of a session of the Locking SP, which it reverts, under the field profile. The ranges
+-- that it erases are those before it, and it keeps no global range that is locked both ways.
+pub record IsRevertSp (o : Origin) (past : List Event) (sp : Sp) (erasure : Erasure) : Type 0 where
+  pub outside : IsOutside past Locking
+  pub profile : o.tables.config.profile ≡ Field
+  pub reverts : sp ≡ Locking
+  pub keep : Bool
+  pub erases : erasure ≡ erased_by_revert_sp (in_force o past) keep
+  pub unlocked : keep ≡ true → is_wholly_locked (in_force o past) ≡ false
+
+-- A GenKey, of a session of the Locking SP, under the field profile.
+pub record IsNewKey (o : Origin) (past : List Event) (erasure : Erasure) : Type 0 where
+  pub outside : IsOutside past Locking
+  pub profile : o.tables.config.profile ≡ Field
+  pub range : ℕ
+  pub erases : erasure ≡ erased_by_key (in_force o past) range
 
 -- The objects of the Admin SP that a Set changes: SID's PIN, and what lets a command reset the drive.
 abbrev pub is_set_in_admin : Uid → Bool
@@ -78,8 +103,10 @@ CanDo o past (Began sp number) = Begins past sp number
 CanDo o past (Committed sp) = Closes past sp
 CanDo o past (Aborted sp) = Closes past sp
 CanDo o past (Ended sp) = (session : Begun) × IsIn past sp session
-CanDo o past (Activated pin) = IsOutside past × (is_in_use (in_force o past) Locking ≡ false)
-CanDo o past (Reverted sp wipes) = IsOutside past
+CanDo o past (Activated pin) = IsOutside past Admin
+    × (is_in_use (in_force o past) Locking ≡ false)
+CanDo o past (Reverted sp erasure) = IsRevert o past erasure ⊎ IsRevertSp o past sp erasure
+CanDo o past (Erased erasure) = IsNewKey o past erasure
 
 abbrev pub DeedLaw : Type 0
 DeedLaw =
@@ -106,11 +133,15 @@ ActivateLaw =
     → (event o (log o acts) act).deed ≡ InSession (Activated pin) response
     → (sp : Sp) → open_on (log o acts) sp ≡ None
 
--- At a Revert none is open on the Admin SP: so none but that of a session of the Locking SP, which
--- the Revert ends.
+-- At a Revert none is open on the Admin SP, so none but that of a session of the Locking SP, which the
+-- Revert ends; at a RevertSP none is open on the Locking SP, so none but that of a session of the Admin
+-- SP. After either none is open, and no session of the Locking SP lives.
 abbrev pub RevertLaw : Type 0
 RevertLaw =
-    (o : Origin) (acts : List Act) (act : Act) (sp : Sp) (wipes : Bool) (response : Response)
-    → (event o (log o acts) act).deed ≡ InSession (Reverted sp wipes) response
-    → (open_on (log o acts) Admin ≡ None)
+    (o : Origin) (acts : List Act) (act : Act) (sp : Sp) (erasure : Erasure)
+    (response : Response)
+    → (event o (log o acts) act).deed ≡ InSession (Reverted sp erasure) response
+    → ((IsRevert o (log o acts) erasure × (open_on (log o acts) Admin ≡ None))
+    ⊎ (IsRevertSp o (log o acts) sp erasure × (open_on (log o acts) Locking ≡ None)))
+    × ((any : Sp) → open_on (event o (log o acts) act ∷ log o acts) any ≡ None)
     × (session_on (event o (log o acts) act ∷ log o acts) Locking ≡ None)

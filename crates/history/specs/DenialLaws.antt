@@ -63,7 +63,7 @@ pub record MethodDenied (f : Facts) (act : Act) (why : Why) : Type 0 where
   pub args : Trees
   pub called : IsCall f act session object method args
   pub ask : Ask
-  pub shaped : asked session.sp (uid_of object) (uid_of method) args ≡ Some ask
+  pub shaped : asked f.config.profile session.sp (uid_of object) (uid_of method) args ≡ Some ask
   pub denial : denial (standing f session) (uid_of object) (uid_of method) ask ≡ Some why
 
 -- An attempt in a session that fails.

@@ -1,6 +1,6 @@
 -- What an act turned out to do, and the words by which a list of events is read. The newest event
 -- comes first. A deed names its SP, and records what it did: the session as it began, the PIN that
--- an Activate copied, whether media were wiped, the bytes of a response.
+-- an Activate copied, which sectors were erased, the bytes of a response.
 use Rattle.std.specs.Prelude.{ℕ, ◌+◌, Bool, List, [], ◌∷◌, ◌++◌, Option, Some, None, option_to_list, if◌then◌else◌}
 use Rattle.audit.specs.declared.reason.Why.{Why}
 use Rattle.trusted_cmds.specs.declared.command.Command.{Command}

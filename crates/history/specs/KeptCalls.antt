@@ -1,10 +1,11 @@
 -- What comes of an item, by what is kept, is what comes of it by the past: its answer, and what it
 -- makes of the store and of the sessions.
-use Rattle.std.specs.Prelude.{◌≡◌, ℕ, false, List, Some}
+use Rattle.std.specs.Prelude.{◌≡◌, ℕ, List, Some}
 use Rattle.sp_cells.specs.declared.names.Uid.{Uid}
 use Rattle.tcg_tokens.specs.Tree.{Tree, Trees}
 use Rattle.call_shapes.specs.Named.{values_of}
 use Rattle.transactions.specs.Stored.{Stored}
+use Rattle.shadow_mbr.specs.Erasure.{no_sectors}
 use Rattle.sessions.specs.Live.{Live, session_at, AreNumbered}
 use Rattle.sessions.specs.Starts.{start_reply, start_denied, start_stored, start_at, start_next}
 use Rattle.methods.specs.Calls.{judged_with, outcome_of, outcome_in}
@@ -37,5 +38,5 @@ StartLaw =
     → m.next ≡ start_next s l args
     → ((n : ℕ) → session_at m n ≡ start_at s l com_id args n)
     → Meets (started (facts o past) com_id args)
-    (start_reply s l args) (start_denied s l args) false
+    (start_reply s l args) (start_denied s l args) no_sectors
     s (start_stored s l args) l m

@@ -58,7 +58,7 @@ abbrev pub ActEffectLaw : Type 0
 ActEffectLaw =
     (f : Facts) (act : Act) (session : Begun) (object method : List ℕ) (args : Trees)
     (c : IsCall f act session object method args) (ask : Ask)
-    → asked session.sp (uid_of object) (uid_of method) args ≡ Some ask
+    → asked f.config.profile session.sp (uid_of object) (uid_of method) args ≡ Some ask
     → takes_effect (does (standing f session) (uid_of object) ask) ≡ true
     → (event_by f act
     ≡ answers c.com_id c.frame.session

@@ -9,7 +9,7 @@ use Rattle.history.specs.Facts.{Facts}
 use Rattle.history.specs.Items.{Items}
 
 -- Nothing, a deed in a session or of the session manager, or a reset: it moves no data of its own and
--- leaves the queue, but for what a Revert wipes and a reset stops.
+-- leaves the queue, but for what is erased and what a reset stops.
 abbrev pub is_quiet : Deed → Bool
 is_quiet Nothing = true
 is_quiet (InSession deed response) = true

@@ -16,10 +16,11 @@ use Rattle.sp_tables.specs.Contents.{cells_look_up}
 use Rattle.sp_tables.specs.AtReset.{is_power_cycle}
 use Rattle.audit.specs.declared.reason.AttemptFailure.{AttemptFailure}
 use Rattle.audit.specs.declared.reason.AttemptFailure.TheVariants.{WrongPin, LockedOut, Disabled, Unknown}
+use Rattle.shadow_mbr.specs.Erasure.{is_erased}
 use Rattle.shadow_mbr.specs.Stored.{sector_size, zeros}
 use Rattle.history.specs.Opening.{Origin}
 use Rattle.sp_tables.specs.Looks.{RowLook}
-use Rattle.sessions.specs.Deeds.{cells_set, Change, Sets, Restores, Resets, Begun, SessionDeed, Started, Tried, Changed, Began, Committed, Aborted, Ended, Activated, Reverted}
+use Rattle.sessions.specs.Deeds.{cells_set, Change, Sets, Restores, Resets, Begun, SessionDeed, Started, Tried, Changed, Began, Committed, Aborted, Ended, Activated, Reverted, erased_by}
 use Rattle.history.specs.Changes.{apply_all, byte_in, with_tries}
 use Rattle.device_data.specs.declared.log_page.Failure.{Failure}
 use Rattle.history.specs.Events.{HeldCommand, QueueDeed, Held, Completed, CompletedWrite, QueueFailed, QueueMended, Deed, InSession, OfQueue, Wrote, Took, WasReset, Event, latest, since, every, count}
@@ -52,7 +53,7 @@ next_number past = first_number + count is_start past
 abbrev pub lives_by : Sp → SessionDeed → Option (Option Begun)
 lives_by sp (Started session row) = on_sp sp session.sp (Some session)
 lives_by sp (Ended ended) = on_sp sp ended None
-lives_by sp (Reverted reverted wipes) = if_restored reverted sp None
+lives_by sp (Reverted reverted erasure) = if_restored reverted sp None
 lives_by sp _ = None
 
 abbrev pub living : Sp → Deed → Option (Option Begun)
@@ -95,7 +96,7 @@ turns_by sp (Committed committed) = on_sp sp committed None
 turns_by sp (Aborted aborted) = on_sp sp aborted None
 turns_by sp (Ended ended) = on_sp sp ended None
 turns_by sp (Activated pin) = Some None
-turns_by sp (Reverted reverted wipes) = Some None
+turns_by sp (Reverted reverted erasure) = Some None
 turns_by sp _ = None
 
 abbrev pub turns : Sp → Deed → Option (Option ℕ)
@@ -169,7 +170,7 @@ brought_by past sp (Changed changed change) =
     only_on sp changed (unless_any_open (open_on past sp) change)
 brought_by past sp (Committed committed) = only_on sp committed (open_changes past sp)
 brought_by past sp (Activated pin) = activation pin sp
-brought_by past sp (Reverted reverted wipes) = restoring reverted sp
+brought_by past sp (Reverted reverted erasure) = restoring reverted sp
 brought_by past sp _ = []
 
 -- What an act brought into force on an SP, after those events.
@@ -208,7 +209,7 @@ tries_by sp row (Started session its_row) before =
     if same_row session.sp its_row sp row then 0 else before
 tries_by sp row (Tried attempt) before =
     if same_row attempt.sp attempt.row sp row then tries_tried attempt.failure before else before
-tries_by sp row (Reverted reverted wipes) before = if restores reverted sp then 0 else before
+tries_by sp row (Reverted reverted erasure) before = if restores reverted sp then 0 else before
 tries_by sp row _ before = before
 
 abbrev pub tries_then : Sp → Uid → Deed → ℕ → ℕ
@@ -258,23 +259,22 @@ byte_in_view past number place =
     then byte_in (open_changes past Locking ++ changes past Locking) place
     else byte_in_force past place
 
--- Media: a sector holds what the latest act that moved data over it wrote there; a Revert while the
--- Locking SP was Manufactured makes zeros (Opal SSC 2.01, sections 5.1.2 and 5.1.3; that the bytes
--- are zeros is this project's).
+-- Media: a sector holds what the latest act that moved data over it wrote there, or zeros where an act
+-- since erased it (Opal SSC 2.01, sections 5.1.2 and 5.1.3; that the bytes are zeros is this
+-- project's).
 
 abbrev pub part_of : ℕ → ℕ → List ℕ → Option (List ℕ)
 part_of place lba bytes =
     if nat_le lba place && nat_lt place (lba + length bytes / sector_size)
     then Some (take sector_size (drop (sector_size * (place - lba)) bytes)) else None
 
-abbrev pub wipes : SessionDeed → Option (List ℕ)
-wipes (Reverted reverted true) = Some zeros
-wipes _ = None
+abbrev pub erasing : ℕ → SessionDeed → Option (List ℕ)
+erasing place deed = if is_erased (erased_by deed) place then Some zeros else None
 
 abbrev pub writing : ℕ → Deed → Option (List ℕ)
 writing place (OfQueue (CompletedWrite tag lba bytes)) = part_of place lba bytes
 writing place (Wrote lba bytes) = part_of place lba bytes
-writing place (InSession deed response) = wipes deed
+writing place (InSession deed response) = erasing place deed
 writing place _ = None
 
 abbrev pub sector : List Event → ℕ → List ℕ

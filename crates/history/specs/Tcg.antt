@@ -116,7 +116,7 @@ to_manager f com_id _ = says Unchanged (refusal_of fail)
 
 abbrev pub judgement_on : Facts → Begun → Uid → Uid → Trees → Judgement
 judgement_on f session object method args =
-    judged (standing f session) object method (asked session.sp object method args)
+    judged (standing f session) object method (asked f.config.profile session.sp object method args)
 
 -- A transaction on an SP is opened where none is open, and closed where the session has one open.
 abbrev pub begins_on : Sp → ℕ → Option ℕ → Outcome

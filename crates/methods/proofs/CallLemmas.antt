@@ -7,11 +7,12 @@ use Rattle.audit.specs.declared.reason.AttemptFailure.{AttemptFailure}
 use Rattle.call_shapes.specs.Limits.{most_response}
 use Rattle.call_shapes.specs.Statuses.{invalid_parameter, response_overflow}
 use Rattle.call_shapes.specs.declared.ask.Ask.{Ask}
-use Rattle.call_shapes.specs.declared.ask.Ask.TheVariants.{GetCells, GetBytes, SetCells, SetBytes, Authenticate, Activate, Revert, Other}
+use Rattle.call_shapes.specs.declared.ask.Ask.TheVariants.{GetCells, GetBytes, SetCells, SetBytes, Authenticate, Activate, Revert, GenKey, RevertSp, Other}
 use Rattle.tcg_tokens.specs.Tree.{Tree}
 use Rattle.tcg_tokens.specs.Message.{message}
 use Rattle.transactions.specs.declared.change.SessionId.{SessionId}
 use Rattle.transactions.specs.Stored.{Stored}
+use Rattle.shadow_mbr.specs.Erasure.{no_sectors}
 use Rattle.sessions.specs.Answers.{rows_in_force, attempt, after_attempt, gaining_if}
 use Rattle.sessions.specs.Deeds.{Setting}
 use Rattle.sessions.specs.Live.{Live, session_at, AreOnOwnSps}
@@ -54,27 +55,27 @@ changed out h k = absurd (let differ : true ≡ false = sym h ∙ k in cc)
 
 -- a Set
 pub set-made : (x : Option Setting) (set : Setting) (session : SessionId) (out : Outcome) (s t : Stored) (l : Live) → x ≡ Some set → CanSet s.config.mbr_sectors session.sp set
-    → message out.reply ≡ done → out.denied ≡ None → out.wipe ≡ false → out.changes ≡ true → t ≡ set_stored s session.sp set → Fulfils (outcome_in s session (makes x)) out s t l l
-set-made x set session out s t l is can answer denied wipe changes store =
+    → message out.reply ≡ done → out.denied ≡ None → out.erases ≡ no_sectors → out.changes ≡ true → t ≡ set_stored s session.sp set → Fulfils (outcome_in s session (makes x)) out s t l l
+set-made x set session out s t l is can answer denied erases changes store =
     subst (λ y. Fulfils (outcome_in s session (makes y)) out s t l l) (sym is)
     (record {
-      met = record { answer = answer; denied = denied; wipe = wipe; store = (can, store); sessions = record { next = refl; at = λ n. refl } };
+      met = record { answer = answer; denied = denied; erases = erases; store = (can, store); sessions = record { next = refl; at = λ n. refl } };
       unchanged = λ h. changed out changes h;
     })
 
 -- an attempt
 pub attempts : (authority : Uid) (pin : List ℕ) (session : SessionId) (out : Outcome) (s t : Stored) (l m : Live) → AreOnOwnSps l.sessions → (live_holder l session ≡ None → ⊥)
-    → message out.reply ≡ attempt_reply (attempt s session.sp authority pin) → out.denied ≡ attempt_denied session.sp authority (attempt s session.sp authority pin) → out.wipe ≡ false
+    → message out.reply ≡ attempt_reply (attempt s session.sp authority pin) → out.denied ≡ attempt_denied session.sp authority (attempt s session.sp authority pin) → out.erases ≡ no_sectors
     → (out.changes ≡ false → t ≡ s) → t ≡ after_attempt session.sp authority (attempt s session.sp authority pin) s
     → m.next ≡ l.next → ((n : ℕ) → session_at m n ≡ (if session.tsn == n then gaining_if (rows_in_force s) authority (attempt s session.sp authority pin) (session_at l n) else session_at l n))
     → Fulfils (outcome_in s session (Attempts authority pin)) out s t l m
-attempts authority pin session out s t l m apart lives answer denied wipe unchanged store next points =
+attempts authority pin session out s t l m apart lives answer denied erases unchanged store next points =
     let x : Option AttemptFailure = attempt s session.sp authority pin in
     record {
       met = record {
         answer = answer;
         denied = denied;
-        wipe = wipe;
+        erases = erases;
         store = subst (λ (u : Stored). StoresAs (outcome_in s session (Attempts authority pin)).deed s u) (sym store) (attempt-stores s session.sp authority x);
         sessions = record {
           next = next;
@@ -96,6 +97,8 @@ set-is its object (GetBytes a b) h = cc
 set-is its object (Authenticate a b) h = cc
 set-is its object Activate h = cc
 set-is its object Revert h = cc
+set-is its object GenKey h = cc
+set-is its object (RevertSp keep) h = cc
 set-is its object Other h = cc
 
 pub activate-is : (ask : Ask) → handles handlers.Activate ask ≡ true → ask ≡ Activate
@@ -106,4 +109,18 @@ activate-is (SetCells ps) h = cc
 activate-is (SetBytes a b) h = cc
 activate-is (Authenticate a b) h = cc
 activate-is Revert h = cc
+activate-is GenKey h = cc
+activate-is (RevertSp keep) h = cc
 activate-is Other h = cc
+
+pub gen-key-is : (ask : Ask) → handles handlers.GenKey ask ≡ true → ask ≡ GenKey
+gen-key-is GenKey h = refl
+gen-key-is (GetCells a b) h = cc
+gen-key-is (GetBytes a b) h = cc
+gen-key-is (SetCells ps) h = cc
+gen-key-is (SetBytes a b) h = cc
+gen-key-is (Authenticate a b) h = cc
+gen-key-is Activate h = cc
+gen-key-is Revert h = cc
+gen-key-is (RevertSp keep) h = cc
+gen-key-is Other h = cc

@@ -1,8 +1,8 @@
 -- Each method of the access list has a case, and each cell of a new drive stands in a column of its kind.
 use Rattle.std.proofs.Common.{◌≡◌, ◌==◌, ◌&&◌, ◌||◌, ◌-◌, ◌^◌, ℕ, Bool, true, false, List, [], ◌∷◌, Option, None, Some, is_some, option_map, refl, ap, sym, subst, ◌∙◌, if◌then◌else◌, inl, inr}
-use Rattle.sp_cells.specs.Names.{uid, none, col, get, set, authenticate, activate, revert}
 use Rattle.basics.specs.declared.profile.Profile.{Profile}
 use Rattle.basics.specs.declared.profile.Profile.TheVariants.{Base, Field}
+use Rattle.sp_cells.specs.Names.{uid, none, col, get, set, authenticate, activate, revert, gen_key, revert_sp}
 use Rattle.std.specs.List.{list_all, list_any}
 use Rattle.std.proofs.lemmas.Bool.Decides.{eqb_tells}
 use Rattle.sp_cells.specs.declared.names.Uid.{Uid}
@@ -15,13 +15,13 @@ use Rattle.sp_cells.specs.Config.{Config}
 use Rattle.sp_cells.specs.Flat.{sp_eq}
 use Rattle.sp_rows.specs.Items.{Item, is_here, item_at}
 use Rattle.sp_rows.specs.Factory.{admin_factory, locking_factory, admin_sps, admin_authorities, label_authorities, locking_authorities, admin_pins, label_pins, locking_pins, locking_ranges, locking_mbr_controls, admin_aces, label_aces, authority_aces, pin_aces, range_get_aces, range_aces, mbr_aces, gen_key_aces, range_keys, locking_infos, byte_tables}
-use Rattle.access_list.specs.Access.{Grant, acl_in, this_sp_grants, owner_grants, label_grants, authority_grants, fixed_ace_gets, user_ace_grants, range_get_ace_grants, gen_key_ace_grants, read_locked_ace_grants, write_locked_ace_grants, done_ace_grants, pin_grants, range_get_grants, range_set_grants, mbr_grants, info_grants, access_list}
+use Rattle.access_list.specs.Access.{Grant, acl_in, this_sp_grants, owner_grants, label_grants, authority_grants, fixed_ace_gets, user_ace_grants, range_get_ace_grants, gen_key_ace_grants, read_locked_ace_grants, write_locked_ace_grants, done_ace_grants, pin_grants, range_get_grants, range_set_grants, mbr_grants, info_grants, key_grants, access_list}
 use Rattle.tcg_tokens.specs.Tree.{Tree, number, bytes, list, named}
 use Rattle.call_shapes.specs.declared.ask.Ask.{Ask}
-use Rattle.call_shapes.specs.declared.ask.Ask.TheVariants.{GetCells, GetBytes, SetCells, SetBytes, Authenticate, Activate, Revert, Other}
+use Rattle.call_shapes.specs.declared.ask.Ask.TheVariants.{GetCells, GetBytes, SetCells, SetBytes, Authenticate, Activate, Revert, GenKey, RevertSp, Other}
 use Rattle.call_shapes.specs.Named.{list_in, value_of, options, number_or, number_if_any, bytes_or_empty, assignments}
-use Rattle.call_shapes.specs.Parameters.{start_row_parameter, end_row_parameter, start_column_parameter, end_column_parameter, where_parameter, values_parameter, proof_parameter}
-use Rattle.call_shapes.specs.Asks.{uid_of, is_mbr_table, cellblock, columns_between, columns_asked_in, is_ordered, rows_between, rows_in, cells_of, cells_to_set, cells_in, bytes_to_set, bytes_in, proof_of, proof_in, attempt_in, without_arguments, get_of, set_of, ask_of}
+use Rattle.call_shapes.specs.Parameters.{start_row_parameter, end_row_parameter, start_column_parameter, end_column_parameter, where_parameter, values_parameter, proof_parameter, keep_global_range_key_parameter}
+use Rattle.call_shapes.specs.Asks.{uid_of, is_mbr_table, cellblock, columns_between, columns_asked_in, is_ordered, rows_between, rows_in, cells_of, cells_to_set, cells_in, bytes_to_set, bytes_in, proof_of, proof_in, attempt_in, without_arguments, get_of, set_of, keep_of, keep_in, other_ask_of, ask_of}
 use Rattle.methods.specs.declared.kinds.Kind.{Kind}
 use Rattle.methods.specs.declared.kinds.Kind.TheVariants as kinds
 use Rattle.methods.specs.Kinds.{kind_of}
@@ -43,16 +43,25 @@ sketch (SetBytes at bs) = SetBytes 0 []
 sketch (Authenticate authority proof) = Authenticate some_uid []
 sketch Activate = Activate
 sketch Revert = Revert
+sketch GenKey = GenKey
+sketch (RevertSp keep) = RevertSp false
 sketch Other = Other
 
-abbrev sketch_of : Sp → Uid → Uid → Ask
-sketch_of sp object method =
+abbrev sketch_of_other : Profile → Uid → Ask
+sketch_of_other Base method = Other
+sketch_of_other Field method =
+    if method.0 == gen_key.0 then GenKey else
+    if method.0 == revert_sp.0 then RevertSp false else
+    Other
+
+abbrev sketch_of : Profile → Sp → Uid → Uid → Ask
+sketch_of profile sp object method =
     if method.0 == get.0 then (if is_mbr_table sp object then GetBytes 0 None else GetCells 0 0) else
     if method.0 == set.0 then (if is_mbr_table sp object then SetBytes 0 [] else SetCells []) else
     if method.0 == authenticate.0 then Authenticate some_uid [] else
     if method.0 == activate.0 then Activate else
     if method.0 == revert.0 then Revert else
-    Other
+    sketch_of_other profile method
 
 -- a kind has what is asked by its shape
 same_shape : (kind : Option Kind) (ask : Ask) → has_ask kind ask ≡ has_ask kind (sketch ask)
@@ -64,6 +73,8 @@ same_shape (Some kinds.ThisSp) (SetCells ps) = refl
 same_shape (Some kinds.ThisSp) (SetBytes a b) = refl
 same_shape (Some kinds.ThisSp) Activate = refl
 same_shape (Some kinds.ThisSp) Revert = refl
+same_shape (Some kinds.ThisSp) GenKey = refl
+same_shape (Some kinds.ThisSp) (RevertSp keep) = refl
 same_shape (Some kinds.ThisSp) Other = refl
 same_shape (Some kinds.Sp) (GetCells f l) = refl
 same_shape (Some kinds.Sp) (GetBytes f l) = refl
@@ -72,6 +83,8 @@ same_shape (Some kinds.Sp) (SetBytes a b) = refl
 same_shape (Some kinds.Sp) (Authenticate a p) = refl
 same_shape (Some kinds.Sp) Activate = refl
 same_shape (Some kinds.Sp) Revert = refl
+same_shape (Some kinds.Sp) GenKey = refl
+same_shape (Some kinds.Sp) (RevertSp keep) = refl
 same_shape (Some kinds.Sp) Other = refl
 same_shape (Some kinds.Authority) (GetCells f l) = refl
 same_shape (Some kinds.Authority) (GetBytes f l) = refl
@@ -80,6 +93,8 @@ same_shape (Some kinds.Authority) (SetBytes a b) = refl
 same_shape (Some kinds.Authority) (Authenticate a p) = refl
 same_shape (Some kinds.Authority) Activate = refl
 same_shape (Some kinds.Authority) Revert = refl
+same_shape (Some kinds.Authority) GenKey = refl
+same_shape (Some kinds.Authority) (RevertSp keep) = refl
 same_shape (Some kinds.Authority) Other = refl
 same_shape (Some kinds.CPin) (GetCells f l) = refl
 same_shape (Some kinds.CPin) (GetBytes f l) = refl
@@ -88,6 +103,8 @@ same_shape (Some kinds.CPin) (SetBytes a b) = refl
 same_shape (Some kinds.CPin) (Authenticate a p) = refl
 same_shape (Some kinds.CPin) Activate = refl
 same_shape (Some kinds.CPin) Revert = refl
+same_shape (Some kinds.CPin) GenKey = refl
+same_shape (Some kinds.CPin) (RevertSp keep) = refl
 same_shape (Some kinds.CPin) Other = refl
 same_shape (Some kinds.Ace) (GetCells f l) = refl
 same_shape (Some kinds.Ace) (GetBytes f l) = refl
@@ -96,6 +113,8 @@ same_shape (Some kinds.Ace) (SetBytes a b) = refl
 same_shape (Some kinds.Ace) (Authenticate a p) = refl
 same_shape (Some kinds.Ace) Activate = refl
 same_shape (Some kinds.Ace) Revert = refl
+same_shape (Some kinds.Ace) GenKey = refl
+same_shape (Some kinds.Ace) (RevertSp keep) = refl
 same_shape (Some kinds.Ace) Other = refl
 same_shape (Some kinds.Locking) (GetCells f l) = refl
 same_shape (Some kinds.Locking) (GetBytes f l) = refl
@@ -104,6 +123,8 @@ same_shape (Some kinds.Locking) (SetBytes a b) = refl
 same_shape (Some kinds.Locking) (Authenticate a p) = refl
 same_shape (Some kinds.Locking) Activate = refl
 same_shape (Some kinds.Locking) Revert = refl
+same_shape (Some kinds.Locking) GenKey = refl
+same_shape (Some kinds.Locking) (RevertSp keep) = refl
 same_shape (Some kinds.Locking) Other = refl
 same_shape (Some kinds.MbrControl) (GetCells f l) = refl
 same_shape (Some kinds.MbrControl) (GetBytes f l) = refl
@@ -112,6 +133,8 @@ same_shape (Some kinds.MbrControl) (SetBytes a b) = refl
 same_shape (Some kinds.MbrControl) (Authenticate a p) = refl
 same_shape (Some kinds.MbrControl) Activate = refl
 same_shape (Some kinds.MbrControl) Revert = refl
+same_shape (Some kinds.MbrControl) GenKey = refl
+same_shape (Some kinds.MbrControl) (RevertSp keep) = refl
 same_shape (Some kinds.MbrControl) Other = refl
 same_shape (Some kinds.TperInfo) (GetCells f l) = refl
 same_shape (Some kinds.TperInfo) (GetBytes f l) = refl
@@ -120,6 +143,8 @@ same_shape (Some kinds.TperInfo) (SetBytes a b) = refl
 same_shape (Some kinds.TperInfo) (Authenticate a p) = refl
 same_shape (Some kinds.TperInfo) Activate = refl
 same_shape (Some kinds.TperInfo) Revert = refl
+same_shape (Some kinds.TperInfo) GenKey = refl
+same_shape (Some kinds.TperInfo) (RevertSp keep) = refl
 same_shape (Some kinds.TperInfo) Other = refl
 same_shape (Some kinds.LockingInfo) (GetCells f l) = refl
 same_shape (Some kinds.LockingInfo) (GetBytes f l) = refl
@@ -144,7 +169,19 @@ same_shape (Some kinds.MbrTable) (SetBytes a b) = refl
 same_shape (Some kinds.MbrTable) (Authenticate a p) = refl
 same_shape (Some kinds.MbrTable) Activate = refl
 same_shape (Some kinds.MbrTable) Revert = refl
+same_shape (Some kinds.MbrTable) GenKey = refl
+same_shape (Some kinds.MbrTable) (RevertSp keep) = refl
 same_shape (Some kinds.MbrTable) Other = refl
+same_shape (Some kinds.Key) (GetCells f l) = refl
+same_shape (Some kinds.Key) (GetBytes f l) = refl
+same_shape (Some kinds.Key) (SetCells ps) = refl
+same_shape (Some kinds.Key) (SetBytes a b) = refl
+same_shape (Some kinds.Key) (Authenticate a p) = refl
+same_shape (Some kinds.Key) Activate = refl
+same_shape (Some kinds.Key) Revert = refl
+same_shape (Some kinds.Key) GenKey = refl
+same_shape (Some kinds.Key) (RevertSp keep) = refl
+same_shape (Some kinds.Key) Other = refl
 
 -- what a call asks has the shape that its method wants
 abbrev Fits : Option Ask → Ask → Type 0
@@ -232,13 +269,32 @@ without_fits : (ask : Ask) (args : List Tree) → Fits (without_arguments ask ar
 without_fits ask [] = refl
 without_fits ask (t ∷ ts) = tt
 
-asked_fits : (sp : Sp) (object method : Uid) (args : List Tree) → Fits (ask_of sp object method args) (sketch_of sp object method)
-asked_fits sp object method args =
+keep_of_fits : (o : Option ℕ) → Fits (keep_of o) (RevertSp false)
+keep_of_fits None = tt
+keep_of_fits (Some n) = by_number (n == 0) (n == 1)
+  where
+    by_number : (a b : Bool) → Fits (if a then Some (RevertSp false) else (if b then Some (RevertSp true) else None)) (RevertSp false)
+    by_number true b = refl
+    by_number false true = refl
+    by_number false false = tt
+
+keep_fits : (o : Option (List (ℕ × Tree))) → Fits (keep_in o) (RevertSp false)
+keep_fits None = tt
+keep_fits (Some ps) = keep_of_fits (number_or 0 (value_of keep_global_range_key_parameter ps))
+
+other_fits : (profile : Profile) (method : Uid) (args : List Tree) → Fits (other_ask_of profile method args) (sketch_of_other profile method)
+other_fits Base method args = refl
+other_fits Field method args =
+    either (method.0 == gen_key.0) _ _ _ _ (without_fits GenKey args)
+    (either (method.0 == revert_sp.0) _ _ _ _ (keep_fits (options (keep_global_range_key_parameter ∷ []) args)) refl)
+
+asked_fits : (profile : Profile) (sp : Sp) (object method : Uid) (args : List Tree) → Fits (ask_of profile sp object method args) (sketch_of profile sp object method)
+asked_fits profile sp object method args =
     either (method.0 == get.0) _ _ _ _ (get_fits (is_mbr_table sp object) args)
     (either (method.0 == set.0) _ _ _ _ (set_fits (is_mbr_table sp object) args)
     (either (method.0 == authenticate.0) _ _ _ _ (attempt_fits args)
     (either (method.0 == activate.0) _ _ _ _ (without_fits Activate args)
-    (either (method.0 == revert.0) _ _ _ _ (without_fits Revert args) refl))))
+    (either (method.0 == revert.0) _ _ _ _ (without_fits Revert args) (other_fits profile method args)))))
 
 fitting : (o : Option Ask) (s ask : Ask) → Fits o s → o ≡ Some ask → sketch ask ≡ s
 fitting None s ask h e = absurd (let k : None ≡ Some ask = e in cc)
@@ -246,14 +302,14 @@ fitting (Some a) s ask h e = let same : a ≡ ask = cc in sym (ap sketch same) �
 
 -- ---- each grant has a case
 
-abbrev has_case : Sp → Uid → Uid → Bool
-has_case sp object method = has_ask (kind_of sp object) (sketch_of sp object method)
+abbrev has_case : Profile → Sp → Uid → Uid → Bool
+has_case profile sp object method = has_ask (kind_of sp object) (sketch_of profile sp object method)
 
-covered : Grant → Bool
-covered g = has_case g.sp g.object g.method
+covered : Profile → Grant → Bool
+covered profile g = has_case profile g.sp g.object g.method
 
-all_covered : (profile : Profile) → list_all covered (access_list profile) ≡ true
-unfolding covered authorities_of_locking this_sp_grants owner_grants label_grants authority_grants fixed_ace_gets user_ace_grants range_get_ace_grants gen_key_ace_grants read_locked_ace_grants write_locked_ace_grants done_ace_grants pin_grants range_get_grants range_set_grants mbr_grants info_grants
+all_covered : (profile : Profile) → list_all (covered profile) (access_list profile) ≡ true
+unfolding covered authorities_of_locking this_sp_grants owner_grants label_grants authority_grants fixed_ace_gets user_ace_grants range_get_ace_grants gen_key_ace_grants read_locked_ace_grants write_locked_ace_grants done_ace_grants pin_grants range_get_grants range_set_grants mbr_grants info_grants key_grants
 all_covered Base = refl
 all_covered Field = refl
 
@@ -283,25 +339,25 @@ same_uid u v h = elim (eqb_tells u.0 v.0) [
   | inr apart ↦ absurd (clash (sym apart.0 ∙ h))
 ]
 
-found_step : (g : Grant) (gs : List Grant) (sp : Sp) (object method : Uid) (b : Bool) → (sp_eq g.sp sp && (g.object.0 == object.0) && (g.method.0 == method.0)) ≡ b → list_all covered (g ∷ gs) ≡ true → is_some (if b then Some g.acl else acl_in gs sp object method) ≡ true → (list_all covered gs ≡ true → is_some (acl_in gs sp object method) ≡ true → has_case sp object method ≡ true) → has_case sp object method ≡ true
+found_step : (profile : Profile) (g : Grant) (gs : List Grant) (sp : Sp) (object method : Uid) (b : Bool) → (sp_eq g.sp sp && (g.object.0 == object.0) && (g.method.0 == method.0)) ≡ b → list_all (covered profile) (g ∷ gs) ≡ true → is_some (if b then Some g.acl else acl_in gs sp object method) ≡ true → (list_all (covered profile) gs ≡ true → is_some (acl_in gs sp object method) ≡ true → has_case profile sp object method ≡ true) → has_case profile sp object method ≡ true
 unfolding covered
-found_step g gs sp object method false t all some rest = rest (both (has_case g.sp g.object g.method) (list_all covered gs) all).1 some
-found_step g gs sp object method true t all some rest =
+found_step profile g gs sp object method false t all some rest = rest (both (has_case profile g.sp g.object g.method) (list_all (covered profile) gs) all).1 some
+found_step profile g gs sp object method true t all some rest =
     let at = three (sp_eq g.sp sp) (g.object.0 == object.0) (g.method.0 == method.0) t in
-    ap (λ s. has_case s object method) (sym (same_sp g.sp sp at.0))
-    ∙ ap (λ o. has_case g.sp o method) (sym (same_uid g.object object at.1))
-    ∙ ap (λ m. has_case g.sp g.object m) (sym (same_uid g.method method at.2))
-    ∙ (both (has_case g.sp g.object g.method) (list_all covered gs) all).0
+    ap (λ s. has_case profile s object method) (sym (same_sp g.sp sp at.0))
+    ∙ ap (λ o. has_case profile g.sp o method) (sym (same_uid g.object object at.1))
+    ∙ ap (λ m. has_case profile g.sp g.object m) (sym (same_uid g.method method at.2))
+    ∙ (both (has_case profile g.sp g.object g.method) (list_all (covered profile) gs) all).0
 
-found_covered : (gs : List Grant) (sp : Sp) (object method : Uid) → list_all covered gs ≡ true → is_some (acl_in gs sp object method) ≡ true → has_case sp object method ≡ true
-found_covered [] sp object method all some = cc
-found_covered (g ∷ gs) sp object method all some = found_step g gs sp object method (sp_eq g.sp sp && (g.object.0 == object.0) && (g.method.0 == method.0)) refl all some (found_covered gs sp object method)
+found_covered : (profile : Profile) (gs : List Grant) (sp : Sp) (object method : Uid) → list_all (covered profile) gs ≡ true → is_some (acl_in gs sp object method) ≡ true → has_case profile sp object method ≡ true
+found_covered profile [] sp object method all some = cc
+found_covered profile (g ∷ gs) sp object method all some = found_step profile g gs sp object method (sp_eq g.sp sp && (g.object.0 == object.0) && (g.method.0 == method.0)) refl all some (found_covered profile gs sp object method)
 
 pub cases_of_grants : CaseLaw
 cases_of_grants profile sp object method args ask some shaped =
     same_shape (kind_of sp object) ask
-    ∙ ap (has_ask (kind_of sp object)) (fitting (ask_of sp object method args) (sketch_of sp object method) ask (asked_fits sp object method args) shaped)
-    ∙ found_covered (access_list profile) sp object method (all_covered profile) some
+    ∙ ap (has_ask (kind_of sp object)) (fitting (ask_of profile sp object method args) (sketch_of profile sp object method) ask (asked_fits profile sp object method args) shaped)
+    ∙ found_covered profile (access_list profile) sp object method (all_covered profile) some
 
 -- ---- columns
 

@@ -11,7 +11,7 @@ use Rattle.sp_cells.specs.declared.error.SetError.TheVariants as faults
 use Rattle.sp_tables.specs.Looks.{fault_seen}
 use Rattle.sp_tables.specs.Tries.{names_tries}
 use Rattle.call_shapes.specs.declared.ask.Ask.{Ask}
-use Rattle.call_shapes.specs.declared.ask.Ask.TheVariants.{GetCells, GetBytes, SetCells, SetBytes, Authenticate, Activate, Revert, Other}
+use Rattle.call_shapes.specs.declared.ask.Ask.TheVariants.{GetCells, GetBytes, SetCells, SetBytes, Authenticate, Activate, Revert, GenKey, RevertSp, Other}
 use Rattle.sessions.specs.Deeds.{Setting, cells_set, bytes_set}
 use Rattle.sessions.specs.Made.{is_within, CanSet}
 use Rattle.methods.specs.declared.kinds.Kind.{Kind}
@@ -41,6 +41,8 @@ cells-fit mbr_sectors sp object types (SetBytes a b) = tt
 cells-fit mbr_sectors sp object types (Authenticate a b) = tt
 cells-fit mbr_sectors sp object types Activate = tt
 cells-fit mbr_sectors sp object types Revert = tt
+cells-fit mbr_sectors sp object types GenKey = tt
+cells-fit mbr_sectors sp object types (RevertSp keep) = tt
 cells-fit mbr_sectors sp object types Other = tt
 
 bytes-fit : (mbr_sectors : ℕ) (sp : Sp) (ask : Ask) → BytesFit mbr_sectors sp (bytes_of_ask sp mbr_sectors ask)
@@ -56,6 +58,8 @@ bytes-fit mbr_sectors Locking (SetCells a) = tt
 bytes-fit mbr_sectors Locking (Authenticate a b) = tt
 bytes-fit mbr_sectors Locking Activate = tt
 bytes-fit mbr_sectors Locking Revert = tt
+bytes-fit mbr_sectors Locking GenKey = tt
+bytes-fit mbr_sectors Locking (RevertSp keep) = tt
 bytes-fit mbr_sectors Locking Other = tt
 
 setting-fits : (mbr_sectors : ℕ) (sp : Sp) (object : Uid) (kind : Option Kind) (ask : Ask) → BytesFit mbr_sectors sp (setting sp mbr_sectors object kind ask)
@@ -70,6 +74,7 @@ setting-fits mbr_sectors sp object (Some kinds.MbrControl) ask = cells-fit mbr_s
 setting-fits mbr_sectors sp object (Some kinds.TperInfo) ask = cells-fit mbr_sectors sp object (set_types_of (Some kinds.TperInfo)) ask
 setting-fits mbr_sectors sp object (Some kinds.LockingInfo) ask = cells-fit mbr_sectors sp object (set_types_of (Some kinds.LockingInfo)) ask
 setting-fits mbr_sectors sp object (Some kinds.Table) ask = cells-fit mbr_sectors sp object (set_types_of (Some kinds.Table)) ask
+setting-fits mbr_sectors sp object (Some kinds.Key) ask = cells-fit mbr_sectors sp object (set_types_of (Some kinds.Key)) ask
 setting-fits mbr_sectors sp object (Some kinds.MbrTable) ask = bytes-fit mbr_sectors sp ask
 
 -- with what a fault tells

@@ -1,4 +1,5 @@
 pub mod SettingLemmas
+pub mod ErasureLemmas
 pub mod CaseLemmas
 pub mod FaultLemmas
 pub mod EffectLemmas

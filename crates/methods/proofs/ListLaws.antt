@@ -138,5 +138,6 @@ rise_law (Some kinds.TperInfo) = refl
 rise_law (Some kinds.LockingInfo) = refl
 rise_law (Some kinds.Table) = refl
 rise_law (Some kinds.MbrTable) = refl
+rise_law (Some kinds.Key) = refl
 
 pub ruleset of_lists = (list_law, rise_law)

@@ -9,7 +9,7 @@ use Rattle.sp_cells.specs.declared.values.ColumnType.{ColumnType}
 use Rattle.transactions.specs.declared.change.Change.{Change}
 use Rattle.transactions.specs.declared.change.Change.TheVariants.{Cells, Mbr}
 use Rattle.call_shapes.specs.declared.ask.Ask.{Ask}
-use Rattle.call_shapes.specs.declared.ask.Ask.TheVariants.{GetCells, GetBytes, SetCells, SetBytes, Authenticate, Activate, Revert, Other}
+use Rattle.call_shapes.specs.declared.ask.Ask.TheVariants.{GetCells, GetBytes, SetCells, SetBytes, Authenticate, Activate, Revert, GenKey, RevertSp, Other}
 use Rattle.methods.specs.declared.kinds.Kind.{Kind}
 use Rattle.methods.specs.declared.kinds.Kind.TheVariants as kinds
 use Rattle.methods.specs.Kinds.{kind_of}
@@ -33,6 +33,8 @@ asked_there object o cells types (SetBytes at bs) e = cc
 asked_there object o cells types (Authenticate a p) e = cc
 asked_there object o cells types Activate e = cc
 asked_there object o cells types Revert e = cc
+asked_there object o cells types GenKey e = cc
+asked_there object o cells types (RevertSp keep) e = cc
 asked_there object o cells types Other e = cc
 
 -- Set of columns sets no byte
@@ -48,6 +50,8 @@ no_bytes object at bs types (SetBytes a b) e = cc
 no_bytes object at bs types (Authenticate a p) e = cc
 no_bytes object at bs types Activate e = cc
 no_bytes object at bs types Revert e = cc
+no_bytes object at bs types GenKey e = cc
+no_bytes object at bs types (RevertSp keep) e = cc
 no_bytes object at bs types Other e = cc
 
 -- Set of bytes sets no cell
@@ -64,6 +68,8 @@ no_cells o cells Locking n (GetBytes first last) e = cc
 no_cells o cells Locking n (Authenticate a p) e = cc
 no_cells o cells Locking n Activate e = cc
 no_cells o cells Locking n Revert e = cc
+no_cells o cells Locking n GenKey e = cc
+no_cells o cells Locking n (RevertSp keep) e = cc
 no_cells o cells Locking n Other e = cc
 
 cells_of_object : (sp : Sp) (n : ℕ) (object o : Uid) (cells : List (Column × Cell)) (kind : Option Kind) (ask : Ask) → setting sp n object kind ask ≡ Some (cells_set o cells) → object ≡ o
@@ -78,6 +84,7 @@ cells_of_object sp n object o cells (Some kinds.MbrControl) ask e = asked_there 
 cells_of_object sp n object o cells (Some kinds.TperInfo) ask e = asked_there object o cells (set_types_of (Some kinds.TperInfo)) ask e
 cells_of_object sp n object o cells (Some kinds.LockingInfo) ask e = asked_there object o cells (set_types_of (Some kinds.LockingInfo)) ask e
 cells_of_object sp n object o cells (Some kinds.Table) ask e = asked_there object o cells (set_types_of (Some kinds.Table)) ask e
+cells_of_object sp n object o cells (Some kinds.Key) ask e = asked_there object o cells (set_types_of (Some kinds.Key)) ask e
 cells_of_object sp n object o cells None ask e = asked_there object o cells (set_types_of None) ask e
 
 -- no bytes are set in the Admin SP
@@ -93,6 +100,7 @@ bytes_of_locking n object at bs (Some kinds.MbrControl) ask e = no_bytes object 
 bytes_of_locking n object at bs (Some kinds.TperInfo) ask e = no_bytes object at bs (set_types_of (Some kinds.TperInfo)) ask e
 bytes_of_locking n object at bs (Some kinds.LockingInfo) ask e = no_bytes object at bs (set_types_of (Some kinds.LockingInfo)) ask e
 bytes_of_locking n object at bs (Some kinds.Table) ask e = no_bytes object at bs (set_types_of (Some kinds.Table)) ask e
+bytes_of_locking n object at bs (Some kinds.Key) ask e = no_bytes object at bs (set_types_of (Some kinds.Key)) ask e
 bytes_of_locking n object at bs None ask e = no_bytes object at bs (set_types_of None) ask e
 
 -- where the object that a call names has Set, the object of what it sets has it

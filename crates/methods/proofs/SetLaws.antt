@@ -12,7 +12,7 @@ use Rattle.sp_cells.specs.Names.{col}
 use Rattle.sp_cells.specs.Values.{type_at}
 use Rattle.tcg_tokens.specs.Tree.{Tree}
 use Rattle.call_shapes.specs.declared.ask.Ask.{Ask}
-use Rattle.call_shapes.specs.declared.ask.Ask.TheVariants.{GetCells, GetBytes, SetCells, SetBytes, Authenticate, Activate, Revert, Other}
+use Rattle.call_shapes.specs.declared.ask.Ask.TheVariants.{GetCells, GetBytes, SetCells, SetBytes, Authenticate, Activate, Revert, GenKey, RevertSp, Other}
 use Rattle.methods.specs.declared.kinds.Kind.{Kind}
 use Rattle.methods.specs.declared.kinds.Kind.TheVariants as kinds
 use Rattle.methods.specs.Kinds.{kind_of}
@@ -90,6 +90,8 @@ asked_there object target cells types (SetBytes at bs) is = absurd cc
 asked_there object target cells types (Authenticate a p) is = absurd cc
 asked_there object target cells types Activate is = absurd cc
 asked_there object target cells types Revert is = absurd cc
+asked_there object target cells types GenKey is = absurd cc
+asked_there object target cells types (RevertSp keep) is = absurd cc
 asked_there object target cells types Other is = absurd cc
 
 set_there : (sp : Sp) (n : ℕ) (object target : Uid) (cells : List (Column × Cell)) (kind : Option Kind) (ask : Ask) → setting sp n object kind ask ≡ Some (cells_set target cells) → SetsOnly object (set_columns_of kind) target cells
@@ -104,6 +106,7 @@ set_there sp n object target cells (Some kinds.MbrControl) ask is = asked_there 
 set_there sp n object target cells (Some kinds.TperInfo) ask is = asked_there object target cells (set_types_of (Some kinds.TperInfo)) ask is
 set_there sp n object target cells (Some kinds.LockingInfo) ask is = asked_there object target cells (set_types_of (Some kinds.LockingInfo)) ask is
 set_there sp n object target cells (Some kinds.Table) ask is = asked_there object target cells (set_types_of (Some kinds.Table)) ask is
+set_there sp n object target cells (Some kinds.Key) ask is = asked_there object target cells (set_types_of (Some kinds.Key)) ask is
 set_there sp n object target cells None ask is = asked_there object target cells (set_types_of None) ask is
 
 pub set_law : SetLaw

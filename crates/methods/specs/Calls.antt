@@ -18,14 +18,15 @@ use Rattle.call_shapes.specs.Asks.{ask_of, uid_of}
 use Rattle.call_shapes.specs.Statuses.{success}
 use Rattle.sessions.specs.Answers.{rows_in_force}
 use Rattle.sessions.specs.Attempts.{attempt_failure as failure_of}
-use Rattle.sessions.specs.Deeds.{Unchanged, Changed, Sets, Activated, Reverted, Outcome, says, gains_of, tried}
+use Rattle.sessions.specs.Deeds.{Unchanged, Changed, Sets, Activated, Reverted, Erased, Outcome, says, gains_of, tried}
 use Rattle.sessions.specs.Live.{Live}
 use Rattle.sessions.specs.Made.{Meets}
 use Rattle.sessions.specs.Starts.{is_in_use}
 use Rattle.methods.specs.declared.outcome.Outcome.{Outcome as Answered}
 use Rattle.methods.specs.Said.{reply_of, refusal_of, done, attempt_reply, attempt_denied}
 use Rattle.methods.specs.Effects.{held_in, seen_by, has_transaction}
-use Rattle.methods.specs.Judgement.{Standing, Judgement, Refuses, Gives, Makes, Attempts, Activates, Reverts, judged}
+use Rattle.methods.specs.Erasures.{erased_by_revert, erased_by_key, erased_by_revert_sp}
+use Rattle.methods.specs.Judgement.{Standing, Judgement, Refuses, Gives, Makes, Attempts, Activates, Reverts, Erases, RevertsSp, judged}
 
 -- what the rules ask of a session that holds these authorities, of what is kept
 abbrev pub standing_on : Stored → SessionId → List Uid → Standing
@@ -48,7 +49,7 @@ standing_in s live session = standing_on s session (held_in live session)
 -- what comes of a call with these arguments, and of the call that a session sends
 abbrev pub judged_with : Stored → Live → SessionId → Uid → Uid → List Tree → Judgement
 judged_with s live session object method args =
-    judged (standing_in s live session) object method (ask_of session.sp object method args)
+    judged (standing_in s live session) object method (ask_of s.config.profile session.sp object method args)
 
 abbrev pub judged_call : Stored → Live → SessionId → Call → Judgement
 judged_call s live session call =
@@ -75,7 +76,9 @@ outcome_of rows sp (Makes setting) = says (Changed sp (Sets setting)) done
 outcome_of rows sp (Attempts authority pin) =
     tried_in rows sp authority (failure_of rows sp authority pin)
 outcome_of rows sp Activates = activates rows
-outcome_of rows sp (Reverts reverted) = says (Reverted reverted (is_in_use rows Locking)) done
+outcome_of rows sp (Reverts reverted) = says (Reverted reverted (erased_by_revert rows)) done
+outcome_of rows sp (Erases range) = says (Erased (erased_by_key rows range)) done
+outcome_of rows sp (RevertsSp keep) = says (Reverted Locking (erased_by_revert_sp rows keep)) done
 
 -- in a session, by those that are kept
 abbrev pub outcome_in : Stored → SessionId → Judgement → Outcome
@@ -83,7 +86,7 @@ outcome_in s session judgement = outcome_of (rows_in_force s) session.sp judgeme
 
 -- what is answered, and what is made of the store and of the sessions, is what an outcome says
 pub record Fulfils (outcome : Outcome) (out : Answered) (s t : Stored) (l m : Live) : Type 0 where
-  pub met : Meets outcome (message out.reply) out.denied out.wipe s t l m
+  pub met : Meets outcome (message out.reply) out.denied out.erases s t l m
   pub unchanged : out.changes ≡ false → t ≡ s
 
 -- so it is of a judgement that changes nothing, whatever is kept

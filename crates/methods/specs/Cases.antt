@@ -25,7 +25,8 @@ use Rattle.methods.specs.Laws.{IsAmong}
 -- where a method is offered, and its arguments have the shape that it wants, the object's kind has what is asked
 abbrev pub CaseLaw : Type 0
 CaseLaw = (profile : Profile) (sp : Sp) (object method : Uid) (args : List Tree) (ask : Ask)
-    → is_some (acl_at profile sp object method) ≡ true → ask_of sp object method args ≡ Some ask
+    → is_some (acl_at profile sp object method) ≡ true
+    → ask_of profile sp object method args ≡ Some ask
     → has_ask (kind_of sp object) ask ≡ true
 
 -- the cells of a new drive's SP

@@ -55,6 +55,7 @@ types_of (Some kinds.TperInfo) = tper_info_types
 types_of (Some kinds.LockingInfo) = locking_info_types
 types_of (Some kinds.Table) = table_row_types
 types_of (Some kinds.MbrTable) = []
+types_of (Some kinds.Key) = []
 
 -- without their types
 abbrev pub columns_in : List (Column × ColumnType) → List Column

@@ -13,7 +13,7 @@ use Rattle.transactions.specs.Stored.{Stored, part, at_part, part_set, is_open}
 use Rattle.transactions.specs.Changes.{fault_of_change}
 use Rattle.transactions.specs.Sights.{look_up, sight_of}
 use Rattle.call_shapes.specs.declared.ask.Ask.{Ask}
-use Rattle.call_shapes.specs.declared.ask.Ask.TheVariants.{GetCells, GetBytes, SetCells, SetBytes, Authenticate, Activate, Revert, Other}
+use Rattle.call_shapes.specs.declared.ask.Ask.TheVariants.{GetCells, GetBytes, SetCells, SetBytes, Authenticate, Activate, Revert, GenKey, RevertSp, Other}
 use Rattle.sessions.specs.Live.{Live, Holder, session_at, holder_on}
 use Rattle.methods.specs.declared.kinds.Kind.{Kind}
 use Rattle.methods.specs.declared.kinds.Kind.TheVariants as kinds
@@ -45,6 +45,8 @@ has_ask (Some kinds.LockingInfo) (GetCells first last) = true
 has_ask (Some kinds.Table) (GetCells first last) = true
 has_ask (Some kinds.MbrTable) (GetBytes first last) = true
 has_ask (Some kinds.MbrTable) (SetBytes at bytes) = true
+has_ask (Some kinds.ThisSp) (RevertSp keep) = true
+has_ask (Some kinds.Key) GenKey = true
 has_ask _ _ = false
 
 -- a kind of object has a Set, of columns or of bytes
@@ -60,6 +62,8 @@ handles handlers.WriteBytes (SetBytes at bytes) = true
 handles handlers.Authenticate (Authenticate authority proof) = true
 handles handlers.Activate Activate = true
 handles handlers.Revert Revert = true
+handles handlers.GenKey GenKey = true
+handles handlers.RevertSp (RevertSp keep) = true
 handles _ _ = false
 
 -- what is asked, where the object's kind has it; else nothing that it knows

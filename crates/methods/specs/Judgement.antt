@@ -1,11 +1,12 @@
 -- What comes of a call in a session: its shape, its ACEs, its values, in this order. Over any view and any authorities.
+use Rattle.std.specs.Prelude.{ℕ, ◌+◌, ◌*◌, ◌==◌, ◌||◌, ◌-◌, ◌&&◌, Bool, true, false, nat_le, nat_lt, List, [], ◌∷◌, map, Option, Some, None, if◌then◌else◌}
 use Rattle.basics.specs.declared.profile.Profile.{Profile}
-use Rattle.std.specs.Prelude.{ℕ, ◌+◌, ◌*◌, ◌==◌, ◌||◌, ◌-◌, Bool, true, false, nat_le, nat_lt, List, [], ◌∷◌, map, Option, Some, None, if◌then◌else◌}
 use Rattle.sp_cells.specs.declared.names.Uid.{Uid}
 use Rattle.sp_cells.specs.declared.names.Sp.{Sp}
 use Rattle.sp_cells.specs.declared.error.SetError.{SetError}
 use Rattle.sp_cells.specs.declared.error.SetError.TheVariants as faults
 use Rattle.sp_cells.specs.Flat.{LookUp}
+use Rattle.sp_cells.specs.Numbers.{key_number}
 use Rattle.sp_tables.specs.Looks.{RowLook, fault_seen}
 use Rattle.sp_tables.specs.Tries.{names_tries}
 use Rattle.shadow_mbr.specs.Stored.{sector_size}
@@ -14,7 +15,7 @@ use Rattle.audit.specs.declared.reason.Why.{Why}
 use Rattle.call_shapes.specs.Carried.{is_carried}
 use Rattle.tcg_tokens.specs.Tree.{Tree, Trees, bytes, list, trees_of}
 use Rattle.call_shapes.specs.declared.ask.Ask.{Ask}
-use Rattle.call_shapes.specs.declared.ask.Ask.TheVariants.{GetCells, GetBytes, SetCells, SetBytes, Authenticate, Activate, Revert, Other}
+use Rattle.call_shapes.specs.declared.ask.Ask.TheVariants.{GetCells, GetBytes, SetCells, SetBytes, Authenticate, Activate, Revert, GenKey, RevertSp, Other}
 use Rattle.call_shapes.specs.Named.{values_of}
 use Rattle.call_shapes.specs.Asks.{ask_of}
 use Rattle.call_shapes.specs.Limits.{most_response}
@@ -25,9 +26,10 @@ use Rattle.methods.specs.Listed.{listed, cell_value}
 use Rattle.methods.specs.Settings.{setting}
 use Rattle.sessions.specs.Deeds.{Setting, cells_set, bytes_set}
 use Rattle.methods.specs.Said.{reply_of}
+use Rattle.methods.specs.Erasures.{is_wholly_locked}
 use Rattle.methods.specs.Effects.{ask_at, last_row, sp_of_row, unless_fault}
 
--- what the rules ask of a session: the drive's profile, its sectors, those of its shadow, the rows and the shadow's bytes in its
+-- what the rules ask of a session: the drive's profile and sectors, those of its shadow, the rows and the shadow's bytes in its
 -- view, its SP, the rows there by which a change is judged, the authorities that it holds, and whether it has a
 -- transaction open
 pub record Standing : Type 0 where
@@ -42,8 +44,8 @@ pub record Standing : Type 0 where
   pub is_open : Bool
 
 -- what a call asks, or nothing where its arguments have not the shape of its method
-abbrev pub asked : Sp → Uid → Uid → Trees → Option Ask
-asked sp object method args = ask_of sp object method (values_of args)
+abbrev pub asked : Profile → Sp → Uid → Uid → Trees → Option Ask
+asked profile sp object method args = ask_of profile sp object method (values_of args)
 
 pub data Judgement : Type 0 where
   Refuses : (status : ℕ) (denied : Option Why) → Judgement
@@ -52,6 +54,8 @@ pub data Judgement : Type 0 where
   Attempts : (authority : Uid) (pin : List ℕ) → Judgement
   Activates : Judgement
   Reverts : (sp : Sp) → Judgement
+  Erases : (range : ℕ) → Judgement
+  RevertsSp : (keep : Bool) → Judgement
 
 -- what denies a call
 abbrev pub denial : Standing → Uid → Uid → Ask → Option Why
@@ -109,10 +113,21 @@ abbrev pub makes : Option Setting → Judgement
 makes None = Refuses invalid_parameter None
 makes (Some set) = Makes set
 
--- Activate and Revert do nothing within a transaction
+-- Activate, Revert, GenKey and RevertSP do nothing within a transaction
 abbrev pub unless_open : Bool → Judgement → Judgement
 unless_open true judgement = Refuses fail None
 unless_open false judgement = judgement
+
+-- a new key of a range; there is none of what is no range's key
+abbrev pub erases : Option ℕ → Judgement
+erases None = Refuses fail None
+erases (Some range) = Erases range
+
+-- a RevertSP keeps no global range that is locked both ways. It is outside of a transaction, so what its session sees is
+-- what is in force
+abbrev pub reverts_sp : LookUp → Bool → Judgement
+reverts_sp rows keep =
+    if keep && is_wholly_locked rows then Refuses fail None else RevertsSp keep
 
 -- what a granted call comes to, where the object's kind has the method
 abbrev pub does_ask : Standing → Uid → Ask → Judgement
@@ -123,6 +138,8 @@ does_ask s object (SetBytes at content) = makes (to_set s object (SetBytes at co
 does_ask s object (Authenticate authority pin) = Attempts authority pin
 does_ask s object Activate = unless_open s.is_open Activates
 does_ask s object Revert = unless_open s.is_open (Reverts (sp_of_row object))
+does_ask s object GenKey = unless_open s.is_open (erases (key_number object))
+does_ask s object (RevertSp keep) = unless_open s.is_open (reverts_sp s.rows keep)
 does_ask s object Other = Refuses fail None
 
 abbrev pub does : Standing → Uid → Ask → Judgement

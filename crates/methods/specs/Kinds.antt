@@ -2,7 +2,7 @@
 use Rattle.std.specs.Prelude.{◌==◌, ℕ, Option, None, Some, if◌then◌else◌}
 use Rattle.sp_cells.specs.declared.names.Uid.{Uid}
 use Rattle.sp_cells.specs.declared.names.Sp.{Sp}
-use Rattle.sp_cells.specs.Names.{this_sp, table_of, ace_table, authority_table, c_pin_table, sp_table, locking_info_table, table_table, locking_table, mbr_control_table, tper_info_table}
+use Rattle.sp_cells.specs.Names.{this_sp, table_of, ace_table, authority_table, c_pin_table, sp_table, locking_info_table, table_table, locking_table, mbr_control_table, tper_info_table, key_table}
 use Rattle.call_shapes.specs.Asks.{is_mbr_table}
 use Rattle.methods.specs.declared.kinds.Kind.{Kind}
 use Rattle.methods.specs.declared.kinds.Kind.TheVariants as kinds
@@ -18,7 +18,8 @@ kind_of_table table =
     if table == mbr_control_table then Some kinds.MbrControl else
     if table == tper_info_table then Some kinds.TperInfo else
     if table == locking_info_table then Some kinds.LockingInfo else
-    if table == table_table then Some kinds.Table else None
+    if table == table_table then Some kinds.Table else
+    if table == key_table then Some kinds.Key else None
 
 -- the kind of an object in a session of an SP
 abbrev pub kind_of : Sp → Uid → Option Kind

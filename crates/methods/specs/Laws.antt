@@ -21,7 +21,7 @@ use Rattle.methods.specs.Listed.{listed}
 use Rattle.methods.specs.Grants.{wanted, why_denied}
 use Rattle.methods.specs.Settings.{setting}
 use Rattle.sessions.specs.Deeds.{Setting, cells_set}
-use Rattle.methods.specs.Judgement.{Standing, Judgement, Refuses, Gives, Makes, Attempts, Activates, Reverts, denial, to_set, does, judged}
+use Rattle.methods.specs.Judgement.{Standing, Judgement, Refuses, Gives, Makes, Attempts, Activates, Reverts, Erases, RevertsSp, denial, to_set, does, judged}
 
 -- each of these columns has an ACE: one that names it, and whose expression is the postorder writing of a tree that is
 -- true of the authorities held
@@ -61,6 +61,8 @@ takes_effect (Makes setting) = true
 takes_effect (Attempts authority pin) = true
 takes_effect Activates = true
 takes_effect (Reverts sp) = true
+takes_effect (Erases range) = true
+takes_effect (RevertsSp keep) = true
 
 -- of a call of the right shape: with valid values it takes effect exactly where it is granted, and then it is what the
 -- ask comes to; where it is not granted, it is refused with a reason

@@ -85,6 +85,10 @@ fn perform(
         }
         (Handler::Activate, _) => handlers::activate(alloc, store, session),
         (Handler::Revert, _) => handlers::revert(alloc, store, sessions, session, object),
+        (Handler::GenKey, _) => handlers::gen_key(alloc, store, session, object),
+        (Handler::RevertSp, Ask::RevertSp { keep }) => {
+            handlers::revert_sp(alloc, store, sessions, session, *keep)
+        }
         _ => Ok(refused(alloc, status::FAIL, None)),
     }
 }
@@ -158,7 +162,8 @@ fn called(
     ensures no_session { (result ≡ Err faults.NoSession) → (live_holder sessions.old session
         ≡ None) }
 {
-    match read_ask(alloc, session.sp, object, method, args)? {
+    let profile = store.committed().config().profile();
+    match read_ask(alloc, profile, session.sp, object, method, args)? {
         Some(ask) => call_asked(alloc, store, sessions, session, object, method, &ask),
         None => Ok(refused(alloc, status::INVALID_PARAMETER, None)),
     }

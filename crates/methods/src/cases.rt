@@ -5,7 +5,9 @@
 macro_rules! method_cases {
     ($arms:ident $args:tt) => {
         $arms! { $args
-            [ThisSp: Authenticate [] Authenticate]
+            [ThisSp:
+                Authenticate [] Authenticate,
+                RevertSp [] RevertSp]
             [Sp:
                 GetCells [UID Object, NAME Name, LIFE_CYCLE_STATE Number] ReadCells,
                 Activate [] Activate,
@@ -57,6 +59,7 @@ macro_rules! method_cases {
             [MbrTable:
                 GetBytes [] ReadBytes,
                 SetBytes [] WriteBytes]
+            [Key: GenKey [] GenKey]
         }
     };
 }

@@ -7,12 +7,16 @@ ghost use Rattle.transactions.specs.Sights.{sight_of, is_manufactured};
 ghost use Rattle.sessions.specs.Live.{Live};
 ghost use Rattle.methods.specs.Kinds.{kind_of as kind_of_object};
 ghost use Rattle.methods.specs.Changes.{setting_seen};
-ghost use Rattle.methods.specs.Effects.{live_holder, has_transaction, has_set, sp_of_row as sp_of};
-ghost use Rattle.methods.specs.Judgement.{Attempts, Activates, Reverts, list_given, listing, gives, bytes_given, to_set, makes, unless_open};
+ghost use Rattle.sessions.specs.Answers.{rows_in_force};
+ghost use Rattle.methods.specs.Erasures.{erased_by_revert};
+ghost use Rattle.sp_cells.specs.Numbers.{key_number};
+ghost use Rattle.methods.specs.Effects.{live_holder, seen_by, has_transaction, has_set, sp_of_row as sp_of};
+ghost use Rattle.methods.specs.Judgement.{Attempts, Activates, Reverts, list_given, listing, gives, bytes_given, to_set, makes, unless_open, erases, reverts_sp};
 ghost use Rattle.methods.specs.Calls.{standing_on, standing_in, outcome_in, Tells, Fulfils};
 ghost use Rattle.methods.specs.declared.outcome.MethodFault.TheVariants as faults;
 
 use crate::changes::apply_set;
+use crate::erasures::{erased_by_key, erased_by_revert_sp, is_wholly_locked};
 use crate::lists::list_columns;
 use crate::outcome::{MethodFault, Outcome, fitting, number_result, refused, said};
 use crate::settings::check_set;
@@ -21,7 +25,7 @@ use audit::{AttemptFailure, Why};
 use call_shapes::limits::MOST_RESPONSE;
 use call_shapes::{Ask, list_value, status};
 use sessions::{AuthAnswer, Sessions};
-use shadow_mbr::SECTOR_SIZE;
+use shadow_mbr::{Erasure, SECTOR_SIZE};
 use sp_cells::limits::MANUFACTURED;
 use sp_cells::{Column, Rows, Sp, Uid, number_at};
 use std::alloc::{AllocError, Global};
@@ -173,7 +177,7 @@ pub(crate) fn write(
         return Ok(refused(alloc, status::INVALID_PARAMETER, None));
     };
     if apply_set(alloc, store, session, &change)? {
-        Ok(said(Vec::new(alloc), None, false))
+        Ok(said(Vec::new(alloc), None, Erasure::none()))
     } else {
         Ok(refused(alloc, status::INVALID_PARAMETER, None))
     }
@@ -199,8 +203,8 @@ pub(crate) fn authenticate(
     let right = number_result(alloc, 1)?;
     let wrong = number_result(alloc, 0)?;
     match sessions.authenticate(store, session, authority, proof) {
-        AuthAnswer::Right => Ok(said(right, None, false)),
-        AuthAnswer::Wrong(why) => Ok(said(wrong, Some(why), false)),
+        AuthAnswer::Right => Ok(said(right, None, Erasure::none())),
+        AuthAnswer::Wrong(why) => Ok(said(wrong, Some(why), Erasure::none())),
         AuthAnswer::LockedOut => Ok(refused(
             alloc,
             status::AUTHORITY_LOCKED_OUT,
@@ -230,7 +234,7 @@ pub(crate) fn activate(
         return Ok(refused(alloc, status::FAIL, None));
     }
     store.activate()?;
-    Ok(said(Vec::new(alloc), None, false))
+    Ok(said(Vec::new(alloc), None, Erasure::none()))
 }
 
 /// Whether the Locking SP is in use.
@@ -243,6 +247,17 @@ fn is_in_use(store: &Store) -> bool
         Uid::LOCKING_SP,
         Column::LIFE_CYCLE_STATE,
     ) == MANUFACTURED
+}
+
+/// What a Revert erases: all sectors where the Locking SP is in use, and else none.
+fn erased_by_revert(store: &Store) -> Erasure
+    ensures { result ≡ erased_by_revert (rows_in_force store.now) }
+{
+    if is_in_use(store) {
+        Erasure::all()
+    } else {
+        Erasure::none()
+    }
 }
 
 /// The SP that a row of the SP table names.
@@ -274,12 +289,65 @@ pub(crate) fn revert(
     if store.is_open(session) {
         return Ok(refused(alloc, status::FAIL, None));
     }
-    let wipe = is_in_use(store);
+    let erases = erased_by_revert(store);
     let sp = sp_of_row(object);
     store.revert(sp)?;
     match sp {
         Sp::Admin => sessions.end_all(),
         Sp::Locking => sessions.end_on(Sp::Locking),
     }
-    Ok(said(Vec::new(alloc), None, wipe))
+    Ok(said(Vec::new(alloc), None, erases))
+}
+
+/// GenKey of a range's key. The rows stay.
+pub(crate) fn gen_key(
+    alloc: Global,
+    store: &Store,
+    session: SessionId,
+    object: Uid,
+) -> Result<Outcome, MethodFault>
+    ensures fulfils { (l : Live) → IfOk result (λ out.
+        Fulfils (outcome_in store.now session
+        (unless_open (has_transaction store.now session) (erases (key_number object))))
+        out store.now store.now l l) }
+    ensures memory { IfErr result (λ e. e ≡ faults.OutOfMemory) }
+{
+    if store.is_open(session) {
+        return Ok(refused(alloc, status::FAIL, None));
+    }
+    match object.key_number() {
+        Some(range) => Ok(said(
+            Vec::new(alloc),
+            None,
+            erased_by_key(&store.committed(), range),
+        )),
+        None => Ok(refused(alloc, status::FAIL, None)),
+    }
+}
+
+/// RevertSP: the Locking SP's own Revert, by its session.
+pub(crate) fn revert_sp(
+    alloc: Global,
+    store: &mut Store,
+    sessions: &mut Sessions,
+    session: SessionId,
+    keep: bool,
+) -> Result<Outcome, MethodFault>
+    ensures fulfils { IfOk result (λ out.
+        Fulfils (outcome_in store.old session
+        (unless_open (has_transaction store.old session) (reverts_sp (seen_by store.old session) keep)))
+        out store.old store.new sessions.old sessions.new) }
+    ensures err { OnErr result ((store.new ≡ store.old) × (sessions.new ≡ sessions.old)) }
+    ensures memory { IfErr result (λ e. e ≡ faults.OutOfMemory) }
+{
+    if store.is_open(session) {
+        return Ok(refused(alloc, status::FAIL, None));
+    }
+    if keep && is_wholly_locked(&store.view(session)) {
+        return Ok(refused(alloc, status::FAIL, None));
+    }
+    let erases = erased_by_revert_sp(&store.committed(), keep);
+    store.revert(Sp::Locking)?;
+    sessions.end_on(Sp::Locking);
+    Ok(said(Vec::new(alloc), None, erases))
 }

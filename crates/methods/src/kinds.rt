@@ -20,6 +20,7 @@ pub enum Kind {
     LockingInfo,
     Table,
     MbrTable,
+    Key,
 }
 
 /// What does a call of a method that a kind of object has.
@@ -32,6 +33,8 @@ pub enum Handler {
     Authenticate,
     Activate,
     Revert,
+    GenKey,
+    RevertSp,
 }
 
 /// The kind of the rows of a table, by the upper four bytes of their names.
@@ -48,6 +51,7 @@ fn table_kind(table: u64) -> Option<Kind>
         tables::TPER_INFO => Some(Kind::TperInfo),
         tables::LOCKING_INFO => Some(Kind::LockingInfo),
         tables::TABLE => Some(Kind::Table),
+        tables::K_AES_256 => Some(Kind::Key),
         _ => None,
     }
 }

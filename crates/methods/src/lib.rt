@@ -4,6 +4,7 @@
 mod calls;
 mod cases;
 mod changes;
+mod erasures;
 mod grants;
 mod handlers;
 mod kinds;

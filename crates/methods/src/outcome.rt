@@ -4,6 +4,7 @@ ghost use Rattle.std.specs.Prelude.{◌≡◌, true, false, [], ◌∷◌, map, 
 ghost use Rattle.tcg_tokens.specs.Tree.{tree, number};
 ghost use Rattle.tcg_tokens.specs.Message.{message};
 ghost use Rattle.call_shapes.specs.Statuses.{success};
+ghost use Rattle.shadow_mbr.specs.Erasure.{no_sectors};
 ghost use Rattle.methods.specs.Said.{reply_of, refusal_of};
 ghost use Rattle.methods.specs.Judgement.{Refuses, gives};
 ghost use Rattle.methods.specs.Calls.{Tells};
@@ -11,17 +12,18 @@ ghost use Rattle.methods.specs.Calls.{Tells};
 use audit::Why;
 use call_shapes::limits::MOST_RESPONSE;
 use call_shapes::status;
+use shadow_mbr::Erasure;
 use std::alloc::{AllocError, AllocFailed, Global};
 use tcg_tokens::{Item, Value, item_len, writable};
 use thiserror::Error;
 
-/// What comes of a call: the reply, why it was denied, whether all media become zeros, and whether
-/// rows or bytes may have changed.
+/// What comes of a call: the reply, why it was denied, which sectors become zeros, and whether rows or
+/// bytes may have changed.
 #[derive(Drop)]
 pub struct Outcome {
     pub reply: Item,
     pub denied: Option<Why>,
-    pub wipe: bool,
+    pub erases: Erasure,
     pub changes: bool,
 }
 
@@ -70,16 +72,16 @@ fn reply(results: Vec<Value>, status: u64) -> Item
 }
 
 /// These results of a call that may change something, and what was denied beside them.
-pub(crate) fn said(results: Vec<Value>, denied: Option<Why>, wipe: bool) -> Outcome
+pub(crate) fn said(results: Vec<Value>, denied: Option<Why>, erases: Erasure) -> Outcome
     ensures reply { message result.reply ≡ reply_of (map tree results.items) success }
     ensures denied { result.denied ≡ denied }
-    ensures wipe { result.wipe ≡ wipe }
+    ensures erases { result.erases ≡ erases }
     ensures changes { result.changes ≡ true }
 {
     Outcome {
         reply: reply(results, status::SUCCESS),
         denied,
-        wipe,
+        erases,
         changes: true,
     }
 }
@@ -88,14 +90,14 @@ pub(crate) fn said(results: Vec<Value>, denied: Option<Why>, wipe: bool) -> Outc
 pub(crate) fn refused(alloc: Global, status: u64, denied: Option<Why>) -> Outcome
     ensures reply { message result.reply ≡ refusal_of status }
     ensures denied { result.denied ≡ denied }
-    ensures wipe { result.wipe ≡ false }
+    ensures erases { result.erases ≡ no_sectors }
     ensures changes { result.changes ≡ false }
     ensures tells { Tells (Refuses status denied) result }
 {
     Outcome {
         reply: reply(Vec::new(alloc), status),
         denied,
-        wipe: false,
+        erases: Erasure::none(),
         changes: false,
     }
 }
@@ -109,7 +111,7 @@ pub(crate) fn fitting(alloc: Global, results: Vec<Value>) -> Outcome
         return Outcome {
             reply,
             denied: None,
-            wipe: false,
+            erases: Erasure::none(),
             changes: false,
         };
     }

@@ -22,8 +22,9 @@ use Rattle.locking.specs.declared.range.Op.TheVariants.{Read}
 use Rattle.locking.specs.declared.ranges.Verdict.{Verdict}
 use Rattle.locking.specs.declared.ranges.Verdict.TheVariants.{Serve, Shadow, Denied}
 use Rattle.history.specs.Events.{CompletedWrite, Deed, InSession, OfQueue, Wrote, Event, or_else, latest}
-use Rattle.sessions.specs.Deeds.{SessionDeed, Reverted}
-use Rattle.history.specs.Readers.{part_of, wipes, writing, sector}
+use Rattle.sessions.specs.Deeds.{erased_by}
+use Rattle.shadow_mbr.specs.Erasure.{is_erased}
+use Rattle.history.specs.Readers.{part_of, writing, sector}
 use Rattle.history.specs.Facts.{Facts}
 use Rattle.history.specs.Decisions.{verdict_on, discovery_com_id}
 use Rattle.history.specs.Answers.{read_by, held_data}
@@ -61,14 +62,14 @@ part-is place lba bytes =
         length-take-le 512 (drop (512 * (place - lba)) bytes)
         (omega (arith, rest, part-long place lba bytes is))
 
-wipes-is : (d : SessionDeed) → IsSector (wipes d)
-wipes-is (Reverted sp true) = length-zeros
-wipes-is _ = tt
+erasing-is : (b : Bool) → IsSector (if b then Some zeros else None)
+erasing-is true = length-zeros
+erasing-is false = tt
 
 writing-is : (place : ℕ) (d : Deed) → IsSector (writing place d)
 writing-is place (OfQueue (CompletedWrite tag lba bytes)) = part-is place lba bytes
 writing-is place (Wrote lba bytes) = part-is place lba bytes
-writing-is place (InSession deed response) = wipes-is deed
+writing-is place (InSession deed response) = erasing-is (is_erased (erased_by deed) place)
 writing-is place _ = tt
 
 or-is : (x y : Option (List ℕ)) → IsSector x → IsSector y → IsSector (or_else x y)

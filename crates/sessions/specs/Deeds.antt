@@ -1,11 +1,13 @@
 -- What an item does, sent to the session manager or to a session, and how it is answered. A deed names its SP, and
--- records what it did: the session as it began, the PIN that an Activate copied, whether media were wiped.
-use Rattle.std.specs.Prelude.{ℕ, Bool, false, List, [], Option, None, Some}
+-- records what it did: the session as it began, the PIN that an Activate copied, which sectors were erased.
+use Rattle.std.specs.Prelude.{ℕ, List, [], Option, None, Some}
 use Rattle.sp_cells.specs.declared.names.Uid.{Uid}
 use Rattle.sp_cells.specs.declared.names.Sp.{Sp}
 use Rattle.sp_cells.specs.declared.names.Column.{Column}
 use Rattle.sp_cells.specs.declared.cells.Cell.{Cell}
 use Rattle.sp_cells.specs.Flat.{LookUp}
+use Rattle.shadow_mbr.specs.declared.erasure.Erasure.{Erasure}
+use Rattle.shadow_mbr.specs.Erasure.{no_sectors}
 use Rattle.audit.specs.declared.reason.AttemptFailure.{AttemptFailure}
 use Rattle.audit.specs.declared.reason.Why.{Why}
 use Rattle.tcg_tokens.specs.Message.{Message}
@@ -59,12 +61,14 @@ pub data SessionDeed : Type 0 where
   Aborted : (sp : Sp) → SessionDeed
   Ended : (sp : Sp) → SessionDeed
   Activated : (pin : Option Cell) → SessionDeed
-  Reverted : (sp : Sp) (wipes : Bool) → SessionDeed
+  Reverted : (sp : Sp) (erasure : Erasure) → SessionDeed
+  Erased : (erasure : Erasure) → SessionDeed
 
--- all media become zeros
-abbrev pub wipes_by : SessionDeed → Bool
-wipes_by (Reverted sp wipes) = wipes
-wipes_by _ = false
+-- which sectors become zeros
+abbrev pub erased_by : SessionDeed → Erasure
+erased_by (Reverted sp erasure) = erasure
+erased_by (Erased erasure) = erasure
+erased_by _ = no_sectors
 
 -- what it does and is answered, and what denied it
 pub record Outcome : Type 0 where

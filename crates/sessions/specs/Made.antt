@@ -9,6 +9,7 @@ use Rattle.sp_cells.specs.Ranges.{number}
 use Rattle.sp_rows.specs.Items.{Item, with_items}
 use Rattle.sp_tables.specs.Tries.{names_tries}
 use Rattle.shadow_mbr.specs.Stored.{sector_size}
+use Rattle.shadow_mbr.specs.declared.erasure.Erasure.{Erasure}
 use Rattle.ace_eval.specs.Truth.{has}
 use Rattle.audit.specs.declared.reason.AttemptFailure.{AttemptFailure}
 use Rattle.audit.specs.declared.reason.AttemptFailure.TheVariants.{WrongPin, LockedOut, Disabled, Unknown}
@@ -18,7 +19,7 @@ use Rattle.transactions.specs.Bytes.{written}
 use Rattle.transactions.specs.Stored.{Transaction, Part, Stored, part, at_part, part_begin, part_commit, part_close, part_tries, reverted}
 use Rattle.transactions.specs.Sights.{activated_with}
 use Rattle.sessions.specs.Answers.{rows_in_force, up}
-use Rattle.sessions.specs.Deeds.{Setting, cells_set, bytes_set, Change, Sets, Restores, Resets, Begun, holder_of, SessionDeed, Unchanged, Started, Tried, Changed, Began, Committed, Aborted, Ended, Activated, Reverted, wipes_by, Outcome}
+use Rattle.sessions.specs.Deeds.{Setting, cells_set, bytes_set, Change, Sets, Restores, Resets, Begun, holder_of, SessionDeed, Unchanged, Started, Tried, Changed, Began, Committed, Aborted, Ended, Activated, Reverted, Erased, erased_by, Outcome}
 use Rattle.sessions.specs.Live.{Holder, Live, session_at, unless_on}
 
 -- what a setting makes of rows, of bytes, and of a store
@@ -88,7 +89,8 @@ StoresAs (Committed sp) s t = Commits sp s t
 StoresAs (Aborted sp) s t = t ≡ at_part sp part_close s
 StoresAs (Ended sp) s t = t ≡ at_part sp part_close s
 StoresAs (Activated pin) s t = t ≡ activated_with pin s
-StoresAs (Reverted sp wipes) s t = t ≡ reverted sp s
+StoresAs (Reverted sp erasure) s t = t ≡ reverted sp s
+StoresAs (Erased erasure) s t = t ≡ s
 
 -- a session of the SP holds also what an attempt there gained, behind what it held
 abbrev pub with_each : List Uid → List Uid → List Uid
@@ -125,19 +127,20 @@ abbrev pub LivesAs : SessionDeed → Live → Live → Type 0
 LivesAs (Started session row) l m = Starts session l m
 LivesAs (Tried attempt) l m = Leaves (gains_on attempt.sp attempt.gained) l m
 LivesAs (Ended sp) l m = Leaves (unless_on sp) l m
-LivesAs (Reverted sp wipes) l m = Leaves (ended_by sp) l m
+LivesAs (Reverted sp erasure) l m = Leaves (ended_by sp) l m
 LivesAs Unchanged l m = LeavesAll l m
 LivesAs (Changed sp change) l m = LeavesAll l m
 LivesAs (Began sp number) l m = LeavesAll l m
 LivesAs (Committed sp) l m = LeavesAll l m
 LivesAs (Aborted sp) l m = LeavesAll l m
 LivesAs (Activated pin) l m = LeavesAll l m
+LivesAs (Erased erasure) l m = LeavesAll l m
 
--- what is answered, and what is made of the store and of the sessions, is what an outcome says
-pub record Meets (out : Outcome) (said : Message) (why : Option Why) (wiped : Bool) (s t : Stored)
-    (l m : Live) : Type 0 where
+-- what is answered, which sectors are erased, and what is made of the store and of the sessions, is what an outcome says
+pub record Meets (out : Outcome) (said : Message) (why : Option Why) (erasure : Erasure)
+    (s t : Stored) (l m : Live) : Type 0 where
   pub answer : said ≡ out.said
   pub denied : why ≡ out.denied
-  pub wipe : wiped ≡ wipes_by out.deed
+  pub erases : erasure ≡ erased_by out.deed
   pub store : StoresAs out.deed s t
   pub sessions : LivesAs out.deed l m

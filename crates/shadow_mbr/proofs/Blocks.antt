@@ -67,10 +67,10 @@ below_all : (k : ℕ) (e : ℕ × ℕ) (es : List (ℕ × ℕ)) → k < e.0 → 
 unfolding IsStrictlySortedBy
 below_all k e es lt sorted = rw (at_less k e.0 lt) (none_above k es (behind k (e.0 + 1) (keys_of es) (omega arith) (above e.0 (keys_of es) sorted.0)))
 
-head_is : (e : ℕ × ℕ) (es : List (ℕ × ℕ)) → place_at (e ∷ es) e.0 ≡ Some e.1
+pub head_is : (e : ℕ × ℕ) (es : List (ℕ × ℕ)) → place_at (e ∷ es) e.0 ≡ Some e.1
 head_is e es = rw (at_same e.0) refl
 
-tail_is : (k : ℕ) (e : ℕ × ℕ) (es : List (ℕ × ℕ)) → k ≢ e.0 → place_at (e ∷ es) k ≡ place_at es k
+pub tail_is : (k : ℕ) (e : ℕ × ℕ) (es : List (ℕ × ℕ)) → k ≢ e.0 → place_at (e ∷ es) k ≡ place_at es k
 tail_is k e es apart = rw (at_other k e.0 (λ same. apart (sym same))) refl
 
 pub same_places : (a b : List (ℕ × ℕ)) → IsStrictlySortedBy nat_cmp (keys_of a) → IsStrictlySortedBy nat_cmp (keys_of b) → ((s : ℕ) → place_at a s ≡ place_at b s) → a ≡ b

@@ -8,3 +8,4 @@ pub mod Numbers
 pub mod Groups
 pub mod Blocks
 pub mod Runs
+pub mod Cleared

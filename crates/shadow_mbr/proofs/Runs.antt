@@ -1,10 +1,10 @@
 -- One piece of a write, by the blocks.
-use Rattle.std.proofs.Common.{◌≡◌, Bool, nat_le, nat_lt, ◌&&◌, ℕ, ◌+◌, ◌/◌, ◌%◌, ◌<◌, ◌≤◌, List, ◌++◌, length, take, drop, set, true, refl, sym, ◌∙◌, arith, rules, Option, Some, None}
+use Rattle.std.proofs.Common.{◌≡◌, Bool, nat_le, nat_lt, ◌&&◌, ℕ, ◌+◌, ◌/◌, ◌%◌, ◌<◌, ◌≤◌, List, ◌++◌, length, take, drop, set, true, refl, sym, ◌∙◌, rules, Option, Some, None}
 use Rattle.std.specs.Prelude.{is_some, IfSome, IsTrue, ◌↔◌}
 use Rattle.std.proofs.lemmas.List.{places, length-set, get_or-set_same, get_or-set_other}
 use Rattle.std.proofs.lemmas.Bool.{cases_eq}
 use Rattle.std.proofs.Common.{inl, inr}
-use Rattle.shadow_mbr.specs.Stored.{StoredSectors, HaveBlocks, has_byte, block_in, kept_byte, byte_after, zeros}
+use Rattle.shadow_mbr.specs.Stored.{HaveBlocks, has_byte, block_in, kept_byte, byte_after, zeros}
 use Rattle.shadow_mbr.specs.Places.{place_at, block_at, blocks_of, blocks_after, AreOwn}
 use Rattle.shadow_mbr.proofs.Blocks.{put_bytes, same_none, whole_block}
 use Rattle.shadow_mbr.proofs.Touched.{touched, all_touched, between, is_between}

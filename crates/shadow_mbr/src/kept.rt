@@ -8,6 +8,7 @@ ghost use Rattle.std.specs.Ordering.{nat_cmp};
 ghost use Rattle.shadow_mbr.specs.Stored.{sector_size, zeros, HaveBlocks, kept_byte, byte_after};
 ghost use Rattle.shadow_mbr.specs.Places.{place_at, block_at, blocks_of, blocks_after, AreOwn, AddsPlaces};
 
+use crate::erasure::Erasure;
 use crate::piece::{SECTOR, piece_len, sectors_of};
 use crate::places::{Finder, Places};
 use std::alloc::{AllocError, Global};
@@ -41,7 +42,7 @@ impl Model for Kept {
 
 /// A sector of zeros.
 #[tactic(auto, unfolding(crate::specs::Stored::zeros))]
-fn zeros() -> &'static Block
+pub(crate) fn zeros() -> &'static Block
     ensures { result.now ≡ zeros }
 {
     &ZEROS
@@ -160,6 +161,7 @@ impl Kept {
     ghost use Rattle.std.specs.Map.{keys_of};
     ghost use Rattle.std.specs.Ordering.{nat_cmp};
     ghost use Rattle.shadow_mbr.specs.Stored.{sector_size, zeros, block_in, HaveBlocks, kept_byte, byte_after, sectors_from};
+    ghost use Rattle.shadow_mbr.specs.Erasure.{is_erased};
 
     pub(crate) fn new(alloc: Global) -> Kept
         ensures { result ≡ [] }
@@ -282,5 +284,16 @@ impl Kept {
             return Err(refused);
         }
         Ok(())
+    }
+
+    /// Makes zeros of the sectors that are erased, and keeps them.
+    #[tactic(auto, using(crate::proofs::Blocks::sorted_blocks))]
+    pub(crate) fn erase(&mut self, erasure: &Erasure)
+        ensures sectors { (s : ℕ) → unwrap_or (block_in self.new s) zeros
+            ≡ (if is_erased erasure.now s then zeros else unwrap_or (block_in self.old s) zeros) }
+        ensures whole { (s : ℕ) → length (unwrap_or (block_in self.new s) zeros) ≡ sector_size }
+        ensures sorted { IsStrictlySortedBy nat_cmp (keys_of self.new) }
+    {
+        self.places.erase(erasure, &mut self.blocks);
     }
 }

@@ -1,9 +1,11 @@
 //! The media of a drive and the bytes of its shadow MBR, kept by the sectors that were written.
 //!
-//! Each byte is the last one that was written there since `new` or `wipe`, else zero. A sector
+//! Each byte is the last one that was written there since `new`, `wipe` or an erasure of it, else zero. A sector
 //! that was never written takes no memory.
 #![tactic(auto)]
 
+mod erasing;
+mod erasure;
 mod kept;
 mod mbr;
 mod media;
@@ -11,6 +13,7 @@ mod piece;
 mod places;
 mod sectors;
 
+pub use erasure::{Erasure, MOST_RUNS, Run, Runs};
 pub use kept::{Block, SECTOR_SIZE};
 pub use mbr::Mbr;
 pub use media::Media;

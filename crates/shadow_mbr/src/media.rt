@@ -1,5 +1,6 @@
 //! The sectors of a drive.
 
+use crate::erasure::Erasure;
 use crate::kept::Block;
 use crate::piece::SECTOR;
 use crate::sectors::Sectors;
@@ -24,8 +25,9 @@ impl Model for Media {
 }
 
 impl Media {
-    ghost use Rattle.std.specs.Prelude.{◌≡◌, ◌+◌, ◌*◌, ◌/◌, ◌%◌, ◌≤◌, ◌<◌, ◌^◌, ℕ, length, is_some, ◌||◌, OnOk, OnErr, IfOk, [], slice_index, slice_range};
+    ghost use Rattle.std.specs.Prelude.{◌≡◌, ◌+◌, ◌*◌, ◌/◌, ◌%◌, ◌≤◌, ◌<◌, ◌^◌, ℕ, length, is_some, ◌||◌, OnOk, OnErr, IfOk, [], slice_index, slice_range, if◌then◌else◌};
     ghost use Rattle.shadow_mbr.specs.Stored.{sector_size, sector_limit, zeros, kept_at, has_byte, sector_at, byte_at, byte_after, sector_after, sectors_from};
+    ghost use Rattle.shadow_mbr.specs.Erasure.{is_erased};
 
     /// So many sectors of zeros.
     #[tactic(auto, using(crate::proofs::Zeros::blank_byte))]
@@ -117,13 +119,13 @@ impl Media {
         Ok(())
     }
 
-    /// Makes every sector zeros, and gives back the memory.
-    #[tactic(auto, using(crate::proofs::Zeros::blank_byte))]
-    pub fn wipe(&mut self)
-        ensures exact { self.new ≡ record self.old { kept = [] } }
-        ensures blank { (sector : ℕ) → sector_at self.new sector ≡ zeros }
-        ensures zero { (place : ℕ) → byte_at self.new place ≡ 0 }
+    /// Makes zeros of the sectors that are erased; each other keeps its bytes. It takes no memory, and
+    /// where all are erased it gives back what it has.
+    pub fn erase(&mut self, erasure: &Erasure)
+        ensures size { self.new.sectors ≡ self.old.sectors }
+        ensures sectors { (sector : ℕ) → sector_at self.new sector
+            ≡ (if is_erased erasure.now sector then zeros else sector_at self.old sector) }
     {
-        self.held.clear();
+        self.held.erase(erasure);
     }
 }

@@ -3,6 +3,9 @@
 
 ghost use Rattle.std.specs.Prelude.{◌≡◌, ◌<◌, length, set};
 
+use crate::erasing::erase_group;
+use crate::erasure::Erasure;
+use crate::kept::Block;
 use std::alloc::{AllocError, Global};
 use std::collections::BTreeMap;
 use std::marker::Model;
@@ -13,7 +16,7 @@ const GROUP_SIZE: usize = 64;
 const GROUP: u64 = GROUP_SIZE as u64;
 
 /// Where the blocks of the sectors of a group stand.
-type Group = [Option<usize>; GROUP_SIZE];
+pub(crate) type Group = [Option<usize>; GROUP_SIZE];
 
 /// Where the block of each sector stands that has one.
 #[derive(Drop)]
@@ -111,6 +114,7 @@ impl Places {
     ghost use Rattle.std.specs.Map.{keys_of};
     ghost use Rattle.std.specs.List.Sorted.{IsStrictlySortedBy};
     ghost use Rattle.shadow_mbr.specs.Places.{place_at};
+    ghost use Rattle.shadow_mbr.specs.Erasure.{is_erased, blocks_erased};
 
     pub(crate) fn new(alloc: Global) -> Places
         ensures { result ≡ [] }
@@ -172,6 +176,17 @@ impl Places {
     {
         if let Some(group) = self.groups.get_mut(&(sector / GROUP)) {
             put_place(group, (sector % GROUP) as usize, None);
+        }
+    }
+
+    /// Makes zeros of the blocks of the sectors that are erased.
+    pub(crate) fn erase(&self, erasure: &Erasure, blocks: &mut Vec<Block>)
+        ensures { blocks.new.items
+            ≡ blocks_erased (is_erased erasure.now) self.now blocks.old.items }
+    {
+        for (number, group) in &self.groups {
+            let first = u128::from(*number) * u128::from(GROUP);
+            erase_group(erasure, first, group, blocks);
         }
     }
 }

@@ -4,6 +4,7 @@ ghost use Rattle.std.specs.Prelude.{◌≡◌, ◌+◌, ◌-◌, ◌%◌, ◌^�
 ghost use Rattle.std.specs.List.{list_any};
 ghost use Rattle.shadow_mbr.specs.Stored.{sector_size, zeros, has_byte};
 
+use crate::erasure::Erasure;
 use crate::kept::{Block, Kept, SECTOR_SIZE};
 use crate::piece::{SECTOR, piece_len, sectors_of};
 use std::alloc::{AllocError, Global};
@@ -33,6 +34,7 @@ impl Sectors {
     ghost use Rattle.std.specs.Prelude.{nat_eq, ◌||◌, None, Some};
     ghost use Rattle.std.specs.List.{list_any};
     ghost use Rattle.shadow_mbr.specs.Stored.{IsSound, AreKept, ListsMissing, sector_size, sector_limit, zeros, kept_at, sector_at, byte_at, byte_after, has_byte, sectors_from};
+    ghost use Rattle.shadow_mbr.specs.Erasure.{is_erased};
 
     pub(crate) fn new(alloc: Global, sectors: u64) -> Sectors
         requires { sectors ≤ sector_limit }
@@ -232,5 +234,21 @@ impl Sectors {
             self.overwrite(at, bytes);
         }
         Ok(())
+    }
+
+    /// Makes zeros of the sectors that are erased. Where all are, nothing is kept any more, and the
+    /// memory is given back.
+    pub(crate) fn erase(&mut self, erasure: &Erasure)
+        ensures size { self.new.sectors ≡ self.old.sectors }
+        ensures sectors { (s : ℕ) → sector_at self.new s
+            ≡ (if is_erased erasure.now s then zeros else sector_at self.old s) }
+        ensures sound { IsSound self.new }
+    {
+        self.is_sound();
+        if erasure.names_all() {
+            self.clear();
+        } else {
+            self.kept.erase(erasure);
+        }
     }
 }

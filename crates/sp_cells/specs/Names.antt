@@ -39,6 +39,9 @@ mbr_control_table = 0x0803
 abbrev pub tper_info_table : ℕ
 tper_info_table = 0x0201
 
+abbrev pub key_table : ℕ
+key_table = 0x0806
+
 -- the column of this number
 abbrev pub col : ℕ → Column
 col n = record { 0 = n }
@@ -269,6 +272,13 @@ revert = uid 0x0000000600000202
 
 abbrev pub activate : Uid
 activate = uid 0x0000000600000203
+
+-- the methods of the field profile alone
+abbrev pub gen_key : Uid
+gen_key = uid 0x0000000600000010
+
+abbrev pub revert_sp : Uid
+revert_sp = uid 0x0000000600000011
 
 -- the session manager and its methods (Core 2.01, section 5.2)
 abbrev pub session_manager : Uid

@@ -2,7 +2,7 @@
 use Rattle.std.specs.Prelude.{◌+◌, ◌-◌, ◌==◌, ◌&&◌, ℕ, nat_lt, nat_le, Option, Some, None, if◌then◌else◌}
 use Rattle.sp_cells.specs.declared.names.TheConstants.{RANGES, USERS, ADMINS}
 use Rattle.sp_cells.specs.declared.names.Uid.{Uid}
-use Rattle.sp_cells.specs.Names.{admin_base, user_base, admin_pin_base, user_pin_base, global_range, range_base, user_ace_base, range_get_ace_base, gen_key_ace_base, read_locked_ace_base, write_locked_ace_base}
+use Rattle.sp_cells.specs.Names.{admin_base, user_base, admin_pin_base, user_pin_base, global_range, range_base, user_ace_base, range_get_ace_base, gen_key_ace_base, read_locked_ace_base, write_locked_ace_base, global_key, key_base}
 
 -- the number of an object, where it is one of the first rows behind a base
 abbrev pub number_behind : (base count : ℕ) → Uid → Option ℕ
@@ -46,3 +46,7 @@ read_locked_ace_number = member_number_from read_locked_ace_base read_locked_ace
 
 abbrev pub write_locked_ace_number : Uid → Option ℕ
 write_locked_ace_number = member_number_from write_locked_ace_base write_locked_ace_base RANGES
+
+-- the row of a range's key, the global range being number 0
+abbrev pub key_number : Uid → Option ℕ
+key_number = member_number_from global_key.0 key_base RANGES

@@ -2,8 +2,8 @@
 
 ghost use Rattle.std.specs.Prelude.{◌≡◌, ◌^◌};
 ghost use Rattle.basics.specs.Addresses.{address_limit};
-ghost use Rattle.sp_cells.specs.Names.{none, this_sp, admin_sp, locking_sp, anybody, sid, admins_class, users_class, c_pin_sid, c_pin_msid, psid, c_pin_psid, locking_info, global_key, global_range, mbr_control, mbr_table, mbr_table_row, get, set, authenticate, revert, activate, session_manager, properties, start_session, sync_session, tper_info};
-ghost use Rattle.sp_cells.specs.Names.{table_table, ace_table, authority_table, c_pin_table, sp_table, locking_info_table, locking_table, mbr_control_table, tper_info_table};
+ghost use Rattle.sp_cells.specs.Names.{none, this_sp, admin_sp, locking_sp, anybody, sid, admins_class, users_class, c_pin_sid, c_pin_msid, psid, c_pin_psid, locking_info, global_key, global_range, mbr_control, mbr_table, mbr_table_row, get, set, authenticate, revert, activate, gen_key, revert_sp, session_manager, properties, start_session, sync_session, tper_info};
+ghost use Rattle.sp_cells.specs.Names.{table_table, ace_table, authority_table, c_pin_table, sp_table, locking_info_table, key_table, locking_table, mbr_control_table, tper_info_table};
 ghost use Rattle.sp_cells.specs.Names.{ace_anybody, ace_admins, ace_anybody_get_common_name, ace_c_pin_sid_get_nopin, ace_c_pin_sid_set_pin, ace_c_pin_msid_get_pin, ace_c_pin_get_psid_nopin, ace_sp_psid, ace_sp_sid, ace_tper_info_set_programmatic_reset_enable, ace_ace_set_boolean_expression, ace_authority_set_enabled, ace_c_pin_admins_get_all_nopin, ace_c_pin_admins_set_pin, ace_locking_get_all, ace_locking_global_range_admins_set, ace_locking_admins_set, ace_mbr_control_admins_set, ace_mbr_control_set_done_to_dor};
 ghost use Rattle.sp_cells.specs.ColumnNames.{uid_column, name_column, common_name_column, life_cycle_state_column, programmatic_reset_enable_column, pin_column, char_set_column, try_limit_column, tries_column, persistence_column};
 ghost use Rattle.sp_cells.specs.ColumnNames.{is_class_column, class_column, enabled_column, operation_column, credential_column, boolean_expr_column, columns_column};
@@ -35,7 +35,8 @@ pub fn laws_of_names()
     ensures ranges { (uids.GLOBAL_RANGE ≡ global_range) }
     ensures mbr { (uids.MBR_CONTROL ≡ mbr_control) × (uids.MBR_TABLE ≡ mbr_table) }
     ensures methods { (uids.GET ≡ get) × (uids.SET ≡ set) × (uids.AUTHENTICATE ≡ authenticate)
-        × (uids.REVERT ≡ revert) × (uids.ACTIVATE ≡ activate) }
+        × (uids.REVERT ≡ revert) × (uids.ACTIVATE ≡ activate) × (uids.GEN_KEY ≡ gen_key)
+        × (uids.REVERT_SP ≡ revert_sp) }
     ensures session_manager { (uids.SESSION_MANAGER ≡ session_manager)
         × (uids.PROPERTIES ≡ properties)
         × (uids.START_SESSION ≡ start_session) × (uids.SYNC_SESSION ≡ sync_session) }
@@ -61,7 +62,7 @@ pub fn laws_of_names()
         × (tables.C_PIN ≡ c_pin_table) × (tables.SP ≡ sp_table)
         × (tables.LOCKING_INFO ≡ locking_info_table)
         × (tables.LOCKING ≡ locking_table) × (tables.MBR_CONTROL ≡ mbr_control_table)
-        × (tables.TPER_INFO ≡ tper_info_table) }
+        × (tables.TPER_INFO ≡ tper_info_table) × (tables.K_AES_256 ≡ key_table) }
     ensures every_row { (columns.UID ≡ uid_column) × (columns.NAME ≡ name_column)
         × (columns.COMMON_NAME ≡ common_name_column) }
     ensures sp_row { (columns.LIFE_CYCLE_STATE ≡ life_cycle_state_column) }

@@ -3,7 +3,7 @@
 ghost use Rattle.std.specs.Prelude.{◌≡◌, ◌+◌, ◌-◌, ◌<◌, ◌≤◌, ◌^◌};
 ghost use Rattle.std.specs.Int.{w64, to_be_bytes, from_be_bytes};
 ghost use Rattle.sp_cells.specs.Names.{table_of, range_uid, key_uid, admin_uid, user_uid, admin_pin_uid, user_pin_uid, ace_c_pin_user_set_pin, ace_range_get, ace_range_set_read_locked, ace_range_set_write_locked, ace_key_gen_key};
-ghost use Rattle.sp_cells.specs.Numbers.{number_behind, admin_number, user_number, admin_pin_number, user_pin_number, range_number, user_ace_number, range_get_ace_number, read_locked_ace_number, write_locked_ace_number, gen_key_ace_number};
+ghost use Rattle.sp_cells.specs.Numbers.{number_behind, admin_number, user_number, admin_pin_number, user_pin_number, range_number, user_ace_number, range_get_ace_number, read_locked_ace_number, write_locked_ace_number, gen_key_ace_number, key_number};
 
 /// The number of ranges beside the global one: they are numbered from 1.
 pub const RANGES: u8 = 16;
@@ -55,6 +55,8 @@ pub mod tables {
     pub const MBR_CONTROL: u64 = 0x0803;
 
     pub const TPER_INFO: u64 = 0x0201;
+
+    pub const K_AES_256: u64 = 0x0806;
 }
 
 /// A security provider of the drive (Opal SSC 2.01, sections 4.2 and 4.3).
@@ -210,6 +212,12 @@ impl Uid {
 
     /// The session manager's method SyncSession, which answers a StartSession.
     pub const SYNC_SESSION: Uid = Uid(0x0000_0000_0000_ff03);
+
+    /// The method GenKey.
+    pub const GEN_KEY: Uid = Uid(0x0000_0006_0000_0010);
+
+    /// The method RevertSP.
+    pub const REVERT_SP: Uid = Uid(0x0000_0006_0000_0011);
 
     /// The row of a range in the Locking table; 0 is the global range.
     pub fn range(number: u8) -> Uid
@@ -383,6 +391,16 @@ impl Uid {
             return Some(0);
         }
         self.number_behind(WRITE_LOCKED_ACE_BASE, RANGES)
+    }
+
+    /// The number of the range whose key's row this is; 0 is the global range.
+    pub fn key_number(self) -> Option<u8>
+        ensures { result ≡ key_number self }
+    {
+        if self == Uid::GLOBAL_KEY {
+            return Some(0);
+        }
+        self.number_behind(KEY_BASE, RANGES)
     }
 
     /// The upper four bytes: the table that the object is a row of.

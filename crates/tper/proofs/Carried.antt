@@ -1,5 +1,5 @@
 -- Each answer can be carried by a response: that to a call, that to a StartSession, and that to Properties.
-use Rattle.std.proofs.Common.{◌≡◌, ℕ, ◌+◌, ◌^◌, ◌<◌, ◌≤◌, Bool, true, false, not, ltb, List, [], ◌∷◌, ◌++◌, length, Option, None, Some, refl, cond, arith, inl, inr}
+use Rattle.std.proofs.Common.{◌≡◌, ℕ, ◌+◌, ◌^◌, ◌<◌, ◌≤◌, Bool, true, false, not, ltb, List, [], ◌∷◌, ◌++◌, length, Option, None, Some, refl, cond, arith, inl, inr, ◌&&◌}
 use Rattle.std.specs.Prelude.{◌==◌, ◌-◌, ◌||◌, suc, nat_le, nat_lt}
 use Rattle.std.specs.Int.{w64, to_be_bytes}
 use Rattle.std.proofs.Math.Nat.{min-le_left}
@@ -26,7 +26,7 @@ use Rattle.call_shapes.specs.CellValues.{number_in}
 use Rattle.call_shapes.specs.Limits.{most_response}
 use Rattle.call_shapes.specs.Statuses.{success, not_authorized, sp_busy, no_sessions_available, invalid_parameter, transaction_failure, response_overflow, authority_locked_out, fail}
 use Rattle.call_shapes.specs.declared.ask.Ask.{Ask}
-use Rattle.call_shapes.specs.declared.ask.Ask.TheVariants.{GetCells, GetBytes, SetCells, SetBytes, Authenticate, Activate, Revert, Other}
+use Rattle.call_shapes.specs.declared.ask.Ask.TheVariants.{GetCells, GetBytes, SetCells, SetBytes, Authenticate, Activate, Revert, GenKey, RevertSp, Other}
 use Rattle.sessions.specs.declared.opening.Opening.{Opening}
 use Rattle.sessions.specs.declared.opening.StartVerdict.TheVariants.{Refused, Attempted}
 use Rattle.sessions.specs.Answers.{rows_in_force}
@@ -37,7 +37,9 @@ use Rattle.sessions.specs.Starts.{sp_named, is_in_use, is_full, is_host, opening
 use Rattle.methods.specs.Said.{reply_of, attempt_reply}
 use Rattle.sessions.specs.Deeds.{Setting}
 use Rattle.methods.specs.Effects.{ask_at, last_row, sp_of_row}
-use Rattle.methods.specs.Judgement.{Standing, Judgement, Refuses, Gives, Activates, Reverts, denial, gives, listing, bytes_between, bytes_given, table_size, to_set, makes, unless_open, does_ask, does, unless_denied, judged}
+use Rattle.sp_cells.specs.Numbers.{key_number}
+use Rattle.methods.specs.Erasures.{is_wholly_locked}
+use Rattle.methods.specs.Judgement.{Standing, Judgement, Refuses, Gives, Activates, Reverts, RevertsSp, erases, reverts_sp, denial, gives, listing, bytes_between, bytes_given, table_size, to_set, makes, unless_open, does_ask, does, unless_denied, judged}
 use Rattle.methods.specs.Calls.{outcome_of}
 
 -- ---- the answers without results, and those of one number
@@ -112,6 +114,14 @@ inside_carried : (rows : LookUp) (sp : Sp) (b : Bool) (j : Judgement) → Told r
 inside_carried rows sp true j h = bare_fail
 inside_carried rows sp false j h = h
 
+erases_carried : (rows : LookUp) (sp : Sp) (o : Option ℕ) → Told rows sp (erases o)
+erases_carried rows sp None = bare_fail
+erases_carried rows sp (Some range) = bare_success
+
+revert_carried : (rows : LookUp) (sp : Sp) (b keep : Bool) → Told rows sp (cond b (Refuses fail None) (RevertsSp keep))
+revert_carried rows sp true keep = bare_fail
+revert_carried rows sp false keep = bare_success
+
 ask_carried : (rows : LookUp) (sp : Sp) (its : Standing) (object : Uid) (ask : Ask) → Told rows sp (does_ask its object ask)
 ask_carried rows sp its object (GetCells first last) = given rows sp (listing its object first last)
 ask_carried rows sp its object (GetBytes first last) = bytes_carried rows sp its.byte (table_size its) first last
@@ -120,6 +130,8 @@ ask_carried rows sp its object (SetBytes at octets) = set_carried rows sp (to_se
 ask_carried rows sp its object (Authenticate authority proof) = attempt_carried (attempt_failure rows sp authority proof)
 ask_carried rows sp its object Activate = inside_carried rows sp its.is_open Activates bare_success
 ask_carried rows sp its object Revert = inside_carried rows sp its.is_open (Reverts (sp_of_row object)) bare_success
+ask_carried rows sp its object GenKey = inside_carried rows sp its.is_open (erases (key_number object)) (erases_carried rows sp (key_number object))
+ask_carried rows sp its object (RevertSp keep) = inside_carried rows sp its.is_open (reverts_sp its.rows keep) (revert_carried rows sp (keep && is_wholly_locked its.rows) keep)
 ask_carried rows sp its object Other = bare_fail
 
 unless_carried : (rows : LookUp) (sp : Sp) (denied : Option Why) (j : Judgement) → Told rows sp j → Told rows sp (unless_denied denied j)

@@ -11,7 +11,7 @@ use Rattle.sessions.specs.declared.opening.Opening.{Opening}
 use Rattle.sessions.specs.declared.opening.StartVerdict.{StartVerdict}
 use Rattle.sessions.specs.declared.opening.StartVerdict.TheVariants.{Refused, Attempted}
 use Rattle.sessions.specs.Answers.{after_attempt}
-use Rattle.sessions.specs.Deeds.{SessionDeed, Unchanged, Started, Tried, Changed, Sets, Restores, Resets, Began, Committed, Aborted, Ended, Activated, Reverted}
+use Rattle.sessions.specs.Deeds.{SessionDeed, Unchanged, Started, Tried, Changed, Sets, Restores, Resets, Began, Committed, Aborted, Ended, Activated, Reverted, Erased}
 use Rattle.sessions.specs.Live.{Live}
 use Rattle.sessions.specs.Made.{StoresAttempt, StoresAs}
 use Rattle.sessions.specs.Starts.{opening_of, stored_by, stored_with, start_verdict, start_stored}
@@ -75,4 +75,5 @@ stores-config (Committed sp) s t is = same-as _ s t is.2 (part_config sp _ s)
 stores-config (Aborted sp) s t is = same-as _ s t is (part_config sp _ s)
 stores-config (Ended sp) s t is = same-as _ s t is (part_config sp _ s)
 stores-config (Activated pin) s t is = same-as _ s t is refl
-stores-config (Reverted sp wipes) s t is = same-as _ s t is (reverts sp s)
+stores-config (Reverted sp erasure) s t is = same-as _ s t is (reverts sp s)
+stores-config (Erased erasure) s t is = same-as s s t is refl

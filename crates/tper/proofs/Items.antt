@@ -19,6 +19,8 @@ use Rattle.call_shapes.specs.Named.{values_of}
 use Rattle.call_shapes.proofs.NamedLemmas.{values_trees}
 use Rattle.transactions.specs.declared.change.SessionId.{SessionId}
 use Rattle.transactions.specs.Stored.{Stored}
+use Rattle.shadow_mbr.specs.declared.erasure.Erasure.{Erasure}
+use Rattle.shadow_mbr.specs.Erasure.{no_sectors}
 use Rattle.sessions.specs.Answers.{rows_in_force}
 use Rattle.sessions.specs.Live.{Live, AreNumbered, session_at}
 use Rattle.sessions.specs.Starts.{start_reply, start_denied, start_stored, start_at, start_next}
@@ -61,7 +63,7 @@ call-met s t l m session call said fulfils = λ o acts its ks kl lives same.
 pub call-carried : (s t : Stored) (l m : Live) (session : SessionId) (call : Call) (said : Answered) → Fulfils (outcome_in s session (judged_call s l session call)) said s t l m → is_carried (message said.reply) ≡ true
 call-carried s t l m session call said h =
     carried-as (message said.reply) _ h.met.answer
-    (call_carried (rows_in_force s) session.sp (standing_in s l session) (uid_of call.object) (uid_of call.method) (ask_of session.sp (uid_of call.object) (uid_of call.method) (map tree call.args.items)))
+    (call_carried (rows_in_force s) session.sp (standing_in s l session) (uid_of call.object) (uid_of call.method) (ask_of s.config.profile session.sp (uid_of call.object) (uid_of call.method) (map tree call.args.items)))
 
 -- ---- the session manager
 
@@ -69,7 +71,7 @@ is-start : (f : Facts) (com_id : ℕ) (object method : Uid) (args : List Tree) �
 is-start f com_id object method args h k =
     ap (λ (u : Uid). called_manager f com_id u start_session args) (sym h) ∙ ap (λ (u : Uid). called_manager f com_id object u args) (sym k)
 
-pub start-met : (s t : Stored) (l m : Live) (com_id : ℕ) (object method : Uid) (call : Call) (said : Message) (why : Option Why)
+pub start-met : (s t : Stored) (l m : Live) (com_id : ℕ) (object method : Uid) (call : Call) (said : Message) (why : Option Why) (erasure : Erasure)
     → object ≡ session_manager → method ≡ start_session
     → said ≡ start_reply s l (map tree call.args.items)
     → why ≡ start_denied s l (map tree call.args.items)
@@ -77,16 +79,18 @@ pub start-met : (s t : Stored) (l m : Live) (com_id : ℕ) (object method : Uid)
     → ((n : ℕ) → session_at m n ≡ start_at s l com_id (map tree call.args.items) n)
     → m.next ≡ start_next s l (map tree call.args.items)
     → AreNumbered l
+    → erasure ≡ no_sectors
     → (o : Origin) (past : List Event) → KeepsStore s o past → KeepsSessions l past
-    → Meets (called_manager (facts o past) com_id object method (values_of (trees call.args.items))) said why false s t l m
-start-met s t l m com_id object method call said why is-object is-method answered reasons stored points next numbered o past ks kl =
+    → Meets (called_manager (facts o past) com_id object method (values_of (trees call.args.items))) said why erasure s t l m
+start-met s t l m com_id object method call said why erasure is-object is-method answered reasons stored points next numbered none o past ks kl =
     let args = map tree call.args.items in
     let law = start_law o past s l m com_id args ks kl numbered next points in
-    let by-answer = subst (λ (x : Message). Meets (started (facts o past) com_id args) x (start_denied s l args) false s (start_stored s l args) l m) (sym answered) law in
-    let by-reason = subst (λ (x : Option Why). Meets (started (facts o past) com_id args) said x false s (start_stored s l args) l m) (sym reasons) by-answer in
-    let by-store = subst (λ (x : Stored). Meets (started (facts o past) com_id args) said why false s x l m) (sym stored) by-reason in
-    let by-call = subst (λ (x : Outcome). Meets x said why false s t l m) (is-start (facts o past) com_id object method args is-object is-method) by-store in
-    subst (λ (x : List Tree). Meets (called_manager (facts o past) com_id object method x) said why false s t l m) (sym (values_trees call.args.items)) by-call
+    let by-answer = subst (λ (x : Message). Meets (started (facts o past) com_id args) x (start_denied s l args) no_sectors s (start_stored s l args) l m) (sym answered) law in
+    let by-reason = subst (λ (x : Option Why). Meets (started (facts o past) com_id args) said x no_sectors s (start_stored s l args) l m) (sym reasons) by-answer in
+    let by-store = subst (λ (x : Stored). Meets (started (facts o past) com_id args) said why no_sectors s x l m) (sym stored) by-reason in
+    let by-call = subst (λ (x : Outcome). Meets x said why no_sectors s t l m) (is-start (facts o past) com_id object method args is-object is-method) by-store in
+    let by-args = subst (λ (x : List Tree). Meets (called_manager (facts o past) com_id object method x) said why no_sectors s t l m) (sym (values_trees call.args.items)) by-call in
+    subst (λ (x : Erasure). Meets (called_manager (facts o past) com_id object method (values_of (trees call.args.items))) said why x s t l m) (sym none) by-args
 
 -- ---- what was read
 
@@ -128,5 +132,5 @@ pub read-by : (read r : Result Message TokenError) (com_id : ℕ) (said : Answer
 read-by read r com_id said s t l m h g = subst (λ (x : Result Message TokenError). OfManager (λ f. to_manager f com_id x) said s t l m) (sym h) g
 
 -- an answer that changes nothing
-pub unchanged : (x : Message) (said : Answered) (s : Stored) (l : Live) → message said.reply ≡ x → said.denied ≡ None → said.wipe ≡ false → AnswersAs (says Unchanged x) said s s l l
-unchanged x said s l h k w = record { answer = h; denied = k; wipe = w; store = refl; sessions = record { next = refl; at = λ n. refl } }
+pub unchanged : (x : Message) (said : Answered) (s : Stored) (l : Live) → message said.reply ≡ x → said.denied ≡ None → said.erases ≡ no_sectors → AnswersAs (says Unchanged x) said s s l l
+unchanged x said s l h k w = record { answer = h; denied = k; erases = w; store = refl; sessions = record { next = refl; at = λ n. refl } }

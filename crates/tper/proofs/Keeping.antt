@@ -42,9 +42,9 @@ answer-kept t u o past com_id session out said met responds k =
     ∙ waits-there (com_id == other) (frame_bytes com_id session (item_spelling_of out.said)) (response_at t.waiting other)) k
 
 pub answer-sent : (t u : Tper) (com_id : ℕ) (session : Session) (out : Outcome) (said : Answered) (s : Sent)
-    → AnswersAs out said t.store u.store t.live u.live → s.denied ≡ said.denied → s.wipes ≡ said.wipe
+    → AnswersAs out said t.store u.store t.live u.live → s.denied ≡ said.denied → s.erases ≡ said.erases
     → IsToldOfSend (answers com_id session out) s
-answer-sent t u com_id session out said s met denied wiped = record { failed = refl; denied = denied ∙ met.denied; wipes = wiped ∙ met.wipe }
+answer-sent t u com_id session out said s met denied erases = record { failed = refl; denied = denied ∙ met.denied; erases = erases ∙ met.erases }
 
 -- ---- a receive
 

@@ -7,6 +7,7 @@ use Rattle.compacket.specs.declared.error.FrameError.{FrameError}
 use Rattle.compacket.specs.Frames.{Frame}
 use Rattle.tcg_tokens.specs.Reading.{reading as message_in}
 use Rattle.transactions.specs.declared.change.SessionId.{SessionId}
+use Rattle.shadow_mbr.specs.Erasure.{no_sectors}
 use Rattle.sessions.specs.Live.{Holder, Live, session_at, is_of_host, found, holder_on}
 use Rattle.methods.specs.Effects.{live_holder}
 use Rattle.history.specs.Opening.{Origin}
@@ -39,8 +40,8 @@ if-ok (Err e) P Q h f = tt
 pub nothing-kept : (t : Tper) (o : Origin) (past : List Event) (e : Event) → e ≡ did Nothing → Keeps t o past → Keeps t o (e ∷ past)
 nothing-kept t o past e h k = kept_beside t o past e (ap (λ (x : Event). spares x.deed) h) k
 
-pub nothing-sent : (e : Event) (s : Sent) → s.denied ≡ None → s.wipes ≡ false → e ≡ did Nothing → IsToldOfSend e s
-nothing-sent e s d w h = subst (λ (x : Event). IsToldOfSend x s) (sym h) (record { failed = refl; denied = d; wipes = w })
+pub nothing-sent : (e : Event) (s : Sent) → s.denied ≡ None → s.erases ≡ no_sectors → e ≡ did Nothing → IsToldOfSend e s
+nothing-sent e s d w h = subst (λ (x : Event). IsToldOfSend x s) (sym h) (record { failed = refl; denied = d; erases = w })
 
 -- ---- which event it is
 
@@ -172,7 +173,7 @@ pub manager-sent : (t u : Tper) (o : Origin) (acts : List Act) (com_id : ℕ) (r
     → ByManager t u com_id frame s → Keeps t o (log o acts) → IsToldOfSend (sent (facts o (log o acts)) com_id read) s
 manager-sent t u o acts com_id read frame s h m its k =
     subst (λ (e : Event). IsToldOfSend e s) (sym (by-manager (facts o (log o acts)) com_id read frame h m))
-    (answer-sent t u com_id frame.session _ its.said s (its.met o (log o acts) k.store k.sessions) its.denied its.wipes)
+    (answer-sent t u com_id frame.session _ its.said s (its.met o (log o acts) k.store k.sessions) its.denied its.erases)
 
 pub session-kept : (t u : Tper) (o : Origin) (acts : List Act) (com_id : ℕ) (read : Result Frame FrameError) (frame : Frame) (id : SessionId) (s : Sent) → IsFor read com_id frame → is_manager frame.session ≡ false
     → found_at t.live com_id frame.session ≡ Some id
@@ -188,7 +189,7 @@ pub session-sent : (t u : Tper) (o : Origin) (acts : List Act) (com_id : ℕ) (r
 session-sent t u o acts com_id read frame id s h m named its k =
     let n = somebody o (log o acts) t.live com_id frame.session id k.sessions named in
     subst (λ (e : Event). IsToldOfSend e s) (sym (by-session (facts o (log o acts)) com_id read frame (Some n.its) h m n.by_past))
-    (answer-sent t u com_id frame.session _ its.said s (its.met o acts n.its k.store k.sessions n.lives n.is) its.denied its.wipes)
+    (answer-sent t u com_id frame.session _ its.said s (its.met o acts n.its k.store k.sessions n.lives n.is) its.denied its.erases)
 
 pub nobody-named : (t : Tper) (o : Origin) (past : List Event) (com_id : ℕ) (read : Result Frame FrameError) (frame : Frame) → IsFor read com_id frame → is_manager frame.session ≡ false
     → found_at t.live com_id frame.session ≡ None

@@ -9,7 +9,9 @@ use Rattle.history.specs.Readers.{waiting}
 use Rattle.history.specs.Decisions.{is_session_com_id}
 use Rattle.history.specs.KeptStore.{KeepsStore}
 use Rattle.history.specs.KeptSessions.{KeepsSessions}
-use Rattle.sessions.specs.Deeds.{wipes_by}
+use Rattle.sessions.specs.Deeds.{erased_by}
+use Rattle.shadow_mbr.specs.declared.erasure.Erasure.{Erasure}
+use Rattle.shadow_mbr.specs.Erasure.{no_sectors}
 use Rattle.compacket.specs.declared.session.Session.{Session}
 use Rattle.compacket.specs.Spelling.{frame_bytes}
 use Rattle.tcg_tokens.specs.Message.{Message, message}
@@ -41,16 +43,16 @@ pub record Keeps (t : Tper) (o : Origin) (past : List Event) : Type 0 where
   pub sessions : KeepsSessions t.live past
   pub waiting : (com_id : ℕ) → response_at t.waiting com_id ≡ waiting past com_id
 
--- A deed makes zeros of all media.
-abbrev pub deed_wipes : Deed → Bool
-deed_wipes (InSession deed response) = wipes_by deed
-deed_wipes _ = false
+-- Which sectors a deed makes zeros.
+abbrev pub erased_by_deed : Deed → Erasure
+erased_by_deed (InSession deed response) = erased_by deed
+erased_by_deed _ = no_sectors
 
 -- What became of what was sent is what its event says.
 pub record IsToldOfSend (event : Event) (s : Sent) : Type 0 where
   pub failed : event.failed ≡ None
   pub denied : s.denied ≡ event.denied
-  pub wipes : s.wipes ≡ deed_wipes event.deed
+  pub erases : s.erases ≡ erased_by_deed event.deed
 
 -- The framed answer waits on the ComID, and all else stays.
 abbrev pub Responds : ℕ → Session → Message → Tper → Tper → Type 0
@@ -73,5 +75,5 @@ pub record Handles (Met : Outcome → Type 0) (com_id : ℕ) (session : Session)
   pub said : Outcome
   pub met : Met said
   pub denied : s.denied ≡ said.denied
-  pub wipes : s.wipes ≡ said.wipe
+  pub erases : s.erases ≡ said.erases
   pub responds : Responds com_id session (message said.reply) old new

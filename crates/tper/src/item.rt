@@ -10,6 +10,7 @@ ghost use Rattle.tcg_tokens.specs.Message.{message, end_session};
 ghost use Rattle.tcg_tokens.specs.Reading.{reading as message_in};
 ghost use Rattle.tcg_tokens.specs.Tree.{trees};
 ghost use Rattle.methods.specs.Effects.{live_holder};
+ghost use Rattle.shadow_mbr.specs.Erasure.{no_sectors};
 ghost use Rattle.sessions.specs.Live.{Live};
 ghost use Rattle.sessions.specs.Deeds.{Ended, says};
 ghost use Rattle.history.specs.Tcg.{to_manager, called_manager, item_in, ends_session, in_session, judgement_on, begins_on, ends_on};
@@ -23,6 +24,7 @@ use call_shapes::{status, uid_of};
 use compacket::ComId;
 use methods::{MethodFault, Outcome, invoke};
 use sessions::Sessions;
+use shadow_mbr::Erasure;
 use sp_cells::Uid;
 use std::alloc::{AllocError, Global};
 use tcg_tokens::{Call, Item, TokenError, begins_with_end, read_item};
@@ -32,13 +34,13 @@ use transactions::{SessionId, Store};
 fn answer(reply: Item, changes: bool) -> Outcome
     ensures reply { message result.reply ≡ message reply }
     ensures denied { result.denied ≡ None }
-    ensures wipe { result.wipe ≡ false }
+    ensures erases { result.erases ≡ no_sectors }
     ensures changes { result.changes ≡ changes }
 {
     Outcome {
         reply,
         denied: None,
-        wipe: false,
+        erases: Erasure::none(),
         changes,
     }
 }
@@ -47,7 +49,7 @@ fn answer(reply: Item, changes: bool) -> Outcome
 fn failed(alloc: Global) -> Outcome
     ensures reply { message result.reply ≡ refusal_of fail }
     ensures denied { result.denied ≡ None }
-    ensures wipe { result.wipe ≡ false }
+    ensures erases { result.erases ≡ no_sectors }
     ensures carried { is_carried (message result.reply) ≡ true }
 {
     let reply = Item::Reply {
@@ -62,7 +64,7 @@ fn no_item(alloc: Global, fault: TokenError) -> Result<Outcome, AllocError>
     ensures fault { OnOk result (fault ≢ OutOfMemory) }
     ensures reply { IfOk result (λ said. message said.reply ≡ refusal_of fail) }
     ensures denied { IfOk result (λ said. said.denied ≡ None) }
-    ensures wipe { IfOk result (λ said. said.wipe ≡ false) }
+    ensures erases { IfOk result (λ said. said.erases ≡ no_sectors) }
     ensures carried { IfOk result (λ said. is_carried (message said.reply) ≡ true) }
 {
     if fault == TokenError::OutOfMemory {
@@ -97,7 +99,7 @@ fn call_manager(
         return Ok(Outcome {
             reply: started.reply,
             denied: started.denied,
-            wipe: false,
+            erases: Erasure::none(),
             changes: true,
         });
     }

@@ -4,6 +4,7 @@ ghost use Rattle.std.specs.Prelude.{◌≡◌, ◌≢◌, ℕ, List, [], ◌∷�
 ghost use Rattle.compacket.specs.Frames.{reading as frame_in};
 ghost use Rattle.device_data.specs.ErrorLog.{sized};
 ghost use Rattle.sp_tables.specs.Contents.{Contents};
+ghost use Rattle.shadow_mbr.specs.Erasure.{no_sectors};
 ghost use Rattle.shadow_mbr.specs.Stored.{sector_size};
 ghost use Rattle.transactions.specs.Bytes.{bytes_from};
 ghost use Rattle.transactions.specs.Sights.{look_up, committed_sight};
@@ -31,7 +32,7 @@ use audit::Why;
 use compacket::{ComId, Session, open};
 use methods::Outcome;
 use sessions::Sessions;
-use shadow_mbr::{Mbr, SECTOR_SIZE};
+use shadow_mbr::{Erasure, Mbr, SECTOR_SIZE};
 use sp_cells::{Column, Sp, Uid, number_at};
 use sp_tables::{Rows, Tables};
 use std::alloc::{AllocError, Global};
@@ -43,8 +44,8 @@ use transactions::{SessionId, Store, View};
 pub struct Sent {
     /// What denied the item.
     pub denied: Option<Why>,
-    /// Whether all media become zeros.
-    pub wipes: bool,
+    /// Which sectors become zeros.
+    pub erases: Erasure,
     /// Whether rows or bytes may have changed.
     pub changes: bool,
 }
@@ -80,11 +81,11 @@ impl Model for Tper {
 /// Nothing became of it.
 fn nothing() -> Sent
     ensures denied { result.denied ≡ None }
-    ensures wipes { result.wipes ≡ false }
+    ensures erases { result.erases ≡ no_sectors }
 {
     Sent {
         denied: None,
-        wipes: false,
+        erases: Erasure::none(),
         changes: false,
     }
 }
@@ -252,20 +253,20 @@ impl Tper {
         ensures live { self.new.live ≡ self.old.live }
         ensures waiting { Responds com_id session (message outcome.reply) self.old self.new }
         ensures denied { result.denied ≡ outcome.denied }
-        ensures wipes { result.wipes ≡ outcome.wipe }
+        ensures erases { result.erases ≡ outcome.erases }
         ensures changes { result.changes ≡ outcome.changes }
     {
         let Outcome {
             reply,
             denied,
-            wipe,
+            erases,
             changes,
         } = outcome;
         let response = room.framed(com_id, session, &reply);
         self.responses.put(com_id, Some(response));
         Sent {
             denied,
-            wipes: wipe,
+            erases,
             changes,
         }
     }

@@ -1,11 +1,11 @@
 use Rattle.std.proofs.Common.{◌≡◌, true, ◌||◌, ◌∙◌, refl, sym, ap, rules}
-use Rattle.call_shapes.specs.declared.ask.Ask.TheVariants.{GetCells, GetBytes, Activate}
+use Rattle.call_shapes.specs.declared.ask.Ask.TheVariants.{GetCells, GetBytes, Activate, GenKey}
 use Rattle.methods.specs.Kinds.{kind_of}
 use Rattle.methods.specs.Effects.{has_ask, handles}
 use Rattle.methods.specs.Calls.{standing_in}
 use Rattle.methods.specs.declared.kinds.Handler.TheVariants as handlers
-use Rattle.methods.proofs.CallLemmas.{judged-as, asked-is, set-is, activate-is}
-use Rattle.methods.proofs.calls.perform.Goals.{in-WriteCells+in-SetCells-1, in-WriteBytes+in-SetBytes-1, in_default-2-via-in-ReadCells+in_default, in_default-2-via-in-ReadBytes+in_default, in_default-2-via-in-WriteCells+in_default, in_default-2-via-in-WriteBytes+in_default, in_default-2-via-in-Authenticate+in_default}
+use Rattle.methods.proofs.CallLemmas.{judged-as, asked-is, set-is, activate-is, gen-key-is}
+use Rattle.methods.proofs.calls.perform.Goals.{in-WriteCells+in-SetCells-1, in-WriteBytes+in-SetBytes-1, in_default-2-via-in-ReadCells+in_default, in_default-2-via-in-ReadBytes+in_default, in_default-2-via-in-WriteCells+in_default, in_default-2-via-in-WriteBytes+in_default, in_default-2-via-in-Authenticate+in_default, in_default-2-via-in-RevertSp+in_default}
 use Rattle.methods.proofs.calls.perform.Goals as goal
 
 pub returns-in-ReadCells-GetCells-clause-fulfils : goal.returns-in-ReadCells-GetCells-clause-fulfils
@@ -30,6 +30,14 @@ returns-in-Activate-default-clause-fulfils c =
     (asked-is (standing_in c.args.store.now c.args.sessions.now c.args.session) c.args.object c.args.ask.now Activate has is)
     (c.activate.ensures.fulfils c.args.sessions.now)
 
+pub returns-in-GenKey-default-clause-fulfils : goal.returns-in-GenKey-default-clause-fulfils
+returns-in-GenKey-default-clause-fulfils c =
+    let has : has_ask (kind_of c.args.session.sp c.args.object) c.args.ask.now ≡ true = sym (c.in-Some.ensures.cased ∙ ap (λ k. has_ask k c.args.ask.now) c.kind_of.ensures) in
+    let is = gen-key-is c.args.ask.now (sym (ap (λ h. handles h c.args.ask.now) c.in-GenKey-default.is-0) ∙ c.in-Some.ensures.handles) in
+    judged-as _ _ c.args.session c.gen_key.result _ _ _ _
+    (asked-is (standing_in c.args.store.now c.args.sessions.now c.args.session) c.args.object c.args.ask.now GenKey has is)
+    (c.gen_key.ensures.fulfils c.args.sessions.now)
+
 pub returns-in-WriteCells-SetCells-clause-fulfils : goal.returns-in-WriteCells-SetCells-clause-fulfils
 returns-in-WriteCells-SetCells-clause-fulfils c =
     let has : has_ask (kind_of c.args.session.sp c.args.object) c.args.ask.now ≡ true = sym (c.in-Some.ensures.cased ∙ ap (λ k. has_ask k c.args.ask.now) c.kind_of.ensures) in
@@ -46,4 +54,5 @@ returns-in_default-2-clause-fulfils c = elim c.in_default-2.branch [
   | in_default-2-via-in-WriteCells+in_default w ↦ absurd (search rules)
   | in_default-2-via-in-WriteBytes+in_default w ↦ absurd (search rules)
   | in_default-2-via-in-Authenticate+in_default w ↦ absurd (search rules)
+  | in_default-2-via-in-RevertSp+in_default w ↦ absurd (search rules)
 ]

@@ -1,4 +1,4 @@
-use Rattle.std.proofs.Common.{rules, [], ◌∷◌, ℕ, List, Option, Some, None, ap, sym, refl, ◌∙◌, arith, replicate}
+use Rattle.std.proofs.Common.{rules, ℕ, List, Option, Some, None, ap, sym, refl, ◌∙◌, arith, replicate}
 use Rattle.shadow_mbr.proofs.Groups.{in_group, put_in_group, none_anywhere}
 use Rattle.shadow_mbr.proofs.places.Places.set.Goals as goal
 

@@ -23,7 +23,7 @@ returns-then-frame-com_id-clause-kept c = λ o acts k.
 
 pub returns-then-frame-com_id-clause-answer : goal.returns-then-frame-com_id-clause-answer
 returns-then-frame-com_id-clause-answer c = λ o acts k.
-    nothing-sent _ c.nothing-then-frame-com_id.result c.nothing-then-frame-com_id.ensures.denied c.nothing-then-frame-com_id.ensures.wipes
+    nothing-sent _ c.nothing-then-frame-com_id.result c.nothing-then-frame-com_id.ensures.denied c.nothing-then-frame-com_id.ensures.erases
     (other-frame (facts o (log o acts)) c.args.com_id (reading c.args.payload.now) (frame_of c.in-Ok.frame) c.in-Ok.ensures.exact c.if-frame-com_id.true)
 
 pub returns-then-session-eq0-2-clause-kept : goal.returns-then-session-eq0-2-clause-kept
@@ -67,7 +67,7 @@ returns-in-None-clause-answer c =
       | else-session-eq0-via-else-session-eq0 w ↦ w.if-session-eq0.false t
     ]) in
     let is : found_at c.args.self.now.live c.args.com_id c.in-Ok.frame.session ≡ None = ap (λ (t : Tper). found_at t.live c.args.com_id c.in-Ok.frame.session) (sym c.self.view_is) ∙ sym c.find.ensures ∙ c.in-None.is in
-    λ o acts k. nothing-sent _ c.nothing-in-None.result c.nothing-in-None.ensures.denied c.nothing-in-None.ensures.wipes
+    λ o acts k. nothing-sent _ c.nothing-in-None.result c.nothing-in-None.ensures.denied c.nothing-in-None.ensures.erases
     (nobody-named c.args.self.now o (log o acts) c.args.com_id (reading c.args.payload.now) frame own other is k)
 
 pub returns-in-Some-clause-kept : goal.returns-in-Some-clause-kept
