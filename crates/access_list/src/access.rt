@@ -132,8 +132,9 @@ fn locking_row(profile: Profile, object: Uid, method: Uid) -> Option<ArrayVec<Ui
 /// The ACEs of what a drive of the profile `Field` alone has.
 #[tactic(auto, using(crate::proofs::Joins::joins))]
 fn field_row(profile: Profile, object: Uid, method: Uid) -> Option<ArrayVec<Uid, 4>>
-    ensures { IsAnsweredByGrants (of_field profile (gen_key_ace_grants ++ info_grants ++ key_grants))
-        Locking object method result }
+    ensures { IsAnsweredByGrants
+        (of_field profile (gen_key_ace_grants ++ info_grants ++ key_grants)) Locking object method
+        result }
 {
     if profile == Profile::Base {
         return None;

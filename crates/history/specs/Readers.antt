@@ -66,20 +66,12 @@ living sp _ = None
 abbrev pub session_on : List Event → Sp → Option Begun
 session_on past sp = unwrap_or (latest (living sp) past) None
 
-abbrev pub starts_by : Sp → SessionDeed → Bool
-starts_by sp (Started session row) = sp_eq session.sp sp
-starts_by sp _ = false
-
 abbrev pub starts : Sp → Deed → Bool
-starts sp (InSession deed response) = starts_by sp deed
+starts sp (InSession (Started session row) response) = sp_eq session.sp sp
 starts sp _ = false
 
-abbrev pub gains_by : Sp → SessionDeed → Option (List Uid)
-gains_by sp (Tried attempt) = on_sp sp attempt.sp attempt.gained
-gains_by sp _ = None
-
 abbrev pub gains : Sp → Deed → Option (List Uid)
-gains sp (InSession deed response) = gains_by sp deed
+gains sp (InSession (Tried attempt) response) = on_sp sp attempt.sp attempt.gained
 gains sp _ = None
 
 -- The authorities of the session of an SP: those that it began with, and those gained since.
@@ -109,12 +101,8 @@ turns sp _ = None
 abbrev pub open_on : List Event → Sp → Option ℕ
 open_on past sp = unwrap_or (latest (turns sp) past) None
 
-abbrev pub begins_by : Sp → SessionDeed → Bool
-begins_by sp (Began begun number) = sp_eq begun sp
-begins_by sp _ = false
-
 abbrev pub begins : Sp → Deed → Bool
-begins sp (InSession deed response) = begins_by sp deed
+begins sp (InSession (Began begun number) response) = sp_eq begun sp
 begins sp _ = false
 
 abbrev pub changes_by : Sp → SessionDeed → Option Change

@@ -49,7 +49,8 @@ standing_in s live session = standing_on s session (held_in live session)
 -- what comes of a call with these arguments, and of the call that a session sends
 abbrev pub judged_with : Stored → Live → SessionId → Uid → Uid → List Tree → Judgement
 judged_with s live session object method args =
-    judged (standing_in s live session) object method (ask_of s.config.profile session.sp object method args)
+    judged (standing_in s live session) object method
+    (ask_of s.config.profile session.sp object method args)
 
 abbrev pub judged_call : Stored → Live → SessionId → Call → Judgement
 judged_call s live session call =

@@ -335,7 +335,8 @@ pub(crate) fn revert_sp(
 ) -> Result<Outcome, MethodFault>
     ensures fulfils { IfOk result (λ out.
         Fulfils (outcome_in store.old session
-        (unless_open (has_transaction store.old session) (reverts_sp (seen_by store.old session) keep)))
+        (unless_open (has_transaction store.old session)
+        (reverts_sp (seen_by store.old session) keep)))
         out store.old store.new sessions.old sessions.new) }
     ensures err { OnErr result ((store.new ≡ store.old) × (sessions.new ≡ sessions.old)) }
     ensures memory { IfErr result (λ e. e ≡ faults.OutOfMemory) }

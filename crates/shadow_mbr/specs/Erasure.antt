@@ -10,14 +10,10 @@ use Rattle.shadow_mbr.specs.declared.erasure.Erasure.TheVariants.{Within, Outsid
 abbrev pub is_in_run : ℕ → Run → Bool
 is_in_run sector run = nat_le run.start sector && nat_lt sector (run.start + run.len)
 
--- the sector lies in one of the runs
-abbrev pub is_in_any : List Run → ℕ → Bool
-is_in_any runs sector = list_any (is_in_run sector) runs
-
 -- the sector becomes zeros
 abbrev pub is_erased : Erasure → ℕ → Bool
-is_erased (Within runs) sector = is_in_any runs.items sector
-is_erased (Outside runs) sector = not (is_in_any runs.items sector)
+is_erased (Within runs) sector = list_any (is_in_run sector) runs.items
+is_erased (Outside runs) sector = not (list_any (is_in_run sector) runs.items)
 
 -- within no run: no sector; outside of no run: all of them
 abbrev pub no_sectors : Erasure

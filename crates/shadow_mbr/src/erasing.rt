@@ -20,7 +20,8 @@ fn clear(blocks: &mut Vec<Block>, place: usize)
 
 /// Makes zeros of the block of a sector, where it has one and is erased.
 fn erase_block(erasure: &Erasure, sector: u128, place: Option<usize>, blocks: &mut Vec<Block>)
-    ensures { blocks.new.items ≡ block_erased (is_erased erasure.now) sector place blocks.old.items }
+    ensures { blocks.new.items
+        ≡ block_erased (is_erased erasure.now) sector place blocks.old.items }
 {
     if let Some(place) = place {
         if erasure.erases(sector) {

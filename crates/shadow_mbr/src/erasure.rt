@@ -1,7 +1,8 @@
 //! Which sectors an act makes zeros.
 
 ghost use Rattle.std.specs.Prelude.{◌≡◌, ◌≤◌, ◌<◌, ◌+◌, ◌^◌, ℕ, true};
-ghost use Rattle.shadow_mbr.specs.Erasure.{is_in_run, is_in_any, is_erased, no_sectors, all_sectors, names_all};
+ghost use Rattle.std.specs.List.{list_any};
+ghost use Rattle.shadow_mbr.specs.Erasure.{is_in_run, is_erased, no_sectors, all_sectors, names_all};
 
 use arrayvec::ArrayVec;
 
@@ -40,7 +41,7 @@ impl Run {
 
 /// Whether a sector lies in one of the runs.
 fn is_in_any_run(runs: &[Run], sector: u128) -> bool
-    ensures { result ≡ is_in_any runs.now sector }
+    ensures { result ≡ list_any (is_in_run sector) runs.now }
 {
     runs.iter().any(|run| run.has(sector))
 }
