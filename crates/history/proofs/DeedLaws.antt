@@ -228,7 +228,7 @@ revert-sp-is profile Other method own h = cc
 erases-outside : (s : Standing) (object method : Uid) (range : ℕ) → Granted s object method 5 (Erases range) → (s.sp ≡ Locking) × (s.is_open ≡ false) × (s.profile ≡ Field)
 erases-outside s object method range g =
     let x = gen-key-is s.profile g.ask method g.own g.kind in (
-      gen-key-locking s.sp object method g.row x.2 g.has,
+      gen-key-locking s.profile s.sp object method g.row x.2 g.has,
       (open-kind s.is_open (erases (key_number object)) 5 (ap (λ a. kind (does_ask s object a)) (sym x.0) ∙ ap kind g.does)).1,
       x.1,
     )
@@ -242,7 +242,7 @@ unlocked-by false false l keep h is = let same : false ≡ keep = cc in let no :
 reverts-sp-outside : (s : Standing) (object method : Uid) (keep : Bool) → Granted s object method 6 (RevertsSp keep) → (s.sp ≡ Locking) × (s.is_open ≡ false) × (s.profile ≡ Field) × (keep ≡ true → is_wholly_locked s.rows ≡ false)
 reverts-sp-outside s object method keep g =
     let x = revert-sp-is s.profile g.ask method g.own g.kind in (
-      revert-sp-locking s.sp object method g.row x.named g.has,
+      revert-sp-locking s.profile s.sp object method g.row x.named g.has,
       (open-kind s.is_open (reverts_sp s.rows x.keep) 6 (ap (λ a. kind (does_ask s object a)) (sym x.is) ∙ ap kind g.does)).1,
       x.field,
       unlocked-by s.is_open x.keep (is_wholly_locked s.rows) keep (ap (does_ask s object) (sym x.is) ∙ g.does),
