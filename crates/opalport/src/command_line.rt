@@ -159,7 +159,12 @@ fn with_label<'a>(alloc: Global, command: Command<'a>) -> Result<Command<'a>, Al
         "The serial number of a field drive",
     );
     let model = free_option(alloc, "model", "TEXT", "The model number of a field drive");
-    let psid = free_option(alloc, "psid", "HEX", "The PIN on the label of a field drive");
+    let psid = free_option(
+        alloc,
+        "psid",
+        "HEX",
+        "The PIN on the label of a field drive",
+    );
     command.arg(serial)?.arg(model)?.arg(psid)
 }
 

@@ -97,7 +97,10 @@ impl fmt::Display for OptionsFault {
                  characters of printable ASCII"
             ),
             OptionsFault::Label { psid } => {
-                write!(f, "--psid: a PSID has 1 to {MOST_PIN_BYTES} bytes, not {psid}")
+                write!(
+                    f,
+                    "--psid: a PSID has 1 to {MOST_PIN_BYTES} bytes, not {psid}"
+                )
             }
             OptionsFault::OutOfMemory => f.write_str("out of memory"),
         }
