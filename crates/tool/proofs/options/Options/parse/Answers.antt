@@ -12,7 +12,7 @@ returns-in_default-clause-fault c = (
     profile = c.in_ok-profile.profile;
     serial = text_or c.args.texts.now.serial.now new_serial;
     model = text_or c.args.texts.now.model.now new_model;
-    psid = c.in-Ok-2.psid.items;
+    psid = c.in-Ok-label_in.psid.items;
   },
   record {
     sectors_written = search rules;
@@ -30,8 +30,8 @@ returns-in_default-clause-fault c = (
   search rules,
 )
 
-pub returns-clause-fault : goal.returns-clause-fault
-returns-clause-fault c = (
+pub returns-in_default-with_names-clause-fault : goal.returns-in_default-with_names-clause-fault
+returns-in_default-with_names-clause-fault c = (
   record {
     sectors = c.in_ok-sectors.sectors;
     mbr_sectors = c.in_ok-shadow.shadow;
@@ -39,7 +39,7 @@ returns-clause-fault c = (
     profile = c.in_ok-profile.profile;
     serial = text_or c.args.texts.now.serial.now new_serial;
     model = text_or c.args.texts.now.model.now new_model;
-    psid = c.in-Ok-2.psid.items;
+    psid = c.in-Ok-label_in.psid.items;
   },
   record {
     sectors_written = search rules;
@@ -51,6 +51,33 @@ returns-clause-fault c = (
     psid_written = search rules;
     names_wanted = search rules;
   },
+  search rules,
+  search rules,
+)
+
+pub returns-clause-fault : goal.returns-clause-fault
+returns-clause-fault c = (
+  record {
+    sectors = c.in_ok-sectors.sectors;
+    mbr_sectors = c.in_ok-shadow.shadow;
+    msid = c.in-Ok.msid.items;
+    profile = c.in_ok-profile.profile;
+    serial = text_or c.args.texts.now.serial.now new_serial;
+    model = text_or c.args.texts.now.model.now new_model;
+    psid = c.in-Ok-label_in.psid.items;
+  },
+  record {
+    sectors_written = search rules;
+    shadow_written = search rules;
+    msid_written = search rules;
+    profile_written = search rules;
+    serial_written = refl;
+    model_written = refl;
+    psid_written = search rules;
+    names_wanted = search rules;
+  },
+  search rules,
+  search rules,
   search rules,
   search rules,
 )
