@@ -3,7 +3,7 @@
 ghost use Rattle.std.specs.Prelude.{◌≡◌, IfOk, false, map, option_map, option_and_then, string_bytes, codes};
 ghost use Rattle.clap.specs.Words.{FailsBy, app_of, fault_of, found_of, rows_of, rule_of, subcommand_rows_of};
 ghost use Rattle.tool.specs.OptionTexts.{drive_text};
-ghost use Rattle.opalport.specs.CommandLine.{top_line, option_rule, free_rule, drive_line, with_label_rules, drive_in, hba_line, range_rule, range_texts, threads_line, tokens_line, opalport_line, text_of, wanted_by, asked_of, asked_by};
+ghost use Rattle.opalport.specs.CommandLine.{top_line, option_rule, free_rule, drive_line, drive_in, hba_line, range_rule, range_texts, threads_line, tokens_line, opalport_line, text_of, wanted_by, asked_of, asked_by};
 
 use crate::controller_help::LINES as CONTROLLER_LINES;
 use clap::{Arg, ArgAction, ArgMatches, Command, Error};
@@ -138,20 +138,6 @@ fn drive_command<'a>(
         "base",
         "base, or field: what unmodified drivers ask for beside it",
     );
-    let command = Command::new(alloc, name)
-        .about(about)
-        .after_help(lines)
-        .arg(sectors)?
-        .arg(shadow)?
-        .arg(msid)?
-        .arg(profile)?;
-    with_label(alloc, command)
-}
-
-/// The command with the options of a field drive: what it tells of itself, and the PIN on its label.
-fn with_label<'a>(alloc: Global, command: Command<'a>) -> Result<Command<'a>, AllocError>
-    ensures { IfOk result (λ labelled. app_of labelled ≡ with_label_rules (app_of command)) }
-{
     let serial = free_option(
         alloc,
         "serial",
@@ -165,7 +151,16 @@ fn with_label<'a>(alloc: Global, command: Command<'a>) -> Result<Command<'a>, Al
         "HEX",
         "The PIN on the label of a field drive",
     );
-    command.arg(serial)?.arg(model)?.arg(psid)
+    Command::new(alloc, name)
+        .about(about)
+        .after_help(lines)
+        .arg(sectors)?
+        .arg(shadow)?
+        .arg(msid)?
+        .arg(profile)?
+        .arg(serial)?
+        .arg(model)?
+        .arg(psid)
 }
 
 /// The command that runs clients and an engine at one port, with the options that say how many.
