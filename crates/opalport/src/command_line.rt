@@ -138,19 +138,9 @@ fn drive_command<'a>(
         "base",
         "base, or field: what unmodified drivers ask for beside it",
     );
-    let serial = free_option(
-        alloc,
-        "serial",
-        "TEXT",
-        "The serial number of a field drive",
-    );
-    let model = free_option(alloc, "model", "TEXT", "The model number of a field drive");
-    let psid = free_option(
-        alloc,
-        "psid",
-        "HEX",
-        "The PIN on the label of a field drive",
-    );
+    let serial = free_option(alloc, "serial", "TEXT", "Serial number of a field drive");
+    let model = free_option(alloc, "model", "TEXT", "Model number of a field drive");
+    let psid = free_option(alloc, "psid", "HEX", "PIN on the label of a field drive");
     Command::new(alloc, name)
         .about(about)
         .after_help(lines)
