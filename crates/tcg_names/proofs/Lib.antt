@@ -1,0 +1,4 @@
+mod Numbers
+mod Joins
+mod BothWays
+mod ColumnsBothWays

@@ -1,0 +1,4 @@
+pub mod Objects
+pub mod Columns
+pub mod Tables
+pub mod Laws
