@@ -3,8 +3,10 @@ use Rattle.std.specs.Prelude.{List, [], ◌∷◌, map, true, Option, None, Some
 use Rattle.std.specs.Str.{bytes_eq}
 use Rattle.clap.specs.Words.{App, Row, Rule, Shape, Text, all_of, first_of, new_app, new_rule, subcommand_of, with_rule, with_subcommand}
 use Rattle.clap.specs.Simple.{on_top}
-use Rattle.clap.specs.declared.builder.action.ArgAction.TheVariants.{Append}
+use Rattle.clap.specs.declared.builder.action.ArgAction.TheVariants.{Append, SetTrue}
 use Rattle.tool.specs.OptionTexts.{DriveText, drive_text}
+use Rattle.tool.specs.declared.tokens.Naming.{Naming}
+use Rattle.tool.specs.declared.tokens.Naming.TheVariants.{Numbers, Names}
 use Rattle.opalport.specs.declared.command_line.Request.{Request}
 use Rattle.opalport.specs.declared.command_line.Request.TheVariants.{Run, Level0, Threads, Tokens, Hba}
 
@@ -52,10 +54,19 @@ threads_line =
     with_rule (with_rule (new_app (codes "threads")) (option_rule (codes "clients") (codes "2")))
     (option_rule (codes "rounds") (codes "100"))
 
--- `tokens HEX`
+-- an argument that is wanted
+abbrev pub required_rule : Text → Rule
+required_rule name = record (new_rule name) { value_names = 1; required = true }
+
+-- `--name`
+abbrev pub flag_rule : Text → Rule
+flag_rule name = record (new_rule name) { long = Some name; action = Some SetTrue }
+
+-- `tokens HEX`, with names or without
 abbrev pub tokens_line : App
-tokens_line = with_rule (new_app (codes "tokens"))
-    (record (new_rule (codes "hex")) { value_names = 1; required = true })
+tokens_line =
+    with_rule (with_rule (new_app (codes "tokens")) (required_rule (codes "hex")))
+    (flag_rule (codes "names"))
 
 -- settings of a program that has a version, and wants one of its commands
 abbrev pub wants_command : Shape → Shape
@@ -82,7 +93,7 @@ pub data Wanted : Type 0 where
   run : DriveText → Wanted
   level0 : DriveText → Wanted
   threads : Text → Text → Wanted
-  tokens : Text → Wanted
+  tokens : Text → Naming → Wanted
   hba : DriveText → List Text → Wanted
 
 -- what a request asks for
@@ -90,7 +101,7 @@ abbrev pub wanted_by : Request → Wanted
 wanted_by (Run drive) = run (drive_text drive)
 wanted_by (Level0 drive) = level0 (drive_text drive)
 wanted_by (Threads load) = threads load.clients.now load.rounds.now
-wanted_by (Tokens hex) = tokens hex.now
+wanted_by (Tokens tokens_asked) = tokens tokens_asked.hex.now tokens_asked.naming
 wanted_by (Hba texts) = hba (drive_text texts.drive) (map (λ s. s.now) texts.ranges.items)
 
 -- the text of an argument; one that is required or has a default has one, and any other may be empty
@@ -113,6 +124,11 @@ drive_in rows = record {
 abbrev pub range_texts : List Row → List Text
 range_texts rows = unwrap_or (all_of (codes "range") rows) []
 
+-- names, where the flag is set
+abbrev pub naming_in : List Row → Naming
+naming_in rows =
+    if bytes_eq (text_of (codes "names") rows) (codes "true") then Names else Numbers
+
 -- what a subcommand with these arguments asks for
 abbrev pub asked_of : Text × List Row → Option Wanted
 asked_of (name, rows) =
@@ -120,7 +136,8 @@ asked_of (name, rows) =
     else if bytes_eq name (codes "level0") then Some (level0 (drive_in rows))
     else if bytes_eq name (codes "threads")
     then Some (threads (text_of (codes "clients") rows) (text_of (codes "rounds") rows))
-    else if bytes_eq name (codes "tokens") then Some (tokens (text_of (codes "hex") rows))
+    else if bytes_eq name (codes "tokens")
+    then Some (tokens (text_of (codes "hex") rows) (naming_in rows))
     else if bytes_eq name (codes "hba") then Some (hba (drive_in rows) (range_texts rows))
     else None
 

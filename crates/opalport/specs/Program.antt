@@ -11,6 +11,7 @@ use Rattle.tool.specs.OptionTexts.{DriveText, WritesConfig, IsOfDrive}
 use Rattle.tool.specs.Outcomes.{ScriptYields}
 use Rattle.tool.specs.Level0.{level0_text}
 use Rattle.tool.specs.TokenLines.{token_text}
+use Rattle.tool.specs.declared.tokens.Naming.{Naming}
 use Rattle.hba_tool.specs.Openings.{option_rows, IsFaultOf}
 use Rattle.hba_tool.specs.Steps.{ServesOpened}
 use Rattle.hba_tool.specs.declared.opening.RangeFault.{RangeFault}
@@ -48,10 +49,10 @@ ThreadsEnd clients_text rounds_text status old new =
     × (new ≡ old))
 
 -- the item is printed with status 0; where the text is no hex, the status is 2, and nothing is printed
-abbrev pub TokensEnd : Text → ℕ → Option (List ℕ) → Option (List ℕ) → Type 0
-TokensEnd hex status old new =
+abbrev pub TokensEnd : Text → Naming → ℕ → Option (List ℕ) → Option (List ℕ) → Type 0
+TokensEnd hex naming status old new =
     ((bytes : List ℕ) × (decode_of hex ≡ Ok bytes) × (status ≡ 0)
-    × Appends old new (token_text bytes ++ 10 ∷ []))
+    × Appends old new (token_text naming bytes ++ 10 ∷ []))
     ⊎ ((e : FromHexError) × (decode_of hex ≡ Err e) × (status ≡ 2) × (new ≡ old))
 
 -- the configuration has no drive with the ranges that the texts write
@@ -91,7 +92,8 @@ Serves remaining contents (Some (level0 texts)) input status old new =
     Level0Ends texts status old new
 Serves remaining contents (Some (threads clients rounds)) input status old new =
     ThreadsEnd clients rounds status old new
-Serves remaining contents (Some (tokens hex)) input status old new = TokensEnd hex status old new
+Serves remaining contents (Some (tokens hex naming)) input status old new =
+    TokensEnd hex naming status old new
 Serves remaining contents (Some (hba texts ranges)) input status old new =
     HbaEnds remaining contents texts ranges input status old new
 

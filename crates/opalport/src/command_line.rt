@@ -3,12 +3,12 @@
 ghost use Rattle.std.specs.Prelude.{◌≡◌, IfOk, false, map, option_map, option_and_then, string_bytes, codes};
 ghost use Rattle.clap.specs.Words.{FailsBy, app_of, fault_of, found_of, rows_of, rule_of, subcommand_rows_of};
 ghost use Rattle.tool.specs.OptionTexts.{drive_text};
-ghost use Rattle.opalport.specs.CommandLine.{top_line, option_rule, free_rule, drive_line, drive_in, hba_line, range_rule, range_texts, threads_line, tokens_line, opalport_line, text_of, wanted_by, asked_of, asked_by};
+ghost use Rattle.opalport.specs.CommandLine.{top_line, option_rule, free_rule, required_rule, flag_rule, drive_line, drive_in, hba_line, range_rule, range_texts, threads_line, tokens_line, opalport_line, text_of, naming_in, wanted_by, asked_of, asked_by};
 
 use crate::controller_help::LINES as CONTROLLER_LINES;
 use clap::{Arg, ArgAction, ArgMatches, Command, Error};
 use std::alloc::{AllocError, Global};
-use tool::DriveTexts;
+use tool::{DriveTexts, Naming};
 
 /// The options that say how many clients make how many rounds, as they are written.
 #[derive(Clone, Copy)]
@@ -24,6 +24,14 @@ pub struct HbaTexts<'a> {
     pub ranges: Vec<&'a str>,
 }
 
+/// A token stream that is to be told as text.
+#[derive(Clone, Copy)]
+pub struct TokenTexts<'a> {
+    /// Its bytes, in hex.
+    pub hex: &'a str,
+    pub naming: Naming,
+}
+
 /// What a command line asks for.
 #[derive(Drop)]
 pub enum Request<'a> {
@@ -34,7 +42,7 @@ pub enum Request<'a> {
     /// To run clients and an engine at one port, each in a thread of its own.
     Threads(LoadTexts<'a>),
     /// To tell a token stream, written in hex, as text.
-    Tokens(&'a str),
+    Tokens(TokenTexts<'a>),
     /// To serve a host as a controller.
     Hba(HbaTexts<'a>),
 }
@@ -171,17 +179,47 @@ fn threads_command<'a>(alloc: Global) -> Result<Command<'a>, AllocError>
         .arg(rounds)
 }
 
+/// An argument that is wanted.
+fn required<'a>(
+    alloc: Global,
+    name: &'static str,
+    value: &'static str,
+    help: &'static str,
+) -> Arg<'a>
+    ensures rule { rule_of result ≡ required_rule name.now }
+    ensures local { result.global ≡ false }
+{
+    Arg::new(alloc, name)
+        .value_name(value)
+        .required(true)
+        .help(help)
+}
+
+/// An option without a value.
+fn flag<'a>(alloc: Global, name: &'static str, help: &'static str) -> Arg<'a>
+    ensures rule { rule_of result ≡ flag_rule name.now }
+    ensures local { result.global ≡ false }
+{
+    Arg::new(alloc, name)
+        .long(name)
+        .action(ArgAction::SetTrue)
+        .help(help)
+}
+
 /// The command that tells a token stream as text.
 fn tokens_command<'a>(alloc: Global) -> Result<Command<'a>, AllocError>
     ensures { IfOk result (λ command. app_of command ≡ tokens_line) }
 {
-    let hex = Arg::new(alloc, "hex")
-        .value_name("HEX")
-        .required(true)
-        .help("The bytes of the tokens, in hex");
+    let hex = required(alloc, "hex", "HEX", "The bytes of the tokens, in hex");
+    let names = flag(
+        alloc,
+        "names",
+        "Tells objects, methods and columns by their names",
+    );
     Command::new(alloc, "tokens")
         .about("Tells the item that a token stream spells, or what is wrong with it")
-        .arg(hex)
+        .arg(hex)?
+        .arg(names)
 }
 
 /// The option that gives a range, as often as there are ranges.
@@ -272,6 +310,22 @@ fn load_texts<'a>(matches: &ArgMatches<'a>) -> LoadTexts<'a>
     }
 }
 
+/// The token stream, and how it is told.
+fn token_texts<'a>(matches: &ArgMatches<'a>) -> TokenTexts<'a>
+    ensures hex { result.hex.now ≡ text_of (codes "hex") (rows_of (found_of matches.now)) }
+    ensures naming { result.naming ≡ naming_in (rows_of (found_of matches.now)) }
+{
+    let naming = if text_of(matches, "names") == "true" {
+        Naming::Names
+    } else {
+        Naming::Numbers
+    };
+    TokenTexts {
+        hex: text_of(matches, "hex"),
+        naming,
+    }
+}
+
 /// The options of a controller's drive.
 fn hba_texts<'a>(alloc: Global, matches: &ArgMatches<'a>) -> Result<HbaTexts<'a>, AllocError>
     ensures drive { IfOk result (λ texts. drive_text texts.drive
@@ -299,7 +353,7 @@ fn request_in<'a>(
         "run" => Ok(Some(Request::Run(drive_texts(matches)))),
         "level0" => Ok(Some(Request::Level0(drive_texts(matches)))),
         "threads" => Ok(Some(Request::Threads(load_texts(matches)))),
-        "tokens" => Ok(Some(Request::Tokens(text_of(matches, "hex")))),
+        "tokens" => Ok(Some(Request::Tokens(token_texts(matches)))),
         "hba" => {
             let texts = hba_texts(alloc, matches)?;
             Ok(Some(Request::Hba(texts)))

@@ -5,7 +5,7 @@ ghost use Rattle.clap.specs.Words.{kind_of};
 ghost use Rattle.tool.specs.OptionTexts.{drive_text};
 ghost use Rattle.opalport.specs.Program.{EndsByWords, RunEnds, Level0Ends, ThreadsEnd, TokensEnd, Ends};
 
-use crate::command_line::{LoadTexts, Request, request_of};
+use crate::command_line::{LoadTexts, Request, TokenTexts, request_of};
 use crate::controller::serve_controller;
 use crate::error::ProgramError;
 use clap::error::ErrorKind;
@@ -86,14 +86,15 @@ fn threads<R: Threads + Wait + Sync, W: Write, E: Write>(
 /// Tells a token stream as text, and gives the status.
 fn tokens<W: Write, E: Write>(
     alloc: Global,
-    hex: &str,
+    texts: TokenTexts<'_>,
     output: &mut W,
     faults: &mut E,
 ) -> Result<u8, RunError>
-    ensures { IfOk result (λ status. TokensEnd hex.now status (W.contents output.old)
+    ensures { IfOk result (λ status. TokensEnd texts.hex.now texts.naming status
+        (W.contents output.old)
         (W.contents output.new)) }
 {
-    let status = run_tokens_with_faults(alloc, hex, output, faults)?;
+    let status = run_tokens_with_faults(alloc, texts.hex, texts.naming, output, faults)?;
     Ok(status)
 }
 
@@ -147,7 +148,7 @@ pub fn ends<T: Threads + Wait + Sync, R: Read + Drop, W: Write, E: Write>(
         Ok(Some(Request::Run(drive))) => Ok(run(alloc, &drive, input, output, faults)?),
         Ok(Some(Request::Level0(drive))) => Ok(level0(alloc, &drive, output, faults)?),
         Ok(Some(Request::Threads(load))) => Ok(threads(rt, alloc, &load, output, faults)?),
-        Ok(Some(Request::Tokens(hex))) => Ok(tokens(alloc, hex, output, faults)?),
+        Ok(Some(Request::Tokens(texts))) => Ok(tokens(alloc, texts, output, faults)?),
         Ok(Some(Request::Hba(texts))) => { serve_controller(alloc, &texts, input, output, faults) },
         Ok(None) => Ok(2),
         Err(error) => Ok(tell(&error, output, faults)?),

@@ -4,10 +4,17 @@ use Rattle.tcg_tokens.specs.Message.{Message}
 use Rattle.tcg_tokens.specs.Reading.{reading}
 use Rattle.tcg_tokens.specs.Text.{item_text_of, fault_text_of}
 use Rattle.tcg_tokens.specs.declared.error.TokenError.{TokenError}
+use Rattle.named_tokens.specs.NamedText.{named_item_text_of}
+use Rattle.tool.specs.declared.tokens.Naming.{Naming}
+use Rattle.tool.specs.declared.tokens.Naming.TheVariants.{Numbers, Names}
 
-abbrev pub text_of_reading : Result Message TokenError → List ℕ
-text_of_reading (Ok message) = item_text_of message
-text_of_reading (Err fault) = fault_text_of fault
+abbrev pub text_as : Naming → Message → List ℕ
+text_as Numbers message = item_text_of message
+text_as Names message = named_item_text_of message
 
-abbrev pub token_text : List ℕ → List ℕ
-token_text bytes = text_of_reading (reading bytes)
+abbrev pub text_of_reading : Naming → Result Message TokenError → List ℕ
+text_of_reading naming (Ok message) = text_as naming message
+text_of_reading naming (Err fault) = fault_text_of fault
+
+abbrev pub token_text : Naming → List ℕ → List ℕ
+token_text naming bytes = text_of_reading naming (reading bytes)

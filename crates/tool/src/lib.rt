@@ -20,4 +20,4 @@ pub use level0::run_level0;
 pub use options::{DriveTexts, Options, OptionsFault};
 pub use port_phase::request_of;
 pub use script::{laws_of_limits, run_script, run_script_with_faults};
-pub use tokens::{run_tokens, run_tokens_with_faults};
+pub use tokens::{Naming, run_tokens, run_tokens_with_faults};

@@ -4,22 +4,45 @@ ghost use Rattle.std.specs.Prelude.{◌≡◌, ◌++◌, ◌∷◌, [], ℕ, Lis
 ghost use Rattle.std.specs.Io.KnownBytes.{Appends};
 ghost use Rattle.hex.specs.Hex.{decode_of};
 ghost use Rattle.hex.specs.declared.error.FromHexError.{FromHexError};
-ghost use Rattle.tool.specs.TokenLines.{token_text};
+ghost use Rattle.tcg_tokens.specs.Message.{message};
+ghost use Rattle.tool.specs.TokenLines.{text_as, token_text};
 ghost use Rattle.tool.specs.declared.ending.RunError.{RunError};
 
 use crate::ending::RunError;
 use hex::FromHexError;
+use named_tokens::named_item_text;
 use std::alloc::{AllocError, Global};
 use std::io;
 use std::io::Write;
-use tcg_tokens::{TokenError, fault_text, item_text, read_item};
+use tcg_tokens::{Item, TokenError, fault_text, item_text, read_item};
+
+/// How objects, methods and columns are told.
+#[derive(Clone, Copy, Debug, PartialEq, Eq)]
+pub enum Naming {
+    /// By their numbers.
+    Numbers,
+    /// By their names, where they have one.
+    Names,
+}
+
+impl Naming {
+    /// The text of an item.
+    fn item_text(self, alloc: Global, item: &Item) -> Result<String, AllocError>
+        ensures { IfOk result (λ text. string_bytes text ≡ text_as self (message item.now)) }
+    {
+        match self {
+            Naming::Numbers => item_text(alloc, item),
+            Naming::Names => named_item_text(alloc, item),
+        }
+    }
+}
 
 /// The text of the item that the bytes spell, or of what is wrong with them.
-fn token_text(alloc: Global, bytes: &[u8]) -> Result<String, AllocError>
-    ensures { IfOk result (λ text. string_bytes text ≡ token_text bytes.now) }
+fn token_text(alloc: Global, naming: Naming, bytes: &[u8]) -> Result<String, AllocError>
+    ensures { IfOk result (λ text. string_bytes text ≡ token_text naming bytes.now) }
 {
     match read_item(alloc, bytes) {
-        Ok(item) => item_text(alloc, &item),
+        Ok(item) => naming.item_text(alloc, &item),
         Err(TokenError::OutOfMemory) => Err(AllocError),
         Err(fault) => fault_text(alloc, fault),
     }
@@ -30,12 +53,14 @@ fn token_text(alloc: Global, bytes: &[u8]) -> Result<String, AllocError>
 pub fn run_tokens_with_faults<W: Write, E: Write>(
     alloc: Global,
     hex: &str,
+    naming: Naming,
     output: &mut W,
     faults: &mut E,
 ) -> Result<u8, RunError>
     ensures printed { (bytes : List ℕ) → decode_of hex.now ≡ Ok bytes
         → IfOk result (λ status. (status ≡ 0)
-        × Appends (W.contents output.old) (W.contents output.new) (token_text bytes ++ 10 ∷ [])) }
+        × Appends (W.contents output.old) (W.contents output.new)
+        (token_text naming bytes ++ 10 ∷ [])) }
     ensures memory { result ≡ Err RunError.Memory → W.contents output.new ≡ W.contents output.old }
     ensures errors { IfErr result (λ error. (error ≡ RunError.Memory) ⊎ (error ≡ RunError.Write)) }
     ensures no_hex { (e : FromHexError) → decode_of hex.now ≡ Err e
@@ -51,7 +76,7 @@ pub fn run_tokens_with_faults<W: Write, E: Write>(
             return Ok(2);
         }
     };
-    let mut line = token_text(alloc, &bytes)?;
+    let mut line = token_text(alloc, naming, &bytes)?;
     line.push_str("\n")?;
     output
         .write_all(line.as_bytes())
@@ -61,14 +86,20 @@ pub fn run_tokens_with_faults<W: Write, E: Write>(
 }
 
 /// Prints what hex digits spell, as `run_tokens_with_faults` does, and drops the text of the fault.
-pub fn run_tokens<W: Write>(alloc: Global, hex: &str, output: &mut W) -> Result<u8, RunError>
+pub fn run_tokens<W: Write>(
+    alloc: Global,
+    hex: &str,
+    naming: Naming,
+    output: &mut W,
+) -> Result<u8, RunError>
     ensures printed { (bytes : List ℕ) → decode_of hex.now ≡ Ok bytes
         → IfOk result (λ status. (status ≡ 0)
-        × Appends (W.contents output.old) (W.contents output.new) (token_text bytes ++ 10 ∷ [])) }
+        × Appends (W.contents output.old) (W.contents output.new)
+        (token_text naming bytes ++ 10 ∷ [])) }
     ensures memory { result ≡ Err RunError.Memory → W.contents output.new ≡ W.contents output.old }
     ensures errors { IfErr result (λ error. (error ≡ RunError.Memory) ⊎ (error ≡ RunError.Write)) }
     ensures no_hex { (e : FromHexError) → decode_of hex.now ≡ Err e
         → IfOk result (λ status. (status ≡ 2) × (W.contents output.new ≡ W.contents output.old)) }
 {
-    run_tokens_with_faults(alloc, hex, output, &mut io::sink())
+    run_tokens_with_faults(alloc, hex, naming, output, &mut io::sink())
 }
