@@ -1,4 +1,5 @@
 pub mod Words
+pub mod Tags
 pub mod Works
 pub mod Turns
 pub mod Failures

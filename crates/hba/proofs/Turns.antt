@@ -503,3 +503,21 @@ pub runs_still : {M : Type 0} (does : M → Access → M → Type 0) (n : ℕ) (
 runs_still {M} does n first start old before new after ran e f =
     subst (λ (m : M). Runs does n first start new m) (sym f)
     (subst (λ (s : State). Runs does n first start s before) (sym e) ran)
+
+-- Nothing of the state is another before it and behind it.
+pub turn_between : {M E : Type 0} (does : M → Access → M → Type 0)
+    (Did : Origin → Account → List Access → Operation → Type 0) (first old : State) (before : M)
+    (new last : State) (after : M) (result : Result Outcome E) → old ≡ first → last ≡ new
+    → IfOk result (λ r. TurnsAs does Did old before new after r.done r.denied)
+    → IfOk result (λ r. TurnsAs does Did first before last after r.done r.denied)
+turn_between does Did first old before new last after result e f h =
+    subst (λ (s : State). IfOk result (λ r. TurnsAs does Did s before last after r.done r.denied)) e
+    (subst (λ (s : State). IfOk result (λ r. TurnsAs does Did old before s after r.done r.denied)) (sym f) h)
+
+pub turn_kept : {M : Type 0} (does : M → Access → M → Type 0)
+    (Did : Origin → Account → List Access → Operation → Type 0) (old : State) (before : M)
+    (new last : State) (after : M) (done : Done) (denied : Option Why) → last ≡ new
+    → TurnsAs does Did old before new after done denied
+    → TurnsAs does Did old before last after done denied
+turn_kept does Did old before new last after done denied e t =
+    subst (λ (s : State). TurnsAs does Did old before s after done denied) (sym e) t

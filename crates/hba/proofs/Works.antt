@@ -1,5 +1,6 @@
 -- One piece of work more.
-use Rattle.std.proofs.Common.{◌≡◌, ℕ, ◌+◌, ◌%◌, zero, suc, Bool, true, false, length, Some, List, [], ◌∷◌, ◌++◌, None, refl, ap, sym, ◌∙◌, append_assoc, add-one}
+use Rattle.std.proofs.Common.{◌≡◌, ℕ, ◌+◌, ◌%◌, ◌<◌, ◌≤◌, zero, suc, Bool, true, false, length, Option, Some, List, [], ◌∷◌, ◌++◌, None, refl, ap, sym, ◌∙◌, append_assoc, add-one, arith, ⊎_elim}
+use Rattle.std.proofs.lemmas.Bool.{cases_lt}
 use Rattle.std.specs.Prelude.{◌&&◌, is_some, slice_index_or, if◌then◌else◌}
 use Rattle.std.proofs.Math.Path.{fun_ext}
 use Rattle.hba.specs.declared.registers.Registers.{Registers}
@@ -97,3 +98,124 @@ pub picked_ready : (passes : Work → Bool) (choice : ℕ) (work : Work)
     → picked choice (ready_by passes) ≡ Some work → passes work ≡ true
 picked_ready passes choice work e =
     picked_passes passes choice (ready_by passes) work (all_ready passes) e
+
+-- The first of a list.
+abbrev head : List Work → Option Work
+head [] = None
+head (work ∷ later) = Some work
+
+picked_first : (xs : List Work) → picked 0 xs ≡ head xs
+picked_first [] = refl
+picked_first (x ∷ xs) =
+    let none : 0 % length (x ∷ xs) ≡ 0 = omega arith in
+    ap (λ (i : ℕ). Some (slice_index_or (x ∷ xs) i x)) none
+
+head_front : (xs ys : List Work) (work : Work) → head xs ≡ Some work → head (xs ++ ys) ≡ Some work
+head_front [] ys work e = cc
+head_front (x ∷ xs) ys work e = e
+
+ready_none : (passes : Work → Bool) (work : Work) → passes work ≡ false → if_ready passes work ≡ []
+ready_none passes work e =
+    ap (λ (b : Bool). let xs : List Work = if b then work ∷ [] else [] in xs) e
+
+ready_one : (passes : Work → Bool) (work : Work) → passes work ≡ true
+    → if_ready passes work ≡ work ∷ []
+ready_one passes work e =
+    ap (λ (b : Bool). let xs : List Work = if b then work ∷ [] else [] in xs) e
+
+fetches_none : (passes : Work → Bool) (k : ℕ)
+    → ((n : ℕ) → n < k → passes (works.Fetch n) ≡ false) → fetches passes k ≡ []
+fetches_none passes zero h = refl
+fetches_none passes (suc k) h =
+    ap (λ (xs : List Work). xs ++ if_ready passes (works.Fetch k))
+    (fetches_none passes k (λ n below. h n (omega arith)))
+    ∙ ready_none passes (works.Fetch k) (h k (omega arith))
+
+completions_none : (passes : Work → Bool) (k : ℕ)
+    → ((n : ℕ) → n < k → passes (works.Complete n) ≡ false) → completions passes k ≡ []
+completions_none passes zero h = refl
+completions_none passes (suc k) h =
+    ap (λ (xs : List Work). xs ++ if_ready passes (works.Complete k))
+    (completions_none passes k (λ n below. h n (omega arith)))
+    ∙ ready_none passes (works.Complete k) (h k (omega arith))
+
+-- Where the least that passes is the last of a list, or stands before it.
+last_fetch : (passes : Work → Bool) (k t : ℕ) → t ≡ k → passes (works.Fetch t) ≡ true
+    → fetches passes k ≡ [] → head (fetches passes (suc k)) ≡ Some (works.Fetch t)
+last_fetch passes k t same has none =
+    ap (λ (xs : List Work). head (xs ++ if_ready passes (works.Fetch k))) none
+    ∙ ap head (ready_one passes (works.Fetch k) (ap (λ (n : ℕ). passes (works.Fetch n)) (sym same) ∙ has))
+    ∙ ap (λ (n : ℕ). Some (works.Fetch n)) (sym same)
+
+fetches_first : (passes : Work → Bool) (k t : ℕ) → t < k → passes (works.Fetch t) ≡ true
+    → ((n : ℕ) → n < t → passes (works.Fetch n) ≡ false)
+    → head (fetches passes k) ≡ Some (works.Fetch t)
+fetches_first passes zero t below has least = absurd (omega arith)
+fetches_first passes (suc k) t below has least =
+    ⊎_elim
+    (λ (before : t < k). head_front (fetches passes k) (if_ready passes (works.Fetch k)) (works.Fetch t)
+    (fetches_first passes k t before has least))
+    (λ (behind : k ≤ t). last_fetch passes k t (omega arith) has
+    (fetches_none passes k (λ n under. least n (omega arith))))
+    (cases_lt t k)
+
+last_completion : (passes : Work → Bool) (k t : ℕ) → t ≡ k → passes (works.Complete t) ≡ true
+    → completions passes k ≡ [] → head (completions passes (suc k)) ≡ Some (works.Complete t)
+last_completion passes k t same has none =
+    ap (λ (xs : List Work). head (xs ++ if_ready passes (works.Complete k))) none
+    ∙ ap head (ready_one passes (works.Complete k) (ap (λ (n : ℕ). passes (works.Complete n)) (sym same) ∙ has))
+    ∙ ap (λ (n : ℕ). Some (works.Complete n)) (sym same)
+
+completions_first : (passes : Work → Bool) (k t : ℕ) → t < k → passes (works.Complete t) ≡ true
+    → ((n : ℕ) → n < t → passes (works.Complete n) ≡ false)
+    → head (completions passes k) ≡ Some (works.Complete t)
+completions_first passes zero t below has least = absurd (omega arith)
+completions_first passes (suc k) t below has least =
+    ⊎_elim
+    (λ (before : t < k). head_front (completions passes k) (if_ready passes (works.Complete k))
+    (works.Complete t) (completions_first passes k t before has least))
+    (λ (behind : k ≤ t). last_completion passes k t (omega arith) has
+    (completions_none passes k (λ n under. least n (omega arith))))
+    (cases_lt t k)
+
+-- The first of all that may be done.
+pub first_signature : (passes : Work → Bool) → passes works.Signature ≡ true
+    → picked 0 (ready_by passes) ≡ Some works.Signature
+first_signature passes e =
+    picked_first (ready_by passes)
+    ∙ head_front (if_ready passes works.Signature ++ fetches passes slot_count) (completions passes slot_count)
+    works.Signature
+    (head_front (if_ready passes works.Signature) (fetches passes slot_count) works.Signature
+    (ap head (ready_one passes works.Signature e)))
+
+pub first_fetch : (passes : Work → Bool) (t : ℕ) → passes works.Signature ≡ false → t < slot_count
+    → passes (works.Fetch t) ≡ true → ((n : ℕ) → n < t → passes (works.Fetch n) ≡ false)
+    → picked 0 (ready_by passes) ≡ Some (works.Fetch t)
+first_fetch passes t e below has least =
+    picked_first (ready_by passes)
+    ∙ head_front (if_ready passes works.Signature ++ fetches passes slot_count) (completions passes slot_count)
+    (works.Fetch t)
+    (ap (λ (xs : List Work). head (xs ++ fetches passes slot_count)) (ready_none passes works.Signature e)
+    ∙ fetches_first passes slot_count t below has least)
+
+pub first_behind : (passes : Work → Bool) → passes works.Signature ≡ false
+    → ((n : ℕ) → n < slot_count → passes (works.Fetch n) ≡ false)
+    → picked 0 (ready_by passes) ≡ picked 0 (completions passes slot_count)
+first_behind passes e none =
+    picked_first (ready_by passes)
+    ∙ ap (λ (xs : List Work). head ((xs ++ fetches passes slot_count) ++ completions passes slot_count))
+    (ready_none passes works.Signature e)
+    ∙ ap (λ (xs : List Work). head (xs ++ completions passes slot_count)) (fetches_none passes slot_count none)
+    ∙ sym (picked_first (completions passes slot_count))
+
+pub first_completion : (passes : Work → Bool) (t : ℕ) → t < slot_count
+    → passes (works.Complete t) ≡ true → ((n : ℕ) → n < t → passes (works.Complete n) ≡ false)
+    → picked 0 (completions passes slot_count) ≡ Some (works.Complete t)
+first_completion passes t below has least =
+    picked_first (completions passes slot_count) ∙ completions_first passes slot_count t below has least
+
+pub no_completion : (passes : Work → Bool)
+    → ((n : ℕ) → n < slot_count → passes (works.Complete n) ≡ false)
+    → picked 0 (completions passes slot_count) ≡ None
+no_completion passes none =
+    picked_first (completions passes slot_count) ∙ ap head (completions_none passes slot_count none)

@@ -1,5 +1,5 @@
 -- What the engine may do (AHCI 1.3.1, 5.3 and 5.5.1).
-use Rattle.std.specs.Prelude.{ℕ, ◌^◌, ◌%◌, ◌==◌, ◌&&◌, not, zero, suc, Bool, List, [], ◌∷◌, ◌++◌, length, slice_index_or, Option, Some, None, is_some, bit_and, if◌then◌else◌}
+use Rattle.std.specs.Prelude.{◌≡◌, ℕ, ◌^◌, ◌%◌, ◌<◌, ◌==◌, ◌&&◌, not, zero, suc, Bool, true, false, List, [], ◌∷◌, ◌++◌, length, slice_index_or, Option, Some, None, is_some, bit_and, if◌then◌else◌}
 use Rattle.fis.specs.Tags.{slot_count}
 use Rattle.hba_regs.specs.Registers.{has_bits}
 use Rattle.history.specs.History.{log}
@@ -29,6 +29,20 @@ may_fetch regs tag =
 -- What the drive holds is completed while PxSACT has it.
 abbrev pub may_complete : Registers → ℕ → Bool
 may_complete regs tag = is_working regs && has_bits regs.port.active (2 ^ tag)
+
+-- The tags whose commands can be fetched, and those whose commands can be completed, a bit for each.
+abbrev pub fetchable : Registers → ℕ
+fetchable regs =
+    if is_working regs && bit_and regs.port.status busy_bits == 0 then regs.port.issued else 0
+
+abbrev pub completable : Registers → ℕ
+completable regs = if is_working regs then regs.port.active else 0
+
+-- The least tag of a word.
+pub record IsLeast (tags tag : ℕ) : Type 0 where
+  pub slot : tag < slot_count
+  pub has : has_bits tags (2 ^ tag) ≡ true
+  pub least : (n : ℕ) → n < tag → has_bits tags (2 ^ n) ≡ false
 
 abbrev pub is_ready : Registers → (ℕ → Bool) → Work → Bool
 is_ready regs holds works.Signature = may_sign regs

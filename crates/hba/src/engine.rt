@@ -1,6 +1,6 @@
 //! What the engine does (AHCI 1.3.1, 5.5).
 
-ghost use Rattle.std.specs.Prelude.{◌≡◌, ◌<◌, ◌^◌, List, ◌∷◌, Option, OnOk, OnErr, IfOk, length, is_some, true, Some, None};
+ghost use Rattle.std.specs.Prelude.{◌≡◌, ◌<◌, ◌≤◌, ◌^◌, List, ◌∷◌, Option, OnOk, OnErr, IfOk, length, is_some, true, Some, None};
 ghost use Rattle.std.specs.Result.{result_err};
 ghost use Rattle.history.specs.Answers.{payload_of, expected};
 ghost use Rattle.host_memory.specs.Access.{OnlyReads};
@@ -13,6 +13,7 @@ use fis::{Fis, H2D_LENGTH, Lba, RegD2h, Tag};
 use hba_memory::{Header, Miss, Place, deliver, gather, header_by, is_command, post_all};
 use host_memory::{HostMemory, read_array};
 use std::alloc::AllocError;
+use std::mem::replace;
 
 /// The device's first FIS after a reset: ready, with its signature.
 fn signature_fis() -> Fis
@@ -80,6 +81,32 @@ impl Hba {
         };
         self.acts = one_more(self.acts);
         Ok(completed)
+    }
+
+    /// Room for so many bytes of a payload, or more. What stands there is not said.
+    fn take_room(&mut self, len: usize) -> Result<Vec<u8>, AllocError>
+        ensures long { IfOk result (λ room. len ≤ length room.items) }
+        ensures same { self.new ≡ self.old }
+    {
+        let mut room = replace(&mut self.room, Vec::new(self.alloc));
+        if room.len() < len {
+            room.resize(len, 0)?;
+        }
+        Ok(room)
+    }
+
+    /// Keeps the room for the next command.
+    fn put_back(&mut self, room: Vec<u8>)
+        ensures { self.new ≡ self.old }
+    {
+        self.room = room;
+    }
+
+    /// Gives the vector of an answer back to the drive, for its next answer.
+    fn give_back(&mut self, bytes: Vec<u8>)
+        ensures { self.new ≡ self.old }
+    {
+        self.drive.give_back(bytes);
     }
 
     /// Where the header of a slot stands.
@@ -162,6 +189,39 @@ impl Hba {
         }
     }
 
+    /// The engine executes the command of a slot, whose data fill a room.
+    fn execute_in<M: HostMemory>(
+        &mut self,
+        tag: Tag,
+        place: Place,
+        fis: &[u8; H2D_LENGTH],
+        room: &mut [u8],
+        memory: &mut M,
+    ) -> Result<Outcome, AllocError>
+        requires near { place.at < 2 ^ 40 }
+        requires long { length room.old ≡ payload_of self.old.drive.tper.store.config fis.now }
+        ensures done { IfOk result (λ r. TurnsAs M.does (λ o a. Executes o a place tag fis.now)
+            self.old memory.old self.new memory.new r.done r.denied) }
+        ensures err { OnErr result (self.new ≡ self.old) }
+        ensures kept { OnErr result (OnlyReads M.does memory.old memory.new) }
+    {
+        let at = place.header.descriptors();
+        match gather(memory, at, place.header.entries, room) {
+            Ok(()) => {}
+            Err(miss) => return Ok(self.miss(miss)),
+        }
+        let accepted = self.take(fis, room)?;
+        let (fises, bytes) = (accepted.fises.as_slice(), accepted.bytes.as_slice());
+        let delivered = deliver(memory, place, room.len(), fises, bytes);
+        self.note_fetch(tag);
+        let done = self.show(tag, fises, delivered);
+        self.give_back(accepted.bytes);
+        Ok(Outcome {
+            done,
+            denied: accepted.denied,
+        })
+    }
+
     /// The engine executes the command of a slot.
     fn execute<M: HostMemory>(
         &mut self,
@@ -176,23 +236,11 @@ impl Hba {
         ensures err { OnErr result (self.new ≡ self.old) }
         ensures kept { OnErr result (OnlyReads M.does memory.old memory.new) }
     {
-        let at = place.header.descriptors();
-        let entries = place.header.entries;
         let len = self.drive.payload_len(fis);
-        let payload = match gather(self.alloc, memory, at, entries, len)? {
-            Ok(payload) => payload,
-            Err(miss) => return Ok(self.miss(miss)),
-        };
-        let brought = payload.as_slice();
-        let accepted = self.take(fis, brought)?;
-        let (fises, bytes) = (accepted.fises.as_slice(), accepted.bytes.as_slice());
-        let delivered = deliver(memory, place, brought.len(), fises, bytes);
-        self.note_fetch(tag);
-        let done = self.show(tag, fises, delivered);
-        Ok(Outcome {
-            done,
-            denied: accepted.denied,
-        })
+        let mut room = self.take_room(len)?;
+        let outcome = self.execute_in(tag, place, fis, &mut room[..len], memory);
+        self.put_back(room);
+        outcome
     }
 
     /// The engine fetches the command under a tag.
@@ -216,6 +264,38 @@ impl Hba {
         self.execute(tag, place, &fis, memory)
     }
 
+    /// The engine completes the command of a slot, whose data fill a room.
+    fn end_in<M: HostMemory>(
+        &mut self,
+        tag: Tag,
+        place: Place,
+        len: usize,
+        room: &mut [u8],
+        memory: &mut M,
+    ) -> Result<Outcome, AllocError>
+        requires near { place.at < 2 ^ 40 }
+        requires long { length room.old ≡ len }
+        requires asked { len ≡ expected (held_at self.old.drive.queue tag) }
+        requires held { is_some (held_at self.old.drive.queue tag) ≡ true }
+        ensures done { IfOk result (λ r. TurnsAs M.does
+            (λ o a. ServesSo o a place len (Complete tag) (CompletedTag tag))
+            self.old memory.old self.new memory.new r.done r.denied) }
+        ensures err { OnErr result (self.new ≡ self.old) }
+        ensures kept { OnErr result (OnlyReads M.does memory.old memory.new) }
+    {
+        let at = place.header.descriptors();
+        match gather(memory, at, place.header.entries, room) {
+            Ok(()) => {}
+            Err(miss) => return Ok(self.miss(miss)),
+        }
+        let completed = self.finish(tag, room)?;
+        let (fises, bytes) = (completed.fises.as_slice(), completed.bytes.as_slice());
+        let delivered = deliver(memory, place, room.len(), fises, bytes);
+        let done = self.show(tag, fises, delivered);
+        self.give_back(completed.bytes);
+        Ok(Outcome { done, denied: None })
+    }
+
     /// The engine completes the command of a slot, whose data are so many.
     fn end<M: HostMemory>(
         &mut self,
@@ -233,17 +313,10 @@ impl Hba {
         ensures err { OnErr result (self.new ≡ self.old) }
         ensures kept { OnErr result (OnlyReads M.does memory.old memory.new) }
     {
-        let at = place.header.descriptors();
-        let payload = match gather(self.alloc, memory, at, place.header.entries, len)? {
-            Ok(payload) => payload,
-            Err(miss) => return Ok(self.miss(miss)),
-        };
-        let brought = payload.as_slice();
-        let completed = self.finish(tag, brought)?;
-        let (fises, bytes) = (completed.fises.as_slice(), completed.bytes.as_slice());
-        let delivered = deliver(memory, place, brought.len(), fises, bytes);
-        let done = self.show(tag, fises, delivered);
-        Ok(Outcome { done, denied: None })
+        let mut room = self.take_room(len)?;
+        let outcome = self.end_in(tag, place, len, &mut room[..len], memory);
+        self.put_back(room);
+        outcome
     }
 
     /// The engine completes what the drive holds under a tag.

@@ -20,6 +20,8 @@ pub struct Hba {
     /// How many acts the drive has done, modulo 2^64.
     pub(crate) acts: u64,
     pub(crate) registers: Registers,
+    /// Room for what comes with the next command.
+    pub(crate) room: Vec<u8>,
 }
 
 impl Model for Hba {
@@ -75,6 +77,7 @@ impl Hba {
             drive,
             acts: 0,
             registers: Registers::new(),
+            room: Vec::new(alloc),
         }
     }
 

@@ -127,7 +127,7 @@ fn fresh_port() -> PortRegs
 
 impl Registers {
     ghost use Rattle.std.specs.Prelude.{◌≡◌, unwrap_or};
-    ghost use Rattle.hba.specs.Ready.{is_working, may_sign, may_fetch, may_complete};
+    ghost use Rattle.hba.specs.Ready.{is_working, may_sign, may_fetch, may_complete, fetchable, completable};
     ghost use Rattle.hba_regs.specs.Registers.{register_at, word_at as port_word_at, written_at as port_written_at};
     ghost use Rattle.hba_regs.specs.declared.register.Register.TheVariants as registers;
     ghost use Rattle.hba.specs.Engine.{fises_at};
@@ -200,6 +200,28 @@ impl Registers {
         ensures { result ≡ may_sign self.now }
     {
         self.is_receiving() && is_up(self.kept_word(PX_SCTL)) && !self.is_signed
+    }
+
+    /// The tags whose commands can be fetched, a bit for each.
+    pub(crate) fn fetchable(&self) -> u32
+        ensures { result ≡ fetchable self.now }
+    {
+        if self.is_working() && self.port.status() & BUSY == 0 {
+            self.kept_word(PX_CI)
+        } else {
+            0
+        }
+    }
+
+    /// The tags whose commands can be completed, if the drive holds them, a bit for each.
+    pub(crate) fn completable(&self) -> u32
+        ensures { result ≡ completable self.now }
+    {
+        if self.is_working() {
+            self.kept_word(PX_SACT)
+        } else {
+            0
+        }
     }
 
     /// Whether the command of a tag can be fetched.

@@ -1,8 +1,9 @@
 //! What the engine may do (AHCI 1.3.1, 5.3 and 5.5.1).
 
-ghost use Rattle.std.specs.Prelude.{◌≡◌, ◌<◌, ◌≤◌, ◌+◌, ◌++◌, List, [], None, length};
+ghost use Rattle.std.specs.Prelude.{◌≡◌, ◌<◌, ◌≤◌, ◌+◌, ◌^◌, ◌++◌, List, [], None, MatchOption, length};
 ghost use Rattle.history.specs.Opening.{Origin};
-ghost use Rattle.hba.specs.Ready.{picked};
+ghost use Rattle.hba_regs.specs.Registers.{has_bits};
+ghost use Rattle.hba.specs.Ready.{IsLeast, picked};
 ghost use Rattle.hba.specs.Showing.{fault_of};
 
 use crate::hba::Hba;
@@ -91,9 +92,27 @@ pub enum HbaError {
     OutOfMemory,
 }
 
+/// Whether a tag is among those of a word.
+fn has_tag(tags: u32, tag: Tag) -> bool
+    ensures { result ≡ has_bits tags (2 ^ tag) }
+{
+    let bit = 1 << tag.number();
+    tags & bit == bit
+}
+
+/// The least tag among those of a word.
+fn least_tag(tags: u32) -> Option<Tag>
+    ensures { MatchOption result (tags ≡ 0) (λ tag. IsLeast tags tag) }
+{
+    if tags == 0 {
+        return None;
+    }
+    Some(Tag::low_bits(tags.trailing_zeros() as u8))
+}
+
 impl Hba {
     ghost use Rattle.hba.specs.History.{Operation, AgreesHba};
-    ghost use Rattle.hba.specs.Ready.{is_ready_on, is_ready_after, if_ready, fetches, completions, ready_on, ready_after, picked};
+    ghost use Rattle.hba.specs.Ready.{is_ready_on, is_ready_after, if_ready, completable, fetches, completions, ready_on, ready_after, picked};
     ghost use Rattle.fis.specs.Tags.{slot_count};
 
     /// Whether the engine may do a piece of work.
@@ -115,27 +134,39 @@ impl Hba {
         }
     }
 
-    /// Adds a piece of work that may be done.
-    fn add(&self, works: &mut ArrayVec<Work, 65>, work: Work)
-        requires { length works.old.items < 65 }
+    /// Adds a piece of work, if it may be done.
+    fn add(&self, works: &mut ArrayVec<Work, 65>, is_ready: bool, work: Work)
+        requires few { length works.old.items < 65 }
+        requires ready { is_ready ≡ is_ready_on self.now work }
         ensures items { works.new.items ≡ works.old.items ++ if_ready (is_ready_on self.now) work }
         ensures few { length works.new.items ≤ length works.old.items + 1 }
     {
-        if self.is_ready(&work) {
+        if is_ready {
             works.push(work);
         }
     }
 
-    #[tactic(auto, using(crate::proofs::Works::one_fetch))]
+    #[tactic(auto, using(crate::proofs::Works::one_fetch, crate::proofs::Tags::fetch_tag))]
     fn add_fetches(&self, works: &mut ArrayVec<Work, 65>)
         requires { length works.old.items ≤ 1 }
         ensures items { works.new.items
             ≡ works.old.items ++ fetches (is_ready_on self.now) slot_count }
         ensures few { length works.new.items ≤ 33 }
     {
+        let tags = self.registers.fetchable();
         for number in 0..32 {
-            self.add(works, Work::Fetch(Tag::low_bits(number)));
+            let tag = Tag::low_bits(number);
+            self.add(works, has_tag(tags, tag), Work::Fetch(tag));
         }
+    }
+
+    /// Whether what the drive holds under a tag can be completed, by the tags that the registers name.
+    #[tactic(auto, using(crate::proofs::Tags::complete_tag))]
+    fn can_complete(&self, tags: u32, tag: Tag) -> bool
+        requires { tags ≡ completable self.now.registers }
+        ensures { result ≡ is_ready_on self.now (Work.Complete tag) }
+    {
+        has_tag(tags, tag) && self.drive.holds(tag)
     }
 
     #[tactic(auto, using(crate::proofs::Works::one_completion))]
@@ -144,8 +175,10 @@ impl Hba {
         ensures { works.new.items
             ≡ works.old.items ++ completions (is_ready_on self.now) slot_count }
     {
+        let tags = self.registers.completable();
         for number in 0..32 {
-            self.add(works, Work::Complete(Tag::low_bits(number)));
+            let tag = Tag::low_bits(number);
+            self.add(works, self.can_complete(tags, tag), Work::Complete(tag));
         }
     }
 
@@ -164,16 +197,49 @@ impl Hba {
         ensures { result.items ≡ ready_on self.now }
     {
         let mut works = ArrayVec::new();
-        self.add(&mut works, Work::Signature);
+        self.add(&mut works, self.registers.may_sign(), Work::Signature);
         self.add_fetches(&mut works);
         self.add_completions(&mut works);
         works
+    }
+
+    /// The first completion that may be done.
+    fn first_completion(&self) -> Option<Work>
+        ensures { result ≡ picked 0 (completions (is_ready_on self.now) slot_count) }
+    {
+        let tags = self.registers.completable();
+        if tags == 0 {
+            return None;
+        }
+        for number in 0..32 {
+            let tag = Tag::low_bits(number);
+            if self.can_complete(tags, tag) {
+                return Some(Work::Complete(tag));
+            }
+        }
+        None
+    }
+
+    /// The first piece of work that may be done.
+    fn first(&self) -> Option<Work>
+        ensures { result ≡ picked 0 (ready_on self.now) }
+    {
+        if self.registers.may_sign() {
+            return Some(Work::Signature);
+        }
+        match least_tag(self.registers.fetchable()) {
+            Some(tag) => Some(Work::Fetch(tag)),
+            None => self.first_completion(),
+        }
     }
 
     /// The work of this number, modulo how many there are.
     pub(crate) fn pick(&self, choice: usize) -> Option<Work>
         ensures { result ≡ picked choice (ready_on self.now) }
     {
+        if choice == 0 {
+            return self.first();
+        }
         let works = self.works();
         let work = pick(works.as_slice(), choice);
         work

@@ -1,7 +1,7 @@
 -- What comes of accesses so far, and of those that are to come.
-use Rattle.std.proofs.Common.{◌≡◌, ◌<◌, ℕ, ◌+◌, ◌-◌, ◌%◌, ◌^◌, min, zero, suc, Bool, true, false, List, [], ◌∷◌, ◌++◌, length, take, drop, Option, Some, None, Ok, Err, refl, sym, ap, arith, append_assoc, subst, get_or, ◌≤◌, add-one, drop-cons, length-drop, slice_range}
+use Rattle.std.proofs.Common.{◌≡◌, ◌<◌, ℕ, ◌+◌, ◌-◌, ◌%◌, ◌^◌, min, zero, suc, Bool, true, false, List, [], ◌∷◌, ◌++◌, length, take, drop, Option, Some, None, Ok, Err, refl, sym, ap, arith, append_assoc, subst, get_or, ◌≤◌, add-one, drop-cons, length-drop, length-append, length-take-le, slice_range, ◌∙◌}
 use Rattle.std.proofs.lemmas.Grind.{common_steps}
-use Rattle.std.proofs.lemmas.List.{append-nil}
+use Rattle.std.proofs.lemmas.List.{append-nil, take_all, take_at}
 use Rattle.std.specs.Prelude.{◌==◌, Result, OnErr}
 use Rattle.byteorder.specs.Endian.{little_bytes}
 use Rattle.fis.specs.declared.any.Fis.{Fis}
@@ -140,6 +140,26 @@ gathers_done does start now first all len bytes at (suc k) left h is_none =
     let p : BringsNext true at left (Gathers (at + descriptor_size) k) [] (Ok []) = (refl, refl) in
     let t = h [] now (Ok []) refl (rw none p) in
     (t.0, t.1, subst (λ l. Gathers first all len t.0 (Ok l)) (append-nil bytes) t.2)
+
+-- All is filled.
+pub gathers_all : {M : Type 0} (does : M → Access → M → Type 0) (start now : M)
+    (first all len : ℕ) (into : List ℕ) (done at n left : ℕ)
+    → GathersOn does start now first all len (take done into) at n left → left ≡ 0
+    → length into ≤ done
+    → (talk : List Access) × Accessed does start talk now × Gathers first all len talk (Ok into)
+gathers_all does start now first all len into done at n left h is_none whole =
+    let t = gathers_done does start now first all len (take done into) at n left h is_none in
+    (t.0, t.1, subst (λ (xs : List ℕ). Gathers first all len t.0 (Ok xs)) (take_all done into whole) t.2)
+
+-- A block is filled behind what was filled before.
+pub block_behind : (into block rest : List ℕ) (done size end : ℕ) → done ≤ length into
+    → length block ≡ size → end ≡ done + size
+    → take end (take done into ++ (block ++ rest)) ≡ take done into ++ block
+block_behind into block rest done size end fits long e =
+    let front : length (take done into) ≡ done = length-take-le done into fits in
+    let size_of : length (take done into ++ block) ≡ end = omega (arith, length-append (take done into) block, front) in
+    ap (take end) (sym (append_assoc (take done into) block rest))
+    ∙ take_at (take done into ++ block) rest end size_of
 
 pub gathers_short : {M : Type 0} (does : M → Access → M → Type 0) (start now : M)
     (first all len : ℕ) (bytes : List ℕ) (at n left : ℕ)

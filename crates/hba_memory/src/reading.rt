@@ -1,14 +1,13 @@
 //! What the engine reads of the host's memory: command headers, FISes, and data (AHCI 1.3.1, section 4).
 
-ghost use Rattle.std.specs.Prelude.{◌≡◌, ◌≤◌, ◌<◌, ◌+◌, ◌*◌, ◌-◌, ◌^◌, List, OnErr, IfOk, length, true};
-ghost use Rattle.host_memory.specs.Access.{Access, Accessed, OnlyReads};
+ghost use Rattle.std.specs.Prelude.{◌≡◌, ◌≤◌, ◌<◌, ◌+◌, ◌*◌, ◌-◌, ◌^◌, List, length, true};
+ghost use Rattle.host_memory.specs.Access.{Access, Accessed};
 ghost use Rattle.hba_memory.specs.Memory.{command_table_of, header_of, header_by, carries_command, data_at, data_len, descriptors_of, Gathers, brought_as};
 
 use crate::miss::Miss;
 use byteorder::{ByteOrder, LittleEndian};
 use fis::{H2D_LENGTH, H2D_TYPE};
-use host_memory::{HostMemory, read_array, read_vec};
-use std::alloc::{AllocError, Global};
+use host_memory::{HostMemory, read_array, read_at};
 
 /// How many bytes a command header has (AHCI 1.3.1, 4.2.2).
 pub const HEADER: usize = 32;
@@ -87,45 +86,39 @@ pub(crate) fn data_len(entry: &[u8; DESCRIPTOR]) -> usize
     2 * (count / 2) + 2 * (count % 2)
 }
 
-/// The first bytes, so many, of the blocks that so many descriptors from an address on name; or where memory failed.
-/// A descriptor is read where bytes are wanted of its block alone.
+/// Fills `into` with the first bytes of the blocks that so many descriptors from an address on name. A descriptor is read
+/// where bytes are wanted of its block alone.
 ///
 /// # Errors
 ///
-/// Want of memory.
+/// Where memory failed. What stands in `into` then is not said.
 pub fn gather<M: HostMemory>(
-    alloc: Global,
     memory: &mut M,
     at: u64,
     entries: u16,
-    len: usize,
-) -> Result<Result<Vec<u8>, Miss>, AllocError>
+    into: &mut [u8],
+) -> Result<(), Miss>
     requires { at < 2 ^ 33 }
-    ensures gathered { IfOk result (λ brought. (talk : List Access)
-        × Accessed M.does memory.old talk memory.new
-        × Gathers at entries len talk (brought_as (λ v. v.items) brought)) }
-    ensures long { IfOk result (λ brought. IfOk brought (λ v. length v.items ≡ len)) }
-    ensures kept { OnErr result (OnlyReads M.does memory.old memory.new) }
+    ensures { (talk : List Access) × Accessed M.does memory.old talk memory.new
+        × Gathers at entries (length into.old) talk (brought_as (λ done. into.new) result) }
 {
-    let mut bytes = Vec::new(alloc);
-    let mut left = len;
+    let mut done = 0;
     for k in 0..entries {
-        if left == 0 {
-            return Ok(Ok(bytes));
+        if done == into.len() {
+            return Ok(());
         }
         let Some(entry) = read_array(memory, at + DESCRIPTOR as u64 * u64::from(k)) else {
-            return Ok(Err(Miss::Table));
+            return Err(Miss::Table);
         };
-        let wanted = left.min(data_len(&entry));
-        let Some(block) = read_vec(alloc, memory, data_at(&entry), wanted)? else {
-            return Ok(Err(Miss::Block));
-        };
-        bytes.extend_from_slice(&block)?;
-        left -= wanted;
+        let end = done + data_len(&entry).min(into.len() - done);
+        if !read_at(memory, data_at(&entry), &mut into[done..end]) {
+            return Err(Miss::Block);
+        }
+        done = end;
     }
-    if left == 0 {
-        Ok(Ok(bytes))
+    if done == into.len() {
+        Ok(())
     } else {
-        Ok(Err(Miss::Overflow))
+        Err(Miss::Overflow)
     }
 }

@@ -8,5 +8,5 @@ mod window;
 
 pub use host::HostMemory;
 pub use laws::laws_of_windows;
-pub use reach::{read_array, read_at, read_vec, write_at};
+pub use reach::{read_array, read_at, write_at};
 pub use window::Window;

@@ -1,10 +1,9 @@
 //! Accesses of a host's memory at any address: bytes past 4 GiB are no memory.
 
-ghost use Rattle.std.specs.Prelude.{◌≡◌, ◌+◌, ◌^◌, ◌<◌, nat_le, length, OnErr, IfOk, IfSome, option_map};
+ghost use Rattle.std.specs.Prelude.{◌≡◌, ◌+◌, ◌^◌, ◌<◌, nat_le, length};
 ghost use Rattle.host_memory.specs.Access.{Asked, Laid, IsAccess, memory_end, read_answer};
 
 use crate::host::HostMemory;
-use std::alloc::{AllocError, Global};
 
 /// The first address that none has.
 const END: u64 = 0x1_0000_0000;
@@ -46,29 +45,5 @@ pub fn read_array<M: HostMemory, const N: usize>(memory: &mut M, at: u64) -> Opt
         Some(bytes)
     } else {
         None
-    }
-}
-
-/// So many bytes at an address; `None` where one of them is no memory.
-///
-/// # Errors
-///
-/// Want of memory. The host's memory was not asked then.
-pub fn read_vec<M: HostMemory>(
-    alloc: Global,
-    memory: &mut M,
-    at: u64,
-    len: usize,
-) -> Result<Option<Vec<u8>>, AllocError>
-    ensures answered { IfOk result (λ bytes. IsAccess M.does memory.old
-        (Asked at len (option_map (λ v. v.items) bytes)) memory.new) }
-    ensures long { IfOk result (λ bytes. IfSome bytes (λ v. length v.items ≡ len)) }
-    ensures err { OnErr result (memory.new ≡ memory.old) }
-{
-    let mut bytes = vec![in alloc; 0; len]?;
-    if read_at(memory, at, &mut bytes) {
-        Ok(Some(bytes))
-    } else {
-        Ok(None)
     }
 }

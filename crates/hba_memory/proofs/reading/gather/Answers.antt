@@ -1,67 +1,57 @@
 -- Each descriptor and each block is read, or refused.
-use Rattle.std.proofs.Common.{◌≡◌, ◌+◌, ◌-◌, ◌*◌, min, length, Some, arith, ◌∙◌, ap, ℕ, List, ◌++◌, length-append}
+use Rattle.std.proofs.Common.{◌≡◌, ◌+◌, ◌-◌, ◌*◌, ◌≤◌, min, length, take, drop, arith, refl, ◌∙◌, ap, ℕ}
+use borrow.Rule.Slice.PartMut.{mid_len}
 use Rattle.hba_memory.specs.Memory.{data_len}
-use Rattle.hba_memory.proofs.Talks.{gathers_more, gathers_done, gathers_short, gathers_no_entry, gathers_no_block, read_more, on_err}
+use Rattle.hba_memory.proofs.Talks.{gathers_more, gathers_all, gathers_short, gathers_no_entry, gathers_no_block, block_behind}
 use Rattle.hba_memory.proofs.reading.gather.Goals as goal
 
-pub returns-then-left-eq0-clause-gathered : goal.returns-then-left-eq0-clause-gathered
-returns-then-left-eq0-clause-gathered g c =
-    gathers_done g.M.HostMemory.does c.args.memory.now c.loop-k.memory c.args.at c.args.entries c.args.len c.loop-k.bytes.items (c.args.at + 16 * c.loop-k.k) (c.args.entries - c.loop-k.k) c.loop-k.left c.loop-k.invariant.talk c.if-left-eq0.true
+pub returns-then-done-into : goal.returns-then-done-into
+returns-then-done-into g c =
+    gathers_all g.M.HostMemory.does c.args.memory.now c.loop-k.memory c.args.at c.args.entries (length c.args.into.now) c.loop-k.into c.loop-k.done (c.args.at + 16 * c.loop-k.k) (c.args.entries - c.loop-k.k) (length c.args.into.now - c.loop-k.done)
+    c.loop-k.invariant.talk (omega arith) (omega arith)
 
-pub returns-in_default-clause-gathered : goal.returns-in_default-clause-gathered
-returns-in_default-clause-gathered g c =
-    gathers_no_entry g.M.HostMemory.does c.args.memory.now c.loop-k.memory c.read_array.new.memory c.args.at c.args.entries c.args.len c.loop-k.bytes.items (c.args.at + 16 * c.loop-k.k) (c.args.entries - c.loop-k.k) c.loop-k.left c.loop-k.invariant.talk (omega arith)
-    c.if-left-eq0.false (rw (c.from.ensures, c.in_default.is) at c.read_array.ensures)
+pub returns-in_default : goal.returns-in_default
+returns-in_default g c =
+    gathers_no_entry g.M.HostMemory.does c.args.memory.now c.loop-k.memory c.read_array.new.memory c.args.at c.args.entries (length c.args.into.now) (take c.loop-k.done c.loop-k.into) (c.args.at + 16 * c.loop-k.k) (c.args.entries - c.loop-k.k) (length c.args.into.now - c.loop-k.done)
+    c.loop-k.invariant.talk (omega arith) (λ none. absurd (omega arith)) (rw (c.from.ensures, c.in_default.is) at c.read_array.ensures)
 
-pub returns-in_err-block-clause-kept : goal.returns-in_err-block-clause-kept
-returns-in_err-block-clause-kept g c =
-    on_err c.from_residual.result _ (rw c.in_err-block.ensures.err (read_more g.M.HostMemory.does c.args.memory.now c.loop-k.memory c.read_array.new.memory (c.args.at + 16 * c.loop-k.k) 16 (Some c.in-Some.entry) c.loop-k.invariant.reads
-    (rw (c.from.ensures, c.in-Some.is) at c.read_array.ensures)))
-
-pub returns-in_default-2-clause-gathered : goal.returns-in_default-2-clause-gathered
-returns-in_default-2-clause-gathered g c =
-    let least : c.min-wanted.result ≡ min c.loop-k.left c.data_len.result = omega arith in
-    let wanted : c.min-wanted.result ≡ min c.loop-k.left (data_len c.in-Some.entry) =
-    least ∙ ap (λ (n : ℕ). min c.loop-k.left n) c.data_len.ensures.value in
-    gathers_no_block g.M.HostMemory.does c.args.memory.now c.loop-k.memory c.read_array.new.memory c.read_vec.new.memory c.args.at c.args.entries c.args.len c.loop-k.bytes.items (c.args.at + 16 * c.loop-k.k) (c.args.entries - c.loop-k.k) c.loop-k.left c.in-Some.entry c.loop-k.invariant.talk
-    (omega arith) c.if-left-eq0.false (rw (c.from.ensures, c.in-Some.is) at c.read_array.ensures)
-    (rw (c.data_at.ensures, wanted, c.in_default-2.is) at c.in_ok-block.ensures.answered)
-
-pub returns-in_err-extend_from_slice-clause-kept : goal.returns-in_err-extend_from_slice-clause-kept
-returns-in_err-extend_from_slice-clause-kept g c =
-    on_err c.from_residual-in_err-extend_from_slice.result _ (read_more g.M.HostMemory.does c.args.memory.now c.read_array.new.memory c.read_vec.new.memory c.data_at.result c.min-wanted.result (Some c.in-Some-2.block.items)
-    (read_more g.M.HostMemory.does c.args.memory.now c.loop-k.memory c.read_array.new.memory (c.args.at + 16 * c.loop-k.k) 16 (Some c.in-Some.entry) c.loop-k.invariant.reads
-    (rw (c.from.ensures, c.in-Some.is) at c.read_array.ensures))
-    (rw c.in-Some-2.is at c.in_ok-block.ensures.answered))
+pub returns-then-not-read_at : goal.returns-then-not-read_at
+returns-then-not-read_at g c =
+    let fits : c.loop-k.done + c.min.result ≤ length c.loop-k.into = omega arith in
+    let least : c.loop-k.done + c.min.result - c.loop-k.done ≡ min (length c.args.into.now - c.loop-k.done) c.data_len.result = omega arith in
+    let size : c.loop-k.done + c.min.result - c.loop-k.done ≡ min (length c.args.into.now - c.loop-k.done) (data_len c.in-Some.entry) =
+    least ∙ ap (λ (n : ℕ). min (length c.args.into.now - c.loop-k.done) n) c.data_len.ensures.value in
+    let long = mid_len c.loop-k.done (c.loop-k.done + c.min.result) c.loop-k.into fits in
+    gathers_no_block g.M.HostMemory.does c.args.memory.now c.loop-k.memory c.read_array.new.memory c.read_at.new.memory c.args.at c.args.entries (length c.args.into.now) (take c.loop-k.done c.loop-k.into) (c.args.at + 16 * c.loop-k.k) (c.args.entries - c.loop-k.k) (length c.args.into.now - c.loop-k.done) c.in-Some.entry
+    c.loop-k.invariant.talk (omega arith) (λ none. absurd (omega arith)) (rw (c.from.ensures, c.in-Some.is) at c.read_array.ensures)
+    (rw (long, size, c.data_at.ensures, c.if-not-read_at.true) at c.read_at.ensures)
 
 pub loop-k-preserved : goal.loop-k-preserved
 loop-k-preserved g c =
-    let least : c.min-wanted.result ≡ min c.loop-k.left c.data_len.result = omega arith in
-    let wanted : c.min-wanted.result ≡ min c.loop-k.left (data_len c.in-Some.entry) =
-    least ∙ ap (λ (n : ℕ). min c.loop-k.left n) c.data_len.ensures.value in
-    let after : c.loop-k.left - c.min-wanted.result ≡ c.loop-k.left - data_len c.in-Some.entry = omega (arith, wanted) in
-    let items : c.extend_from_slice.new.self.items ≡ c.loop-k.bytes.items ++ c.in-Some-2.block.items =
-    c.in_ok-extend_from_slice.ensures.items ∙ ap (λ (xs : List ℕ). c.loop-k.bytes.items ++ xs) c.deref.ensures.value in
-    let long : length c.in-Some-2.block.items ≡ c.min-wanted.result =
-    rw c.in-Some-2.is at c.in_ok-block.ensures.long in
+    let fits : c.loop-k.done + c.min.result ≤ length c.loop-k.into = omega arith in
+    let least : c.loop-k.done + c.min.result - c.loop-k.done ≡ min (length c.args.into.now - c.loop-k.done) c.data_len.result = omega arith in
+    let size : c.loop-k.done + c.min.result - c.loop-k.done ≡ min (length c.args.into.now - c.loop-k.done) (data_len c.in-Some.entry) =
+    least ∙ ap (λ (n : ℕ). min (length c.args.into.now - c.loop-k.done) n) c.data_len.ensures.value in
+    let long = mid_len c.loop-k.done (c.loop-k.done + c.min.result) c.loop-k.into fits in
+    let new_long : length c.read_at.new.into ≡ c.min.result = omega (arith, long) in
+    let after : length c.args.into.now - (c.loop-k.done + c.min.result) ≡ length c.args.into.now - c.loop-k.done - data_len c.in-Some.entry = omega (arith, least, c.data_len.ensures.value) in
+    let filled = block_behind c.loop-k.into c.read_at.new.into (drop (c.loop-k.done + c.min.result - c.loop-k.done) (drop c.loop-k.done c.loop-k.into)) c.loop-k.done c.min.result (c.loop-k.done + c.min.result) (omega arith) new_long refl in
     record {
-      long = rw items (omega (arith, least, long, length-append c.loop-k.bytes.items c.in-Some-2.block.items));
-      reads = (read_more g.M.HostMemory.does c.args.memory.now c.read_array.new.memory c.read_vec.new.memory c.data_at.result c.min-wanted.result (Some c.in-Some-2.block.items)
-          (read_more g.M.HostMemory.does c.args.memory.now c.loop-k.memory c.read_array.new.memory (c.args.at + 16 * c.loop-k.k) 16 (Some c.in-Some.entry) c.loop-k.invariant.reads
-          (rw (c.from.ensures, c.in-Some.is) at c.read_array.ensures))
-          (rw c.in-Some-2.is at c.in_ok-block.ensures.answered));
+      done = omega arith;
       talk =
-          rw items
-          (gathers_more g.M.HostMemory.does c.args.memory.now c.loop-k.memory c.read_array.new.memory c.read_vec.new.memory c.args.at c.args.entries c.args.len c.loop-k.bytes.items (c.args.at + 16 * c.loop-k.k) (c.args.entries - c.loop-k.k) (c.args.entries - (c.loop-k.k + 1)) c.loop-k.left
-          (c.loop-k.left - c.min-wanted.result) (c.args.at + 16 * (c.loop-k.k + 1)) c.in-Some.entry c.in-Some-2.block.items
-          c.loop-k.invariant.talk (omega arith) c.if-left-eq0.false (omega arith) after (rw (c.from.ensures, c.in-Some.is) at c.read_array.ensures)
-          (rw (c.data_at.ensures, wanted, c.in-Some-2.is) at c.in_ok-block.ensures.answered));
+          rw filled
+          (gathers_more g.M.HostMemory.does c.args.memory.now c.loop-k.memory c.read_array.new.memory c.read_at.new.memory c.args.at c.args.entries (length c.args.into.now) (take c.loop-k.done c.loop-k.into) (c.args.at + 16 * c.loop-k.k) (c.args.entries - c.loop-k.k) (c.args.entries - (c.loop-k.k + 1)) (length c.args.into.now - c.loop-k.done)
+          (length c.args.into.now - (c.loop-k.done + c.min.result)) (c.args.at + 16 * (c.loop-k.k + 1)) c.in-Some.entry c.read_at.new.into
+          c.loop-k.invariant.talk (omega arith) (λ none. absurd (omega arith)) (omega arith) after (rw (c.from.ensures, c.in-Some.is) at c.read_array.ensures)
+          (rw (long, size, c.data_at.ensures, c.if-not-read_at.false) at c.read_at.ensures));
     }
 
-pub returns-then-left-eq0-2-clause-gathered : goal.returns-then-left-eq0-2-clause-gathered
-returns-then-left-eq0-2-clause-gathered g c =
-    gathers_done g.M.HostMemory.does c.args.memory.now c.loop-k.memory c.args.at c.args.entries c.args.len c.loop-k.bytes.items (c.args.at + 16 * c.loop-k.k) (c.args.entries - c.loop-k.k) c.loop-k.left c.loop-k.invariant.talk c.if-left-eq0-2.true
+pub returns-then-done-into-2 : goal.returns-then-done-into-2
+returns-then-done-into-2 g c =
+    gathers_all g.M.HostMemory.does c.args.memory.now c.loop-k.memory c.args.at c.args.entries (length c.args.into.now) c.loop-k.into c.loop-k.done (c.args.at + 16 * c.loop-k.k) (c.args.entries - c.loop-k.k) (length c.args.into.now - c.loop-k.done)
+    c.loop-k.invariant.talk (omega arith) (omega arith)
 
-pub returns-else-left-eq0-2-clause-gathered : goal.returns-else-left-eq0-2-clause-gathered
-returns-else-left-eq0-2-clause-gathered g c =
-    gathers_short g.M.HostMemory.does c.args.memory.now c.loop-k.memory c.args.at c.args.entries c.args.len c.loop-k.bytes.items (c.args.at + 16 * c.loop-k.k) (c.args.entries - c.loop-k.k) c.loop-k.left c.loop-k.invariant.talk (omega arith) c.if-left-eq0-2.false
+pub returns-else-done-into-2 : goal.returns-else-done-into-2
+returns-else-done-into-2 g c =
+    gathers_short g.M.HostMemory.does c.args.memory.now c.loop-k.memory c.args.at c.args.entries (length c.args.into.now) (take c.loop-k.done c.loop-k.into) (c.args.at + 16 * c.loop-k.k) (c.args.entries - c.loop-k.k) (length c.args.into.now - c.loop-k.done)
+    c.loop-k.invariant.talk (omega arith) (λ none. absurd (omega arith))

@@ -1,45 +1,23 @@
--- Memory fails before the act, or the drive acts.
-use Rattle.std.proofs.Common.{Some, None, Ok, ap, sym, refl}
-use Rattle.std.specs.Result.{result_err}
+-- The room is taken, and put back.
+use Rattle.std.proofs.Common.{[], refl, ◌∙◌}
+use Rattle.std.proofs.lemmas.Result.{on_err_weaker}
 use Rattle.history.specs.History.{Complete}
 use Rattle.hba_memory.proofs.Talks.{on_err}
-use Rattle.hba.specs.declared.work.Done.{Done}
-use Rattle.hba.specs.declared.work.Done.TheVariants as dones
-use Rattle.hba.specs.Showing.{fault_of}
 use Rattle.hba.specs.History.{Completed}
 use Rattle.hba.specs.Engine.{ServesSo}
-use Rattle.hba.proofs.Turns.{told_as, serves_missed, serves_done, adds_completed, shown_completed, brought_reads}
+use Rattle.hba.proofs.Turns.{turn_between}
 use Rattle.hba.proofs.hba.Hba.end.Goals as goal
 
-pub returns-in-Err-clause-done : goal.returns-in-Err-clause-done
-returns-in-Err-clause-done g c =
-    told_as g.M.HostMemory.does (λ o a. ServesSo o a c.args.place c.args.len (Complete c.args.tag) (Completed c.args.tag)) c.args.self.now c.args.memory.now c.miss.new.self
-    c.gather.new.memory c.miss.result (dones.Fault (fault_of c.in-Err.miss)) None c.miss.ensures.told
-    (serves_missed g.M.HostMemory.does c.args.place c.args.len (Complete c.args.tag) (Completed c.args.tag)
-    c.args.self.now c.args.memory.now c.miss.new.self c.gather.new.memory c.in-Err.miss
-    (rw (c.descriptors-at.ensures.value, c.in-Err.is) at c.in_ok-payload.ensures.gathered)
-    c.miss.ensures.agrees)
-
-pub returns-in_err-completed-clause-kept : goal.returns-in_err-completed-clause-kept
-returns-in_err-completed-clause-kept g c =
-    on_err c.from_residual-in_err-completed.result _
-    (brought_reads g.M.HostMemory.does c.args.place c.args.len c.args.memory.now c.gather.new.memory (Ok c.in-Ok.payload.items)
-    (rw (c.descriptors-at.ensures.value, c.in-Ok.is) at c.in_ok-payload.ensures.gathered))
+pub returns-in_err-room-clause-kept : goal.returns-in_err-room-clause-kept
+returns-in_err-room-clause-kept g c = on_err c.from_residual.result _ ([], tt, refl)
 
 pub returns-clause-done : goal.returns-clause-done
 returns-clause-done g c =
-    let gives = rw (← c.as_slice-fises.ensures.value, ← c.as_slice-bytes.ensures.value) at c.in_ok-completed.ensures.effect in
-    serves_done g.M.HostMemory.does c.args.place c.args.len (Complete c.args.tag) (Completed c.args.tag)
-    c.args.self.now c.args.memory.now c.gather.new.memory c.show-done.new.self c.deliver-delivered.new.memory
-    c.as_slice-brought.result.now c.as_slice-fises.result.now c.as_slice-bytes.result.now (result_err c.deliver-delivered.result)
-    c.show-done.result None
-    (rw (c.descriptors-at.ensures.value, c.in-Ok.is, ← c.as_slice-brought.ensures.value) at c.in_ok-payload.ensures.gathered)
-    c.deliver-delivered.ensures
-    (ap (λ (d : Done). Some d) (sym c.show-done.ensures.told))
-    gives
-    (adds_completed c.args.self.now c.finish.new.self c.show-done.new.self c.args.tag c.as_slice-brought.result.now
-    c.as_slice-fises.result.now c.as_slice-bytes.result.now (result_err c.deliver-delivered.result)
-    c.in_ok-completed.ensures.acted gives
-    (shown_completed c.args.self.now c.finish.new.self c.show-done.new.self c.args.tag c.as_slice-fises.result.now
-    (result_err c.deliver-delivered.result) c.in_ok-completed.ensures.registers c.show-done.ensures.shown))
-    (λ o list a. refl)
+    turn_between g.M.HostMemory.does (λ o a. ServesSo o a c.args.place c.args.len (Complete c.args.tag) (Completed c.args.tag)) c.args.self.now c.take_room.new.self c.args.memory.now
+    c.end_in-outcome.new.self c.put_back.new.self c.end_in-outcome.new.memory c.end_in-outcome.result
+    c.in_ok-room.ensures.same c.put_back.ensures c.end_in-outcome.ensures.done
+
+pub returns-clause-err : goal.returns-clause-err
+returns-clause-err g c =
+    on_err_weaker c.end_in-outcome.result (λ h. c.put_back.ensures ∙ h ∙ c.in_ok-room.ensures.same)
+    c.end_in-outcome.ensures.err

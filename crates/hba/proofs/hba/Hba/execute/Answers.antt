@@ -1,50 +1,21 @@
--- Memory fails before the act, or the drive acts.
-use Rattle.std.proofs.Common.{Some, None, Ok, ap, sym, ◌∙◌}
-use Rattle.std.specs.Result.{result_err}
-use Rattle.history.specs.Answers.{payload_of}
-use Rattle.history.specs.History.{Accept}
+-- The room is taken, and put back.
+use Rattle.std.proofs.Common.{[], refl, ◌∙◌}
+use Rattle.std.proofs.lemmas.Result.{on_err_weaker}
 use Rattle.hba_memory.proofs.Talks.{on_err}
-use Rattle.hba.specs.declared.work.Done.{Done}
-use Rattle.hba.specs.declared.work.Done.TheVariants as dones
-use Rattle.hba.specs.Showing.{fault_of}
-use Rattle.hba.specs.History.{Fetched, State}
 use Rattle.hba.specs.Engine.{Executes}
-use Rattle.hba.proofs.Turns.{executes_as, told_as, serves_missed, serves_done, adds_fetched, shown_fetched, brought_reads}
+use Rattle.hba.proofs.Turns.{turn_between}
 use Rattle.hba.proofs.hba.Hba.execute.Goals as goal
 
-pub returns-in-Err-clause-done : goal.returns-in-Err-clause-done
-returns-in-Err-clause-done g c =
-    told_as g.M.HostMemory.does (λ o a. Executes o a c.args.place c.args.tag c.args.fis.now) c.args.self.now c.args.memory.now c.miss.new.self
-    c.gather.new.memory c.miss.result (dones.Fault (fault_of c.in-Err.miss)) None c.miss.ensures.told
-    (executes_as g.M.HostMemory.does c.args.place c.args.tag c.args.fis.now c.args.self.now c.args.memory.now c.miss.new.self c.gather.new.memory
-    (dones.Fault (fault_of c.in-Err.miss)) None
-    (serves_missed g.M.HostMemory.does c.args.place (payload_of c.args.self.now.drive.tper.store.config c.args.fis.now) (Accept c.args.fis.now) (Fetched c.args.tag c.args.fis.now)
-    c.args.self.now c.args.memory.now c.miss.new.self c.gather.new.memory c.in-Err.miss
-    (rw (c.descriptors-at.ensures.value, (c.payload_len-len.ensures.stands ∙ ap (λ (s : State). payload_of s.drive.tper.store.config c.args.fis.now) c.self.view_is), c.in-Err.is) at c.in_ok-payload.ensures.gathered)
-    c.miss.ensures.agrees))
-
-pub returns-in_err-accepted-clause-kept : goal.returns-in_err-accepted-clause-kept
-returns-in_err-accepted-clause-kept g c =
-    on_err c.from_residual-in_err-accepted.result _
-    (brought_reads g.M.HostMemory.does c.args.place (payload_of c.args.self.now.drive.tper.store.config c.args.fis.now) c.args.memory.now c.gather.new.memory (Ok c.in-Ok.payload.items)
-    (rw (c.descriptors-at.ensures.value, (c.payload_len-len.ensures.stands ∙ ap (λ (s : State). payload_of s.drive.tper.store.config c.args.fis.now) c.self.view_is), c.in-Ok.is) at c.in_ok-payload.ensures.gathered))
+pub returns-in_err-room-clause-kept : goal.returns-in_err-room-clause-kept
+returns-in_err-room-clause-kept g c = on_err c.from_residual.result _ ([], tt, refl)
 
 pub returns-clause-done : goal.returns-clause-done
 returns-clause-done g c =
-    let gives = rw (← c.as_slice-fises.ensures.value, ← c.as_slice-bytes.ensures.value) at c.in_ok-accepted.ensures.effect in
-    executes_as g.M.HostMemory.does c.args.place c.args.tag c.args.fis.now c.args.self.now c.args.memory.now c.show-done.new.self
-    c.deliver-delivered.new.memory c.show-done.result c.in_ok-accepted.accepted.denied
-    (serves_done g.M.HostMemory.does c.args.place (payload_of c.args.self.now.drive.tper.store.config c.args.fis.now) (Accept c.args.fis.now) (Fetched c.args.tag c.args.fis.now)
-    c.args.self.now c.args.memory.now c.gather.new.memory c.show-done.new.self c.deliver-delivered.new.memory
-    c.as_slice-brought.result.now c.as_slice-fises.result.now c.as_slice-bytes.result.now (result_err c.deliver-delivered.result)
-    c.show-done.result c.in_ok-accepted.accepted.denied
-    (rw (c.descriptors-at.ensures.value, (c.payload_len-len.ensures.stands ∙ ap (λ (s : State). payload_of s.drive.tper.store.config c.args.fis.now) c.self.view_is), c.in-Ok.is, ← c.as_slice-brought.ensures.value) at c.in_ok-payload.ensures.gathered)
-    c.deliver-delivered.ensures
-    (ap (λ (d : Done). Some d) (sym c.show-done.ensures.told))
-    gives
-    (adds_fetched c.args.self.now c.take.new.self c.show-done.new.self c.args.tag c.args.fis.now c.as_slice-brought.result.now
-    c.as_slice-fises.result.now c.as_slice-bytes.result.now (result_err c.deliver-delivered.result)
-    c.in_ok-accepted.ensures.acted gives
-    (shown_fetched c.args.self.now c.take.new.self c.note_fetch.new.self c.show-done.new.self c.args.tag c.as_slice-fises.result.now
-    (result_err c.deliver-delivered.result) c.in_ok-accepted.ensures.registers c.note_fetch.ensures c.show-done.ensures.shown))
-    c.in_ok-accepted.ensures.denied)
+    turn_between g.M.HostMemory.does (λ o a. Executes o a c.args.place c.args.tag c.args.fis.now) c.args.self.now c.take_room.new.self c.args.memory.now
+    c.execute_in-outcome.new.self c.put_back.new.self c.execute_in-outcome.new.memory c.execute_in-outcome.result
+    c.in_ok-room.ensures.same c.put_back.ensures c.execute_in-outcome.ensures.done
+
+pub returns-clause-err : goal.returns-clause-err
+returns-clause-err g c =
+    on_err_weaker c.execute_in-outcome.result (λ h. c.put_back.ensures ∙ h ∙ c.in_ok-room.ensures.same)
+    c.execute_in-outcome.ensures.err

@@ -1,0 +1,52 @@
+-- Memory fails before the act, or the drive acts.
+use Rattle.std.proofs.Common.{Some, None, Ok, ap, sym, ◌∙◌}
+use Rattle.std.specs.Result.{result_err}
+use Rattle.history.specs.Answers.{payload_of}
+use Rattle.history.specs.History.{Accept}
+use Rattle.hba_memory.proofs.Talks.{on_err}
+use Rattle.hba.specs.declared.work.Done.{Done}
+use Rattle.hba.specs.declared.work.Done.TheVariants as dones
+use Rattle.hba.specs.Showing.{fault_of}
+use Rattle.hba.specs.History.{Fetched}
+use Rattle.hba.specs.Engine.{Executes}
+use Rattle.hba.proofs.Turns.{executes_as, told_as, serves_missed, serves_done, adds_fetched, shown_fetched, brought_reads, turn_kept}
+use Rattle.hba.proofs.hba.Hba.execute_in.Goals as goal
+
+pub returns-in-Err-clause-done : goal.returns-in-Err-clause-done
+returns-in-Err-clause-done g c =
+    told_as g.M.HostMemory.does (λ o a. Executes o a c.args.place c.args.tag c.args.fis.now) c.args.self.now c.args.memory.now c.miss.new.self
+    c.gather.new.memory c.miss.result (dones.Fault (fault_of c.in-Err.miss)) None c.miss.ensures.told
+    (executes_as g.M.HostMemory.does c.args.place c.args.tag c.args.fis.now c.args.self.now c.args.memory.now c.miss.new.self c.gather.new.memory
+    (dones.Fault (fault_of c.in-Err.miss)) None
+    (serves_missed g.M.HostMemory.does c.args.place (payload_of c.args.self.now.drive.tper.store.config c.args.fis.now) (Accept c.args.fis.now) (Fetched c.args.tag c.args.fis.now)
+    c.args.self.now c.args.memory.now c.miss.new.self c.gather.new.memory c.in-Err.miss
+    (rw (c.descriptors-at.ensures.value, c.requires.long, c.in-Err.is) at c.gather.ensures)
+    c.miss.ensures.agrees))
+
+pub returns-in_err-accepted-clause-kept : goal.returns-in_err-accepted-clause-kept
+returns-in_err-accepted-clause-kept g c =
+    on_err c.from_residual.result _
+    (brought_reads g.M.HostMemory.does c.args.place (payload_of c.args.self.now.drive.tper.store.config c.args.fis.now) c.args.memory.now c.gather.new.memory (Ok c.gather.new.into)
+    (rw (c.descriptors-at.ensures.value, c.requires.long, c.in-Ok.is) at c.gather.ensures))
+
+pub returns-clause-done : goal.returns-clause-done
+returns-clause-done g c =
+    let gives = rw (← c.as_slice-fises.ensures.value, ← c.as_slice-bytes.ensures.value) at c.in_ok-accepted.ensures.effect in
+    turn_kept g.M.HostMemory.does (λ o a. Executes o a c.args.place c.args.tag c.args.fis.now) c.args.self.now c.args.memory.now c.show-done.new.self c.give_back.new.self
+    c.deliver-delivered.new.memory c.show-done.result c.in_ok-accepted.accepted.denied c.give_back.ensures
+    (executes_as g.M.HostMemory.does c.args.place c.args.tag c.args.fis.now c.args.self.now c.args.memory.now c.show-done.new.self
+    c.deliver-delivered.new.memory c.show-done.result c.in_ok-accepted.accepted.denied
+    (serves_done g.M.HostMemory.does c.args.place (payload_of c.args.self.now.drive.tper.store.config c.args.fis.now) (Accept c.args.fis.now) (Fetched c.args.tag c.args.fis.now)
+    c.args.self.now c.args.memory.now c.gather.new.memory c.show-done.new.self c.deliver-delivered.new.memory
+    c.gather.new.into c.as_slice-fises.result.now c.as_slice-bytes.result.now (result_err c.deliver-delivered.result)
+    c.show-done.result c.in_ok-accepted.accepted.denied
+    (rw (c.descriptors-at.ensures.value, c.requires.long, c.in-Ok.is) at c.gather.ensures)
+    c.deliver-delivered.ensures
+    (ap (λ (d : Done). Some d) (sym c.show-done.ensures.told))
+    gives
+    (adds_fetched c.args.self.now c.take.new.self c.show-done.new.self c.args.tag c.args.fis.now c.gather.new.into
+    c.as_slice-fises.result.now c.as_slice-bytes.result.now (result_err c.deliver-delivered.result)
+    c.in_ok-accepted.ensures.acted gives
+    (shown_fetched c.args.self.now c.take.new.self c.note_fetch.new.self c.show-done.new.self c.args.tag c.as_slice-fises.result.now
+    (result_err c.deliver-delivered.result) c.in_ok-accepted.ensures.registers c.note_fetch.ensures c.show-done.ensures.shown))
+    c.in_ok-accepted.ensures.denied))
