@@ -6,8 +6,8 @@ use Rattle.basics.specs.declared.profile.Profile.TheVariants.{Base, Field}
 use Rattle.sp_cells.specs.declared.names.Uid.{Uid}
 use Rattle.sp_cells.specs.declared.names.Sp.{Sp}
 use Rattle.sp_cells.specs.declared.names.Sp.TheVariants.{Admin, Locking}
-use Rattle.sp_cells.specs.Names.{get, set, authenticate, revert, activate, gen_key, revert_sp, this_sp, admin_sp, locking_sp, anybody, sid, admin_uid, user_uid, c_pin_sid, c_pin_msid, admin_pin_uid, user_pin_uid, global_range, range_uid, mbr_control, mbr_table, tper_info, psid, c_pin_psid, locking_info, mbr_table_row, key_uid}
-use Rattle.sp_cells.specs.Names.{ace_anybody, ace_admins, ace_anybody_get_common_name, ace_c_pin_sid_get_nopin, ace_c_pin_sid_set_pin, ace_c_pin_msid_get_pin, ace_c_pin_get_psid_nopin, ace_sp_psid, ace_sp_sid, ace_tper_info_set_programmatic_reset_enable, ace_ace_set_boolean_expression, ace_authority_set_enabled, ace_c_pin_admins_get_all_nopin, ace_c_pin_admins_set_pin, ace_c_pin_user_set_pin, ace_locking_get_all, ace_range_get, ace_key_gen_key, ace_range_set_read_locked, ace_range_set_write_locked, ace_locking_global_range_admins_set, ace_locking_admins_set, ace_mbr_control_admins_set, ace_mbr_control_set_done_to_dor}
+use Rattle.sp_cells.specs.Names.{get, set, authenticate, revert, activate, gen_key, revert_sp, this_sp, admin_sp, locking_sp, anybody, sid, admin_uid, user_uid, c_pin_sid, c_pin_msid, admin_pin_uid, user_pin_uid, global_range, range_uid, mbr_control, mbr_table, tper_info, psid, c_pin_psid, locking_info, mbr_table_row, datastore_table, datastore_table_row, data_removal, key_uid}
+use Rattle.sp_cells.specs.Names.{ace_anybody, ace_admins, ace_anybody_get_common_name, ace_c_pin_sid_get_nopin, ace_c_pin_sid_set_pin, ace_c_pin_msid_get_pin, ace_c_pin_get_psid_nopin, ace_sp_psid, ace_sp_sid, ace_tper_info_set_programmatic_reset_enable, ace_ace_set_boolean_expression, ace_authority_set_enabled, ace_c_pin_admins_get_all_nopin, ace_c_pin_admins_set_pin, ace_c_pin_user_set_pin, ace_locking_get_all, ace_range_get, ace_key_gen_key, ace_range_set_read_locked, ace_range_set_write_locked, ace_locking_global_range_admins_set, ace_locking_admins_set, ace_mbr_control_admins_set, ace_mbr_control_set_done_to_dor, ace_datastore_get_all, ace_datastore_set_all, ace_data_removal_set_active}
 use Rattle.sp_cells.specs.Authorities.{admins, users, numbered_ranges, all_ranges, authorities_of_locking}
 use Rattle.sp_cells.specs.Flat.{sp_eq}
 
@@ -61,8 +61,14 @@ label_grants =
     grants Admin (psid ∷ ace_c_pin_get_psid_nopin ∷ ace_sp_psid ∷ []) get (ace_anybody ∷ [])
     ++ grant Admin c_pin_psid get (ace_c_pin_get_psid_nopin ∷ []) ∷ []
 
+-- how the drive removes data
+unfoldable pub removal_grants : List Grant
+removal_grants =
+    grants Admin (data_removal ∷ ace_data_removal_set_active ∷ []) get (ace_anybody ∷ [])
+    ++ grant Admin data_removal set (ace_data_removal_set_active ∷ []) ∷ []
+
 abbrev pub admin_grants : Profile → List Grant
-admin_grants profile = owner_grants profile ++ of_field profile label_grants
+admin_grants profile = owner_grants profile ++ of_field profile (label_grants ++ removal_grants)
 
 unfoldable pub authority_grants : List Grant
 authority_grants =
@@ -143,7 +149,15 @@ mbr_grants =
 
 -- what the drive says of itself
 unfoldable pub info_grants : List Grant
-info_grants = grants Locking (locking_info ∷ mbr_table_row ∷ []) get (ace_anybody ∷ [])
+info_grants = grants Locking (locking_info ∷ mbr_table_row ∷ datastore_table_row ∷ []) get
+    (ace_anybody ∷ [])
+
+-- the bytes of DataStore, and their ACEs
+unfoldable pub datastore_grants : List Grant
+datastore_grants =
+    grant Locking datastore_table get (ace_datastore_get_all ∷ [])
+    ∷ grant Locking datastore_table set (ace_datastore_set_all ∷ [])
+    ∷ settable (ace_datastore_get_all ∷ ace_datastore_set_all ∷ [])
 
 -- its keys, and the SP itself (Opal SSC 2.01, sections 4.3 and 5.1)
 unfoldable pub key_grants : List Grant
@@ -156,7 +170,7 @@ abbrev pub locking_grants : Profile → List Grant
 locking_grants profile = authority_grants ++ fixed_ace_gets ++ user_ace_grants
     ++ range_get_ace_grants profile ++ read_locked_ace_grants ++ write_locked_ace_grants
     ++ done_ace_grants ++ pin_grants ++ range_get_grants profile ++ range_set_grants ++ mbr_grants
-    ++ of_field profile (gen_key_ace_grants ++ info_grants ++ key_grants)
+    ++ of_field profile (gen_key_ace_grants ++ info_grants ++ datastore_grants ++ key_grants)
 
 -- the whole list
 abbrev pub access_list : Profile → List Grant

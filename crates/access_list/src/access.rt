@@ -3,7 +3,7 @@
 ghost use Rattle.std.specs.Prelude.{◌≡◌, ◌<◌, ◌≤◌, ◌==◌, [], ◌∷◌, ◌++◌, map, option_map, Some, None, if◌then◌else◌};
 ghost use Rattle.sp_cells.specs.Names.{get, set, ace_admins, ace_anybody_get_common_name, ace_ace_set_boolean_expression};
 ghost use Rattle.sp_cells.specs.Authorities.{authorities_of_locking};
-ghost use Rattle.access_list.specs.Access.{IsAnsweredByGrants, of_field, reverters as reverters_of, owner_grants, label_grants, admin_grants, authority_grants, fixed_ace_gets, user_ace_grants, range_get_ace_grants, gen_key_ace_grants, read_locked_ace_grants, write_locked_ace_grants, done_ace_grants, pin_grants, range_get_grants, range_set_grants, mbr_grants, info_grants, key_grants, locking_grants, access_list};
+ghost use Rattle.access_list.specs.Access.{IsAnsweredByGrants, of_field, reverters as reverters_of, owner_grants, label_grants, removal_grants, admin_grants, authority_grants, fixed_ace_gets, user_ace_grants, range_get_ace_grants, gen_key_ace_grants, read_locked_ace_grants, write_locked_ace_grants, done_ace_grants, pin_grants, range_get_grants, range_set_grants, mbr_grants, info_grants, datastore_grants, key_grants, locking_grants, access_list};
 ghost use Rattle.sp_cells.specs.declared.names.Sp.TheVariants.{Admin, Locking};
 
 use arrayvec::ArrayVec;
@@ -31,7 +31,35 @@ fn admin_row(profile: Profile, object: Uid, method: Uid) -> Option<ArrayVec<Uid,
     if let Some(aces) = owner_row(profile, object, method) {
         return Some(aces);
     }
-    label_row(profile, object, method)
+    admin_field_row(profile, object, method)
+}
+
+/// The ACEs of what the Admin SP has under the profile `Field` alone.
+#[tactic(auto, using(crate::proofs::Joins::joins))]
+fn admin_field_row(profile: Profile, object: Uid, method: Uid) -> Option<ArrayVec<Uid, 4>>
+    ensures { IsAnsweredByGrants (of_field profile (label_grants ++ removal_grants)) Admin object
+        method result }
+{
+    if profile == Profile::Base {
+        return None;
+    }
+    if let Some(aces) = label_row(object, method) {
+        return Some(aces);
+    }
+    removal_row(object, method)
+}
+
+#[tactic(auto, unfolding(crate::specs::Access::removal_grants))]
+fn removal_row(object: Uid, method: Uid) -> Option<ArrayVec<Uid, 4>>
+    ensures { IsAnsweredByGrants removal_grants Admin object method result }
+{
+    match (object, method) {
+        (Uid::DATA_REMOVAL | Uid::ACE_DATA_REMOVAL_SET_ACTIVE, Uid::GET) => {
+            Some(one(Uid::ACE_ANYBODY))
+        }
+        (Uid::DATA_REMOVAL, Uid::SET) => Some(one(Uid::ACE_DATA_REMOVAL_SET_ACTIVE)),
+        _ => None,
+    }
 }
 
 /// The ACEs that may revert the drive.
@@ -45,12 +73,9 @@ fn reverters(profile: Profile) -> ArrayVec<Uid, 4>
 }
 
 #[tactic(auto, unfolding(crate::specs::Access::label_grants))]
-fn label_row(profile: Profile, object: Uid, method: Uid) -> Option<ArrayVec<Uid, 4>>
-    ensures { IsAnsweredByGrants (of_field profile label_grants) Admin object method result }
+fn label_row(object: Uid, method: Uid) -> Option<ArrayVec<Uid, 4>>
+    ensures { IsAnsweredByGrants label_grants Admin object method result }
 {
-    if profile == Profile::Base {
-        return None;
-    }
     match (object, method) {
         (Uid::PSID | Uid::ACE_C_PIN_GET_PSID_NOPIN | Uid::ACE_SP_PSID, Uid::GET) => {
             Some(one(Uid::ACE_ANYBODY))
@@ -133,8 +158,8 @@ fn locking_row(profile: Profile, object: Uid, method: Uid) -> Option<ArrayVec<Ui
 #[tactic(auto, using(crate::proofs::Joins::joins))]
 fn field_row(profile: Profile, object: Uid, method: Uid) -> Option<ArrayVec<Uid, 4>>
     ensures { IsAnsweredByGrants
-        (of_field profile (gen_key_ace_grants ++ info_grants ++ key_grants)) Locking object method
-        result }
+        (of_field profile (gen_key_ace_grants ++ info_grants ++ datastore_grants ++ key_grants))
+        Locking object method result }
 {
     if profile == Profile::Base {
         return None;
@@ -143,6 +168,9 @@ fn field_row(profile: Profile, object: Uid, method: Uid) -> Option<ArrayVec<Uid,
         return Some(aces);
     }
     if let Some(aces) = info_row(object, method) {
+        return Some(aces);
+    }
+    if let Some(aces) = datastore_row(object, method) {
         return Some(aces);
     }
     key_row(object, method)
@@ -172,7 +200,21 @@ fn info_row(object: Uid, method: Uid) -> Option<ArrayVec<Uid, 4>>
     ensures { IsAnsweredByGrants info_grants Locking object method result }
 {
     match (object, method) {
-        (Uid::LOCKING_INFO | Uid::MBR_TABLE_ROW, Uid::GET) => Some(one(Uid::ACE_ANYBODY)),
+        (Uid::LOCKING_INFO | Uid::MBR_TABLE_ROW | Uid::DATASTORE_TABLE_ROW, Uid::GET) => {
+            Some(one(Uid::ACE_ANYBODY))
+        }
+        _ => None,
+    }
+}
+
+#[tactic(auto, unfolding(crate::specs::Access::datastore_grants))]
+fn datastore_row(object: Uid, method: Uid) -> Option<ArrayVec<Uid, 4>>
+    ensures { IsAnsweredByGrants datastore_grants Locking object method result }
+{
+    match (object, method) {
+        (Uid::DATASTORE_TABLE, Uid::GET) => Some(one(Uid::ACE_DATASTORE_GET_ALL)),
+        (Uid::DATASTORE_TABLE, Uid::SET) => Some(one(Uid::ACE_DATASTORE_SET_ALL)),
+        (Uid::ACE_DATASTORE_GET_ALL | Uid::ACE_DATASTORE_SET_ALL, _) => settable(method),
         _ => None,
     }
 }

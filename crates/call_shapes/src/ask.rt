@@ -5,7 +5,7 @@ ghost use Rattle.std.specs.Int.{w64, from_be_bytes};
 ghost use Rattle.tcg_tokens.specs.Tree.{tree};
 ghost use Rattle.call_shapes.specs.Named.{options as options_of, pair_of};
 ghost use Rattle.call_shapes.specs.Parameters.{start_row_parameter, end_row_parameter, start_column_parameter, end_column_parameter};
-ghost use Rattle.call_shapes.specs.Asks.{uid_of as uid_of_octets, is_mbr_table as is_mbr_table_of, cellblock, columns_asked_in, rows_in, cells_in, bytes_in, proof_in, attempt_in, without_arguments as without_arguments_of, get_of, set_of, revert_sp_in, field_ask_of, other_ask_of, ask_of as ask_by};
+ghost use Rattle.call_shapes.specs.Asks.{uid_of as uid_of_octets, is_mbr_table as is_mbr_table_of, is_datastore as is_datastore_of, is_byte_table as is_byte_table_of, cellblock, columns_asked_in, rows_in, cells_in, bytes_in, proof_in, attempt_in, without_arguments as without_arguments_of, get_of, set_of, revert_sp_in, field_ask_of, other_ask_of, ask_of as ask_by};
 
 use crate::named::{
     Assignments, Pair, bytes_or_empty, list_in, number_if_any, number_or, read_assignments,
@@ -94,6 +94,26 @@ fn is_mbr_table(sp: Sp, object: Uid) -> bool
     match sp {
         Sp::Admin => false,
         Sp::Locking => object == Uid::MBR_TABLE,
+    }
+}
+
+/// The byte table DataStore, in a session of its SP.
+fn is_datastore(sp: Sp, object: Uid) -> bool
+    ensures { result ≡ is_datastore_of sp object }
+{
+    match sp {
+        Sp::Admin => false,
+        Sp::Locking => object == Uid::DATASTORE_TABLE,
+    }
+}
+
+/// A byte table of a drive of this profile, in a session of its SP.
+fn is_byte_table(profile: Profile, sp: Sp, object: Uid) -> bool
+    ensures { result ≡ is_byte_table_of profile sp object }
+{
+    match profile {
+        Profile::Base => is_mbr_table(sp, object),
+        Profile::Field => is_mbr_table(sp, object) || is_datastore(sp, object),
     }
 }
 
@@ -265,8 +285,8 @@ pub fn read_ask<'a>(
     ensures { IfOk result (λ ask. ask ≡ ask_by profile sp object method (map tree args.now)) }
 {
     match method {
-        Uid::GET => Ok(get_asked(is_mbr_table(sp, object), args)),
-        Uid::SET => set_asked(alloc, is_mbr_table(sp, object), args),
+        Uid::GET => Ok(get_asked(is_byte_table(profile, sp, object), args)),
+        Uid::SET => set_asked(alloc, is_byte_table(profile, sp, object), args),
         Uid::AUTHENTICATE => attempt_asked(alloc, args),
         Uid::ACTIVATE => Ok(without_arguments(Ask::Activate, args)),
         Uid::REVERT => Ok(without_arguments(Ask::Revert, args)),

@@ -3,8 +3,8 @@
 ghost use Rattle.std.specs.Prelude.{◌≡◌, ◌==◌, ◌<◌, ◌≤◌, ◌^◌, ◌++◌, [], ◌∷◌, List, map, length, IfOk, OnOk, IsTrue, option_map, ℕ, None, Some, if◌then◌else◌};
 ghost use Rattle.std.specs.Str.{bytes_eq};
 ghost use Rattle.tcg_tokens.specs.Tree.{tree, trees, bytes, number, list, named};
-ghost use Rattle.sp_cells.specs.Limits.{most_elements};
-ghost use Rattle.call_shapes.specs.CellValues.{uid_tree, element_tree, numbers_tree, cell_tree, each_of, number_in as number_of_tree, uid_in as uid_of_tree, operator_in as operator_of_tree, element_in as element_of_tree, bytes_in as bytes_of_tree, numbers_in as numbers_of_trees, elements_in as elements_of_trees, expression_of, resets_of, columns_written as columns_of_numbers, name_cell, secret_of, flag_of, cell_in};
+ghost use Rattle.sp_cells.specs.Limits.{most_elements, cryptographic_erase};
+ghost use Rattle.call_shapes.specs.CellValues.{uid_tree, element_tree, numbers_tree, cell_tree, each_of, number_in as number_of_tree, uid_in as uid_of_tree, operator_in as operator_of_tree, element_in as element_of_tree, bytes_in as bytes_of_tree, numbers_in as numbers_of_trees, elements_in as elements_of_trees, expression_of, resets_of, columns_written as columns_of_numbers, name_cell, secret_of, flag_of, mechanism_of, cell_in};
 ghost use Rattle.call_shapes.specs.Named.{list_in as list_of_tree};
 ghost use Rattle.sp_cells.specs.Names.{col};
 ghost use Rattle.sp_cells.specs.declared.cells.Cell.TheVariants as cells;
@@ -12,7 +12,7 @@ ghost use Rattle.sp_cells.specs.declared.cells.Cell.TheVariants as cells;
 use crate::ask::authority_of;
 use crate::named::list_in;
 use arrayvec::ArrayVec;
-use sp_cells::limits::{MOST_ELEMENTS, MOST_PIN_BYTES};
+use sp_cells::limits::{CRYPTOGRAPHIC_ERASE, MOST_ELEMENTS, MOST_PIN_BYTES};
 use sp_cells::values::ColumnType;
 use sp_cells::{Bytes, Cell, Column, Columns, Element, Expr, ResetTypes, Uid};
 use std::alloc::{AllocError, Global};
@@ -316,6 +316,16 @@ fn flag_in(value: &Value) -> Option<Cell>
     }
 }
 
+/// The way to remove data that a value is.
+fn mechanism_in(value: &Value) -> Option<Cell>
+    ensures { result ≡ mechanism_of (number_of_tree (tree value.now)) }
+{
+    match number_in(value) {
+        Some(mechanism) if mechanism == CRYPTOGRAPHIC_ERASE => Some(Cell::Number(mechanism)),
+        _ => None,
+    }
+}
+
 /// The cell that a value writes in a column of this type; None where the column does not take the value.
 pub fn cell_of(alloc: Global, kind: ColumnType, value: &Value) -> Result<Option<Cell>, AllocError>
     ensures { IfOk result (λ c. c ≡ cell_in kind (tree value.now)) }
@@ -326,6 +336,7 @@ pub fn cell_of(alloc: Global, kind: ColumnType, value: &Value) -> Result<Option<
         ColumnType::Object => uid_in(value).map(Cell::Uid),
         ColumnType::Number => number_in(value).map(Cell::Number),
         ColumnType::Flag => flag_in(value),
+        ColumnType::Mechanism => mechanism_in(value),
         ColumnType::Resets => resets_in(alloc, value)?,
         ColumnType::Expression => expression_in(alloc, value)?,
         ColumnType::Columns => columns_in(alloc, value)?,

@@ -2,12 +2,12 @@
 
 ghost use Rattle.std.specs.Prelude.{◌≡◌};
 ghost use Rattle.call_shapes.specs.Statuses.{success, not_authorized, sp_busy, no_sessions_available, invalid_parameter, transaction_failure, response_overflow, authority_locked_out, fail};
-ghost use Rattle.call_shapes.specs.Parameters.{start_row_parameter, end_row_parameter, start_column_parameter, end_column_parameter, where_parameter, values_parameter, proof_parameter, host_challenge_parameter, host_signing_authority_parameter, host_properties_parameter};
+ghost use Rattle.call_shapes.specs.Parameters.{start_row_parameter, end_row_parameter, start_column_parameter, end_column_parameter, where_parameter, values_parameter, proof_parameter, host_challenge_parameter, host_signing_authority_parameter, keep_global_range_key_parameter, host_properties_parameter};
 ghost use Rattle.call_shapes.specs.declared.status.TheConstants as statuses;
 ghost use Rattle.call_shapes.specs.declared.parameter.TheConstants as parameters;
 
 /// Each status and each optional parameter has the number that the standard gives it (TCG Core 2.01, sections 5.1.5,
-/// 5.2.2, 5.2.3.1, 5.3.3 and 5.3.4).
+/// 5.2.2, 5.2.3.1, 5.3.3 and 5.3.4; Opal SSC 2.01, section 5.1).
 pub fn laws_of_numbers()
     ensures success { (statuses.SUCCESS ≡ success) × (success ≡ 0x00) }
     ensures not_authorized { (statuses.NOT_AUTHORIZED ≡ not_authorized) × (not_authorized ≡ 0x01) }
@@ -35,6 +35,8 @@ pub fn laws_of_numbers()
         × (host_challenge_parameter ≡ 0)
         × (parameters.HOST_SIGNING_AUTHORITY ≡ host_signing_authority_parameter)
         × (host_signing_authority_parameter ≡ 3) }
+    ensures revert_sp { (parameters.KEEP_GLOBAL_RANGE_KEY ≡ keep_global_range_key_parameter)
+        × (keep_global_range_key_parameter ≡ 0x060000) }
     ensures properties { (parameters.HOST_PROPERTIES ≡ host_properties_parameter)
         × (host_properties_parameter ≡ 0) }
 {}

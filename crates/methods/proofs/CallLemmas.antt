@@ -16,6 +16,7 @@ use Rattle.shadow_mbr.specs.Erasure.{no_sectors}
 use Rattle.sessions.specs.Answers.{rows_in_force, attempt, after_attempt, gaining_if}
 use Rattle.sessions.specs.Deeds.{Setting}
 use Rattle.sessions.specs.Live.{Live, session_at, AreOnOwnSps}
+use Rattle.sp_cells.specs.Config.{table_sectors}
 use Rattle.sessions.specs.Made.{CanSet, set_stored, StoresAs}
 use Rattle.methods.specs.declared.kinds.Handler.TheVariants as handlers
 use Rattle.methods.specs.declared.outcome.Outcome.{Outcome}
@@ -54,7 +55,7 @@ pub changed : {A : Type 0} (out : Outcome) → out.changes ≡ true → out.chan
 changed out h k = absurd (let differ : true ≡ false = sym h ∙ k in cc)
 
 -- a Set
-pub set-made : (x : Option Setting) (set : Setting) (session : SessionId) (out : Outcome) (s t : Stored) (l : Live) → x ≡ Some set → CanSet s.config.mbr_sectors session.sp set
+pub set-made : (x : Option Setting) (set : Setting) (session : SessionId) (out : Outcome) (s t : Stored) (l : Live) → x ≡ Some set → CanSet (table_sectors s.config) session.sp set
     → message out.reply ≡ done → out.denied ≡ None → out.erases ≡ no_sectors → out.changes ≡ true → t ≡ set_stored s session.sp set → Fulfils (outcome_in s session (makes x)) out s t l l
 set-made x set session out s t l is can answer denied erases changes store =
     subst (λ y. Fulfils (outcome_in s session (makes y)) out s t l l) (sym is)

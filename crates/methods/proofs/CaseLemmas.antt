@@ -11,17 +11,18 @@ use Rattle.sp_cells.specs.declared.names.Sp.TheVariants.{Admin, Locking}
 use Rattle.sp_cells.specs.declared.names.Column.{Column}
 use Rattle.sp_cells.specs.Authorities.{authorities_of_locking}
 use Rattle.sp_cells.specs.ColumnNames.{uid_column}
-use Rattle.sp_cells.specs.Config.{Config}
+use Rattle.sp_cells.specs.Config.{Config, sizes_in}
+use Rattle.sp_cells.specs.declared.byte_tables.TableSizes.{TableSizes}
 use Rattle.sp_cells.specs.Flat.{sp_eq}
 use Rattle.sp_rows.specs.Items.{Item, is_here, item_at}
-use Rattle.sp_rows.specs.Factory.{admin_factory, locking_factory, admin_sps, admin_authorities, label_authorities, locking_authorities, admin_pins, label_pins, locking_pins, locking_ranges, locking_mbr_controls, admin_aces, label_aces, authority_aces, pin_aces, range_get_aces, range_aces, mbr_aces, gen_key_aces, range_keys, locking_infos, byte_tables}
-use Rattle.access_list.specs.Access.{Grant, acl_in, this_sp_grants, owner_grants, label_grants, authority_grants, fixed_ace_gets, user_ace_grants, range_get_ace_grants, gen_key_ace_grants, read_locked_ace_grants, write_locked_ace_grants, done_ace_grants, pin_grants, range_get_grants, range_set_grants, mbr_grants, info_grants, key_grants, access_list}
+use Rattle.sp_rows.specs.Factory.{admin_factory, locking_factory, admin_sps, admin_authorities, label_authorities, locking_authorities, admin_pins, label_pins, locking_pins, locking_ranges, locking_mbr_controls, admin_aces, label_aces, removal_aces, data_removals, authority_aces, pin_aces, range_get_aces, range_aces, mbr_aces, gen_key_aces, range_keys, locking_infos, byte_tables, datastore_aces}
+use Rattle.access_list.specs.Access.{Grant, acl_in, this_sp_grants, owner_grants, label_grants, removal_grants, authority_grants, fixed_ace_gets, user_ace_grants, range_get_ace_grants, gen_key_ace_grants, read_locked_ace_grants, write_locked_ace_grants, done_ace_grants, pin_grants, range_get_grants, range_set_grants, mbr_grants, info_grants, datastore_grants, key_grants, access_list}
 use Rattle.tcg_tokens.specs.Tree.{Tree, number, bytes, list, named}
 use Rattle.call_shapes.specs.declared.ask.Ask.{Ask}
 use Rattle.call_shapes.specs.declared.ask.Ask.TheVariants.{GetCells, GetBytes, SetCells, SetBytes, Authenticate, Activate, Revert, GenKey, RevertSp, Other}
 use Rattle.call_shapes.specs.Named.{list_in, value_of, options, number_or, number_if_any, bytes_or_empty, assignments}
 use Rattle.call_shapes.specs.Parameters.{start_row_parameter, end_row_parameter, start_column_parameter, end_column_parameter, where_parameter, values_parameter, proof_parameter, keep_global_range_key_parameter}
-use Rattle.call_shapes.specs.Asks.{uid_of, is_mbr_table, cellblock, columns_between, columns_asked_in, is_ordered, rows_between, rows_in, cells_of, cells_to_set, cells_in, bytes_to_set, bytes_in, proof_of, proof_in, attempt_in, without_arguments, get_of, set_of, keep_of, keep_in, other_ask_of, ask_of}
+use Rattle.call_shapes.specs.Asks.{uid_of, is_byte_table, cellblock, columns_between, columns_asked_in, is_ordered, rows_between, rows_in, cells_of, cells_to_set, cells_in, bytes_to_set, bytes_in, proof_of, proof_in, attempt_in, without_arguments, get_of, set_of, keep_of, keep_in, other_ask_of, ask_of}
 use Rattle.methods.specs.declared.kinds.Kind.{Kind}
 use Rattle.methods.specs.declared.kinds.Kind.TheVariants as kinds
 use Rattle.methods.specs.Kinds.{kind_of}
@@ -56,8 +57,8 @@ sketch_of_other Field method =
 
 abbrev sketch_of : Profile → Sp → Uid → Uid → Ask
 sketch_of profile sp object method =
-    if method.0 == get.0 then (if is_mbr_table sp object then GetBytes 0 None else GetCells 0 0) else
-    if method.0 == set.0 then (if is_mbr_table sp object then SetBytes 0 [] else SetCells []) else
+    if method.0 == get.0 then (if is_byte_table profile sp object then GetBytes 0 None else GetCells 0 0) else
+    if method.0 == set.0 then (if is_byte_table profile sp object then SetBytes 0 [] else SetCells []) else
     if method.0 == authenticate.0 then Authenticate some_uid [] else
     if method.0 == activate.0 then Activate else
     if method.0 == revert.0 then Revert else
@@ -176,6 +177,26 @@ same_shape (Some kinds.MbrTable) Revert = refl
 same_shape (Some kinds.MbrTable) GenKey = refl
 same_shape (Some kinds.MbrTable) (RevertSp keep) = refl
 same_shape (Some kinds.MbrTable) Other = refl
+same_shape (Some kinds.DataStore) (GetCells f l) = refl
+same_shape (Some kinds.DataStore) (GetBytes f l) = refl
+same_shape (Some kinds.DataStore) (SetCells ps) = refl
+same_shape (Some kinds.DataStore) (SetBytes a b) = refl
+same_shape (Some kinds.DataStore) (Authenticate a p) = refl
+same_shape (Some kinds.DataStore) Activate = refl
+same_shape (Some kinds.DataStore) Revert = refl
+same_shape (Some kinds.DataStore) GenKey = refl
+same_shape (Some kinds.DataStore) (RevertSp keep) = refl
+same_shape (Some kinds.DataStore) Other = refl
+same_shape (Some kinds.DataRemoval) (GetCells f l) = refl
+same_shape (Some kinds.DataRemoval) (GetBytes f l) = refl
+same_shape (Some kinds.DataRemoval) (SetCells ps) = refl
+same_shape (Some kinds.DataRemoval) (SetBytes a b) = refl
+same_shape (Some kinds.DataRemoval) (Authenticate a p) = refl
+same_shape (Some kinds.DataRemoval) Activate = refl
+same_shape (Some kinds.DataRemoval) Revert = refl
+same_shape (Some kinds.DataRemoval) GenKey = refl
+same_shape (Some kinds.DataRemoval) (RevertSp keep) = refl
+same_shape (Some kinds.DataRemoval) Other = refl
 same_shape (Some kinds.Key) (GetCells f l) = refl
 same_shape (Some kinds.Key) (GetBytes f l) = refl
 same_shape (Some kinds.Key) (SetCells ps) = refl
@@ -294,8 +315,8 @@ other_fits Field method args =
 
 asked_fits : (profile : Profile) (sp : Sp) (object method : Uid) (args : List Tree) → Fits (ask_of profile sp object method args) (sketch_of profile sp object method)
 asked_fits profile sp object method args =
-    either (method.0 == get.0) _ _ _ _ (get_fits (is_mbr_table sp object) args)
-    (either (method.0 == set.0) _ _ _ _ (set_fits (is_mbr_table sp object) args)
+    either (method.0 == get.0) _ _ _ _ (get_fits (is_byte_table profile sp object) args)
+    (either (method.0 == set.0) _ _ _ _ (set_fits (is_byte_table profile sp object) args)
     (either (method.0 == authenticate.0) _ _ _ _ (attempt_fits args)
     (either (method.0 == activate.0) _ _ _ _ (without_fits Activate args)
     (either (method.0 == revert.0) _ _ _ _ (without_fits Revert args) (other_fits profile method args)))))
@@ -313,7 +334,7 @@ covered : Profile → Grant → Bool
 covered profile g = has_case profile g.sp g.object g.method
 
 all_covered : (profile : Profile) → list_all (covered profile) (access_list profile) ≡ true
-unfolding covered authorities_of_locking this_sp_grants owner_grants label_grants authority_grants fixed_ace_gets user_ace_grants range_get_ace_grants gen_key_ace_grants read_locked_ace_grants write_locked_ace_grants done_ace_grants pin_grants range_get_grants range_set_grants mbr_grants info_grants key_grants
+unfolding covered authorities_of_locking this_sp_grants owner_grants label_grants removal_grants authority_grants fixed_ace_gets user_ace_grants range_get_ace_grants gen_key_ace_grants read_locked_ace_grants write_locked_ace_grants done_ace_grants pin_grants range_get_grants range_set_grants mbr_grants info_grants datastore_grants key_grants
 all_covered Base = refl
 all_covered Field = refl
 
@@ -378,33 +399,33 @@ are_whole profile sp [] = true
 are_whole profile sp (i ∷ is) = (if i.column.0 == uid_column.0 then is_whole profile sp i is else true) && are_whole profile sp is
 
 -- of each SP
-items_new : Profile → (msid psid : List ℕ) → ℕ → Sp → List Item
-items_new profile msid psid shadow Admin = admin_factory profile msid psid
-items_new profile msid psid shadow Locking = locking_factory profile shadow
+items_new : Profile → (msid psid : List ℕ) → TableSizes → Sp → List Item
+items_new profile msid psid sizes Admin = admin_factory profile msid psid
+items_new profile msid psid sizes Locking = locking_factory profile sizes
 
-stand_new : (profile : Profile) (msid psid : List ℕ) (shadow : ℕ) (sp : Sp) → list_all (stands profile sp) (items_new profile msid psid shadow sp) ≡ true
-unfolding items_new admin_sps admin_authorities label_authorities locking_authorities admin_pins label_pins locking_pins locking_ranges locking_mbr_controls admin_aces label_aces authority_aces pin_aces range_get_aces range_aces mbr_aces gen_key_aces range_keys locking_infos byte_tables
-stand_new Base msid psid shadow Admin = refl
-stand_new Base msid psid shadow Locking = refl
-stand_new Field msid psid shadow Admin = refl
-stand_new Field msid psid shadow Locking = refl
+stand_new : (profile : Profile) (msid psid : List ℕ) (sizes : TableSizes) (sp : Sp) → list_all (stands profile sp) (items_new profile msid psid sizes sp) ≡ true
+unfolding items_new admin_sps admin_authorities label_authorities locking_authorities admin_pins label_pins locking_pins locking_ranges locking_mbr_controls admin_aces label_aces removal_aces data_removals authority_aces pin_aces range_get_aces range_aces mbr_aces gen_key_aces range_keys locking_infos byte_tables datastore_aces
+stand_new Base msid psid sizes Admin = refl
+stand_new Base msid psid sizes Locking = refl
+stand_new Field msid psid sizes Admin = refl
+stand_new Field msid psid sizes Locking = refl
 
 all_stand : (config : Config) (sp : Sp) → list_all (stands config.profile sp) (new_cells config sp) ≡ true
 unfolding items_new
-all_stand config Admin = stand_new config.profile config.msid config.psid config.mbr_sectors Admin
-all_stand config Locking = stand_new config.profile config.msid config.psid config.mbr_sectors Locking
+all_stand config Admin = stand_new config.profile config.msid config.psid (sizes_in config) Admin
+all_stand config Locking = stand_new config.profile config.msid config.psid (sizes_in config) Locking
 
-whole_new : (profile : Profile) (msid psid : List ℕ) (shadow : ℕ) (sp : Sp) → are_whole profile sp (items_new profile msid psid shadow sp) ≡ true
-unfolding items_new admin_sps admin_authorities label_authorities locking_authorities admin_pins label_pins locking_pins locking_ranges locking_mbr_controls admin_aces label_aces authority_aces pin_aces range_get_aces range_aces mbr_aces gen_key_aces range_keys locking_infos byte_tables
-whole_new Base msid psid shadow Admin = refl
-whole_new Base msid psid shadow Locking = refl
-whole_new Field msid psid shadow Admin = refl
-whole_new Field msid psid shadow Locking = refl
+whole_new : (profile : Profile) (msid psid : List ℕ) (sizes : TableSizes) (sp : Sp) → are_whole profile sp (items_new profile msid psid sizes sp) ≡ true
+unfolding items_new admin_sps admin_authorities label_authorities locking_authorities admin_pins label_pins locking_pins locking_ranges locking_mbr_controls admin_aces label_aces removal_aces data_removals authority_aces pin_aces range_get_aces range_aces mbr_aces gen_key_aces range_keys locking_infos byte_tables datastore_aces
+whole_new Base msid psid sizes Admin = refl
+whole_new Base msid psid sizes Locking = refl
+whole_new Field msid psid sizes Admin = refl
+whole_new Field msid psid sizes Locking = refl
 
 all_whole : (config : Config) (sp : Sp) → are_whole config.profile sp (new_cells config sp) ≡ true
 unfolding items_new
-all_whole config Admin = whole_new config.profile config.msid config.psid config.mbr_sectors Admin
-all_whole config Locking = whole_new config.profile config.msid config.psid config.mbr_sectors Locking
+all_whole config Admin = whole_new config.profile config.msid config.psid (sizes_in config) Admin
+all_whole config Locking = whole_new config.profile config.msid config.psid (sizes_in config) Locking
 
 same_column : (k l : Column) → (k.0 == l.0) ≡ true → k ≡ l
 same_column k l h = elim (eqb_tells k.0 l.0) [

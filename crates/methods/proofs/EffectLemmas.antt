@@ -4,6 +4,7 @@ use Rattle.std.specs.Prelude.{slice_index}
 use Rattle.sp_cells.specs.declared.names.Uid.{Uid}
 use Rattle.sp_cells.specs.declared.names.Sp.{Sp}
 use Rattle.sp_cells.specs.declared.names.Sp.TheVariants.{Admin, Locking}
+use Rattle.sp_cells.specs.Config.{sizes_in}
 use Rattle.sp_cells.specs.declared.error.SetError.{SetError}
 use Rattle.transactions.specs.declared.change.Change.{Change}
 use Rattle.transactions.specs.declared.change.Change.TheVariants.{Cells, Mbr}
@@ -61,8 +62,8 @@ fault_made (Mbr at bytes) sp s = refl
 fault_here : (s : Stored) (session : SessionId) (change : Change) → has_set (kind_of session.sp (changed_object change)) ≡ true → fault_of_set s session change ≡ fault_of_change s session.sp change
 fault_here s session change e = rw e refl
 
-fault_as : (s : Stored) (session : SessionId) (object : Uid) (ask : Ask) (change : Change) → has_set (kind_of session.sp object) ≡ true → Some (setting_seen change) ≡ setting session.sp s.config.mbr_sectors object (kind_of session.sp object) ask → fault_of_set s session change ≡ fault_by s.config.sectors (latest_look s session.sp) session.sp (setting_seen change)
-fault_as s session object ask change h e = fault_here s session change (set_there session.sp s.config.mbr_sectors object ask change e h) ∙ fault_made change session.sp s
+fault_as : (s : Stored) (session : SessionId) (object : Uid) (ask : Ask) (change : Change) → has_set (kind_of session.sp object) ≡ true → Some (setting_seen change) ≡ setting session.sp (sizes_in s.config) object (kind_of session.sp object) ask → fault_of_set s session change ≡ fault_by s.config.sectors (latest_look s session.sp) session.sp (setting_seen change)
+fault_as s session object ask change h e = fault_here s session change (set_there session.sp (sizes_in s.config) object ask change e h) ∙ fault_made change session.sp s
 
 -- what a session holds
 pub held_is : (o : Option Holder) (h : List Uid) → Some h ≡ option_map (λ s. s.held) o → h ≡ held_of o
@@ -79,11 +80,11 @@ config_seen Admin n s = refl
 config_seen Locking n s = refl
 
 -- what is set by what a session sees is set by the store
-pub read_setting : (s : Stored) (session : SessionId) (object : Uid) (ask : Ask) (v : Sight) (change : Change) → Some (setting_seen change) ≡ setting session.sp v.config.mbr_sectors object (kind_of session.sp object) ask → v ≡ sight_of s session → Some (setting_seen change) ≡ setting session.sp s.config.mbr_sectors object (kind_of session.sp object) ask
+pub read_setting : (s : Stored) (session : SessionId) (object : Uid) (ask : Ask) (v : Sight) (change : Change) → Some (setting_seen change) ≡ setting session.sp (sizes_in v.config) object (kind_of session.sp object) ask → v ≡ sight_of s session → Some (setting_seen change) ≡ setting session.sp (sizes_in s.config) object (kind_of session.sp object) ask
 read_setting s session object ask v change read seen =
     read
-    ∙ ap (λ (w : Sight). setting session.sp w.config.mbr_sectors object (kind_of session.sp object) ask) seen
-    ∙ ap (λ config. setting session.sp config.mbr_sectors object (kind_of session.sp object) ask) (config_seen session.sp session.tsn s)
+    ∙ ap (λ (w : Sight). setting session.sp (sizes_in w.config) object (kind_of session.sp object) ask) seen
+    ∙ ap (λ config. setting session.sp (sizes_in config) object (kind_of session.sp object) ask) (config_seen session.sp session.tsn s)
 
 -- an attempt, by its answer: right, wrong, or locked out
 pub right-said : (sp : Sp) (a : Uid) (f : Option AttemptFailure) → Right ≡ answer_to sp a f → (reply_of (number 1 ∷ []) success ≡ attempt_reply f) × (None ≡ attempt_denied sp a f)
@@ -166,15 +167,15 @@ set-stays : (o : Option SetError) (st : Setting) → true ≡ not (is_some o) �
 set-stays None st e = refl
 set-stays (Some x) st e = cc
 
-to_set-read : (s : Stored) (session : SessionId) (object : Uid) (ask : Ask) (change : Change) → has_set (kind_of session.sp object) ≡ true → Some (setting_seen change) ≡ setting session.sp s.config.mbr_sectors object (kind_of session.sp object) ask → to_set (standing_on s session []) object ask ≡ unless_fault (fault_of_set s session change) (setting_seen change)
+to_set-read : (s : Stored) (session : SessionId) (object : Uid) (ask : Ask) (change : Change) → has_set (kind_of session.sp object) ≡ true → Some (setting_seen change) ≡ setting session.sp (sizes_in s.config) object (kind_of session.sp object) ask → to_set (standing_on s session []) object ask ≡ unless_fault (fault_of_set s session change) (setting_seen change)
 to_set-read s session object ask change h e =
     sym (ap (valid (standing_on s session [])) e)
     ∙ ap (λ o. unless_fault o (setting_seen change)) (sym (fault_as s session object ask change h e))
 
-pub to_set-none : (s : Stored) (session : SessionId) (object : Uid) (ask : Ask) (change : Change) → has_set (kind_of session.sp object) ≡ true → Some (setting_seen change) ≡ setting session.sp s.config.mbr_sectors object (kind_of session.sp object) ask → false ≡ not (is_some (fault_of_set s session change)) → to_set (standing_on s session []) object ask ≡ None
+pub to_set-none : (s : Stored) (session : SessionId) (object : Uid) (ask : Ask) (change : Change) → has_set (kind_of session.sp object) ≡ true → Some (setting_seen change) ≡ setting session.sp (sizes_in s.config) object (kind_of session.sp object) ask → false ≡ not (is_some (fault_of_set s session change)) → to_set (standing_on s session []) object ask ≡ None
 to_set-none s session object ask change h e made = to_set-read s session object ask change h e ∙ set-left (fault_of_set s session change) (setting_seen change) made
 
-pub to_set-some : (s : Stored) (session : SessionId) (object : Uid) (ask : Ask) (change : Change) → has_set (kind_of session.sp object) ≡ true → Some (setting_seen change) ≡ setting session.sp s.config.mbr_sectors object (kind_of session.sp object) ask → true ≡ not (is_some (fault_of_set s session change)) → to_set (standing_on s session []) object ask ≡ Some (setting_seen change)
+pub to_set-some : (s : Stored) (session : SessionId) (object : Uid) (ask : Ask) (change : Change) → has_set (kind_of session.sp object) ≡ true → Some (setting_seen change) ≡ setting session.sp (sizes_in s.config) object (kind_of session.sp object) ask → true ≡ not (is_some (fault_of_set s session change)) → to_set (standing_on s session []) object ask ≡ Some (setting_seen change)
 to_set-some s session object ask change h e made = to_set-read s session object ask change h e ∙ set-stays (fault_of_set s session change) (setting_seen change) made
 
 -- the store that it leaves
@@ -193,3 +194,9 @@ bytes_told byte (x ∷ xs) first (suc n) e h =
     let front : x ≡ byte first = h 0 (omega arith) ∙ ap byte (omega arith) in
     let rest : xs ≡ bytes_from byte (suc first) n = bytes_told byte xs (suc first) n (omega (arith, e)) (λ k lt. h (suc k) (omega (arith, lt)) ∙ ap byte (omega arith)) in
     ap (λ y. y ∷ xs) front ∙ ap (λ ys. byte first ∷ ys) rest
+
+-- bytes behind a place, by their distance from it
+pub bytes-behind : (byte : ℕ → ℕ) (begin first n : ℕ) → bytes_from byte (begin + first) n ≡ bytes_from (λ row. byte (begin + row)) first n
+bytes-behind byte begin first zero = refl
+bytes-behind byte begin first (suc n) =
+    ap (λ place. byte (begin + first) ∷ bytes_from byte place n) (omega arith) ∙ ap (λ bs. byte (begin + first) ∷ bs) (bytes-behind byte begin (suc first) n)

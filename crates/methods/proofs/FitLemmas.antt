@@ -1,9 +1,15 @@
--- What is set at all: no Tries, and bytes of the Locking SP within its table.
-use Rattle.std.proofs.Common.{◌≡◌, ℕ, Bool, true, false, List, Option, Some, None, refl, subst, cond}
+-- What is set at all: no Tries, and bytes of the Locking SP within its byte tables.
+use Rattle.std.proofs.Common.{◌≡◌, ◌+◌, ◌*◌, ◌/◌, ◌≤◌, ℕ, Bool, true, false, List, length, Option, Some, None, refl, subst, cond, arith}
+use Rattle.std.specs.Prelude.{nat_le}
+use Rattle.std.proofs.lemmas.Bool.Decides.{nat_tests}
 use Rattle.sp_cells.specs.declared.names.Uid.{Uid}
 use Rattle.sp_cells.specs.declared.names.Sp.{Sp}
 use Rattle.sp_cells.specs.declared.names.Sp.TheVariants.{Admin, Locking}
 use Rattle.sp_cells.specs.declared.names.Column.{Column}
+use Rattle.sp_cells.specs.declared.byte_tables.ByteTable.{ByteTable}
+use Rattle.sp_cells.specs.declared.byte_tables.ByteTable.TheVariants.{ShadowMbr, DataStore}
+use Rattle.sp_cells.specs.declared.byte_tables.TableSizes.{TableSizes}
+use Rattle.sp_cells.specs.ByteTables.{table_begin, sectors_of, fits_table}
 use Rattle.sp_cells.specs.declared.cells.Cell.{Cell}
 use Rattle.sp_cells.specs.declared.values.ColumnType.{ColumnType}
 use Rattle.sp_cells.specs.declared.error.SetError.{SetError}
@@ -23,63 +29,80 @@ use Rattle.methods.specs.Effects.{unless_fault}
 use Rattle.methods.specs.Judgement.{Standing, valid, to_set}
 
 -- bytes alone
-abbrev BytesFit : ℕ → Sp → Option Setting → Type 0
-BytesFit mbr_sectors sp None = Unit {0}
-BytesFit mbr_sectors sp (Some (cells_set object cells)) = Unit {0}
-BytesFit mbr_sectors Locking (Some (bytes_set place content)) = is_within mbr_sectors place content ≡ true
-BytesFit mbr_sectors Admin (Some (bytes_set place content)) = ⊥
+abbrev BytesFit : TableSizes → Sp → Option Setting → Type 0
+BytesFit sizes sp None = Unit {0}
+BytesFit sizes sp (Some (cells_set object cells)) = Unit {0}
+BytesFit sizes Locking (Some (bytes_set place content)) = is_within (sectors_of sizes) place content ≡ true
+BytesFit sizes Admin (Some (bytes_set place content)) = ⊥
 
-cells-fit : (mbr_sectors : ℕ) (sp : Sp) (object : Uid) (types : List (Column × ColumnType)) (ask : Ask) → BytesFit mbr_sectors sp (cells_of_ask object types ask)
-cells-fit mbr_sectors sp object types (SetCells ps) = by_cells (cells_for types ps)
+cells-fit : (sizes : TableSizes) (sp : Sp) (object : Uid) (types : List (Column × ColumnType)) (ask : Ask) → BytesFit sizes sp (cells_of_ask object types ask)
+cells-fit sizes sp object types (SetCells ps) = by_cells (cells_for types ps)
   where
-    by_cells : (x : Option (List (Column × Cell))) → BytesFit mbr_sectors sp (setting_of_cells object x)
+    by_cells : (x : Option (List (Column × Cell))) → BytesFit sizes sp (setting_of_cells object x)
     by_cells None = tt
     by_cells (Some cells) = tt
-cells-fit mbr_sectors sp object types (GetCells a b) = tt
-cells-fit mbr_sectors sp object types (GetBytes a b) = tt
-cells-fit mbr_sectors sp object types (SetBytes a b) = tt
-cells-fit mbr_sectors sp object types (Authenticate a b) = tt
-cells-fit mbr_sectors sp object types Activate = tt
-cells-fit mbr_sectors sp object types Revert = tt
-cells-fit mbr_sectors sp object types GenKey = tt
-cells-fit mbr_sectors sp object types (RevertSp keep) = tt
-cells-fit mbr_sectors sp object types Other = tt
+cells-fit sizes sp object types (GetCells a b) = tt
+cells-fit sizes sp object types (GetBytes a b) = tt
+cells-fit sizes sp object types (SetBytes a b) = tt
+cells-fit sizes sp object types (Authenticate a b) = tt
+cells-fit sizes sp object types Activate = tt
+cells-fit sizes sp object types Revert = tt
+cells-fit sizes sp object types GenKey = tt
+cells-fit sizes sp object types (RevertSp keep) = tt
+cells-fit sizes sp object types Other = tt
 
-bytes-fit : (mbr_sectors : ℕ) (sp : Sp) (ask : Ask) → BytesFit mbr_sectors sp (bytes_of_ask sp mbr_sectors ask)
-bytes-fit mbr_sectors Admin ask = tt
-bytes-fit mbr_sectors Locking (SetBytes a b) = by_place (is_within mbr_sectors a b) refl
+le-of : (a b : ℕ) → nat_le a b ≡ true → a ≤ b
+le-of a b h = grind (arith, nat_tests)
+
+of-le : (a b : ℕ) → a ≤ b → nat_le a b ≡ true
+of-le a b h = grind (arith, nat_tests)
+
+-- bytes that fit a table stand within the sectors of all
+pub place-fits : (sizes : TableSizes) (table : ByteTable) (row : ℕ) (bytes : List ℕ) → fits_table sizes table row bytes ≡ true → is_within (sectors_of sizes) (table_begin sizes table + row) bytes ≡ true
+place-fits sizes ShadowMbr row bytes h =
+    let fits : row + length bytes ≤ 512 * sizes.mbr_sectors = le-of (row + length bytes) (512 * sizes.mbr_sectors) h in
+    of-le (0 + row + length bytes) (512 * (sizes.mbr_sectors + (sizes.datastore + 511) / 512)) (omega (arith, fits))
+place-fits sizes DataStore row bytes h =
+    let fits : row + length bytes ≤ sizes.datastore = le-of (row + length bytes) sizes.datastore h in
+    of-le (512 * sizes.mbr_sectors + row + length bytes) (512 * (sizes.mbr_sectors + (sizes.datastore + 511) / 512)) (omega (arith, fits))
+
+bytes-fit : (sizes : TableSizes) (sp : Sp) (table : ByteTable) (ask : Ask) → BytesFit sizes sp (bytes_of_ask sp sizes table ask)
+bytes-fit sizes Admin table ask = tt
+bytes-fit sizes Locking table (SetBytes a b) = by_place (fits_table sizes table a b) refl
   where
-    by_place : (within : Bool) → is_within mbr_sectors a b ≡ within → BytesFit mbr_sectors Locking (cond within (Some (bytes_set a b)) None)
-    by_place true is = is
+    by_place : (fits : Bool) → fits_table sizes table a b ≡ fits → BytesFit sizes Locking (cond fits (Some (bytes_set (table_begin sizes table + a) b)) None)
+    by_place true is = place-fits sizes table a b is
     by_place false is = tt
-bytes-fit mbr_sectors Locking (GetCells a b) = tt
-bytes-fit mbr_sectors Locking (GetBytes a b) = tt
-bytes-fit mbr_sectors Locking (SetCells a) = tt
-bytes-fit mbr_sectors Locking (Authenticate a b) = tt
-bytes-fit mbr_sectors Locking Activate = tt
-bytes-fit mbr_sectors Locking Revert = tt
-bytes-fit mbr_sectors Locking GenKey = tt
-bytes-fit mbr_sectors Locking (RevertSp keep) = tt
-bytes-fit mbr_sectors Locking Other = tt
+bytes-fit sizes Locking table (GetCells a b) = tt
+bytes-fit sizes Locking table (GetBytes a b) = tt
+bytes-fit sizes Locking table (SetCells a) = tt
+bytes-fit sizes Locking table (Authenticate a b) = tt
+bytes-fit sizes Locking table Activate = tt
+bytes-fit sizes Locking table Revert = tt
+bytes-fit sizes Locking table GenKey = tt
+bytes-fit sizes Locking table (RevertSp keep) = tt
+bytes-fit sizes Locking table Other = tt
 
-setting-fits : (mbr_sectors : ℕ) (sp : Sp) (object : Uid) (kind : Option Kind) (ask : Ask) → BytesFit mbr_sectors sp (setting sp mbr_sectors object kind ask)
-setting-fits mbr_sectors sp object None ask = cells-fit mbr_sectors sp object (set_types_of None) ask
-setting-fits mbr_sectors sp object (Some kinds.ThisSp) ask = cells-fit mbr_sectors sp object (set_types_of (Some kinds.ThisSp)) ask
-setting-fits mbr_sectors sp object (Some kinds.Sp) ask = cells-fit mbr_sectors sp object (set_types_of (Some kinds.Sp)) ask
-setting-fits mbr_sectors sp object (Some kinds.Authority) ask = cells-fit mbr_sectors sp object (set_types_of (Some kinds.Authority)) ask
-setting-fits mbr_sectors sp object (Some kinds.CPin) ask = cells-fit mbr_sectors sp object (set_types_of (Some kinds.CPin)) ask
-setting-fits mbr_sectors sp object (Some kinds.Ace) ask = cells-fit mbr_sectors sp object (set_types_of (Some kinds.Ace)) ask
-setting-fits mbr_sectors sp object (Some kinds.Locking) ask = cells-fit mbr_sectors sp object (set_types_of (Some kinds.Locking)) ask
-setting-fits mbr_sectors sp object (Some kinds.MbrControl) ask = cells-fit mbr_sectors sp object (set_types_of (Some kinds.MbrControl)) ask
-setting-fits mbr_sectors sp object (Some kinds.TperInfo) ask = cells-fit mbr_sectors sp object (set_types_of (Some kinds.TperInfo)) ask
-setting-fits mbr_sectors sp object (Some kinds.LockingInfo) ask = cells-fit mbr_sectors sp object (set_types_of (Some kinds.LockingInfo)) ask
-setting-fits mbr_sectors sp object (Some kinds.Table) ask = cells-fit mbr_sectors sp object (set_types_of (Some kinds.Table)) ask
-setting-fits mbr_sectors sp object (Some kinds.Key) ask = cells-fit mbr_sectors sp object (set_types_of (Some kinds.Key)) ask
-setting-fits mbr_sectors sp object (Some kinds.MbrTable) ask = bytes-fit mbr_sectors sp ask
+setting-fits : (sizes : TableSizes) (sp : Sp) (object : Uid) (kind : Option Kind) (ask : Ask) → BytesFit sizes sp (setting sp sizes object kind ask)
+setting-fits sizes sp object None ask = cells-fit sizes sp object (set_types_of None) ask
+setting-fits sizes sp object (Some kinds.ThisSp) ask = cells-fit sizes sp object (set_types_of (Some kinds.ThisSp)) ask
+setting-fits sizes sp object (Some kinds.Sp) ask = cells-fit sizes sp object (set_types_of (Some kinds.Sp)) ask
+setting-fits sizes sp object (Some kinds.Authority) ask = cells-fit sizes sp object (set_types_of (Some kinds.Authority)) ask
+setting-fits sizes sp object (Some kinds.CPin) ask = cells-fit sizes sp object (set_types_of (Some kinds.CPin)) ask
+setting-fits sizes sp object (Some kinds.Ace) ask = cells-fit sizes sp object (set_types_of (Some kinds.Ace)) ask
+setting-fits sizes sp object (Some kinds.Locking) ask = cells-fit sizes sp object (set_types_of (Some kinds.Locking)) ask
+setting-fits sizes sp object (Some kinds.MbrControl) ask = cells-fit sizes sp object (set_types_of (Some kinds.MbrControl)) ask
+setting-fits sizes sp object (Some kinds.TperInfo) ask = cells-fit sizes sp object (set_types_of (Some kinds.TperInfo)) ask
+setting-fits sizes sp object (Some kinds.LockingInfo) ask = cells-fit sizes sp object (set_types_of (Some kinds.LockingInfo)) ask
+setting-fits sizes sp object (Some kinds.Table) ask = cells-fit sizes sp object (set_types_of (Some kinds.Table)) ask
+setting-fits sizes sp object (Some kinds.Key) ask = cells-fit sizes sp object (set_types_of (Some kinds.Key)) ask
+setting-fits sizes sp object (Some kinds.MbrTable) ask = bytes-fit sizes sp ShadowMbr ask
+setting-fits sizes sp object (Some kinds.DataStore) ask = bytes-fit sizes sp DataStore ask
+setting-fits sizes sp object (Some kinds.DataRemoval) ask = cells-fit sizes sp object (set_types_of (Some kinds.DataRemoval)) ask
 
 -- with what a fault tells
-abbrev Fits : ℕ → Sp → Option Setting → Type 0
-Fits mbr_sectors sp x = (set : Setting) → x ≡ Some set → CanSet mbr_sectors sp set
+abbrev Fits : TableSizes → Sp → Option Setting → Type 0
+Fits sizes sp x = (set : Setting) → x ≡ Some set → CanSet (sectors_of sizes) sp set
 
 none-some : {A : Type 0} {x : A} → None ≡ Some x → ⊥
 none-some h = cc
@@ -87,22 +110,22 @@ none-some h = cc
 by-some : {x y : Setting} → Some x ≡ Some y → x ≡ y
 by-some h = cc
 
-valid-fits : (s : Standing) (x : Option Setting) → BytesFit s.mbr_sectors s.sp x → Fits s.mbr_sectors s.sp (valid s x)
+valid-fits : (s : Standing) (x : Option Setting) → BytesFit s.sizes s.sp x → Fits s.sizes s.sp (valid s x)
 valid-fits s None h set is = absurd (none-some is)
 valid-fits s (Some (cells_set object cells)) h set is = by_tries (names_tries object cells) refl is
   where
-    by_fault : names_tries object cells ≡ false → (fault : Option SetError) → unless_fault fault (cells_set object cells) ≡ Some set → CanSet s.mbr_sectors s.sp set
-    by_fault no_tries None g = subst (CanSet s.mbr_sectors s.sp) (by-some g) no_tries
+    by_fault : names_tries object cells ≡ false → (fault : Option SetError) → unless_fault fault (cells_set object cells) ≡ Some set → CanSet (sectors_of s.sizes) s.sp set
+    by_fault no_tries None g = subst (CanSet (sectors_of s.sizes) s.sp) (by-some g) no_tries
     by_fault no_tries (Some fault) g = absurd (none-some g)
 
-    by_tries : (b : Bool) → names_tries object cells ≡ b → unless_fault (cond b (Some faults.NoCell) (fault_seen s.sectors (λ _. s.newest) s.sp object cells)) (cells_set object cells) ≡ Some set → CanSet s.mbr_sectors s.sp set
+    by_tries : (b : Bool) → names_tries object cells ≡ b → unless_fault (cond b (Some faults.NoCell) (fault_seen s.sectors (λ _. s.newest) s.sp object cells)) (cells_set object cells) ≡ Some set → CanSet (sectors_of s.sizes) s.sp set
     by_tries true at g = absurd (none-some g)
     by_tries false at g = by_fault at (fault_seen s.sectors (λ _. s.newest) s.sp object cells) g
-valid-fits s (Some (bytes_set place content)) h set is = subst (CanSet s.mbr_sectors s.sp) (by-some is) (by_sp s.sp h)
+valid-fits s (Some (bytes_set place content)) h set is = subst (CanSet (sectors_of s.sizes) s.sp) (by-some is) (by_sp s.sp h)
   where
-    by_sp : (sp : Sp) → BytesFit s.mbr_sectors sp (Some (bytes_set place content)) → CanSet s.mbr_sectors sp (bytes_set place content)
+    by_sp : (sp : Sp) → BytesFit s.sizes sp (Some (bytes_set place content)) → CanSet (sectors_of s.sizes) sp (bytes_set place content)
     by_sp Admin g = g
     by_sp Locking g = g
 
-pub to_set-fits : (s : Standing) (object : Uid) (ask : Ask) (set : Setting) → to_set s object ask ≡ Some set → CanSet s.mbr_sectors s.sp set
-to_set-fits s object ask set is = valid-fits s (setting s.sp s.mbr_sectors object (kind_of s.sp object) ask) (setting-fits s.mbr_sectors s.sp object (kind_of s.sp object) ask) set is
+pub to_set-fits : (s : Standing) (object : Uid) (ask : Ask) (set : Setting) → to_set s object ask ≡ Some set → CanSet (sectors_of s.sizes) s.sp set
+to_set-fits s object ask set is = valid-fits s (setting s.sp s.sizes object (kind_of s.sp object) ask) (setting-fits s.sizes s.sp object (kind_of s.sp object) ask) set is

@@ -138,6 +138,8 @@ rise_law (Some kinds.TperInfo) = refl
 rise_law (Some kinds.LockingInfo) = refl
 rise_law (Some kinds.Table) = refl
 rise_law (Some kinds.MbrTable) = refl
+rise_law (Some kinds.DataStore) = refl
 rise_law (Some kinds.Key) = refl
+rise_law (Some kinds.DataRemoval) = refl
 
 pub ruleset of_lists = (list_law, rise_law)

@@ -1,9 +1,13 @@
 -- The object that a Set changes is the one that its call names.
-use Rattle.std.proofs.Common.{◌≡◌, ℕ, Bool, true, false, List, Option, None, Some, refl, ap, ◌∙◌, sym, if◌then◌else◌}
+use Rattle.std.proofs.Common.{◌≡◌, ◌+◌, ℕ, Bool, true, false, List, Option, None, Some, refl, ap, ◌∙◌, sym, if◌then◌else◌}
 use Rattle.sp_cells.specs.declared.names.Uid.{Uid}
 use Rattle.sp_cells.specs.declared.names.Column.{Column}
 use Rattle.sp_cells.specs.declared.names.Sp.{Sp}
 use Rattle.sp_cells.specs.declared.names.Sp.TheVariants.{Admin, Locking}
+use Rattle.sp_cells.specs.declared.byte_tables.ByteTable.{ByteTable}
+use Rattle.sp_cells.specs.declared.byte_tables.ByteTable.TheVariants.{ShadowMbr, DataStore}
+use Rattle.sp_cells.specs.declared.byte_tables.TableSizes.{TableSizes}
+use Rattle.sp_cells.specs.ByteTables.{table_begin, fits_table}
 use Rattle.sp_cells.specs.declared.cells.Cell.{Cell}
 use Rattle.sp_cells.specs.declared.values.ColumnType.{ColumnType}
 use Rattle.transactions.specs.declared.change.Change.{Change}
@@ -17,7 +21,6 @@ use Rattle.methods.specs.Columns.{set_types_of}
 use Rattle.methods.specs.Effects.{has_set}
 use Rattle.methods.specs.Settings.{setting, setting_of_cells, cells_of_ask, cells_for, bytes_of_ask}
 use Rattle.sessions.specs.Deeds.{cells_set, bytes_set}
-use Rattle.sessions.specs.Made.{is_within}
 use Rattle.methods.specs.Changes.{setting_seen, changed_object}
 
 -- cells that are set are of the object
@@ -59,21 +62,23 @@ no_cells_if : (o : Uid) (cells : List (Column × Cell)) (at : ℕ) (bs : List �
 no_cells_if o cells at bs true e = cc
 no_cells_if o cells at bs false e = cc
 
-pub no_cells : (o : Uid) (cells : List (Column × Cell)) (sp : Sp) (n : ℕ) (ask : Ask) → bytes_of_ask sp n ask ≡ Some (cells_set o cells) → ⊥
-no_cells o cells Admin n ask e = cc
-no_cells o cells Locking n (SetBytes at bs) e = no_cells_if o cells at bs (is_within n at bs) e
-no_cells o cells Locking n (SetCells ps) e = cc
-no_cells o cells Locking n (GetCells first last) e = cc
-no_cells o cells Locking n (GetBytes first last) e = cc
-no_cells o cells Locking n (Authenticate a p) e = cc
-no_cells o cells Locking n Activate e = cc
-no_cells o cells Locking n Revert e = cc
-no_cells o cells Locking n GenKey e = cc
-no_cells o cells Locking n (RevertSp keep) e = cc
-no_cells o cells Locking n Other e = cc
+pub no_cells : (o : Uid) (cells : List (Column × Cell)) (sp : Sp) (n : TableSizes) (table : ByteTable) (ask : Ask) → bytes_of_ask sp n table ask ≡ Some (cells_set o cells) → ⊥
+no_cells o cells Admin n table ask e = cc
+no_cells o cells Locking n table (SetBytes at bs) e = no_cells_if o cells (table_begin n table + at) bs (fits_table n table at bs) e
+no_cells o cells Locking n table (SetCells ps) e = cc
+no_cells o cells Locking n table (GetCells first last) e = cc
+no_cells o cells Locking n table (GetBytes first last) e = cc
+no_cells o cells Locking n table (Authenticate a p) e = cc
+no_cells o cells Locking n table Activate e = cc
+no_cells o cells Locking n table Revert e = cc
+no_cells o cells Locking n table GenKey e = cc
+no_cells o cells Locking n table (RevertSp keep) e = cc
+no_cells o cells Locking n table Other e = cc
 
-cells_of_object : (sp : Sp) (n : ℕ) (object o : Uid) (cells : List (Column × Cell)) (kind : Option Kind) (ask : Ask) → setting sp n object kind ask ≡ Some (cells_set o cells) → object ≡ o
-cells_of_object sp n object o cells (Some kinds.MbrTable) ask e = absurd (no_cells o cells sp n ask e)
+cells_of_object : (sp : Sp) (n : TableSizes) (object o : Uid) (cells : List (Column × Cell)) (kind : Option Kind) (ask : Ask) → setting sp n object kind ask ≡ Some (cells_set o cells) → object ≡ o
+cells_of_object sp n object o cells (Some kinds.MbrTable) ask e = absurd (no_cells o cells sp n ShadowMbr ask e)
+cells_of_object sp n object o cells (Some kinds.DataStore) ask e = absurd (no_cells o cells sp n DataStore ask e)
+cells_of_object sp n object o cells (Some kinds.DataRemoval) ask e = asked_there object o cells (set_types_of (Some kinds.DataRemoval)) ask e
 cells_of_object sp n object o cells (Some kinds.ThisSp) ask e = asked_there object o cells (set_types_of (Some kinds.ThisSp)) ask e
 cells_of_object sp n object o cells (Some kinds.Sp) ask e = asked_there object o cells (set_types_of (Some kinds.Sp)) ask e
 cells_of_object sp n object o cells (Some kinds.Authority) ask e = asked_there object o cells (set_types_of (Some kinds.Authority)) ask e
@@ -88,8 +93,10 @@ cells_of_object sp n object o cells (Some kinds.Key) ask e = asked_there object 
 cells_of_object sp n object o cells None ask e = asked_there object o cells (set_types_of None) ask e
 
 -- no bytes are set in the Admin SP
-bytes_of_locking : (n : ℕ) (object : Uid) (at : ℕ) (bs : List ℕ) (kind : Option Kind) (ask : Ask) → setting Admin n object kind ask ≡ Some (bytes_set at bs) → ⊥
+bytes_of_locking : (n : TableSizes) (object : Uid) (at : ℕ) (bs : List ℕ) (kind : Option Kind) (ask : Ask) → setting Admin n object kind ask ≡ Some (bytes_set at bs) → ⊥
 bytes_of_locking n object at bs (Some kinds.MbrTable) ask e = cc
+bytes_of_locking n object at bs (Some kinds.DataStore) ask e = cc
+bytes_of_locking n object at bs (Some kinds.DataRemoval) ask e = no_bytes object at bs (set_types_of (Some kinds.DataRemoval)) ask e
 bytes_of_locking n object at bs (Some kinds.ThisSp) ask e = no_bytes object at bs (set_types_of (Some kinds.ThisSp)) ask e
 bytes_of_locking n object at bs (Some kinds.Sp) ask e = no_bytes object at bs (set_types_of (Some kinds.Sp)) ask e
 bytes_of_locking n object at bs (Some kinds.Authority) ask e = no_bytes object at bs (set_types_of (Some kinds.Authority)) ask e
@@ -104,7 +111,7 @@ bytes_of_locking n object at bs (Some kinds.Key) ask e = no_bytes object at bs (
 bytes_of_locking n object at bs None ask e = no_bytes object at bs (set_types_of None) ask e
 
 -- where the object that a call names has Set, the object of what it sets has it
-pub set_there : (sp : Sp) (n : ℕ) (object : Uid) (ask : Ask) (change : Change) → Some (setting_seen change) ≡ setting sp n object (kind_of sp object) ask → has_set (kind_of sp object) ≡ true → has_set (kind_of sp (changed_object change)) ≡ true
+pub set_there : (sp : Sp) (n : TableSizes) (object : Uid) (ask : Ask) (change : Change) → Some (setting_seen change) ≡ setting sp n object (kind_of sp object) ask → has_set (kind_of sp object) ≡ true → has_set (kind_of sp (changed_object change)) ≡ true
 set_there sp n object ask (Cells o cells) e h = ap (λ u. has_set (kind_of sp u)) (sym (cells_of_object sp n object o cells.items (kind_of sp object) ask (sym e))) ∙ h
 set_there Admin n object ask (Mbr at bs) e h = absurd (bytes_of_locking n object at bs.items (kind_of Admin object) ask (sym e))
 set_there Locking n object ask (Mbr at bs) e h = refl

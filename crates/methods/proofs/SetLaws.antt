@@ -5,6 +5,8 @@ use Rattle.std.specs.List.{list_all, filter_map, cons_option}
 use Rattle.sp_cells.specs.declared.names.Uid.{Uid}
 use Rattle.sp_cells.specs.declared.names.Sp.{Sp}
 use Rattle.sp_cells.specs.declared.names.Column.{Column}
+use Rattle.sp_cells.specs.declared.byte_tables.ByteTable.TheVariants.{ShadowMbr, DataStore}
+use Rattle.sp_cells.specs.declared.byte_tables.TableSizes.{TableSizes}
 use Rattle.sp_cells.specs.declared.cells.Cell.{Cell}
 use Rattle.sp_cells.specs.declared.error.SetError.{SetError}
 use Rattle.sp_cells.specs.declared.values.ColumnType.{ColumnType}
@@ -94,8 +96,10 @@ asked_there object target cells types GenKey is = absurd cc
 asked_there object target cells types (RevertSp keep) is = absurd cc
 asked_there object target cells types Other is = absurd cc
 
-set_there : (sp : Sp) (n : ℕ) (object target : Uid) (cells : List (Column × Cell)) (kind : Option Kind) (ask : Ask) → setting sp n object kind ask ≡ Some (cells_set target cells) → SetsOnly object (set_columns_of kind) target cells
-set_there sp n object target cells (Some kinds.MbrTable) ask is = absurd (no_cells target cells sp n ask is)
+set_there : (sp : Sp) (n : TableSizes) (object target : Uid) (cells : List (Column × Cell)) (kind : Option Kind) (ask : Ask) → setting sp n object kind ask ≡ Some (cells_set target cells) → SetsOnly object (set_columns_of kind) target cells
+set_there sp n object target cells (Some kinds.MbrTable) ask is = absurd (no_cells target cells sp n ShadowMbr ask is)
+set_there sp n object target cells (Some kinds.DataStore) ask is = absurd (no_cells target cells sp n DataStore ask is)
+set_there sp n object target cells (Some kinds.DataRemoval) ask is = asked_there object target cells (set_types_of (Some kinds.DataRemoval)) ask is
 set_there sp n object target cells (Some kinds.ThisSp) ask is = asked_there object target cells (set_types_of (Some kinds.ThisSp)) ask is
 set_there sp n object target cells (Some kinds.Sp) ask is = asked_there object target cells (set_types_of (Some kinds.Sp)) ask is
 set_there sp n object target cells (Some kinds.Authority) ask is = asked_there object target cells (set_types_of (Some kinds.Authority)) ask is
@@ -125,4 +129,4 @@ valid_there s None st is = is
 valid_there s (Some asked) st is = fault_there (fault_by s.sectors s.newest s.sp asked) st asked is
 
 pub store_law : SettingLaw
-store_law s object ask st is = valid_there s (setting s.sp s.mbr_sectors object (kind_of s.sp object) ask) st is
+store_law s object ask st is = valid_there s (setting s.sp s.sizes object (kind_of s.sp object) ask) st is

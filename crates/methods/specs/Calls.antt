@@ -9,6 +9,7 @@ use Rattle.sp_cells.specs.declared.names.Sp.{Sp}
 use Rattle.sp_cells.specs.declared.names.Sp.TheVariants.{Admin, Locking}
 use Rattle.sp_cells.specs.Names.{c_pin_sid}
 use Rattle.sp_cells.specs.ColumnNames.{pin_column}
+use Rattle.sp_cells.specs.Config.{sizes_in}
 use Rattle.sp_cells.specs.Flat.{LookUp}
 use Rattle.audit.specs.declared.reason.AttemptFailure.{AttemptFailure}
 use Rattle.transactions.specs.declared.change.SessionId.{SessionId}
@@ -33,7 +34,7 @@ abbrev pub standing_on : Stored → SessionId → List Uid → Standing
 standing_on s session held = record {
   profile = s.config.profile;
   sectors = s.config.sectors;
-  mbr_sectors = s.config.mbr_sectors;
+  sizes = sizes_in s.config;
   rows = seen_by s session;
   byte = slice_index (sight_of s session).bytes;
   sp = session.sp;

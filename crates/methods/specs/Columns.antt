@@ -5,8 +5,8 @@ use Rattle.sp_cells.specs.declared.values.ColumnType.{ColumnType}
 use Rattle.sp_cells.specs.declared.values.ColumnType.TheVariants as types
 use Rattle.sp_cells.specs.ColumnNames.{pin_column, enabled_column, boolean_expr_column, mbr_enable_column, mbr_done_column, mbr_done_on_reset_column, programmatic_reset_enable_column}
 use Rattle.sp_cells.specs.ColumnNames.{range_start_column, range_length_column, read_lock_enabled_column, write_lock_enabled_column, read_locked_column, write_locked_column, lock_on_reset_column}
-use Rattle.sp_cells.specs.ColumnNames.{uid_column, name_column, common_name_column, active_key_column, version_column, encrypt_support_column, max_ranges_column, max_re_encryptions_column, keys_available_cfg_column, alignment_required_column, logical_block_size_column, alignment_granularity_column, lowest_aligned_lba_column, kind_column, rows_column, mandatory_write_granularity_column, recommended_access_granularity_column}
-use Rattle.sp_cells.specs.Values.{sp_types, ace_types, authority_types, c_pin_types, locking_types, mbr_control_types, tper_info_types}
+use Rattle.sp_cells.specs.ColumnNames.{uid_column, name_column, common_name_column, active_key_column, version_column, encrypt_support_column, max_ranges_column, max_re_encryptions_column, keys_available_cfg_column, alignment_required_column, logical_block_size_column, alignment_granularity_column, lowest_aligned_lba_column, kind_column, rows_column, mandatory_write_granularity_column, recommended_access_granularity_column, active_data_removal_mechanism_column}
+use Rattle.sp_cells.specs.Values.{sp_types, ace_types, authority_types, c_pin_types, locking_types, mbr_control_types, tper_info_types, data_removal_types}
 use Rattle.methods.specs.declared.kinds.Kind.{Kind}
 use Rattle.methods.specs.declared.kinds.Kind.TheVariants as kinds
 
@@ -55,7 +55,9 @@ types_of (Some kinds.TperInfo) = tper_info_types
 types_of (Some kinds.LockingInfo) = locking_info_types
 types_of (Some kinds.Table) = table_row_types
 types_of (Some kinds.MbrTable) = []
+types_of (Some kinds.DataStore) = []
 types_of (Some kinds.Key) = []
+types_of (Some kinds.DataRemoval) = data_removal_types
 
 -- without their types
 abbrev pub columns_in : List (Column × ColumnType) → List Column
@@ -85,7 +87,7 @@ mbr_control_set_types =
     ∷ []
 
 -- the columns that Set takes, with the types of their values: whether an authority is enabled, a PIN, an ACE's
--- expression, a range, the control of the shadow MBR, and whether a command may reset the drive
+-- expression, a range, the control of the shadow MBR, whether a command may reset the drive, and how it removes data
 abbrev pub set_types_of : Option Kind → List (Column × ColumnType)
 set_types_of (Some kinds.Authority) = (enabled_column, types.Flag) ∷ []
 set_types_of (Some kinds.CPin) = (pin_column, types.Secret) ∷ []
@@ -93,4 +95,6 @@ set_types_of (Some kinds.Ace) = (boolean_expr_column, types.Expression) ∷ []
 set_types_of (Some kinds.Locking) = range_set_types
 set_types_of (Some kinds.MbrControl) = mbr_control_set_types
 set_types_of (Some kinds.TperInfo) = (programmatic_reset_enable_column, types.Flag) ∷ []
+set_types_of (Some kinds.DataRemoval) =
+    (active_data_removal_mechanism_column, types.Mechanism) ∷ []
 set_types_of _ = []

@@ -1,15 +1,17 @@
 -- What comes of a call in a session: its shape, its ACEs, its values, in this order. Over any view and any authorities.
-use Rattle.std.specs.Prelude.{ℕ, ◌+◌, ◌*◌, ◌==◌, ◌||◌, ◌-◌, ◌&&◌, Bool, true, false, nat_le, nat_lt, List, [], ◌∷◌, map, Option, Some, None, if◌then◌else◌}
+use Rattle.std.specs.Prelude.{ℕ, ◌+◌, ◌==◌, ◌||◌, ◌-◌, ◌&&◌, Bool, true, false, nat_le, nat_lt, List, [], ◌∷◌, map, Option, Some, None, if◌then◌else◌}
 use Rattle.basics.specs.declared.profile.Profile.{Profile}
 use Rattle.sp_cells.specs.declared.names.Uid.{Uid}
 use Rattle.sp_cells.specs.declared.names.Sp.{Sp}
 use Rattle.sp_cells.specs.declared.error.SetError.{SetError}
 use Rattle.sp_cells.specs.declared.error.SetError.TheVariants as faults
+use Rattle.sp_cells.specs.declared.byte_tables.ByteTable.{ByteTable}
+use Rattle.sp_cells.specs.declared.byte_tables.TableSizes.{TableSizes}
+use Rattle.sp_cells.specs.ByteTables.{bytes_of_table, table_begin}
 use Rattle.sp_cells.specs.Flat.{LookUp}
 use Rattle.sp_cells.specs.Numbers.{key_number}
 use Rattle.sp_tables.specs.Looks.{RowLook, fault_seen}
 use Rattle.sp_tables.specs.Tries.{names_tries}
-use Rattle.shadow_mbr.specs.Stored.{sector_size}
 use Rattle.transactions.specs.Bytes.{bytes_from}
 use Rattle.audit.specs.declared.reason.Why.{Why}
 use Rattle.call_shapes.specs.Carried.{is_carried}
@@ -20,7 +22,7 @@ use Rattle.call_shapes.specs.Named.{values_of}
 use Rattle.call_shapes.specs.Asks.{ask_of}
 use Rattle.call_shapes.specs.Limits.{most_response}
 use Rattle.call_shapes.specs.Statuses.{success, not_authorized, invalid_parameter, response_overflow, fail}
-use Rattle.methods.specs.Kinds.{kind_of}
+use Rattle.methods.specs.Kinds.{kind_of, byte_table_of}
 use Rattle.methods.specs.Grants.{denied}
 use Rattle.methods.specs.Listed.{listed, cell_value}
 use Rattle.methods.specs.Settings.{setting}
@@ -29,13 +31,13 @@ use Rattle.methods.specs.Said.{reply_of}
 use Rattle.methods.specs.Erasures.{is_wholly_locked}
 use Rattle.methods.specs.Effects.{ask_at, last_row, sp_of_row, unless_fault}
 
--- what the rules ask of a session: the drive's profile and sectors, those of its shadow, the rows and the shadow's bytes in its
--- view, its SP, the rows there by which a change is judged, the authorities that it holds, and whether it has a
+-- what the rules ask of a session: the drive's profile and sectors, the sizes of its byte tables, the rows and their bytes in
+-- its view, its SP, the rows there by which a change is judged, the authorities that it holds, and whether it has a
 -- transaction open
 pub record Standing : Type 0 where
   pub profile : Profile
   pub sectors : ℕ
-  pub mbr_sectors : ℕ
+  pub sizes : TableSizes
   pub rows : LookUp
   pub byte : ℕ → ℕ
   pub sp : Sp
@@ -75,7 +77,7 @@ list_given profile look sp object first last held =
 abbrev pub listing : Standing → Uid → ℕ → ℕ → List Tree
 listing s object first last = list_given s.profile s.rows s.sp object first last s.held
 
--- what a Get of bytes gives: rows of the shadow's table
+-- what a Get of bytes gives: rows of a byte table
 abbrev pub bytes_between : (ℕ → ℕ) → ℕ → ℕ → List Tree
 bytes_between byte first last = bytes (bytes_from byte first (last + 1 - first)) ∷ []
 
@@ -91,8 +93,11 @@ rows_given byte size first last =
 abbrev pub bytes_given : (ℕ → ℕ) → ℕ → ℕ → Option ℕ → Judgement
 bytes_given byte size first last = rows_given byte size first (last_row size last)
 
-abbrev pub table_size : Standing → ℕ
-table_size s = sector_size * s.mbr_sectors
+-- of a table, by the places of its rows
+abbrev pub table_given : (ℕ → ℕ) → TableSizes → ByteTable → ℕ → Option ℕ → Judgement
+table_given byte sizes table first last =
+    bytes_given (λ row. byte (table_begin sizes table + row)) (bytes_of_table sizes table) first
+    last
 
 -- why what a Set sets is not set, by the newest rows of its SP. Tries are no cells that a change names
 abbrev pub fault_by : ℕ → RowLook → Sp → Setting → Option SetError
@@ -107,7 +112,7 @@ valid s (Some set) = unless_fault (fault_by s.sectors s.newest s.sp set) set
 
 -- what a Set sets, where its values are valid
 abbrev pub to_set : Standing → Uid → Ask → Option Setting
-to_set s object ask = valid s (setting s.sp s.mbr_sectors object (kind_of s.sp object) ask)
+to_set s object ask = valid s (setting s.sp s.sizes object (kind_of s.sp object) ask)
 
 abbrev pub makes : Option Setting → Judgement
 makes None = Refuses invalid_parameter None
@@ -132,7 +137,8 @@ reverts_sp rows keep =
 -- what a granted call comes to, where the object's kind has the method
 abbrev pub does_ask : Standing → Uid → Ask → Judgement
 does_ask s object (GetCells first last) = gives (listing s object first last)
-does_ask s object (GetBytes first last) = bytes_given s.byte (table_size s) first last
+does_ask s object (GetBytes first last) =
+    table_given s.byte s.sizes (byte_table_of (kind_of s.sp object)) first last
 does_ask s object (SetCells values) = makes (to_set s object (SetCells values))
 does_ask s object (SetBytes at content) = makes (to_set s object (SetBytes at content))
 does_ask s object (Authenticate authority pin) = Attempts authority pin

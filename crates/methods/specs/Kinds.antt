@@ -2,8 +2,10 @@
 use Rattle.std.specs.Prelude.{◌==◌, ℕ, Option, None, Some, if◌then◌else◌}
 use Rattle.sp_cells.specs.declared.names.Uid.{Uid}
 use Rattle.sp_cells.specs.declared.names.Sp.{Sp}
-use Rattle.sp_cells.specs.Names.{this_sp, table_of, ace_table, authority_table, c_pin_table, sp_table, locking_info_table, table_table, locking_table, mbr_control_table, tper_info_table, key_table}
-use Rattle.call_shapes.specs.Asks.{is_mbr_table}
+use Rattle.sp_cells.specs.Names.{this_sp, table_of, ace_table, authority_table, c_pin_table, sp_table, locking_info_table, table_table, locking_table, mbr_control_table, tper_info_table, key_table, data_removal_table}
+use Rattle.sp_cells.specs.declared.byte_tables.ByteTable.{ByteTable}
+use Rattle.sp_cells.specs.declared.byte_tables.ByteTable.TheVariants as byte_tables
+use Rattle.call_shapes.specs.Asks.{is_mbr_table, is_datastore}
 use Rattle.methods.specs.declared.kinds.Kind.{Kind}
 use Rattle.methods.specs.declared.kinds.Kind.TheVariants as kinds
 
@@ -19,11 +21,18 @@ kind_of_table table =
     if table == tper_info_table then Some kinds.TperInfo else
     if table == locking_info_table then Some kinds.LockingInfo else
     if table == table_table then Some kinds.Table else
-    if table == key_table then Some kinds.Key else None
+    if table == key_table then Some kinds.Key else
+    if table == data_removal_table then Some kinds.DataRemoval else None
 
 -- the kind of an object in a session of an SP
 abbrev pub kind_of : Sp → Uid → Option Kind
 kind_of sp object =
     if object.0 == this_sp.0 then Some kinds.ThisSp else
     if is_mbr_table sp object then Some kinds.MbrTable else
+    if is_datastore sp object then Some kinds.DataStore else
     kind_of_table (table_of object)
+
+-- the byte table that an object of this kind is; one that is none has no bytes to ask for
+abbrev pub byte_table_of : Option Kind → ByteTable
+byte_table_of (Some kinds.DataStore) = byte_tables.DataStore
+byte_table_of _ = byte_tables.ShadowMbr

@@ -8,6 +8,7 @@ use Rattle.sp_cells.specs.declared.names.Column.{Column}
 use Rattle.sp_cells.specs.declared.cells.Cell.{Cell}
 use Rattle.sp_cells.specs.ColumnNames.{pin_column}
 use Rattle.sp_cells.specs.Names.{get}
+use Rattle.sp_cells.specs.declared.byte_tables.TableSizes.{TableSizes}
 use Rattle.sp_cells.specs.Flat.{LookUp}
 use Rattle.ace_eval.specs.Aces.{HasAce, acl_at}
 use Rattle.audit.specs.declared.reason.Why.{Why}
@@ -124,20 +125,20 @@ pub record SetsOnly (object : Uid) (columns : List Column) (target : Uid)
 
 -- a call sets cells of its own object alone, and in columns that Set takes of the object's kind
 abbrev pub SetLaw : Type 0
-SetLaw = (sp : Sp) (mbr_sectors : ℕ) (object target : Uid) (ask : Ask)
-    (cells : List (Column × Cell)) → setting sp mbr_sectors object (kind_of sp object) ask
+SetLaw = (sp : Sp) (sizes : TableSizes) (object target : Uid) (ask : Ask)
+    (cells : List (Column × Cell)) → setting sp sizes object (kind_of sp object) ask
     ≡ Some (cells_set target cells)
     → SetsOnly object (set_columns_of (kind_of sp object)) target cells
 
 -- of a C_PIN row it sets the PIN alone: no Set changes a TryLimit, a Tries or a UID
 abbrev pub PinLaw : Type 0
-PinLaw = (sp : Sp) (mbr_sectors : ℕ) (object target : Uid) (ask : Ask)
+PinLaw = (sp : Sp) (sizes : TableSizes) (object target : Uid) (ask : Ask)
     (cells : List (Column × Cell)) → kind_of sp object ≡ Some kinds.CPin
-    → setting sp mbr_sectors object (kind_of sp object) ask ≡ Some (cells_set target cells)
+    → setting sp sizes object (kind_of sp object) ask ≡ Some (cells_set target cells)
     → SetsOnly object (pin_column ∷ []) target cells
 
 -- what is stored is what the call sets
 abbrev pub SettingLaw : Type 0
 SettingLaw = (s : Standing) (object : Uid) (ask : Ask) (set : Setting)
     → to_set s object ask ≡ Some set
-    → setting s.sp s.mbr_sectors object (kind_of s.sp object) ask ≡ Some set
+    → setting s.sp s.sizes object (kind_of s.sp object) ask ≡ Some set

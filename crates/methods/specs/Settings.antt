@@ -1,5 +1,5 @@
 -- What Set sets: the cells, or the bytes, that a call's values write (Core 2.01, section 5.3.3.7).
-use Rattle.std.specs.Prelude.{ℕ, List, Option, None, Some, is_some, if◌then◌else◌}
+use Rattle.std.specs.Prelude.{◌+◌, ℕ, List, Option, None, Some, is_some, if◌then◌else◌}
 use Rattle.std.specs.List.{list_all, filter_map}
 use Rattle.sp_cells.specs.declared.names.Uid.{Uid}
 use Rattle.sp_cells.specs.declared.names.Sp.{Sp}
@@ -7,6 +7,10 @@ use Rattle.sp_cells.specs.declared.names.Sp.TheVariants.{Admin, Locking}
 use Rattle.sp_cells.specs.declared.names.Column.{Column}
 use Rattle.sp_cells.specs.declared.cells.Cell.{Cell}
 use Rattle.sp_cells.specs.declared.values.ColumnType.{ColumnType}
+use Rattle.sp_cells.specs.declared.byte_tables.ByteTable.{ByteTable}
+use Rattle.sp_cells.specs.declared.byte_tables.ByteTable.TheVariants.{ShadowMbr, DataStore}
+use Rattle.sp_cells.specs.declared.byte_tables.TableSizes.{TableSizes}
+use Rattle.sp_cells.specs.ByteTables.{table_begin, fits_table}
 use Rattle.sp_cells.specs.Names.{col}
 use Rattle.sp_cells.specs.Values.{type_at}
 use Rattle.tcg_tokens.specs.Tree.{Tree}
@@ -16,7 +20,6 @@ use Rattle.call_shapes.specs.declared.ask.Ask.TheVariants.{SetCells, SetBytes}
 use Rattle.methods.specs.declared.kinds.Kind.{Kind}
 use Rattle.methods.specs.declared.kinds.Kind.TheVariants as kinds
 use Rattle.sessions.specs.Deeds.{Setting, cells_set, bytes_set}
-use Rattle.sessions.specs.Made.{is_within}
 use Rattle.methods.specs.Columns.{set_types_of}
 
 -- the cell that a value writes in a column of this type; None where the type is none, or does not take the value
@@ -47,14 +50,16 @@ abbrev pub cells_of_ask : Uid → List (Column × ColumnType) → Ask → Option
 cells_of_ask object types (SetCells ps) = setting_of_cells object (cells_for types ps)
 cells_of_ask object types _ = None
 
--- Set of bytes, within the table, which is of the Locking SP
-abbrev pub bytes_of_ask : Sp → ℕ → Ask → Option Setting
-bytes_of_ask Admin mbr_sectors ask = None
-bytes_of_ask Locking mbr_sectors (SetBytes at bytes) =
-    if is_within mbr_sectors at bytes then Some (bytes_set at bytes) else None
-bytes_of_ask Locking mbr_sectors _ = None
+-- Set of bytes, within the table, which is of the Locking SP: at the places of its rows
+abbrev pub bytes_of_ask : Sp → TableSizes → ByteTable → Ask → Option Setting
+bytes_of_ask Admin sizes table ask = None
+bytes_of_ask Locking sizes table (SetBytes row bytes) =
+    if fits_table sizes table row bytes
+    then Some (bytes_set (table_begin sizes table + row) bytes) else None
+bytes_of_ask Locking sizes table _ = None
 
 -- what a call sets, by the kind of its object; None where a value is none that its place takes
-abbrev pub setting : Sp → ℕ → Uid → Option Kind → Ask → Option Setting
-setting sp mbr_sectors object (Some kinds.MbrTable) ask = bytes_of_ask sp mbr_sectors ask
-setting sp mbr_sectors object kind ask = cells_of_ask object (set_types_of kind) ask
+abbrev pub setting : Sp → TableSizes → Uid → Option Kind → Ask → Option Setting
+setting sp sizes object (Some kinds.MbrTable) ask = bytes_of_ask sp sizes ShadowMbr ask
+setting sp sizes object (Some kinds.DataStore) ask = bytes_of_ask sp sizes DataStore ask
+setting sp sizes object kind ask = cells_of_ask object (set_types_of kind) ask

@@ -11,7 +11,7 @@ ghost use Rattle.methods.specs.declared.outcome.MethodFault.TheVariants as fault
 use crate::cases::method_cases;
 use crate::grants::denied;
 use crate::handlers;
-use crate::kinds::{Handler, Kind, kind_of};
+use crate::kinds::{Handler, Kind, byte_table_of, kind_of};
 use crate::outcome::{MethodFault, Outcome, refused};
 use ace_eval::Authorities;
 use audit::Why;
@@ -60,7 +60,8 @@ fn perform(
     ensures no_session { (result ≡ Err faults.NoSession) → (live_holder sessions.old session
         ≡ None) }
 {
-    let Some(handler) = handler_of(kind_of(session.sp, object), ask) else {
+    let kind = kind_of(session.sp, object);
+    let Some(handler) = handler_of(kind, ask) else {
         return Ok(refused(alloc, status::FAIL, None));
     };
     match (handler, ask) {
@@ -68,7 +69,7 @@ fn perform(
             handlers::read_cells(alloc, store, sessions, session, object, *first, *last)
         }
         (Handler::ReadBytes, Ask::GetBytes { first, last }) => {
-            handlers::read_bytes(alloc, store, session, *first, *last)
+            handlers::read_bytes(alloc, store, session, byte_table_of(kind), *first, *last)
         }
         (Handler::WriteCells, Ask::SetCells(_)) | (Handler::WriteBytes, Ask::SetBytes { .. }) => {
             handlers::write(alloc, store, session, object, ask)

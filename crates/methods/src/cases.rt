@@ -59,7 +59,13 @@ macro_rules! method_cases {
             [MbrTable:
                 GetBytes [] ReadBytes,
                 SetBytes [] WriteBytes]
+            [DataStore:
+                GetBytes [] ReadBytes,
+                SetBytes [] WriteBytes]
             [Key: GenKey [] GenKey]
+            [DataRemoval:
+                GetCells [UID Object, ACTIVE_DATA_REMOVAL_MECHANISM Mechanism] ReadCells,
+                SetCells [ACTIVE_DATA_REMOVAL_MECHANISM Mechanism] WriteCells]
         }
     };
 }

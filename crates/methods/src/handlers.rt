@@ -9,9 +9,10 @@ ghost use Rattle.methods.specs.Kinds.{kind_of as kind_of_object};
 ghost use Rattle.methods.specs.Changes.{setting_seen};
 ghost use Rattle.sessions.specs.Answers.{rows_in_force};
 ghost use Rattle.methods.specs.Erasures.{erased_by_revert};
+ghost use Rattle.sp_cells.specs.Config.{sizes_in, table_sectors};
 ghost use Rattle.sp_cells.specs.Numbers.{key_number};
 ghost use Rattle.methods.specs.Effects.{live_holder, seen_by, has_transaction, has_set, sp_of_row as sp_of};
-ghost use Rattle.methods.specs.Judgement.{Attempts, Activates, Reverts, list_given, listing, gives, bytes_given, to_set, makes, unless_open, erases, reverts_sp};
+ghost use Rattle.methods.specs.Judgement.{Attempts, Activates, Reverts, list_given, listing, gives, table_given, to_set, makes, unless_open, erases, reverts_sp};
 ghost use Rattle.methods.specs.Calls.{standing_on, standing_in, outcome_in, Tells, Fulfils};
 ghost use Rattle.methods.specs.declared.outcome.MethodFault.TheVariants as faults;
 
@@ -25,9 +26,9 @@ use audit::{AttemptFailure, Why};
 use call_shapes::limits::MOST_RESPONSE;
 use call_shapes::{Ask, list_value, status};
 use sessions::{AuthAnswer, Sessions};
-use shadow_mbr::{Erasure, SECTOR_SIZE};
+use shadow_mbr::Erasure;
 use sp_cells::limits::MANUFACTURED;
-use sp_cells::{Column, Rows, Sp, Uid, number_at};
+use sp_cells::{ByteTable, Column, Rows, Sp, Uid, number_at};
 use std::alloc::{AllocError, Global};
 use tcg_tokens::{Bytes, Value};
 use transactions::{SessionId, Store, View};
@@ -84,17 +85,19 @@ pub(crate) fn read_cells(
     Ok(outcome)
 }
 
-/// What Get of bytes reads.
+/// What Get of the bytes of a table reads.
 fn bytes_outcome(
     alloc: Global,
     view: &View<'_>,
+    table: ByteTable,
     first: u64,
     last: Option<u64>,
 ) -> Result<Outcome, AllocError>
-    ensures { IfOk result (Tells (bytes_given (slice_index view.now.bytes)
-        (sector_size * view.now.config.mbr_sectors) first last)) }
+    ensures { IfOk result (Tells (table_given (slice_index view.now.bytes)
+        (sizes_in view.now.config) table first last)) }
 {
-    let size = SECTOR_SIZE as u128 * u128::from(view.mbr_sectors());
+    let sizes = view.table_sizes();
+    let size = u128::from(sizes.bytes_of(table));
     if size == 0 {
         return Ok(refused(alloc, status::INVALID_PARAMETER, None));
     }
@@ -109,28 +112,28 @@ fn bytes_outcome(
     if count > u128::from(MOST_RESPONSE) {
         return Ok(refused(alloc, status::RESPONSE_OVERFLOW, None));
     }
-    let read = read_rows(alloc, view, first, count as usize)?;
+    let read = read_rows(alloc, view, sizes.begin_of(table) + first, count as usize)?;
     let mut results = Vec::new(alloc);
     results.push(Value::Bytes(Bytes::from_vec(read)))?;
     Ok(fitting(alloc, results))
 }
 
-/// Fills a buffer with the bytes of the table from a row on.
+/// Fills a buffer with the bytes of the byte tables from a place on.
 fn fill(view: &View<'_>, first: u64, buffer: &mut [u8])
-    requires { first + length buffer.old ≤ sector_size * view.now.config.mbr_sectors }
+    requires { first + length buffer.old ≤ sector_size * table_sectors view.now.config }
     ensures { buffer.new ≡ bytes_from (slice_index view.now.bytes) first (length buffer.old) }
 {
-    view.read_mbr(first, buffer);
+    view.read_bytes(first, buffer);
 }
 
-/// So many bytes of the table, from a row on.
+/// So many bytes of the byte tables, from a place on.
 fn read_rows(
     alloc: Global,
     view: &View<'_>,
     first: u64,
     count: usize,
 ) -> Result<Vec<u8>, AllocError>
-    requires { first + count ≤ sector_size * view.now.config.mbr_sectors }
+    requires { first + count ≤ sector_size * table_sectors view.now.config }
     ensures { IfOk result (λ v. v.items ≡ bytes_from (slice_index view.now.bytes) first count) }
 {
     let mut buffer = vec![in alloc; 0; count]?;
@@ -138,22 +141,23 @@ fn read_rows(
     Ok(buffer)
 }
 
-/// Get of bytes.
+/// Get of the bytes of a table.
 pub(crate) fn read_bytes(
     alloc: Global,
     store: &Store,
     session: SessionId,
+    table: ByteTable,
     first: u64,
     last: Option<u64>,
 ) -> Result<Outcome, MethodFault>
     ensures fulfils { (l : Live) → IfOk result (λ out.
         Fulfils (outcome_in store.now session
-        (bytes_given (slice_index (sight_of store.now session).bytes)
-        (sector_size * store.now.config.mbr_sectors) first last))
+        (table_given (slice_index (sight_of store.now session).bytes)
+        (sizes_in store.now.config) table first last))
         out store.now store.now l l) }
     ensures memory { IfErr result (λ e. e ≡ faults.OutOfMemory) }
 {
-    let outcome = bytes_outcome(alloc, &store.view(session), first, last)?;
+    let outcome = bytes_outcome(alloc, &store.view(session), table, first, last)?;
     Ok(outcome)
 }
 

@@ -4,16 +4,14 @@ ghost use Rattle.std.specs.Prelude.{◌≡◌, ◌≤◌, ◌<◌, ◌+◌, ◌*
 ghost use Rattle.tcg_tokens.specs.Tree.{tree};
 ghost use Rattle.sp_cells.specs.Values.{type_at as type_in};
 ghost use Rattle.methods.specs.Settings.{cell_for as cell_by, cells_for, cells_of_ask, bytes_of_ask, setting};
-ghost use Rattle.sessions.specs.Made.{is_within as is_within_table};
 ghost use Rattle.methods.specs.Changes.{setting_seen};
 ghost use Rattle.methods.specs.Kinds.{kind_of as kind_of_object};
 
 use crate::cases::method_cases;
-use crate::kinds::{Kind, kind_of};
+use crate::kinds::{Kind, byte_table_of, kind_of};
 use call_shapes::{Ask, Assignments, cell_of};
-use shadow_mbr::SECTOR_SIZE;
 use sp_cells::values::ColumnType;
-use sp_cells::{Cell, Column, Rows, Sp, Uid};
+use sp_cells::{ByteTable, Cell, Column, Rows, Sp, Uid};
 use std::alloc::{AllocError, Global};
 use tcg_tokens::Value;
 use transactions::Change;
@@ -69,13 +67,6 @@ fn check_cells(
     Ok(Some(cells))
 }
 
-/// The bytes stand within the byte table.
-fn is_within<R: Rows>(rows: &R, at: u64, bytes: &[u8]) -> bool
-    ensures { result ≡ is_within_table (R.shadow_sectors rows.now) at bytes.now }
-{
-    u128::from(at) + bytes.len() as u128 <= SECTOR_SIZE as u128 * u128::from(rows.mbr_sectors())
-}
-
 /// What Set of columns sets, by the types that they take.
 fn cells_to_set(
     alloc: Global,
@@ -94,15 +85,16 @@ fn cells_to_set(
     }
 }
 
-/// What Set of bytes sets, within the byte table.
+/// What Set of bytes sets, within the byte table: at the places of its rows.
 fn bytes_to_set<R: Rows>(
     alloc: Global,
     rows: &R,
     sp: Sp,
+    table: ByteTable,
     ask: &Ask,
 ) -> Result<Option<Change>, AllocError>
     ensures { IfOk result (λ c. option_map setting_seen c
-        ≡ bytes_of_ask sp (R.shadow_sectors rows.now) ask.now) }
+        ≡ bytes_of_ask sp (R.sizes_of rows.now) table ask.now) }
 {
     if sp == Sp::Admin {
         return Ok(None);
@@ -110,37 +102,38 @@ fn bytes_to_set<R: Rows>(
     let Ask::SetBytes { at, bytes } = ask else {
         return Ok(None);
     };
-    if !is_within(rows, *at, bytes.as_slice()) {
+    let sizes = rows.table_sizes();
+    if !sizes.fits(table, *at, bytes.as_slice()) {
         return Ok(None);
     }
     let mut items = Vec::new(alloc);
     items.extend_from_slice(bytes.as_slice())?;
     Ok(Some(Change::Mbr {
-        at: *at,
+        at: sizes.begin_of(table) + *at,
         bytes: items,
     }))
 }
 
 /// What the row for Set among the rows of a kind makes of a call; a kind without one sets no cell.
 macro_rules! set_row {
-    ($alloc:ident $rows:ident $sp:ident $object:ident $ask:ident SetCells [$($column:ident $kind:ident),*] $($rest:tt)*) => {
+    ($alloc:ident $rows:ident $sp:ident $object:ident $table:ident $ask:ident SetCells [$($column:ident $kind:ident),*] $($rest:tt)*) => {
         cells_to_set($alloc, $object, $ask, &[$((Column::$column, ColumnType::$kind)),*])
     };
-    ($alloc:ident $rows:ident $sp:ident $object:ident $ask:ident SetBytes [] $($rest:tt)*) => {
-        bytes_to_set($alloc, $rows, $sp, $ask)
+    ($alloc:ident $rows:ident $sp:ident $object:ident $table:ident $ask:ident SetBytes [] $($rest:tt)*) => {
+        bytes_to_set($alloc, $rows, $sp, $table, $ask)
     };
-    ($alloc:ident $rows:ident $sp:ident $object:ident $ask:ident $other:ident $columns:tt $handler:ident, $($rest:tt)*) => {
-        set_row!($alloc $rows $sp $object $ask $($rest)*)
+    ($alloc:ident $rows:ident $sp:ident $object:ident $table:ident $ask:ident $other:ident $columns:tt $handler:ident, $($rest:tt)*) => {
+        set_row!($alloc $rows $sp $object $table $ask $($rest)*)
     };
-    ($alloc:ident $rows:ident $sp:ident $object:ident $ask:ident $other:ident $columns:tt $handler:ident) => {
+    ($alloc:ident $rows:ident $sp:ident $object:ident $table:ident $ask:ident $other:ident $columns:tt $handler:ident) => {
         cells_to_set($alloc, $object, $ask, &[])
     };
 }
 
 macro_rules! set_arms {
-    (($kind:expr, $alloc:ident, $rows:ident, $sp:ident, $object:ident, $ask:ident) $([$k:ident: $($row:tt)*])*) => {
+    (($kind:expr, $alloc:ident, $rows:ident, $sp:ident, $object:ident, $table:ident, $ask:ident) $([$k:ident: $($row:tt)*])*) => {
         match $kind {
-            $(Some(Kind::$k) => set_row!($alloc $rows $sp $object $ask $($row)*),)*
+            $(Some(Kind::$k) => set_row!($alloc $rows $sp $object $table $ask $($row)*),)*
             None => cells_to_set($alloc, $object, $ask, &[]),
         }
     };
@@ -155,7 +148,9 @@ pub fn check_set<R: Rows>(
     ask: &Ask,
 ) -> Result<Option<Change>, AllocError>
     ensures { IfOk result (λ c. option_map setting_seen c
-        ≡ setting sp (R.shadow_sectors rows.now) object (kind_of_object sp object) ask.now) }
+        ≡ setting sp (R.sizes_of rows.now) object (kind_of_object sp object) ask.now) }
 {
-    method_cases!(set_arms(kind_of(sp, object), alloc, rows, sp, object, ask))
+    let kind = kind_of(sp, object);
+    let table = byte_table_of(kind);
+    method_cases!(set_arms(kind, alloc, rows, sp, object, table, ask))
 }

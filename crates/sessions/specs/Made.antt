@@ -1,5 +1,6 @@
 -- What a deed makes of a store, and of the sessions by their numbers; and so what an outcome says of a call.
 use Rattle.std.specs.Prelude.{◌≡◌, ◌==◌, ◌+◌, ◌*◌, nat_le, ℕ, Bool, true, false, List, [], ◌∷◌, ◌++◌, length, Option, None, Some, if◌then◌else◌}
+use Rattle.sp_cells.specs.Config.{table_sectors}
 use Rattle.sp_cells.specs.declared.names.Uid.{Uid}
 use Rattle.sp_cells.specs.declared.names.Sp.{Sp}
 use Rattle.sp_cells.specs.declared.names.Sp.TheVariants.{Admin, Locking}
@@ -41,19 +42,19 @@ part_with st p (Some t) = record p {
 abbrev pub set_stored : Stored → Sp → Setting → Stored
 set_stored s sp st = at_part sp (λ p. part_with st p p.pending) s
 
--- the bytes stand within the byte table
+-- the bytes stand within the sectors of the byte tables
 abbrev pub is_within : ℕ → ℕ → List ℕ → Bool
-is_within mbr_sectors at bytes = nat_le (at + length bytes) (sector_size * mbr_sectors)
+is_within sectors at bytes = nat_le (at + length bytes) (sector_size * sectors)
 
--- no cell of a setting is a Tries, and its bytes are of the Locking SP, within the table
+-- no cell of a setting is a Tries, and its bytes are of the Locking SP, within those sectors
 abbrev pub CanSet : ℕ → Sp → Setting → Type 0
-CanSet mbr_sectors sp (cells_set object cells) = names_tries object cells ≡ false
-CanSet mbr_sectors Locking (bytes_set at bytes) = is_within mbr_sectors at bytes ≡ true
-CanSet mbr_sectors Admin (bytes_set at bytes) = ⊥
+CanSet sectors sp (cells_set object cells) = names_tries object cells ≡ false
+CanSet sectors Locking (bytes_set at bytes) = is_within sectors at bytes ≡ true
+CanSet sectors Admin (bytes_set at bytes) = ⊥
 
 abbrev pub StoresChange : Sp → Change → Stored → Stored → Type 0
 StoresChange sp (Sets setting) s t =
-    CanSet s.config.mbr_sectors sp setting × (t ≡ set_stored s sp setting)
+    CanSet (table_sectors s.config) sp setting × (t ≡ set_stored s sp setting)
 StoresChange sp Restores s t = ⊥
 StoresChange sp (Resets kind) s t = ⊥
 

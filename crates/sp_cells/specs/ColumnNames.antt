@@ -125,6 +125,10 @@ mandatory_write_granularity_column = col 13
 abbrev pub recommended_access_granularity_column : Column
 recommended_access_granularity_column = col 14
 
+-- DataRemovalMechanism (Opal SSC 2.02)
+abbrev pub active_data_removal_mechanism_column : Column
+active_data_removal_mechanism_column = col 1
+
 -- MBRControl (Core 2.01, section 5.7)
 abbrev pub mbr_enable_column : Column
 mbr_enable_column = col 1

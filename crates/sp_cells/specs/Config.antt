@@ -4,10 +4,12 @@ use Rattle.std.specs.List.{list_all}
 use Rattle.basics.specs.Addresses.{address_limit}
 use Rattle.basics.specs.declared.profile.Profile.{Profile}
 use Rattle.basics.specs.declared.profile.Profile.TheVariants.{Base, Field}
-use Rattle.sp_cells.specs.Limits.{most_mbr_sectors, most_pin_bytes, most_serial_bytes, most_model_bytes}
+use Rattle.sp_cells.specs.declared.byte_tables.TableSizes.{TableSizes}
+use Rattle.sp_cells.specs.ByteTables.{sectors_of}
+use Rattle.sp_cells.specs.Limits.{most_mbr_sectors, most_datastore_bytes, new_datastore_bytes, most_pin_bytes, most_serial_bytes, most_model_bytes}
 
 -- the sectors of the drive, those that can be shadowed, the PIN of a new drive's owner, and the profile with the names
--- that the drive tells under it, and with the PIN on its label
+-- that the drive tells under it, with the PIN on its label and the bytes of its DataStore
 pub record Config : Type 0 where
   pub sectors : ℕ
   pub mbr_sectors : ℕ
@@ -16,6 +18,7 @@ pub record Config : Type 0 where
   pub serial : List ℕ
   pub model : List ℕ
   pub psid : List ℕ
+  pub datastore : ℕ
 
 -- no more sectors than commands can name, a shadow within them, a PIN that fits a C_PIN row
 pub record IsWithinLimits (sectors mbr_sectors : ℕ) (msid : List ℕ) : Type 0 where
@@ -56,6 +59,11 @@ new_model = codes "Opalport"
 abbrev pub new_psid : List ℕ
 new_psid = codes "the PSID of the label"
 
+-- and the bytes of its DataStore, which is Field's
+abbrev pub new_datastore : Profile → ℕ
+new_datastore Base = 0
+new_datastore Field = new_datastore_bytes
+
 abbrev pub config_in : Profile → ℕ → ℕ → List ℕ → Config
 config_in profile sectors mbr_sectors msid = record {
   sectors = sectors;
@@ -65,6 +73,7 @@ config_in profile sectors mbr_sectors msid = record {
   serial = new_serial;
   model = new_model;
   psid = new_psid;
+  datastore = new_datastore profile;
 }
 
 abbrev pub base_config : ℕ → ℕ → List ℕ → Config
@@ -80,3 +89,14 @@ named_config config serial model = record config { serial = serial; model = mode
 -- the same drive with another PIN on its label
 abbrev pub labelled_config : Config → List ℕ → Config
 labelled_config config psid = record config { psid = psid }
+
+-- the same drive with a DataStore of another size
+abbrev pub stored_config : Config → ℕ → Config
+stored_config config datastore = record config { datastore = datastore }
+
+-- how large its byte tables are, and in how many sectors they stand
+abbrev pub sizes_in : Config → TableSizes
+sizes_in config = record { mbr_sectors = config.mbr_sectors; datastore = config.datastore }
+
+abbrev pub table_sectors : Config → ℕ
+table_sectors config = sectors_of (sizes_in config)

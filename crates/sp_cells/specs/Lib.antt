@@ -3,6 +3,7 @@ pub mod ColumnNames
 pub mod Numbers
 pub mod Authorities
 pub mod Limits
+pub mod ByteTables
 pub mod Config
 pub mod Flat
 pub mod Expressions

@@ -5,6 +5,13 @@ use Rattle.std.specs.Prelude.{ℕ}
 abbrev pub most_mbr_sectors : ℕ
 most_mbr_sectors = 262144
 
+-- the bytes of DataStore, and those that it has where none is told (this drive)
+abbrev pub most_datastore_bytes : ℕ
+most_datastore_bytes = 16777216
+
+abbrev pub new_datastore_bytes : ℕ
+new_datastore_bytes = 4096
+
 -- the bytes of a PIN (Core 2.01, section 5.3, table C_PIN)
 abbrev pub most_pin_bytes : ℕ
 most_pin_bytes = 32
@@ -26,6 +33,10 @@ new_try_limit = 5
 
 abbrev pub no_try_limit : ℕ
 no_try_limit = 0
+
+-- the one way in which this drive removes data: cryptographic erase (Opal SSC 2.02, data removal mechanisms)
+abbrev pub cryptographic_erase : ℕ
+cryptographic_erase = 2
 
 -- the life cycle states of an SP: Manufactured-Inactive and Manufactured (Opal SSC 2.01)
 abbrev pub manufactured_inactive : ℕ

@@ -42,6 +42,9 @@ tper_info_table = 0x0201
 abbrev pub key_table : ℕ
 key_table = 0x0806
 
+abbrev pub data_removal_table : ℕ
+data_removal_table = 0x1101
+
 -- the column of this number
 abbrev pub col : ℕ → Column
 col n = record { 0 = n }
@@ -152,6 +155,17 @@ mbr_table = uid 0x0000080400000000
 abbrev pub mbr_table_row : Uid
 mbr_table_row = uid 0x0000000100000804
 
+-- the bytes that a host keeps on the drive: the byte table DataStore, with its row in the Table table
+abbrev pub datastore_table : Uid
+datastore_table = uid 0x0000100100000000
+
+abbrev pub datastore_table_row : Uid
+datastore_table_row = uid 0x0000000100001001
+
+-- how the drive removes data: the one row of the DataRemovalMechanism table
+abbrev pub data_removal : Uid
+data_removal = uid 0x0000110100000001
+
 -- an ACE, by its number
 abbrev pub ace_base : ℕ
 ace_base = 0x0000000800000000
@@ -169,8 +183,8 @@ ace_admins = ace_uid 2
 abbrev pub ace_anybody_get_common_name : Uid
 ace_anybody_get_common_name = ace_uid 3
 
--- the Admin SP: who may read and set SID's PIN, read the MSID and PSID's row, change the SPs, and let a command reset
--- the drive
+-- the Admin SP: who may read and set SID's PIN, read the MSID and PSID's row, change the SPs, let a command reset the
+-- drive, and choose how it removes data
 abbrev pub ace_c_pin_sid_get_nopin : Uid
 ace_c_pin_sid_get_nopin = ace_uid 0x8c02
 
@@ -191,6 +205,9 @@ ace_sp_sid = ace_uid 0x30002
 
 abbrev pub ace_tper_info_set_programmatic_reset_enable : Uid
 ace_tper_info_set_programmatic_reset_enable = ace_uid 0x30003
+
+abbrev pub ace_data_removal_set_active : Uid
+ace_data_removal_set_active = ace_uid 0x50001
 
 -- the Locking SP: who may set an ACE's expression, and enable an authority
 abbrev pub ace_ace_set_boolean_expression : Uid
@@ -256,6 +273,13 @@ ace_mbr_control_admins_set = ace_uid 0x3f800
 
 abbrev pub ace_mbr_control_set_done_to_dor : Uid
 ace_mbr_control_set_done_to_dor = ace_uid 0x3f801
+
+-- who may read the bytes of DataStore, and write them
+abbrev pub ace_datastore_get_all : Uid
+ace_datastore_get_all = ace_uid 0x3fc00
+
+abbrev pub ace_datastore_set_all : Uid
+ace_datastore_set_all = ace_uid 0x3fc01
 
 -- the methods
 abbrev pub get : Uid

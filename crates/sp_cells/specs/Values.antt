@@ -5,11 +5,12 @@ use Rattle.sp_cells.specs.declared.names.Uid.{Uid as UidType}
 use Rattle.sp_cells.specs.declared.names.Column.{Column}
 use Rattle.sp_cells.specs.declared.cells.Cell.{Cell}
 use Rattle.sp_cells.specs.declared.cells.Cell.TheVariants.{Number, Bytes, Uid, Numbers, Expr, Columns}
-use Rattle.sp_cells.specs.Limits.{most_pin_bytes}
-use Rattle.sp_cells.specs.Names.{table_of, ace_table, authority_table, c_pin_table, sp_table, locking_table, mbr_control_table, tper_info_table}
+use Rattle.sp_cells.specs.Limits.{most_pin_bytes, cryptographic_erase}
+use Rattle.sp_cells.specs.Names.{table_of, ace_table, authority_table, c_pin_table, sp_table, locking_table, mbr_control_table, tper_info_table, data_removal_table}
 use Rattle.sp_cells.specs.ColumnNames.{uid_column, name_column, common_name_column, life_cycle_state_column, programmatic_reset_enable_column, pin_column, char_set_column, try_limit_column, tries_column, persistence_column}
 use Rattle.sp_cells.specs.ColumnNames.{is_class_column, class_column, enabled_column, operation_column, credential_column, boolean_expr_column, columns_column}
 use Rattle.sp_cells.specs.ColumnNames.{range_start_column, range_length_column, read_lock_enabled_column, write_lock_enabled_column, read_locked_column, write_locked_column, lock_on_reset_column, mbr_enable_column, mbr_done_column, mbr_done_on_reset_column}
+use Rattle.sp_cells.specs.ColumnNames.{active_data_removal_mechanism_column}
 use Rattle.sp_cells.specs.declared.values.ColumnType.{ColumnType}
 use Rattle.sp_cells.specs.declared.values.ColumnType.TheVariants as types
 
@@ -20,6 +21,7 @@ is_of_type types.Secret (Bytes b) = nat_le (length b) most_pin_bytes
 is_of_type types.Object (Uid u) = true
 is_of_type types.Number (Number n) = true
 is_of_type types.Flag (Number n) = nat_le n 1
+is_of_type types.Mechanism (Number n) = n == cryptographic_erase
 is_of_type types.Resets (Numbers r) = true
 is_of_type types.Expression (Expr e) = true
 is_of_type types.Columns (Columns c) = true
@@ -105,6 +107,13 @@ tper_info_types =
     ∷ (programmatic_reset_enable_column, types.Flag)
     ∷ []
 
+-- DataRemovalMechanism (Opal SSC 2.02)
+abbrev pub data_removal_types : List (Column × ColumnType)
+data_removal_types =
+    (uid_column, types.Object)
+    ∷ (active_data_removal_mechanism_column, types.Mechanism)
+    ∷ []
+
 -- the columns of a table, by the upper four bytes of its rows' names
 abbrev pub table_types : ℕ → List (Column × ColumnType)
 table_types table =
@@ -114,7 +123,8 @@ table_types table =
     if table == sp_table then sp_types else
     if table == locking_table then locking_types else
     if table == mbr_control_table then mbr_control_types else
-    if table == tper_info_table then tper_info_types else []
+    if table == tper_info_table then tper_info_types else
+    if table == data_removal_table then data_removal_types else []
 
 abbrev pub column_type : UidType → Column → Option ColumnType
 column_type object column = type_at (table_types (table_of object)) column

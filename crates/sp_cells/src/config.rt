@@ -2,10 +2,14 @@
 
 ghost use Rattle.std.specs.Prelude.{◌≡◌, ◌≤◌, ◌<◌, ◌^◌, List, length, IfOk, SomeIff};
 ghost use Rattle.std.specs.List.{list_all};
-ghost use Rattle.sp_cells.specs.Config.{Config, IsWithinLimits, IsAtaText, AreNames, IsLabel, is_printable, new_serial, new_model, new_psid, config_in, base_config, field_config, named_config, labelled_config};
-ghost use Rattle.sp_cells.specs.Limits.{most_pin_bytes, most_serial_bytes, most_model_bytes};
+ghost use Rattle.sp_cells.specs.Config.{Config, IsWithinLimits, IsAtaText, AreNames, IsLabel, is_printable, new_serial, new_model, new_psid, new_datastore, config_in, base_config, field_config, named_config, labelled_config, stored_config, sizes_in};
+ghost use Rattle.sp_cells.specs.Limits.{most_mbr_sectors, most_datastore_bytes, most_pin_bytes, most_serial_bytes, most_model_bytes};
 
-use crate::limits::{MOST_MBR_SECTORS, MOST_MODEL_BYTES, MOST_PIN_BYTES, MOST_SERIAL_BYTES};
+use crate::byte_tables::TableSizes;
+use crate::limits::{
+    MOST_DATASTORE_BYTES, MOST_MBR_SECTORS, MOST_MODEL_BYTES, MOST_PIN_BYTES, MOST_SERIAL_BYTES,
+    NEW_DATASTORE_BYTES,
+};
 use arrayvec::ArrayVec;
 use basics::{ADDRESS_LIMIT, Profile};
 use std::alloc::AllocError;
@@ -30,10 +34,13 @@ pub struct DriveConfig {
     serial: ArrayVec<u8, MOST_SERIAL_BYTES>,
     model: ArrayVec<u8, MOST_MODEL_BYTES>,
     psid: ArrayVec<u8, MOST_PIN_BYTES>,
+    datastore: u64,
 }
 
 impl Model for DriveConfig {
+    ghost use Rattle.std.specs.Prelude.{◌≤◌};
     ghost use Rattle.sp_cells.specs.Config.{Config, IsWithinLimits, AreNames, IsLabel};
+    ghost use Rattle.sp_cells.specs.Limits.{most_datastore_bytes};
 
     ghost Value = { Config };
 
@@ -45,10 +52,12 @@ impl Model for DriveConfig {
       serial = c.serial.items;
       model = c.model.items;
       psid = c.psid.items;
+      datastore = c.datastore;
     } };
 
     ghost invariant = { λ c. IsWithinLimits c.sectors c.mbr_sectors c.msid.items
-        × AreNames c.serial.items c.model.items × IsLabel c.psid.items };
+        × AreNames c.serial.items c.model.items × IsLabel c.psid.items
+        × (c.datastore ≤ most_datastore_bytes) };
 }
 
 impl DriveConfig {
@@ -96,6 +105,7 @@ impl DriveConfig {
             serial: kept(&NEW_SERIAL),
             model: kept(&NEW_MODEL),
             psid: kept(&NEW_PSID),
+            datastore: new_datastore_of(profile),
         })
     }
 
@@ -130,6 +140,18 @@ impl DriveConfig {
             psid: kept(psid),
             ..self
         })
+    }
+
+    /// The same drive with a DataStore of so many bytes, up to 16,777,216; None exactly where they are more. Only
+    /// `Field` has one.
+    pub fn with_datastore(self, datastore: u64) -> Option<DriveConfig>
+        ensures { SomeIff result (datastore ≤ most_datastore_bytes)
+            (stored_config self datastore) }
+    {
+        if datastore > MOST_DATASTORE_BYTES {
+            return None;
+        }
+        Some(DriveConfig { datastore, ..self })
     }
 
     /// The drive's sectors.
@@ -187,6 +209,26 @@ impl DriveConfig {
         self.psid.as_slice()
     }
 
+    /// The bytes of DataStore.
+    pub fn datastore(&self) -> u64
+        ensures value { result ≡ self.now.datastore }
+        ensures limits { self.now.datastore ≤ most_datastore_bytes }
+    {
+        self.datastore
+    }
+
+    /// How large the byte tables are.
+    pub fn table_sizes(&self) -> TableSizes
+        ensures value { result ≡ sizes_in self.now }
+        ensures shadow { result.mbr_sectors ≤ most_mbr_sectors }
+        ensures few { result.datastore ≤ most_datastore_bytes }
+    {
+        TableSizes {
+            mbr_sectors: self.mbr_sectors,
+            datastore: self.datastore,
+        }
+    }
+
     /// The same configuration once more. It takes no memory of its own.
     pub fn copy(&self) -> Result<DriveConfig, AllocError>
         ensures { IfOk result (λ c. c ≡ self.now) }
@@ -203,7 +245,19 @@ impl DriveConfig {
             serial,
             model,
             psid,
+            datastore: self.datastore,
         })
+    }
+}
+
+/// The bytes of DataStore of a drive that is told none.
+pub fn new_datastore_of(profile: Profile) -> u64
+    ensures value { result ≡ new_datastore profile }
+    ensures limits { result ≤ most_datastore_bytes }
+{
+    match profile {
+        Profile::Base => 0,
+        Profile::Field => NEW_DATASTORE_BYTES,
     }
 }
 

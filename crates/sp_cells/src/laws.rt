@@ -2,14 +2,14 @@
 
 ghost use Rattle.std.specs.Prelude.{◌≡◌, ◌^◌};
 ghost use Rattle.basics.specs.Addresses.{address_limit};
-ghost use Rattle.sp_cells.specs.Names.{none, this_sp, admin_sp, locking_sp, anybody, sid, admins_class, users_class, c_pin_sid, c_pin_msid, psid, c_pin_psid, locking_info, global_key, global_range, mbr_control, mbr_table, mbr_table_row, get, set, authenticate, revert, activate, gen_key, revert_sp, session_manager, properties, start_session, sync_session, tper_info};
-ghost use Rattle.sp_cells.specs.Names.{table_table, ace_table, authority_table, c_pin_table, sp_table, locking_info_table, key_table, locking_table, mbr_control_table, tper_info_table};
-ghost use Rattle.sp_cells.specs.Names.{ace_anybody, ace_admins, ace_anybody_get_common_name, ace_c_pin_sid_get_nopin, ace_c_pin_sid_set_pin, ace_c_pin_msid_get_pin, ace_c_pin_get_psid_nopin, ace_sp_psid, ace_sp_sid, ace_tper_info_set_programmatic_reset_enable, ace_ace_set_boolean_expression, ace_authority_set_enabled, ace_c_pin_admins_get_all_nopin, ace_c_pin_admins_set_pin, ace_locking_get_all, ace_locking_global_range_admins_set, ace_locking_admins_set, ace_mbr_control_admins_set, ace_mbr_control_set_done_to_dor};
+ghost use Rattle.sp_cells.specs.Names.{none, this_sp, admin_sp, locking_sp, anybody, sid, admins_class, users_class, c_pin_sid, c_pin_msid, psid, c_pin_psid, locking_info, global_key, global_range, mbr_control, mbr_table, mbr_table_row, datastore_table, datastore_table_row, data_removal, get, set, authenticate, revert, activate, gen_key, revert_sp, session_manager, properties, start_session, sync_session, tper_info};
+ghost use Rattle.sp_cells.specs.Names.{table_table, ace_table, authority_table, c_pin_table, sp_table, locking_info_table, key_table, data_removal_table, locking_table, mbr_control_table, tper_info_table};
+ghost use Rattle.sp_cells.specs.Names.{ace_anybody, ace_admins, ace_anybody_get_common_name, ace_c_pin_sid_get_nopin, ace_c_pin_sid_set_pin, ace_c_pin_msid_get_pin, ace_c_pin_get_psid_nopin, ace_sp_psid, ace_sp_sid, ace_tper_info_set_programmatic_reset_enable, ace_ace_set_boolean_expression, ace_authority_set_enabled, ace_c_pin_admins_get_all_nopin, ace_c_pin_admins_set_pin, ace_locking_get_all, ace_locking_global_range_admins_set, ace_locking_admins_set, ace_mbr_control_admins_set, ace_mbr_control_set_done_to_dor, ace_datastore_get_all, ace_datastore_set_all, ace_data_removal_set_active};
 ghost use Rattle.sp_cells.specs.ColumnNames.{uid_column, name_column, common_name_column, life_cycle_state_column, programmatic_reset_enable_column, pin_column, char_set_column, try_limit_column, tries_column, persistence_column};
 ghost use Rattle.sp_cells.specs.ColumnNames.{is_class_column, class_column, enabled_column, operation_column, credential_column, boolean_expr_column, columns_column};
 ghost use Rattle.sp_cells.specs.ColumnNames.{range_start_column, range_length_column, read_lock_enabled_column, write_lock_enabled_column, read_locked_column, write_locked_column, lock_on_reset_column, mbr_enable_column, mbr_done_column, mbr_done_on_reset_column};
-ghost use Rattle.sp_cells.specs.ColumnNames.{active_key_column, version_column, encrypt_support_column, max_ranges_column, max_re_encryptions_column, keys_available_cfg_column, alignment_required_column, logical_block_size_column, alignment_granularity_column, lowest_aligned_lba_column, kind_column, rows_column, mandatory_write_granularity_column, recommended_access_granularity_column};
-ghost use Rattle.sp_cells.specs.Limits.{most_mbr_sectors, most_pin_bytes, most_serial_bytes, most_model_bytes, most_elements, new_try_limit, no_try_limit, manufactured_inactive, manufactured};
+ghost use Rattle.sp_cells.specs.ColumnNames.{active_key_column, version_column, encrypt_support_column, max_ranges_column, max_re_encryptions_column, keys_available_cfg_column, alignment_required_column, logical_block_size_column, alignment_granularity_column, lowest_aligned_lba_column, kind_column, rows_column, mandatory_write_granularity_column, recommended_access_granularity_column, active_data_removal_mechanism_column};
+ghost use Rattle.sp_cells.specs.Limits.{most_mbr_sectors, most_datastore_bytes, new_datastore_bytes, cryptographic_erase, most_pin_bytes, most_serial_bytes, most_model_bytes, most_elements, new_try_limit, no_try_limit, manufactured_inactive, manufactured};
 ghost use Rattle.sp_cells.specs.declared.names.TheConstants.{RANGES, USERS, ADMINS};
 ghost use Rattle.sp_cells.specs.declared.names.TheConstants.Uid as uids;
 ghost use Rattle.sp_cells.specs.declared.names.TheConstants.Column as columns;
@@ -31,7 +31,13 @@ pub fn laws_of_names()
     ensures tper_info { (uids.TPER_INFO ≡ tper_info) }
     ensures locking_info { (uids.LOCKING_INFO ≡ locking_info) }
     ensures keys { (uids.GLOBAL_KEY ≡ global_key) }
-    ensures table_rows { (uids.MBR_TABLE_ROW ≡ mbr_table_row) }
+    ensures table_rows { (uids.MBR_TABLE_ROW ≡ mbr_table_row)
+        × (uids.DATASTORE_TABLE_ROW ≡ datastore_table_row) }
+    ensures datastore { (uids.DATASTORE_TABLE ≡ datastore_table)
+        × (uids.ACE_DATASTORE_GET_ALL ≡ ace_datastore_get_all)
+        × (uids.ACE_DATASTORE_SET_ALL ≡ ace_datastore_set_all) }
+    ensures data_removal { (uids.DATA_REMOVAL ≡ data_removal)
+        × (uids.ACE_DATA_REMOVAL_SET_ACTIVE ≡ ace_data_removal_set_active) }
     ensures ranges { (uids.GLOBAL_RANGE ≡ global_range) }
     ensures mbr { (uids.MBR_CONTROL ≡ mbr_control) × (uids.MBR_TABLE ≡ mbr_table) }
     ensures methods { (uids.GET ≡ get) × (uids.SET ≡ set) × (uids.AUTHENTICATE ≡ authenticate)
@@ -62,7 +68,8 @@ pub fn laws_of_names()
         × (tables.C_PIN ≡ c_pin_table) × (tables.SP ≡ sp_table)
         × (tables.LOCKING_INFO ≡ locking_info_table)
         × (tables.LOCKING ≡ locking_table) × (tables.MBR_CONTROL ≡ mbr_control_table)
-        × (tables.TPER_INFO ≡ tper_info_table) × (tables.K_AES_256 ≡ key_table) }
+        × (tables.TPER_INFO ≡ tper_info_table) × (tables.K_AES_256 ≡ key_table)
+        × (tables.DATA_REMOVAL ≡ data_removal_table) }
     ensures every_row { (columns.UID ≡ uid_column) × (columns.NAME ≡ name_column)
         × (columns.COMMON_NAME ≡ common_name_column) }
     ensures sp_row { (columns.LIFE_CYCLE_STATE ≡ life_cycle_state_column) }
@@ -95,6 +102,8 @@ pub fn laws_of_names()
     ensures table_row { (columns.KIND ≡ kind_column) × (columns.ROWS ≡ rows_column)
         × (columns.MANDATORY_WRITE_GRANULARITY ≡ mandatory_write_granularity_column)
         × (columns.RECOMMENDED_ACCESS_GRANULARITY ≡ recommended_access_granularity_column) }
+    ensures data_removal_row { (columns.ACTIVE_DATA_REMOVAL_MECHANISM
+        ≡ active_data_removal_mechanism_column) }
     ensures mbr_control_row { (columns.MBR_ENABLE ≡ mbr_enable_column)
         × (columns.MBR_DONE ≡ mbr_done_column)
         × (columns.MBR_DONE_ON_RESET ≡ mbr_done_on_reset_column) }
@@ -104,6 +113,12 @@ pub fn laws_of_names()
 pub fn laws_of_limits()
     ensures sectors { address_limit ≡ 2 ^ 48 }
     ensures shadow { (limits.MOST_MBR_SECTORS ≡ most_mbr_sectors) × (most_mbr_sectors ≡ 262144) }
+    ensures datastore { (limits.MOST_DATASTORE_BYTES ≡ most_datastore_bytes)
+        × (most_datastore_bytes ≡ 16777216) }
+    ensures new_datastore { (limits.NEW_DATASTORE_BYTES ≡ new_datastore_bytes)
+        × (new_datastore_bytes ≡ 4096) }
+    ensures removal { (limits.CRYPTOGRAPHIC_ERASE ≡ cryptographic_erase)
+        × (cryptographic_erase ≡ 2) }
     ensures pin { (limits.MOST_PIN_BYTES ≡ most_pin_bytes) × (most_pin_bytes ≡ 32) }
     ensures serial { (limits.MOST_SERIAL_BYTES ≡ most_serial_bytes) × (most_serial_bytes ≡ 20) }
     ensures model { (limits.MOST_MODEL_BYTES ≡ most_model_bytes) × (most_model_bytes ≡ 40) }

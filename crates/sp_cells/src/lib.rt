@@ -3,6 +3,7 @@
 #![tactic(auto)]
 
 pub mod authorities;
+pub mod byte_tables;
 pub mod cells;
 pub mod config;
 pub mod error;
@@ -15,6 +16,7 @@ pub mod values;
 
 pub use authorities::is_locking_authority;
 pub use basics::Bytes;
+pub use byte_tables::{ByteTable, TableSizes};
 pub use cells::{Cell, Columns, Element, Expr, ResetTypes};
 pub use config::DriveConfig;
 pub use error::SetError;

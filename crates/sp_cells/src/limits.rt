@@ -3,6 +3,12 @@
 /// The most sectors of a shadow MBR.
 pub const MOST_MBR_SECTORS: u64 = 262_144;
 
+/// The most bytes of DataStore.
+pub const MOST_DATASTORE_BYTES: u64 = 16_777_216;
+
+/// The bytes of DataStore where none is told.
+pub const NEW_DATASTORE_BYTES: u64 = 4096;
+
 /// The most bytes of a PIN.
 pub const MOST_PIN_BYTES: usize = 32;
 
@@ -20,6 +26,9 @@ pub const NEW_TRY_LIMIT: u64 = 5;
 
 /// The limit of a PIN row that allows any number of wrong attempts.
 pub const NO_TRY_LIMIT: u64 = 0;
+
+/// The one way in which this drive removes data: cryptographic erase.
+pub const CRYPTOGRAPHIC_ERASE: u64 = 2;
 
 /// The life cycle state of an SP that is not in use yet.
 pub const MANUFACTURED_INACTIVE: u64 = 8;

@@ -1,10 +1,13 @@
 //! How rows are read.
 
-ghost use Rattle.std.specs.Prelude.{◌≡◌, ℕ, option_copied};
+ghost use Rattle.std.specs.Prelude.{◌≡◌, ◌≤◌, ℕ, option_copied};
 ghost use Rattle.sp_cells.specs.Flat.{LookUp};
+ghost use Rattle.sp_cells.specs.Limits.{most_mbr_sectors, most_datastore_bytes};
+ghost use Rattle.sp_cells.specs.declared.byte_tables.TableSizes.{TableSizes};
 ghost use Rattle.sp_cells.specs.Ranges.{AreApart, number};
 ghost use Rattle.basics.specs.declared.profile.Profile.{Profile};
 
+use crate::byte_tables::TableSizes;
 use crate::cells::Cell;
 use crate::names::{Column, Sp, Uid};
 use basics::Profile;
@@ -14,6 +17,8 @@ pub trait Rows {
     ghost look_up: { Self → LookUp };
 
     ghost shadow_sectors: { Self → ℕ };
+
+    ghost sizes_of: { Self → TableSizes };
 
     /// The cell at a place, where there is one. No two numbered ranges of the rows have a sector in common.
     fn cell(&self, sp: Sp, object: Uid, column: Column) -> Option<&Cell>
@@ -25,6 +30,12 @@ pub trait Rows {
     /// The sectors of the drive that can be shadowed.
     fn mbr_sectors(&self) -> u64
         ensures { result ≡ shadow_sectors self.now };
+
+    /// How large the byte tables of the drive are.
+    fn table_sizes(&self) -> TableSizes
+        ensures value { result ≡ sizes_of self.now }
+        ensures shadow { result.mbr_sectors ≤ most_mbr_sectors }
+        ensures few { result.datastore ≤ most_datastore_bytes };
 
     /// The profile of the drive.
     fn profile(&self) -> Profile

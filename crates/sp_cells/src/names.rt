@@ -57,6 +57,8 @@ pub mod tables {
     pub const TPER_INFO: u64 = 0x0201;
 
     pub const K_AES_256: u64 = 0x0806;
+
+    pub const DATA_REMOVAL: u64 = 0x1101;
 }
 
 /// A security provider of the drive (Opal SSC 2.01, sections 4.2 and 4.3).
@@ -129,6 +131,15 @@ impl Uid {
     /// The byte table of the shadow MBR.
     pub const MBR_TABLE: Uid = Uid(0x0000_0804_0000_0000);
 
+    /// The row of the Table table that tells of the byte table DataStore.
+    pub const DATASTORE_TABLE_ROW: Uid = Uid(0x0000_0001_0000_1001);
+
+    /// The byte table DataStore, in which a host keeps what it likes.
+    pub const DATASTORE_TABLE: Uid = Uid(0x0000_1001_0000_0000);
+
+    /// The one row of the DataRemovalMechanism table.
+    pub const DATA_REMOVAL: Uid = Uid(0x0000_1101_0000_0001);
+
     /// The ACE that everyone fulfils.
     pub const ACE_ANYBODY: Uid = Uid(0x0000_0008_0000_0001);
 
@@ -159,6 +170,9 @@ impl Uid {
     /// Who may let a command reset the drive.
     pub const ACE_TPER_INFO_SET_PROGRAMMATIC_RESET_ENABLE: Uid = Uid(0x0000_0008_0003_0003);
 
+    /// Who may choose how the drive removes data (ACE_DataRemovalMechanism_Set_ActiveDataRemovalMechanism).
+    pub const ACE_DATA_REMOVAL_SET_ACTIVE: Uid = Uid(0x0000_0008_0005_0001);
+
     /// Who may set an ACE's expression.
     pub const ACE_ACE_SET_BOOLEAN_EXPRESSION: Uid = Uid(0x0000_0008_0003_8001);
 
@@ -185,6 +199,12 @@ impl Uid {
 
     /// Who may lift the shadow MBR.
     pub const ACE_MBR_CONTROL_SET_DONE_TO_DOR: Uid = Uid(0x0000_0008_0003_f801);
+
+    /// Who may read the bytes of DataStore (ACE_DataStore_Get_All).
+    pub const ACE_DATASTORE_GET_ALL: Uid = Uid(0x0000_0008_0003_fc00);
+
+    /// Who may write the bytes of DataStore (ACE_DataStore_Set_All).
+    pub const ACE_DATASTORE_SET_ALL: Uid = Uid(0x0000_0008_0003_fc01);
 
     /// The method Get.
     pub const GET: Uid = Uid(0x0000_0006_0000_0016);
@@ -546,6 +566,9 @@ impl Column {
 
     /// The bytes by whose multiples a byte table is best read and written.
     pub const RECOMMENDED_ACCESS_GRANULARITY: Column = Column(14);
+
+    /// How the drive removes data.
+    pub const ACTIVE_DATA_REMOVAL_MECHANISM: Column = Column(1);
 
     /// Whether the shadow MBR is in use.
     pub const MBR_ENABLE: Column = Column(1);

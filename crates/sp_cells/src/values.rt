@@ -1,10 +1,10 @@
 //! Which value each column takes.
 
 ghost use Rattle.std.specs.Prelude.{◌≡◌, ◌<◌, ◌≤◌};
-ghost use Rattle.sp_cells.specs.Values.{is_of_type, type_at, sp_types, ace_types, authority_types, c_pin_types, locking_types, mbr_control_types, tper_info_types, table_types, column_type as column_type_of, is_taken, takes_each};
+ghost use Rattle.sp_cells.specs.Values.{is_of_type, type_at, sp_types, ace_types, authority_types, c_pin_types, locking_types, mbr_control_types, tper_info_types, data_removal_types, table_types, column_type as column_type_of, is_taken, takes_each};
 
 use crate::cells::Cell;
-use crate::limits::MOST_PIN_BYTES;
+use crate::limits::{CRYPTOGRAPHIC_ERASE, MOST_PIN_BYTES};
 use crate::names::{Column, Uid, tables};
 
 /// What a column takes.
@@ -23,6 +23,9 @@ pub enum ColumnType {
 
     /// The number 0 or 1.
     Flag,
+
+    /// The number of a way to remove data that the drive has.
+    Mechanism,
 
     /// A set of resets.
     Resets,
@@ -47,6 +50,10 @@ impl ColumnType {
             ColumnType::Number => matches!(cell, Cell::Number(_)),
             ColumnType::Flag => match cell {
                 Cell::Number(number) => *number <= 1,
+                _ => false,
+            },
+            ColumnType::Mechanism => match cell {
+                Cell::Number(number) => *number == CRYPTOGRAPHIC_ERASE,
                 _ => false,
             },
             ColumnType::Resets => matches!(cell, Cell::Numbers(_)),
@@ -141,6 +148,16 @@ fn tper_info_type(column: Column) -> Option<ColumnType>
     }
 }
 
+fn data_removal_type(column: Column) -> Option<ColumnType>
+    ensures { result ≡ type_at data_removal_types column }
+{
+    match column {
+        Column::UID => Some(ColumnType::Object),
+        Column::ACTIVE_DATA_REMOVAL_MECHANISM => Some(ColumnType::Mechanism),
+        _ => None,
+    }
+}
+
 /// The type of a column of an object, by the object's table.
 fn column_type(object: Uid, column: Column) -> Option<ColumnType>
     ensures { result ≡ column_type_of object column }
@@ -153,6 +170,7 @@ fn column_type(object: Uid, column: Column) -> Option<ColumnType>
         tables::LOCKING => locking_type(column),
         tables::MBR_CONTROL => mbr_control_type(column),
         tables::TPER_INFO => tper_info_type(column),
+        tables::DATA_REMOVAL => data_removal_type(column),
         _ => None,
     }
 }

@@ -12,10 +12,11 @@ use Rattle.sp_rows.specs.declared.rows.AceRow.{AceRow}
 use Rattle.sp_rows.specs.declared.rows.RangeKeyRow.{RangeKeyRow}
 use Rattle.sp_rows.specs.declared.rows.LockingInfoRow.{LockingInfoRow}
 use Rattle.sp_rows.specs.declared.rows.TableRow.{TableRow}
+use Rattle.sp_rows.specs.declared.rows.DataRemovalRow.{DataRemovalRow}
 use Rattle.sp_cells.specs.ColumnNames.{uid_column, name_column, common_name_column, life_cycle_state_column, programmatic_reset_enable_column, pin_column, char_set_column, try_limit_column, tries_column, persistence_column}
 use Rattle.sp_cells.specs.ColumnNames.{is_class_column, class_column, enabled_column, operation_column, credential_column, boolean_expr_column, columns_column}
 use Rattle.sp_cells.specs.ColumnNames.{range_start_column, range_length_column, read_lock_enabled_column, write_lock_enabled_column, read_locked_column, write_locked_column, lock_on_reset_column, mbr_enable_column, mbr_done_column, mbr_done_on_reset_column}
-use Rattle.sp_cells.specs.ColumnNames.{active_key_column, version_column, encrypt_support_column, max_ranges_column, max_re_encryptions_column, keys_available_cfg_column, alignment_required_column, logical_block_size_column, alignment_granularity_column, lowest_aligned_lba_column, kind_column, rows_column, mandatory_write_granularity_column, recommended_access_granularity_column}
+use Rattle.sp_cells.specs.ColumnNames.{active_key_column, version_column, encrypt_support_column, max_ranges_column, max_re_encryptions_column, keys_available_cfg_column, alignment_required_column, logical_block_size_column, alignment_granularity_column, lowest_aligned_lba_column, kind_column, rows_column, mandatory_write_granularity_column, recommended_access_granularity_column, active_data_removal_mechanism_column}
 
 -- SP (Core 2.01, section 5.4, table SP)
 abbrev pub sp_columns : SpRow → List (Column × Cell)
@@ -122,4 +123,11 @@ table_columns r =
     ∷ (rows_column, r.rows)
     ∷ (mandatory_write_granularity_column, r.mandatory_write_granularity)
     ∷ (recommended_access_granularity_column, r.recommended_access_granularity)
+    ∷ []
+
+-- DataRemovalMechanism (Opal SSC 2.02)
+abbrev pub data_removal_columns : DataRemovalRow → List (Column × Cell)
+data_removal_columns r =
+    (uid_column, r.uid)
+    ∷ (active_data_removal_mechanism_column, r.active)
     ∷ []

@@ -1,5 +1,5 @@
 -- The cells of a new drive (Opal SSC 2.01, sections 4.2 and 4.3).
-use Rattle.std.specs.Prelude.{◌≡◌, ◌≤◌, ◌+◌, ◌*◌, ◌==◌, ℕ, true, false, List, [], ◌∷◌, ◌++◌, zero, suc, codes, if◌then◌else◌}
+use Rattle.std.specs.Prelude.{◌≡◌, ◌≤◌, ◌+◌, ◌==◌, ℕ, true, false, List, [], ◌∷◌, ◌++◌, zero, suc, codes, if◌then◌else◌}
 use Rattle.std.specs.Fmt.{decimal}
 use Rattle.std.specs.List.{flat_map}
 use Rattle.basics.specs.declared.profile.Profile.{Profile}
@@ -11,13 +11,17 @@ use Rattle.sp_cells.specs.declared.cells.Cell.{Cell}
 use Rattle.sp_cells.specs.declared.cells.Cell.TheVariants.{Number, Bytes, Uid as Object, Numbers, Expr, Columns}
 use Rattle.sp_cells.specs.declared.cells.Element.{Element}
 use Rattle.sp_cells.specs.declared.cells.Element.TheVariants.{Authority, Or}
-use Rattle.sp_cells.specs.Limits.{new_try_limit, no_try_limit, manufactured, manufactured_inactive}
-use Rattle.sp_cells.specs.Names.{uid, none, admin_sp, locking_sp, anybody, sid, admins_class, admin_base, admin_uid, users_class, user_base, user_uid, c_pin_sid, c_pin_msid, admin_pin_base, admin_pin_uid, user_pin_base, user_pin_uid, global_range, range_base, range_uid, mbr_control, tper_info, psid as psid_authority, c_pin_psid, locking_info, key_uid, mbr_table_row}
-use Rattle.sp_cells.specs.Names.{ace_anybody, ace_admins, ace_anybody_get_common_name, ace_c_pin_sid_get_nopin, ace_c_pin_sid_set_pin, ace_c_pin_msid_get_pin, ace_c_pin_get_psid_nopin, ace_sp_psid, ace_sp_sid, ace_tper_info_set_programmatic_reset_enable, ace_ace_set_boolean_expression, ace_authority_set_enabled, ace_c_pin_admins_get_all_nopin, ace_c_pin_admins_set_pin, user_ace_base, ace_c_pin_user_set_pin, ace_locking_get_all, range_get_ace_base, ace_range_get, gen_key_ace_base, ace_key_gen_key, read_locked_ace_base, ace_range_set_read_locked, write_locked_ace_base, ace_range_set_write_locked, ace_locking_global_range_admins_set, ace_locking_admins_set, ace_mbr_control_admins_set, ace_mbr_control_set_done_to_dor}
+use Rattle.sp_cells.specs.Limits.{new_try_limit, no_try_limit, cryptographic_erase, manufactured, manufactured_inactive}
+use Rattle.sp_cells.specs.Names.{uid, none, admin_sp, locking_sp, anybody, sid, admins_class, admin_base, admin_uid, users_class, user_base, user_uid, c_pin_sid, c_pin_msid, admin_pin_base, admin_pin_uid, user_pin_base, user_pin_uid, global_range, range_base, range_uid, mbr_control, tper_info, psid as psid_authority, c_pin_psid, locking_info, key_uid, mbr_table_row, datastore_table_row, data_removal}
+use Rattle.sp_cells.specs.Names.{ace_anybody, ace_admins, ace_anybody_get_common_name, ace_c_pin_sid_get_nopin, ace_c_pin_sid_set_pin, ace_c_pin_msid_get_pin, ace_c_pin_get_psid_nopin, ace_sp_psid, ace_sp_sid, ace_tper_info_set_programmatic_reset_enable, ace_ace_set_boolean_expression, ace_authority_set_enabled, ace_c_pin_admins_get_all_nopin, ace_c_pin_admins_set_pin, user_ace_base, ace_c_pin_user_set_pin, ace_locking_get_all, range_get_ace_base, ace_range_get, gen_key_ace_base, ace_key_gen_key, read_locked_ace_base, ace_range_set_read_locked, write_locked_ace_base, ace_range_set_write_locked, ace_locking_global_range_admins_set, ace_locking_admins_set, ace_mbr_control_admins_set, ace_mbr_control_set_done_to_dor, ace_datastore_get_all, ace_datastore_set_all, ace_data_removal_set_active}
 use Rattle.sp_cells.specs.ColumnNames.{uid_column, name_column, common_name_column, life_cycle_state_column, programmatic_reset_enable_column, pin_column, char_set_column, try_limit_column, tries_column, persistence_column}
 use Rattle.sp_cells.specs.ColumnNames.{is_class_column, class_column, enabled_column, operation_column, credential_column, boolean_expr_column, columns_column}
 use Rattle.sp_cells.specs.ColumnNames.{range_start_column, range_length_column, read_lock_enabled_column, write_lock_enabled_column, read_locked_column, write_locked_column, lock_on_reset_column, mbr_enable_column, mbr_done_column, mbr_done_on_reset_column}
-use Rattle.sp_cells.specs.ColumnNames.{active_key_column, version_column, encrypt_support_column, max_ranges_column, max_re_encryptions_column, keys_available_cfg_column, alignment_required_column, logical_block_size_column, alignment_granularity_column, lowest_aligned_lba_column, kind_column, rows_column, mandatory_write_granularity_column, recommended_access_granularity_column}
+use Rattle.sp_cells.specs.ColumnNames.{active_key_column, version_column, encrypt_support_column, max_ranges_column, max_re_encryptions_column, keys_available_cfg_column, alignment_required_column, logical_block_size_column, alignment_granularity_column, lowest_aligned_lba_column, kind_column, rows_column, mandatory_write_granularity_column, recommended_access_granularity_column, active_data_removal_mechanism_column}
+use Rattle.shadow_mbr.specs.Stored.{sector_size}
+use Rattle.sp_cells.specs.declared.byte_tables.TableSizes.{TableSizes}
+use Rattle.sp_cells.specs.declared.byte_tables.ByteTable.TheVariants.{ShadowMbr, DataStore}
+use Rattle.sp_cells.specs.ByteTables.{bytes_of_table}
 use Rattle.sp_rows.specs.declared.runs.Run.{Run}
 use Rattle.sp_rows.specs.Items.{Item, row_items, rows_from}
 use Rattle.sp_rows.specs.Runs.{run_items}
@@ -119,7 +123,7 @@ new_locking_info object name =
     ∷ (max_re_encryptions_column, Number 0)
     ∷ (keys_available_cfg_column, Number 0)
     ∷ (alignment_required_column, Number 0)
-    ∷ (logical_block_size_column, Number 512)
+    ∷ (logical_block_size_column, Number sector_size)
     ∷ (alignment_granularity_column, Number 1)
     ∷ (lowest_aligned_lba_column, Number 0)
     ∷ []
@@ -134,6 +138,13 @@ new_byte_table object name size =
     ∷ (rows_column, Number size)
     ∷ (mandatory_write_granularity_column, Number 1)
     ∷ (recommended_access_granularity_column, Number 1)
+    ∷ []
+
+-- data are removed in the one way that the drive has
+abbrev pub new_data_removal : Uid → List (Column × Cell)
+new_data_removal object =
+    (uid_column, Object object)
+    ∷ (active_data_removal_mechanism_column, Number cryptographic_erase)
     ∷ []
 
 -- an ACE that one authority, or one class, fulfils
@@ -249,13 +260,20 @@ range_key n = new_range_key (key_uid n)
 unfoldable pub range_keys : List Item
 range_keys = row_items global_range (range_key 0) ++ family range_base range_key RANGES
 
--- and the drive says what it can, and how large its byte table is
+-- and the drive says what it can, and how large its byte tables are
 unfoldable pub locking_infos : List Item
 locking_infos = row_items locking_info (new_locking_info locking_info (codes "LockingInfo"))
 
-unfoldable pub byte_tables : ℕ → List Item
-byte_tables mbr_sectors =
-    row_items mbr_table_row (new_byte_table mbr_table_row (codes "MBR") (512 * mbr_sectors))
+unfoldable pub byte_tables : TableSizes → List Item
+byte_tables sizes =
+    row_items mbr_table_row
+    (new_byte_table mbr_table_row (codes "MBR") (bytes_of_table sizes ShadowMbr))
+    ++ row_items datastore_table_row
+    (new_byte_table datastore_table_row (codes "DataStore") (bytes_of_table sizes DataStore))
+
+-- and how it removes data
+unfoldable pub data_removals : List Item
+data_removals = row_items data_removal (new_data_removal data_removal)
 
 -- the shadow MBR
 unfoldable pub locking_mbr_controls : List Item
@@ -281,6 +299,10 @@ unfoldable pub label_aces : List Item
 label_aces =
     ace_row ace_c_pin_get_psid_nopin (codes "C_PIN_Get_PSID_NOPIN") anybody but_pin
     ++ ace_row ace_sp_psid (codes "SP_PSID") psid_authority []
+
+unfoldable pub removal_aces : List Item
+removal_aces = ace_row ace_data_removal_set_active (codes "DataRemovalMechanism_Set_Active") sid
+    (active_data_removal_mechanism_column ∷ [])
 
 unfoldable pub authority_aces : List Item
 authority_aces =
@@ -360,21 +382,29 @@ mbr_aces =
     ++ ace_row ace_mbr_control_set_done_to_dor (codes "MBRControl_Set_DoneToDOR") admins_class
     (mbr_done_column ∷ mbr_done_on_reset_column ∷ [])
 
+-- who may read and write the bytes of DataStore
+unfoldable pub datastore_aces : List Item
+datastore_aces =
+    ace_row ace_datastore_get_all (codes "DataStore_Get_All") admins_class []
+    ++ ace_row ace_datastore_set_all (codes "DataStore_Set_All") admins_class []
+
 -- the Admin SP of a drive with this MSID, and this PIN on its label
 abbrev pub admin_factory : Profile → (msid psid : List ℕ) → List Item
 admin_factory profile msid psid =
     admin_sps ++ ((admin_authorities ++ in_field profile label_authorities)
     ++ ((admin_pins msid ++ in_field profile (label_pins psid))
-    ++ (admin_tper_infos ++ (admin_aces ++ in_field profile label_aces))))
+    ++ (admin_tper_infos
+    ++ ((admin_aces ++ in_field profile label_aces ++ in_field profile removal_aces)
+    ++ in_field profile data_removals))))
 
 abbrev pub locking_aces : Profile → List Item
 locking_aces profile = authority_aces ++ pin_aces ++ range_aces profile ++ mbr_aces
-    ++ in_field profile gen_key_aces
+    ++ in_field profile gen_key_aces ++ in_field profile datastore_aces
 
--- the Locking SP of a drive with so many sectors of a shadow
-abbrev pub locking_factory : Profile → ℕ → List Item
-locking_factory profile mbr_sectors = locking_authorities
+-- the Locking SP of a drive with byte tables so large
+abbrev pub locking_factory : Profile → TableSizes → List Item
+locking_factory profile sizes = locking_authorities
     ++ (locking_pins ++ (locking_ranges
     ++ (locking_mbr_controls ++ (locking_aces profile
     ++ (in_field profile range_keys ++ (in_field profile locking_infos
-    ++ in_field profile (byte_tables mbr_sectors)))))))
+    ++ in_field profile (byte_tables sizes)))))))

@@ -7,14 +7,15 @@ use Rattle.sp_rows.specs.declared.halves.SpTables.{SpTables}
 use Rattle.sp_rows.specs.declared.halves.FieldTables.{FieldTables}
 use Rattle.sp_rows.specs.Items.{Item}
 use Rattle.sp_rows.specs.Runs.{run_items}
-use Rattle.sp_rows.specs.Columns.{sp_columns, authority_columns, c_pin_columns, locking_columns, mbr_control_columns, tper_info_columns, ace_columns, range_key_columns, locking_info_columns, table_columns}
+use Rattle.sp_rows.specs.Columns.{sp_columns, authority_columns, c_pin_columns, locking_columns, mbr_control_columns, tper_info_columns, ace_columns, range_key_columns, locking_info_columns, table_columns, data_removal_columns}
 
 -- those of the profile `Field`
 abbrev pub field_items : FieldTables → List Item
 field_items t =
     flat_map (run_items range_key_columns) t.range_keys.items
     ++ (flat_map (run_items locking_info_columns) t.locking_infos.items
-    ++ flat_map (run_items table_columns) t.tables.items)
+    ++ (flat_map (run_items table_columns) t.tables.items
+    ++ flat_map (run_items data_removal_columns) t.data_removals.items))
 
 -- the ACEs and those
 abbrev pub last_items : List (Run AceRow) → FieldTables → List Item

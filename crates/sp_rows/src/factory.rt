@@ -7,7 +7,8 @@ ghost use Rattle.sp_rows.specs.Items.{row_items, rows_from};
 ghost use Rattle.sp_rows.specs.Runs.{run_items};
 ghost use Rattle.sp_rows.specs.Halves.{half_items};
 ghost use Rattle.sp_rows.specs.Columns.{sp_columns, authority_columns, c_pin_columns, locking_columns, mbr_control_columns, tper_info_columns, ace_columns};
-ghost use Rattle.sp_rows.specs.Factory.{HasRows, AddsRows, in_field, ace_row, family, user_ace, read_locked_aces, write_locked_aces, admin_sps, admin_authorities, label_authorities, admin_pins, label_pins, admin_tper_infos, admin_aces, label_aces, locking_authorities, locking_pins, locking_ranges, locking_mbr_controls, authority_aces, pin_aces, range_aces, mbr_aces, locking_aces, range_keys, locking_infos, byte_tables, admin_factory, locking_factory};
+ghost use Rattle.sp_rows.specs.Factory.{HasRows, AddsRows, in_field, ace_row, family, user_ace, read_locked_aces, write_locked_aces, admin_sps, admin_authorities, label_authorities, admin_pins, label_pins, admin_tper_infos, admin_aces, label_aces, removal_aces, data_removals, locking_authorities, locking_pins, locking_ranges, locking_mbr_controls, authority_aces, pin_aces, range_aces, mbr_aces, locking_aces, range_keys, locking_infos, byte_tables, datastore_aces, admin_factory, locking_factory};
+ghost use Rattle.sp_cells.specs.Config.{sizes_in};
 ghost use Rattle.sp_cells.specs.Limits.{most_mbr_sectors};
 
 use crate::adding::{push_ace, push_group, push_member, push_one, push_pin, push_run};
@@ -16,8 +17,9 @@ use crate::families::{
     user_ace_rows, user_pin_rows, user_rows, write_locked_ace_row, write_locked_ace_rows,
 };
 use crate::field_rows::{
-    byte_tables_made, locking_infos_made, push_gen_key_aces, push_label_aces, push_label_authority,
-    push_label_pin, push_range_get_aces, range_keys_made,
+    byte_tables_made, data_removals_made, locking_infos_made, push_datastore_aces,
+    push_gen_key_aces, push_label_aces, push_label_authority, push_label_pin, push_range_get_aces,
+    push_removal_ace, range_keys_made,
 };
 use crate::new_rows::{group, mbr_control, range, sp_row, tper_info};
 use crate::{
@@ -269,12 +271,13 @@ fn push_admin_aces(alloc: Global, runs: &mut Vec<Run<AceRow>>) -> Result<(), All
 }
 
 fn admin_aces_made(alloc: Global, profile: Profile) -> Result<Vec<Run<AceRow>>, AllocError>
-    ensures { IfOk result
-        (λ runs. HasRows ace_columns runs.items (admin_aces ++ in_field profile label_aces)) }
+    ensures { IfOk result (λ runs. HasRows ace_columns runs.items
+        (admin_aces ++ in_field profile label_aces ++ in_field profile removal_aces)) }
 {
     let mut runs = Vec::new(alloc);
     push_admin_aces(alloc, &mut runs)?;
     push_label_aces(alloc, profile, &mut runs)?;
+    push_removal_ace(alloc, profile, &mut runs)?;
     Ok(runs)
 }
 
@@ -451,6 +454,7 @@ fn locking_aces_made(alloc: Global, profile: Profile) -> Result<Vec<Run<AceRow>>
     push_range_aces(alloc, profile, &mut runs)?;
     push_mbr_aces(alloc, &mut runs)?;
     push_gen_key_aces(alloc, profile, &mut runs)?;
+    push_datastore_aces(alloc, profile, &mut runs)?;
     Ok(runs)
 }
 
@@ -471,6 +475,7 @@ pub fn new_admin_sp(alloc: Global, config: &DriveConfig) -> Result<SpTables, All
             range_keys: Vec::new(alloc),
             locking_infos: Vec::new(alloc),
             tables: Vec::new(alloc),
+            data_removals: data_removals_made(alloc, config.profile())?,
         },
     })
 }
@@ -478,7 +483,7 @@ pub fn new_admin_sp(alloc: Global, config: &DriveConfig) -> Result<SpTables, All
 /// The tables of a new Locking SP.
 pub fn new_locking_sp(alloc: Global, config: &DriveConfig) -> Result<SpTables, AllocError>
     ensures { IfOk result
-        (λ t. half_items t ≡ locking_factory config.now.profile config.now.mbr_sectors) }
+        (λ t. half_items t ≡ locking_factory config.now.profile (sizes_in config.now)) }
 {
     let profile = config.profile();
     Ok(SpTables {
@@ -492,7 +497,8 @@ pub fn new_locking_sp(alloc: Global, config: &DriveConfig) -> Result<SpTables, A
         field: FieldTables {
             range_keys: range_keys_made(alloc, profile)?,
             locking_infos: locking_infos_made(alloc, profile)?,
-            tables: byte_tables_made(alloc, profile, config.mbr_sectors())?,
+            tables: byte_tables_made(alloc, profile, config.table_sizes())?,
+            data_removals: Vec::new(alloc),
         },
     })
 }

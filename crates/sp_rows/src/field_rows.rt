@@ -1,23 +1,25 @@
 //! The rows that a drive of the profile `Field` alone has.
 
-ghost use Rattle.std.specs.Prelude.{◌≡◌, ◌+◌, ◌*◌, ◌<◌, ◌≤◌, ◌^◌, [], ◌∷◌, ◌++◌, IfOk, OnOk, string_bytes, map, codes};
+ghost use Rattle.std.specs.Prelude.{◌≡◌, ◌+◌, ◌<◌, ◌≤◌, ◌^◌, [], ◌∷◌, ◌++◌, IfOk, OnOk, string_bytes, map, codes};
 ghost use Rattle.std.specs.List.{flat_map};
 ghost use Rattle.sp_cells.specs.Limits.{most_mbr_sectors};
 ghost use Rattle.sp_cells.specs.Names.{admins_class, ace_locking_get_all, range_base, range_get_ace_base, ace_range_get, gen_key_ace_base, ace_key_gen_key};
 ghost use Rattle.sp_rows.specs.Items.{row_items, rows_from};
 ghost use Rattle.sp_rows.specs.Runs.{run_items};
-ghost use Rattle.sp_rows.specs.Columns.{authority_columns, c_pin_columns, ace_columns, range_key_columns, locking_info_columns, table_columns};
-ghost use Rattle.sp_rows.specs.Factory.{HasRows, AddsRows, in_field, ace_row, bounds, locks, family, label_authorities, label_pins, label_aces, range_get_aces, gen_key_aces, range_get_ace, gen_key_ace, range_keys, locking_infos, byte_tables};
+ghost use Rattle.sp_rows.specs.Columns.{authority_columns, c_pin_columns, ace_columns, range_key_columns, locking_info_columns, table_columns, data_removal_columns};
+ghost use Rattle.sp_rows.specs.Factory.{HasRows, AddsRows, in_field, ace_row, bounds, locks, family, label_authorities, label_pins, label_aces, range_get_aces, gen_key_aces, new_byte_table, range_get_ace, gen_key_ace, range_keys, locking_infos, byte_tables, datastore_aces, removal_aces, data_removals};
 
 use crate::adding::{push_ace, push_member, push_one, push_pin, push_run};
 use crate::families::{
     gen_key_ace_row, gen_key_ace_rows, range_get_ace_row, range_get_ace_rows, range_key_rows,
 };
-use crate::new_rows::{byte_table, locking_info, range_key};
-use crate::{AceRow, AuthorityRow, CPinRow, LockingInfoRow, RangeKeyRow, Run, TableRow};
+use crate::new_rows::{byte_table, data_removal, locking_info, range_key};
+use crate::{
+    AceRow, AuthorityRow, CPinRow, DataRemovalRow, LockingInfoRow, RangeKeyRow, Run, TableRow,
+};
 use basics::Profile;
 use sp_cells::limits::NEW_TRY_LIMIT;
-use sp_cells::{Column, RANGES, Uid};
+use sp_cells::{ByteTable, Column, RANGES, TableSizes, Uid};
 use std::alloc::{AllocError, Global};
 
 /// The columns of a C_PIN row but for its names and the PIN.
@@ -233,22 +235,133 @@ pub(crate) fn locking_infos_made(
     Ok(runs)
 }
 
-/// What the drive says of its byte table.
+/// Adds the row of a byte table.
+fn push_byte_table(
+    alloc: Global,
+    runs: &mut Vec<Run<TableRow>>,
+    object: Uid,
+    name: &str,
+    bytes: u64,
+) -> Result<(), AllocError>
+    ensures { OnOk result (AddsRows table_columns runs.old.items runs.new.items
+        (row_items object (new_byte_table object name.now bytes))) }
+{
+    let name = String::from_str(alloc, name)?;
+    push_one(alloc, runs, object, byte_table(alloc, object, name, bytes))?;
+    Ok(())
+}
+
+/// What the drive says of its byte tables.
 #[tactic(auto, unfolding(crate::specs::Factory::byte_tables))]
 pub(crate) fn byte_tables_made(
     alloc: Global,
     profile: Profile,
-    mbr_sectors: u64,
+    sizes: TableSizes,
 ) -> Result<Vec<Run<TableRow>>, AllocError>
-    requires { mbr_sectors ≤ most_mbr_sectors }
+    requires { sizes.mbr_sectors ≤ most_mbr_sectors }
     ensures { IfOk result (λ runs. HasRows table_columns runs.items
-        (in_field profile (byte_tables mbr_sectors))) }
+        (in_field profile (byte_tables sizes))) }
 {
     let mut runs = Vec::new(alloc);
     if profile == Profile::Field {
-        let name = String::from_str(alloc, "MBR")?;
-        let row = byte_table(alloc, Uid::MBR_TABLE_ROW, name, 512 * mbr_sectors);
-        push_one(alloc, &mut runs, Uid::MBR_TABLE_ROW, row)?;
+        let mbr = sizes.bytes_of(ByteTable::ShadowMbr);
+        push_byte_table(alloc, &mut runs, Uid::MBR_TABLE_ROW, "MBR", mbr)?;
+        let datastore = sizes.bytes_of(ByteTable::DataStore);
+        push_byte_table(
+            alloc,
+            &mut runs,
+            Uid::DATASTORE_TABLE_ROW,
+            "DataStore",
+            datastore,
+        )?;
+    }
+    Ok(runs)
+}
+
+/// Adds the ACEs of DataStore.
+#[tactic(auto, using(crate::proofs::FamilyLemmas::pushing), unfolding(crate::specs::Factory::datastore_aces))]
+fn push_both_datastore_aces(alloc: Global, runs: &mut Vec<Run<AceRow>>) -> Result<(), AllocError>
+    ensures { OnOk result (AddsRows ace_columns runs.old.items runs.new.items datastore_aces) }
+{
+    push_ace(
+        alloc,
+        runs,
+        Uid::ACE_DATASTORE_GET_ALL,
+        "DataStore_Get_All",
+        Uid::ADMINS,
+        &[],
+    )?;
+    push_ace(
+        alloc,
+        runs,
+        Uid::ACE_DATASTORE_SET_ALL,
+        "DataStore_Set_All",
+        Uid::ADMINS,
+        &[],
+    )?;
+    Ok(())
+}
+
+/// Adds them, where the profile has them.
+#[tactic(auto, using(crate::proofs::FamilyLemmas::pushing))]
+pub(crate) fn push_datastore_aces(
+    alloc: Global,
+    profile: Profile,
+    runs: &mut Vec<Run<AceRow>>,
+) -> Result<(), AllocError>
+    ensures { OnOk result (AddsRows ace_columns runs.old.items runs.new.items
+        (in_field profile datastore_aces)) }
+{
+    if profile == Profile::Field {
+        push_both_datastore_aces(alloc, runs)?;
+    }
+    Ok(())
+}
+
+/// Adds the ACE that lets choose how the drive removes data.
+fn push_the_removal_ace(alloc: Global, runs: &mut Vec<Run<AceRow>>) -> Result<(), AllocError>
+    ensures { OnOk result (AddsRows ace_columns runs.old.items runs.new.items removal_aces) }
+{
+    push_ace(
+        alloc,
+        runs,
+        Uid::ACE_DATA_REMOVAL_SET_ACTIVE,
+        "DataRemovalMechanism_Set_Active",
+        Uid::SID,
+        &[Column::ACTIVE_DATA_REMOVAL_MECHANISM],
+    )?;
+    Ok(())
+}
+
+/// Adds it, where the profile has it.
+#[tactic(auto, using(crate::proofs::FamilyLemmas::pushing))]
+pub(crate) fn push_removal_ace(
+    alloc: Global,
+    profile: Profile,
+    runs: &mut Vec<Run<AceRow>>,
+) -> Result<(), AllocError>
+    ensures { OnOk result (AddsRows ace_columns runs.old.items runs.new.items
+        (in_field profile removal_aces)) }
+{
+    if profile == Profile::Field {
+        push_the_removal_ace(alloc, runs)?;
+    }
+    Ok(())
+}
+
+/// How the drive removes data.
+#[tactic(auto, unfolding(crate::specs::Factory::data_removals))]
+pub(crate) fn data_removals_made(
+    alloc: Global,
+    profile: Profile,
+) -> Result<Vec<Run<DataRemovalRow>>, AllocError>
+    ensures { IfOk result
+        (λ runs. HasRows data_removal_columns runs.items (in_field profile data_removals)) }
+{
+    let mut runs = Vec::new(alloc);
+    if profile == Profile::Field {
+        let row = data_removal(Uid::DATA_REMOVAL);
+        push_one(alloc, &mut runs, Uid::DATA_REMOVAL, row)?;
     }
     Ok(runs)
 }

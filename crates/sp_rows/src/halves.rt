@@ -6,8 +6,8 @@ ghost use Rattle.sp_rows.specs.Items.{item_at, with_item};
 ghost use Rattle.sp_rows.specs.Halves.{last_items};
 
 use crate::rows::{
-    AceRow, AuthorityRow, CPinRow, LockingInfoRow, LockingRow, MbrControlRow, RangeKeyRow, SpRow,
-    TableRow, TperInfoRow,
+    AceRow, AuthorityRow, CPinRow, DataRemovalRow, LockingInfoRow, LockingRow, MbrControlRow,
+    RangeKeyRow, SpRow, TableRow, TperInfoRow,
 };
 use crate::runs::{Run, find_cell, swap_in};
 use sp_cells::{Cell, Column, Uid};
@@ -18,6 +18,7 @@ pub struct FieldTables {
     pub range_keys: Vec<Run<RangeKeyRow>>,
     pub locking_infos: Vec<Run<LockingInfoRow>>,
     pub tables: Vec<Run<TableRow>>,
+    pub data_removals: Vec<Run<DataRemovalRow>>,
 }
 
 #[tactic(auto, using(crate::proofs::ItemLemmas::joined))]
@@ -34,7 +35,10 @@ impl FieldTables {
         if let Some(cell) = find_cell(self.locking_infos.as_slice(), object, column) {
             return Some(cell);
         }
-        find_cell(self.tables.as_slice(), object, column)
+        if let Some(cell) = find_cell(self.tables.as_slice(), object, column) {
+            return Some(cell);
+        }
+        find_cell(self.data_removals.as_slice(), object, column)
     }
 
     /// Exchanges the cell at a place, where there is one.
@@ -48,6 +52,7 @@ impl FieldTables {
         swap_in(&mut self.range_keys, object, column, cell)
             || swap_in(&mut self.locking_infos, object, column, cell)
             || swap_in(&mut self.tables, object, column, cell)
+            || swap_in(&mut self.data_removals, object, column, cell)
     }
 }
 

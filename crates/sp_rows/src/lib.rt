@@ -16,7 +16,7 @@ pub use exchange::{exchange_all, new_cells};
 pub use factory::{new_admin_sp, new_locking_sp};
 pub use halves::{FieldTables, SpTables};
 pub use rows::{
-    AceRow, AuthorityRow, CPinRow, LockingInfoRow, LockingRow, MbrControlRow, RangeKeyRow, Row,
-    SpRow, TableRow, TperInfoRow,
+    AceRow, AuthorityRow, CPinRow, DataRemovalRow, LockingInfoRow, LockingRow, MbrControlRow,
+    RangeKeyRow, Row, SpRow, TableRow, TperInfoRow,
 };
 pub use runs::{Run, find_cell, swap_in};

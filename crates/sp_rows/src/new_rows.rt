@@ -7,14 +7,16 @@ ghost use Rattle.sp_cells.specs.declared.cells.Element.TheVariants as elements;
 ghost use Rattle.sp_cells.specs.Names.{uid, ace_uid};
 ghost use Rattle.sp_rows.specs.Items.{row_items, rows_from};
 ghost use Rattle.sp_rows.specs.Runs.{run_items};
-ghost use Rattle.sp_rows.specs.Columns.{sp_columns, authority_columns, c_pin_columns, locking_columns, mbr_control_columns, tper_info_columns, ace_columns, range_key_columns, locking_info_columns, table_columns};
-ghost use Rattle.sp_rows.specs.Factory.{new_sp, new_group, new_member, new_pin, new_range, new_mbr_control, new_tper_info, new_ace, new_range_key, new_locking_info, new_byte_table};
+ghost use Rattle.sp_rows.specs.Columns.{sp_columns, authority_columns, c_pin_columns, locking_columns, mbr_control_columns, tper_info_columns, ace_columns, range_key_columns, locking_info_columns, table_columns, data_removal_columns};
+ghost use Rattle.sp_rows.specs.Factory.{new_sp, new_group, new_member, new_pin, new_range, new_mbr_control, new_tper_info, new_ace, new_range_key, new_locking_info, new_byte_table, new_data_removal};
 
 use crate::{
-    AceRow, AuthorityRow, CPinRow, LockingInfoRow, LockingRow, MbrControlRow, RangeKeyRow, Row,
-    Run, SpRow, TableRow, TperInfoRow,
+    AceRow, AuthorityRow, CPinRow, DataRemovalRow, LockingInfoRow, LockingRow, MbrControlRow,
+    RangeKeyRow, Row, Run, SpRow, TableRow, TperInfoRow,
 };
 use arrayvec::ArrayVec;
+use shadow_mbr::SECTOR_SIZE;
+use sp_cells::limits::CRYPTOGRAPHIC_ERASE;
 use sp_cells::{Bytes, Cell, Column, Columns, Element, Expr, RANGES, ResetTypes, Uid};
 use std::alloc::{AllocError, Global};
 
@@ -181,7 +183,7 @@ pub fn locking_info(object: Uid, name: String) -> LockingInfoRow
         max_re_encryptions: Cell::Number(0),
         keys_available_cfg: Cell::Number(0),
         alignment_required: Cell::Number(0),
-        logical_block_size: Cell::Number(512),
+        logical_block_size: Cell::Number(SECTOR_SIZE as u64),
         alignment_granularity: Cell::Number(1),
         lowest_aligned_lba: Cell::Number(0),
     }
@@ -202,6 +204,16 @@ pub fn byte_table(alloc: Global, object: Uid, name: String, bytes: u64) -> Table
         rows: Cell::Number(bytes),
         mandatory_write_granularity: Cell::Number(1),
         recommended_access_granularity: Cell::Number(1),
+    }
+}
+
+/// The row of how the drive removes data: in the one way that it has.
+pub fn data_removal(object: Uid) -> DataRemovalRow
+    ensures { data_removal_columns result ≡ new_data_removal object }
+{
+    DataRemovalRow {
+        uid: Cell::Uid(object),
+        active: Cell::Number(CRYPTOGRAPHIC_ERASE),
     }
 }
 

@@ -443,3 +443,35 @@ impl Row for TableRow {
         table_columns!(swap_of self, column, cell)
     }
 }
+
+/// The row of the DataRemovalMechanism table.
+#[derive(Drop)]
+pub struct DataRemovalRow {
+    pub uid: Cell,
+    pub active: Cell,
+}
+
+/// The columns of the table, and the field of each, for one of the two matches.
+macro_rules! data_removal_columns {
+    ($matched:ident $($given:ident),+) => {
+        $matched!(
+            $($given),+;
+            UID: uid,
+            ACTIVE_DATA_REMOVAL_MECHANISM: active
+        )
+    };
+}
+
+impl Row for DataRemovalRow {
+    ghost use Rattle.sp_rows.specs.Columns.{data_removal_columns};
+
+    ghost held = { data_removal_columns };
+
+    fn cell(&self, column: Column) -> Option<&Cell> {
+        data_removal_columns!(cell_of self, column)
+    }
+
+    fn swap(&mut self, column: Column, cell: &mut Cell) -> bool {
+        data_removal_columns!(swap_of self, column, cell)
+    }
+}

@@ -10,7 +10,7 @@ pub mod whole;
 
 pub use halves::is_pin;
 pub use sp_cells::{
-    ADMINS, Bytes, Cell, Column, Columns, DriveConfig, Element, Expr, RANGES, ResetTypes, Rows,
-    SetError, Sp, USERS, Uid, number_at,
+    ADMINS, ByteTable, Bytes, Cell, Column, Columns, DriveConfig, Element, Expr, RANGES,
+    ResetTypes, Rows, SetError, Sp, TableSizes, USERS, Uid, number_at,
 };
 pub use whole::Tables;

@@ -5,10 +5,11 @@ ghost use Rattle.sp_cells.specs.Flat.{with_cells};
 ghost use Rattle.sp_rows.specs.Items.{replaced};
 ghost use Rattle.sp_tables.specs.Contents.{Contents, items_of, flat as flat_list, cells_look_up as look_up_in, with_row, factory_contents};
 ghost use Rattle.sp_tables.specs.Faults.{set_fault, TellsFault};
+ghost use Rattle.sp_cells.specs.Config.{sizes_in};
 ghost use Rattle.sp_cells.specs.Ranges.{AreApart};
 
 use basics::Profile;
-use sp_cells::{Cell, Column, DriveConfig, Rows, SetError, Sp, Uid};
+use sp_cells::{Cell, Column, DriveConfig, Rows, SetError, Sp, TableSizes, Uid};
 use sp_rows::{SpTables, exchange_all, new_admin_sp, new_cells, new_locking_sp};
 use std::alloc::{AllocError, Global};
 use std::marker::Model;
@@ -156,6 +157,8 @@ impl Rows for Tables {
 
     ghost shadow_sectors = { λ t. t.config.mbr_sectors };
 
+    ghost sizes_of = { λ t. sizes_in t.config };
+
     ghost profile_of = { λ t. t.config.profile };
 
     fn cell(&self, sp: Sp, object: Uid, column: Column) -> Option<&Cell> {
@@ -164,6 +167,10 @@ impl Rows for Tables {
 
     fn mbr_sectors(&self) -> u64 {
         self.config.mbr_sectors()
+    }
+
+    fn table_sizes(&self) -> TableSizes {
+        self.config.table_sizes()
     }
 
     fn profile(&self) -> Profile {

@@ -1,4 +1,4 @@
--- Rows and MBR bytes as someone sees them.
+-- Rows and the bytes of the byte tables as someone sees them.
 use Rattle.std.specs.Prelude.{◌==◌, ℕ, Bool, List, Option, None, Some, if◌then◌else◌}
 use Rattle.std.specs.Option.{option_or}
 use Rattle.sp_cells.specs.declared.names.Uid.{Uid}

@@ -1,4 +1,4 @@
-//! The rows in force of a drive's two security providers and the bytes of its shadow MBR, and what the open
+//! The rows in force of a drive's two security providers and the bytes of its byte tables, and what the open
 //! transaction of a session makes of them.
 #![tactic(auto)]
 

@@ -2,6 +2,7 @@
 
 ghost use Rattle.std.specs.Prelude.{IfOk, ◌≡◌, ◌≤◌, ◌==◌, ◌+◌, ◌*◌, ◌↔◌, ℕ, Bool, [], length, None, Some, OnOk, OnErr, IfErr, IsErr, is_some, true, false, option_map};
 ghost use Rattle.sp_cells.specs.declared.names.Sp.TheVariants.{Admin, Locking};
+ghost use Rattle.sp_cells.specs.Config.{table_sectors};
 ghost use Rattle.sp_cells.specs.Names.{c_pin_sid};
 ghost use Rattle.sp_cells.specs.ColumnNames.{pin_column};
 ghost use Rattle.sp_rows.specs.Items.{with_items};
@@ -30,8 +31,8 @@ use sp_tables::{Cell, Column, Rows, SetError, Sp, Tables, Uid, is_pin, number_at
 use std::alloc::{AllocError, Global};
 use std::marker::Model;
 
-/// The rows in force of both SPs and the MBR bytes, and on each SP what the open transaction of a session makes of
-/// them. The tables have what the open transactions see; a log of each has what was there before.
+/// The rows in force of both SPs and the bytes of the byte tables, and on each SP what the open transaction of a session
+/// makes of them. The tables have what the open transactions see; a log of each has what was there before.
 #[derive(Drop)]
 pub struct Store {
     alloc: Global,
@@ -58,7 +59,7 @@ impl Model for Store {
 impl Store {
     /// A store with these rows and bytes in force, and no transaction.
     pub fn new(alloc: Global, tables: Tables, mbr: Mbr) -> Store
-        requires { mbr.sectors ≡ tables.config.mbr_sectors }
+        requires { mbr.sectors ≡ table_sectors tables.config }
         ensures { result ≡ new_store tables mbr }
     {
         Store {
@@ -212,8 +213,8 @@ fn names_tries(object: Uid, cells: &[(Column, Cell)]) -> bool
 }
 
 impl Store {
-    /// Changes what the SP's open transaction sees, or what is in force where none is open; MBR bytes within the
-    /// table, on the Locking SP.
+    /// Changes what the SP's open transaction sees, or what is in force where none is open; bytes within the
+    /// sectors of the byte tables, on the Locking SP.
     pub fn set(&mut self, session: SessionId, change: &Change) -> Result<(), SetError>
         requires { IsInside self.old.config session.sp change.now }
         ensures ok { OnOk result (self.new ≡ at_part session.sp (part_set change.now) self.old) }
@@ -278,7 +279,7 @@ impl Store {
     }
 
     fn set_bytes(&mut self, at: u64, bytes: &[u8]) -> Result<(), AllocError>
-        requires { at + length bytes.now ≤ sector_size * self.old.config.mbr_sectors }
+        requires { at + length bytes.now ≤ sector_size * table_sectors self.old.config }
         ensures ok { OnOk result (self.new
             ≡ at_part Locking (part_change (λ rows. rows) (written at bytes.now)) self.old) }
         ensures err { OnErr result (self.new ≡ self.old) }
@@ -340,8 +341,8 @@ impl Store {
         }
     }
 
-    /// Makes the cells of the SP those of a new drive, of the Admin SP those of both, and the MBR bytes zeros. The
-    /// Locking SP is Manufactured-Inactive then, and no transaction stays open.
+    /// Makes the cells of the SP those of a new drive, of the Admin SP those of both, and the bytes of the byte
+    /// tables zeros. The Locking SP is Manufactured-Inactive then, and no transaction stays open.
     pub fn revert(&mut self, sp: Sp) -> Result<(), AllocError>
         ensures ok { OnOk result (self.new ≡ reverted sp self.old) }
         ensures err { OnErr result (self.new ≡ self.old) }

@@ -1,6 +1,11 @@
 use Rattle.std.proofs.Common.{◌≡◌, true, ◌||◌, ◌∙◌, refl, sym, ap, rules}
 use Rattle.call_shapes.specs.declared.ask.Ask.TheVariants.{GetCells, GetBytes, Activate, GenKey}
-use Rattle.methods.specs.Kinds.{kind_of}
+use Rattle.std.specs.Prelude.{slice_index}
+use Rattle.sp_cells.specs.declared.byte_tables.ByteTable.{ByteTable}
+use Rattle.sp_cells.specs.Config.{sizes_in}
+use Rattle.transactions.specs.Sights.{sight_of}
+use Rattle.methods.specs.Judgement.{table_given}
+use Rattle.methods.specs.Kinds.{kind_of, byte_table_of}
 use Rattle.methods.specs.Effects.{has_ask, handles}
 use Rattle.methods.specs.Calls.{standing_in}
 use Rattle.methods.specs.declared.kinds.Handler.TheVariants as handlers
@@ -10,21 +15,22 @@ use Rattle.methods.proofs.calls.perform.Goals as goal
 
 pub returns-in-ReadCells-GetCells-clause-fulfils : goal.returns-in-ReadCells-GetCells-clause-fulfils
 returns-in-ReadCells-GetCells-clause-fulfils c =
-    let has : has_ask (kind_of c.args.session.sp c.args.object) c.args.ask.now ≡ true = sym (c.in-Some.ensures.cased ∙ ap (λ k. has_ask k c.args.ask.now) c.kind_of.ensures) in
+    let has : has_ask (kind_of c.args.session.sp c.args.object) c.args.ask.now ≡ true = sym (c.in-Some.ensures.cased ∙ ap (λ k. has_ask k c.args.ask.now) c.kind_of-kind.ensures) in
     judged-as _ _ c.args.session c.read_cells.result _ _ _ _
     (asked-is (standing_in c.args.store.now c.args.sessions.now c.args.session) c.args.object c.args.ask.now (GetCells c.in-ReadCells-GetCells.first c.in-ReadCells-GetCells.last) has c.in-ReadCells-GetCells.is-1)
     c.read_cells.ensures.fulfils
 
 pub returns-in-ReadBytes-GetBytes-clause-fulfils : goal.returns-in-ReadBytes-GetBytes-clause-fulfils
 returns-in-ReadBytes-GetBytes-clause-fulfils c =
-    let has : has_ask (kind_of c.args.session.sp c.args.object) c.args.ask.now ≡ true = sym (c.in-Some.ensures.cased ∙ ap (λ k. has_ask k c.args.ask.now) c.kind_of.ensures) in
+    let has : has_ask (kind_of c.args.session.sp c.args.object) c.args.ask.now ≡ true = sym (c.in-Some.ensures.cased ∙ ap (λ k. has_ask k c.args.ask.now) c.kind_of-kind.ensures) in
     judged-as _ _ c.args.session c.read_bytes.result _ _ _ _
-    (asked-is (standing_in c.args.store.now c.args.sessions.now c.args.session) c.args.object c.args.ask.now (GetBytes c.in-ReadBytes-GetBytes.first c.in-ReadBytes-GetBytes.last) has c.in-ReadBytes-GetBytes.is-1)
+    (ap (λ (table : ByteTable). table_given (slice_index (sight_of c.args.store.now c.args.session).bytes) (sizes_in c.args.store.now.config) table c.in-ReadBytes-GetBytes.first c.in-ReadBytes-GetBytes.last) (c.byte_table_of.ensures ∙ ap byte_table_of c.kind_of-kind.ensures)
+    ∙ asked-is (standing_in c.args.store.now c.args.sessions.now c.args.session) c.args.object c.args.ask.now (GetBytes c.in-ReadBytes-GetBytes.first c.in-ReadBytes-GetBytes.last) has c.in-ReadBytes-GetBytes.is-1)
     (c.read_bytes.ensures.fulfils c.args.sessions.now)
 
 pub returns-in-Activate-default-clause-fulfils : goal.returns-in-Activate-default-clause-fulfils
 returns-in-Activate-default-clause-fulfils c =
-    let has : has_ask (kind_of c.args.session.sp c.args.object) c.args.ask.now ≡ true = sym (c.in-Some.ensures.cased ∙ ap (λ k. has_ask k c.args.ask.now) c.kind_of.ensures) in
+    let has : has_ask (kind_of c.args.session.sp c.args.object) c.args.ask.now ≡ true = sym (c.in-Some.ensures.cased ∙ ap (λ k. has_ask k c.args.ask.now) c.kind_of-kind.ensures) in
     let is = activate-is c.args.ask.now (sym (ap (λ h. handles h c.args.ask.now) c.in-Activate-default.is-0) ∙ c.in-Some.ensures.handles) in
     judged-as _ _ c.args.session c.activate.result _ _ _ _
     (asked-is (standing_in c.args.store.now c.args.sessions.now c.args.session) c.args.object c.args.ask.now Activate has is)
@@ -32,7 +38,7 @@ returns-in-Activate-default-clause-fulfils c =
 
 pub returns-in-GenKey-default-clause-fulfils : goal.returns-in-GenKey-default-clause-fulfils
 returns-in-GenKey-default-clause-fulfils c =
-    let has : has_ask (kind_of c.args.session.sp c.args.object) c.args.ask.now ≡ true = sym (c.in-Some.ensures.cased ∙ ap (λ k. has_ask k c.args.ask.now) c.kind_of.ensures) in
+    let has : has_ask (kind_of c.args.session.sp c.args.object) c.args.ask.now ≡ true = sym (c.in-Some.ensures.cased ∙ ap (λ k. has_ask k c.args.ask.now) c.kind_of-kind.ensures) in
     let is = gen-key-is c.args.ask.now (sym (ap (λ h. handles h c.args.ask.now) c.in-GenKey-default.is-0) ∙ c.in-Some.ensures.handles) in
     judged-as _ _ c.args.session c.gen_key.result _ _ _ _
     (asked-is (standing_in c.args.store.now c.args.sessions.now c.args.session) c.args.object c.args.ask.now GenKey has is)
@@ -40,7 +46,7 @@ returns-in-GenKey-default-clause-fulfils c =
 
 pub returns-in-WriteCells-SetCells-clause-fulfils : goal.returns-in-WriteCells-SetCells-clause-fulfils
 returns-in-WriteCells-SetCells-clause-fulfils c =
-    let has : has_ask (kind_of c.args.session.sp c.args.object) c.args.ask.now ≡ true = sym (c.in-Some.ensures.cased ∙ ap (λ k. has_ask k c.args.ask.now) c.kind_of.ensures) in
+    let has : has_ask (kind_of c.args.session.sp c.args.object) c.args.ask.now ≡ true = sym (c.in-Some.ensures.cased ∙ ap (λ k. has_ask k c.args.ask.now) c.kind_of-kind.ensures) in
     let is : (handles handlers.WriteCells c.args.ask.now || handles handlers.WriteBytes c.args.ask.now) ≡ true = elim c.in-WriteCells-SetCells-1.branch [ in-WriteCells+in-SetCells-1 w ↦ search rules | in-WriteBytes+in-SetBytes-1 w ↦ search rules ] in
     judged-as _ _ c.args.session c.write.result _ _ _ _
     (set-is (standing_in c.args.store.now c.args.sessions.now c.args.session) c.args.object c.args.ask.now is
