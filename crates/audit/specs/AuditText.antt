@@ -10,6 +10,7 @@
 --   S C deny auth SP AUTH pin
 --   S C deny auth SP AUTH locked
 --   S C deny auth SP AUTH disabled
+--   S C deny auth SP AUTH blocked
 --   S C deny auth SP AUTH unknown
 use Rattle.std.specs.Prelude.{ℕ, List, ◌++◌, Option, None, Some, codes, decimal}
 use Rattle.sp_cells.specs.declared.names.Sp.{Sp}
@@ -17,7 +18,7 @@ use Rattle.sp_cells.specs.declared.names.Uid.{Uid}
 use Rattle.sp_cells.specs.declared.names.Column.{Column}
 use Rattle.audit.specs.Names.{sp_text, uid_text, method_text, uids_text}
 use Rattle.audit.specs.declared.reason.AttemptFailure.{AttemptFailure}
-use Rattle.audit.specs.declared.reason.AttemptFailure.TheVariants.{WrongPin, LockedOut, Disabled, Unknown}
+use Rattle.audit.specs.declared.reason.AttemptFailure.TheVariants.{WrongPin, LockedOut, Disabled, Blocked, Unknown}
 use Rattle.audit.specs.declared.reason.Why.{Why}
 use Rattle.audit.specs.declared.reason.Why.TheVariants.{ReadLocked, WriteLocked, ReadShadow, WriteShadow, NoEntryHolds, NoAccessRow, AttemptFailed}
 use Rattle.audit.specs.declared.reason.AuditLine.{AuditLine}
@@ -53,6 +54,7 @@ abbrev pub failure_text : AttemptFailure → List ℕ
 failure_text WrongPin = codes "pin"
 failure_text LockedOut = codes "locked"
 failure_text Disabled = codes "disabled"
+failure_text Blocked = codes "blocked"
 failure_text Unknown = codes "unknown"
 
 -- `auth SP AUTH pin`, and likewise for the other failures

@@ -131,6 +131,7 @@ fn failure_name(failure: AttemptFailure) -> &'static [u8]
         AttemptFailure::WrongPin => b"pin",
         AttemptFailure::LockedOut => b"locked",
         AttemptFailure::Disabled => b"disabled",
+        AttemptFailure::Blocked => b"blocked",
         AttemptFailure::Unknown => b"unknown",
     }
 }

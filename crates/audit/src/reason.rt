@@ -12,6 +12,8 @@ pub enum AttemptFailure {
     LockedOut,
     /// The authority is not enabled.
     Disabled,
+    /// SID is blocked (Block SID Authentication feature set 1.00).
+    Blocked,
     /// The authority is unknown to the security provider, or a class of others.
     Unknown,
 }

@@ -1,15 +1,22 @@
 -- Level 0 discovery: what a drive says of itself before any session (Core 2.01, section 3.3.6; Opal SSC 2.01, section 3.1.1).
-use Rattle.std.specs.Prelude.{ℕ, zero, suc, ◌+◌, ◌*◌, ◌==◌, Bool, false, ◌&&◌, ◌||◌, List, ◌∷◌, ◌++◌, length, replicate}
+use Rattle.std.specs.Prelude.{ℕ, zero, suc, ◌+◌, ◌*◌, ◌==◌, Bool, false, not, ◌&&◌, ◌||◌, List, ◌∷◌, ◌++◌, length, replicate, Option, Some}
+use Rattle.std.specs.Str.{bytes_eq}
+use Rattle.basics.specs.declared.profile.Profile.{Profile}
+use Rattle.basics.specs.declared.profile.Profile.TheVariants.{Base, Field}
 use Rattle.std.specs.Int.{w16, w32, w64, to_be_bytes}
 use Rattle.fis.specs.Bytes.{bit}
 use Rattle.sp_cells.specs.declared.names.TheConstants.{RANGES, ADMINS, USERS}
 use Rattle.sp_cells.specs.declared.names.Sp.TheVariants.{Admin, Locking}
 use Rattle.sp_cells.specs.declared.names.Column.{Column}
-use Rattle.sp_cells.specs.Names.{locking_sp, mbr_control}
-use Rattle.sp_cells.specs.ColumnNames.{life_cycle_state_column, read_lock_enabled_column, read_locked_column, write_lock_enabled_column, write_locked_column, mbr_enable_column, mbr_done_column}
+use Rattle.sp_cells.specs.declared.cells.Cell.{Cell}
+use Rattle.sp_cells.specs.declared.cells.Cell.TheVariants.{Bytes}
+use Rattle.sp_cells.specs.Names.{locking_sp, mbr_control, c_pin_sid, c_pin_msid}
+use Rattle.sp_cells.specs.ColumnNames.{life_cycle_state_column, read_lock_enabled_column, read_locked_column, write_lock_enabled_column, write_locked_column, mbr_enable_column, mbr_done_column, pin_column}
 use Rattle.sp_cells.specs.Limits.{manufactured}
 use Rattle.sp_cells.specs.Ranges.{number, of_range}
 use Rattle.sp_cells.specs.Flat.{LookUp}
+use Rattle.trusted_cmds.specs.declared.block.SidBlock.{SidBlock}
+use Rattle.trusted_cmds.specs.BlockSid.{is_blocked, ends_at_hardware_reset}
 
 -- A lock of the range is set, and enabled.
 abbrev pub is_set : LookUp → ℕ → Column → Bool
@@ -51,8 +58,8 @@ feature code content = to_be_bytes w16 code ++ 0x10 ∷ length content ∷ conte
 abbrev pub tper_feature : List ℕ
 tper_feature = feature 0x0001 (0x11 ∷ replicate 11 0)
 
-abbrev pub locking_feature : LookUp → List ℕ
-locking_feature look = feature 0x0002 (locking_flags look ∷ replicate 11 0)
+abbrev pub locking_feature : ℕ → List ℕ
+locking_feature flags = feature 0x0002 (flags ∷ replicate 11 0)
 
 -- Geometry: sectors of 512 bytes, aligned to one.
 abbrev pub geometry_feature : List ℕ
@@ -73,11 +80,47 @@ opal_feature =
     ++ 0 ∷ to_be_bytes w16 ADMINS
     ++ to_be_bytes w16 USERS ++ 0 ∷ 0 ∷ replicate 5 0)
 
-abbrev pub features : LookUp → List ℕ
-features look = tper_feature ++ locking_feature look ++ geometry_feature ++ opal_feature
+abbrev pub features : ℕ → List ℕ
+features flags = tper_feature ++ locking_feature flags ++ geometry_feature ++ opal_feature
 
 -- The header has the length of all that follows its first four bytes, and version 1.
+abbrev pub level0 : List ℕ → List ℕ
+level0 told = to_be_bytes w32 (44 + length told) ++ to_be_bytes w32 1 ++ replicate 40 0 ++ told
+
 abbrev pub discovery : LookUp → List ℕ
-discovery look =
-    to_be_bytes w32 (44 + length (features look)) ++ to_be_bytes w32 1 ++ replicate 40 0
-    ++ features look
+discovery look = level0 (features (locking_flags look))
+
+-- What the field profile tells beside that.
+
+-- SID has a PIN of its own: that of C_PIN_SID is not the MSID.
+abbrev pub are_same_bytes : Option Cell → Option Cell → Bool
+are_same_bytes (Some (Bytes a)) (Some (Bytes b)) = bytes_eq a b
+are_same_bytes _ _ = false
+
+abbrev pub has_owner : LookUp → Bool
+has_owner look =
+    not (are_same_bytes (look Admin c_pin_sid pin_column) (look Admin c_pin_msid pin_column))
+
+-- Block SID Authentication. Bit 0: SID has a PIN of its own. Bit 1: SID is blocked. Bit 0 of the next byte: a hardware
+-- reset frees it (Block SID Authentication feature set 1.00, Level 0 discovery).
+abbrev pub sid_flags : LookUp → SidBlock → ℕ
+sid_flags look block = bit (has_owner look) + 2 * bit (is_blocked block)
+
+abbrev pub block_feature : LookUp → SidBlock → List ℕ
+block_feature look block =
+    feature 0x0402 (sid_flags look block ∷ bit (ends_at_hardware_reset block) ∷ replicate 10 0)
+
+-- Data removal: a mechanism by keys alone (bit 2), and its time, 1 of two seconds, behind those of two other ones (Opal
+-- SSC 2.02, Level 0 discovery, Supported Data Removal Mechanism).
+abbrev pub removal_feature : List ℕ
+removal_feature =
+    feature 0x0404 (0 ∷ 0 ∷ 4 ∷ 0 ∷ replicate 4 0 ++ to_be_bytes w16 1 ++ replicate 22 0)
+
+-- Bit 3 of the Locking feature: media are encrypted.
+abbrev pub field_discovery : LookUp → SidBlock → List ℕ
+field_discovery look block =
+    level0 (features (8 + locking_flags look) ++ block_feature look block ++ removal_feature)
+
+abbrev pub discovery_of : Profile → LookUp → SidBlock → List ℕ
+discovery_of Base look block = discovery look
+discovery_of Field look block = field_discovery look block

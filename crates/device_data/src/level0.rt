@@ -2,13 +2,17 @@
 
 ghost use Rattle.std.specs.Prelude.{◌≡◌, ◌≤◌, ◌||◌};
 ghost use Rattle.sp_cells.specs.declared.names.TheConstants.{RANGES};
-ghost use Rattle.device_data.specs.Discovery.{is_set, has_lock, any_range_below, is_locked, is_manufactured, is_shadow_flag, locking_flags, discovery};
+ghost use Rattle.device_data.specs.Discovery.{is_set, has_lock, any_range_below, is_locked, is_manufactured, is_shadow_flag, locking_flags, discovery, has_owner, field_discovery};
 
 use sp_cells::limits::MANUFACTURED;
-use sp_cells::{ADMINS, Column, RANGES, Rows, Sp, USERS, Uid, number_at};
+use sp_cells::{ADMINS, Cell, Column, RANGES, Rows, Sp, USERS, Uid, number_at};
+use trusted_cmds::SidBlock;
 
 /// How many bytes Level 0 discovery has.
 pub const DISCOVERY_LENGTH: usize = 132;
+
+/// How many bytes it has on a drive of the field profile.
+pub const FIELD_DISCOVERY_LENGTH: usize = 184;
 
 /// Whether a column of a range has 1 in it.
 fn is_set<R: Rows>(rows: &R, range: u8, column: Column) -> bool
@@ -91,6 +95,51 @@ pub fn discovery<R: Rows>(rows: &R) -> [u8; DISCOVERY_LENGTH]
         0, 0, 0, 0, 0, 0, 0, 1, 0, 0, 0, 0, 0, 0, 0, 0, //
         // Opal SSC 2: ComIDs from 1000h on, four of them, the Admins and the Users
         0x02, 0x03, 0x10, 16, 0x10, 0x00, 0, 4, 0, 0, ADMINS, 0, USERS, 0, 0, 0, //
+        0, 0, 0, 0,
+    ]
+}
+
+/// Whether SID has a PIN of its own: that of C_PIN_SID is not the MSID.
+pub fn has_owner<R: Rows>(rows: &R) -> bool
+    ensures { result ≡ has_owner (R.look_up rows.now) }
+{
+    let own = rows.cell(Sp::Admin, Uid::C_PIN_SID, Column::PIN);
+    let printed = rows.cell(Sp::Admin, Uid::C_PIN_MSID, Column::PIN);
+    match (own, printed) {
+        (Some(Cell::Bytes(own)), Some(Cell::Bytes(printed))) => own.as_slice()
+            != printed.as_slice(),
+        _ => true,
+    }
+}
+
+/// Level 0 discovery of the field profile by these rows, and by whether SID is blocked: what `discovery` gives, with
+/// media that are encrypted, and the features Block SID Authentication and Data Removal.
+pub fn field_discovery<R: Rows>(rows: &R, block: SidBlock) -> [u8; FIELD_DISCOVERY_LENGTH]
+    ensures { result ≡ field_discovery (R.look_up rows.now) block }
+{
+    let flags = 8 + locking_flags(rows);
+    let sid = u8::from(has_owner(rows)) + 2 * u8::from(block.is_blocked());
+    let hardware = u8::from(block.ends_at_hardware_reset());
+    [
+        // the header: the length of what follows, version 1, 40 reserved and vendor's bytes
+        0, 0, 0, 0xb4, 0, 0, 0, 1, 0, 0, 0, 0, 0, 0, 0, 0, //
+        0, 0, 0, 0, 0, 0, 0, 0, 0, 0, 0, 0, 0, 0, 0, 0, //
+        0, 0, 0, 0, 0, 0, 0, 0, 0, 0, 0, 0, 0, 0, 0, 0, //
+        // TPer
+        0x00, 0x01, 0x10, 12, 0x11, 0, 0, 0, 0, 0, 0, 0, 0, 0, 0, 0, //
+        // Locking
+        0x00, 0x02, 0x10, 12, flags, 0, 0, 0, 0, 0, 0, 0, 0, 0, 0, 0, //
+        // Geometry: sectors of 512 bytes, aligned to one
+        0x00, 0x03, 0x10, 28, 0, 0, 0, 0, 0, 0, 0, 0, 0, 0, 2, 0, //
+        0, 0, 0, 0, 0, 0, 0, 1, 0, 0, 0, 0, 0, 0, 0, 0, //
+        // Opal SSC 2: ComIDs from 1000h on, four of them, the Admins and the Users
+        0x02, 0x03, 0x10, 16, 0x10, 0x00, 0, 4, 0, 0, ADMINS, 0, USERS, 0, 0, 0, //
+        0, 0, 0, 0, //
+        // Block SID Authentication
+        0x04, 0x02, 0x10, 12, sid, hardware, 0, 0, 0, 0, 0, 0, 0, 0, 0, 0, //
+        // Data Removal: by keys, in two seconds
+        0x04, 0x04, 0x10, 32, 0, 0, 4, 0, 0, 0, 0, 0, 0, 1, 0, 0, //
+        0, 0, 0, 0, 0, 0, 0, 0, 0, 0, 0, 0, 0, 0, 0, 0, //
         0, 0, 0, 0,
     ]
 }

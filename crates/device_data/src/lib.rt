@@ -8,7 +8,7 @@ mod pages;
 mod protocols;
 
 pub use identify::{identity, identity_of};
-pub use level0::{DISCOVERY_LENGTH, discovery};
+pub use level0::{DISCOVERY_LENGTH, FIELD_DISCOVERY_LENGTH, discovery, field_discovery, has_owner};
 pub use log_page::{Failure, error_log};
 pub use pages::device_page;
 pub use protocols::{PROTOCOL_LIST_LENGTH, protocol_list};

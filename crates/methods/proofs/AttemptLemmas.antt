@@ -7,7 +7,7 @@ use Rattle.sp_cells.specs.ColumnNames.{class_column}
 use Rattle.sp_cells.specs.Flat.{LookUp, sp_eq}
 use Rattle.ace_eval.specs.Truth.{has}
 use Rattle.audit.specs.declared.reason.AttemptFailure.{AttemptFailure}
-use Rattle.audit.specs.declared.reason.AttemptFailure.TheVariants.{WrongPin, LockedOut, Disabled, Unknown}
+use Rattle.audit.specs.declared.reason.AttemptFailure.TheVariants.{WrongPin, LockedOut, Disabled, Blocked, Unknown}
 use Rattle.transactions.specs.declared.change.SessionId.{SessionId}
 use Rattle.transactions.specs.Stored.{Stored}
 use Rattle.sessions.specs.Answers.{rows_in_force, after_attempt, gaining_if}
@@ -25,6 +25,7 @@ attempt-stores s sp authority None = refl
 attempt-stores s sp authority (Some LockedOut) = refl
 attempt-stores s sp authority (Some WrongPin) = refl
 attempt-stores s sp authority (Some Disabled) = refl
+attempt-stores s sp authority (Some Blocked) = refl
 attempt-stores s sp authority (Some Unknown) = refl
 
 -- what is gained, behind what is held

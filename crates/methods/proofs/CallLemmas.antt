@@ -60,28 +60,29 @@ pub set-made : (x : Option Setting) (set : Setting) (session : SessionId) (out :
 set-made x set session out s t l is can answer denied erases changes store =
     subst (λ y. Fulfils (outcome_in s session (makes y)) out s t l l) (sym is)
     (record {
-      met = record { answer = answer; denied = denied; erases = erases; store = (can, store); sessions = record { next = refl; at = λ n. refl } };
+      met = record { answer = answer; denied = denied; erases = erases; store = (can, store); sessions = record { next = refl; at = λ n. refl }; block = refl };
       unchanged = λ h. changed out changes h;
     })
 
 -- an attempt
 pub attempts : (authority : Uid) (pin : List ℕ) (session : SessionId) (out : Outcome) (s t : Stored) (l m : Live) → AreOnOwnSps l.sessions → (live_holder l session ≡ None → ⊥)
-    → message out.reply ≡ attempt_reply (attempt s session.sp authority pin) → out.denied ≡ attempt_denied session.sp authority (attempt s session.sp authority pin) → out.erases ≡ no_sectors
-    → (out.changes ≡ false → t ≡ s) → t ≡ after_attempt session.sp authority (attempt s session.sp authority pin) s
-    → m.next ≡ l.next → ((n : ℕ) → session_at m n ≡ (if session.tsn == n then gaining_if (rows_in_force s) authority (attempt s session.sp authority pin) (session_at l n) else session_at l n))
-    → Fulfils (outcome_in s session (Attempts authority pin)) out s t l m
-attempts authority pin session out s t l m apart lives answer denied erases unchanged store next points =
-    let x : Option AttemptFailure = attempt s session.sp authority pin in
+    → message out.reply ≡ attempt_reply (attempt l.block s session.sp authority pin) → out.denied ≡ attempt_denied session.sp authority (attempt l.block s session.sp authority pin) → out.erases ≡ no_sectors
+    → (out.changes ≡ false → t ≡ s) → t ≡ after_attempt session.sp authority (attempt l.block s session.sp authority pin) s
+    → m.next ≡ l.next → ((n : ℕ) → session_at m n ≡ (if session.tsn == n then gaining_if (rows_in_force s) authority (attempt l.block s session.sp authority pin) (session_at l n) else session_at l n))
+    → m.block ≡ l.block → Fulfils (outcome_in s session (Attempts l.block authority pin)) out s t l m
+attempts authority pin session out s t l m apart lives answer denied erases unchanged store next points block =
+    let x : Option AttemptFailure = attempt l.block s session.sp authority pin in
     record {
       met = record {
         answer = answer;
         denied = denied;
         erases = erases;
-        store = subst (λ (u : Stored). StoresAs (outcome_in s session (Attempts authority pin)).deed s u) (sym store) (attempt-stores s session.sp authority x);
+        store = subst (λ (u : Stored). StoresAs (outcome_in s session (Attempts l.block authority pin)).deed s u) (sym store) (attempt-stores s session.sp authority x);
         sessions = record {
           next = next;
           at = λ n. points n ∙ gained-at (rows_in_force s) session authority x n (session_at l n) (alone-at l session apart lives n);
         };
+        block = block;
       };
       unchanged = unchanged;
     }

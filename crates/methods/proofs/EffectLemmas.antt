@@ -17,6 +17,7 @@ use Rattle.transactions.specs.Bytes.{bytes_from}
 use Rattle.methods.specs.Effects.{fault_of_set, has_set, is_told, stored_after, unless_fault, held_of}
 use Rattle.sessions.specs.Made.{part_with, set_stored}
 use Rattle.methods.specs.Judgement.{fault_by, valid, to_set}
+use Rattle.trusted_cmds.specs.declared.block.SidBlock.TheVariants.{Free}
 use Rattle.methods.specs.Calls.{standing_on}
 use Rattle.methods.proofs.FaultLemmas.{fault-alike}
 use Rattle.call_shapes.specs.Statuses.{success}
@@ -24,7 +25,7 @@ use Rattle.methods.specs.Said.{reply_of, attempt_reply, attempt_denied}
 use Rattle.tcg_tokens.specs.Tree.{number}
 use Rattle.audit.specs.declared.reason.Why.{Why}
 use Rattle.audit.specs.declared.reason.AttemptFailure.{AttemptFailure}
-use Rattle.audit.specs.declared.reason.AttemptFailure.TheVariants.{WrongPin, Disabled, Unknown}
+use Rattle.audit.specs.declared.reason.AttemptFailure.TheVariants.{WrongPin, Disabled, Blocked, Unknown}
 use Rattle.audit.specs.declared.reason.AttemptFailure.TheVariants as failures
 use Rattle.audit.specs.declared.reason.Why.TheVariants.{AttemptFailed}
 use Rattle.sessions.specs.declared.answers.AuthAnswer.TheVariants.{Right, Wrong, LockedOut}
@@ -92,6 +93,7 @@ right-said sp a None e = (refl, refl)
 right-said sp a (Some failures.LockedOut) e = cc
 right-said sp a (Some WrongPin) e = cc
 right-said sp a (Some Disabled) e = cc
+right-said sp a (Some Blocked) e = cc
 right-said sp a (Some Unknown) e = cc
 
 same-why : (why other : Why) → Wrong why ≡ Wrong other → Some why ≡ Some other
@@ -102,6 +104,7 @@ wrong-said sp a None why e = cc
 wrong-said sp a (Some failures.LockedOut) why e = cc
 wrong-said sp a (Some WrongPin) why e = (refl, same-why why (AttemptFailed sp a WrongPin) e)
 wrong-said sp a (Some Disabled) why e = (refl, same-why why (AttemptFailed sp a Disabled) e)
+wrong-said sp a (Some Blocked) why e = (refl, same-why why (AttemptFailed sp a Blocked) e)
 wrong-said sp a (Some Unknown) why e = (refl, same-why why (AttemptFailed sp a Unknown) e)
 
 pub locked-said : (sp : Sp) (a : Uid) (f : Option AttemptFailure) → LockedOut ≡ answer_to sp a f → f ≡ Some failures.LockedOut
@@ -109,6 +112,7 @@ locked-said sp a None e = cc
 locked-said sp a (Some failures.LockedOut) e = refl
 locked-said sp a (Some WrongPin) e = cc
 locked-said sp a (Some Disabled) e = cc
+locked-said sp a (Some Blocked) e = cc
 locked-said sp a (Some Unknown) e = cc
 
 clash : false ≡ true → ⊥
@@ -167,15 +171,15 @@ set-stays : (o : Option SetError) (st : Setting) → true ≡ not (is_some o) �
 set-stays None st e = refl
 set-stays (Some x) st e = cc
 
-to_set-read : (s : Stored) (session : SessionId) (object : Uid) (ask : Ask) (change : Change) → has_set (kind_of session.sp object) ≡ true → Some (setting_seen change) ≡ setting session.sp (sizes_in s.config) object (kind_of session.sp object) ask → to_set (standing_on s session []) object ask ≡ unless_fault (fault_of_set s session change) (setting_seen change)
+to_set-read : (s : Stored) (session : SessionId) (object : Uid) (ask : Ask) (change : Change) → has_set (kind_of session.sp object) ≡ true → Some (setting_seen change) ≡ setting session.sp (sizes_in s.config) object (kind_of session.sp object) ask → to_set (standing_on Free s session []) object ask ≡ unless_fault (fault_of_set s session change) (setting_seen change)
 to_set-read s session object ask change h e =
-    sym (ap (valid (standing_on s session [])) e)
+    sym (ap (valid (standing_on Free s session [])) e)
     ∙ ap (λ o. unless_fault o (setting_seen change)) (sym (fault_as s session object ask change h e))
 
-pub to_set-none : (s : Stored) (session : SessionId) (object : Uid) (ask : Ask) (change : Change) → has_set (kind_of session.sp object) ≡ true → Some (setting_seen change) ≡ setting session.sp (sizes_in s.config) object (kind_of session.sp object) ask → false ≡ not (is_some (fault_of_set s session change)) → to_set (standing_on s session []) object ask ≡ None
+pub to_set-none : (s : Stored) (session : SessionId) (object : Uid) (ask : Ask) (change : Change) → has_set (kind_of session.sp object) ≡ true → Some (setting_seen change) ≡ setting session.sp (sizes_in s.config) object (kind_of session.sp object) ask → false ≡ not (is_some (fault_of_set s session change)) → to_set (standing_on Free s session []) object ask ≡ None
 to_set-none s session object ask change h e made = to_set-read s session object ask change h e ∙ set-left (fault_of_set s session change) (setting_seen change) made
 
-pub to_set-some : (s : Stored) (session : SessionId) (object : Uid) (ask : Ask) (change : Change) → has_set (kind_of session.sp object) ≡ true → Some (setting_seen change) ≡ setting session.sp (sizes_in s.config) object (kind_of session.sp object) ask → true ≡ not (is_some (fault_of_set s session change)) → to_set (standing_on s session []) object ask ≡ Some (setting_seen change)
+pub to_set-some : (s : Stored) (session : SessionId) (object : Uid) (ask : Ask) (change : Change) → has_set (kind_of session.sp object) ≡ true → Some (setting_seen change) ≡ setting session.sp (sizes_in s.config) object (kind_of session.sp object) ask → true ≡ not (is_some (fault_of_set s session change)) → to_set (standing_on Free s session []) object ask ≡ Some (setting_seen change)
 to_set-some s session object ask change h e made = to_set-read s session object ask change h e ∙ set-stays (fault_of_set s session change) (setting_seen change) made
 
 -- the store that it leaves

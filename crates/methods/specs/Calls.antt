@@ -23,6 +23,7 @@ use Rattle.sessions.specs.Deeds.{Unchanged, Changed, Sets, Activated, Reverted, 
 use Rattle.sessions.specs.Live.{Live}
 use Rattle.sessions.specs.Made.{Meets}
 use Rattle.sessions.specs.Starts.{is_in_use}
+use Rattle.trusted_cmds.specs.declared.block.SidBlock.{SidBlock}
 use Rattle.methods.specs.declared.outcome.Outcome.{Outcome as Answered}
 use Rattle.methods.specs.Said.{reply_of, refusal_of, done, attempt_reply, attempt_denied}
 use Rattle.methods.specs.Effects.{held_in, seen_by, has_transaction}
@@ -30,8 +31,8 @@ use Rattle.methods.specs.Erasures.{erased_by_revert, erased_by_key, erased_by_re
 use Rattle.methods.specs.Judgement.{Standing, Judgement, Refuses, Gives, Makes, Attempts, Activates, Reverts, Erases, RevertsSp, judged}
 
 -- what the rules ask of a session that holds these authorities, of what is kept
-abbrev pub standing_on : Stored → SessionId → List Uid → Standing
-standing_on s session held = record {
+abbrev pub standing_on : SidBlock → Stored → SessionId → List Uid → Standing
+standing_on block s session held = record {
   profile = s.config.profile;
   sectors = s.config.sectors;
   sizes = sizes_in s.config;
@@ -41,11 +42,12 @@ standing_on s session held = record {
   newest = latest_look s session.sp;
   held = held;
   is_open = has_transaction s session;
+  block = block;
 }
 
 -- with those that it holds
 abbrev pub standing_in : Stored → Live → SessionId → Standing
-standing_in s live session = standing_on s session (held_in live session)
+standing_in s live session = standing_on live.block s session (held_in live session)
 
 -- what comes of a call with these arguments, and of the call that a session sends
 abbrev pub judged_with : Stored → Live → SessionId → Uid → Uid → List Tree → Judgement
@@ -75,8 +77,8 @@ outcome_of rows sp (Refuses status denied) =
     record { deed = Unchanged; said = refusal_of status; denied = denied }
 outcome_of rows sp (Gives results) = says Unchanged (reply_of results success)
 outcome_of rows sp (Makes setting) = says (Changed sp (Sets setting)) done
-outcome_of rows sp (Attempts authority pin) =
-    tried_in rows sp authority (failure_of rows sp authority pin)
+outcome_of rows sp (Attempts block authority pin) =
+    tried_in rows sp authority (failure_of block rows sp authority pin)
 outcome_of rows sp Activates = activates rows
 outcome_of rows sp (Reverts reverted) = says (Reverted reverted (erased_by_revert rows)) done
 outcome_of rows sp (Erases range) = says (Erased (erased_by_key rows range)) done

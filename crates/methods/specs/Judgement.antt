@@ -22,6 +22,7 @@ use Rattle.call_shapes.specs.Named.{values_of}
 use Rattle.call_shapes.specs.Asks.{ask_of}
 use Rattle.call_shapes.specs.Limits.{most_response}
 use Rattle.call_shapes.specs.Statuses.{success, not_authorized, invalid_parameter, response_overflow, fail}
+use Rattle.trusted_cmds.specs.declared.block.SidBlock.{SidBlock}
 use Rattle.methods.specs.Kinds.{kind_of, byte_table_of}
 use Rattle.methods.specs.Grants.{denied}
 use Rattle.methods.specs.Listed.{listed, cell_value}
@@ -32,8 +33,8 @@ use Rattle.methods.specs.Erasures.{is_wholly_locked}
 use Rattle.methods.specs.Effects.{ask_at, last_row, sp_of_row, unless_fault}
 
 -- what the rules ask of a session: the drive's profile and sectors, the sizes of its byte tables, the rows and their bytes in
--- its view, its SP, the rows there by which a change is judged, the authorities that it holds, and whether it has a
--- transaction open
+-- its view, its SP, the rows there by which a change is judged, the authorities that it holds, whether it has a
+-- transaction open, and whether SID is blocked
 pub record Standing : Type 0 where
   pub profile : Profile
   pub sectors : ℕ
@@ -44,6 +45,7 @@ pub record Standing : Type 0 where
   pub newest : RowLook
   pub held : List Uid
   pub is_open : Bool
+  pub block : SidBlock
 
 -- what a call asks, or nothing where its arguments have not the shape of its method
 abbrev pub asked : Profile → Sp → Uid → Uid → Trees → Option Ask
@@ -53,7 +55,7 @@ pub data Judgement : Type 0 where
   Refuses : (status : ℕ) (denied : Option Why) → Judgement
   Gives : (results : List Tree) → Judgement
   Makes : (setting : Setting) → Judgement
-  Attempts : (authority : Uid) (pin : List ℕ) → Judgement
+  Attempts : (block : SidBlock) (authority : Uid) (pin : List ℕ) → Judgement
   Activates : Judgement
   Reverts : (sp : Sp) → Judgement
   Erases : (range : ℕ) → Judgement
@@ -141,7 +143,7 @@ does_ask s object (GetBytes first last) =
     table_given s.byte s.sizes (byte_table_of (kind_of s.sp object)) first last
 does_ask s object (SetCells values) = makes (to_set s object (SetCells values))
 does_ask s object (SetBytes at content) = makes (to_set s object (SetBytes at content))
-does_ask s object (Authenticate authority pin) = Attempts authority pin
+does_ask s object (Authenticate authority pin) = Attempts s.block authority pin
 does_ask s object Activate = unless_open s.is_open Activates
 does_ask s object Revert = unless_open s.is_open (Reverts (sp_of_row object))
 does_ask s object GenKey = unless_open s.is_open (erases (key_number object))

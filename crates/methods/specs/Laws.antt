@@ -59,7 +59,7 @@ abbrev pub takes_effect : Judgement → Bool
 takes_effect (Refuses status denied) = false
 takes_effect (Gives results) = true
 takes_effect (Makes setting) = true
-takes_effect (Attempts authority pin) = true
+takes_effect (Attempts block authority pin) = true
 takes_effect Activates = true
 takes_effect (Reverts sp) = true
 takes_effect (Erases range) = true

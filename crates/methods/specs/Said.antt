@@ -5,7 +5,7 @@ use Rattle.tcg_tokens.specs.Message.{Message, reply}
 use Rattle.sp_cells.specs.declared.names.Uid.{Uid}
 use Rattle.sp_cells.specs.declared.names.Sp.{Sp}
 use Rattle.audit.specs.declared.reason.AttemptFailure.{AttemptFailure}
-use Rattle.audit.specs.declared.reason.AttemptFailure.TheVariants.{WrongPin, LockedOut, Disabled, Unknown}
+use Rattle.audit.specs.declared.reason.AttemptFailure.TheVariants.{WrongPin, LockedOut, Disabled, Blocked, Unknown}
 use Rattle.audit.specs.declared.reason.Why.{Why}
 use Rattle.audit.specs.declared.reason.Why.TheVariants.{AttemptFailed}
 use Rattle.call_shapes.specs.Statuses.{success, authority_locked_out}
@@ -25,6 +25,7 @@ attempt_reply None = reply_of (number 1 ∷ []) success
 attempt_reply (Some LockedOut) = refusal_of authority_locked_out
 attempt_reply (Some WrongPin) = reply_of (number 0 ∷ []) success
 attempt_reply (Some Disabled) = reply_of (number 0 ∷ []) success
+attempt_reply (Some Blocked) = reply_of (number 0 ∷ []) success
 attempt_reply (Some Unknown) = reply_of (number 0 ∷ []) success
 
 abbrev pub attempt_denied : Sp → Uid → Option AttemptFailure → Option Why

@@ -4,6 +4,7 @@ ghost use Rattle.std.specs.Prelude.{◌≡◌, ◌≢◌, ◌==◌, ◌↔◌, �
 ghost use Rattle.shadow_mbr.specs.Stored.{sector_size};
 ghost use Rattle.transactions.specs.Bytes.{bytes_from};
 ghost use Rattle.transactions.specs.Sights.{sight_of, is_manufactured};
+ghost use Rattle.trusted_cmds.specs.declared.block.SidBlock.TheVariants.{Free};
 ghost use Rattle.sessions.specs.Live.{Live};
 ghost use Rattle.methods.specs.Kinds.{kind_of as kind_of_object};
 ghost use Rattle.methods.specs.Changes.{setting_seen};
@@ -32,6 +33,7 @@ use sp_cells::{ByteTable, Column, Rows, Sp, Uid, number_at};
 use std::alloc::{AllocError, Global};
 use tcg_tokens::{Bytes, Value};
 use transactions::{SessionId, Store, View};
+use trusted_cmds::SidBlock;
 
 /// What Get lists, as results.
 fn columns_outcome<R: Rows>(
@@ -172,7 +174,7 @@ pub(crate) fn write(
     requires { has_set (kind_of_object session.sp object) ≡ true }
     ensures fulfils { (l : Live) → IfOk result (λ out.
         Fulfils (outcome_in store.old session
-        (makes (to_set (standing_on store.old session []) object ask.now)))
+        (makes (to_set (standing_on Free store.old session []) object ask.now)))
         out store.old store.new l l) }
     ensures err { OnErr result (store.new ≡ store.old) }
     ensures memory { IfErr result (λ e. e ≡ faults.OutOfMemory) }
@@ -198,7 +200,7 @@ pub(crate) fn authenticate(
 ) -> Result<Outcome, MethodFault>
     requires lives { live_holder sessions.old session ≢ None }
     ensures fulfils { IfOk result (λ out.
-        Fulfils (outcome_in store.old session (Attempts authority proof.now))
+        Fulfils (outcome_in store.old session (Attempts sessions.old.block authority proof.now))
         out store.old store.new sessions.old sessions.new) }
     ensures err { OnErr result ((store.new ≡ store.old) × (sessions.new ≡ sessions.old)) }
     ensures memory { IfErr result (λ e. e ≡ faults.OutOfMemory) }
@@ -275,7 +277,7 @@ fn sp_of_row(object: Uid) -> Sp
     }
 }
 
-/// Revert.
+/// Revert. That of the Admin SP frees SID.
 pub(crate) fn revert(
     alloc: Global,
     store: &mut Store,
@@ -297,7 +299,10 @@ pub(crate) fn revert(
     let sp = sp_of_row(object);
     store.revert(sp)?;
     match sp {
-        Sp::Admin => sessions.end_all(),
+        Sp::Admin => {
+            sessions.end_all();
+            sessions.set_block(SidBlock::Free);
+        }
         Sp::Locking => sessions.end_on(Sp::Locking),
     }
     Ok(said(Vec::new(alloc), None, erases))

@@ -6,8 +6,9 @@ use Rattle.sp_cells.specs.ColumnNames.{tries_column}
 use Rattle.sp_cells.specs.Flat.{LookUp}
 use Rattle.sp_cells.specs.Ranges.{number}
 use Rattle.audit.specs.declared.reason.AttemptFailure.{AttemptFailure}
-use Rattle.audit.specs.declared.reason.AttemptFailure.TheVariants.{WrongPin, LockedOut, Disabled, Unknown}
+use Rattle.audit.specs.declared.reason.AttemptFailure.TheVariants.{WrongPin, LockedOut, Disabled, Blocked, Unknown}
 use Rattle.audit.specs.declared.reason.Why.TheVariants.{AttemptFailed}
+use Rattle.trusted_cmds.specs.declared.block.SidBlock.{SidBlock}
 use Rattle.transactions.specs.Stored.{Stored, at_part, part_tries}
 use Rattle.transactions.specs.Sights.{look_up, committed_sight}
 use Rattle.sessions.specs.declared.answers.AuthAnswer.{AuthAnswer}
@@ -20,8 +21,8 @@ abbrev pub rows_in_force : Stored → LookUp
 rows_in_force s = look_up (committed_sight s)
 
 -- how an attempt fails by the rows in force; None where it is right
-abbrev pub attempt : Stored → Sp → Uid → List ℕ → Option AttemptFailure
-attempt s sp authority proof = attempt_failure (rows_in_force s) sp authority proof
+abbrev pub attempt : SidBlock → Stored → Sp → Uid → List ℕ → Option AttemptFailure
+attempt block s sp authority proof = attempt_failure block (rows_in_force s) sp authority proof
 
 -- one more; the largest number of 64 bits stays
 abbrev pub up : ℕ → ℕ
@@ -32,6 +33,7 @@ answer_to sp authority None = answers.Right
 answer_to sp authority (Some LockedOut) = answers.LockedOut
 answer_to sp authority (Some WrongPin) = answers.Wrong (AttemptFailed sp authority WrongPin)
 answer_to sp authority (Some Disabled) = answers.Wrong (AttemptFailed sp authority Disabled)
+answer_to sp authority (Some Blocked) = answers.Wrong (AttemptFailed sp authority Blocked)
 answer_to sp authority (Some Unknown) = answers.Wrong (AttemptFailed sp authority Unknown)
 
 -- the Tries of the authority's PIN row
@@ -47,6 +49,7 @@ after_attempt sp authority (Some WrongPin) s =
     (up (number (rows_in_force s) sp (credential (rows_in_force s) sp authority) tries_column)) s
 after_attempt sp authority (Some LockedOut) s = s
 after_attempt sp authority (Some Disabled) s = s
+after_attempt sp authority (Some Blocked) s = s
 after_attempt sp authority (Some Unknown) s = s
 
 -- a session gains what was proved

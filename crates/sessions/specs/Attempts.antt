@@ -6,12 +6,14 @@ use Rattle.sp_cells.specs.declared.names.Sp.{Sp}
 use Rattle.sp_cells.specs.declared.names.Uid.{Uid as UidType}
 use Rattle.sp_cells.specs.declared.cells.Cell.{Cell}
 use Rattle.sp_cells.specs.declared.cells.Cell.TheVariants.{Bytes, Uid}
-use Rattle.sp_cells.specs.Names.{none, anybody}
+use Rattle.sp_cells.specs.Names.{none, anybody, sid}
 use Rattle.sp_cells.specs.ColumnNames.{uid_column, credential_column, enabled_column, is_class_column, pin_column, tries_column, try_limit_column}
 use Rattle.sp_cells.specs.Flat.{LookUp}
 use Rattle.sp_cells.specs.Ranges.{number}
 use Rattle.audit.specs.declared.reason.AttemptFailure.{AttemptFailure}
-use Rattle.audit.specs.declared.reason.AttemptFailure.TheVariants.{WrongPin, LockedOut, Disabled, Unknown}
+use Rattle.audit.specs.declared.reason.AttemptFailure.TheVariants.{WrongPin, LockedOut, Disabled, Blocked, Unknown}
+use Rattle.trusted_cmds.specs.declared.block.SidBlock.{SidBlock}
+use Rattle.trusted_cmds.specs.BlockSid.{is_blocked}
 use Rattle.sessions.specs.Known.{is_known}
 
 -- the object that a cell names; no object where it names none
@@ -42,11 +44,13 @@ pin_failure look sp pin proof =
 abbrev pub is_there : LookUp → Sp → UidType → Bool
 is_there look sp authority = is_known sp authority && is_some (look sp authority uid_column)
 
--- how an attempt fails; None where it is right. Anybody needs no PIN
-abbrev pub attempt_failure : LookUp → Sp → UidType → List ℕ → Option AttemptFailure
-attempt_failure look sp authority proof =
+-- how an attempt fails; None where it is right. Anybody needs no PIN; while SID is blocked its PIN is not looked at, nor
+-- its tries (Block SID Authentication feature set 1.00)
+abbrev pub attempt_failure : SidBlock → LookUp → Sp → UidType → List ℕ → Option AttemptFailure
+attempt_failure block look sp authority proof =
     if not (is_there look sp authority) || (number look sp authority is_class_column == 1)
     then Some Unknown else
     if not (number look sp authority enabled_column == 1) then Some Disabled else
+    if is_blocked block && (authority.0 == sid.0) then Some Blocked else
     if authority.0 == anybody.0 then None else
     pin_failure look sp (credential look sp authority) proof

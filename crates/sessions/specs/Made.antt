@@ -13,7 +13,7 @@ use Rattle.shadow_mbr.specs.Stored.{sector_size}
 use Rattle.shadow_mbr.specs.declared.erasure.Erasure.{Erasure}
 use Rattle.ace_eval.specs.Truth.{has}
 use Rattle.audit.specs.declared.reason.AttemptFailure.{AttemptFailure}
-use Rattle.audit.specs.declared.reason.AttemptFailure.TheVariants.{WrongPin, LockedOut, Disabled, Unknown}
+use Rattle.audit.specs.declared.reason.AttemptFailure.TheVariants.{WrongPin, LockedOut, Disabled, Blocked, Unknown}
 use Rattle.audit.specs.declared.reason.Why.{Why}
 use Rattle.tcg_tokens.specs.Message.{Message}
 use Rattle.transactions.specs.Bytes.{written}
@@ -21,6 +21,7 @@ use Rattle.transactions.specs.Stored.{Transaction, Part, Stored, part, at_part, 
 use Rattle.transactions.specs.Sights.{activated_with}
 use Rattle.sessions.specs.Answers.{rows_in_force, up}
 use Rattle.sessions.specs.Deeds.{Setting, cells_set, bytes_set, Change, Sets, Restores, Resets, Begun, holder_of, SessionDeed, Unchanged, Started, Tried, Changed, Began, Committed, Aborted, Ended, Activated, Reverted, Erased, erased_by, Outcome}
+use Rattle.sessions.specs.Block.{block_after}
 use Rattle.sessions.specs.Live.{Holder, Live, session_at, unless_on}
 
 -- what a setting makes of rows, of bytes, and of a store
@@ -68,6 +69,7 @@ StoresAttempt sp row (Some WrongPin) s t =
     t ≡ with_count sp row (up (number (rows_in_force s) sp row tries_column)) s
 StoresAttempt sp row (Some LockedOut) s t = t ≡ s
 StoresAttempt sp row (Some Disabled) s t = t ≡ s
+StoresAttempt sp row (Some Blocked) s t = t ≡ s
 StoresAttempt sp row (Some Unknown) s t = t ≡ s
 
 abbrev pub Opens : Sp → ℕ → Stored → Stored → Type 0
@@ -145,3 +147,4 @@ pub record Meets (out : Outcome) (said : Message) (why : Option Why) (erasure : 
   pub erases : erasure ≡ erased_by out.deed
   pub store : StoresAs out.deed s t
   pub sessions : LivesAs out.deed l m
+  pub block : m.block ≡ block_after out.deed l.block

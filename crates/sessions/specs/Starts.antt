@@ -12,7 +12,7 @@ use Rattle.sp_cells.specs.Limits.{manufactured}
 use Rattle.sp_cells.specs.Flat.{LookUp}
 use Rattle.sp_cells.specs.Ranges.{number as number_at}
 use Rattle.audit.specs.declared.reason.AttemptFailure.{AttemptFailure}
-use Rattle.audit.specs.declared.reason.AttemptFailure.TheVariants.{WrongPin, LockedOut, Disabled, Unknown}
+use Rattle.audit.specs.declared.reason.AttemptFailure.TheVariants.{WrongPin, LockedOut, Disabled, Blocked, Unknown}
 use Rattle.audit.specs.declared.reason.Why.{Why}
 use Rattle.audit.specs.declared.reason.Why.TheVariants.{AttemptFailed}
 use Rattle.call_shapes.specs.Parameters.{host_challenge_parameter, host_signing_authority_parameter}
@@ -88,7 +88,7 @@ opening_verdict_on look l o (Some sp) =
     if not (is_in_use look sp) then Refused invalid_parameter else
     if lives_on sp l then Refused sp_busy else
     if is_full l then Refused no_sessions_available else
-    Attempted sp (attempt_failure look sp o.authority o.proof)
+    Attempted sp (attempt_failure l.block look sp o.authority o.proof)
 
 -- what comes of a StartSession: a refusal, or an attempt on its authority
 abbrev pub verdict : LookUp → Live → Option Opening → StartVerdict
@@ -115,6 +115,7 @@ abbrev pub attempt_status : AttemptFailure → ℕ
 attempt_status LockedOut = authority_locked_out
 attempt_status WrongPin = not_authorized
 attempt_status Disabled = not_authorized
+attempt_status Blocked = not_authorized
 attempt_status Unknown = not_authorized
 
 -- the answer, why it was denied, and what is left

@@ -7,6 +7,7 @@ ghost use Rattle.sp_cells.specs.ColumnNames.{pin_column};
 
 use audit::AttemptFailure;
 use sp_cells::{Cell, Column, Rows, Sp, Uid, is_locking_authority, number_at};
+use trusted_cmds::SidBlock;
 
 /// Whether an authority, or a class, is one of the SP.
 pub(crate) fn is_known(sp: Sp, authority: Uid) -> bool
@@ -74,20 +75,25 @@ fn pin_failure<R: Rows>(rows: &R, sp: Sp, pin: Uid, proof: &[u8]) -> Option<Atte
     }
 }
 
-/// How an attempt on an authority fails by these rows; None where it is right. Anybody needs no PIN.
+/// How an attempt on an authority fails by these rows; None where it is right. Anybody needs no PIN. While SID is
+/// blocked its PIN is not looked at.
 pub(crate) fn failure<R: Rows>(
+    block: SidBlock,
     rows: &R,
     sp: Sp,
     authority: Uid,
     proof: &[u8],
 ) -> Option<AttemptFailure>
-    ensures { result ≡ failure_of (R.look_up rows.now) sp authority proof.now }
+    ensures { result ≡ failure_of block (R.look_up rows.now) sp authority proof.now }
 {
     if !is_there(rows, sp, authority) || number_at(rows, sp, authority, Column::IS_CLASS) == 1 {
         return Some(AttemptFailure::Unknown);
     }
     if number_at(rows, sp, authority, Column::ENABLED) != 1 {
         return Some(AttemptFailure::Disabled);
+    }
+    if block.is_blocked() && authority == Uid::SID {
+        return Some(AttemptFailure::Blocked);
     }
     if authority == Uid::ANYBODY {
         return None;

@@ -4,9 +4,9 @@ use Rattle.std.specs.Prelude.{◌==◌, ℕ, List, [], ◌∷◌, Option, None, 
 use Rattle.std.specs.Borrow.{Bor}
 use Rattle.std.specs.Str.{bytes_eq}
 use Rattle.sp_cells.specs.declared.names.Column.{Column}
-use Rattle.sp_cells.specs.Names.{sp_table, tper_info_table, c_pin_table, authority_table, ace_table, locking_table, mbr_control_table, locking_info_table, table_table, key_table}
+use Rattle.sp_cells.specs.Names.{sp_table, tper_info_table, c_pin_table, authority_table, ace_table, locking_table, mbr_control_table, locking_info_table, table_table, key_table, data_removal_table}
 use Rattle.sp_cells.specs.ColumnNames.{uid_column, name_column, life_cycle_state_column, programmatic_reset_enable_column, common_name_column, pin_column, char_set_column, try_limit_column, tries_column, persistence_column, is_class_column, class_column, enabled_column, operation_column, credential_column, boolean_expr_column, columns_column, range_start_column, range_length_column, read_lock_enabled_column}
-use Rattle.sp_cells.specs.ColumnNames.{write_lock_enabled_column, read_locked_column, write_locked_column, lock_on_reset_column, active_key_column, mbr_enable_column, mbr_done_column, mbr_done_on_reset_column, version_column, encrypt_support_column, max_ranges_column, max_re_encryptions_column, keys_available_cfg_column, alignment_required_column, logical_block_size_column, alignment_granularity_column, lowest_aligned_lba_column, kind_column, rows_column, mandatory_write_granularity_column, recommended_access_granularity_column}
+use Rattle.sp_cells.specs.ColumnNames.{write_lock_enabled_column, read_locked_column, write_locked_column, lock_on_reset_column, active_key_column, mbr_enable_column, mbr_done_column, mbr_done_on_reset_column, active_data_removal_mechanism_column, version_column, encrypt_support_column, max_ranges_column, max_re_encryptions_column, keys_available_cfg_column, alignment_required_column, logical_block_size_column, alignment_granularity_column, lowest_aligned_lba_column, kind_column, rows_column, mandatory_write_granularity_column, recommended_access_granularity_column}
 
 -- a column, and its name
 abbrev pub NamedColumn : Type 0
@@ -114,6 +114,12 @@ key_names =
     ∷ (common_name_column, codes "CommonName")
     ∷ []
 
+unfoldable pub data_removal_names : List NamedColumn
+data_removal_names =
+    (uid_column, codes "UID")
+    ∷ (active_data_removal_mechanism_column, codes "ActiveDataRemovalMechanism")
+    ∷ []
+
 -- those of a table, by the upper four bytes of its rows' names
 abbrev pub names_of_table : ℕ → List NamedColumn
 names_of_table table =
@@ -127,6 +133,7 @@ names_of_table table =
     if table == locking_info_table then locking_info_names else
     if table == table_table then table_names else
     if table == key_table then key_names else
+    if table == data_removal_table then data_removal_names else
     []
 
 abbrev pub column_name_in : List NamedColumn → Column → Option (List ℕ)

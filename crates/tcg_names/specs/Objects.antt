@@ -4,8 +4,8 @@ use Rattle.std.specs.Prelude.{◌==◌, ◌+◌, ◌++◌, ℕ, zero, suc, List,
 use Rattle.std.specs.Str.{bytes_eq}
 use Rattle.sp_cells.specs.declared.names.TheConstants.{RANGES, USERS, ADMINS}
 use Rattle.sp_cells.specs.declared.names.Uid.{Uid}
-use Rattle.sp_cells.specs.Names.{this_sp, admin_sp, locking_sp, tper_info, anybody, sid, psid, admins_class, users_class, admin_uid, user_uid, c_pin_sid, c_pin_msid, c_pin_psid, admin_pin_uid, user_pin_uid, range_uid, locking_info, key_uid, mbr_control, mbr_table, mbr_table_row}
-use Rattle.sp_cells.specs.Names.{ace_anybody, ace_admins, ace_anybody_get_common_name, ace_c_pin_sid_get_nopin, ace_c_pin_sid_set_pin, ace_c_pin_msid_get_pin, ace_c_pin_get_psid_nopin, ace_sp_psid, ace_sp_sid, ace_tper_info_set_programmatic_reset_enable, ace_ace_set_boolean_expression, ace_authority_set_enabled, ace_c_pin_admins_get_all_nopin, ace_c_pin_admins_set_pin, ace_c_pin_user_set_pin, ace_range_get, ace_key_gen_key, ace_range_set_read_locked, ace_range_set_write_locked, ace_locking_global_range_admins_set, ace_locking_admins_set, ace_mbr_control_admins_set, ace_mbr_control_set_done_to_dor}
+use Rattle.sp_cells.specs.Names.{this_sp, admin_sp, locking_sp, tper_info, anybody, sid, psid, admins_class, users_class, admin_uid, user_uid, c_pin_sid, c_pin_msid, c_pin_psid, admin_pin_uid, user_pin_uid, range_uid, locking_info, key_uid, mbr_control, mbr_table, mbr_table_row, datastore_table, datastore_table_row, data_removal}
+use Rattle.sp_cells.specs.Names.{ace_anybody, ace_admins, ace_anybody_get_common_name, ace_c_pin_sid_get_nopin, ace_c_pin_sid_set_pin, ace_c_pin_msid_get_pin, ace_c_pin_get_psid_nopin, ace_sp_psid, ace_sp_sid, ace_tper_info_set_programmatic_reset_enable, ace_ace_set_boolean_expression, ace_authority_set_enabled, ace_c_pin_admins_get_all_nopin, ace_c_pin_admins_set_pin, ace_c_pin_user_set_pin, ace_range_get, ace_key_gen_key, ace_range_set_read_locked, ace_range_set_write_locked, ace_locking_global_range_admins_set, ace_locking_admins_set, ace_mbr_control_admins_set, ace_mbr_control_set_done_to_dor, ace_datastore_get_all, ace_datastore_set_all, ace_data_removal_set_active}
 use Rattle.sp_cells.specs.Names.{get, set, authenticate, revert, activate, gen_key, revert_sp, session_manager, properties, start_session, sync_session}
 
 -- an object and its name
@@ -23,6 +23,9 @@ object_singles =
     ∷ (mbr_control, codes "MBRControl")
     ∷ (mbr_table, codes "MBR")
     ∷ (mbr_table_row, codes "Table_MBR")
+    ∷ (datastore_table, codes "DataStore")
+    ∷ (datastore_table_row, codes "Table_DataStore")
+    ∷ (data_removal, codes "DataRemovalMechanism")
     ∷ []
 
 -- authorities, and the rows of their PINs
@@ -67,6 +70,8 @@ locking_ace_singles =
     ∷ (ace_locking_admins_set, codes "ACE_Locking_Admins_RangeStartToLOR")
     ∷ (ace_mbr_control_admins_set, codes "ACE_MBRControl_Admins_Set")
     ∷ (ace_mbr_control_set_done_to_dor, codes "ACE_MBRControl_Set_DoneToDOR")
+    ∷ (ace_datastore_get_all, codes "ACE_DataStore_Get_All")
+    ∷ (ace_datastore_set_all, codes "ACE_DataStore_Set_All")
     ∷ []
 
 -- the session manager, and the methods

@@ -1,7 +1,7 @@
 //! The columns of the tables, and their names.
 
 ghost use Rattle.std.specs.Prelude.{◌≡◌, MatchOption, Some, None};
-ghost use Rattle.tcg_names.specs.Columns.{column_pairs, column_name_in, column_in, names_of_table, column_name, column_by_name, sp_names, tper_info_names, c_pin_names, authority_names, ace_names, locking_names, mbr_control_names, locking_info_names, table_names, key_names};
+ghost use Rattle.tcg_names.specs.Columns.{column_pairs, column_name_in, column_in, names_of_table, column_name, column_by_name, sp_names, tper_info_names, c_pin_names, authority_names, ace_names, locking_names, mbr_control_names, locking_info_names, table_names, key_names, data_removal_names};
 
 use sp_cells::Column;
 use sp_cells::names::tables;
@@ -107,8 +107,16 @@ const K_AES_256: [NamedColumn; 3] = [
     (Column::COMMON_NAME, "CommonName"),
 ];
 
+const DATA_REMOVAL: [NamedColumn; 2] = [
+    (Column::UID, "UID"),
+    (
+        Column::ACTIVE_DATA_REMOVAL_MECHANISM,
+        "ActiveDataRemovalMechanism",
+    ),
+];
+
 /// The columns of a table, by the upper four bytes of its rows' names.
-#[tactic(auto, unfolding(crate::specs::Columns::sp_names, crate::specs::Columns::tper_info_names, crate::specs::Columns::c_pin_names, crate::specs::Columns::authority_names, crate::specs::Columns::ace_names, crate::specs::Columns::locking_names, crate::specs::Columns::mbr_control_names, crate::specs::Columns::locking_info_names, crate::specs::Columns::table_names, crate::specs::Columns::key_names))]
+#[tactic(auto, unfolding(crate::specs::Columns::sp_names, crate::specs::Columns::tper_info_names, crate::specs::Columns::c_pin_names, crate::specs::Columns::authority_names, crate::specs::Columns::ace_names, crate::specs::Columns::locking_names, crate::specs::Columns::mbr_control_names, crate::specs::Columns::locking_info_names, crate::specs::Columns::table_names, crate::specs::Columns::key_names, crate::specs::Columns::data_removal_names))]
 fn names_of_table(table: u64) -> &'static [NamedColumn]
     ensures { column_pairs result.now ≡ names_of_table table }
 {
@@ -123,6 +131,7 @@ fn names_of_table(table: u64) -> &'static [NamedColumn]
         tables::LOCKING_INFO => &LOCKING_INFO,
         tables::TABLE => &TABLE,
         tables::K_AES_256 => &K_AES_256,
+        tables::DATA_REMOVAL => &DATA_REMOVAL,
         _ => &[],
     }
 }

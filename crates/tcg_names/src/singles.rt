@@ -10,7 +10,7 @@ use sp_cells::Uid;
 pub(crate) type Named = (Uid, &'static str);
 
 /// The objects of tables that have one row or few.
-const OBJECTS: [Named; 8] = [
+const OBJECTS: [Named; 11] = [
     (Uid::THIS_SP, "ThisSP"),
     (Uid::ADMIN_SP, "AdminSP"),
     (Uid::LOCKING_SP, "LockingSP"),
@@ -19,6 +19,9 @@ const OBJECTS: [Named; 8] = [
     (Uid::MBR_CONTROL, "MBRControl"),
     (Uid::MBR_TABLE, "MBR"),
     (Uid::MBR_TABLE_ROW, "Table_MBR"),
+    (Uid::DATASTORE_TABLE, "DataStore"),
+    (Uid::DATASTORE_TABLE_ROW, "Table_DataStore"),
+    (Uid::DATA_REMOVAL, "DataRemovalMechanism"),
 ];
 
 /// Authorities, and the rows of their PINs.
@@ -34,7 +37,7 @@ const AUTHORITIES: [Named; 8] = [
 ];
 
 /// The ACEs of the Admin SP, and those of both.
-const ADMIN_ACES: [Named; 9] = [
+const ADMIN_ACES: [Named; 10] = [
     (Uid::ACE_ANYBODY, "ACE_Anybody"),
     (Uid::ACE_ADMINS, "ACE_Admin"),
     (Uid::ACE_C_PIN_SID_GET_NOPIN, "ACE_C_PIN_SID_Get_NOPIN"),
@@ -47,10 +50,14 @@ const ADMIN_ACES: [Named; 9] = [
         Uid::ACE_TPER_INFO_SET_PROGRAMMATIC_RESET_ENABLE,
         "ACE_TPerInfo_Set_ProgrammaticResetEnable",
     ),
+    (
+        Uid::ACE_DATA_REMOVAL_SET_ACTIVE,
+        "ACE_DataRemovalMechanism_Set_Active",
+    ),
 ];
 
 /// The ACEs of the Locking SP.
-const LOCKING_ACES: [Named; 9] = [
+const LOCKING_ACES: [Named; 11] = [
     (
         Uid::ACE_ANYBODY_GET_COMMON_NAME,
         "ACE_Anybody_Get_CommonName",
@@ -78,6 +85,8 @@ const LOCKING_ACES: [Named; 9] = [
         Uid::ACE_MBR_CONTROL_SET_DONE_TO_DOR,
         "ACE_MBRControl_Set_DoneToDOR",
     ),
+    (Uid::ACE_DATASTORE_GET_ALL, "ACE_DataStore_Get_All"),
+    (Uid::ACE_DATASTORE_SET_ALL, "ACE_DataStore_Set_All"),
 ];
 
 /// The session manager, and the methods.

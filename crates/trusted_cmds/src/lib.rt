@@ -1,6 +1,7 @@
 //! ATA commands of a self-locking drive, and the FISes that carry them (ACS-3).
 #![tactic(auto)]
 
+mod block;
 mod codes;
 mod command;
 mod fields;
@@ -9,6 +10,7 @@ mod reading;
 mod reset;
 mod spelling;
 
+pub use block::{BLOCK_COM_ID, SidBlock, is_block_sid};
 pub use codes::is_queued;
 pub use command::{Command, CommandError, DevicePage};
 pub use fields::{sectors, tag_of};
