@@ -47,7 +47,7 @@ use Rattle.call_shapes.specs.Named.{values_of}
 use Rattle.sp_cells.specs.Flat.{LookUp, sp_eq}
 use Rattle.call_shapes.specs.declared.ask.Ask.{Ask}
 use Rattle.call_shapes.specs.declared.ask.Ask.TheVariants.{GetCells, GetBytes, SetCells, SetBytes, Authenticate, Activate, Revert, GenKey, RevertSp, Other}
-use Rattle.history.specs.Events.{Deed, Nothing, InSession, OfQueue, Wrote, Took, WasReset, Event}
+use Rattle.history.specs.Events.{Deed, Nothing, InSession, OfQueue, Wrote, Took, BlockedSid, WasReset, Event}
 use Rattle.sp_tables.specs.Looks.{RowLook}
 use Rattle.history.specs.Changes.{with_tries}
 use Rattle.history.specs.Readers.{view, tries, rows_within, rows_after, living, lives_by, restores, session_on, open_on, is_of, in_force}
@@ -65,7 +65,7 @@ abbrev kind : Judgement → ℕ
 kind (Refuses status denied) = 0
 kind (Gives results) = 1
 kind (Makes setting) = 2
-kind (Attempts authority pin) = 3
+kind (Attempts block authority pin) = 3
 kind Activates = 4
 kind (Reverts sp) = 5
 kind (Erases range) = 6
@@ -407,6 +407,7 @@ living-on sp Nothing s h = cc
 living-on sp (OfQueue d) s h = cc
 living-on sp (Wrote lba bytes) s h = cc
 living-on sp (Took c) s h = cc
+living-on sp (BlockedSid block) s h = cc
 
 session-step : (sp : Sp) (s : Begun) (e : Event) (es : List Event) (t : Option (Option Begun)) → living sp e.deed ≡ t → session_on (e ∷ es) sp ≡ Some s → (session_on es sp ≡ Some s → s.sp ≡ sp) → s.sp ≡ sp
 session-step sp s e es (Some x) is h before = living-on sp e.deed s (is ∙ ap (λ y. Some y) (sym (ap (λ o. unwrap_or o None) (latest-here (living sp) e es x is)) ∙ h))
@@ -433,7 +434,7 @@ judged-can o past s h object method args (Makes c) is = record {
   row = λ admin. makes-one (standing (facts o past) s) object method c (granted (standing (facts o past) s) object method args 1 (Makes c) (asked o.tables.config.profile s.sp object method args) refl is refl) admin;
   inside = makes-inside (standing (facts o past) s) object method c (granted (standing (facts o past) s) object method args 1 (Makes c) (asked o.tables.config.profile s.sp object method args) refl is refl);
 }
-judged-can o past s h object method args (Attempts authority pin) is = by_failure (failure_of (in_force o past) s.sp authority pin)
+judged-can o past s h object method args (Attempts block authority pin) is = by_failure (failure_of block (in_force o past) s.sp authority pin)
   where
     by_failure : (x : Option AttemptFailure) → CanDo o past (tried_in (in_force o past) s.sp authority x).deed
     by_failure None = tt
@@ -527,7 +528,7 @@ begins-new look l sp sp' x true false false is lives h =
 
 start-new : (look : LookUp) (l : Live) (opening : Opening) (sp : Sp) (x : Option Sp) → opening_verdict_on look l opening x ≡ Attempted sp None → (lives_on sp l ≡ false) × (is_in_use look sp ≡ true)
 start-new look l opening sp None h = cc
-start-new look l opening sp (Some sp') h = begins-new look l sp sp' (failure_of look sp' opening.authority opening.proof) (is_in_use look sp') (lives_on sp' l) (is_full l) refl refl h
+start-new look l opening sp (Some sp') h = begins-new look l sp sp' (failure_of l.block look sp' opening.authority opening.proof) (is_in_use look sp') (lives_on sp' l) (is_full l) refl refl h
 
 started-can : (o : Origin) (past : List Event) (com_id : ℕ) (x : Option Opening) → CanDo o past (start_deed (facts o past) com_id x)
 started-can o past com_id None = tt

@@ -11,6 +11,7 @@ use Rattle.locking.specs.declared.range.Op.TheVariants.{Read, Write}
 use Rattle.trusted_cmds.specs.Commands.{is_queued, tag_of, sector_size}
 use Rattle.audit.specs.declared.reason.AttemptFailure.{AttemptFailure}
 use Rattle.audit.specs.declared.reason.Why.{Why}
+use Rattle.trusted_cmds.specs.declared.block.SidBlock.{SidBlock}
 use Rattle.compacket.specs.declared.error.FrameError.{FrameError}
 use Rattle.compacket.specs.Frames.{Frame, reading as frame_in}
 use Rattle.tcg_tokens.specs.declared.error.TokenError.{TokenError}
@@ -42,10 +43,12 @@ use Rattle.methods.specs.Erasures.{is_wholly_locked}
 use Rattle.methods.specs.Judgement.{asked, Standing, Judgement, Refuses, Gives, Makes, Attempts, Activates, Reverts, Erases, RevertsSp, erases, reverts_sp, denial, gives, listing, table_size, bytes_between, rows_given, to_set, makes, unless_open, does_ask, does, unless_denied, judged}
 use Rattle.call_shapes.specs.declared.ask.Ask.{Ask}
 use Rattle.call_shapes.specs.declared.ask.Ask.TheVariants.{GetCells, GetBytes, SetCells, SetBytes, Authenticate, Activate, Revert, GenKey, RevertSp, Other}
-use Rattle.history.specs.Events.{Nothing, Wrote, Took, HeldCommand, Event, did, WasReset}
+use Rattle.trusted_cmds.specs.BlockSid.{is_block_sid, block_asked, is_blocked}
+use Rattle.device_data.specs.Discovery.{has_owner}
+use Rattle.history.specs.Events.{Nothing, Wrote, Took, HeldCommand, Event, did, WasReset, BlockedSid}
 use Rattle.history.specs.Facts.{Facts, session_named, has_open, standing}
 use Rattle.history.specs.Decisions.{not_found, fails, refuses, aborted, fails_queue, on_drive, verdict_on, queued_by, admitted, unqueued_by, is_trusted, is_session_com_id, discovery_com_id, received, while_failed, is_busy, completed_by, completed, resets, is_received}
-use Rattle.history.specs.Tcg.{answers, start_verdict, started_by, started, is_method_of_manager, to_manager, judgement_on, begins_on, ends_on, in_session, is_manager, to_session, framed, sent, send, unqueued, known, commanded, tcg, command_read, item_in}
+use Rattle.history.specs.Tcg.{answers, start_verdict, started_by, started, is_method_of_manager, to_manager, judgement_on, begins_on, ends_on, in_session, is_manager, to_session, framed, sent, unqueued, known, commanded, tcg, command_read, item_in, blocks_sid, send_item, send}
 use Rattle.methods.specs.Calls.{tried_in, outcome_of}
 use Rattle.history.specs.History.{Act, Accept, Complete, Reset, event_by}
 use Rattle.history.specs.MethodLaws.{IsLookedAt, IsSent, IsCall}
@@ -120,7 +123,7 @@ abbrev reason : Judgement → Option Why
 reason (Refuses status denied) = denied
 reason (Gives results) = None
 reason (Makes setting) = None
-reason (Attempts authority pin) = None
+reason (Attempts block authority pin) = None
 reason Activates = None
 reason (Reverts sp) = None
 reason (Erases range) = None
@@ -165,6 +168,52 @@ done-clean s object Other = refl
 does-clean : (s : Standing) (object : Uid) (ask : Ask) → reason (does s object ask) ≡ None
 does-clean s object ask = done-clean s object (ask_at s.sp object ask)
 
+-- the block of an attempt is that of the drive
+abbrev block-of : SidBlock → Judgement → SidBlock
+block-of d (Attempts block authority pin) = block
+block-of d _ = d
+
+own-if : (d : SidBlock) (b : Bool) (x y : Judgement) → block-of d x ≡ d → block-of d y ≡ d → block-of d (cond b x y) ≡ d
+own-if d true x y h g = h
+own-if d false x y h g = g
+
+own-gives : (d : SidBlock) (results : List Tree) → block-of d (gives results) ≡ d
+own-gives d results = own-if d (is_carried (reply_of results success)) (Gives results) (Refuses 0x11 None) refl refl
+
+own-makes : (d : SidBlock) (x : Option Setting) → block-of d (makes x) ≡ d
+own-makes d None = refl
+own-makes d (Some set) = refl
+
+own-open : (d : SidBlock) (b : Bool) (j : Judgement) → block-of d j ≡ d → block-of d (unless_open b j) ≡ d
+own-open d true j h = refl
+own-open d false j h = h
+
+own-erases : (d : SidBlock) (x : Option ℕ) → block-of d (erases x) ≡ d
+own-erases d None = refl
+own-erases d (Some range) = refl
+
+own-done : (s : Standing) (object : Uid) (ask : Ask) → block-of s.block (does_ask s object ask) ≡ s.block
+own-done s object (GetCells a b) = own-gives s.block (listing s object a b)
+own-done s object (GetBytes a b) =
+    own-if s.block ((table_size s == 0) || (nat_le (table_size s) (last_row (table_size s) b) || nat_lt (last_row (table_size s) b) a)) (Refuses 0x0c None) _ refl
+    (own-if s.block (nat_lt most_response (last_row (table_size s) b + 1 - a)) (Refuses 0x11 None) (gives (bytes_between s.byte a (last_row (table_size s) b))) refl (own-gives s.block (bytes_between s.byte a (last_row (table_size s) b))))
+own-done s object (SetCells values) = own-makes s.block (to_set s object (SetCells values))
+own-done s object (SetBytes place content) = own-makes s.block (to_set s object (SetBytes place content))
+own-done s object (Authenticate a pin) = refl
+own-done s object Activate = own-open s.block s.is_open Activates refl
+own-done s object Revert = own-open s.block s.is_open (Reverts (sp_of_row object)) refl
+own-done s object GenKey = own-open s.block s.is_open (erases (key_number object)) (own-erases s.block (key_number object))
+own-done s object (RevertSp keep) = own-open s.block s.is_open (reverts_sp s.rows keep) (own-if s.block (keep && is_wholly_locked s.rows) (Refuses 0x3f None) (RevertsSp keep) refl refl)
+own-done s object Other = refl
+
+own-denied : (s : Standing) (d : Option Why) (j : Judgement) → block-of s.block j ≡ s.block → block-of s.block (unless_denied d j) ≡ s.block
+own-denied s None j h = h
+own-denied s (Some why) j h = refl
+
+own-block : (s : Standing) (object method : Uid) (x : Option Ask) → block-of s.block (judged s object method x) ≡ s.block
+own-block s object method None = refl
+own-block s object method (Some ask) = own-denied s (denial s object method ask) (does s object ask) (own-done s object (ask_at s.sp object ask))
+
 -- a call of a session
 refused-is : (f : Facts) (act : Act) (why : Why) (session : Begun) (object method : List ℕ) (args : Trees) → IsCall f act session object method args → (x : Option Ask) → asked f.config.profile session.sp (uid_of object) (uid_of method) args ≡ x
     → reason (judged (standing f session) (uid_of object) (uid_of method) x) ≡ Some why → IsDenied f act why
@@ -175,8 +224,8 @@ refused-is f act why session object method args c (Some ask) is h = by_denial (d
     by_denial None no_why g = absurd (nothing (sym (does-clean (standing f session) (uid_of object) ask) ∙ g))
     by_denial (Some w) some_why g = inr (inl (record { session = session; object = object; method = method; args = args; called = c; ask = ask; shaped = is; denial = some_why ∙ g }))
 
-attempt-is : (f : Facts) (act : Act) (why : Why) (session : Begun) (object method : List ℕ) (args : Trees) → IsCall f act session object method args → (authority : Uid) (pin : List ℕ) → judgement_on f session (uid_of object) (uid_of method) args ≡ Attempts authority pin
-    → (x : Option AttemptFailure) → failure_of f.rows session.sp authority pin ≡ x → (tried_in f.rows session.sp authority x).denied ≡ Some why → IsDenied f act why
+attempt-is : (f : Facts) (act : Act) (why : Why) (session : Begun) (object method : List ℕ) (args : Trees) → IsCall f act session object method args → (authority : Uid) (pin : List ℕ) → judgement_on f session (uid_of object) (uid_of method) args ≡ Attempts f.block authority pin
+    → (x : Option AttemptFailure) → failure_of f.block f.rows session.sp authority pin ≡ x → (tried_in f.rows session.sp authority x).denied ≡ Some why → IsDenied f act why
 attempt-is f act why session object method args c authority pin j None is h = absurd (nothing h)
 attempt-is f act why session object method args c authority pin j (Some failure) is h =
     inr (inr (inl (record { session = session; object = object; method = method; args = args; called = c; authority = authority; pin = pin; attempts = j; failure = failure; fails = is; why_is = same-why (sym h) })))
@@ -184,7 +233,10 @@ attempt-is f act why session object method args c authority pin j (Some failure)
 judged-is : (f : Facts) (act : Act) (why : Why) (session : Begun) (object method : List ℕ) (args : Trees) → IsCall f act session object method args → (j : Judgement) → judgement_on f session (uid_of object) (uid_of method) args ≡ j → (outcome_of f.rows session.sp j).denied ≡ Some why → IsDenied f act why
 judged-is f act why session object method args c (Refuses status denied) is h =
     refused-is f act why session object method args c (asked f.config.profile session.sp (uid_of object) (uid_of method) args) refl (ap reason is ∙ h)
-judged-is f act why session object method args c (Attempts authority pin) is h = attempt-is f act why session object method args c authority pin is (failure_of f.rows session.sp authority pin) refl h
+judged-is f act why session object method args c (Attempts block authority pin) is h =
+    let own : block ≡ f.block = ap (block-of f.block) (sym is) ∙ own-block (standing f session) (uid_of object) (uid_of method) (asked f.config.profile session.sp (uid_of object) (uid_of method) args) in
+    attempt-is f act why session object method args c authority pin (is ∙ ap (λ b. Attempts b authority pin) own) (failure_of f.block f.rows session.sp authority pin) refl
+    (ap (λ b. (tried_in f.rows session.sp authority (failure_of b f.rows session.sp authority pin)).denied) (sym own) ∙ h)
 judged-is f act why session object method args c (Gives results) is h = absurd (nothing h)
 judged-is f act why session object method args c (Makes change) is h = absurd (nothing h)
 judged-is f act why session object method args c Activates is h = absurd (nothing h)
@@ -266,7 +318,7 @@ framed-is f act why com_id frame sent h = by_manager (is_manager frame.session) 
     by_manager true is g = manager-is f act why com_id frame sent is (message_in frame.payload) refl g
     by_manager false is g = by_session is (session_named f com_id frame.session) refl g
 
-send-is : (f : Facts) (act : Act) (why : Why) (protocol com_id blocks : ℕ) (dma : Bool) (looked : IsLookedAt f act (Send protocol com_id blocks dma) None) → (send f protocol com_id blocks looked.payload).denied ≡ Some why → IsDenied f act why
+send-is : (f : Facts) (act : Act) (why : Why) (protocol com_id blocks : ℕ) (dma : Bool) (looked : IsLookedAt f act (Send protocol com_id blocks dma) None) → (send_item f protocol com_id blocks looked.payload).denied ≡ Some why → IsDenied f act why
 send-is f act why protocol com_id blocks dma looked h = by_taken (is_trusted protocol blocks && is_session_com_id com_id && not (is_some (f.waiting com_id))) refl h
   where
     by_id : (is_trusted protocol blocks && is_session_com_id com_id && not (is_some (f.waiting com_id))) ≡ true → (frame : Frame) → frame_in looked.payload ≡ Ok frame → (b : Bool) → (frame.com_id == com_id) ≡ b → (cond b (framed f com_id frame) (did Nothing)).denied ≡ Some why → IsDenied f act why
@@ -326,9 +378,13 @@ unqueued-is f act why (ReadDma l n) looked h = moves-is f act why (ReadDma l n) 
 unqueued-is f act why (WriteDma l n) looked h = moves-is f act why (WriteDma l n) None looked Write l n write_dma tt (unqueued_by (Wrote l looked.payload)) (fails not_found None) refl refl refl (λ w. refl) h
 unqueued-is f act why (Send p c b d) looked h = by_reset (resets f.rows (Send p c b d)) h
   where
+    by_block : (x : Bool) → (cond x (blocks_sid f looked.payload) (send_item f p c b looked.payload)).denied ≡ Some why → IsDenied f act why
+    by_block true g = absurd (nothing (sym (none-if (has_owner f.rows || is_blocked f.block) refuses (did (BlockedSid (block_asked looked.payload))) refl refl) ∙ g))
+    by_block false g = send-is f act why p c b d looked g
+
     by_reset : (x : Bool) → (cond x (did (WasReset programmatic)) (send f p c b looked.payload)).denied ≡ Some why → IsDenied f act why
     by_reset true g = absurd (nothing g)
-    by_reset false g = send-is f act why p c b d looked g
+    by_reset false g = by_block (is_block_sid f.config.profile (Send p c b true)) g
 unqueued-is f act why (Receive p c b d) looked h =
     absurd (nothing (sym (none-if (is_received f p c b) (received c b (f.waiting c)) refuses (received-none c b (f.waiting c)) refl) ∙ h))
 unqueued-is f act why (ReadQueued l n) looked h = absurd (nothing h)

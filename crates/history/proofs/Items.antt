@@ -21,10 +21,12 @@ use Rattle.trusted_cmds.specs.declared.command.CommandError.{CommandError}
 use Rattle.locking.specs.declared.ranges.Verdict.{Verdict}
 use Rattle.locking.specs.declared.ranges.Verdict.TheVariants.{Serve, Shadow, Denied}
 use Rattle.sessions.specs.Deeds.{Begun, SessionDeed}
-use Rattle.history.specs.Events.{Response, HeldCommand, Deed, Nothing, InSession, Wrote, Event, or_else, WasReset, did}
+use Rattle.trusted_cmds.specs.BlockSid.{is_block_sid, block_asked, is_blocked}
+use Rattle.device_data.specs.Discovery.{has_owner}
+use Rattle.history.specs.Events.{Response, HeldCommand, Deed, Nothing, InSession, Wrote, Event, or_else, WasReset, did, BlockedSid}
 use Rattle.history.specs.Facts.{Facts, is_named, if_named, session_named}
 use Rattle.history.specs.Decisions.{aborted, not_found, fails, refuses, fails_queue, on_drive, verdict_on, queued_by, queued_transfer, admitted, unqueued_by, unqueued_transfer, is_trusted, is_session_com_id, discovery_com_id, received, while_failed, is_busy, completed_by, completed, resets, is_received}
-use Rattle.history.specs.Tcg.{answers, to_manager, in_session, is_manager, to_session, framed, sent, unqueued, known, commanded, command_read, item_in}
+use Rattle.history.specs.Tcg.{answers, to_manager, in_session, is_manager, to_session, framed, sent, unqueued, known, commanded, command_read, item_in, blocks_sid}
 use Rattle.history.specs.History.{Act, Accept, Complete, Reset, event_by}
 use Rattle.sp_cells.specs.Resets.{programmatic}
 
@@ -113,7 +115,9 @@ unqueued-comes f payload (ReadDma lba count) = transfer-comes f Nothing Read lba
 unqueued-comes f payload (WriteDma lba count) = transfer-comes f (Wrote lba payload) Write lba count refl
 unqueued-comes f payload (Send protocol com_id blocks dma) =
     either f (resets f.rows (Send protocol com_id blocks dma)) (did (WasReset programmatic)) _ (no_item refl)
-    (either f (is_trusted protocol blocks && is_session_com_id com_id && not (is_some (f.waiting com_id))) _ refuses (sent-comes f com_id (frame_in payload)) (no_item refl))
+    (either f (is_block_sid f.config.profile (Send protocol com_id blocks true)) (blocks_sid f payload) _
+    (either f (has_owner f.rows || is_blocked f.block) refuses (did (BlockedSid (block_asked payload))) (no_item refl) (no_item refl))
+    (either f (is_trusted protocol blocks && is_session_com_id com_id && not (is_some (f.waiting com_id))) _ refuses (sent-comes f com_id (frame_in payload)) (no_item refl)))
 unqueued-comes f payload (Receive protocol com_id blocks dma) = either f (is_received f protocol com_id blocks) _ refuses (received-comes f com_id blocks (f.waiting com_id)) (no_item refl)
 unqueued-comes f payload _ = no_item refl
 

@@ -16,14 +16,14 @@ use Rattle.history.proofs.KeptStoreReads.{in_force-read}
 use Rattle.history.proofs.KeptCallsStanding.{held-same, standing-same}
 
 pub kept_call_law : CallLaw
-kept_call_law o acts s l session object method args store keeps lives =
+kept_call_law o acts s l session object method args store keeps block lives =
     let f : Facts = facts o (log o acts) in
     let here : Standing = standing_in s l (id_of session) in
     let ask : Option Ask = asked f.config.profile session.sp object method args in
     let shaped : asked s.config.profile session.sp object method args ≡ ask = ap (λ (config : Config). asked config.profile session.sp object method args) store.config in
     let same : judged here object method ask ≡ judgement_on f session object method args =
     sym (judged-alike here (authorities (log o acts) session) (held-same (log o acts) l session keeps lives) object method ask)
-    ∙ ap (λ st. judged st object method ask) (standing-same o acts s l session here.held store keeps lives) in
+    ∙ ap (λ st. judged st object method ask) (standing-same o acts s l session here.held store keeps lives block) in
     ap (λ (x : Option Ask). outcome_in s (id_of session) (judged here object method x)) shaped
     ∙ ap (outcome_in s (id_of session)) same
     ∙ ap (λ (rows : LookUp). outcome_of rows session.sp (judgement_on f session object method args)) (in_force-read s o (log o acts) store)

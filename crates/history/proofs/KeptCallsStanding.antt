@@ -18,7 +18,7 @@ use Rattle.methods.specs.Judgement.{Standing}
 use Rattle.methods.specs.Calls.{standing_on}
 use Rattle.sessions.specs.Deeds.{Begun}
 use Rattle.history.specs.Events.{Event, or_else}
-use Rattle.history.specs.Readers.{session_on, authorities, open_on, rows_after, rows_within, is_of, tries, in_force, view, byte_in_force, byte_in_view}
+use Rattle.history.specs.Readers.{session_on, authorities, open_on, rows_after, rows_within, is_of, tries, in_force, view, byte_in_force, byte_in_view, sid_block}
 use Rattle.history.specs.Facts.{facts, standing}
 use Rattle.history.specs.History.{Act, log}
 use Rattle.history.specs.KeptStore.{KeepsStore, ReadsStore}
@@ -163,17 +163,18 @@ latest-seen o acts s session store h = by_sp session.sp (own-pending o acts s se
     by_sp Locking own = latest-own s.locking session.number own
 
 -- All of it, with the authorities that the past gives.
-pub standing-same : (o : Origin) (acts : List Act) (s : Stored) (l : Live) (session : Begun) (held : List Uid) → KeepsStore s o (log o acts) → KeepsSessions l (log o acts) → session_on (log o acts) session.sp ≡ Some session
-    → with_held (standing_on s (id_of session) held) (authorities (log o acts) session) ≡ standing (facts o (log o acts)) session
-standing-same o acts s l session held store keeps h =
+pub standing-same : (o : Origin) (acts : List Act) (s : Stored) (l : Live) (session : Begun) (held : List Uid) → KeepsStore s o (log o acts) → KeepsSessions l (log o acts) → session_on (log o acts) session.sp ≡ Some session → l.block ≡ sid_block (log o acts)
+    → with_held (standing_on l.block s (id_of session) held) (authorities (log o acts) session) ≡ standing (facts o (log o acts)) session
+standing-same o acts s l session held store keeps h block =
     ap (λ (config : Config). record base { profile = config.profile; sectors = config.sectors; mbr_sectors = config.mbr_sectors }) store.config
-    ∙ ap (λ rows. record after { rows = rows; byte = base.byte; newest = base.newest; is_open = base.is_open }) (rows-same o acts s l session store keeps h)
-    ∙ ap (λ byte. record after { byte = byte; newest = base.newest; is_open = base.is_open }) (bytes-same o acts s l session store keeps h)
-    ∙ ap (λ newest. record after { newest = newest; is_open = base.is_open }) (latest-seen o acts s session store h ∙ ap (λ look. look session.sp) (rows-same o acts s l session store keeps h))
-    ∙ ap (λ is_open. record after { is_open = is_open }) (inside-same o (log o acts) s session store)
+    ∙ ap (λ rows. record after { rows = rows; byte = base.byte; newest = base.newest; is_open = base.is_open; block = base.block }) (rows-same o acts s l session store keeps h)
+    ∙ ap (λ byte. record after { byte = byte; newest = base.newest; is_open = base.is_open; block = base.block }) (bytes-same o acts s l session store keeps h)
+    ∙ ap (λ newest. record after { newest = newest; is_open = base.is_open; block = base.block }) (latest-seen o acts s session store h ∙ ap (λ look. look session.sp) (rows-same o acts s l session store keeps h))
+    ∙ ap (λ is_open. record after { is_open = is_open; block = base.block }) (inside-same o (log o acts) s session store)
+    ∙ ap (λ x. record after { block = x }) block
   where
     base : Standing
-    base = with_held (standing_on s (id_of session) held) (authorities (log o acts) session)
+    base = with_held (standing_on l.block s (id_of session) held) (authorities (log o acts) session)
 
     after : Standing
     after = standing (facts o (log o acts)) session

@@ -11,7 +11,9 @@ use Rattle.sp_cells.specs.Flat.{LookUp, sp_eq}
 use Rattle.sp_cells.specs.ColumnNames.{tries_column}
 use Rattle.sp_cells.specs.Ranges.{number}
 use Rattle.audit.specs.declared.reason.AttemptFailure.{AttemptFailure}
-use Rattle.audit.specs.declared.reason.AttemptFailure.TheVariants.{WrongPin, LockedOut, Disabled, Unknown}
+use Rattle.audit.specs.declared.reason.AttemptFailure.TheVariants.{WrongPin, LockedOut, Disabled, Blocked, Unknown}
+use Rattle.trusted_cmds.specs.declared.block.SidBlock.{SidBlock}
+use Rattle.sessions.specs.Block.{block_after}
 use Rattle.call_shapes.specs.Statuses.{invalid_parameter, sp_busy, no_sessions_available}
 use Rattle.transactions.specs.Stored.{Stored}
 use Rattle.sessions.specs.declared.opening.Opening.{Opening}
@@ -26,7 +28,7 @@ use Rattle.history.specs.Opening.{Origin}
 use Rattle.shadow_mbr.specs.Erasure.{no_sectors}
 use Rattle.sessions.specs.Deeds.{Begun, erased_by}
 use Rattle.history.specs.Events.{Event}
-use Rattle.history.specs.Readers.{session_on}
+use Rattle.history.specs.Readers.{session_on, sid_block}
 use Rattle.history.specs.Facts.{Facts, facts, numbered, live}
 use Rattle.history.specs.Tcg.{start_verdict, deed_of_start, start_deed}
 use Rattle.sessions.specs.Made.{with_count, StoresAs, gains_on, LivesAs}
@@ -110,16 +112,18 @@ lives-facts o past l sp k = lives-listed (session_on past Admin) (session_on pas
 record Alike (l m : Live) : Type 0 where
   lives : (sp : Sp) → lives_on sp l ≡ lives_on sp m
   next : l.next ≡ m.next
+  block : l.block ≡ m.block
 
-alike-facts : (o : Origin) (past : List Event) (l : Live) → KeepsSessions l past → AreNumbered l → Alike l (live (facts o past))
-alike-facts o past l k are = record { lives = λ sp. lives-past past l sp k are ∙ sym (lives-facts o past l sp k); next = k.next }
+alike-facts : (o : Origin) (past : List Event) (l : Live) → KeepsSessions l past → AreNumbered l → l.block ≡ sid_block past → Alike l (live (facts o past))
+alike-facts o past l k are block = record { lives = λ sp. lives-past past l sp k are ∙ sym (lives-facts o past l sp k); next = k.next; block = block }
 
 verdict-on : (look : LookUp) (l m : Live) (opening : Opening) → Alike l m → (named : Option Sp) → opening_verdict_on look l opening named ≡ opening_verdict_on look m opening named
 verdict-on look l m opening alike None = refl
 verdict-on look l m opening alike (Some sp) =
-    let attempts : StartVerdict = Attempted sp (failure_of look sp opening.authority opening.proof) in
-    ap (λ b. cond (not (is_in_use look sp)) (Refused invalid_parameter) (cond b (Refused sp_busy) (cond (is_full l) (Refused no_sessions_available) attempts))) (alike.lives sp)
-    ∙ ap (λ n. cond (not (is_in_use look sp)) (Refused invalid_parameter) (cond (lives_on sp m) (Refused sp_busy) (cond (nat_lt 0xffffffff n) (Refused no_sessions_available) attempts))) alike.next
+    let attempts : SidBlock → StartVerdict = λ block. Attempted sp (failure_of block look sp opening.authority opening.proof) in
+    ap (λ b. cond (not (is_in_use look sp)) (Refused invalid_parameter) (cond b (Refused sp_busy) (cond (is_full l) (Refused no_sessions_available) (attempts l.block)))) (alike.lives sp)
+    ∙ ap (λ n. cond (not (is_in_use look sp)) (Refused invalid_parameter) (cond (lives_on sp m) (Refused sp_busy) (cond (nat_lt 0xffffffff n) (Refused no_sessions_available) (attempts l.block)))) alike.next
+    ∙ ap (λ b. cond (not (is_in_use look sp)) (Refused invalid_parameter) (cond (lives_on sp m) (Refused sp_busy) (cond (is_full m) (Refused no_sessions_available) (attempts b)))) alike.block
 
 verdict-same : (look : LookUp) (l m : Live) → Alike l m → (x : Option Opening) → verdict look l x ≡ verdict look m x
 verdict-same look l m alike None = refl
@@ -135,7 +139,7 @@ by-tests false false false s sp g f l is h = let same : s ≡ sp = cc in ap (λ 
 
 free-by : (look : LookUp) (l : Live) (opening : Opening) (sp : Sp) (f : Option AttemptFailure) (named : Option Sp) → opening_verdict_on look l opening named ≡ Attempted sp f → lives_on sp l ≡ false
 free-by look l opening sp f None h = cc
-free-by look l opening sp f (Some s) h = by-tests (not (is_in_use look s)) (lives_on s l) (is_full l) s sp (failure_of look s opening.authority opening.proof) f l refl h
+free-by look l opening sp f (Some s) h = by-tests (not (is_in_use look s)) (lives_on s l) (is_full l) s sp (failure_of l.block look s opening.authority opening.proof) f l refl h
 
 -- The store.
 
@@ -149,6 +153,7 @@ store-by f com_id opening s same (Attempted sp (Some WrongPin)) =
     ap (λ look. with_count sp (credential look sp opening.authority) (up (number (rows_in_force s) sp (credential look sp opening.authority) tries_column)) s) same
 store-by f com_id opening s same (Attempted sp (Some LockedOut)) = refl
 store-by f com_id opening s same (Attempted sp (Some Disabled)) = refl
+store-by f com_id opening s same (Attempted sp (Some Blocked)) = refl
 store-by f com_id opening s same (Attempted sp (Some Unknown)) = refl
 
 store-with : (f : Facts) (com_id : ℕ) (s : Stored) (l : Live) → rows_in_force s ≡ f.rows → (x : Option Opening) → verdict (rows_in_force s) l x ≡ start_verdict f x
@@ -204,16 +209,28 @@ erases-with : (f : Facts) (com_id : ℕ) (x : Option Opening) → no_sectors ≡
 erases-with f com_id None = refl
 erases-with f com_id (Some opening) = erases-by f com_id opening (start_verdict f (Some opening))
 
+-- Nor does it free SID.
+
+block-by : (f : Facts) (com_id : ℕ) (block : SidBlock) (opening : Opening) (v : StartVerdict) → block ≡ block_after (deed_of_start f com_id opening v) block
+block-by f com_id block opening (Refused status) = refl
+block-by f com_id block opening (Attempted sp None) = refl
+block-by f com_id block opening (Attempted sp (Some failure)) = refl
+
+block-with : (f : Facts) (com_id : ℕ) (block : SidBlock) (x : Option Opening) → block ≡ block_after (start_deed f com_id x) block
+block-with f com_id block None = refl
+block-with f com_id block (Some opening) = block-by f com_id block opening (start_verdict f (Some opening))
+
 pub start_law : StartLaw
-start_law o past s l m com_id args store k are after points =
+start_law o past s l m com_id args store k are is stays after points =
     let f : Facts = facts o past in
     let rows : rows_in_force s ≡ f.rows = (store_read_law s o past store).rows in
     let x : Option Opening = opening_of args in
-    let verdicts : verdict (rows_in_force s) l x ≡ start_verdict f x = ap (λ look. verdict look l x) rows ∙ verdict-same f.rows l (live f) (alike-facts o past l k are) x in
+    let verdicts : verdict (rows_in_force s) l x ≡ start_verdict f x = ap (λ look. verdict look l x) rows ∙ verdict-same f.rows l (live f) (alike-facts o past l k are is) x in
     record {
       answer = ap (λ n. reply_to (host_of args) n (verdict (rows_in_force s) l x)) k.next ∙ ap (reply_to (host_of args) f.next_number) verdicts;
       denied = ap (denied_with x) verdicts;
       erases = erases-with f com_id x;
       store = store-with f com_id s l rows x verdicts;
       sessions = lives-with f com_id (rows_in_force s) l m rows k.next x verdicts after points;
+      block = stays ∙ block-with f com_id l.block x;
     }

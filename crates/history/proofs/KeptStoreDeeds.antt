@@ -22,7 +22,7 @@ use Rattle.sp_tables.specs.Tries.{is_tries}
 use Rattle.sp_tables.proofs.LookLemmas.{look_up-sp}
 use Rattle.shadow_mbr.specs.Stored.{sector_size}
 use Rattle.audit.specs.declared.reason.AttemptFailure.{AttemptFailure}
-use Rattle.audit.specs.declared.reason.AttemptFailure.TheVariants.{WrongPin, LockedOut, Disabled, Unknown}
+use Rattle.audit.specs.declared.reason.AttemptFailure.TheVariants.{WrongPin, LockedOut, Disabled, Blocked, Unknown}
 use Rattle.audit.specs.declared.reason.Why.{Why}
 use Rattle.transactions.specs.Bytes.{blank}
 use Rattle.transactions.specs.Stored.{Transaction, Part, Stored, part, at_part, part_begin, part_commit, part_close, part_tries, part_put, part_from, reverted, after_reset}
@@ -33,7 +33,7 @@ use Rattle.sessions.specs.Deeds.{Setting, cells_set, bytes_set, Sets, Restores, 
 use Rattle.sessions.specs.Made.{part_with, StoresChange, with_count, CanSet}
 use Rattle.history.specs.Opening.{Origin, factory_origin}
 use Rattle.history.specs.Changes.{byte_in, reset_rows}
-use Rattle.history.specs.Events.{Response, Deed, Nothing, InSession, OfQueue, Wrote, Took, WasReset, Event}
+use Rattle.history.specs.Events.{Response, Deed, Nothing, InSession, OfQueue, Wrote, Took, BlockedSid, WasReset, Event}
 use Rattle.history.specs.Readers.{turns, brought, changes, factory_rows, open_on, rows_after, tries, one_more, same_row}
 use Rattle.history.specs.KeptStore.{HasKnownRows, KeepsPart, KeepsBytes, KeepsStore, StoresBy, StoreLaw}
 use Rattle.history.proofs.Steps.{rows-by, turned}
@@ -167,6 +167,8 @@ tried-kept s t o past x w a r (Some LockedOut) is h by =
     keep-as s t o _ by (left s o (doing x w (InSession (Tried (record a { failure = Some LockedOut })) r)) past h (λ any. record { turn = refl; start = refl; change = refl; bring = refl }) (λ any u. if-same (same_row a.sp a.row any u) (tries past any u)))
 tried-kept s t o past x w a r (Some Disabled) is h by =
     keep-as s t o _ by (left s o (doing x w (InSession (Tried (record a { failure = Some Disabled })) r)) past h (λ any. record { turn = refl; start = refl; change = refl; bring = refl }) (λ any u. if-same (same_row a.sp a.row any u) (tries past any u)))
+tried-kept s t o past x w a r (Some Blocked) is h by =
+    keep-as s t o _ by (left s o (doing x w (InSession (Tried (record a { failure = Some Blocked })) r)) past h (λ any. record { turn = refl; start = refl; change = refl; bring = refl }) (λ any u. if-same (same_row a.sp a.row any u) (tries past any u)))
 tried-kept s t o past x w a r (Some Unknown) is h by =
     keep-as s t o _ by (left s o (doing x w (InSession (Tried (record a { failure = Some Unknown })) r)) past h (λ any. record { turn = refl; start = refl; change = refl; bring = refl }) (λ any u. if-same (same_row a.sp a.row any u) (tries past any u)))
 
@@ -310,6 +312,7 @@ deed-kept s t o past x w Nothing h by = keep-as s t o _ by (left s o (doing x w 
 deed-kept s t o past x w (OfQueue d) h by = keep-as s t o _ by (left s o (doing x w (OfQueue d)) past h (λ sp. record { turn = refl; start = refl; change = refl; bring = refl }) (λ sp u. refl))
 deed-kept s t o past x w (Wrote lba bytes) h by = keep-as s t o _ by (left s o (doing x w (Wrote lba bytes)) past h (λ sp. record { turn = refl; start = refl; change = refl; bring = refl }) (λ sp u. refl))
 deed-kept s t o past x w (Took com_id) h by = keep-as s t o _ by (left s o (doing x w (Took com_id)) past h (λ sp. record { turn = refl; start = refl; change = refl; bring = refl }) (λ sp u. refl))
+deed-kept s t o past x w (BlockedSid block) h by = keep-as s t o _ by (left s o (doing x w (BlockedSid block)) past h (λ sp. record { turn = refl; start = refl; change = refl; bring = refl }) (λ sp u. refl))
 deed-kept s t o past x w (InSession Unchanged r) h by = keep-as s t o _ by (left s o (doing x w (InSession Unchanged r)) past h (λ sp. record { turn = refl; start = refl; change = refl; bring = refl }) (λ sp u. refl))
 deed-kept s t o past x w (InSession (Started session row) r) h by = keep-as _ t o _ by (started-kept s o past x w session row r h)
 deed-kept s t o past x w (InSession (Tried a) r) h by = tried-kept s t o past x w a r a.failure refl h by

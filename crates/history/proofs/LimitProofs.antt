@@ -1,10 +1,12 @@
 -- A wrong PIN counts below the limit alone.
-use Rattle.std.proofs.Common.{◌≡◌, ℕ, ◌==◌, Bool, true, false, not, ◌||◌, List, Option, Some, None, refl, sym, ◌∙◌, ap, cond, inl, inr}
+use Rattle.std.proofs.Common.{◌≡◌, ℕ, ◌==◌, Bool, true, false, not, ◌||◌, List, Option, Some, None, refl, sym, ◌∙◌, ap, cond, inl, inr, ◌&&◌}
 use Rattle.std.specs.Prelude.{zero, suc, Result, Ok, Err}
 use Rattle.sp_cells.specs.declared.names.Uid.{Uid}
 use Rattle.sp_cells.specs.declared.names.Sp.{Sp}
 use Rattle.sp_cells.specs.declared.names.Sp.TheVariants.{Admin, Locking}
-use Rattle.sp_cells.specs.Names.{set, c_pin_sid, anybody, properties, start_session}
+use Rattle.sp_cells.specs.Names.{set, c_pin_sid, anybody, sid, properties, start_session}
+use Rattle.trusted_cmds.specs.declared.block.SidBlock.{SidBlock}
+use Rattle.trusted_cmds.specs.BlockSid.{is_blocked}
 use Rattle.audit.specs.declared.reason.AttemptFailure.{AttemptFailure}
 use Rattle.tcg_tokens.specs.declared.error.TokenError.{TokenError}
 use Rattle.tcg_tokens.specs.Message.{Message, call, reply, end_session, begin, end}
@@ -28,38 +30,39 @@ use Rattle.methods.specs.Calls.{outcome_of}
 use Rattle.methods.specs.Said.{refusal_of}
 use Rattle.history.proofs.Items.{item-from}
 use Rattle.sp_cells.specs.Ranges.{number}
-use Rattle.audit.specs.declared.reason.AttemptFailure.TheVariants.{WrongPin, LockedOut, Disabled, Unknown}
+use Rattle.audit.specs.declared.reason.AttemptFailure.TheVariants.{WrongPin, LockedOut, Disabled, Blocked, Unknown}
 use Rattle.history.specs.TriesLaw.{is_below_limit, LimitLaw}
 
 -- the tests of an attempt
-by-tests : (a b c u p : Bool) → cond a (Some Unknown) (cond b (Some Disabled) (cond c None (cond u (Some LockedOut) (cond p None (Some WrongPin))))) ≡ Some WrongPin → not u ≡ true
-by-tests true b c u p h = cc
-by-tests false true c u p h = cc
-by-tests false false true u p h = cc
-by-tests false false false true p h = cc
-by-tests false false false false p h = refl
+by-tests : (a b d c u p : Bool) → cond a (Some Unknown) (cond b (Some Disabled) (cond d (Some Blocked) (cond c None (cond u (Some LockedOut) (cond p None (Some WrongPin)))))) ≡ Some WrongPin → not u ≡ true
+by-tests true b d c u p h = cc
+by-tests false true d c u p h = cc
+by-tests false false true c u p h = cc
+by-tests false false false true u p h = cc
+by-tests false false false false true p h = cc
+by-tests false false false false false p h = refl
 
-failed-below : (look : LookUp) (sp : Sp) (authority : Uid) (proof : List ℕ) → failure_of look sp authority proof ≡ Some WrongPin
+failed-below : (block : SidBlock) (look : LookUp) (sp : Sp) (authority : Uid) (proof : List ℕ) → failure_of block look sp authority proof ≡ Some WrongPin
     → not (is_used_up (number look sp (credential look sp authority) try_limit_column) (number look sp (credential look sp authority) tries_column)) ≡ true
-failed-below look sp authority proof h =
+failed-below block look sp authority proof h =
     let row : Uid = credential look sp authority in
-    by-tests (not (is_there look sp authority) || (number look sp authority is_class_column == 1)) (not (number look sp authority enabled_column == 1)) (authority.0 == anybody.0)
+    by-tests (not (is_there look sp authority) || (number look sp authority is_class_column == 1)) (not (number look sp authority enabled_column == 1)) (is_blocked block && (authority.0 == sid.0)) (authority.0 == anybody.0)
     (is_used_up (number look sp row try_limit_column) (number look sp row tries_column)) (is_pin proof (look sp row pin_column)) h
 
 -- a StartSession that fails by its attempt
-attempted-by : (look : LookUp) (l : Live) (opening : Opening) (sp s : Sp) (g f : Option AttemptFailure) (a b c : Bool) → g ≡ failure_of look s opening.authority opening.proof
-    → cond (not a) (Refused 0x0c) (cond b (Refused 3) (cond c (Refused 7) (Attempted s g))) ≡ Attempted sp f → failure_of look sp opening.authority opening.proof ≡ f
+attempted-by : (look : LookUp) (l : Live) (opening : Opening) (sp s : Sp) (g f : Option AttemptFailure) (a b c : Bool) → g ≡ failure_of l.block look s opening.authority opening.proof
+    → cond (not a) (Refused 0x0c) (cond b (Refused 3) (cond c (Refused 7) (Attempted s g))) ≡ Attempted sp f → failure_of l.block look sp opening.authority opening.proof ≡ f
 attempted-by look l opening sp s g f false b c is h = cc
 attempted-by look l opening sp s g f true true c is h = cc
 attempted-by look l opening sp s g f true false true is h = cc
 attempted-by look l opening sp s g f true false false is h =
     let same : s ≡ sp = cc in
     let other : g ≡ f = cc in
-    ap (λ x. failure_of look x opening.authority opening.proof) (sym same) ∙ sym is ∙ other
+    ap (λ x. failure_of l.block look x opening.authority opening.proof) (sym same) ∙ sym is ∙ other
 
-attempted : (look : LookUp) (l : Live) (opening : Opening) (sp : Sp) (f : Option AttemptFailure) (named : Option Sp) → opening_verdict_on look l opening named ≡ Attempted sp f → failure_of look sp opening.authority opening.proof ≡ f
+attempted : (look : LookUp) (l : Live) (opening : Opening) (sp : Sp) (f : Option AttemptFailure) (named : Option Sp) → opening_verdict_on look l opening named ≡ Attempted sp f → failure_of l.block look sp opening.authority opening.proof ≡ f
 attempted look l opening sp f None h = cc
-attempted look l opening sp f (Some s) h = attempted-by look l opening sp s (failure_of look s opening.authority opening.proof) f (is_in_use look s) (lives_on s l) (is_full l) refl h
+attempted look l opening sp f (Some s) h = attempted-by look l opening sp s (failure_of l.block look s opening.authority opening.proof) f (is_in_use look s) (lives_on s l) (is_full l) refl h
 
 -- each deed
 abbrev Below : Facts → SessionDeed → Type 0
@@ -69,7 +72,7 @@ Below f _ = Unit {0}
 start-below : (f : Facts) (com_id : ℕ) (opening : Opening) (v : StartVerdict) → start_verdict f (Some opening) ≡ v → Below f (deed_of_start f com_id opening v)
 start-below f com_id opening (Refused status) is = tt
 start-below f com_id opening (Attempted sp None) is = tt
-start-below f com_id opening (Attempted sp (Some failure)) is = λ h. failed-below f.rows sp opening.authority opening.proof (attempted f.rows (live f) opening sp (Some failure) (sp_named opening.spid) is ∙ h)
+start-below f com_id opening (Attempted sp (Some failure)) is = λ h. failed-below f.block f.rows sp opening.authority opening.proof (attempted f.rows (live f) opening sp (Some failure) (sp_named opening.spid) is ∙ h)
 
 started-below : (f : Facts) (com_id : ℕ) (x : Option Opening) → Below f (start_deed f com_id x)
 started-below f com_id None = tt
@@ -93,7 +96,7 @@ judged-below : (f : Facts) (sp : Sp) (j : Judgement) → Below f (outcome_of f.r
 judged-below f sp (Refuses status why) = tt
 judged-below f sp (Gives results) = tt
 judged-below f sp (Makes set) = tt
-judged-below f sp (Attempts authority pin) = λ h. failed-below f.rows sp authority pin h
+judged-below f sp (Attempts block authority pin) = λ h. failed-below block f.rows sp authority pin h
 judged-below f sp Activates = by_state (is_in_use f.rows Locking)
   where
     by_state : (b : Bool) → Below f (cond b Unchanged (Activated (f.rows Admin c_pin_sid pin_column)))

@@ -11,7 +11,7 @@ use Rattle.sp_cells.specs.Flat.{LookUp}
 use Rattle.ace_eval.specs.Truth.{has}
 use Rattle.ace_eval.specs.Aces.{acl_at, ace_of}
 use Rattle.audit.specs.declared.reason.AttemptFailure.{AttemptFailure}
-use Rattle.audit.specs.declared.reason.AttemptFailure.TheVariants.{WrongPin, LockedOut, Disabled, Unknown}
+use Rattle.audit.specs.declared.reason.AttemptFailure.TheVariants.{WrongPin, LockedOut, Disabled, Blocked, Unknown}
 use Rattle.audit.specs.declared.reason.Why.{Why}
 use Rattle.audit.specs.declared.reason.Why.TheVariants.{NoEntryHolds, NoAccessRow}
 use Rattle.sessions.specs.Attempts.{attempt_failure as failure_of}
@@ -31,11 +31,13 @@ use Rattle.methods.specs.Grants.{why_denied, unless_allowed, denial as denial_of
 use Rattle.methods.specs.Laws.{EachHasAce, IsGranted, takes_effect}
 use Rattle.methods.proofs.GrantLaws.{grant_law as grants, effect_law as judges}
 use Rattle.methods.specs.Judgement.{Standing, Judgement, Refuses, Gives, Makes, Attempts, Activates, Reverts, Erases, RevertsSp, denial, does, unless_denied, judged}
+use Rattle.trusted_cmds.specs.BlockSid.{is_block_sid}
+use Rattle.basics.specs.declared.profile.Profile.{Profile}
 use Rattle.history.specs.Events.{Event, Nothing, did, WasReset}
 use Rattle.history.specs.Items.{Items}
 use Rattle.history.specs.Facts.{Facts, standing, session_named}
 use Rattle.history.specs.Decisions.{admitted, fails_queue, refuses, aborted, while_failed, is_busy, resets, is_trusted, is_session_com_id, unqueued_of, known_of, commanded_of}
-use Rattle.history.specs.Tcg.{answers, to_manager, to_session, in_session, framed, sent, send, tcg}
+use Rattle.history.specs.Tcg.{answers, to_manager, to_session, in_session, framed, sent, send, tcg, blocks_sid, send_item}
 use Rattle.methods.specs.Calls.{outcome_of, tried_in}
 use Rattle.history.specs.History.{Act, event_by, event_in}
 use Rattle.history.specs.MethodLaws.{ActEffectLaw, IsSent, CallLaw}
@@ -109,11 +111,20 @@ no-reset rows p c k d x y h = by (p == 1) refl h
     by true is g = ap (λ n. resets rows (Send n c k d)) (eqb-true p 1 is)
     by false is g = cc
 
+-- nor does it block SID
+no-block : (profile : Profile) (p c k : ℕ) (x y : Bool) → (is_trusted p k && x && y) ≡ true → is_block_sid profile (Send p c k true) ≡ false
+no-block profile p c k x y h = by (p == 1) refl h
+  where
+    by : (b : Bool) → (p == 1) ≡ b → ((b && nat_lt 0 k) && x && y) ≡ true → is_block_sid profile (Send p c k true) ≡ false
+    by true is g = ap (λ n. is_block_sid profile (Send n c k true)) (eqb-true p 1 is)
+    by false is g = cc
+
 -- a frame that is taken
 pub sent_law : (f : Facts) (act : Act) (com_id : ℕ) (frame : Frame) → IsSent f act com_id frame → event_by f act ≡ framed f com_id frame
 sent_law f act com_id frame c =
     looked_law tcg f act (Send c.protocol com_id c.blocks c.dma) None c.looked
     ∙ ap (λ b. cond b (did (WasReset programmatic)) (send f c.protocol com_id c.blocks c.looked.payload)) (no-reset f.rows c.protocol com_id c.blocks c.dma (is_session_com_id com_id) (not (is_some (f.waiting com_id))) c.taken)
+    ∙ ap (λ b. cond b (blocks_sid f c.looked.payload) (send_item f c.protocol com_id c.blocks c.looked.payload)) (no-block f.config.profile c.protocol com_id c.blocks (is_session_com_id com_id) (not (is_some (f.waiting com_id))) c.taken)
     ∙ ap (λ b. cond b (sent f com_id (frame_in c.looked.payload)) refuses) c.taken
     ∙ ap (sent f com_id) c.framed
     ∙ ap (λ b. cond b (framed f com_id frame) (did Nothing)) c.addressed
@@ -163,13 +174,14 @@ tried-reason f sp authority None = refl
 tried-reason f sp authority (Some LockedOut) = refl
 tried-reason f sp authority (Some WrongPin) = refl
 tried-reason f sp authority (Some Disabled) = refl
+tried-reason f sp authority (Some Blocked) = refl
 tried-reason f sp authority (Some Unknown) = refl
 
 effect-reason : (f : Facts) (sp : Sp) (j : Judgement) → takes_effect j ≡ true → reason_of (outcome_of f.rows sp j).denied ≡ false
 effect-reason f sp (Refuses status denied) h = absurd (clash h)
 effect-reason f sp (Gives results) h = refl
 effect-reason f sp (Makes change) h = refl
-effect-reason f sp (Attempts authority pin) h = tried-reason f sp authority (failure_of f.rows sp authority pin)
+effect-reason f sp (Attempts block authority pin) h = tried-reason f sp authority (failure_of block f.rows sp authority pin)
 effect-reason f sp Activates h = refl
 effect-reason f sp (Reverts r) h = refl
 effect-reason f sp (Erases range) h = refl

@@ -1,16 +1,19 @@
 -- The items of this drive are quiet.
-use Rattle.std.proofs.Common.{◌≡◌, ℕ, ◌==◌, Bool, true, false, ◌&&◌, not, List, Option, Some, None, refl, cond}
+use Rattle.std.proofs.Common.{◌≡◌, ℕ, ◌==◌, Bool, true, false, ◌&&◌, ◌||◌, not, List, Option, Some, None, refl, cond}
 use Rattle.std.specs.Prelude.{is_some, Result, Ok, Err}
 use Rattle.compacket.specs.declared.session.Session.{Session}
 use Rattle.compacket.specs.declared.error.FrameError.{FrameError}
 use Rattle.compacket.specs.Frames.{Frame, reading as frame_in}
 use Rattle.tcg_tokens.specs.Reading.{reading as message_in}
 use Rattle.sessions.specs.Deeds.{Begun}
+use Rattle.trusted_cmds.specs.declared.command.Command.TheVariants.{Send}
+use Rattle.trusted_cmds.specs.BlockSid.{is_block_sid, block_asked, is_blocked}
+use Rattle.device_data.specs.Discovery.{has_owner}
 use Rattle.history.specs.Answers.{is_holding}
-use Rattle.history.specs.Events.{Deed, Nothing, InSession, OfQueue, Wrote, Took, WasReset, Event, did}
+use Rattle.history.specs.Events.{Deed, Nothing, InSession, OfQueue, Wrote, Took, BlockedSid, WasReset, Event, did}
 use Rattle.history.specs.Facts.{Facts, session_named}
 use Rattle.history.specs.Decisions.{refuses, is_trusted, is_session_com_id}
-use Rattle.history.specs.Tcg.{answers, to_manager, is_manager, to_session, framed, sent, tcg}
+use Rattle.history.specs.Tcg.{answers, to_manager, is_manager, to_session, framed, sent, tcg, blocks_sid, send_item}
 use Rattle.history.specs.Quiet.{is_quiet, IsQuiet}
 
 either : (b : Bool) (x y : Event) → is_quiet x.deed ≡ true → is_quiet y.deed ≡ true → is_quiet (cond b x y).deed ≡ true
@@ -30,7 +33,9 @@ sent-quiet f com_id (Ok frame) =
 
 pub tcg_quiet : IsQuiet tcg
 tcg_quiet f protocol com_id blocks payload =
-    either (is_trusted protocol blocks && is_session_com_id com_id && not (is_some (f.waiting com_id))) (sent f com_id (frame_in payload)) refuses (sent-quiet f com_id (frame_in payload)) refl
+    either (is_block_sid f.config.profile (Send protocol com_id blocks true)) (blocks_sid f payload) (send_item f protocol com_id blocks payload)
+    (either (has_owner f.rows || is_blocked f.block) refuses (did (BlockedSid (block_asked payload))) refl refl)
+    (either (is_trusted protocol blocks && is_session_com_id com_id && not (is_some (f.waiting com_id))) (sent f com_id (frame_in payload)) refuses (sent-quiet f com_id (frame_in payload)) refl)
 
 -- a quiet deed holds nothing, and is no write
 pub quiet-none : (d : Deed) → is_quiet d ≡ true → is_holding d ≡ false
@@ -39,4 +44,5 @@ quiet-none (InSession deed response) h = refl
 quiet-none (OfQueue deed) h = cc
 quiet-none (Wrote lba bytes) h = refl
 quiet-none (Took com_id) h = refl
+quiet-none (BlockedSid block) h = refl
 quiet-none (WasReset kind) h = refl

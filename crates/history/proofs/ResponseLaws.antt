@@ -17,10 +17,12 @@ use Rattle.trusted_cmds.specs.declared.command.CommandError.{CommandError}
 use Rattle.locking.specs.declared.ranges.Verdict.{Verdict}
 use Rattle.locking.specs.declared.ranges.Verdict.TheVariants.{Serve, Shadow, Denied}
 use Rattle.sessions.specs.Deeds.{Begun}
-use Rattle.history.specs.Events.{did, HeldCommand, Deed, Nothing, InSession, Wrote, Event, or_else, OfQueue, Took, WasReset, latest}
+use Rattle.trusted_cmds.specs.BlockSid.{is_block_sid, block_asked, is_blocked}
+use Rattle.device_data.specs.Discovery.{has_owner}
+use Rattle.history.specs.Events.{did, HeldCommand, Deed, Nothing, InSession, Wrote, Event, or_else, OfQueue, Took, BlockedSid, WasReset, latest}
 use Rattle.history.specs.Facts.{Facts, facts, session_named}
 use Rattle.history.specs.Decisions.{aborted, not_found, fails, refuses, fails_queue, on_drive, verdict_on, queued_by, queued_transfer, admitted, unqueued_by, unqueued_transfer, is_trusted, is_session_com_id, discovery_com_id, received, while_failed, is_busy, completed_by, completed, resets, is_received}
-use Rattle.history.specs.Tcg.{answers, to_manager, is_manager, to_session, framed, sent, unqueued, known, commanded, command_read}
+use Rattle.history.specs.Tcg.{answers, to_manager, is_manager, to_session, framed, sent, unqueued, known, commanded, command_read, blocks_sid}
 use Rattle.history.specs.History.{Act, Accept, Complete, Reset, event_by, event, log}
 use Rattle.history.specs.Readers.{waits, waiting}
 use Rattle.history.specs.Bounds.{ResponseLaw}
@@ -68,8 +70,10 @@ unqueued-on f payload (ReadDma lba count) = transfer-on f Nothing Read lba count
 unqueued-on f payload (WriteDma lba count) = transfer-on f (Wrote lba payload) Write lba count refl
 unqueued-on f payload (Send protocol com_id blocks dma) =
     either (resets f.rows (Send protocol com_id blocks dma)) (did (WasReset programmatic)) _ (λ is. refl)
+    (either (is_block_sid f.config.profile (Send protocol com_id blocks true)) (blocks_sid f payload) _
+    (λ is. either (has_owner f.rows || is_blocked f.block) refuses (did (BlockedSid (block_asked payload))) (λ is. refl) refl)
     (either (is_trusted protocol blocks && is_session_com_id com_id && not (is_some (f.waiting com_id))) _ refuses
-    (λ is. sent-on f com_id (frame_in payload) (middle (is_trusted protocol blocks) (is_session_com_id com_id) (not (is_some (f.waiting com_id))) is)) refl)
+    (λ is. sent-on f com_id (frame_in payload) (middle (is_trusted protocol blocks) (is_session_com_id com_id) (not (is_some (f.waiting com_id))) is)) refl))
 unqueued-on f payload (Receive protocol com_id blocks dma) = either (is_received f protocol com_id blocks) _ refuses (λ is. received-on com_id blocks (f.waiting com_id)) refl
 unqueued-on f payload _ = refl
 
@@ -136,6 +140,7 @@ taken com_id its past false h = h
 left-none : (com_id : ℕ) (d : Deed) (past : List Event) → is_session_com_id com_id ≡ false → on_session d ≡ true → waiting past com_id ≡ None → left com_id (waits com_id d) past ≡ None
 left-none com_id (InSession deed response) past other on h = ap (λ b. left com_id (cond b (Some (Some response.bytes)) None) past) (apart com_id response.com_id other on) ∙ h
 left-none com_id (Took its) past other on h = taken com_id its past (its == com_id) h
+left-none com_id (BlockedSid block) past other on h = h
 left-none com_id (WasReset kind) past other on h = refl
 left-none com_id Nothing past other on h = h
 left-none com_id (OfQueue d) past other on h = h

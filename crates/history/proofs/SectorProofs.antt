@@ -21,11 +21,13 @@ use Rattle.trusted_cmds.specs.declared.command.CommandError.{CommandError}
 use Rattle.locking.specs.declared.ranges.Verdict.{Verdict}
 use Rattle.locking.specs.declared.ranges.Verdict.TheVariants.{Serve, Shadow, Denied}
 use Rattle.sessions.specs.Deeds.{Begun, SessionDeed, Reverted}
+use Rattle.trusted_cmds.specs.BlockSid.{is_block_sid, block_asked, is_blocked}
+use Rattle.device_data.specs.Discovery.{has_owner}
 use Rattle.history.specs.Opening.{Origin}
-use Rattle.history.specs.Events.{did, HeldCommand, Deed, Nothing, InSession, Wrote, Event, or_else, OfQueue, Took, WasReset, latest, CompletedWrite, Completed, Held, QueueFailed, QueueMended}
+use Rattle.history.specs.Events.{did, HeldCommand, Deed, Nothing, InSession, Wrote, Event, or_else, OfQueue, Took, BlockedSid, WasReset, latest, CompletedWrite, Completed, Held, QueueFailed, QueueMended}
 use Rattle.history.specs.Facts.{Facts, facts, session_named}
 use Rattle.history.specs.Decisions.{aborted, not_found, fails, refuses, fails_queue, on_drive, verdict_on, queued_by, queued_transfer, admitted, unqueued_by, unqueued_transfer, is_trusted, is_session_com_id, discovery_com_id, received, while_failed, is_busy, completed_by, completed, resets, is_received}
-use Rattle.history.specs.Tcg.{answers, to_manager, is_manager, to_session, framed, sent, unqueued, known, commanded, tcg, command_read}
+use Rattle.history.specs.Tcg.{answers, to_manager, is_manager, to_session, framed, sent, unqueued, known, commanded, tcg, command_read, blocks_sid}
 use Rattle.history.specs.History.{Act, Accept, Complete, Reset, event_by, log}
 use Rattle.shadow_mbr.specs.Erasure.{is_erased}
 use Rattle.sessions.specs.Deeds.{erased_by}
@@ -85,8 +87,10 @@ unqueued-quiet f payload (ReadDma lba count) = transfer-quiet f Nothing Read lba
 unqueued-quiet f payload (WriteDma lba count) = transfer-quiet f (Wrote lba payload) Write lba count refl
 unqueued-quiet f payload (Send protocol com_id blocks dma) =
     either (resets f.rows (Send protocol com_id blocks dma)) (did (WasReset programmatic)) _ (λ is. refl)
+    (either (is_block_sid f.config.profile (Send protocol com_id blocks true)) (blocks_sid f payload) _
+    (λ is. either (has_owner f.rows || is_blocked f.block) refuses (did (BlockedSid (block_asked payload))) (λ is. refl) refl)
     (either (is_trusted protocol blocks && is_session_com_id com_id && not (is_some (f.waiting com_id))) _ refuses
-    (λ is. sent-quiet f com_id (frame_in payload) (middle (is_trusted protocol blocks) (is_session_com_id com_id) (not (is_some (f.waiting com_id))) is)) refl)
+    (λ is. sent-quiet f com_id (frame_in payload) (middle (is_trusted protocol blocks) (is_session_com_id com_id) (not (is_some (f.waiting com_id))) is)) refl))
 unqueued-quiet f payload (Receive protocol com_id blocks dma) = either (is_received f protocol com_id blocks) _ refuses (λ is. received-quiet com_id blocks (f.waiting com_id)) refl
 unqueued-quiet f payload _ = refl
 
@@ -267,6 +271,7 @@ deed-left f act place past (OfQueue d) fed le is h rest = queue-left place past 
 deed-left f act place past (InSession d r) fed le is h rest = erased-left place past (is_erased (erased_by d) place) rest
 deed-left f act place past Nothing fed le is h rest = rest
 deed-left f act place past (Took c) fed le is h rest = rest
+deed-left f act place past (BlockedSid block) fed le is h rest = rest
 deed-left f act place past (WasReset kind) fed le is h rest = rest
 
 completed-left : (o : Origin) (acts : List Act) (tag place : ℕ) (payload : List ℕ) (x : Option HeldCommand) → (facts o (log o acts)).held tag ≡ x → length payload ≡ expected x → o.tables.config.sectors ≤ place → sector (log o acts) place ≡ zeros

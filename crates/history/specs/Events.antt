@@ -4,6 +4,7 @@
 use Rattle.std.specs.Prelude.{ℕ, ◌+◌, Bool, List, [], ◌∷◌, ◌++◌, Option, Some, None, option_to_list, if◌then◌else◌}
 use Rattle.audit.specs.declared.reason.Why.{Why}
 use Rattle.trusted_cmds.specs.declared.command.Command.{Command}
+use Rattle.trusted_cmds.specs.declared.block.SidBlock.{SidBlock}
 use Rattle.locking.specs.declared.ranges.Verdict.{Verdict}
 use Rattle.device_data.specs.declared.log_page.Failure.{Failure}
 use Rattle.sessions.specs.Deeds.{SessionDeed}
@@ -37,6 +38,8 @@ pub data Deed : Type 0 where
   -- a receive that took the waiting response
   Took : (com_id : ℕ) → Deed
   WasReset : (kind : ℕ) → Deed
+  -- attempts on SID were blocked
+  BlockedSid : (block : SidBlock) → Deed
 
 pub record Event : Type 0 where
   -- the error of a command that failed

@@ -4,16 +4,17 @@ use Rattle.fis.specs.declared.h2d.RegH2d.{RegH2d}
 use Rattle.fis.specs.Tags.{slot_count}
 use Rattle.sp_cells.specs.Config.{Config}
 use Rattle.trusted_cmds.specs.declared.command.Command.{Command}
-use Rattle.history.specs.Events.{Deed, Nothing, InSession, WasReset}
+use Rattle.history.specs.Events.{Deed, Nothing, InSession, WasReset, BlockedSid}
 use Rattle.history.specs.Facts.{Facts}
 use Rattle.history.specs.Items.{Items}
 
--- Nothing, a deed in a session or of the session manager, or a reset: it moves no data of its own and
--- leaves the queue, but for what is erased and what a reset stops.
+-- Nothing, a deed in a session or of the session manager, a block of SID, or a reset: it moves no data of
+-- its own and leaves the queue, but for what is erased and what a reset stops.
 abbrev pub is_quiet : Deed → Bool
 is_quiet Nothing = true
 is_quiet (InSession deed response) = true
 is_quiet (WasReset kind) = true
+is_quiet (BlockedSid block) = true
 is_quiet _ = false
 
 -- So is each send.

@@ -15,15 +15,18 @@ use Rattle.sp_cells.specs.ColumnNames.{life_cycle_state_column, pin_column}
 use Rattle.sp_tables.specs.Contents.{cells_look_up}
 use Rattle.sp_tables.specs.AtReset.{is_power_cycle}
 use Rattle.audit.specs.declared.reason.AttemptFailure.{AttemptFailure}
-use Rattle.audit.specs.declared.reason.AttemptFailure.TheVariants.{WrongPin, LockedOut, Disabled, Unknown}
+use Rattle.audit.specs.declared.reason.AttemptFailure.TheVariants.{WrongPin, LockedOut, Disabled, Blocked, Unknown}
+use Rattle.trusted_cmds.specs.declared.block.SidBlock.{SidBlock}
+use Rattle.trusted_cmds.specs.declared.block.SidBlock.TheVariants.{Free}
 use Rattle.shadow_mbr.specs.Erasure.{is_erased}
 use Rattle.shadow_mbr.specs.Stored.{sector_size, zeros}
 use Rattle.history.specs.Opening.{Origin}
 use Rattle.sp_tables.specs.Looks.{RowLook}
 use Rattle.sessions.specs.Deeds.{cells_set, Change, Sets, Restores, Resets, Begun, SessionDeed, Started, Tried, Changed, Began, Committed, Aborted, Ended, Activated, Reverted, erased_by}
+use Rattle.sessions.specs.Block.{block_after, block_at_reset}
 use Rattle.history.specs.Changes.{apply_all, byte_in, with_tries}
 use Rattle.device_data.specs.declared.log_page.Failure.{Failure}
-use Rattle.history.specs.Events.{HeldCommand, QueueDeed, Held, Completed, CompletedWrite, QueueFailed, QueueMended, Deed, InSession, OfQueue, Wrote, Took, WasReset, Event, latest, since, every, count}
+use Rattle.history.specs.Events.{HeldCommand, QueueDeed, Held, Completed, CompletedWrite, QueueFailed, QueueMended, Deed, InSession, OfQueue, Wrote, Took, WasReset, BlockedSid, Event, latest, since, every, count}
 
 -- It speaks of this SP.
 abbrev pub on_sp : {A : Type 0} → Sp → Sp → A → Option A
@@ -190,6 +193,7 @@ tries_tried None before = 0
 tries_tried (Some WrongPin) before = one_more before
 tries_tried (Some LockedOut) before = before
 tries_tried (Some Disabled) before = before
+tries_tried (Some Blocked) before = before
 tries_tried (Some Unknown) before = before
 
 abbrev pub tries_by : Sp → Uid → SessionDeed → ℕ → ℕ
@@ -209,6 +213,19 @@ tries_then sp row _ before = before
 abbrev pub tries : List Event → Sp → Uid → ℕ
 tries [] sp row = 0
 tries (event ∷ before) sp row = tries_then sp row event.deed (tries before sp row)
+
+-- Whether SID is blocked (Block SID Authentication feature set 1.00). It is no row, so that no transaction
+-- has part in it.
+
+abbrev pub block_then : Deed → SidBlock → SidBlock
+block_then (BlockedSid block) before = block
+block_then (InSession deed response) before = block_after deed before
+block_then (WasReset kind) before = block_at_reset kind before
+block_then _ before = before
+
+abbrev pub sid_block : List Event → SidBlock
+sid_block [] = Free
+sid_block (event ∷ before) = block_then event.deed (sid_block before)
 
 -- Rows and the shadow's bytes, in force and in a session's view (Core 2.01, section 3.3.9; Opal
 -- SSC 2.01, section 4.3.5.4).

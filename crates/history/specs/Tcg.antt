@@ -5,8 +5,9 @@ use Rattle.basics.specs.declared.profile.Profile.{Profile}
 use Rattle.tcg_tokens.specs.Lex.{begins_with_end}
 use Rattle.device_data.specs.Protocols.{protocol_list}
 use Rattle.trusted_cmds.specs.Commands.{is_protocol_list}
+use Rattle.trusted_cmds.specs.BlockSid.{is_block_sid, block_asked, is_blocked}
 use Rattle.device_data.specs.DevicePages.{device_page}
-use Rattle.std.specs.Prelude.{ℕ, zero, suc, ◌*◌, ◌==◌, Bool, true, false, not, ◌&&◌, nat_le, List, [], length, Option, Some, None, is_some, Result, Ok, Err, if◌then◌else◌}
+use Rattle.std.specs.Prelude.{ℕ, zero, suc, ◌*◌, ◌==◌, Bool, true, false, not, ◌&&◌, ◌||◌, nat_le, List, [], length, Option, Some, None, is_some, Result, Ok, Err, if◌then◌else◌}
 use Rattle.fis.specs.declared.any.Fis.{Fis}
 use Rattle.fis.specs.declared.h2d.RegH2d.{RegH2d}
 use Rattle.sp_cells.specs.Config.{Config}
@@ -24,7 +25,7 @@ use Rattle.tcg_tokens.specs.Spelling.{item_spelling_of}
 use Rattle.tcg_tokens.specs.Tree.{Tree, Trees}
 use Rattle.call_shapes.specs.Named.{values_of}
 use Rattle.trusted_cmds.specs.declared.command.Command.{Command}
-use Rattle.trusted_cmds.specs.declared.command.Command.TheVariants.{Receive, Identify, ReadLog}
+use Rattle.trusted_cmds.specs.declared.command.Command.TheVariants.{Send, Receive, Identify, ReadLog}
 use Rattle.trusted_cmds.specs.declared.command.CommandError.{CommandError}
 use Rattle.trusted_cmds.specs.Profiles.{reading_in}
 use Rattle.sessions.specs.Attempts.{credential}
@@ -40,9 +41,9 @@ use Rattle.sessions.specs.Properties.{properties_message}
 use Rattle.methods.specs.Said.{refusal_of}
 use Rattle.methods.specs.Judgement.{Judgement, asked, judged}
 use Rattle.methods.specs.Calls.{outcome_of}
-use Rattle.history.specs.Events.{Nothing, InSession, Event, did}
+use Rattle.history.specs.Events.{Nothing, InSession, BlockedSid, Event, did}
 use Rattle.history.specs.Facts.{Facts, live, session_named, has_open, standing}
-use Rattle.device_data.specs.Discovery.{discovery}
+use Rattle.device_data.specs.Discovery.{has_owner, discovery_of}
 use Rattle.device_data.specs.Identity.{identity_of}
 use Rattle.device_data.specs.ErrorLog.{sized}
 use Rattle.shadow_mbr.specs.Stored.{sector_size}
@@ -170,11 +171,23 @@ abbrev pub sent : Facts → ℕ → Result Frame FrameError → Event
 sent f com_id (Err e) = did Nothing
 sent f com_id (Ok frame) = if frame.com_id == com_id then framed f com_id frame else did Nothing
 
+-- SID is blocked where its PIN is the MSID still, and it is not blocked yet (Block SID Authentication
+-- feature set 1.00). No session ends.
+abbrev pub blocks_sid : Facts → List ℕ → Event
+blocks_sid f payload =
+    if has_owner f.rows || is_blocked f.block
+    then refuses else did (BlockedSid (block_asked payload))
+
 -- A send while a response waits is aborted.
-abbrev pub send : Facts → ℕ → ℕ → ℕ → List ℕ → Event
-send f protocol com_id blocks payload =
+abbrev pub send_item : Facts → ℕ → ℕ → ℕ → List ℕ → Event
+send_item f protocol com_id blocks payload =
     if is_trusted protocol blocks && is_session_com_id com_id && not (is_some (f.waiting com_id))
     then sent f com_id (frame_in payload) else refuses
+
+abbrev pub send : Facts → ℕ → ℕ → ℕ → List ℕ → Event
+send f protocol com_id blocks payload =
+    if is_block_sid f.config.profile (Send protocol com_id blocks true)
+    then blocks_sid f payload else send_item f protocol com_id blocks payload
 
 -- A receive: the response where it fits, else a header that tells its size, or a header alone where
 -- none waits.
@@ -187,7 +200,7 @@ received_bytes com_id room (Some response) =
 abbrev pub receive_data : Facts → ℕ → ℕ → List ℕ
 receive_data f com_id room =
     if com_id == discovery_com_id
-    then sized room (discovery f.rows)
+    then sized room (discovery_of f.config.profile f.rows f.block)
     else sized room (received_bytes com_id room (f.waiting com_id))
 
 -- The data of a receive, of IDENTIFY DEVICE, and of the pages that tell of the device.
