@@ -92,6 +92,7 @@ fn options(alloc: Global, sectors: &str) -> Result<Options, Fail> {
         serial: "",
         model: "",
         psid: "",
+        datastore: "",
     };
     Ok(Options::parse(alloc, &texts)?)
 }

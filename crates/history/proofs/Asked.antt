@@ -9,15 +9,15 @@ use Rattle.basics.specs.declared.profile.Profile.TheVariants.{Base, Field}
 use Rattle.sp_cells.specs.declared.names.Uid.{Uid}
 use Rattle.sp_cells.specs.declared.names.Sp.{Sp}
 use Rattle.sp_cells.specs.declared.names.Sp.TheVariants.{Admin, Locking}
-use Rattle.sp_cells.specs.Names.{get, set, authenticate, activate, revert, gen_key, revert_sp, c_pin_sid, tper_info}
+use Rattle.sp_cells.specs.Names.{get, set, authenticate, activate, revert, gen_key, revert_sp, c_pin_sid, tper_info, data_removal}
 use Rattle.sp_cells.specs.Authorities.{authorities_of_locking}
 use Rattle.sp_cells.specs.Flat.{sp_eq}
-use Rattle.access_list.specs.Access.{Grant, access_list, acl_in, this_sp_grants, owner_grants, label_grants, authority_grants, fixed_ace_gets, user_ace_grants, read_locked_ace_grants, write_locked_ace_grants, done_ace_grants, pin_grants, range_get_ace_grants, range_get_grants, range_set_grants, mbr_grants, info_grants, key_grants, gen_key_ace_grants}
+use Rattle.access_list.specs.Access.{Grant, access_list, acl_in, this_sp_grants, owner_grants, label_grants, removal_grants, authority_grants, fixed_ace_gets, user_ace_grants, read_locked_ace_grants, write_locked_ace_grants, done_ace_grants, pin_grants, range_get_ace_grants, range_get_grants, range_set_grants, mbr_grants, info_grants, datastore_grants, key_grants, gen_key_ace_grants}
 use Rattle.tcg_tokens.specs.Tree.{Tree, Trees}
 use Rattle.tcg_tokens.specs.Tree as tree
 use Rattle.call_shapes.specs.Parameters.{start_row_parameter, end_row_parameter, start_column_parameter, end_column_parameter, where_parameter, values_parameter, proof_parameter, keep_global_range_key_parameter}
 use Rattle.call_shapes.specs.Named.{values_of, list_in, assignments, value_of, options, number_or, number_if_any, bytes_or_empty}
-use Rattle.call_shapes.specs.Asks.{uid_of, is_mbr_table, cellblock, columns_between, columns_asked_in, is_ordered, rows_between, rows_in, cells_of, cells_to_set, cells_in, bytes_to_set, bytes_in, proof_of, proof_in, attempt_in, without_arguments, get_of, set_of, keep_of, keep_in, other_ask_of, ask_of}
+use Rattle.call_shapes.specs.Asks.{uid_of, is_byte_table, cellblock, columns_between, columns_asked_in, is_ordered, rows_between, rows_in, cells_of, cells_to_set, cells_in, bytes_to_set, bytes_in, proof_of, proof_in, attempt_in, without_arguments, get_of, set_of, keep_of, keep_in, other_ask_of, ask_of}
 use Rattle.call_shapes.specs.declared.ask.Ask.{Ask}
 use Rattle.call_shapes.specs.declared.ask.Ask.TheVariants.{GetCells, GetBytes, SetCells, SetBytes, Authenticate, Activate, Revert, GenKey, RevertSp, Other}
 use Rattle.methods.specs.Judgement.{asked}
@@ -164,8 +164,8 @@ other-gives Field method args =
 asked-gives : (profile : Profile) (sp : Sp) (object method : Uid) (args : List Tree) → Gives (λ ask. is_own profile ask method) (ask_of profile sp object method args)
 asked-gives profile sp object method args =
     let p : Ask → Bool = λ ask. is_own profile ask method in
-    by-test p (method.0 == get.0) _ _ (λ is. get-gives p (is_mbr_table sp object) args (λ a b. is) (λ a b. is)) (λ no_get.
-    by-test p (method.0 == set.0) _ _ (λ is. set-gives p (is_mbr_table sp object) args (λ a b. is) (λ a. is)) (λ no_set.
+    by-test p (method.0 == get.0) _ _ (λ is. get-gives p (is_byte_table profile sp object) args (λ a b. is) (λ a b. is)) (λ no_get.
+    by-test p (method.0 == set.0) _ _ (λ is. set-gives p (is_byte_table profile sp object) args (λ a b. is) (λ a. is)) (λ no_set.
     by-test p (method.0 == authenticate.0) _ _ (λ is. attempt-gives p args (λ a b. is)) (λ no_authenticate.
     by-test p (method.0 == activate.0) _ _ (λ is. nothing-gives p Activate args is) (λ no_activate.
     by-test p (method.0 == revert.0) _ _ (λ is. nothing-gives p Revert args is) (λ no_revert. other-gives profile method args)))))
@@ -198,31 +198,31 @@ same-method : (profile : Profile) (method wanted : Uid) (sp : Sp) (object : Uid)
 same-method profile method wanted sp object row is h = ap (λ (n : ℕ). acl_in (access_list profile) sp object (record { 0 = n })) (sym (eqb-true method.0 wanted.0 is)) ∙ h
 
 no_activate : (profile : Profile) → list_all (λ g. not (is_row_of Locking activate g) || false) (access_list profile) ≡ true
-unfolding this_sp_grants owner_grants label_grants authority_grants fixed_ace_gets user_ace_grants range_get_ace_grants gen_key_ace_grants read_locked_ace_grants write_locked_ace_grants done_ace_grants pin_grants range_get_grants range_set_grants mbr_grants info_grants key_grants authorities_of_locking
+unfolding this_sp_grants owner_grants label_grants removal_grants authority_grants fixed_ace_gets user_ace_grants range_get_ace_grants gen_key_ace_grants read_locked_ace_grants write_locked_ace_grants done_ace_grants pin_grants range_get_grants range_set_grants mbr_grants info_grants datastore_grants key_grants authorities_of_locking
 no_activate Base = refl
 no_activate Field = refl
 
 no_revert : (profile : Profile) → list_all (λ g. not (is_row_of Locking revert g) || false) (access_list profile) ≡ true
-unfolding this_sp_grants owner_grants label_grants authority_grants fixed_ace_gets user_ace_grants range_get_ace_grants gen_key_ace_grants read_locked_ace_grants write_locked_ace_grants done_ace_grants pin_grants range_get_grants range_set_grants mbr_grants info_grants key_grants authorities_of_locking
+unfolding this_sp_grants owner_grants label_grants removal_grants authority_grants fixed_ace_gets user_ace_grants range_get_ace_grants gen_key_ace_grants read_locked_ace_grants write_locked_ace_grants done_ace_grants pin_grants range_get_grants range_set_grants mbr_grants info_grants datastore_grants key_grants authorities_of_locking
 no_revert Base = refl
 no_revert Field = refl
 
 no_gen_key : (profile : Profile) → list_all (λ g. not (is_row_of Admin gen_key g) || false) (access_list profile) ≡ true
-unfolding this_sp_grants owner_grants label_grants authority_grants fixed_ace_gets user_ace_grants range_get_ace_grants gen_key_ace_grants read_locked_ace_grants write_locked_ace_grants done_ace_grants pin_grants range_get_grants range_set_grants mbr_grants info_grants key_grants authorities_of_locking
+unfolding this_sp_grants owner_grants label_grants removal_grants authority_grants fixed_ace_gets user_ace_grants range_get_ace_grants gen_key_ace_grants read_locked_ace_grants write_locked_ace_grants done_ace_grants pin_grants range_get_grants range_set_grants mbr_grants info_grants datastore_grants key_grants authorities_of_locking
 no_gen_key Base = refl
 no_gen_key Field = refl
 
 no_revert_sp : (profile : Profile) → list_all (λ g. not (is_row_of Admin revert_sp g) || false) (access_list profile) ≡ true
-unfolding this_sp_grants owner_grants label_grants authority_grants fixed_ace_gets user_ace_grants range_get_ace_grants gen_key_ace_grants read_locked_ace_grants write_locked_ace_grants done_ace_grants pin_grants range_get_grants range_set_grants mbr_grants info_grants key_grants authorities_of_locking
+unfolding this_sp_grants owner_grants label_grants removal_grants authority_grants fixed_ace_gets user_ace_grants range_get_ace_grants gen_key_ace_grants read_locked_ace_grants write_locked_ace_grants done_ace_grants pin_grants range_get_grants range_set_grants mbr_grants info_grants datastore_grants key_grants authorities_of_locking
 no_revert_sp Base = refl
 no_revert_sp Field = refl
 
-only_two_rows : (profile : Profile) → list_all (λ g. not (is_row_of Admin set g) || is_set_in_admin g.object) (access_list profile) ≡ true
-unfolding this_sp_grants owner_grants label_grants authority_grants fixed_ace_gets user_ace_grants range_get_ace_grants gen_key_ace_grants read_locked_ace_grants write_locked_ace_grants done_ace_grants pin_grants range_get_grants range_set_grants mbr_grants info_grants key_grants authorities_of_locking
-only_two_rows Base = refl
-only_two_rows Field = refl
+only_three_rows : (profile : Profile) → list_all (λ g. not (is_row_of Admin set g) || is_set_in_admin g.object) (access_list profile) ≡ true
+unfolding this_sp_grants owner_grants label_grants removal_grants authority_grants fixed_ace_gets user_ace_grants range_get_ace_grants gen_key_ace_grants read_locked_ace_grants write_locked_ace_grants done_ace_grants pin_grants range_get_grants range_set_grants mbr_grants info_grants datastore_grants key_grants authorities_of_locking
+only_three_rows Base = refl
+only_three_rows Field = refl
 
--- Activate and Revert are of the Admin SP; a Set there is of one of two rows
+-- Activate and Revert are of the Admin SP; a Set there is of one of three rows
 pub activate-admin : (profile : Profile) (sp : Sp) (object method : Uid) (row : List Uid) → (method.0 == activate.0) ≡ true → acl_in (access_list profile) sp object method ≡ Some row → sp ≡ Admin
 activate-admin profile Admin object method row is h = refl
 activate-admin profile Locking object method row is h = let g : false ≡ true = rows-among (λ n. false) Locking object activate (access_list profile) row (no_activate profile) (same-method profile method activate Locking object row is h) in cc
@@ -241,4 +241,4 @@ revert-sp-locking profile Locking object method row is h = refl
 revert-sp-locking profile Admin object method row is h = let g : false ≡ true = rows-among (λ n. false) Admin object revert_sp (access_list profile) row (no_revert_sp profile) (same-method profile method revert_sp Admin object row is h) in cc
 
 pub set-in-admin : (profile : Profile) (object method : Uid) (row : List Uid) → (method.0 == set.0) ≡ true → acl_in (access_list profile) Admin object method ≡ Some row → is_set_in_admin object ≡ true
-set-in-admin profile object method row is h = rows-among (λ n. (n == c_pin_sid.0) || (n == tper_info.0)) Admin object set (access_list profile) row (only_two_rows profile) (same-method profile method set Admin object row is h)
+set-in-admin profile object method row is h = rows-among (λ n. (n == c_pin_sid.0) || (n == tper_info.0) || (n == data_removal.0)) Admin object set (access_list profile) row (only_three_rows profile) (same-method profile method set Admin object row is h)

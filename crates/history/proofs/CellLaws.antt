@@ -14,12 +14,13 @@ use Rattle.sp_cells.specs.declared.names.Column.{Column}
 use Rattle.sp_cells.specs.declared.cells.Cell.{Cell}
 use Rattle.sp_cells.specs.declared.cells.Cell.TheVariants.{Number}
 use Rattle.sp_cells.specs.declared.error.SetError.{SetError}
-use Rattle.sp_cells.specs.Config.{Config}
+use Rattle.sp_cells.specs.Config.{Config, sizes_in}
+use Rattle.sp_cells.specs.declared.byte_tables.TableSizes.{TableSizes}
 use Rattle.sp_cells.specs.Names.{locking_sp, range_uid, admin_pin_uid, mbr_control}
 use Rattle.sp_cells.specs.ColumnNames.{credential_column, lock_on_reset_column, mbr_done_column, mbr_done_on_reset_column}
 use Rattle.sp_cells.specs.Flat.{PlacedCell, sp_eq, cell_at}
 use Rattle.sp_rows.specs.Items.{Item, on, with_item, with_items}
-use Rattle.sp_rows.specs.Factory.{admin_factory, locking_factory, admin_sps, admin_authorities, label_authorities, admin_pins, label_pins, admin_aces, label_aces, locking_authorities, locking_pins, locking_ranges, locking_mbr_controls, authority_aces, pin_aces, range_get_aces, range_aces, mbr_aces, gen_key_aces, range_keys, locking_infos, byte_tables}
+use Rattle.sp_rows.specs.Factory.{admin_factory, locking_factory, admin_sps, admin_authorities, label_authorities, admin_pins, label_pins, admin_aces, label_aces, removal_aces, data_removals, locking_authorities, locking_pins, locking_ranges, locking_mbr_controls, authority_aces, pin_aces, range_get_aces, range_aces, mbr_aces, gen_key_aces, range_keys, locking_infos, byte_tables, datastore_aces}
 use Rattle.sp_tables.specs.AtReset.{has_kind}
 use Rattle.sp_tables.specs.Contents.{new_admin, new_locking, Contents, factory_contents, cells_look_up, flat}
 use Rattle.sp_tables.specs.Looks.{RowLook, put_in, puts_in}
@@ -137,22 +138,22 @@ items-few most items object [] h = h
 items-few most items object (p ∷ ps) h = items-few most (with_item items object p.0 p.1) object ps (item-few most items object p.0 p.1 h)
 
 admin-few : (p : Profile) (msid psid : List ℕ) → are_few (last_column p).0 (admin_factory p msid psid) ≡ true
-unfolding admin_sps admin_authorities label_authorities admin_pins label_pins admin_aces label_aces
+unfolding admin_sps admin_authorities label_authorities admin_pins label_pins admin_aces label_aces removal_aces data_removals
 admin-few Base msid psid = refl
 admin-few Field msid psid = refl
 
-locking-few : (p : Profile) (shadow : ℕ) → are_few (last_column p).0 (locking_factory p shadow) ≡ true
-unfolding locking_authorities locking_pins locking_ranges locking_mbr_controls authority_aces pin_aces range_get_aces range_aces mbr_aces gen_key_aces range_keys locking_infos byte_tables
-locking-few Base shadow = refl
-locking-few Field shadow = refl
+locking-few : (p : Profile) (sizes : TableSizes) → are_few (last_column p).0 (locking_factory p sizes) ≡ true
+unfolding locking_authorities locking_pins locking_ranges locking_mbr_controls authority_aces pin_aces range_get_aces range_aces mbr_aces gen_key_aces range_keys locking_infos byte_tables datastore_aces
+locking-few Base sizes = refl
+locking-few Field sizes = refl
 
 factory-few : (config : Config) → AreFew (last_column config.profile).0 (factory_origin config).tables
-factory-few config = record { admin = admin-few config.profile config.msid config.psid; locking = locking-few config.profile config.mbr_sectors }
+factory-few config = record { admin = admin-few config.profile config.msid config.psid; locking = locking-few config.profile (sizes_in config) }
 
 activated-few : (config : Config) → AreFew (last_column config.profile).0 (activated_origin config).tables
 activated-few config = record {
   admin = items-few (last_column config.profile).0 (new_admin config) locking_sp life_cycle (admin-few config.profile config.msid config.psid);
-  locking = items-few (last_column config.profile).0 (new_locking config) (admin_pin_uid 1) (pin config.msid) (locking-few config.profile config.mbr_sectors);
+  locking = items-few (last_column config.profile).0 (new_locking config) (admin_pin_uid 1) (pin config.msid) (locking-few config.profile (sizes_in config));
 }
 
 range-few : (most : ℕ) (row : RangeRow) (o : Origin) → AreFew most o.tables → AreFew most (with_range row o).tables

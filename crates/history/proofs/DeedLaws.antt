@@ -4,6 +4,11 @@ use Rattle.std.specs.Prelude.{◌-◌, nat_le, nat_lt, zero, suc, unwrap_or, Res
 use Rattle.std.specs.List.{list_any}
 use Rattle.sp_cells.specs.declared.names.Uid.{Uid}
 use Rattle.sp_cells.specs.declared.names.Sp.{Sp}
+use Rattle.methods.proofs.FitLemmas.{place-fits}
+use Rattle.sp_cells.specs.declared.byte_tables.ByteTable.{ByteTable}
+use Rattle.sp_cells.specs.declared.byte_tables.ByteTable.TheVariants.{ShadowMbr, DataStore}
+use Rattle.sp_cells.specs.declared.byte_tables.TableSizes.{TableSizes}
+use Rattle.sp_cells.specs.ByteTables.{bytes_of_table, table_begin, sectors_of, fits_table}
 use Rattle.sp_cells.specs.declared.names.Sp.TheVariants.{Admin, Locking}
 use Rattle.sp_cells.specs.declared.names.Column.{Column}
 use Rattle.sp_cells.specs.declared.cells.Cell.{Cell}
@@ -29,7 +34,7 @@ use Rattle.basics.specs.declared.profile.Profile.{Profile}
 use Rattle.basics.specs.declared.profile.Profile.TheVariants.{Field}
 use Rattle.sp_cells.specs.Numbers.{key_number}
 use Rattle.methods.specs.Erasures.{is_wholly_locked}
-use Rattle.methods.specs.Kinds.{kind_of}
+use Rattle.methods.specs.Kinds.{kind_of, byte_table_of}
 use Rattle.methods.specs.Columns.{set_types_of}
 use Rattle.methods.specs.Settings.{cells_for, setting_of_cells, cells_of_ask, bytes_of_ask, setting}
 use Rattle.sessions.specs.Made.{is_within}
@@ -37,7 +42,7 @@ use Rattle.methods.specs.Said.{reply_of, refusal_of}
 use Rattle.call_shapes.specs.Limits.{most_response}
 use Rattle.methods.specs.Effects.{has_ask, last_row, unless_fault, sp_of_row}
 use Rattle.sp_cells.specs.declared.values.ColumnType.{ColumnType}
-use Rattle.methods.specs.Judgement.{asked, Standing, Judgement, Refuses, Gives, Makes, Attempts, Activates, Reverts, Erases, RevertsSp, erases, reverts_sp, denial, gives, listing, table_size, bytes_between, rows_given, fault_by, valid, to_set, makes, unless_open, does_ask, does, unless_denied, judged}
+use Rattle.methods.specs.Judgement.{asked, Standing, Judgement, Refuses, Gives, Makes, Attempts, Activates, Reverts, Erases, RevertsSp, erases, reverts_sp, denial, gives, listing, bytes_between, rows_given, fault_by, valid, to_set, makes, unless_open, does_ask, does, unless_denied, judged}
 use Rattle.sessions.specs.declared.opening.Opening.{Opening}
 use Rattle.sessions.specs.declared.opening.StartVerdict.{StartVerdict}
 use Rattle.sessions.specs.declared.opening.StartVerdict.TheVariants.{Refused, Attempted}
@@ -97,10 +102,10 @@ gives-kind results k h = by_carried (is_carried (reply_of results success)) h
     by_carried true g = g
     by_carried false g = absurd (zero-one g)
 
-rows-kind : (s : Standing) (first last : ℕ) (k : ℕ) → kind (rows_given s.byte (table_size s) first last) ≡ suc k → 1 ≡ suc k
-rows-kind s first last k h =
-    kind-if ((table_size s == 0) || (nat_le (table_size s) last || nat_lt last first)) (Refuses 0x0c None) _ k 1 refl
-    (kind-if (nat_lt most_response (last + 1 - first)) (Refuses 0x11 None) (gives (bytes_between s.byte first last)) k 1 refl (gives-kind (bytes_between s.byte first last) k)) h
+rows-kind : (byte : ℕ → ℕ) (size first last : ℕ) (k : ℕ) → kind (rows_given byte size first last) ≡ suc k → 1 ≡ suc k
+rows-kind byte size first last k h =
+    kind-if ((size == 0) || (nat_le size last || nat_lt last first)) (Refuses 0x0c None) _ k 1 refl
+    (kind-if (nat_lt most_response (last + 1 - first)) (Refuses 0x11 None) (gives (bytes_between byte first last)) k 1 refl (gives-kind (bytes_between byte first last) k)) h
 
 makes-kind : (x : Option Setting) (k : ℕ) → kind (makes x) ≡ suc k → 2 ≡ suc k
 makes-kind None k h = absurd (zero-one h)
@@ -120,7 +125,7 @@ reverts-kind false keep k h = h
 
 does-kind : (s : Standing) (object : Uid) (ask : Ask) (k : ℕ) → kind (does_ask s object ask) ≡ suc k → ask_kind ask ≡ suc k
 does-kind s object (GetCells first last) k h = gives-kind (listing s object first last) k h
-does-kind s object (GetBytes first last) k h = rows-kind s first (last_row (table_size s) last) k h
+does-kind s object (GetBytes first last) k h = rows-kind (λ row. s.byte (table_begin s.sizes (byte_table_of (kind_of s.sp object)) + row)) (bytes_of_table s.sizes (byte_table_of (kind_of s.sp object))) first (last_row (bytes_of_table s.sizes (byte_table_of (kind_of s.sp object))) last) k h
 does-kind s object (SetCells values) k h = makes-kind (to_set s object (SetCells values)) k h
 does-kind s object (SetBytes place content) k h = makes-kind (to_set s object (SetBytes place content)) k h
 does-kind s object (Authenticate a pin) k h = h
@@ -283,33 +288,35 @@ bytes-if : (p : Setting → Bool) (place : ℕ) (content : List ℕ) (b : Bool) 
 bytes-if p place content true set fit h = ap p (some-same h) ∙ fit refl
 bytes-if p place content false set fit h = absurd (none-some h)
 
-bytes-fit : (p : Setting → Bool) (sp : Sp) (sectors : ℕ) (object : Uid) → AreFit p sp sectors object → (ask : Ask) (set : Setting) → bytes_of_ask sp sectors ask ≡ Some set → p set ≡ true
-bytes-fit p Admin sectors object fit ask set h = absurd (none-some h)
-bytes-fit p Locking sectors object fit (SetBytes a b) set h = bytes-if p a b (is_within sectors a b) set (λ is. fit.bytes a b refl is) h
-bytes-fit p Locking sectors object fit (SetCells ps) set h = absurd (none-some h)
-bytes-fit p Locking sectors object fit (GetCells a b) set h = absurd (none-some h)
-bytes-fit p Locking sectors object fit (GetBytes a b) set h = absurd (none-some h)
-bytes-fit p Locking sectors object fit (Authenticate a b) set h = absurd (none-some h)
-bytes-fit p Locking sectors object fit Activate set h = absurd (none-some h)
-bytes-fit p Locking sectors object fit Revert set h = absurd (none-some h)
-bytes-fit p Locking sectors object fit GenKey set h = absurd (none-some h)
-bytes-fit p Locking sectors object fit (RevertSp keep) set h = absurd (none-some h)
-bytes-fit p Locking sectors object fit Other set h = absurd (none-some h)
+bytes-fit : (p : Setting → Bool) (sp : Sp) (sizes : TableSizes) (table : ByteTable) (object : Uid) → AreFit p sp (sectors_of sizes) object → (ask : Ask) (set : Setting) → bytes_of_ask sp sizes table ask ≡ Some set → p set ≡ true
+bytes-fit p Admin sizes table object fit ask set h = absurd (none-some h)
+bytes-fit p Locking sizes table object fit (SetBytes a b) set h = bytes-if p (table_begin sizes table + a) b (fits_table sizes table a b) set (λ is. fit.bytes (table_begin sizes table + a) b refl (place-fits sizes table a b is)) h
+bytes-fit p Locking sizes table object fit (SetCells ps) set h = absurd (none-some h)
+bytes-fit p Locking sizes table object fit (GetCells a b) set h = absurd (none-some h)
+bytes-fit p Locking sizes table object fit (GetBytes a b) set h = absurd (none-some h)
+bytes-fit p Locking sizes table object fit (Authenticate a b) set h = absurd (none-some h)
+bytes-fit p Locking sizes table object fit Activate set h = absurd (none-some h)
+bytes-fit p Locking sizes table object fit Revert set h = absurd (none-some h)
+bytes-fit p Locking sizes table object fit GenKey set h = absurd (none-some h)
+bytes-fit p Locking sizes table object fit (RevertSp keep) set h = absurd (none-some h)
+bytes-fit p Locking sizes table object fit Other set h = absurd (none-some h)
 
-setting-fit : (p : Setting → Bool) (sp : Sp) (sectors : ℕ) (object : Uid) → AreFit p sp sectors object → (k : Option Kind) (ask : Ask) (set : Setting) → setting sp sectors object k ask ≡ Some set → p set ≡ true
-setting-fit p sp sectors object fit None ask set h = asked-fit p sp sectors object fit [] ask set h
-setting-fit p sp sectors object fit (Some kinds.MbrTable) ask set h = bytes-fit p sp sectors object fit ask set h
-setting-fit p sp sectors object fit (Some kinds.ThisSp) ask set h = asked-fit p sp sectors object fit [] ask set h
-setting-fit p sp sectors object fit (Some kinds.Sp) ask set h = asked-fit p sp sectors object fit [] ask set h
-setting-fit p sp sectors object fit (Some kinds.Authority) ask set h = asked-fit p sp sectors object fit (set_types_of (Some kinds.Authority)) ask set h
-setting-fit p sp sectors object fit (Some kinds.CPin) ask set h = asked-fit p sp sectors object fit (set_types_of (Some kinds.CPin)) ask set h
-setting-fit p sp sectors object fit (Some kinds.Ace) ask set h = asked-fit p sp sectors object fit (set_types_of (Some kinds.Ace)) ask set h
-setting-fit p sp sectors object fit (Some kinds.Locking) ask set h = asked-fit p sp sectors object fit (set_types_of (Some kinds.Locking)) ask set h
-setting-fit p sp sectors object fit (Some kinds.MbrControl) ask set h = asked-fit p sp sectors object fit (set_types_of (Some kinds.MbrControl)) ask set h
-setting-fit p sp sectors object fit (Some kinds.TperInfo) ask set h = asked-fit p sp sectors object fit (set_types_of (Some kinds.TperInfo)) ask set h
-setting-fit p sp sectors object fit (Some kinds.LockingInfo) ask set h = asked-fit p sp sectors object fit (set_types_of (Some kinds.LockingInfo)) ask set h
-setting-fit p sp sectors object fit (Some kinds.Table) ask set h = asked-fit p sp sectors object fit (set_types_of (Some kinds.Table)) ask set h
-setting-fit p sp sectors object fit (Some kinds.Key) ask set h = asked-fit p sp sectors object fit (set_types_of (Some kinds.Key)) ask set h
+setting-fit : (p : Setting → Bool) (sp : Sp) (sizes : TableSizes) (object : Uid) → AreFit p sp (sectors_of sizes) object → (k : Option Kind) (ask : Ask) (set : Setting) → setting sp sizes object k ask ≡ Some set → p set ≡ true
+setting-fit p sp sizes object fit None ask set h = asked-fit p sp (sectors_of sizes) object fit [] ask set h
+setting-fit p sp sizes object fit (Some kinds.MbrTable) ask set h = bytes-fit p sp sizes ShadowMbr object fit ask set h
+setting-fit p sp sizes object fit (Some kinds.DataStore) ask set h = bytes-fit p sp sizes DataStore object fit ask set h
+setting-fit p sp sizes object fit (Some kinds.DataRemoval) ask set h = asked-fit p sp (sectors_of sizes) object fit (set_types_of (Some kinds.DataRemoval)) ask set h
+setting-fit p sp sizes object fit (Some kinds.ThisSp) ask set h = asked-fit p sp (sectors_of sizes) object fit [] ask set h
+setting-fit p sp sizes object fit (Some kinds.Sp) ask set h = asked-fit p sp (sectors_of sizes) object fit [] ask set h
+setting-fit p sp sizes object fit (Some kinds.Authority) ask set h = asked-fit p sp (sectors_of sizes) object fit (set_types_of (Some kinds.Authority)) ask set h
+setting-fit p sp sizes object fit (Some kinds.CPin) ask set h = asked-fit p sp (sectors_of sizes) object fit (set_types_of (Some kinds.CPin)) ask set h
+setting-fit p sp sizes object fit (Some kinds.Ace) ask set h = asked-fit p sp (sectors_of sizes) object fit (set_types_of (Some kinds.Ace)) ask set h
+setting-fit p sp sizes object fit (Some kinds.Locking) ask set h = asked-fit p sp (sectors_of sizes) object fit (set_types_of (Some kinds.Locking)) ask set h
+setting-fit p sp sizes object fit (Some kinds.MbrControl) ask set h = asked-fit p sp (sectors_of sizes) object fit (set_types_of (Some kinds.MbrControl)) ask set h
+setting-fit p sp sizes object fit (Some kinds.TperInfo) ask set h = asked-fit p sp (sectors_of sizes) object fit (set_types_of (Some kinds.TperInfo)) ask set h
+setting-fit p sp sizes object fit (Some kinds.LockingInfo) ask set h = asked-fit p sp (sectors_of sizes) object fit (set_types_of (Some kinds.LockingInfo)) ask set h
+setting-fit p sp sizes object fit (Some kinds.Table) ask set h = asked-fit p sp (sectors_of sizes) object fit (set_types_of (Some kinds.Table)) ask set h
+setting-fit p sp sizes object fit (Some kinds.Key) ask set h = asked-fit p sp (sectors_of sizes) object fit (set_types_of (Some kinds.Key)) ask set h
 
 unfaulted : (fault : Option SetError) (set made : Setting) → unless_fault fault set ≡ Some made → made ≡ set
 unfaulted None set made h = some-same h
@@ -323,11 +330,11 @@ makes-is : (x : Option Setting) (made : Setting) → makes x ≡ Makes made → 
 makes-is None made h = absurd (zero-one (ap kind h))
 makes-is (Some set) made h = ap (λ y. Some y) (sym (made-same h))
 
-makes-fit : (p : Setting → Bool) (s : Standing) (object : Uid) → AreFit p s.sp s.mbr_sectors object → (ask : Ask) (made : Setting) → ask_kind ask ≡ 2 → does_ask s object ask ≡ Makes made → p made ≡ true
+makes-fit : (p : Setting → Bool) (s : Standing) (object : Uid) → AreFit p s.sp (sectors_of s.sizes) object → (ask : Ask) (made : Setting) → ask_kind ask ≡ 2 → does_ask s object ask ≡ Makes made → p made ≡ true
 makes-fit p s object fit (SetCells values) made k h =
-    valid-fit p s (setting s.sp s.mbr_sectors object (kind_of s.sp object) (SetCells values)) made (λ set is. setting-fit p s.sp s.mbr_sectors object fit (kind_of s.sp object) (SetCells values) set is) (makes-is (to_set s object (SetCells values)) made h)
+    valid-fit p s (setting s.sp s.sizes object (kind_of s.sp object) (SetCells values)) made (λ set is. setting-fit p s.sp s.sizes object fit (kind_of s.sp object) (SetCells values) set is) (makes-is (to_set s object (SetCells values)) made h)
 makes-fit p s object fit (SetBytes place content) made k h =
-    valid-fit p s (setting s.sp s.mbr_sectors object (kind_of s.sp object) (SetBytes place content)) made (λ set is. setting-fit p s.sp s.mbr_sectors object fit (kind_of s.sp object) (SetBytes place content) set is) (makes-is (to_set s object (SetBytes place content)) made h)
+    valid-fit p s (setting s.sp s.sizes object (kind_of s.sp object) (SetBytes place content)) made (λ set is. setting-fit p s.sp s.sizes object fit (kind_of s.sp object) (SetBytes place content) set is) (makes-is (to_set s object (SetBytes place content)) made h)
 makes-fit p s object fit (GetCells a b) c k h = cc
 makes-fit p s object fit (GetBytes a b) c k h = cc
 makes-fit p s object fit (Authenticate a b) c k h = cc
@@ -337,21 +344,21 @@ makes-fit p s object fit GenKey c k h = cc
 makes-fit p s object fit (RevertSp keep) c k h = cc
 makes-fit p s object fit Other c k h = cc
 
-row-fit : (p : Uid → Bool) (s : Standing) (object : Uid) → p object ≡ true → AreFit (λ y. is_of_row p (Sets y)) s.sp s.mbr_sectors object
+row-fit : (p : Uid → Bool) (s : Standing) (object : Uid) → p object ≡ true → AreFit (λ y. is_of_row p (Sets y)) s.sp (sectors_of s.sizes) object
 row-fit p s object h = record { cells = λ cells. h; bytes = λ place content on is. refl }
 
-inside-fit : (s : Standing) (object : Uid) → AreFit (λ y. is_inside s.mbr_sectors s.sp (Sets y)) s.sp s.mbr_sectors object
+inside-fit : (s : Standing) (object : Uid) → AreFit (λ y. is_inside (sectors_of s.sizes) s.sp (Sets y)) s.sp (sectors_of s.sizes) object
 inside-fit s object = record {
   cells = λ cells. of_cells s.sp cells;
-  bytes = λ place content on is. ap (λ x. is_inside s.mbr_sectors x (Sets (bytes_set place content))) on ∙ is;
+  bytes = λ place content on is. ap (λ x. is_inside (sectors_of s.sizes) x (Sets (bytes_set place content))) on ∙ is;
 }
   where
-    of_cells : (sp : Sp) (cells : List (Column × Cell)) → is_inside s.mbr_sectors sp (Sets (cells_set object cells)) ≡ true
+    of_cells : (sp : Sp) (cells : List (Column × Cell)) → is_inside (sectors_of s.sizes) sp (Sets (cells_set object cells)) ≡ true
     of_cells Admin cells = refl
     of_cells Locking cells = refl
 
-makes-inside : (s : Standing) (object method : Uid) (c : Setting) → Granted s object method 1 (Makes c) → is_inside s.mbr_sectors s.sp (Sets c) ≡ true
-makes-inside s object method c g = makes-fit (λ y. is_inside s.mbr_sectors s.sp (Sets y)) s object (inside-fit s object) g.ask c g.kind g.does
+makes-inside : (s : Standing) (object method : Uid) (c : Setting) → Granted s object method 1 (Makes c) → is_inside (sectors_of s.sizes) s.sp (Sets c) ≡ true
+makes-inside s object method c g = makes-fit (λ y. is_inside (sectors_of s.sizes) s.sp (Sets y)) s object (inside-fit s object) g.ask c g.kind g.does
 
 set-is : (profile : Profile) (ask : Ask) (method : Uid) → is_own profile ask method ≡ true → ask_kind ask ≡ 2 → (method.0 == set.0) ≡ true
 set-is profile (SetCells a) method own h = own

@@ -37,10 +37,12 @@ use Rattle.call_shapes.specs.Named.{values_of}
 use Rattle.call_shapes.specs.Carried.{is_carried}
 use Rattle.methods.specs.Said.{reply_of, refusal_of}
 use Rattle.call_shapes.specs.Limits.{most_response}
+use Rattle.sp_cells.specs.ByteTables.{bytes_of_table, table_begin}
+use Rattle.methods.specs.Kinds.{kind_of, byte_table_of}
 use Rattle.methods.specs.Effects.{ask_at, last_row, sp_of_row}
 use Rattle.sp_cells.specs.Numbers.{key_number}
 use Rattle.methods.specs.Erasures.{is_wholly_locked}
-use Rattle.methods.specs.Judgement.{asked, Standing, Judgement, Refuses, Gives, Makes, Attempts, Activates, Reverts, Erases, RevertsSp, erases, reverts_sp, denial, gives, listing, table_size, bytes_between, rows_given, to_set, makes, unless_open, does_ask, does, unless_denied, judged}
+use Rattle.methods.specs.Judgement.{asked, Standing, Judgement, Refuses, Gives, Makes, Attempts, Activates, Reverts, Erases, RevertsSp, erases, reverts_sp, denial, gives, listing, bytes_between, rows_given, to_set, makes, unless_open, does_ask, does, unless_denied, judged}
 use Rattle.call_shapes.specs.declared.ask.Ask.{Ask}
 use Rattle.call_shapes.specs.declared.ask.Ask.TheVariants.{GetCells, GetBytes, SetCells, SetBytes, Authenticate, Activate, Revert, GenKey, RevertSp, Other}
 use Rattle.trusted_cmds.specs.BlockSid.{is_block_sid, block_asked, is_blocked}
@@ -136,10 +138,10 @@ clean-if false x y h g = g
 gives-clean : (results : List Tree) → reason (gives results) ≡ None
 gives-clean results = clean-if (is_carried (reply_of results success)) (Gives results) (Refuses 0x11 None) refl refl
 
-rows-clean : (s : Standing) (first last : ℕ) → reason (rows_given s.byte (table_size s) first last) ≡ None
-rows-clean s first last =
-    clean-if ((table_size s == 0) || (nat_le (table_size s) last || nat_lt last first)) (Refuses 0x0c None) _ refl
-    (clean-if (nat_lt most_response (last + 1 - first)) (Refuses 0x11 None) (gives (bytes_between s.byte first last)) refl (gives-clean (bytes_between s.byte first last)))
+rows-clean : (byte : ℕ → ℕ) (size first last : ℕ) → reason (rows_given byte size first last) ≡ None
+rows-clean byte size first last =
+    clean-if ((size == 0) || (nat_le size last || nat_lt last first)) (Refuses 0x0c None) _ refl
+    (clean-if (nat_lt most_response (last + 1 - first)) (Refuses 0x11 None) (gives (bytes_between byte first last)) refl (gives-clean (bytes_between byte first last)))
 
 makes-clean : (x : Option Setting) → reason (makes x) ≡ None
 makes-clean None = refl
@@ -155,7 +157,7 @@ erases-clean (Some range) = refl
 
 done-clean : (s : Standing) (object : Uid) (ask : Ask) → reason (does_ask s object ask) ≡ None
 done-clean s object (GetCells a b) = gives-clean (listing s object a b)
-done-clean s object (GetBytes a b) = rows-clean s a (last_row (table_size s) b)
+done-clean s object (GetBytes a b) = rows-clean (λ row. s.byte (table_begin s.sizes (byte_table_of (kind_of s.sp object)) + row)) (bytes_of_table s.sizes (byte_table_of (kind_of s.sp object))) a (last_row (bytes_of_table s.sizes (byte_table_of (kind_of s.sp object))) b)
 done-clean s object (SetCells values) = makes-clean (to_set s object (SetCells values))
 done-clean s object (SetBytes place content) = makes-clean (to_set s object (SetBytes place content))
 done-clean s object (Authenticate a pin) = refl

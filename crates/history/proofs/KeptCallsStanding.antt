@@ -5,7 +5,7 @@ use Rattle.std.specs.Prelude.{option_map, slice_index}
 use Rattle.sp_cells.specs.declared.names.Uid.{Uid}
 use Rattle.sp_cells.specs.declared.names.Sp.{Sp}
 use Rattle.sp_cells.specs.declared.names.Sp.TheVariants.{Admin, Locking}
-use Rattle.sp_cells.specs.Config.{Config}
+use Rattle.sp_cells.specs.Config.{Config, sizes_in}
 use Rattle.sp_cells.specs.Flat.{sp_eq}
 use Rattle.ace_eval.specs.Truth.{has}
 use Rattle.transactions.specs.Stored.{Transaction, Part, Stored, part, is_open}
@@ -166,7 +166,7 @@ latest-seen o acts s session store h = by_sp session.sp (own-pending o acts s se
 pub standing-same : (o : Origin) (acts : List Act) (s : Stored) (l : Live) (session : Begun) (held : List Uid) → KeepsStore s o (log o acts) → KeepsSessions l (log o acts) → session_on (log o acts) session.sp ≡ Some session → l.block ≡ sid_block (log o acts)
     → with_held (standing_on l.block s (id_of session) held) (authorities (log o acts) session) ≡ standing (facts o (log o acts)) session
 standing-same o acts s l session held store keeps h block =
-    ap (λ (config : Config). record base { profile = config.profile; sectors = config.sectors; mbr_sectors = config.mbr_sectors }) store.config
+    ap (λ (config : Config). record base { profile = config.profile; sectors = config.sectors; sizes = sizes_in config }) store.config
     ∙ ap (λ rows. record after { rows = rows; byte = base.byte; newest = base.newest; is_open = base.is_open; block = base.block }) (rows-same o acts s l session store keeps h)
     ∙ ap (λ byte. record after { byte = byte; newest = base.newest; is_open = base.is_open; block = base.block }) (bytes-same o acts s l session store keeps h)
     ∙ ap (λ newest. record after { newest = newest; is_open = base.is_open; block = base.block }) (latest-seen o acts s session store h ∙ ap (λ look. look session.sp) (rows-same o acts s l session store keeps h))

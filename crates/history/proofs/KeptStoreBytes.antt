@@ -4,6 +4,7 @@ use Rattle.std.specs.Prelude.{option_to_list, slice_index}
 use Rattle.std.proofs.lemmas.Bool.{cases_lt, eq-eqb}
 use Rattle.std.proofs.lemmas.Bool.Decides.{nat_tests}
 use Rattle.std.proofs.lemmas.List.{get_or_past}
+use Rattle.sp_cells.specs.Config.{table_sectors}
 use Rattle.sp_cells.specs.declared.names.Sp.{Sp}
 use Rattle.sp_cells.specs.declared.names.Sp.TheVariants.{Locking}
 use Rattle.shadow_mbr.specs.Stored.{StoredSectors as Mbr, sector_size, byte_at, byte_after}
@@ -98,7 +99,7 @@ pub all-by : (e : Event) (es : List Event) (sp : Sp) (cs : List Change) → brou
 all-by e es sp cs h = ap (λ x. x ++ changes es sp) h
 
 -- with no transaction
-pub closed-bytes : (p : Part) (o : Origin) (past : List Event) (cs : List Change) → p.pending ≡ None → changes past Locking ≡ cs → length p.bytes ≡ sector_size * o.tables.config.mbr_sectors → ((place : ℕ) → slice_index p.bytes place ≡ byte_in cs place) → KeepsBytes p o past
+pub closed-bytes : (p : Part) (o : Origin) (past : List Event) (cs : List Change) → p.pending ≡ None → changes past Locking ≡ cs → length p.bytes ≡ sector_size * table_sectors o.tables.config → ((place : ℕ) → slice_index p.bytes place ≡ byte_in cs place) → KeepsBytes p o past
 closed-bytes p o past cs shut same long has = record {
   size = long;
   bytes = λ place. has place ∙ ap (λ x. byte_in x place) (sym same);
@@ -149,7 +150,7 @@ with-at : (st : Setting) (bs : List ℕ) (cs : List Change) → FitsIn st (lengt
 with-at (cells_set object cells) bs cs fits h place = h place
 with-at (bytes_set start bytes) bs cs fits h place = written-at start bytes bs place fits ∙ ap (λ b. byte_after start bytes b place) (h place)
 
-set-by : (p : Part) (o : Origin) (e : Event) (past : List Event) (st : Setting) (r : Response) → KeepsBytes p o past → FitsIn st (sector_size * o.tables.config.mbr_sectors) → e.deed ≡ InSession (Changed Locking (Sets st)) r
+set-by : (p : Part) (o : Origin) (e : Event) (past : List Event) (st : Setting) (r : Response) → KeepsBytes p o past → FitsIn st (sector_size * table_sectors o.tables.config) → e.deed ≡ InSession (Changed Locking (Sets st)) r
     → (x : Option Transaction) → p.pending ≡ x → (y : Option ℕ) → open_on past Locking ≡ y → (x ≡ None → y ≡ None) → ((t : Transaction) → x ≡ Some t → y ≡ Some t.tsn) → KeepsBytes (part_with st p x) o (e ∷ past)
 set-by p o e past st r h fits is None shut y opens none some =
     closed-bytes (part_with st p None) o (e ∷ past) (Sets st ∷ changes past Locking) shut
@@ -160,7 +161,7 @@ set-by p o e past st r h fits is (Some t) has y opens none some =
     let owner : open_on past Locking ≡ Some t.tsn = opens ∙ some t refl in
     let all : changes (e ∷ past) Locking ≡ changes past Locking = all-by e past Locking [] (ap (brought past Locking) is ∙ ap (λ z. unless_any_open z (Sets st)) owner) in
     let own : open_changes (e ∷ past) Locking ≡ Sets st ∷ open_changes past Locking = own-inside e past Locking (Sets st) r t.tsn is owner in
-    let long : length t.bytes ≡ sector_size * o.tables.config.mbr_sectors = h.size_within t has in
+    let long : length t.bytes ≡ sector_size * table_sectors o.tables.config = h.size_within t has in
     record {
       size = h.size;
       bytes = λ place. h.bytes place ∙ ap (λ x. byte_in x place) (sym all);
@@ -172,7 +173,7 @@ set-by p o e past st r h fits is (Some t) has y opens none some =
           ∙ ap (λ x. byte_in (open_changes (e ∷ past) Locking ++ x) place) (sym all);
     }
 
-pub set-bytes : (p : Part) (o : Origin) (e : Event) (past : List Event) (st : Setting) (r : Response) → KeepsBytes p o past → FitsIn st (sector_size * o.tables.config.mbr_sectors) → e.deed ≡ InSession (Changed Locking (Sets st)) r
+pub set-bytes : (p : Part) (o : Origin) (e : Event) (past : List Event) (st : Setting) (r : Response) → KeepsBytes p o past → FitsIn st (sector_size * table_sectors o.tables.config) → e.deed ≡ InSession (Changed Locking (Sets st)) r
     → (p.pending ≡ None → open_on past Locking ≡ None) → ((t : Transaction) → p.pending ≡ Some t → open_on past Locking ≡ Some t.tsn) → KeepsBytes (part_with st p p.pending) o (e ∷ past)
 set-bytes p o e past st r h fits is none some = set-by p o e past st r h fits is p.pending refl (open_on past Locking) refl none some
 

@@ -8,7 +8,7 @@ use Rattle.sp_cells.specs.declared.names.Sp.TheVariants.{Admin, Locking}
 use Rattle.sp_cells.specs.declared.names.Column.{Column}
 use Rattle.sp_cells.specs.declared.cells.Cell.{Cell}
 use Rattle.sp_cells.specs.declared.cells.Cell.TheVariants.{Number}
-use Rattle.sp_cells.specs.Config.{Config}
+use Rattle.sp_cells.specs.Config.{Config, table_sectors}
 use Rattle.sp_cells.specs.Flat.{sp_eq}
 use Rattle.sp_cells.specs.Names.{admin_pin_uid, locking_sp}
 use Rattle.sp_cells.specs.ColumnNames.{life_cycle_state_column, pin_column, tries_column}
@@ -176,7 +176,7 @@ tried-kept s t o past x w a r (Some Unknown) is h by =
 le-of : (a b : ℕ) → nat_le a b ≡ true → a ≤ b
 le-of a b h = grind (arith, nat_tests)
 
-set-kept : (s : Stored) (o : Origin) (past : List Event) (x : Option ℕ) (w : Option Why) (sp : Sp) (st : Setting) (r : Response) → KeepsStore s o past → (sp ≡ Locking → FitsIn st (sector_size * o.tables.config.mbr_sectors)) → KeepsStore (at_part sp (λ p. part_with st p p.pending) s) o (doing x w (InSession (Changed sp (Sets st)) r) ∷ past)
+set-kept : (s : Stored) (o : Origin) (past : List Event) (x : Option ℕ) (w : Option Why) (sp : Sp) (st : Setting) (r : Response) → KeepsStore s o past → (sp ≡ Locking → FitsIn st (sector_size * table_sectors o.tables.config)) → KeepsStore (at_part sp (λ p. part_with st p p.pending) s) o (doing x w (InSession (Changed sp (Sets st)) r) ∷ past)
 set-kept s o past x w Admin st r h fits =
     let e : Event = doing x w (InSession (Changed Admin (Sets st)) r) in
     one-part s o e past Admin (λ p. part_with st p p.pending) h (set-part s.admin o e past Admin st r (h.parts Admin) refl (λ u. refl) refl) tt (record { turn = refl; start = refl; change = refl; bring = refl }) (λ u. refl)
@@ -186,12 +186,12 @@ set-kept s o past x w Locking st r h fits =
     (set-bytes s.locking o e past st r h.bytes (fits refl) refl (was-closed s.locking o past Locking (h.parts Locking)) (λ t. was-open s.locking o past Locking t (h.parts Locking)))
     (record { turn = refl; start = refl; change = refl; bring = refl }) (λ u. refl)
 
-can-fit : (s : Stored) (o : Origin) (past : List Event) (st : Setting) → KeepsStore s o past → CanSet s.config.mbr_sectors Locking st → FitsIn st (sector_size * o.tables.config.mbr_sectors)
+can-fit : (s : Stored) (o : Origin) (past : List Event) (st : Setting) → KeepsStore s o past → CanSet (table_sectors s.config) Locking st → FitsIn st (sector_size * table_sectors o.tables.config)
 can-fit s o past (cells_set object cells) h can = tt
-can-fit s o past (bytes_set start bytes) h can = subst (λ (c : Config). start + length bytes ≤ sector_size * c.mbr_sectors) h.config (le-of (start + length bytes) (512 * s.config.mbr_sectors) can)
+can-fit s o past (bytes_set start bytes) h can = subst (λ (c : Config). start + length bytes ≤ sector_size * table_sectors c) h.config (le-of (start + length bytes) (512 * table_sectors s.config) can)
 
 setting-kept : (s t : Stored) (o : Origin) (past : List Event) (x : Option ℕ) (w : Option Why) (sp : Sp) (st : Setting) (r : Response) → KeepsStore s o past → StoresChange sp (Sets st) s t → KeepsStore t o (doing x w (InSession (Changed sp (Sets st)) r) ∷ past)
-setting-kept s t o past x w sp st r h by = keep-as _ t o _ by.1 (set-kept s o past x w sp st r h (λ is. can-fit s o past st h (subst (λ sp. CanSet s.config.mbr_sectors sp st) is by.0)))
+setting-kept s t o past x w sp st r h by = keep-as _ t o _ by.1 (set-kept s o past x w sp st r h (λ is. can-fit s o past st h (subst (λ sp. CanSet (table_sectors s.config) sp st) is by.0)))
 
 -- transactions
 begun-kept : (s : Stored) (o : Origin) (past : List Event) (x : Option ℕ) (w : Option Why) (sp : Sp) (n : ℕ) (r : Response) → KeepsStore s o past → KeepsStore (at_part sp (part_begin n) s) o (doing x w (InSession (Began sp n) r) ∷ past)

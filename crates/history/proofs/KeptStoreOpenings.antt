@@ -11,10 +11,11 @@ use Rattle.sp_cells.specs.declared.names.Column.{Column}
 use Rattle.sp_cells.specs.declared.cells.Cell.{Cell}
 use Rattle.sp_cells.specs.declared.cells.Cell.TheVariants.{Number}
 use Rattle.sp_cells.specs.declared.error.SetError.{SetError}
-use Rattle.sp_cells.specs.Config.{Config}
+use Rattle.sp_cells.specs.Config.{Config, sizes_in}
+use Rattle.sp_cells.specs.declared.byte_tables.TableSizes.{TableSizes}
 use Rattle.sp_cells.specs.Names.{admin_pin_uid, locking_sp, range_uid}
 use Rattle.sp_rows.specs.Items.{Item, item_at, with_items}
-use Rattle.sp_rows.specs.Factory.{admin_factory, locking_factory, admin_sps, admin_authorities, label_authorities, admin_pins, label_pins, admin_aces, label_aces, locking_authorities, locking_pins, locking_ranges, locking_mbr_controls, authority_aces, pin_aces, range_get_aces, range_aces, mbr_aces, gen_key_aces, range_keys, locking_infos, byte_tables}
+use Rattle.sp_rows.specs.Factory.{admin_factory, locking_factory, admin_sps, admin_authorities, label_authorities, admin_pins, label_pins, admin_aces, label_aces, removal_aces, data_removals, locking_authorities, locking_pins, locking_ranges, locking_mbr_controls, authority_aces, pin_aces, range_get_aces, range_aces, mbr_aces, gen_key_aces, range_keys, locking_infos, byte_tables, datastore_aces}
 use Rattle.sp_tables.specs.Contents.{new_admin, new_locking, Contents, items_of, cells_look_up}
 use Rattle.sp_tables.specs.Looks.{RowLook}
 use Rattle.sp_tables.specs.Tries.{is_tries}
@@ -97,17 +98,17 @@ abbrev locks_here : Uid → Column → Bool
 locks_here object column = has_locks object
 
 admin-counts : (p : Profile) (msid psid : List ℕ) → lack (counts_else Admin) (admin_factory p msid psid) ≡ true
-unfolding admin_sps admin_authorities label_authorities admin_pins label_pins admin_aces label_aces in_family
+unfolding admin_sps admin_authorities label_authorities admin_pins label_pins admin_aces label_aces removal_aces data_removals in_family
 admin-counts Base msid psid = refl
 admin-counts Field msid psid = refl
 
-locking-counts : (p : Profile) (shadow : ℕ) → lack (counts_else Locking) (locking_factory p shadow) ≡ true
-unfolding locking_authorities locking_pins locking_ranges locking_mbr_controls authority_aces pin_aces range_get_aces range_aces mbr_aces gen_key_aces range_keys locking_infos byte_tables in_family
-locking-counts Base shadow = refl
-locking-counts Field shadow = refl
+locking-counts : (p : Profile) (sizes : TableSizes) → lack (counts_else Locking) (locking_factory p sizes) ≡ true
+unfolding locking_authorities locking_pins locking_ranges locking_mbr_controls authority_aces pin_aces range_get_aces range_aces mbr_aces gen_key_aces range_keys locking_infos byte_tables datastore_aces in_family
+locking-counts Base sizes = refl
+locking-counts Field sizes = refl
 
 admin-locks : (p : Profile) (msid psid : List ℕ) → lack locks_here (admin_factory p msid psid) ≡ true
-unfolding admin_sps admin_authorities label_authorities admin_pins label_pins admin_aces label_aces is_range
+unfolding admin_sps admin_authorities label_authorities admin_pins label_pins admin_aces label_aces removal_aces data_removals is_range
 admin-locks Base msid psid = refl
 admin-locks Field msid psid = refl
 
@@ -139,7 +140,7 @@ known-rows o new h = record {
 factory-known : (config : Config) → Known (factory_origin config).tables
 factory-known config = record {
   admin = λ object column is apart. lacks (counts_else Admin) (new_admin config) object column (else-where (is_tries object column) (is_cleared Admin object) is apart) (admin-counts config.profile config.msid config.psid);
-  locking = λ object column is apart. lacks (counts_else Locking) (new_locking config) object column (else-where (is_tries object column) (is_cleared Locking object) is apart) (locking-counts config.profile config.mbr_sectors);
+  locking = λ object column is apart. lacks (counts_else Locking) (new_locking config) object column (else-where (is_tries object column) (is_cleared Locking object) is apart) (locking-counts config.profile (sizes_in config));
   locks = λ object column is. lacks locks_here (new_admin config) object column is (admin-locks config.profile config.msid config.psid);
 }
 

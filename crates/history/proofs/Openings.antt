@@ -13,11 +13,12 @@ use Rattle.sp_cells.specs.declared.names.Column.{Column}
 use Rattle.sp_cells.specs.declared.cells.Cell.{Cell}
 use Rattle.sp_cells.specs.declared.cells.Cell.TheVariants.{Number, Bytes, Uid as Object, Numbers, Expr, Columns}
 use Rattle.sp_cells.specs.declared.error.SetError.{SetError}
-use Rattle.sp_cells.specs.Config.{Config}
+use Rattle.sp_cells.specs.Config.{Config, sizes_in}
+use Rattle.sp_cells.specs.declared.byte_tables.TableSizes.{TableSizes}
 use Rattle.sp_cells.specs.Flat.{PlacedCell, sp_eq, cell_at}
 use Rattle.sp_cells.specs.Names.{c_pin_table, range_base, locking_sp, range_uid, admin_pin_uid}
 use Rattle.sp_rows.specs.Items.{Item, on, with_item, with_items}
-use Rattle.sp_rows.specs.Factory.{admin_factory, locking_factory, admin_sps, admin_authorities, label_authorities, admin_pins, label_pins, admin_aces, label_aces, locking_authorities, locking_pins, locking_ranges, locking_mbr_controls, authority_aces, pin_aces, range_get_aces, range_aces, mbr_aces, gen_key_aces, range_keys, locking_infos, byte_tables}
+use Rattle.sp_rows.specs.Factory.{admin_factory, locking_factory, admin_sps, admin_authorities, label_authorities, admin_pins, label_pins, admin_aces, label_aces, removal_aces, data_removals, locking_authorities, locking_pins, locking_ranges, locking_mbr_controls, authority_aces, pin_aces, range_get_aces, range_aces, mbr_aces, gen_key_aces, range_keys, locking_infos, byte_tables, datastore_aces}
 use Rattle.sp_tables.specs.Contents.{new_admin, new_locking, Contents, cells_look_up, flat}
 use Rattle.sp_tables.specs.Tries.{is_pin_row, is_tries, names_tries}
 use Rattle.locking.specs.declared.range.RangeRow.{RangeRow}
@@ -132,22 +133,22 @@ no-tries object (p ∷ ps) h = ap (λ b. (b && (p.0.0 == 6)) || names_tries obje
 
 -- the factory's rows, and those of openings
 admin-clean : (p : Profile) (msid psid : List ℕ) → are_clean (admin_factory p msid psid) ≡ true
-unfolding admin_sps admin_authorities label_authorities admin_pins label_pins admin_aces label_aces
+unfolding admin_sps admin_authorities label_authorities admin_pins label_pins admin_aces label_aces removal_aces data_removals
 admin-clean Base msid psid = refl
 admin-clean Field msid psid = refl
 
-locking-clean : (p : Profile) (shadow : ℕ) → are_clean (locking_factory p shadow) ≡ true
-unfolding locking_authorities locking_pins locking_ranges locking_mbr_controls authority_aces pin_aces range_get_aces range_aces mbr_aces gen_key_aces range_keys locking_infos byte_tables
-locking-clean Base shadow = refl
-locking-clean Field shadow = refl
+locking-clean : (p : Profile) (sizes : TableSizes) → are_clean (locking_factory p sizes) ≡ true
+unfolding locking_authorities locking_pins locking_ranges locking_mbr_controls authority_aces pin_aces range_get_aces range_aces mbr_aces gen_key_aces range_keys locking_infos byte_tables datastore_aces
+locking-clean Base sizes = refl
+locking-clean Field sizes = refl
 
 factory-clean : (config : Config) → AreClean (factory_origin config).tables
-factory-clean config = record { admin = admin-clean config.profile config.msid config.psid; locking = locking-clean config.profile config.mbr_sectors }
+factory-clean config = record { admin = admin-clean config.profile config.msid config.psid; locking = locking-clean config.profile (sizes_in config) }
 
 activated-clean : (config : Config) → AreClean (activated_origin config).tables
 activated-clean config = record {
   admin = items-clean (new_admin config) locking_sp life_cycle refl (admin-clean config.profile config.msid config.psid);
-  locking = items-clean (new_locking config) (admin_pin_uid 1) (pin config.msid) refl (locking-clean config.profile config.mbr_sectors);
+  locking = items-clean (new_locking config) (admin_pin_uid 1) (pin config.msid) refl (locking-clean config.profile (sizes_in config));
 }
 
 range-clean : (row : RangeRow) (o : Origin) → AreClean o.tables → AreClean (with_range row o).tables

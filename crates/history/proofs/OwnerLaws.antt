@@ -7,7 +7,7 @@ use Rattle.sp_cells.specs.declared.names.Sp.{Sp}
 use Rattle.sp_cells.specs.declared.names.Sp.TheVariants.{Admin, Locking}
 use Rattle.sp_cells.specs.declared.names.Column.{Column}
 use Rattle.sp_cells.specs.declared.cells.Cell.{Cell}
-use Rattle.sp_cells.specs.Names.{c_pin_sid, tper_info, locking_sp, mbr_control}
+use Rattle.sp_cells.specs.Names.{c_pin_sid, tper_info, data_removal, locking_sp, mbr_control}
 use Rattle.sp_cells.specs.declared.cells.Cell.TheVariants.{Number}
 use Rattle.sp_cells.specs.Flat.{sp_eq}
 use Rattle.sp_cells.specs.Ranges.{cell_number}
@@ -235,12 +235,13 @@ own-kept o e es can k = by_begin (begins Admin e.deed) refl
 
 -- changes that spare the state of the Locking SP leave it
 put-spares : (object : Uid) (c : Column) (v : Cell) (rows : RowLook) → is_set_in_admin object ≡ true → put_in object c v rows locking_sp life_cycle_state_column ≡ rows locking_sp life_cycle_state_column
-put-spares object c v rows h = by (object.0 == c_pin_sid.0) (object.0 == tper_info.0) refl refl h
+put-spares object c v rows h = by (object.0 == c_pin_sid.0) (object.0 == tper_info.0) (object.0 == data_removal.0) refl refl refl h
   where
-    by : (a b : Bool) → (object.0 == c_pin_sid.0) ≡ a → (object.0 == tper_info.0) ≡ b → (a || b) ≡ true → put_in object c v rows locking_sp life_cycle_state_column ≡ rows locking_sp life_cycle_state_column
-    by true b is other g = ap (λ (n : ℕ). put_in (record { 0 = n }) c v rows locking_sp life_cycle_state_column) (eqb-true object.0 c_pin_sid.0 is)
-    by false true is other g = ap (λ (n : ℕ). put_in (record { 0 = n }) c v rows locking_sp life_cycle_state_column) (eqb-true object.0 tper_info.0 other)
-    by false false is other g = cc
+    by : (a b d : Bool) → (object.0 == c_pin_sid.0) ≡ a → (object.0 == tper_info.0) ≡ b → (object.0 == data_removal.0) ≡ d → (a || b || d) ≡ true → put_in object c v rows locking_sp life_cycle_state_column ≡ rows locking_sp life_cycle_state_column
+    by true b d is other last g = ap (λ (n : ℕ). put_in (record { 0 = n }) c v rows locking_sp life_cycle_state_column) (eqb-true object.0 c_pin_sid.0 is)
+    by false true d is other last g = ap (λ (n : ℕ). put_in (record { 0 = n }) c v rows locking_sp life_cycle_state_column) (eqb-true object.0 tper_info.0 other)
+    by false false true is other last g = ap (λ (n : ℕ). put_in (record { 0 = n }) c v rows locking_sp life_cycle_state_column) (eqb-true object.0 data_removal.0 last)
+    by false false false is other last g = cc
 
 puts-spare : (object : Uid) (cells : List (Column × Cell)) (rows : RowLook) → is_set_in_admin object ≡ true → puts_in object cells rows locking_sp life_cycle_state_column ≡ rows locking_sp life_cycle_state_column
 puts-spare object [] rows h = refl

@@ -6,6 +6,7 @@ use Rattle.std.proofs.lemmas.List.Folds.{list_all-append}
 use Rattle.std.proofs.lemmas.Bool.Decides.{nat_tests}
 use Rattle.sp_cells.specs.declared.names.Sp.{Sp}
 use Rattle.sp_cells.specs.declared.names.Sp.TheVariants.{Admin, Locking}
+use Rattle.sp_cells.specs.Config.{table_sectors}
 use Rattle.sessions.specs.Deeds.{cells_set, bytes_set, Change, Sets, Restores, Resets, SessionDeed, Unchanged, Started, Tried, Changed, Began, Committed, Aborted, Ended, Activated, Reverted, Erased}
 use Rattle.history.specs.Changes.{byte_then, byte_in}
 use Rattle.history.specs.Opening.{Origin}
@@ -26,7 +27,7 @@ abbrev Can : Origin → List Event → Event → Type 0
 Can o past e = (d : SessionDeed) (r : Response) → e.deed ≡ InSession d r → CanDo o past d
 
 abbrev size_of : Origin → ℕ
-size_of o = o.tables.config.mbr_sectors
+size_of o = table_sectors o.tables.config
 
 own-inside : (o : Origin) (e : Event) (es : List Event) → Can o es e → are_inside (size_of o) (own_changes es Locking) ≡ true → are_inside (size_of o) (own_changes (e ∷ es) Locking) ≡ true
 own-inside o e es can own = by_begin (begins Locking e.deed) refl

@@ -7,7 +7,7 @@ use Rattle.sp_cells.specs.declared.names.Sp.{Sp}
 use Rattle.sp_cells.specs.declared.names.Uid.{Uid}
 use Rattle.sp_cells.specs.declared.names.Column.{Column}
 use Rattle.sp_cells.specs.ColumnNames.{credential_column, recommended_access_granularity_column}
-use Rattle.sp_cells.specs.Config.{Config}
+use Rattle.sp_cells.specs.Config.{Config, table_sectors}
 use Rattle.sp_tables.specs.Contents.{cells_look_up}
 use Rattle.shadow_mbr.specs.Stored.{sector_size, zeros}
 use Rattle.locking.specs.declared.range.RangeRow.{RangeRow}
@@ -50,15 +50,15 @@ ColumnLaw =
     → HasNoColumn (factory_origin config) column
     × ((rows : List RangeRow) (o : Origin) → origin_with config rows ≡ Ok o → HasNoColumn o column)
 
--- Past the table of the shadow there are zeros.
+-- Past the byte tables there are zeros.
 pub record IsZero (past : List Event) (place : ℕ) : Type 0 where
   pub byte : byte_in_force past place ≡ 0
   pub views : (number : ℕ) → byte_in_view past number place ≡ 0
 
 abbrev pub TableLaw : Type 0
 TableLaw =
-    (o : Origin) (acts : List Act) (place : ℕ) → sector_size * o.tables.config.mbr_sectors ≤ place
-    → IsZero (log o acts) place
+    (o : Origin) (acts : List Act) (place : ℕ)
+    → sector_size * table_sectors o.tables.config ≤ place → IsZero (log o acts) place
 
 -- No response waits on a ComID that is not one for sessions.
 abbrev pub ResponseLaw : Type 0

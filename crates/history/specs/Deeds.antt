@@ -3,7 +3,8 @@
 use Rattle.std.specs.Prelude.{◌≡◌, ◌⊎◌, ◌==◌, ◌||◌, ℕ, Bool, true, false, List, ◌∷◌, Option, Some, None}
 use Rattle.sp_cells.specs.declared.names.Sp.{Sp}
 use Rattle.sp_cells.specs.declared.names.Sp.TheVariants.{Admin, Locking}
-use Rattle.sp_cells.specs.Names.{c_pin_sid, tper_info}
+use Rattle.sp_cells.specs.Config.{table_sectors}
+use Rattle.sp_cells.specs.Names.{c_pin_sid, tper_info, data_removal}
 use Rattle.sp_cells.specs.declared.names.Uid.{Uid}
 use Rattle.sp_cells.specs.declared.cells.Cell.{Cell}
 use Rattle.basics.specs.declared.profile.Profile.TheVariants.{Field}
@@ -67,9 +68,10 @@ pub record IsNewKey (o : Origin) (past : List Event) (erasure : Erasure) : Type 
   pub range : ℕ
   pub erases : erasure ≡ erased_by_key (in_force o past) range
 
--- The objects of the Admin SP that a Set changes: SID's PIN, and what lets a command reset the drive.
+-- The objects of the Admin SP that a Set changes: SID's PIN, what lets a command reset the drive, and how it removes data.
 abbrev pub is_set_in_admin : Uid → Bool
-is_set_in_admin object = object.0 == c_pin_sid.0 || object.0 == tper_info.0
+is_set_in_admin object =
+    object.0 == c_pin_sid.0 || object.0 == tper_info.0 || object.0 == data_removal.0
 
 -- It sets cells of an object that passes, or bytes.
 abbrev pub is_of_row : (Uid → Bool) → Change → Bool
@@ -78,21 +80,21 @@ is_of_row p (Sets (bytes_set at bytes)) = true
 is_of_row p Restores = false
 is_of_row p (Resets kind) = false
 
--- Bytes of the shadow are set by sessions of the Locking SP alone, within its table of so many
--- sectors.
+-- Bytes are set by sessions of the Locking SP alone, within the sectors of its byte tables, which
+-- are so many.
 abbrev pub is_inside : ℕ → Sp → Change → Bool
-is_inside mbr_sectors Locking (Sets (bytes_set at content)) = is_within mbr_sectors at content
-is_inside mbr_sectors Admin (Sets (bytes_set at content)) = false
-is_inside mbr_sectors sp (Sets (cells_set object cells)) = true
-is_inside mbr_sectors sp Restores = true
-is_inside mbr_sectors sp (Resets kind) = true
+is_inside sectors Locking (Sets (bytes_set at content)) = is_within sectors at content
+is_inside sectors Admin (Sets (bytes_set at content)) = false
+is_inside sectors sp (Sets (cells_set object cells)) = true
+is_inside sectors sp Restores = true
+is_inside sectors sp (Resets kind) = true
 
 -- A Set of a live session; on the Admin SP of one of those objects.
 pub record Changes (o : Origin) (past : List Event) (sp : Sp) (change : Change) : Type 0 where
   pub session : Begun
   pub lives : IsIn past sp session
   pub row : sp ≡ Admin → is_of_row is_set_in_admin change ≡ true
-  pub inside : is_inside o.tables.config.mbr_sectors sp change ≡ true
+  pub inside : is_inside (table_sectors o.tables.config) sp change ≡ true
 
 abbrev pub CanDo : Origin → List Event → SessionDeed → Type 0
 CanDo o past Unchanged = Unit {0}

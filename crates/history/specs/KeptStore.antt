@@ -6,7 +6,7 @@ use Rattle.sp_cells.specs.declared.names.Sp.TheVariants.{Admin, Locking}
 use Rattle.sp_cells.specs.declared.names.Column.{Column}
 use Rattle.sp_cells.specs.declared.cells.Cell.TheVariants.{Number}
 use Rattle.sp_cells.specs.declared.names.TheConstants.{USERS, ADMINS, RANGES}
-use Rattle.sp_cells.specs.Config.{Config}
+use Rattle.sp_cells.specs.Config.{Config, table_sectors}
 use Rattle.sp_cells.specs.Names.{c_pin_sid, c_pin_msid, c_pin_psid, admin_pin_uid, user_pin_uid, mbr_control}
 use Rattle.sp_rows.specs.Items.{item_at}
 use Rattle.sp_tables.specs.Contents.{Contents, factory_contents, cells_look_up as cells_of}
@@ -47,12 +47,12 @@ pub record KeepsPart (p : Part) (o : Origin) (past : List Event) (sp : Sp) : Typ
   pub places : (object : Uid) (column : Column)
       → is_some (rows_within o past sp object column) ≡ is_some (rows_after o past sp object column)
 
--- The bytes of the shadow: all of its table, in force and within an open transaction.
+-- The bytes of the byte tables: all of their sectors, in force and within an open transaction.
 pub record KeepsBytes (p : Part) (o : Origin) (past : List Event) : Type 0 where
-  pub size : length p.bytes ≡ sector_size * o.tables.config.mbr_sectors
+  pub size : length p.bytes ≡ sector_size * table_sectors o.tables.config
   pub bytes : (place : ℕ) → slice_index p.bytes place ≡ byte_in_force past place
   pub size_within : (t : Transaction) → p.pending ≡ Some t
-      → length t.bytes ≡ sector_size * o.tables.config.mbr_sectors
+      → length t.bytes ≡ sector_size * table_sectors o.tables.config
   pub within : (t : Transaction) → p.pending ≡ Some t → (place : ℕ)
       → slice_index t.bytes place
       ≡ byte_in (open_changes past Locking ++ changes past Locking) place
@@ -105,7 +105,7 @@ abbrev pub StoreOpeningLaw : Type 0
 StoreOpeningLaw =
     (tables : Contents) (mbr : Bytes) → HasNoTries (origin_on tables)
     → HasKnownRows (origin_on tables)
-    → mbr.sectors ≡ tables.config.mbr_sectors → ((place : ℕ) → byte_at mbr place ≡ 0)
+    → mbr.sectors ≡ table_sectors tables.config → ((place : ℕ) → byte_at mbr place ≡ 0)
     → KeepsStore (new_store tables mbr) (origin_on tables) []
 
 -- The tables of a new drive are so, and those of each opening.

@@ -22,8 +22,10 @@ free_rule name = record (new_rule name) { long = Some name; value_names = 1 }
 -- with the options of a field drive: what it tells of itself, and the PIN on its label
 abbrev pub with_label_rules : App → App
 with_label_rules app =
-    with_rule (with_rule (with_rule app (free_rule (codes "serial"))) (free_rule (codes "model")))
-    (free_rule (codes "psid"))
+    with_rule
+    (with_rule (with_rule (with_rule app (free_rule (codes "serial"))) (free_rule (codes "model")))
+    (free_rule (codes "psid")))
+    (free_rule (codes "datastore"))
 
 -- a command that opens a drive, with the options that say which
 abbrev pub drive_line : Text → App
@@ -118,6 +120,7 @@ drive_in rows = record {
   serial = text_of (codes "serial") rows;
   model = text_of (codes "model") rows;
   psid = text_of (codes "psid") rows;
+  datastore = text_of (codes "datastore") rows;
 }
 
 -- the texts of the ranges, in their order

@@ -149,6 +149,7 @@ fn drive_command<'a>(
     let serial = free_option(alloc, "serial", "TEXT", "Serial number of a field drive");
     let model = free_option(alloc, "model", "TEXT", "Model number of a field drive");
     let psid = free_option(alloc, "psid", "HEX", "PIN on the label of a field drive");
+    let datastore = free_option(alloc, "datastore", "N", "Bytes of field's DataStore");
     Command::new(alloc, name)
         .about(about)
         .after_help(lines)
@@ -158,7 +159,8 @@ fn drive_command<'a>(
         .arg(profile)?
         .arg(serial)?
         .arg(model)?
-        .arg(psid)
+        .arg(psid)?
+        .arg(datastore)
 }
 
 /// The command that runs clients and an engine at one port, with the options that say how many.
@@ -295,6 +297,7 @@ fn drive_texts<'a>(matches: &ArgMatches<'a>) -> DriveTexts<'a>
         serial: text_of(matches, "serial"),
         model: text_of(matches, "model"),
         psid: text_of(matches, "psid"),
+        datastore: text_of(matches, "datastore"),
     }
 }
 

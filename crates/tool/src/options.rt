@@ -2,7 +2,7 @@
 
 ghost use Rattle.std.specs.Prelude.{◌≡◌};
 ghost use Rattle.std.specs.Prelude.{IfOk, IfErr, Ok, Err, ◌≢◌};
-ghost use Rattle.tool.specs.OptionTexts.{profile_named, text_or, label_of};
+ghost use Rattle.tool.specs.OptionTexts.{profile_named, text_or, label_of, store_of};
 ghost use Rattle.hex.specs.Hex.{decode_of};
 ghost use Rattle.hex.specs.declared.error.FromHexError.{FromHexError};
 ghost use Rattle.hex.specs.declared.error.FromHexError.TheVariants as hex_faults;
@@ -11,8 +11,10 @@ use basics::{ADDRESS_LIMIT, Profile};
 use hex::FromHexError;
 use script_lines::number_up_to;
 use sp_cells::DriveConfig;
-use sp_cells::config::{NEW_MODEL, NEW_PSID, NEW_SERIAL};
-use sp_cells::limits::{MOST_MBR_SECTORS, MOST_MODEL_BYTES, MOST_PIN_BYTES, MOST_SERIAL_BYTES};
+use sp_cells::config::{NEW_MODEL, NEW_PSID, NEW_SERIAL, new_datastore_of};
+use sp_cells::limits::{
+    MOST_DATASTORE_BYTES, MOST_MBR_SECTORS, MOST_MODEL_BYTES, MOST_PIN_BYTES, MOST_SERIAL_BYTES,
+};
 use std::alloc::Global;
 use std::error::Error;
 use std::fmt;
@@ -29,6 +31,9 @@ pub enum OptionsFault {
     Profile,
     /// A drive of the profile `Base` tells no names, and has no label.
     NamesOfBase,
+    /// A drive of the profile `Base` has no DataStore.
+    DatastoreOfBase,
+    Datastore,
     /// The values are not within the limits of a configuration.
     NoDrive {
         sectors: u64,
@@ -40,6 +45,10 @@ pub enum OptionsFault {
     /// The PIN on the label has no byte, or too many.
     Label {
         psid: usize,
+    },
+    /// DataStore has too many bytes.
+    LargeDatastore {
+        datastore: u64,
     },
     OutOfMemory,
 }
@@ -86,6 +95,10 @@ impl fmt::Display for OptionsFault {
             OptionsFault::NamesOfBase => {
                 f.write_str("--serial, --model and --psid want --profile field")
             }
+            OptionsFault::DatastoreOfBase => f.write_str("--datastore wants --profile field"),
+            OptionsFault::Datastore => {
+                f.write_str("--datastore is no decimal number of 64 bits")
+            }
             OptionsFault::NoDrive {
                 sectors,
                 shadow,
@@ -102,6 +115,10 @@ impl fmt::Display for OptionsFault {
                     "--psid: a PSID has 1 to {MOST_PIN_BYTES} bytes, not {psid}"
                 )
             }
+            OptionsFault::LargeDatastore { datastore } => write!(
+                f,
+                "--datastore {datastore}: a DataStore has at most {MOST_DATASTORE_BYTES} bytes"
+            ),
             OptionsFault::OutOfMemory => f.write_str("out of memory"),
         }
     }
@@ -109,8 +126,8 @@ impl fmt::Display for OptionsFault {
 
 impl Error for OptionsFault {}
 
-/// The options that say which drive, as they are written. An empty serial number, model number or PSID stands for that
-/// of a drive that is given none.
+/// The options that say which drive, as they are written. An empty serial number, model number, PSID or size of
+/// DataStore stands for that of a drive that is given none.
 #[derive(Clone, Copy)]
 pub struct DriveTexts<'a> {
     pub sectors: &'a str,
@@ -120,6 +137,7 @@ pub struct DriveTexts<'a> {
     pub serial: &'a str,
     pub model: &'a str,
     pub psid: &'a str,
+    pub datastore: &'a str,
 }
 
 /// The profile of a name.
@@ -154,6 +172,16 @@ fn label_in(alloc: Global, text: &[u8]) -> Result<Vec<u8>, FromHexError>
     hex::decode(alloc, text)
 }
 
+/// The bytes of DataStore that the number says; where there is none, those of a drive that is told none.
+fn store_in(profile: Profile, text: &[u8]) -> Option<u64>
+    ensures { result ≡ store_of profile text.now }
+{
+    if text.is_empty() {
+        return Some(new_datastore_of(profile));
+    }
+    number_up_to(u64::MAX, text)
+}
+
 /// What a drive is opened with: within the limits of a configuration.
 #[derive(Drop)]
 pub struct Options {
@@ -161,14 +189,17 @@ pub struct Options {
 }
 
 impl Model for Options {
+    ghost use Rattle.std.specs.Prelude.{◌≤◌};
     ghost use Rattle.sp_cells.specs.Config.{Config, IsWithinLimits, AreNames, IsLabel};
+    ghost use Rattle.sp_cells.specs.Limits.{most_datastore_bytes};
 
     ghost Value = { Config };
 
     ghost view = { λ o. o.config };
 
     ghost invariant = { λ o. IsWithinLimits o.config.sectors o.config.mbr_sectors o.config.msid
-        × AreNames o.config.serial o.config.model × IsLabel o.config.psid };
+        × AreNames o.config.serial o.config.model × IsLabel o.config.psid
+        × (o.config.datastore ≤ most_datastore_bytes) };
 }
 
 impl Options {
@@ -176,8 +207,8 @@ impl Options {
     ghost use Rattle.tool.specs.OptionTexts.{WritesConfig, IsFirstOptionFault, drive_text};
 
     /// Reads the values as they are written on the command line: two decimal numbers, hex, the name of a profile, two
-    /// names, and hex. The first fault is told: `Sectors`, `Shadow`, `Msid`, `Psid`, `Profile`, `NamesOfBase`, `NoDrive`,
-    /// `Names`, `Label`.
+    /// names, hex, and a decimal number. The first fault is told: `Sectors`, `Shadow`, `Msid`, `Psid`, `Profile`,
+    /// `NamesOfBase`, `DatastoreOfBase`, `Datastore`, `NoDrive`, `Names`, `Label`, `LargeDatastore`.
     pub fn parse(alloc: Global, texts: &DriveTexts<'_>) -> Result<Options, OptionsFault>
         ensures read { IfOk result (λ options. WritesConfig (drive_text texts.now) options) }
         ensures fault { IfErr result (λ fault. IsFirstOptionFault (drive_text texts.now) fault) }
@@ -197,9 +228,7 @@ impl Options {
             Err(fault) => return Err(OptionsFault::Psid(fault)),
         };
         let profile = profile_named(texts.profile.as_bytes()).ok_or(OptionsFault::Profile)?;
-        if !texts.may_have_names(profile) {
-            return Err(OptionsFault::NamesOfBase);
-        }
+        let datastore = texts.store_for(profile)?;
         let Some(config) = DriveConfig::of_profile(profile, sectors, shadow, &msid) else {
             return Err(OptionsFault::NoDrive {
                 sectors,
@@ -212,9 +241,12 @@ impl Options {
         let Some(config) = config.with_names(serial, model) else {
             return Err(OptionsFault::Names);
         };
-        match config.with_psid(&psid) {
+        let Some(config) = config.with_psid(&psid) else {
+            return Err(OptionsFault::Label { psid: psid.len() });
+        };
+        match config.with_datastore(datastore) {
             Some(config) => Ok(Options { config }),
-            None => Err(OptionsFault::Label { psid: psid.len() }),
+            None => Err(OptionsFault::LargeDatastore { datastore }),
         }
     }
 
@@ -234,12 +266,15 @@ impl Options {
         .unwrap()
         .with_psid(config.psid())
         .unwrap()
+        .with_datastore(config.datastore())
+        .unwrap()
     }
 }
 
 impl DriveTexts<'_> {
     ghost use Rattle.std.specs.Prelude.{◌≡◌};
-    ghost use Rattle.tool.specs.OptionTexts.{drive_text, has_names, may_have_names};
+    ghost use Rattle.std.specs.Prelude.{IfOk, IfErr};
+    ghost use Rattle.tool.specs.OptionTexts.{drive_text, has_names, may_have_names, may_have_store, IsStore, IsStoreFault};
 
     /// Whether a serial number, a model number or a PSID is given.
     fn has_names(&self) -> bool
@@ -256,5 +291,29 @@ impl DriveTexts<'_> {
             Profile::Base => !self.has_names(),
             Profile::Field => true,
         }
+    }
+    /// Whether a drive of this profile may have the DataStore whose size is given.
+    fn may_have_store(&self, profile: Profile) -> bool
+        ensures { result ≡ may_have_store profile (drive_text self.now) }
+    {
+        match profile {
+            Profile::Base => self.datastore.is_empty(),
+            Profile::Field => true,
+        }
+    }
+
+    /// The bytes of DataStore, of a drive of this profile, that may have what is given.
+    fn store_for(&self, profile: Profile) -> Result<u64, OptionsFault>
+        ensures read { IfOk result (IsStore profile (drive_text self.now)) }
+        ensures fault { IfErr result (IsStoreFault profile (drive_text self.now)) }
+    {
+        if !self.may_have_names(profile) {
+            return Err(OptionsFault::NamesOfBase);
+        }
+        if !self.may_have_store(profile) {
+            return Err(OptionsFault::DatastoreOfBase);
+        }
+        let datastore = store_in(profile, self.datastore.as_bytes());
+        datastore.ok_or(OptionsFault::Datastore)
     }
 }

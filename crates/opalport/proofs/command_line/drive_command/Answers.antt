@@ -13,4 +13,5 @@ returns c =
     let four = c.in_ok-arg-4.ensures.shape c.option-profile.ensures.local ∙ ap₂ with_rule three c.option-profile.ensures.rule in
     let five = c.in_ok-arg-5.ensures.shape c.free_option-serial.ensures.local ∙ ap₂ with_rule four c.free_option-serial.ensures.rule in
     let six = c.in_ok-arg-6.ensures.shape c.free_option-model.ensures.local ∙ ap₂ with_rule five c.free_option-model.ensures.rule in
-    IfOk-weaker c.arg-7.result _ _ (λ command adds. adds.shape c.free_option-psid.ensures.local ∙ ap₂ with_rule six c.free_option-psid.ensures.rule) c.arg-7.ensures
+    let seven = c.in_ok-arg-7.ensures.shape c.free_option-psid.ensures.local ∙ ap₂ with_rule six c.free_option-psid.ensures.rule in
+    IfOk-weaker c.arg-8.result _ _ (λ command adds. adds.shape c.free_option-datastore.ensures.local ∙ ap₂ with_rule seven c.free_option-datastore.ensures.rule) c.arg-8.ensures

@@ -13,6 +13,7 @@ returns-in_default-clause-fault c = (
     serial = text_or c.args.texts.now.serial.now new_serial;
     model = text_or c.args.texts.now.model.now new_model;
     psid = c.in-Ok-label_in.psid.items;
+    datastore = c.in_ok-datastore.datastore;
   },
   record {
     sectors_written = search rules;
@@ -22,7 +23,7 @@ returns-in_default-clause-fault c = (
     serial_written = refl;
     model_written = refl;
     psid_written = search rules;
-    names_wanted = search rules;
+    store_written = search rules;
   },
   search rules,
   refl,
@@ -40,6 +41,7 @@ returns-in_default-with_names-clause-fault c = (
     serial = text_or c.args.texts.now.serial.now new_serial;
     model = text_or c.args.texts.now.model.now new_model;
     psid = c.in-Ok-label_in.psid.items;
+    datastore = c.in_ok-datastore.datastore;
   },
   record {
     sectors_written = search rules;
@@ -49,7 +51,7 @@ returns-in_default-with_names-clause-fault c = (
     serial_written = refl;
     model_written = refl;
     psid_written = search rules;
-    names_wanted = search rules;
+    store_written = search rules;
   },
   search rules,
   search rules,
@@ -65,6 +67,7 @@ returns-clause-fault c = (
     serial = text_or c.args.texts.now.serial.now new_serial;
     model = text_or c.args.texts.now.model.now new_model;
     psid = c.in-Ok-label_in.psid.items;
+    datastore = c.in_ok-datastore.datastore;
   },
   record {
     sectors_written = search rules;
@@ -74,7 +77,7 @@ returns-clause-fault c = (
     serial_written = refl;
     model_written = refl;
     psid_written = search rules;
-    names_wanted = search rules;
+    store_written = search rules;
   },
   search rules,
   search rules,
