@@ -20,13 +20,14 @@ use Rattle.call_shapes.specs.Limits.{most_response}
 use Rattle.sessions.specs.Starts.{is_in_use}
 use Rattle.shadow_mbr.specs.Erasure.{no_sectors, all_sectors}
 use Rattle.methods.specs.Effects.{has_ask}
-use Rattle.methods.specs.Kinds.{kind_of}
+use Rattle.sp_cells.specs.ByteTables.{bytes_of_table, table_begin}
+use Rattle.methods.specs.Kinds.{kind_of, byte_table_of}
 use Rattle.sessions.specs.Deeds.{Setting, Sets, Unchanged, Changed, Activated, Reverted, Erased, Begun}
 use Rattle.methods.specs.Listed.{listed}
 use Rattle.methods.proofs.ListLaws.{list_law}
 use Rattle.sp_cells.specs.Numbers.{key_number}
 use Rattle.methods.specs.Erasures.{erased_by_key, erased_by_revert_sp, is_wholly_locked}
-use Rattle.methods.specs.Judgement.{RevertsSp, erases, Judgement, Refuses, Gives, Activates, Reverts, Standing, table_size, bytes_between, rows_given, gives, listing, makes, unless_open, does_ask, does, judged, asked}
+use Rattle.methods.specs.Judgement.{RevertsSp, erases, Judgement, Refuses, Gives, Activates, Reverts, Standing, bytes_between, rows_given, gives, listing, makes, unless_open, does_ask, does, judged, asked}
 use Rattle.history.specs.Decisions.{is_session_com_id, is_trusted}
 use Rattle.history.specs.Tcg.{answers, tcg}
 use Rattle.methods.specs.Calls.{outcome_of}
@@ -193,17 +194,17 @@ by_setting : (f : Facts) (session : Begun) (found : Option Setting)
 by_setting f session None valid = absurd (cc)
 by_setting f session (Some set) valid = (set, refl, refl)
 
-rows_deed : (f : Facts) (session : Begun) (first last : ℕ)
-    → (outcome_of f.rows session.sp (rows_given (standing f session).byte (table_size (standing f session)) first last)).deed ≡ Unchanged
-rows_deed f session first last =
+rows_deed : (f : Facts) (session : Begun) (byte : ℕ → ℕ) (size first last : ℕ)
+    → (outcome_of f.rows session.sp (rows_given byte size first last)).deed ≡ Unchanged
+rows_deed f session byte size first last =
     by_tests
-    ((table_size (standing f session) == 0) || (nat_le (table_size (standing f session)) last || nat_lt last first))
+    ((size == 0) || (nat_le size last || nat_lt last first))
     (nat_lt most_response (last + 1 - first))
   where
     by_tests : (a b : Bool)
         → (outcome_of f.rows session.sp (if a then Refuses invalid_parameter None
         else (if b then Refuses response_overflow None
-        else gives (bytes_between (standing f session).byte first last)))).deed ≡ Unchanged
+        else gives (bytes_between byte first last)))).deed ≡ Unchanged
     by_tests true b = refl
     by_tests false true = refl
     by_tests false false = by_room f session _ _
@@ -259,7 +260,10 @@ effect_is : (f : Facts) (session : Begun) (object : Uid) (ask : Ask) (has : Bool
     (outcome_of f.rows session.sp (does_ask (standing f session) object (if has then ask else Other))).deed
 effect_is f session object ask false valid = absurd (cc)
 effect_is f session object (GetCells first last) true valid = by_room f session _ _
-effect_is f session object (GetBytes first last) true valid = rows_deed f session first _
+effect_is f session object (GetBytes first last) true valid =
+    let table = byte_table_of (kind_of session.sp object) in
+    let sizes = (standing f session).sizes in
+    rows_deed f session (λ row. (standing f session).byte (table_begin sizes table + row)) (bytes_of_table sizes table) first _
 effect_is f session object (SetCells values) true valid = by_setting f session _ valid
 effect_is f session object (SetBytes at content) true valid = by_setting f session _ valid
 effect_is f session object (Authenticate authority pin) true valid =

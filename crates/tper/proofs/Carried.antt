@@ -36,10 +36,12 @@ use Rattle.sessions.specs.Properties.{takes_properties, properties_list, propert
 use Rattle.sessions.specs.Starts.{sp_named, is_in_use, is_full, is_host, opening_verdict_on, verdict, opening_of, host_among, host_of, sync_message, reply_to, start_reply}
 use Rattle.methods.specs.Said.{reply_of, attempt_reply}
 use Rattle.sessions.specs.Deeds.{Setting}
+use Rattle.sp_cells.specs.ByteTables.{bytes_of_table, table_begin}
+use Rattle.methods.specs.Kinds.{kind_of, byte_table_of}
 use Rattle.methods.specs.Effects.{ask_at, last_row, sp_of_row}
 use Rattle.sp_cells.specs.Numbers.{key_number}
 use Rattle.methods.specs.Erasures.{is_wholly_locked}
-use Rattle.methods.specs.Judgement.{Standing, Judgement, Refuses, Gives, Activates, Reverts, RevertsSp, erases, reverts_sp, denial, gives, listing, bytes_between, bytes_given, table_size, to_set, makes, unless_open, does_ask, does, unless_denied, judged}
+use Rattle.methods.specs.Judgement.{Standing, Judgement, Refuses, Gives, Activates, Reverts, RevertsSp, erases, reverts_sp, denial, gives, listing, bytes_between, bytes_given, to_set, makes, unless_open, does_ask, does, unless_denied, judged}
 use Rattle.methods.specs.Calls.{outcome_of}
 
 -- ---- the answers without results, and those of one number
@@ -124,7 +126,7 @@ revert_carried rows sp false keep = bare_success
 
 ask_carried : (rows : LookUp) (sp : Sp) (its : Standing) (object : Uid) (ask : Ask) → Told rows sp (does_ask its object ask)
 ask_carried rows sp its object (GetCells first last) = given rows sp (listing its object first last)
-ask_carried rows sp its object (GetBytes first last) = bytes_carried rows sp its.byte (table_size its) first last
+ask_carried rows sp its object (GetBytes first last) = bytes_carried rows sp (λ row. its.byte (table_begin its.sizes (byte_table_of (kind_of its.sp object)) + row)) (bytes_of_table its.sizes (byte_table_of (kind_of its.sp object))) first last
 ask_carried rows sp its object (SetCells ps) = set_carried rows sp (to_set its object (SetCells ps))
 ask_carried rows sp its object (SetBytes at octets) = set_carried rows sp (to_set its object (SetBytes at octets))
 ask_carried rows sp its object (Authenticate authority proof) = attempt_carried (attempt_failure rows sp authority proof)

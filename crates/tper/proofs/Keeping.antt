@@ -5,6 +5,7 @@ use Rattle.compacket.specs.declared.session.Session.{Session}
 use Rattle.compacket.specs.Spelling.{frame_bytes}
 use Rattle.tcg_tokens.specs.Message.{Message, message}
 use Rattle.tcg_tokens.specs.Spelling.{item_spelling_of}
+use Rattle.sp_cells.specs.Config.{table_sectors}
 use Rattle.sp_tables.specs.Contents.{Contents}
 use Rattle.shadow_mbr.specs.Stored.{StoredSectors as Bytes, sector_size, byte_at}
 use Rattle.transactions.specs.Stored.{Stored, new_store, after_reset}
@@ -86,7 +87,7 @@ pub reset-kept : (t u : Tper) (o : Origin) (past : List Event) (kind : ℕ) → 
 reset-kept t u o past kind store none next waits k =
     kept_after t u o past (did (WasReset kind)) store (record { next = next; at = none }) waits k
 
-pub opening-kept : (t : Tper) (tables : Contents) (mbr : Bytes) → t.store ≡ new_store tables mbr → mbr.sectors ≡ tables.config.mbr_sectors → ((place : ℕ) → byte_at mbr place ≡ 0) → ((n : ℕ) → session_at t.live n ≡ None) → t.live.next ≡ 0x1000 → ((com_id : ℕ) → response_at t.waiting com_id ≡ None)
+pub opening-kept : (t : Tper) (tables : Contents) (mbr : Bytes) → t.store ≡ new_store tables mbr → mbr.sectors ≡ table_sectors tables.config → ((place : ℕ) → byte_at mbr place ≡ 0) → ((n : ℕ) → session_at t.live n ≡ None) → t.live.next ≡ 0x1000 → ((com_id : ℕ) → response_at t.waiting com_id ≡ None)
     → HasNoTries (origin_on tables) → HasKnownRows (origin_on tables) → Keeps t (origin_on tables) []
 opening-kept t tables mbr store size zeros none next waits tries known = record {
   store = subst (λ (s : Stored). KeepsStore s (origin_on tables) []) (sym store) (store_opening_law tables mbr tries known size zeros);

@@ -97,7 +97,7 @@ impl Tper {
             → Keeps result (origin_on tables) [] }
         ensures config { result.store.config ≡ tables.config }
     {
-        let mbr = Mbr::new(alloc, tables.config().mbr_sectors());
+        let mbr = Mbr::new(alloc, tables.config().table_sizes().sectors());
         Tper {
             alloc,
             store: Store::new(alloc, tables, mbr),
@@ -138,7 +138,7 @@ impl Tper {
         ensures { buffer.new ≡ bytes_from (slice_index self.now.store.locking.bytes) place
             (length buffer.old) }
     {
-        self.in_force().read_mbr(place, buffer);
+        self.in_force().read_bytes(place, buffer);
     }
 
     /// Whether a command may reset the drive, by the rows in force.
