@@ -14,7 +14,7 @@ use Rattle.locking.specs.declared.ranges.Verdict.TheVariants.{Serve, Shadow}
 use Rattle.compacket.specs.Frames.{Frame, reading as frame_in}
 use Rattle.compacket.specs.declared.error.FrameError.{FrameError}
 use Rattle.compacket.specs.declared.session.Session.{Session}
-use Rattle.device_data.specs.Discovery.{discovery as discovery_of}
+use Rattle.device_data.specs.Discovery.{discovery_of}
 use Rattle.device_data.specs.ErrorLog.{sized}
 use Rattle.device_data.specs.declared.log_page.Failure.{Failure}
 use Rattle.locking.specs.declared.range.Op.{Op}
@@ -26,6 +26,9 @@ use Rattle.transactions.specs.Sights.{look_up, committed_sight}
 use Rattle.trusted_cmds.specs.declared.command.Command.{Command}
 use Rattle.trusted_cmds.specs.declared.command.Command.TheVariants.{ReadQueued, WriteQueued, ReadDma, WriteDma, Send, Receive, Identify, ReadLog10, Flush, SetFeatures, ReadLog}
 use Rattle.trusted_cmds.specs.Commands.{is_programmatic_reset, is_protocol_list}
+use Rattle.trusted_cmds.specs.BlockSid.{is_block_sid, block_asked}
+use Rattle.trusted_cmds.specs.declared.block.SidBlock.{SidBlock}
+use Rattle.basics.specs.declared.profile.Profile.{Profile}
 use Rattle.sp_cells.specs.Resets.{programmatic}
 use Rattle.history.specs.Opening.{Origin}
 use Rattle.sessions.specs.Deeds.{Begun}
@@ -41,7 +44,7 @@ use Rattle.tper.specs.declared.trusted.Sent.{Sent}
 use Rattle.drive.specs.declared.answer.Accepted.{Accepted}
 use Rattle.drive.specs.declared.decision.Denied.{Denied as Denial}
 use Rattle.drive.specs.declared.decision.Decision.{Decision}
-use Rattle.drive.specs.declared.decision.Decision.TheVariants.{Aborts, FailsQueue, Holds, Moves, Executes, Restarts}
+use Rattle.drive.specs.declared.decision.Decision.TheVariants.{Aborts, FailsQueue, Holds, Moves, Executes, Restarts, Blocks}
 use Rattle.drive.specs.declared.queue.Queue.{Queue}
 use Rattle.drive.specs.declared.transfer.Held.{Held}
 use Rattle.drive.specs.declared.transfer.Transfer.{Transfer}
@@ -136,14 +139,14 @@ received-data f protocol com_id blocks dma is =
     sym (ap (λ (b : Bool). if b then sized (sector_size * blocks) protocol_list else receive_data f com_id (sector_size * blocks)) is)
 
 pub discovery-data : (d : DriveState) (o : Origin) (past : List Event) (com_id room : ℕ) → com_id ≡ 1 → KeepsDrive d o past
-    → sized room (discovery_of (look_up (committed_sight d.tper.store))) ≡ receive_data (facts o past) com_id room
+    → sized room (discovery_of d.tper.store.config.profile (look_up (committed_sight d.tper.store)) d.tper.live.block) ≡ receive_data (facts o past) com_id room
 discovery-data d o past com_id room is k =
     ap (λ (n : ℕ). receive_data (kept_facts d (facts o past)) n room) (sym is) ∙ ap (λ (f : Facts). receive_data f com_id room) (seen-is d o past k)
 
 pub waiting-data : (d : DriveState) (o : Origin) (past : List Event) (com_id room : ℕ) → (com_id == 1) ≡ false → KeepsDrive d o past
     → sized room (received_bytes com_id room (response_at d.tper.waiting com_id)) ≡ receive_data (facts o past) com_id room
 waiting-data d o past com_id room other k =
-    sym (ap (λ (b : Bool). if b then sized room (discovery_of (look_up (committed_sight d.tper.store))) else sized room (received_bytes com_id room (response_at d.tper.waiting com_id))) other)
+    sym (ap (λ (b : Bool). if b then sized room (discovery_of d.tper.store.config.profile (look_up (committed_sight d.tper.store)) d.tper.live.block) else sized room (received_bytes com_id room (response_at d.tper.waiting com_id))) other)
     ∙ ap (λ (f : Facts). receive_data f com_id room) (seen-is d o past k)
 
 -- events of commands that are executed
@@ -284,6 +287,37 @@ restarts-done f h e o past payload command made a is due t k =
     record { status_is = t.status_is; error_is = t.error_is; held_is = t.held_is; fises_are = t.fises_are; bytes_are = t.bytes_are ∙ reset-no-data f command due.1; denied_is = t.denied_is } in
     subst (λ (x : Decision). IsDoneAndAnswered f h (decision_event f payload x) e o past a) (sym is)
     (k, served-answer f h (did (WasReset programmatic)) a command (refl, refl) due.0 told)
+
+-- nor does one that blocks SID
+block-no-data : (f : Facts) (profile : Profile) (command : Command) → is_block_sid profile command ≡ true → [] ≡ data_of f command
+block-no-data f profile (Send protocol com_id blocks dma) is = refl
+block-no-data f profile (Receive protocol com_id blocks dma) is = absurd cc
+block-no-data f profile Identify is = absurd cc
+block-no-data f profile (ReadLog10 dma) is = absurd cc
+block-no-data f profile Flush is = absurd cc
+block-no-data f profile SetFeatures is = absurd cc
+block-no-data f profile (ReadLog page dma) is = absurd cc
+block-no-data f profile (ReadQueued lba count) is = absurd cc
+block-no-data f profile (WriteQueued lba count) is = absurd cc
+block-no-data f profile (ReadDma lba count) is = absurd cc
+block-no-data f profile (WriteDma lba count) is = absurd cc
+
+pub blocks-done : (f : Facts) (h : RegH2d) (e : DriveState) (o : Origin) (past : List Event) (payload : List ℕ) (profile : Profile) (command : Command) (made : Decision) (a : Accepted)
+    → made ≡ Blocks command → (command_read f.config h ≡ Ok (command, None)) × (is_block_sid profile command ≡ true)
+    → IsTold a ready 0 false (served_fises command) [] None
+    → KeepsDrive e o (did (BlockedSid (block_asked payload)) ∷ past) → IsDoneAndAnswered f h (decision_event f payload made) e o past a
+blocks-done f h e o past payload profile command made a is due t k =
+    let told : IsTold a ready 0 false (served_fises command) (data_of f command) None =
+    record { status_is = t.status_is; error_is = t.error_is; held_is = t.held_is; fises_are = t.fises_are; bytes_are = t.bytes_are ∙ block-no-data f profile command due.1; denied_is = t.denied_is } in
+    subst (λ (x : Decision). IsDoneAndAnswered f h (decision_event f payload x) e o past a) (sym is)
+    (k, served-answer f h (did (BlockedSid (block_asked payload))) a command (refl, refl) due.0 told)
+
+-- what a block of SID leaves
+pub block-keeps : (d e : DriveState) (o : Origin) (past : List Event) (block : SidBlock) → KeepsTper e.tper o (did (BlockedSid block) ∷ past)
+    → e.queue ≡ d.queue → e.media ≡ d.media → KeepsDrive d o past → KeepsDrive e o (did (BlockedSid block) ∷ past)
+block-keeps d e o past block tper queue media k =
+    tper-keeps d e o past (did (BlockedSid block)) (λ tag. refl, refl) tper queue
+    (λ s. ap (λ (m : StoredSectors). sector_at m s) media) k
 
 -- the data of an unqueued transfer
 moved-data : (d : DriveState) (f : Facts) (op : Op) (lba count : ℕ) (shadowed : Bool)

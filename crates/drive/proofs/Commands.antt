@@ -2,19 +2,22 @@
 use Rattle.basics.specs.declared.profile.Profile.TheVariants.{Base, Field}
 use Rattle.basics.specs.declared.profile.Profile.{Profile}
 use Rattle.trusted_cmds.specs.Profiles.{CarriesIn}
-use Rattle.std.proofs.Common.{◌≡◌, ◌==◌, slice_index, ℕ, Bool, true, false, not, ◌&&◌, List, Option, Some, None, is_some, option_map, Result, Ok, Err, refl, sym, subst, ap, ◌∙◌, cond, inl, inr}
+use Rattle.std.proofs.Common.{◌≡◌, ◌==◌, slice_index, ℕ, Bool, true, false, not, ◌&&◌, ◌||◌, List, Option, Some, None, is_some, option_map, Result, Ok, Err, refl, sym, subst, ap, ◌∙◌, cond, inl, inr}
 use Rattle.fis.specs.H2d.{h2d_at}
 use Rattle.fis.specs.Types.{h2d_type}
 use Rattle.fis.specs.declared.h2d.RegH2d.{RegH2d}
 use Rattle.locking.specs.declared.range.Op.TheVariants.{Read, Write}
 use Rattle.trusted_cmds.specs.declared.command.Command.{Command}
-use Rattle.trusted_cmds.specs.declared.command.Command.TheVariants.{ReadQueued, WriteQueued, ReadDma, WriteDma, ReadLog10}
+use Rattle.trusted_cmds.specs.declared.command.Command.TheVariants.{ReadQueued, WriteQueued, ReadDma, WriteDma, Send, Receive, Identify, ReadLog10, Flush, SetFeatures, ReadLog}
 use Rattle.trusted_cmds.specs.declared.command.CommandError.{CommandError}
 use Rattle.trusted_cmds.specs.Commands.{is_queued}
-use Rattle.history.specs.Events.{Wrote, Nothing}
+use Rattle.trusted_cmds.specs.BlockSid.{is_block_sid, block_asked, is_blocked}
+use Rattle.device_data.specs.Discovery.{has_owner}
+use Rattle.sp_cells.specs.Resets.{programmatic}
+use Rattle.history.specs.Events.{Wrote, Nothing, WasReset, BlockedSid, did}
 use Rattle.history.specs.Facts.{Facts}
-use Rattle.history.specs.Decisions.{refuses, while_failed, admitted, queued_transfer, unqueued_transfer, is_busy}
-use Rattle.history.specs.Tcg.{accepted, commanded, known, unqueued, command_read}
+use Rattle.history.specs.Decisions.{refuses, resets, while_failed, admitted, queued_transfer, unqueued_transfer, is_busy}
+use Rattle.history.specs.Tcg.{accepted, commanded, known, unqueued, command_read, blocks_sid, send_item, send}
 use Rattle.drive.specs.declared.transfer.Held.{Held}
 use Rattle.drive.specs.declared.transfer.Transfer.{Transfer}
 use Rattle.drive.specs.Transfer.{transfer_by, queued_command, held_command}
@@ -44,6 +47,41 @@ unqueued-read f payload lba count c t is made = rw (is, made) refl
 pub unqueued-write : (f : Facts) (payload : List ℕ) (lba count : ℕ) (c : Command) (t : Transfer) → c ≡ WriteDma lba count → t ≡ transfer_by Write lba count
     → unqueued_transfer f (transfer_deed t payload) t.op t.lba t.count ≡ unqueued f payload c
 unqueued-write f payload lba count c t is made = rw (is, made) refl
+
+-- the command that blocks SID
+pub block_made : (f : Facts) (payload : List ℕ) (c : Command) → is_block_sid f.config.profile c ≡ true → resets f.rows c ≡ false → false ≡ (has_owner f.rows || is_blocked f.block)
+    → did (BlockedSid (block_asked payload)) ≡ unqueued f payload c
+block_made f payload (Send protocol com_id blocks dma) is kept free =
+    sym (ap (λ b. cond b (did (WasReset programmatic)) (send f protocol com_id blocks payload)) kept
+    ∙ ap (λ b. cond b (blocks_sid f payload) (send_item f protocol com_id blocks payload)) is
+    ∙ ap (λ b. cond b refuses (did (BlockedSid (block_asked payload)))) (sym free))
+block_made f payload (Receive protocol com_id blocks dma) is kept free = cc
+block_made f payload Identify is kept free = cc
+block_made f payload (ReadLog10 dma) is kept free = cc
+block_made f payload Flush is kept free = cc
+block_made f payload SetFeatures is kept free = cc
+block_made f payload (ReadLog page dma) is kept free = cc
+block_made f payload (ReadQueued lba count) is kept free = cc
+block_made f payload (WriteQueued lba count) is kept free = cc
+block_made f payload (ReadDma lba count) is kept free = cc
+block_made f payload (WriteDma lba count) is kept free = cc
+
+pub block_refused : (f : Facts) (payload : List ℕ) (c : Command) → is_block_sid f.config.profile c ≡ true → resets f.rows c ≡ false → true ≡ (has_owner f.rows || is_blocked f.block)
+    → refuses ≡ unqueued f payload c
+block_refused f payload (Send protocol com_id blocks dma) is kept free =
+    sym (ap (λ b. cond b (did (WasReset programmatic)) (send f protocol com_id blocks payload)) kept
+    ∙ ap (λ b. cond b (blocks_sid f payload) (send_item f protocol com_id blocks payload)) is
+    ∙ ap (λ b. cond b refuses (did (BlockedSid (block_asked payload)))) (sym free))
+block_refused f payload (Receive protocol com_id blocks dma) is kept free = cc
+block_refused f payload Identify is kept free = cc
+block_refused f payload (ReadLog10 dma) is kept free = cc
+block_refused f payload Flush is kept free = cc
+block_refused f payload SetFeatures is kept free = cc
+block_refused f payload (ReadLog page dma) is kept free = cc
+block_refused f payload (ReadQueued lba count) is kept free = cc
+block_refused f payload (WriteQueued lba count) is kept free = cc
+block_refused f payload (ReadDma lba count) is kept free = cc
+block_refused f payload (WriteDma lba count) is kept free = cc
 
 -- the order of the rules
 pub commanded-failed : (f : Facts) (h : RegH2d) (payload : List ℕ) → h.is_command ≡ true → is_some f.failure ≡ true → while_failed (command_read f.config h) ≡ commanded f h payload

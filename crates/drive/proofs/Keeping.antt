@@ -18,7 +18,7 @@ use Rattle.sessions.specs.Deeds.{Begun, erased_by}
 use Rattle.history.specs.Decisions.{completed}
 use Rattle.history.specs.Tcg.{sent, framed, to_session, to_manager, answers, is_manager}
 use Rattle.history.specs.Opening.{Origin}
-use Rattle.history.specs.Events.{HeldCommand, QueueDeed, Held as HeldDeed, Completed, CompletedWrite, QueueFailed, QueueMended, Deed, Nothing, OfQueue, Wrote, Took, WasReset, InSession, Event, did, or_else, latest}
+use Rattle.history.specs.Events.{HeldCommand, QueueDeed, Held as HeldDeed, Completed, CompletedWrite, QueueFailed, QueueMended, Deed, Nothing, OfQueue, Wrote, Took, BlockedSid, WasReset, InSession, Event, did, or_else, latest}
 use Rattle.history.specs.Readers.{holding, held, failing, failure, writing, sector}
 use Rattle.history.specs.Facts.{Facts, facts, session_named}
 use Rattle.history.specs.KeptStore.{ReadsStore}
@@ -38,12 +38,13 @@ use Rattle.drive.proofs.Slots.{no_slot, none_length, slot_set}
 pub seen-is : (d : DriveState) (o : Origin) (past : List Event) → KeepsDrive d o past → kept_facts d (facts o past) ≡ facts o past
 seen-is d o past k =
     ap (λ x. record (kept_facts d g) { config = x }) k.tper.store.config
-    ∙ ap (λ x. record g { rows = x; byte = slice_index d.tper.store.locking.bytes; held = held_at d.queue; failure = d.queue.failure; waiting = response_at d.tper.waiting; sector = sector_at d.media }) reads.rows
-    ∙ ap (λ x. record g { byte = x; held = held_at d.queue; failure = d.queue.failure; waiting = response_at d.tper.waiting; sector = sector_at d.media }) reads.bytes
-    ∙ ap (λ x. record g { held = x; failure = d.queue.failure; waiting = response_at d.tper.waiting; sector = sector_at d.media }) (fun_ext k.held)
-    ∙ ap (λ x. record g { failure = x; waiting = response_at d.tper.waiting; sector = sector_at d.media }) k.failure
-    ∙ ap (λ x. record g { waiting = x; sector = sector_at d.media }) (fun_ext k.tper.waiting)
-    ∙ ap (λ x. record g { sector = x }) (fun_ext k.sectors)
+    ∙ ap (λ x. record g { rows = x; byte = slice_index d.tper.store.locking.bytes; held = held_at d.queue; failure = d.queue.failure; waiting = response_at d.tper.waiting; sector = sector_at d.media; block = d.tper.live.block }) reads.rows
+    ∙ ap (λ x. record g { byte = x; held = held_at d.queue; failure = d.queue.failure; waiting = response_at d.tper.waiting; sector = sector_at d.media; block = d.tper.live.block }) reads.bytes
+    ∙ ap (λ x. record g { held = x; failure = d.queue.failure; waiting = response_at d.tper.waiting; sector = sector_at d.media; block = d.tper.live.block }) (fun_ext k.held)
+    ∙ ap (λ x. record g { failure = x; waiting = response_at d.tper.waiting; sector = sector_at d.media; block = d.tper.live.block }) k.failure
+    ∙ ap (λ x. record g { waiting = x; sector = sector_at d.media; block = d.tper.live.block }) (fun_ext k.tper.waiting)
+    ∙ ap (λ x. record g { sector = x; block = d.tper.live.block }) (fun_ext k.sectors)
+    ∙ ap (λ x. record g { block = x }) k.tper.block
   where
     g : Facts
     g = facts o past
@@ -193,6 +194,7 @@ sends-of-tper (InSession deed response) h = (λ tag. refl, refl)
 sends-of-tper (OfQueue deed) h = absurd h
 sends-of-tper (Wrote lba bytes) h = absurd h
 sends-of-tper (Took com_id) h = absurd h
+sends-of-tper (BlockedSid block) h = absurd h
 sends-of-tper (WasReset kind) h = absurd h
 
 pub sends-erase : (d : Deed) (s : ℕ) (before : List ℕ) → IsSendDeed d → (if is_erased (erased_by_deed d) s then zeros else before) ≡ unwrap_or (writing s d) before
@@ -201,6 +203,7 @@ sends-erase (InSession deed response) s before h = erase-here (is_erased (erased
 sends-erase (OfQueue deed) s before h = absurd h
 sends-erase (Wrote lba bytes) s before h = absurd h
 sends-erase (Took com_id) s before h = absurd h
+sends-erase (BlockedSid block) s before h = absurd h
 sends-erase (WasReset kind) s before h = absurd h
 
 to-session-deed : (f : Facts) (com_id : ℕ) (named : Session) (payload : List ℕ) (b : Option Begun) → IsSendDeed (to_session f com_id named payload b).deed

@@ -13,8 +13,9 @@ use Rattle.transactions.specs.Sights.{look_up, committed_sight}
 use Rattle.trusted_cmds.specs.declared.command.Command.{Command}
 use Rattle.trusted_cmds.specs.declared.command.Command.TheVariants.{Send, Receive, Identify, ReadLog10, Flush, SetFeatures, ReadLog}
 use Rattle.trusted_cmds.specs.Commands.{is_programmatic_reset, is_protocol_list}
+use Rattle.trusted_cmds.specs.BlockSid.{is_block_sid, block_asked}
 use Rattle.sp_cells.specs.Resets.{programmatic}
-use Rattle.history.specs.Events.{Deed, Nothing, OfQueue, QueueFailed, QueueMended, Wrote, WasReset, Event, did}
+use Rattle.history.specs.Events.{Deed, Nothing, OfQueue, QueueFailed, QueueMended, Wrote, WasReset, BlockedSid, Event, did}
 use Rattle.history.specs.Facts.{Facts}
 use Rattle.history.specs.Decisions.{aborted, not_found, fails, holds, received, is_session_com_id, discovery_com_id}
 use Rattle.history.specs.Tcg.{sent, command_read}
@@ -22,7 +23,7 @@ use Rattle.tper.specs.Tper.{Tper}
 use Rattle.drive.specs.Transfer.{by_op, queued_command, unqueued_command, verdict_held, is_on_drive, StandsOnDrive}
 use Rattle.drive.specs.State.{DriveState}
 use Rattle.drive.specs.declared.decision.Decision.{Decision}
-use Rattle.drive.specs.declared.decision.Decision.TheVariants.{Aborts, FailsQueue, Holds, Moves, Restarts, Executes}
+use Rattle.drive.specs.declared.decision.Decision.TheVariants.{Aborts, FailsQueue, Holds, Moves, Restarts, Blocks, Executes}
 use Rattle.drive.specs.declared.decision.Denied.{Denied as Denial}
 use Rattle.drive.specs.declared.decision.Refusal.{Refusal}
 use Rattle.drive.specs.declared.transfer.Transfer.{Transfer}
@@ -93,6 +94,7 @@ decision_event f payload (Holds tag held) = holds tag (queued_command held.trans
     (verdict_held held)
 decision_event f payload (Moves held) = did (transfer_deed held.transfer payload)
 decision_event f payload (Restarts command) = did (WasReset programmatic)
+decision_event f payload (Blocks command) = did (BlockedSid (block_asked payload))
 decision_event f payload (Executes command) = executed f payload command
 
 -- What a decision rests on: the slot, the FIS, and that what is to be done can be done.
@@ -133,5 +135,8 @@ IsDue d h (Moves held) = IsMoved d h held
 IsDue d h (Restarts command) =
     (command_read d.tper.store.config h ≡ Ok (command, None))
     × (is_programmatic_reset command ≡ true)
+IsDue d h (Blocks command) =
+    (command_read d.tper.store.config h ≡ Ok (command, None))
+    × (is_block_sid d.tper.store.config.profile command ≡ true)
 IsDue d h (Executes command) =
     (command_read d.tper.store.config h ≡ Ok (command, None)) × CanExecute command

@@ -55,6 +55,7 @@ impl Drive {
     ghost use Rattle.std.specs.Prelude.{◌≡◌, ◌<◌, ◌&&◌, not, ℕ, List, Some, None, Ok, is_some, true, false};
     ghost use Rattle.fis.specs.Tags.{slot_count};
     ghost use Rattle.trusted_cmds.specs.Commands.{is_queued};
+    ghost use Rattle.trusted_cmds.specs.BlockSid.{is_block_sid};
     ghost use Rattle.history.specs.Decisions.{any_below, resets, tells_protocols};
     ghost use Rattle.transactions.specs.Sights.{look_up, committed_sight};
     ghost use Rattle.drive.specs.Decision.{decision_event, transfer_deed, IsDue, IsTrustedCommand};
@@ -190,6 +191,7 @@ impl Drive {
                 self.unqueued_transfer(h, Transfer::by(Op::Write, lba, count))
             }
             Command::Send { .. } if self.resets(&command) => Decision::Restarts(command),
+            Command::Send { .. } if self.blocks_sid(&command) => self.block(h, command),
             Command::Send { .. } | Command::Receive { .. } => self.trusted(h, command),
             Command::Identify
             | Command::ReadLog10 { .. }
@@ -233,12 +235,30 @@ impl Drive {
         }
     }
 
+    /// The command that blocks SID: it is refused where SID has a PIN of its own, or is blocked.
+    #[tactic(auto, using(crate::proofs::Commands::block_made, crate::proofs::Commands::block_refused))]
+    fn block(&self, h: &RegH2d, command: Command) -> Decision
+        requires reads { command_read self.now.tper.store.config h.now ≡ Ok (command, None) }
+        requires is { is_block_sid self.now.tper.store.config.profile command ≡ true }
+        requires kept { resets (look_up (committed_sight self.now.tper.store)) command ≡ false }
+        ensures event { (f : Facts) (payload : List ℕ) → decision_event
+            (kept_facts self.now f) payload result
+            ≡ unqueued (kept_facts self.now f) payload command }
+        ensures due { IsDue self.now h.now result }
+    {
+        if self.keeps_sid() {
+            return aborts();
+        }
+        Decision::Blocks(command)
+    }
+
     /// A trusted command: of security protocol 01h, with one block at least, on a ComID that takes it, or a receive of
     /// the list of protocols. A send while a response waits there is aborted.
     fn trusted(&self, h: &RegH2d, command: Command) -> Decision
         requires reads { command_read self.now.tper.store.config h.now ≡ Ok (command, None) }
         requires trusted { IsTrustedCommand command }
         requires kept { resets (look_up (committed_sight self.now.tper.store)) command ≡ false }
+        requires other { is_block_sid self.now.tper.store.config.profile command ≡ false }
         ensures event { (f : Facts) (payload : List ℕ) → decision_event
             (kept_facts self.now f) payload result
             ≡ unqueued (kept_facts self.now f) payload command }

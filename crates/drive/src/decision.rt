@@ -41,6 +41,8 @@ pub enum Decision {
     Executes(Command),
     /// The command resets the drive.
     Restarts(Command),
+    /// The command blocks SID.
+    Blocks(Command),
 }
 
 /// Why a transfer is refused.

@@ -14,7 +14,7 @@ use crate::queue::Queue;
 use crate::transfer::{Held, Transfer};
 use audit::Why;
 use basics::Profile;
-use device_data::{Failure, discovery, error_log, identity_of, protocol_list};
+use device_data::{Failure, discovery, error_log, field_discovery, identity_of, protocol_list};
 use fis::{H2D_LENGTH, H2D_TYPE, RegH2d, Tag};
 use history::ResetKind;
 use locking::{Op, RangeRow, Ranges};
@@ -26,7 +26,7 @@ use std::marker::Model;
 use std::mem::replace;
 use tper::{Tper, sized};
 use transactions::View;
-use trusted_cmds::{Command, is_programmatic_reset};
+use trusted_cmds::{Command, SidBlock, is_block_sid, is_programmatic_reset};
 
 /// Makes these the ranges that the rows describe, where they may be others.
 fn refresh_where(changes: bool, ranges: &mut Ranges, rows: &View<'_>)
@@ -72,12 +72,13 @@ impl Model for Drive {
 }
 
 impl Drive {
-    ghost use Rattle.std.specs.Prelude.{◌⊎◌, [], ◌∷◌, ◌++◌, ℕ, List, Option, ◌<◌, ◌↔◌, ◌*◌, IfErr, IsErrOf, IsOk, None, Some, Ok, Err, is_some, true, false};
+    ghost use Rattle.std.specs.Prelude.{◌⊎◌, ◌||◌, [], ◌∷◌, ◌++◌, ℕ, List, Option, ◌<◌, ◌↔◌, ◌*◌, IfErr, IsErrOf, IsOk, None, Some, Ok, Err, is_some, true, false};
     ghost use Rattle.fis.specs.H2d.{h2d_at};
     ghost use Rattle.fis.specs.declared.h2d.RegH2d.{RegH2d};
     ghost use Rattle.compacket.specs.Frames.{reading as frame_in};
     ghost use Rattle.shadow_mbr.specs.Stored.{sector_at, sector_size};
-    ghost use Rattle.device_data.specs.Discovery.{discovery as discovery_of};
+    ghost use Rattle.device_data.specs.Discovery.{has_owner, discovery_of};
+    ghost use Rattle.trusted_cmds.specs.BlockSid.{is_block_sid, is_blocked};
     ghost use Rattle.device_data.specs.ErrorLog.{sized, error_log as log_page};
     ghost use Rattle.device_data.specs.Protocols.{protocol_list as protocols_told};
     ghost use Rattle.device_data.specs.Identity.{identity_of as identity_in};
@@ -88,7 +89,7 @@ impl Drive {
     ghost use Rattle.history.specs.Answers.{expected, payload_of};
     ghost use Rattle.history.specs.Tcg.{received_bytes, sent};
     ghost use Rattle.history.specs.Decisions.{any_below, is_session_com_id, resets, received};
-    ghost use Rattle.history.specs.Events.{Event, WasReset, did};
+    ghost use Rattle.history.specs.Events.{Event, WasReset, BlockedSid, did};
     ghost use Rattle.history.specs.Facts.{Facts, facts};
     ghost use Rattle.history.specs.History.{Act, Accept, Complete, Reset, log, event};
     ghost use Rattle.history.specs.Resets.{reset_kind_number};
@@ -196,6 +197,21 @@ impl Drive {
         is_programmatic_reset(command) && self.tper.lets_reset()
     }
 
+    /// Whether a command is the one that blocks SID, on a drive of this profile.
+    pub(crate) fn blocks_sid(&self, command: &Command) -> bool
+        ensures { result ≡ is_block_sid self.now.tper.store.config.profile command.now }
+    {
+        is_block_sid(self.profile, command)
+    }
+
+    /// Whether that one is refused: SID has a PIN of its own, or is blocked.
+    pub(crate) fn keeps_sid(&self) -> bool
+        ensures { result ≡ (has_owner (look_up (committed_sight self.now.tper.store))
+            || is_blocked self.now.tper.live.block) }
+    {
+        self.tper.keeps_sid()
+    }
+
     /// How many bytes a completion of the tag has to bring: 512 for each sector of a held write,
     /// else 0.
     pub fn expects(&self, tag: Tag) -> usize
@@ -298,6 +314,14 @@ impl Drive {
         Ok(sent.denied)
     }
 
+    /// Blocks SID so.
+    pub(crate) fn block_sid(&mut self, block: SidBlock)
+        ensures { (o : Origin) (past : List Event) → KeepsDrive self.old o past
+            → KeepsDrive self.new o (did (BlockedSid block) ∷ past) }
+    {
+        self.tper.block_sid(block);
+    }
+
     /// Receives from the TPer on one of the ComIDs of sessions.
     pub(crate) fn receive(&mut self, com_id: u16, room: usize) -> Result<Vec<u8>, AllocError>
         requires { is_session_com_id com_id ≡ true }
@@ -315,10 +339,19 @@ impl Drive {
     /// The data of Level 0 discovery: as many bytes as the transfer has.
     pub(crate) fn discover(&self, room: usize) -> Result<Vec<u8>, AllocError>
         ensures { IfOk result (λ v. v.items
-            ≡ sized room (discovery_of (look_up (committed_sight self.now.tper.store)))) }
+            ≡ sized room (discovery_of self.now.tper.store.config.profile
+            (look_up (committed_sight self.now.tper.store)) self.now.tper.live.block)) }
     {
-        let bytes = discovery(&self.tper.in_force());
-        sized(self.alloc, &bytes, room)
+        match self.profile {
+            Profile::Base => {
+                let bytes = discovery(&self.tper.in_force());
+                sized(self.alloc, &bytes, room)
+            }
+            Profile::Field => {
+                let bytes = field_discovery(&self.tper.in_force(), self.tper.block());
+                sized(self.alloc, &bytes, room)
+            }
+        }
     }
 
     /// The list of security protocols: as many bytes as the transfer has.
@@ -471,7 +504,7 @@ impl Drive {
 
     /// Ends sessions and transactions, drops the responses that wait, what is held and the failure of
     /// the queue, locks what LockOnReset names, and makes Done 0 where DoneOnReset has the kind; a
-    /// power cycle makes all Tries 0 too. It takes no memory.
+    /// power cycle makes all Tries 0 too, and frees SID. It takes no memory.
     pub fn reset(&mut self, kind: ResetKind)
         ensures agrees { (o : Origin) (acts : List Act) → Agrees self.old o acts
             → Agrees self.new o (Reset (reset_kind_number kind) ∷ acts) }

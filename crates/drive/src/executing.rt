@@ -12,7 +12,7 @@ use device_data::device_page;
 use fis::RegH2d;
 use shadow_mbr::SECTOR_SIZE;
 use std::alloc::AllocError;
-use trusted_cmds::{Command, is_protocol_list};
+use trusted_cmds::{Command, SidBlock, is_protocol_list};
 
 impl Drive {
     ghost use Rattle.trusted_cmds.specs.Profiles.{payload_length_in};
@@ -70,6 +70,10 @@ impl Drive {
             }
             Decision::Restarts(command) => {
                 self.restart(PROGRAMMATIC);
+                Ok(Accepted::served(served_fises(&command), Vec::new(alloc), None))
+            }
+            Decision::Blocks(command) => {
+                self.block_sid(SidBlock::asked(payload));
                 Ok(Accepted::served(served_fises(&command), Vec::new(alloc), None))
             }
         }

@@ -99,7 +99,7 @@ EffectIs f session object (Authenticate authority pin) deed =
     (attempt : Attempt) × (deed ≡ Tried attempt)
     × (attempt.sp ≡ session.sp) × (attempt.authority ≡ authority)
     × (attempt.row ≡ credential f.rows session.sp authority)
-    × (attempt.failure ≡ failure_of f.rows session.sp authority pin)
+    × (attempt.failure ≡ failure_of f.block f.rows session.sp authority pin)
 EffectIs f session object Activate deed =
     (is_in_use f.rows Locking ≡ true → deed ≡ Unchanged)
     × (is_in_use f.rows Locking ≡ false → deed ≡ Activated (f.rows Admin c_pin_sid pin_column))

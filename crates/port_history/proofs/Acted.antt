@@ -16,7 +16,7 @@ use Rattle.trusted_cmds.specs.declared.command.Command.TheVariants.{ReadQueued, 
 use Rattle.trusted_cmds.specs.declared.command.CommandError.{CommandError}
 use Rattle.trusted_cmds.specs.Commands.{fis_of, tag_with, sector_size, is_queued as is_queued_code}
 use Rattle.history.specs.Opening.{Origin}
-use Rattle.history.specs.Events.{QueueMended, Deed, Nothing, InSession, OfQueue, Wrote, Took, WasReset, Event, did, or_else, latest}
+use Rattle.history.specs.Events.{QueueMended, Deed, Nothing, InSession, OfQueue, Wrote, Took, BlockedSid, WasReset, Event, did, or_else, latest}
 use Rattle.history.specs.Readers.{holding, held, failing, failure}
 use Rattle.history.specs.Items.{Items}
 use Rattle.history.specs.Quiet.{is_quiet}
@@ -257,6 +257,7 @@ is_of_queue (InSession deed response) = false
 is_of_queue (OfQueue deed) = true
 is_of_queue (Wrote lba bytes) = false
 is_of_queue (Took com_id) = false
+is_of_queue (BlockedSid block) = false
 is_of_queue (WasReset kind) = false
 
 abbrev pub executed_fis : Command → Option ℕ → Fis
@@ -295,6 +296,7 @@ of-items (InSession deed response) h = refl
 of-items (OfQueue deed) h = absurd cc
 of-items (Wrote lba bytes) h = refl
 of-items (Took com_id) h = refl
+of-items (BlockedSid block) h = refl
 of-items (WasReset kind) h = refl
 
 received-quiet : (com_id blocks : ℕ) (x : Option (List ℕ))
@@ -334,6 +336,7 @@ holds_nothing (InSession deed response) quiet = refl
 holds_nothing (OfQueue deed) quiet = absurd cc
 holds_nothing (Wrote lba bytes) quiet = refl
 holds_nothing (Took com_id) quiet = refl
+holds_nothing (BlockedSid block) quiet = refl
 holds_nothing (WasReset kind) quiet = refl
 
 -- the queue is as before
@@ -345,6 +348,7 @@ held_stays (InSession deed response) past tag quiet none = refl
 held_stays (OfQueue deed) past tag quiet none = absurd cc
 held_stays (Wrote lba bytes) past tag quiet none = refl
 held_stays (Took com_id) past tag quiet none = refl
+held_stays (BlockedSid block) past tag quiet none = refl
 held_stays (WasReset kind) past tag quiet none = sym none
 
 failure_stays : (d : Deed) (past : List Event) → is_of_queue d ≡ false → failure past ≡ None
@@ -354,6 +358,7 @@ failure_stays (InSession deed response) past quiet none = refl
 failure_stays (OfQueue deed) past quiet none = absurd cc
 failure_stays (Wrote lba bytes) past quiet none = refl
 failure_stays (Took com_id) past quiet none = refl
+failure_stays (BlockedSid block) past quiet none = refl
 failure_stays (WasReset kind) past quiet none = sym none
 
 known-unqueued : (items : Items) (f : Facts) (h : RegH2d) (bytes : List ℕ) (command : Command) (tag : ℕ)

@@ -12,7 +12,7 @@ use Rattle.std.proofs.lemmas.List.{length-take, length-take-le, length-drop, len
 use Rattle.std.proofs.lemmas.Bool.Decides.{nat_tests}
 use Rattle.device_data.specs.ErrorLog.{sized, error_log, page_head}
 use Rattle.device_data.specs.Identity.{identity, identify_word, low_first, run_from, identity_in, field_word}
-use Rattle.device_data.specs.Discovery.{discovery}
+use Rattle.device_data.specs.Discovery.{discovery_of}
 use Rattle.device_data.specs.declared.log_page.Failure.{Failure}
 use Rattle.shadow_mbr.specs.Stored.{zeros, sectors_from}
 use Rattle.transactions.specs.Bytes.{bytes_from}
@@ -121,10 +121,10 @@ length-received f com_id room =
     by_test (Rattle.std.specs.Prelude.nat_eq com_id discovery_com_id)
   where
     by_test : (b : Bool)
-        → length (if b then sized room (discovery f.rows)
+        → length (if b then sized room (discovery_of f.config.profile f.rows f.block)
         else sized room (received_bytes com_id room (f.waiting com_id)))
         ≡ room
-    by_test true = length-sized room (discovery f.rows)
+    by_test true = length-sized room (discovery_of f.config.profile f.rows f.block)
     by_test false = length-sized room (received_bytes com_id room (f.waiting com_id))
 
 length-told : (list : Bool) (f : Facts) (com_id room : ℕ)

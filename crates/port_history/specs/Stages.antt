@@ -35,38 +35,23 @@ put_at (Answered put) = Some put
 
 abbrev pub is_free : Stage → Bool
 is_free Free = true
-is_free (Prepared put) = false
-is_free (Issued put) = false
-is_free (Accepted put) = false
-is_free (Answered put) = false
+is_free _ = false
 
 abbrev pub is_prepared : Stage → Bool
-is_prepared Free = false
 is_prepared (Prepared put) = true
-is_prepared (Issued put) = false
-is_prepared (Accepted put) = false
-is_prepared (Answered put) = false
+is_prepared _ = false
 
 abbrev pub is_issued : Stage → Bool
-is_issued Free = false
-is_issued (Prepared put) = false
 is_issued (Issued put) = true
-is_issued (Accepted put) = false
-is_issued (Answered put) = false
+is_issued _ = false
 
 abbrev pub is_accepted : Stage → Bool
-is_accepted Free = false
-is_accepted (Prepared put) = false
-is_accepted (Issued put) = false
 is_accepted (Accepted put) = true
-is_accepted (Answered put) = false
+is_accepted _ = false
 
 abbrev pub is_answered : Stage → Bool
-is_answered Free = false
-is_answered (Prepared put) = false
-is_answered (Issued put) = false
-is_answered (Accepted put) = false
 is_answered (Answered put) = true
+is_answered _ = false
 
 -- It is with the device; and it is a command of the queue.
 abbrev pub is_out : Stage → Bool
@@ -86,28 +71,20 @@ accepted_stage put = if is_queued_command put.command then Accepted put else Ans
 -- A recovery answers the command that failed, and gives the others that are out back to the port,
 -- with their numbers.
 abbrev pub recovered : Bool → Stage → Stage
-recovered has_failed Free = Free
-recovered has_failed (Prepared put) = Prepared put
 recovered has_failed (Issued put) = if has_failed then Answered put else Prepared put
 recovered has_failed (Accepted put) = if has_failed then Answered put else Prepared put
-recovered has_failed (Answered put) = Answered put
+recovered has_failed stage = stage
 
 -- A reset answers all that wait.
 abbrev pub stage_after_reset : Stage → Stage
-stage_after_reset Free = Free
-stage_after_reset (Prepared put) = Answered put
-stage_after_reset (Issued put) = Answered put
-stage_after_reset (Accepted put) = Answered put
-stage_after_reset (Answered put) = Answered put
+stage_after_reset stage = to Answered stage
 
 -- A command that is not queued keeps a queued one back while it is issued, and while it is prepared
 -- and was put before.
 abbrev pub keeps_back : ℕ → Stage → Bool
-keeps_back number Free = false
 keeps_back number (Prepared put) = not (is_queued_command put.command) && nat_lt put.number number
 keeps_back number (Issued put) = not (is_queued_command put.command)
-keeps_back number (Accepted put) = false
-keeps_back number (Answered put) = false
+keeps_back number _ = false
 
 -- The command of a slot must not be issued beside those of the others: one that is not queued goes
 -- alone.

@@ -65,14 +65,11 @@ has_failed (Some e) = is_some e.event.failed
 -- What a step says of the port's failure: a queued command that the drive failed, by its tag; a
 -- recovery or a reset ends it.
 abbrev pub failing_by : Option Put → Option Effect → Step → Option (Option ℕ)
-failing_by served effect (steps.Put client slot request) = None
-failing_by served effect (steps.Issue slot) = None
 failing_by served effect (steps.Accept slot) =
     if is_queued_put served && has_failed effect then Some (Some slot) else None
-failing_by served effect (steps.Complete slot) = None
 failing_by served effect steps.Recover = Some None
 failing_by served effect (steps.Reset client kind) = Some None
-failing_by served effect (steps.Take client slot) = None
+failing_by served effect _ = None
 
 -- The tag whose queued command failed, while the port is failed.
 abbrev pub failed : List Moment → Option ℕ

@@ -1,13 +1,12 @@
 -- What the lines of a script do to their drive, and what they print.
 use Rattle.std.specs.Prelude.{◌≡◌, ℕ, ◌==◌, true, false, if◌then◌else◌, List, [], ◌∷◌, length, take, slice_range, ◌+◌, Option, None, Some, unwrap_or, is_some}
-use Rattle.std.specs.Int.{w16, from_be_bytes}
+use Rattle.std.specs.Int.{w16, w32, from_be_bytes}
 use Rattle.std.specs.Str.{bytes_eq}
 use Rattle.trusted_cmds.specs.Commands.{fis_of}
 use Rattle.trusted_cmds.specs.declared.command.Command.{Command}
 use Rattle.trusted_cmds.specs.declared.command.Command.TheVariants.{ReadDma, Receive, Identify, ReadLog10}
 use Rattle.compacket.specs.Frames.{com_packet_size}
 use Rattle.compacket.specs.Spelling.{frame_bytes}
-use Rattle.device_data.specs.declared.level0.TheConstants.{DISCOVERY_LENGTH}
 use Rattle.history.specs.Opening.{Origin}
 use Rattle.history.specs.Events.{Event}
 use Rattle.history.specs.Facts.{facts}
@@ -89,12 +88,17 @@ transferred o acts command transfer byte =
 abbrev pub protocol_list_size : List ℕ → ℕ
 protocol_list_size bytes = 8 + from_be_bytes w16 (slice_range bytes 6 8)
 
+-- Level 0 discovery has the length of what follows in its first four bytes, the highest byte first
+-- (Core 2.01, section 3.3.6)
+abbrev pub discovery_size : List ℕ → ℕ
+discovery_size bytes = 4 + from_be_bytes w32 (slice_range bytes 0 4)
+
 -- what a receive shows: by security protocol 00h the list of protocols, on the ComID of Level 0
 -- discovery its bytes, else the header of the ComPacket and the bytes that it counts
 abbrev pub shown_bytes : ℕ → ℕ → List ℕ → List ℕ
 shown_bytes protocol com_id bytes =
     if protocol == 0 then take (protocol_list_size bytes) bytes
-    else (if com_id == discovery_com_id then take DISCOVERY_LENGTH bytes
+    else (if com_id == discovery_com_id then take (discovery_size bytes) bytes
     else take (com_packet_size bytes) bytes)
 
 -- what a command that was served prints of its data

@@ -7,22 +7,27 @@ ghost use Rattle.tool.specs.declared.ending.RunError.{RunError};
 
 use crate::ending::RunError;
 use crate::options::Options;
-use device_data::discovery;
+use basics::Profile;
+use device_data::{discovery, field_discovery};
 use sp_cells::DriveConfig;
 use sp_tables::Tables;
 use std::alloc::{AllocError, Global};
 use std::io::Write;
+use trusted_cmds::SidBlock;
 
 /// The bytes of the discovery in hex.
 fn discovery_text(alloc: Global, config: &DriveConfig) -> Result<String, AllocError>
     ensures { IfOk result (λ text. string_bytes text ≡ discovery_text config.now) }
 {
     let tables = Tables::factory(alloc, config)?;
-    hex::encode(alloc, discovery(&tables))
+    match config.profile() {
+        Profile::Base => hex::encode(alloc, discovery(&tables)),
+        Profile::Field => hex::encode(alloc, field_discovery(&tables, SidBlock::Free)),
+    }
 }
 
-/// Prints the 132 bytes that a drive as it leaves the factory gives to a TRUSTED RECEIVE of Level 0 discovery, in
-/// hex, with status 0.
+/// Prints the bytes that a drive as it leaves the factory gives to a TRUSTED RECEIVE of Level 0 discovery, 132 or those
+/// 184 of the field profile, in hex, with status 0.
 ///
 /// # Errors
 ///

@@ -3,12 +3,11 @@
 ghost use Rattle.std.specs.Prelude.{◌≡◌, ◌∷◌, [], OnOk, take};
 ghost use Rattle.compacket.specs.Frames.{com_packet_size};
 ghost use Rattle.script_lines.specs.Texts.{Prints};
-ghost use Rattle.tool.specs.Effects.{protocol_list_size, shown_bytes, served_text, told_lines};
+ghost use Rattle.tool.specs.Effects.{protocol_list_size, discovery_size, shown_bytes, served_text, told_lines};
 
 use audit::AuditLine;
 use byteorder::{BigEndian, ByteOrder};
 use compacket::{COM_PACKET_HEADER, ComId};
-use device_data::DISCOVERY_LENGTH;
 use drive::Accepted;
 use script_lines::Report;
 use std::alloc::AllocError;
@@ -16,6 +15,9 @@ use trusted_cmds::Command;
 
 /// The ComID of Level 0 discovery.
 const DISCOVERY_COM_ID: ComId = 1;
+
+/// How many bytes of Level 0 discovery say how many follow.
+const DISCOVERY_HEADER: usize = 4;
 
 /// How many bytes stand in front of the security protocols that are listed.
 const PROTOCOL_LIST_HEADER: usize = 8;
@@ -42,6 +44,17 @@ fn protocol_list(bytes: &[u8]) -> &[u8]
     &bytes[..size.min(bytes.len())]
 }
 
+/// Level 0 discovery, as far as it is there.
+fn discovery(bytes: &[u8]) -> &[u8]
+    ensures { result.now ≡ take (discovery_size bytes.now) bytes.now }
+{
+    if bytes.len() < DISCOVERY_HEADER {
+        return bytes;
+    }
+    let size = DISCOVERY_HEADER + BigEndian::read_u32(bytes) as usize;
+    &bytes[..size.min(bytes.len())]
+}
+
 /// What a receive shows.
 pub fn shown(protocol: u8, com_id: ComId, bytes: &[u8]) -> &[u8]
     ensures { result.now ≡ shown_bytes protocol com_id bytes.now }
@@ -49,7 +62,7 @@ pub fn shown(protocol: u8, com_id: ComId, bytes: &[u8]) -> &[u8]
     if protocol == 0 {
         protocol_list(bytes)
     } else if com_id == DISCOVERY_COM_ID {
-        &bytes[..DISCOVERY_LENGTH.min(bytes.len())]
+        discovery(bytes)
     } else {
         com_packet(bytes)
     }

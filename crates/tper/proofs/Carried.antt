@@ -18,7 +18,7 @@ use Rattle.sp_cells.specs.declared.names.Sp.{Sp}
 use Rattle.sp_cells.specs.Flat.{LookUp}
 use Rattle.sp_cells.specs.Names.{session_manager, sync_session}
 use Rattle.audit.specs.declared.reason.AttemptFailure.{AttemptFailure}
-use Rattle.audit.specs.declared.reason.AttemptFailure.TheVariants.{WrongPin, LockedOut, Disabled, Unknown}
+use Rattle.audit.specs.declared.reason.AttemptFailure.TheVariants.{WrongPin, LockedOut, Disabled, Blocked, Unknown}
 use Rattle.audit.specs.declared.reason.Why.{Why}
 use Rattle.transactions.specs.Stored.{Stored}
 use Rattle.call_shapes.specs.Carried.{is_carried}
@@ -110,6 +110,7 @@ attempt_carried None = one_success
 attempt_carried (Some LockedOut) = bare_locked_out
 attempt_carried (Some WrongPin) = zero_success
 attempt_carried (Some Disabled) = zero_success
+attempt_carried (Some Blocked) = zero_success
 attempt_carried (Some Unknown) = zero_success
 
 inside_carried : (rows : LookUp) (sp : Sp) (b : Bool) (j : Judgement) → Told rows sp j → Told rows sp (unless_open b j)
@@ -129,7 +130,7 @@ ask_carried rows sp its object (GetCells first last) = given rows sp (listing it
 ask_carried rows sp its object (GetBytes first last) = bytes_carried rows sp (λ row. its.byte (table_begin its.sizes (byte_table_of (kind_of its.sp object)) + row)) (bytes_of_table its.sizes (byte_table_of (kind_of its.sp object))) first last
 ask_carried rows sp its object (SetCells ps) = set_carried rows sp (to_set its object (SetCells ps))
 ask_carried rows sp its object (SetBytes at octets) = set_carried rows sp (to_set its object (SetBytes at octets))
-ask_carried rows sp its object (Authenticate authority proof) = attempt_carried (attempt_failure rows sp authority proof)
+ask_carried rows sp its object (Authenticate authority proof) = attempt_carried (attempt_failure its.block rows sp authority proof)
 ask_carried rows sp its object Activate = inside_carried rows sp its.is_open Activates bare_success
 ask_carried rows sp its object Revert = inside_carried rows sp its.is_open (Reverts (sp_of_row object)) bare_success
 ask_carried rows sp its object GenKey = inside_carried rows sp its.is_open (erases (key_number object)) (erases_carried rows sp (key_number object))
@@ -224,6 +225,7 @@ attempt_answered host next sp None h k = sync_carried host next success h k (ome
 attempt_answered host next sp (Some LockedOut) h k = sync_carried host 0 authority_locked_out h (omega arith) (omega arith)
 attempt_answered host next sp (Some WrongPin) h k = sync_carried host 0 not_authorized h (omega arith) (omega arith)
 attempt_answered host next sp (Some Disabled) h k = sync_carried host 0 not_authorized h (omega arith) (omega arith)
+attempt_answered host next sp (Some Blocked) h k = sync_carried host 0 not_authorized h (omega arith) (omega arith)
 attempt_answered host next sp (Some Unknown) h k = sync_carried host 0 not_authorized h (omega arith) (omega arith)
 
 -- after the tests in their order: the SP is in use, no session lives on it, and a number is left
@@ -239,7 +241,7 @@ number_left l e = let f : nat_lt 0xffffffff l.next ≡ false = e in grind (arith
 named_answered : (look : LookUp) (l : Live) (host : ℕ) (o : Opening) (sp : Option Sp) → host < 2 ^ 32 → is_carried (reply_to host l.next (opening_verdict_on look l o sp)) ≡ true
 named_answered look l host o None h = sync_carried host 0 invalid_parameter h (omega arith) (omega arith)
 named_answered look l host o (Some sp) h =
-    tests_answered (not (is_in_use look sp)) (lives_on sp l) (is_full l) host l.next sp (attempt_failure look sp o.authority o.proof) h (number_left l)
+    tests_answered (not (is_in_use look sp)) (lives_on sp l) (is_full l) host l.next sp (attempt_failure l.block look sp o.authority o.proof) h (number_left l)
 
 opening_answered : (look : LookUp) (l : Live) (host : ℕ) (o : Option Opening) → host < 2 ^ 32 → is_carried (reply_to host l.next (verdict look l o)) ≡ true
 opening_answered look l host None h = sync_carried host 0 invalid_parameter h (omega arith) (omega arith)

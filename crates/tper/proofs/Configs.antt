@@ -5,7 +5,7 @@ use Rattle.sp_cells.specs.declared.names.Uid.{Uid}
 use Rattle.sp_cells.specs.declared.names.Sp.{Sp}
 use Rattle.sp_cells.specs.declared.names.Sp.TheVariants.{Admin, Locking}
 use Rattle.audit.specs.declared.reason.AttemptFailure.{AttemptFailure}
-use Rattle.audit.specs.declared.reason.AttemptFailure.TheVariants.{WrongPin, LockedOut, Disabled, Unknown}
+use Rattle.audit.specs.declared.reason.AttemptFailure.TheVariants.{WrongPin, LockedOut, Disabled, Blocked, Unknown}
 use Rattle.transactions.specs.Stored.{Stored, Part, at_part, reverted}
 use Rattle.sessions.specs.declared.opening.Opening.{Opening}
 use Rattle.sessions.specs.declared.opening.StartVerdict.{StartVerdict}
@@ -32,6 +32,7 @@ attempted sp authority None s = part_config sp _ s
 attempted sp authority (Some WrongPin) s = part_config sp _ s
 attempted sp authority (Some LockedOut) s = refl
 attempted sp authority (Some Disabled) s = refl
+attempted sp authority (Some Blocked) s = refl
 attempted sp authority (Some Unknown) s = refl
 
 by-verdict : (authority : Uid) (v : StartVerdict) (s : Stored) → Same (stored_by authority v s) s
@@ -57,6 +58,7 @@ counted sp row None s t is = same-as _ s t is (part_config sp _ s)
 counted sp row (Some WrongPin) s t is = same-as _ s t is (part_config sp _ s)
 counted sp row (Some LockedOut) s t is = same-as s s t is refl
 counted sp row (Some Disabled) s t is = same-as s s t is refl
+counted sp row (Some Blocked) s t is = same-as s s t is refl
 counted sp row (Some Unknown) s t is = same-as s s t is refl
 
 reverts : (sp : Sp) (s : Stored) → Same (reverted sp s) s

@@ -28,6 +28,7 @@ use Rattle.methods.specs.declared.outcome.Outcome.{Outcome as Answered}
 use Rattle.methods.specs.Calls.{standing_in, judged_with, judged_call, outcome_of, outcome_in, Fulfils}
 use Rattle.history.specs.Opening.{Origin}
 use Rattle.history.specs.Events.{Event}
+use Rattle.history.specs.Readers.{sid_block}
 use Rattle.sessions.specs.Deeds.{Unchanged, Outcome, says, Ended}
 use Rattle.history.specs.Facts.{Facts, facts}
 use Rattle.history.specs.Tcg.{called_manager, to_manager, in_session, judgement_on, started, item_in, ends_session}
@@ -53,11 +54,11 @@ same-call s l session call =
 pub call-met : (s t : Stored) (l m : Live) (session : SessionId) (call : Call) (said : Answered)
     → Fulfils (outcome_in s session (judged_call s l session call)) said s t l m
     → OfSession (λ f its. outcome_of f.rows its.sp (judgement_on f its (uid_of call.object) (uid_of call.method) (trees call.args.items))) session said s t l m
-call-met s t l m session call said fulfils = λ o acts its ks kl lives same.
+call-met s t l m session call said fulfils = λ o acts its ks kl block lives same.
     let here : Fulfils (outcome_in s (id_of its) (judged_call s l (id_of its) call)) said s t l m = subst (λ (id : SessionId). Fulfils (outcome_in s id (judged_call s l id call)) said s t l m) same fulfils in
     subst (λ (x : Outcome). AnswersAs x said s t l m)
     (ap (outcome_in s (id_of its)) (same-call s l (id_of its) call)
-    ∙ kept_call_law o acts s l its (uid_of call.object) (uid_of call.method) (trees call.args.items) ks kl lives)
+    ∙ kept_call_law o acts s l its (uid_of call.object) (uid_of call.method) (trees call.args.items) ks kl block lives)
     here.met
 
 pub call-carried : (s t : Stored) (l m : Live) (session : SessionId) (call : Call) (said : Answered) → Fulfils (outcome_in s session (judged_call s l session call)) said s t l m → is_carried (message said.reply) ≡ true
@@ -79,12 +80,13 @@ pub start-met : (s t : Stored) (l m : Live) (com_id : ℕ) (object method : Uid)
     → ((n : ℕ) → session_at m n ≡ start_at s l com_id (map tree call.args.items) n)
     → m.next ≡ start_next s l (map tree call.args.items)
     → AreNumbered l
+    → m.block ≡ l.block
     → erasure ≡ no_sectors
-    → (o : Origin) (past : List Event) → KeepsStore s o past → KeepsSessions l past
+    → (o : Origin) (past : List Event) → KeepsStore s o past → KeepsSessions l past → l.block ≡ sid_block past
     → Meets (called_manager (facts o past) com_id object method (values_of (trees call.args.items))) said why erasure s t l m
-start-met s t l m com_id object method call said why erasure is-object is-method answered reasons stored points next numbered none o past ks kl =
+start-met s t l m com_id object method call said why erasure is-object is-method answered reasons stored points next numbered stays none o past ks kl block =
     let args = map tree call.args.items in
-    let law = start_law o past s l m com_id args ks kl numbered next points in
+    let law = start_law o past s l m com_id args ks kl numbered block stays next points in
     let by-answer = subst (λ (x : Message). Meets (started (facts o past) com_id args) x (start_denied s l args) no_sectors s (start_stored s l args) l m) (sym answered) law in
     let by-reason = subst (λ (x : Option Why). Meets (started (facts o past) com_id args) said x no_sectors s (start_stored s l args) l m) (sym reasons) by-answer in
     let by-store = subst (λ (x : Stored). Meets (started (facts o past) com_id args) said why no_sectors s x l m) (sym stored) by-reason in
@@ -106,9 +108,9 @@ read-in read r session said s t l m h g = subst (λ (x : Result Message TokenErr
 item-as : (tokens : List ℕ) (session : SessionId) (said : Answered) (s t : Stored) (l m : Live)
     → OfSession (λ f its. in_session f its (item_in s.config.profile tokens)) session said s t l m
     → OfSession (λ f its. in_session f its (item_in f.config.profile tokens)) session said s t l m
-item-as tokens session said s t l m g = λ o acts its ks kl lives same.
+item-as tokens session said s t l m g = λ o acts its ks kl block lives same.
     subst (λ (config : Config). AnswersAs (in_session (facts o (log o acts)) its (item_in config.profile tokens)) said s t l m)
-    ks.config (g o acts its ks kl lives same)
+    ks.config (g o acts its ks kl block lives same)
 
 pub ended : (tokens : List ℕ) (session : SessionId) (said : Answered) (s t : Stored) (l m : Live)
     → ends_session s.config.profile tokens ≡ true
@@ -133,4 +135,4 @@ read-by read r com_id said s t l m h g = subst (λ (x : Result Message TokenErro
 
 -- an answer that changes nothing
 pub unchanged : (x : Message) (said : Answered) (s : Stored) (l : Live) → message said.reply ≡ x → said.denied ≡ None → said.erases ≡ no_sectors → AnswersAs (says Unchanged x) said s s l l
-unchanged x said s l h k w = record { answer = h; denied = k; erases = w; store = refl; sessions = record { next = refl; at = λ n. refl } }
+unchanged x said s l h k w = record { answer = h; denied = k; erases = w; store = refl; sessions = record { next = refl; at = λ n. refl }; block = refl }

@@ -10,10 +10,13 @@ use Rattle.sp_tables.specs.Contents.{Contents}
 use Rattle.shadow_mbr.specs.Stored.{StoredSectors as Bytes, sector_size, byte_at}
 use Rattle.transactions.specs.Stored.{Stored, new_store, after_reset}
 use Rattle.sessions.specs.Live.{Live, session_at}
+use Rattle.sessions.specs.Block.{block_at_reset}
+use Rattle.trusted_cmds.specs.declared.block.SidBlock.{SidBlock}
+use Rattle.trusted_cmds.specs.declared.block.SidBlock.TheVariants.{Free}
 use Rattle.methods.specs.declared.outcome.Outcome.{Outcome as Answered}
 use Rattle.history.specs.Opening.{Origin, origin_on}
 use Rattle.history.specs.Agreement.{HasNoTries}
-use Rattle.history.specs.Events.{Event, Nothing, Took, WasReset, did}
+use Rattle.history.specs.Events.{Event, Nothing, Took, WasReset, BlockedSid, did}
 use Rattle.history.specs.Readers.{waiting, waits}
 use Rattle.history.specs.Decisions.{received}
 use Rattle.history.specs.Tcg.{answers}
@@ -37,7 +40,7 @@ pub answer-kept : (t u : Tper) (o : Origin) (past : List Event) (com_id : ℕ) (
     → AnswersAs out said t.store u.store t.live u.live → Responds com_id session (message said.reply) t u
     → Keeps t o past → Keeps u o (answers com_id session out ∷ past)
 answer-kept t u o past com_id session out said met responds k =
-    kept_after t u o past (answers com_id session out) met.store met.sessions
+    kept_after t u o past (answers com_id session out) met.store met.sessions met.block
     (λ other. responds other
     ∙ ap (λ (m : Message). cond (com_id == other) (Some (frame_bytes com_id session (item_spelling_of m))) (response_at t.waiting other)) met.answer
     ∙ waits-there (com_id == other) (frame_bytes com_id session (item_spelling_of out.said)) (response_at t.waiting other)) k
@@ -63,10 +66,10 @@ leaves l m h = record { next = ap (λ (x : Live). x.next) h; at = λ n. ap (λ (
 took-kept : (t u : Tper) (o : Origin) (past : List Event) (com_id room : ℕ) → u.store ≡ t.store → u.live ≡ t.live → Takes com_id room t u → Keeps t o past
     → (f : Bool) → fits_in room (response_at t.waiting com_id) ≡ f → Keeps u o (cond f (did (Took com_id)) (did Nothing) ∷ past)
 took-kept t u o past com_id room hs hl takes k true h =
-    kept_after t u o past (did (Took com_id)) hs (leaves t.live u.live hl)
+    kept_after t u o past (did (Took com_id)) hs (leaves t.live u.live hl) (ap (λ (x : Live). x.block) hl)
     (λ other. takes other ∙ ap (λ (b : Bool). cond (com_id == other && b) None (response_at t.waiting other)) h ∙ there (com_id == other) (response_at t.waiting other)) k
 took-kept t u o past com_id room hs hl takes k false h =
-    kept_after t u o past (did Nothing) hs (leaves t.live u.live hl)
+    kept_after t u o past (did Nothing) hs (leaves t.live u.live hl) (ap (λ (x : Live). x.block) hl)
     (λ other. takes other ∙ ap (λ (b : Bool). cond (com_id == other && b) None (response_at t.waiting other)) h ∙ not-there (com_id == other) (response_at t.waiting other)) k
 
 received-kept : (t u : Tper) (o : Origin) (past : List Event) (com_id room blocks : ℕ) → u.store ≡ t.store → u.live ≡ t.live → Takes com_id room t u → room ≡ sector_size * blocks → Keeps t o past
@@ -81,16 +84,23 @@ pub take-kept : (t u : Tper) (o : Origin) (past : List Event) (com_id room block
 take-kept t u o past com_id room blocks hs hl takes size k =
     received-kept t u o past com_id room blocks hs hl takes size k (waiting past com_id) (k.waiting com_id)
 
--- ---- a reset, and no acts
+-- ---- a block of SID, a reset, and no acts
 
-pub reset-kept : (t u : Tper) (o : Origin) (past : List Event) (kind : ℕ) → u.store ≡ after_reset kind t.store → ((n : ℕ) → session_at u.live n ≡ None) → u.live.next ≡ t.live.next → ((com_id : ℕ) → response_at u.waiting com_id ≡ None) → Keeps t o past → Keeps u o (did (WasReset kind) ∷ past)
-reset-kept t u o past kind store none next waits k =
-    kept_after t u o past (did (WasReset kind)) store (record { next = next; at = none }) waits k
+pub block-kept : (t u : Tper) (o : Origin) (past : List Event) (block : SidBlock) → u.store ≡ t.store → u.live ≡ record t.live { block = block } → u.waiting ≡ t.waiting → Keeps t o past → Keeps u o (did (BlockedSid block) ∷ past)
+block-kept t u o past block store live waits k =
+    kept_after t u o past (did (BlockedSid block)) store
+    (record { next = ap (λ (x : Live). x.next) live; at = λ n. ap (λ (x : Live). session_at x n) live }) (ap (λ (x : Live). x.block) live)
+    (λ com_id. ap (λ (w : List (Option (List ℕ))). response_at w com_id) waits) k
 
-pub opening-kept : (t : Tper) (tables : Contents) (mbr : Bytes) → t.store ≡ new_store tables mbr → mbr.sectors ≡ table_sectors tables.config → ((place : ℕ) → byte_at mbr place ≡ 0) → ((n : ℕ) → session_at t.live n ≡ None) → t.live.next ≡ 0x1000 → ((com_id : ℕ) → response_at t.waiting com_id ≡ None)
+pub reset-kept : (t u : Tper) (o : Origin) (past : List Event) (kind : ℕ) → u.store ≡ after_reset kind t.store → ((n : ℕ) → session_at u.live n ≡ None) → u.live.next ≡ t.live.next → u.live.block ≡ block_at_reset kind t.live.block → ((com_id : ℕ) → response_at u.waiting com_id ≡ None) → Keeps t o past → Keeps u o (did (WasReset kind) ∷ past)
+reset-kept t u o past kind store none next block waits k =
+    kept_after t u o past (did (WasReset kind)) store (record { next = next; at = none }) block waits k
+
+pub opening-kept : (t : Tper) (tables : Contents) (mbr : Bytes) → t.store ≡ new_store tables mbr → mbr.sectors ≡ table_sectors tables.config → ((place : ℕ) → byte_at mbr place ≡ 0) → ((n : ℕ) → session_at t.live n ≡ None) → t.live.next ≡ 0x1000 → t.live.block ≡ Free → ((com_id : ℕ) → response_at t.waiting com_id ≡ None)
     → HasNoTries (origin_on tables) → HasKnownRows (origin_on tables) → Keeps t (origin_on tables) []
-opening-kept t tables mbr store size zeros none next waits tries known = record {
+opening-kept t tables mbr store size zeros none next block waits tries known = record {
   store = subst (λ (s : Stored). KeepsStore s (origin_on tables) []) (sym store) (store_opening_law tables mbr tries known size zeros);
   sessions = sessions_opening_law t.live next none;
+  block = block;
   waiting = waits;
 }

@@ -167,13 +167,13 @@ pub manager-kept : (t u : Tper) (o : Origin) (acts : List Act) (com_id : ℕ) (r
     → ByManager t u com_id frame s → Keeps t o (log o acts) → Keeps u o (sent (facts o (log o acts)) com_id read ∷ log o acts)
 manager-kept t u o acts com_id read frame s h m its k =
     subst (λ (e : Event). Keeps u o (e ∷ log o acts)) (sym (by-manager (facts o (log o acts)) com_id read frame h m))
-    (answer-kept t u o (log o acts) com_id frame.session _ its.said (its.met o (log o acts) k.store k.sessions) its.responds k)
+    (answer-kept t u o (log o acts) com_id frame.session _ its.said (its.met o (log o acts) k.store k.sessions k.block) its.responds k)
 
 pub manager-sent : (t u : Tper) (o : Origin) (acts : List Act) (com_id : ℕ) (read : Result Frame FrameError) (frame : Frame) (s : Sent) → IsFor read com_id frame → is_manager frame.session ≡ true
     → ByManager t u com_id frame s → Keeps t o (log o acts) → IsToldOfSend (sent (facts o (log o acts)) com_id read) s
 manager-sent t u o acts com_id read frame s h m its k =
     subst (λ (e : Event). IsToldOfSend e s) (sym (by-manager (facts o (log o acts)) com_id read frame h m))
-    (answer-sent t u com_id frame.session _ its.said s (its.met o (log o acts) k.store k.sessions) its.denied its.erases)
+    (answer-sent t u com_id frame.session _ its.said s (its.met o (log o acts) k.store k.sessions k.block) its.denied its.erases)
 
 pub session-kept : (t u : Tper) (o : Origin) (acts : List Act) (com_id : ℕ) (read : Result Frame FrameError) (frame : Frame) (id : SessionId) (s : Sent) → IsFor read com_id frame → is_manager frame.session ≡ false
     → found_at t.live com_id frame.session ≡ Some id
@@ -181,7 +181,7 @@ pub session-kept : (t u : Tper) (o : Origin) (acts : List Act) (com_id : ℕ) (r
 session-kept t u o acts com_id read frame id s h m named its k =
     let n = somebody o (log o acts) t.live com_id frame.session id k.sessions named in
     subst (λ (e : Event). Keeps u o (e ∷ log o acts)) (sym (by-session (facts o (log o acts)) com_id read frame (Some n.its) h m n.by_past))
-    (answer-kept t u o (log o acts) com_id frame.session _ its.said (its.met o acts n.its k.store k.sessions n.lives n.is) its.responds k)
+    (answer-kept t u o (log o acts) com_id frame.session _ its.said (its.met o acts n.its k.store k.sessions k.block n.lives n.is) its.responds k)
 
 pub session-sent : (t u : Tper) (o : Origin) (acts : List Act) (com_id : ℕ) (read : Result Frame FrameError) (frame : Frame) (id : SessionId) (s : Sent) → IsFor read com_id frame → is_manager frame.session ≡ false
     → found_at t.live com_id frame.session ≡ Some id
@@ -189,7 +189,7 @@ pub session-sent : (t u : Tper) (o : Origin) (acts : List Act) (com_id : ℕ) (r
 session-sent t u o acts com_id read frame id s h m named its k =
     let n = somebody o (log o acts) t.live com_id frame.session id k.sessions named in
     subst (λ (e : Event). IsToldOfSend e s) (sym (by-session (facts o (log o acts)) com_id read frame (Some n.its) h m n.by_past))
-    (answer-sent t u com_id frame.session _ its.said s (its.met o acts n.its k.store k.sessions n.lives n.is) its.denied its.erases)
+    (answer-sent t u com_id frame.session _ its.said s (its.met o acts n.its k.store k.sessions k.block n.lives n.is) its.denied its.erases)
 
 pub nobody-named : (t : Tper) (o : Origin) (past : List Event) (com_id : ℕ) (read : Result Frame FrameError) (frame : Frame) → IsFor read com_id frame → is_manager frame.session ≡ false
     → found_at t.live com_id frame.session ≡ None

@@ -5,7 +5,7 @@ use Rattle.device_data.specs.Discovery.{first_com_id}
 use Rattle.sessions.specs.Live.{Live}
 use Rattle.history.specs.Opening.{Origin}
 use Rattle.history.specs.Events.{Deed, InSession, Event}
-use Rattle.history.specs.Readers.{waiting}
+use Rattle.history.specs.Readers.{waiting, sid_block}
 use Rattle.history.specs.Decisions.{is_session_com_id}
 use Rattle.history.specs.KeptStore.{KeepsStore}
 use Rattle.history.specs.KeptSessions.{KeepsSessions}
@@ -19,8 +19,8 @@ use Rattle.tcg_tokens.specs.Spelling.{item_spelling_of}
 use Rattle.methods.specs.declared.outcome.Outcome.{Outcome}
 use Rattle.tper.specs.declared.trusted.Sent.{Sent}
 
--- The rows and the shadow's bytes, the sessions that live, and the response that waits on each of
--- the four ComIDs.
+-- The rows and the shadow's bytes, the sessions that live with what blocks SID, and the response that
+-- waits on each of the four ComIDs.
 pub record Tper : Type 0 where
   pub store : Stored
   pub live : Live
@@ -41,6 +41,7 @@ fits_in room (Some response) = nat_le (length response) room
 pub record Keeps (t : Tper) (o : Origin) (past : List Event) : Type 0 where
   pub store : KeepsStore t.store o past
   pub sessions : KeepsSessions t.live past
+  pub block : t.live.block ≡ sid_block past
   pub waiting : (com_id : ℕ) → response_at t.waiting com_id ≡ waiting past com_id
 
 -- Which sectors a deed makes zeros.

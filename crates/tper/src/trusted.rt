@@ -1,6 +1,6 @@
 //! The TPer: what is kept behind the ComIDs, and what a send and a receive do with it.
 
-ghost use Rattle.std.specs.Prelude.{◌≡◌, ◌≢◌, ℕ, List, [], ◌∷◌, None, Some, true, false, IfOk, OnErr, OnOk, is_some, length, slice_index, ◌<◌, ◌≤◌, ◌+◌, ◌*◌};
+ghost use Rattle.std.specs.Prelude.{◌≡◌, ◌≢◌, ℕ, List, [], ◌∷◌, None, Some, true, false, IfOk, OnErr, OnOk, is_some, length, slice_index, ◌||◌, ◌<◌, ◌≤◌, ◌+◌, ◌*◌};
 ghost use Rattle.compacket.specs.Frames.{reading as frame_in};
 ghost use Rattle.device_data.specs.ErrorLog.{sized};
 ghost use Rattle.sp_tables.specs.Contents.{Contents};
@@ -10,10 +10,13 @@ ghost use Rattle.transactions.specs.Bytes.{bytes_from};
 ghost use Rattle.transactions.specs.Sights.{look_up, committed_sight};
 ghost use Rattle.transactions.specs.Stored.{after_reset};
 ghost use Rattle.sessions.specs.Live.{session_at};
+ghost use Rattle.sessions.specs.Block.{block_at_reset};
+ghost use Rattle.trusted_cmds.specs.BlockSid.{is_blocked};
+ghost use Rattle.device_data.specs.Discovery.{has_owner};
 ghost use Rattle.history.specs.Agreement.{HasNoTries};
 ghost use Rattle.history.specs.Tcg.{received_bytes, sent, to_manager, in_session, item_in};
 ghost use Rattle.history.specs.Decisions.{is_session_com_id, lets_reset, received};
-ghost use Rattle.history.specs.Events.{Event, WasReset, did};
+ghost use Rattle.history.specs.Events.{Event, WasReset, BlockedSid, did};
 ghost use Rattle.history.specs.Facts.{facts};
 ghost use Rattle.history.specs.History.{Act, log};
 ghost use Rattle.history.specs.KeptStore.{HasKnownRows};
@@ -30,6 +33,7 @@ use crate::item::{in_session, to_manager};
 use crate::response::{Responses, Room};
 use audit::Why;
 use compacket::{ComId, Session, open};
+use device_data::has_owner;
 use methods::Outcome;
 use sessions::Sessions;
 use shadow_mbr::{Erasure, Mbr, SECTOR_SIZE};
@@ -38,6 +42,7 @@ use sp_tables::{Rows, Tables};
 use std::alloc::{AllocError, Global};
 use std::marker::Model;
 use transactions::{SessionId, Store, View};
+use trusted_cmds::SidBlock;
 
 /// What became of what was sent.
 #[derive(Drop)]
@@ -147,6 +152,39 @@ impl Tper {
     {
         let enable = Column::PROGRAMMATIC_RESET_ENABLE;
         number_at(&self.store.committed(), Sp::Admin, Uid::TPER_INFO, enable) == 1
+    }
+
+    /// Whether attempts on SID are blocked.
+    pub fn block(&self) -> SidBlock
+        ensures { result ≡ self.now.live.block }
+    {
+        self.sessions.block()
+    }
+
+    /// Whether the command that blocks SID is refused: SID has a PIN of its own by the rows in force, or is blocked.
+    pub fn keeps_sid(&self) -> bool
+        ensures { result ≡ (has_owner (look_up (committed_sight self.now.store))
+            || is_blocked self.now.live.block) }
+    {
+        has_owner(&self.store.committed()) || self.sessions.block().is_blocked()
+    }
+
+    /// Blocks attempts on SID so. All sessions go on.
+    pub fn block_sid(&mut self, block: SidBlock)
+        ensures store { self.new.store ≡ self.old.store }
+        ensures kept { (o : Origin) (past : List Event) → Keeps self.old o past
+            → Keeps self.new o (did (BlockedSid block) ∷ past) }
+    {
+        self.put_block(block);
+    }
+
+    /// What a block of SID makes of each part.
+    fn put_block(&mut self, block: SidBlock)
+        ensures store { self.new.store ≡ self.old.store }
+        ensures live { self.new.live ≡ record self.old.live { block = block } }
+        ensures waiting { self.new.waiting ≡ self.old.waiting }
+    {
+        self.sessions.set_block(block);
     }
 
     /// Whether a response waits on a ComID.
@@ -295,7 +333,7 @@ impl Tper {
     }
 
     /// Ends all sessions and transactions, drops the responses that wait, and does what a reset of this kind does to
-    /// the rows. It takes no memory.
+    /// the rows and to a block of SID. It takes no memory.
     pub fn reset(&mut self, kind: u8)
         ensures config { self.new.store.config ≡ self.old.store.config }
         ensures kept { (o : Origin) (past : List Event) → Keeps self.old o past
@@ -309,10 +347,11 @@ impl Tper {
         ensures store { self.new.store ≡ after_reset kind self.old.store }
         ensures none { (n : ℕ) → session_at self.new.live n ≡ None }
         ensures next { self.new.live.next ≡ self.old.live.next }
+        ensures block { self.new.live.block ≡ block_at_reset kind self.old.live.block }
         ensures waiting { (com_id : ℕ) → response_at self.new.waiting com_id ≡ None }
     {
         self.store.reset_rows(kind);
-        self.sessions.end_all();
+        self.sessions.reset(kind);
         self.responses.clear();
     }
 }

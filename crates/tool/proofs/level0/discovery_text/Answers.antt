@@ -1,13 +1,24 @@
-use Rattle.std.proofs.Common.{◌∙◌, ap}
+use Rattle.std.proofs.Common.{◌∙◌, ap, sym}
 use Rattle.std.proofs.lemmas.Result.{IfOk-weaker}
+use Rattle.basics.specs.declared.profile.Profile.{Profile}
 use Rattle.hex.specs.Hex.{encode_lower}
-use Rattle.sp_tables.specs.Contents.{cells_look_up}
-use Rattle.device_data.specs.Discovery.{discovery}
+use Rattle.sp_tables.specs.Contents.{cells_look_up, factory_contents}
+use Rattle.trusted_cmds.specs.declared.block.SidBlock.TheVariants.{Free}
+use Rattle.device_data.specs.Discovery.{discovery, field_discovery, discovery_of}
 use Rattle.tool.proofs.level0.discovery_text.Goals as goal
 
-pub returns : goal.returns
-returns c =
+pub returns-in-Base : goal.returns-in-Base
+returns-in-Base c =
     IfOk-weaker c.encode.result _ _
     (λ text is. is ∙ ap encode_lower c.discovery.ensures
-    ∙ ap (λ t. encode_lower (discovery (cells_look_up t))) c.in_ok-tables.ensures)
+    ∙ ap (λ t. encode_lower (discovery (cells_look_up t))) c.in_ok-tables.ensures
+    ∙ ap (λ (p : Profile). encode_lower (discovery_of p (cells_look_up (factory_contents c.args.config.now)) Free)) (sym c.in-Base.is ∙ c.profile.ensures))
     c.encode.ensures
+
+pub returns-in-Field : goal.returns-in-Field
+returns-in-Field c =
+    IfOk-weaker c.encode-in-Field.result _ _
+    (λ text is. is ∙ ap encode_lower c.field_discovery.ensures
+    ∙ ap (λ t. encode_lower (field_discovery (cells_look_up t) Free)) c.in_ok-tables.ensures
+    ∙ ap (λ (p : Profile). encode_lower (discovery_of p (cells_look_up (factory_contents c.args.config.now)) Free)) (sym c.in-Field.is ∙ c.profile.ensures))
+    c.encode-in-Field.ensures

@@ -1,10 +1,13 @@
 use Rattle.drive.proofs.Brought.{moved-size}
-use Rattle.std.proofs.Common.{◌≡◌, ◌<◌, ◌∙◌, ap, sym, subst, refl, ℕ}
+use Rattle.std.proofs.Common.{◌≡◌, ◌<◌, ◌∙◌, ap, sym, subst, refl, ℕ, ◌∷◌}
+use Rattle.trusted_cmds.specs.declared.block.SidBlock.{SidBlock}
+use Rattle.history.specs.Events.{BlockedSid, did}
 use Rattle.history.specs.Facts.{facts}
 use Rattle.history.specs.History.{log}
 use Rattle.drive.specs.declared.decision.Decision.{Decision}
 use Rattle.drive.specs.Decision.{IsDue}
-use Rattle.drive.proofs.Acting.{aborts-done, fails-done, holds-done, moves-done, executes-done, restarts-done, read-as}
+use Rattle.drive.specs.State.{KeepsDrive}
+use Rattle.drive.proofs.Acting.{aborts-done, fails-done, holds-done, moves-done, executes-done, restarts-done, blocks-done, read-as}
 use Rattle.drive.proofs.drive.Drive.act.Goals as goal
 
 pub returns-in-Aborts-clause-done : goal.returns-in-Aborts-clause-done
@@ -48,6 +51,14 @@ returns-in-Restarts-clause-done c = λ o acts k.
     let due = subst (λ (x : Decision). IsDue c.args.self.now c.args.h.now x) c.in-Restarts.is c.requires.due in
     restarts-done (facts o (log o acts)) c.args.h.now c.restart.new.self o (log o acts) c.args.payload.now c.in-Restarts.command c.args.decision c.served-in-Restarts.result c.in-Restarts.is (read-as c.args.self.now o (log o acts) c.args.h.now _ k due.0, due.1)
     (record { status_is = e.status; error_is = e.error; held_is = e.held; fises_are = e.fises ∙ c.served_fises-in-Restarts.ensures; bytes_are = e.bytes ∙ c.new.ensures.items; denied_is = e.denied }) (c.restart.ensures o (log o acts) k)
+
+pub returns-in-Blocks-clause-done : goal.returns-in-Blocks-clause-done
+returns-in-Blocks-clause-done c = λ o acts k.
+    let e = c.served-in-Blocks.ensures in
+    let due = subst (λ (x : Decision). IsDue c.args.self.now c.args.h.now x) c.in-Blocks.is c.requires.due in
+    let kept = subst (λ (b : SidBlock). KeepsDrive c.block_sid.new.self o (did (BlockedSid b) ∷ log o acts)) c.asked.ensures (c.block_sid.ensures o (log o acts) k) in
+    blocks-done (facts o (log o acts)) c.args.h.now c.block_sid.new.self o (log o acts) c.args.payload.now c.args.self.now.tper.store.config.profile c.in-Blocks.command c.args.decision c.served-in-Blocks.result c.in-Blocks.is (read-as c.args.self.now o (log o acts) c.args.h.now _ k due.0, due.1)
+    (record { status_is = e.status; error_is = e.error; held_is = e.held; fises_are = e.fises ∙ c.served_fises-in-Blocks.ensures; bytes_are = e.bytes ∙ c.new-in-Blocks.ensures.items; denied_is = e.denied }) kept
 
 pub carry_out-requires-clause-length : goal.carry_out-requires-clause-length
 carry_out-requires-clause-length c =
