@@ -194,11 +194,14 @@ own-erases : (d : SidBlock) (x : Option ℕ) → block-of d (erases x) ≡ d
 own-erases d None = refl
 own-erases d (Some range) = refl
 
+own-rows : (d : SidBlock) (byte : ℕ → ℕ) (size first last : ℕ) → block-of d (rows_given byte size first last) ≡ d
+own-rows d byte size first last =
+    own-if d ((size == 0) || (nat_le size last || nat_lt last first)) (Refuses 0x0c None) _ refl
+    (own-if d (nat_lt most_response (last + 1 - first)) (Refuses 0x11 None) (gives (bytes_between byte first last)) refl (own-gives d (bytes_between byte first last)))
+
 own-done : (s : Standing) (object : Uid) (ask : Ask) → block-of s.block (does_ask s object ask) ≡ s.block
 own-done s object (GetCells a b) = own-gives s.block (listing s object a b)
-own-done s object (GetBytes a b) =
-    own-if s.block ((table_size s == 0) || (nat_le (table_size s) (last_row (table_size s) b) || nat_lt (last_row (table_size s) b) a)) (Refuses 0x0c None) _ refl
-    (own-if s.block (nat_lt most_response (last_row (table_size s) b + 1 - a)) (Refuses 0x11 None) (gives (bytes_between s.byte a (last_row (table_size s) b))) refl (own-gives s.block (bytes_between s.byte a (last_row (table_size s) b))))
+own-done s object (GetBytes a b) = own-rows s.block (λ row. s.byte (table_begin s.sizes (byte_table_of (kind_of s.sp object)) + row)) (bytes_of_table s.sizes (byte_table_of (kind_of s.sp object))) a (last_row (bytes_of_table s.sizes (byte_table_of (kind_of s.sp object))) b)
 own-done s object (SetCells values) = own-makes s.block (to_set s object (SetCells values))
 own-done s object (SetBytes place content) = own-makes s.block (to_set s object (SetBytes place content))
 own-done s object (Authenticate a pin) = refl
