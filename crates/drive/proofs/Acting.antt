@@ -32,7 +32,7 @@ use Rattle.basics.specs.declared.profile.Profile.{Profile}
 use Rattle.sp_cells.specs.Resets.{programmatic}
 use Rattle.history.specs.Opening.{Origin}
 use Rattle.sessions.specs.Deeds.{Begun}
-use Rattle.history.specs.Events.{Deed, Nothing, InSession, OfQueue, QueueMended, Took, WasReset, Event, did}
+use Rattle.history.specs.Events.{Deed, Nothing, InSession, OfQueue, QueueMended, Took, WasReset, BlockedSid, Event, did}
 use Rattle.history.specs.Readers.{waiting, writing}
 use Rattle.history.specs.Facts.{Facts, facts, session_named}
 use Rattle.history.specs.Decisions.{received, aborted}
