@@ -56,6 +56,7 @@ admin_ace_singles =
       ace_tper_info_set_programmatic_reset_enable,
       codes "ACE_TPerInfo_Set_ProgrammaticResetEnable",
     )
+    ∷ (ace_data_removal_set_active, codes "ACE_DataRemovalMechanism_Set_Active")
     ∷ []
 
 -- the ACEs of the Locking SP
