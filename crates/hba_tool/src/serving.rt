@@ -97,6 +97,7 @@ pub fn serve<R: Read + Drop, W: Write>(
     let mut wire = Wire::new(alloc, input, output)?;
     let mut session = Session::new(alloc, drive);
     let status = host_served(&mut session, &mut wire)?;
+    session.end();
     let _ = wire.into_output();
     Ok(status)
 }

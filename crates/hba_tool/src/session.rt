@@ -136,6 +136,9 @@ impl Session {
         }
     }
 
+    /// Lets go of the controller, and of its drive.
+    pub(crate) fn end(self) {}
+
     /// What is said of a register.
     fn word(&self, offset: u32) -> Reply
         ensures { result ≡ says.Word (word_at self.now.hba.registers offset) }

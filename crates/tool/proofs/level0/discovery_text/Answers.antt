@@ -15,8 +15,8 @@ returns-in-Base c =
     ∙ ap (λ (p : Profile). encode_lower (discovery_of p (cells_look_up (factory_contents c.args.config.now)) Free)) (sym c.in-Base.is ∙ c.profile.ensures))
     c.encode.ensures
 
-pub returns-in-Field : goal.returns-in-Field
-returns-in-Field c =
+pub returns : goal.returns
+returns c =
     IfOk-weaker c.encode-in-Field.result _ _
     (λ text is. is ∙ ap encode_lower c.field_discovery.ensures
     ∙ ap (λ t. encode_lower (field_discovery (cells_look_up t) Free)) c.in_ok-tables.ensures

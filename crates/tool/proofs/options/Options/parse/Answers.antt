@@ -57,6 +57,34 @@ returns-in_default-with_names-clause-fault c = (
   search rules,
 )
 
+pub returns-in_default-with_psid-clause-fault : goal.returns-in_default-with_psid-clause-fault
+returns-in_default-with_psid-clause-fault c = (
+  record {
+    sectors = c.in_ok-sectors.sectors;
+    mbr_sectors = c.in_ok-shadow.shadow;
+    msid = c.in-Ok.msid.items;
+    profile = c.in_ok-profile.profile;
+    serial = text_or c.args.texts.now.serial.now new_serial;
+    model = text_or c.args.texts.now.model.now new_model;
+    psid = c.in-Ok-label_in.psid.items;
+    datastore = c.in_ok-datastore.datastore;
+  },
+  record {
+    sectors_written = search rules;
+    shadow_written = search rules;
+    msid_written = search rules;
+    profile_written = search rules;
+    serial_written = refl;
+    model_written = refl;
+    psid_written = search rules;
+    store_written = search rules;
+  },
+  search rules,
+  search rules,
+  search rules,
+  search rules,
+)
+
 pub returns-clause-fault : goal.returns-clause-fault
 returns-clause-fault c = (
   record {
@@ -79,6 +107,7 @@ returns-clause-fault c = (
     psid_written = search rules;
     store_written = search rules;
   },
+  search rules,
   search rules,
   search rules,
   search rules,
