@@ -86,11 +86,11 @@ fn threads<R: Threads + Wait + Sync, W: Write, E: Write>(
 /// Tells a token stream as text, and gives the status.
 fn tokens<W: Write, E: Write>(
     alloc: Global,
-    texts: TokenTexts<'_>,
+    texts: &TokenTexts<'_>,
     output: &mut W,
     faults: &mut E,
 ) -> Result<u8, RunError>
-    ensures { IfOk result (λ status. TokensEnd texts.hex.now texts.naming status
+    ensures { IfOk result (λ status. TokensEnd texts.now.hex.now texts.now.naming status
         (W.contents output.old)
         (W.contents output.new)) }
 {
@@ -148,7 +148,7 @@ pub fn ends<T: Threads + Wait + Sync, R: Read + Drop, W: Write, E: Write>(
         Ok(Some(Request::Run(drive))) => Ok(run(alloc, &drive, input, output, faults)?),
         Ok(Some(Request::Level0(drive))) => Ok(level0(alloc, &drive, output, faults)?),
         Ok(Some(Request::Threads(load))) => Ok(threads(rt, alloc, &load, output, faults)?),
-        Ok(Some(Request::Tokens(texts))) => Ok(tokens(alloc, texts, output, faults)?),
+        Ok(Some(Request::Tokens(texts))) => Ok(tokens(alloc, &texts, output, faults)?),
         Ok(Some(Request::Hba(texts))) => { serve_controller(alloc, &texts, input, output, faults) },
         Ok(None) => Ok(2),
         Err(error) => Ok(tell(&error, output, faults)?),
