@@ -1,0 +1,4 @@
+mod WrittenTrees
+mod Wordings
+mod Holders
+mod RowsLifted

@@ -1,0 +1,4 @@
+pub mod Called
+pub mod Trees
+pub mod Phrases
+pub mod Remedies
