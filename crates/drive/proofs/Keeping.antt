@@ -19,7 +19,7 @@ use Rattle.history.specs.Decisions.{completed}
 use Rattle.history.specs.Tcg.{sent, framed, to_session, to_manager, answers, is_manager}
 use Rattle.history.specs.Opening.{Origin}
 use Rattle.history.specs.Events.{HeldCommand, QueueDeed, Held as HeldDeed, Completed, CompletedWrite, QueueFailed, QueueMended, Deed, Nothing, OfQueue, Wrote, Took, BlockedSid, WasReset, InSession, Event, did, or_else, latest}
-use Rattle.history.specs.Readers.{holding, held, failing, failure, writing, sector}
+use Rattle.history.specs.Readers.{holding, held, in_force, failing, failure, writing, sector}
 use Rattle.history.specs.Facts.{Facts, facts, session_named}
 use Rattle.history.specs.KeptStore.{ReadsStore}
 use Rattle.history.proofs.KeptStoreReads.{store_read_law}
@@ -237,3 +237,7 @@ pub mended-keeps : (d e : DriveState) (o : Origin) (past : List Event) → e ≡
     → KeepsDrive d o past → KeepsDrive e o (did (if is_some (failure past) then OfQueue QueueMended else Nothing) ∷ past)
 mended-keeps d e o past is k =
     subst (λ (x : DriveState). KeepsDrive x o (did (if is_some (failure past) then OfQueue QueueMended else Nothing) ∷ past)) (sym is) (mended-by d o past (failure past) refl k)
+
+-- the rows that are kept are those in force
+pub agreed_rows : (d : DriveState) (o : Origin) (past : List Event) → KeepsDrive d o past → look_up (committed_sight d.tper.store) ≡ in_force o past
+agreed_rows d o past k = (store_read_law d.tper.store o past k.tper.store).rows

@@ -93,7 +93,7 @@ impl Drive {
     ghost use Rattle.history.specs.Facts.{Facts, facts};
     ghost use Rattle.history.specs.History.{Act, Accept, Complete, Reset, log, event};
     ghost use Rattle.history.specs.Resets.{reset_kind_number};
-    ghost use Rattle.history.specs.Readers.{failure as failure_in, held as held_in, waiting};
+    ghost use Rattle.history.specs.Readers.{failure as failure_in, held as held_in, in_force as rows_after_all, waiting};
     ghost use Rattle.tper.specs.Tper.{response_at};
     ghost use Rattle.drive.specs.Queue.{slot_at, held_at, with_slot, failed_queue, mended_queue, SlotFits};
     ghost use Rattle.drive.specs.Transfer.{payload_size_of, held_bytes, sector_then, StandsOnDrive};
@@ -232,6 +232,15 @@ impl Drive {
             → result ≡ is_some (held_in (log o acts) tag) }
     {
         self.held(tag).is_some()
+    }
+
+    /// The rows in force: a transfer is judged by them.
+    pub fn in_force(&self) -> View<'_>
+        ensures stands { result ≡ committed_sight self.now.tper.store }
+        ensures told { (o : Origin) (acts : List Act) → Agrees self.now o acts
+            → look_up result ≡ rows_after_all o (log o acts) }
+    {
+        self.tper.in_force()
     }
 
     /// What the drive knows beside the commands of each drive.
