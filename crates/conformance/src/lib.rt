@@ -3,6 +3,8 @@
 #![tactic(auto)]
 
 #[cfg(test)]
+mod denials;
+#[cfg(test)]
 mod port_steps;
 #[cfg(test)]
 mod queue;

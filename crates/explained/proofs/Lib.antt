@@ -1,0 +1,4 @@
+mod OnsetLaws
+mod Keeping
+mod RestLaws
+mod Noting
