@@ -1,5 +1,5 @@
 -- Who holds no authority fulfils no ACE.
-use Rattle.std.proofs.Common.{◌≡◌, Bool, true, false, ◌&&◌, ◌||◌, List, [], Option, None, Some, refl, sym, ◌∙◌, ap}
+use Rattle.std.proofs.Common.{◌≡◌, true, false, ◌&&◌, ◌||◌, [], Option, None, Some, refl, sym, ◌∙◌, ap}
 use Rattle.basics.specs.declared.profile.Profile.{Profile}
 use Rattle.sp_cells.specs.declared.names.Uid.{Uid}
 use Rattle.sp_cells.specs.declared.names.Sp.{Sp}

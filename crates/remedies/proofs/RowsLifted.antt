@@ -15,7 +15,7 @@ use Rattle.sp_cells.specs.Authorities.{authorities_of_locking}
 use Rattle.sp_cells.specs.Names.{set, sid, psid, admins_class, user_uid, range_uid, mbr_control, ace_sp_sid, ace_sp_psid, ace_authority_set_enabled, ace_locking_admins_set, ace_range_set_read_locked, ace_range_set_write_locked, ace_mbr_control_admins_set, ace_mbr_control_set_done_to_dor}
 use Rattle.sp_cells.specs.ColumnNames.{boolean_expr_column, columns_column, enabled_column, range_start_column, range_length_column, read_locked_column, write_locked_column, mbr_enable_column, mbr_done_column, mbr_done_on_reset_column}
 use Rattle.sp_cells.specs.Flat.{PlacedCell, LookUp, cell_at}
-use Rattle.access_list.specs.Access.{this_sp_grants, owner_grants, label_grants, removal_grants, authority_grants, fixed_ace_gets, user_ace_grants, range_get_ace_grants, gen_key_ace_grants, read_locked_ace_grants, write_locked_ace_grants, done_ace_grants, pin_grants, range_get_grants, range_set_grants, mbr_grants, info_grants, datastore_grants, key_grants}
+use Rattle.access_list.specs.Access.{this_sp_grants, owner_grants, authority_grants, fixed_ace_gets, user_ace_grants, range_get_ace_grants, read_locked_ace_grants, write_locked_ace_grants, done_ace_grants, pin_grants, range_get_grants, range_set_grants, mbr_grants}
 use Rattle.tcg_names.specs.Objects.{object_singles, authority_singles, admin_ace_singles, locking_ace_singles, method_singles, of_numbers, of_ranges, named_objects}
 use Rattle.tcg_names.specs.Columns.{authority_names, locking_names, mbr_control_names}
 use Rattle.audit.specs.declared.reason.AttemptFailure.TheVariants.{WrongPin, LockedOut, Disabled, Blocked, Unknown}
@@ -62,6 +62,9 @@ no_ace_names_it = refl
 shadow : remedy_text Base rows (WriteShadow 7 2) ≡ codes "lifted by: Set of MBRControl Done = 1 by (Admins or User1) and User2 (ACE_MBRControl_Set_DoneToDOR)"
 unfolding this_sp_grants owner_grants authority_grants fixed_ace_gets user_ace_grants range_get_ace_grants read_locked_ace_grants write_locked_ace_grants done_ace_grants pin_grants range_get_grants range_set_grants mbr_grants authorities_of_locking object_singles authority_singles admin_ace_singles locking_ace_singles method_singles of_numbers of_ranges named_objects mbr_control_names digits
 shadow = refl
+
+shadowed_read : remedy_text Base rows (ReadShadow 7 2) ≡ remedy_text Base rows (WriteShadow 7 2)
+shadowed_read = refl
 
 -- a call, by the ACEs that it would need
 call : remedy_text Base rows (NoEntryHolds Locking (range_uid 1) set (Some read_locked_column) (record { items = ace_locking_admins_set ∷ ace_range_set_read_locked 1 ∷ [] })) ≡ codes "lifted by: Admins (ACE_Locking_Admins_RangeStartToLOR), or Admins or User1 (ACE_Locking_Range1_Set_RdLocked)"

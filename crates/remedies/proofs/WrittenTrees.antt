@@ -3,7 +3,7 @@ use Rattle.std.proofs.Common.{◌≡◌, List, [], ◌∷◌, ◌++◌, Option, 
 use Rattle.sp_cells.specs.declared.cells.Element.{Element}
 use Rattle.sp_cells.specs.declared.cells.Element.TheVariants.{Authority, And, Or}
 use Rattle.sp_cells.specs.Expressions.{ExpressionTree, leaf, both, either, postorder}
-use Rattle.remedies.specs.Trees.{grown, trees_behind, lone, tree_written, WrittenTreeLaw}
+use Rattle.remedies.specs.Trees.{trees_behind, lone, tree_written, WrittenTreeLaw}
 
 -- a tree that is written out waits
 written_out : (t : ExpressionTree) (rest : List Element) (ts : List ExpressionTree) → trees_behind (postorder t ++ rest) ts ≡ trees_behind rest (t ∷ ts)
