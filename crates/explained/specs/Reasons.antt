@@ -41,7 +41,8 @@ not_done_text = called_column mbr_control mbr_done_column ++ codes " = 0"
 -- a condition that holds
 unfoldable pub condition_text : Condition → List ℕ
 condition_text (Lock range flag) = set_cell_text (range_uid range) (flag_column flag)
-condition_text Shadow = set_cell_text mbr_control mbr_enable_column ++ codes " and " ++ not_done_text
+condition_text Shadow =
+    set_cell_text mbr_control mbr_enable_column ++ codes " and " ++ not_done_text
 
 -- the column by which a reset brings it into force
 unfoldable pub reset_column_text : Condition → List ℕ
