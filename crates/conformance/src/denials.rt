@@ -1,6 +1,9 @@
 //! What is told of a denied transfer: since which act its locks have been in force, and what would lift it. What is expected
 //! was worked out by hand, from what each row does.
 
+ghost use Rattle.std.specs.Prelude.{◌<◌, ◌^◌, IfSome};
+ghost use Rattle.trusted_cmds.specs.Commands.{lba_of, IsCounted};
+
 use compacket::{Session, frame};
 use drive::{Accepted, Drive, DriveConfig, RangeRow, ResetKind};
 use explained::{Explained, Source};
@@ -141,7 +144,10 @@ fn act(
     command: &Command,
     mut data: Vec<u8>,
     source: Source,
-) -> Result<Accepted, AllocError> {
+) -> Result<Accepted, AllocError>
+    requires address { IfSome (lba_of command.now) (λ lba. lba < 2 ^ 48) }
+    requires counted { IsCounted command.now }
+{
     let fis = to_fis(command, Tag::low_bits(0)).to_bytes();
     let len = drive.drive().payload_len(&fis);
     data.resize(len, 0)?;
@@ -234,7 +240,7 @@ fn is_right(
 fn wrong_row(alloc: Global, rows: &[Row]) -> Result<Option<usize>, Fail> {
     let mut drive = drive(alloc)?;
     for (place, row) in rows.iter().enumerate() {
-        let line = place as u64 + 1;
+        let line = (place as u64).saturating_add(1);
         let source = Source { line, client: 7 };
         if !is_right(alloc, &mut drive, *row, source)? {
             return Ok(Some(place));
