@@ -1,5 +1,5 @@
 -- The first of the features that stand one behind the other, and those behind it.
-use Rattle.std.proofs.Common.{◌≡◌, ◌∙◌, ◌==◌, ℕ, zero, suc, ◌+◌, ◌-◌, ◌<◌, ◌++◌, Bool, true, false, List, [], ◌∷◌, length, take, drop, Option, Some, None, refl, ap, sym, arith, eqb-true, append_assoc}
+use Rattle.std.proofs.Common.{◌≡◌, ◌∙◌, ◌==◌, ℕ, zero, suc, ◌-◌, ◌++◌, true, false, List, [], ◌∷◌, length, take, drop, Some, None, refl, ap, sym, arith, eqb-true, append_assoc}
 use Rattle.decoded.specs.Faults.{BytesFault, earlier}
 use Rattle.decoded.specs.Features.{features_in, feature_size, feature_lines, features_lines, feature_fault, features_fault}
 

@@ -1,6 +1,6 @@
 -- Level 0 discovery (Core 2.01, section 3.3.6): a header of 48 bytes, and one feature behind the other. A feature has its
 -- code, its version in the upper half of a byte, the length of what follows, and that. Numbers have the highest byte first.
-use Rattle.std.specs.Prelude.{ℕ, zero, suc, ◌+◌, ◌-◌, ◌*◌, ◌==◌, List, [], ◌∷◌, ◌++◌, length, take, drop, slice_index, Option, None, Some, codes, if◌then◌else◌}
+use Rattle.std.specs.Prelude.{ℕ, zero, suc, ◌+◌, ◌-◌, ◌*◌, ◌==◌, List, [], ◌∷◌, ◌++◌, take, drop, slice_index, Option, None, Some, codes, if◌then◌else◌}
 use Rattle.byteorder.specs.Endian.{big_number}
 use Rattle.decoded.specs.declared.field.Form.TheVariants.{Decimal, Hex, Flag, High}
 use Rattle.decoded.specs.declared.level0.Feature.{Feature}

@@ -1,6 +1,6 @@
 -- Fields of structures in bytes, and the lines that tell them. A line has the name that the standard gives the field, a
 -- blank, and the value: a count in decimal, a code or bits as 0x and hex, a flag as 0 or 1, a text between quotes.
-use Rattle.std.specs.Prelude.{ℕ, zero, suc, ◌+◌, ◌*◌, ◌/◌, ◌==◌, Bool, false, ◌&&◌, ◌||◌, nat_le, bit_and, List, [], ◌∷◌, ◌++◌, length, map, slice_index, Option, None, Some, codes, decimal, if◌then◌else◌}
+use Rattle.std.specs.Prelude.{ℕ, zero, suc, ◌+◌, ◌/◌, ◌==◌, Bool, false, ◌&&◌, ◌||◌, nat_le, bit_and, List, [], ◌∷◌, ◌++◌, length, map, slice_index, Option, None, Some, codes, decimal, if◌then◌else◌}
 use Rattle.byteorder.specs.Endian.{big_number}
 use Rattle.hex.specs.Hex.{encode_lower}
 use Rattle.decoded.specs.declared.field.Form.{Form}

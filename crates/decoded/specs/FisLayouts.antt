@@ -1,10 +1,11 @@
 -- Frame information structures (Serial ATA, "FIS types"): what stands where, the lowest byte of a number first. Bits that a
 -- type reserves are 0; in a host's register FIS they may have any value.
-use Rattle.std.specs.Prelude.{ℕ, ◌+◌, ◌==◌, bit_and, List, [], ◌∷◌, ◌++◌, length, slice_index, Option, None, Some, option_map, codes, if◌then◌else◌}
+use Rattle.std.specs.Prelude.{ℕ, ◌==◌, bit_and, List, [], ◌∷◌, ◌++◌, slice_index, Option, None, Some, option_map, codes, if◌then◌else◌}
+use Rattle.fis.specs.Types.{h2d_type, h2d_length, d2h_type, d2h_length, set_device_bits_type, set_device_bits_length, dma_setup_type, dma_setup_length, pio_setup_type, pio_setup_length}
 use Rattle.decoded.specs.declared.field.Form.TheVariants.{Decimal, Hex, Flag, Low}
 use Rattle.decoded.specs.declared.fis.Layout.{Layout}
 use Rattle.decoded.specs.Fields.{FieldRow, field, rows_of, little_endian, field_line, row_lines}
-use Rattle.decoded.specs.Faults.{BytesFault, cut_in, unknown_type, reserved_in, earlier, fields_fault, size_fault}
+use Rattle.decoded.specs.Faults.{BytesFault, unknown_type, reserved_in, earlier, fields_fault, size_fault}
 
 -- the sector, of which the upper half stands behind Device
 abbrev pub lba_places : List ℕ
@@ -117,13 +118,17 @@ layout_said layout =
 -- the layout of a type, by the first byte
 abbrev pub layout_of : ℕ → Option FisLayout
 layout_of kind =
-    if kind == 0x27 then Some (laid_out (codes "RegisterHostToDevice") 20 host_fields []) else
-    if kind == 0x34
-    then Some (laid_out (codes "RegisterDeviceToHost") 20 device_fields device_reserved) else
-    if kind == 0xa1
-    then Some (laid_out (codes "SetDeviceBits") 8 device_bits_fields device_bits_reserved) else
-    if kind == 0x41 then Some (laid_out (codes "DMASetup") 28 dma_fields dma_reserved) else
-    if kind == 0x5f then Some (laid_out (codes "PIOSetup") 20 pio_fields pio_reserved) else
+    if kind == h2d_type
+    then Some (laid_out (codes "RegisterHostToDevice") h2d_length host_fields []) else
+    if kind == d2h_type
+    then Some (laid_out (codes "RegisterDeviceToHost") d2h_length device_fields device_reserved) else
+    if kind == set_device_bits_type
+    then Some (laid_out (codes "SetDeviceBits") set_device_bits_length device_bits_fields
+    device_bits_reserved) else
+    if kind == dma_setup_type
+    then Some (laid_out (codes "DMASetup") dma_setup_length dma_fields dma_reserved) else
+    if kind == pio_setup_type
+    then Some (laid_out (codes "PIOSetup") pio_setup_length pio_fields pio_reserved) else
     None
 
 -- the first byte in which a reserved bit is set

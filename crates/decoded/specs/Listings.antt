@@ -2,7 +2,6 @@
 -- General Purpose Log Directory), and of the IDENTIFY DEVICE data log the pages that a list names, and the quadwords of a
 -- page that are not 0. Words and quadwords have the lowest byte first.
 use Rattle.std.specs.Prelude.{ℕ, zero, suc, ◌+◌, ◌*◌, ◌==◌, Bool, ◌&&◌, ◌||◌, nat_le, List, [], ◌∷◌, ◌++◌, slice_index, codes, decimal, if◌then◌else◌}
-use Rattle.hex.specs.Hex.{encode_lower}
 use Rattle.decoded.specs.declared.listing.Listing.{Listing}
 use Rattle.decoded.specs.declared.listing.Listing.TheVariants.{Words, Logs, Pages, Qwords}
 use Rattle.decoded.specs.Fields.{octets_number, prefixed_hex, field_line}

@@ -1,6 +1,6 @@
 //! What an ATA device says of itself: IDENTIFY DEVICE (ACS-3, section 7.12), and pages of logs (ACS-3, annex A).
 
-ghost use Rattle.std.specs.Prelude.{◌≡◌, ◌%◌, ◌==◌, ◌++◌, OnOk, slice_index};
+ghost use Rattle.std.specs.Prelude.{◌≡◌, ◌%◌, ◌==◌, ◌++◌, OnOk};
 ghost use Rattle.decoded.specs.Fields.{rows_of};
 ghost use Rattle.decoded.specs.Faults.{Checks};
 ghost use Rattle.decoded.specs.DeviceFields.{identify_fields, byte_sum, has_sum, sum_text, integrity_text, identify_fault, identify_lines, queued_error_fields, queued_error_fault, queued_error_lines, directory_fields, directory_fault, directory_lines, data_page_fields, page_list_fields, security_page_fields, data_page_fault, page_content_lines, data_page_lines};

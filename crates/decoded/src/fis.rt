@@ -1,6 +1,6 @@
 //! Frame information structures (Serial ATA, "FIS types").
 
-ghost use Rattle.std.specs.Prelude.{◌≡◌, ◌++◌, OnOk, MatchOption, Some, None, slice_index};
+ghost use Rattle.std.specs.Prelude.{◌≡◌, ◌++◌, OnOk, MatchOption, Some, None};
 ghost use Rattle.decoded.specs.Faults.{Checks};
 ghost use Rattle.decoded.specs.FisLayouts.{layout_said, layout_of, reserved_place, reserved_fault, layout_fault, fis_fault, fis_lines};
 

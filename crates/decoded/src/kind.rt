@@ -1,6 +1,6 @@
 //! What bytes are, and what is told of them.
 
-ghost use Rattle.std.specs.Prelude.{◌≡◌, ◌⊎◌, IfOk, IfErr, None, Some};
+ghost use Rattle.std.specs.Prelude.{◌≡◌, IfOk};
 ghost use Rattle.decoded.specs.Faults.{Checks};
 ghost use Rattle.decoded.specs.Decodings.{kind_called, kind_fault, kind_lines};
 

@@ -1,6 +1,6 @@
 //! Level 0 discovery (Core 2.01, section 3.3.6; Opal SSC 2.01, section 3.1.1).
 
-ghost use Rattle.std.specs.Prelude.{◌≡◌, ◌+◌, ◌≤◌, ◌++◌, OnOk, MatchOption, Some, None};
+ghost use Rattle.std.specs.Prelude.{◌≡◌, ◌++◌, OnOk, MatchOption, Some, None};
 ghost use Rattle.decoded.specs.Fields.{rows_of};
 ghost use Rattle.decoded.specs.Faults.{Checks};
 ghost use Rattle.decoded.specs.Features.{level0_fields, feature_fields, feature_row, feature_of, feature_code, feature_size, features_in, feature_lines, features_lines, feature_fault, features_fault, fault_of_known, level0_size, level0_features, level0_fault, level0_lines};

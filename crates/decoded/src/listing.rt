@@ -1,7 +1,7 @@
 //! Lists of like lines: words, logs, pages and quadwords.
 
 ghost use Rattle.std.specs.Prelude.{◌≡◌, ◌≤◌, ◌<◌, ◌++◌, OnOk};
-ghost use Rattle.decoded.specs.Listings.{lines_below, word_octets, qword_octets, is_in_text, word_line, log_pages_line, supported_page_line, qword_line, listing_line, listing_lines};
+ghost use Rattle.decoded.specs.Listings.{word_octets, qword_octets, is_in_text, word_line, log_pages_line, supported_page_line, qword_line, listing_line, listing_lines};
 
 use crate::field::{append_decimal, append_hex, append_hex_line, byte_at, number};
 use std::alloc::{AllocError, Global};

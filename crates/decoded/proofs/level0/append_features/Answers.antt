@@ -1,4 +1,4 @@
-use Rattle.std.proofs.Common.{◌≡◌, ◌∙◌, ◌++◌, ap, sym, take, drop, append-nil}
+use Rattle.std.proofs.Common.{◌∙◌, ◌++◌, ap, sym, take, drop, append-nil}
 use Rattle.decoded.specs.Features.{features_lines, features_in}
 use Rattle.decoded.proofs.NextFeature.{none_left, lines_next}
 use Rattle.decoded.proofs.level0.append_features.Goals as goal

@@ -1,5 +1,5 @@
-use Rattle.std.proofs.Common.{◌≡◌, ◌∙◌, ◌++◌, ap, sym, append_assoc, append-nil}
-use Rattle.decoded.specs.Listings.{listing_line, lines_below}
+use Rattle.std.proofs.Common.{◌∙◌, ◌++◌, ap, sym, append_assoc, append-nil}
+use Rattle.decoded.specs.Listings.{listing_line}
 use Rattle.decoded.proofs.Below.{no_lines, lines_below_next}
 use Rattle.decoded.proofs.listing.append_listing.Goals as goal
 
