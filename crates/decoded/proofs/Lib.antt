@@ -1,0 +1,2 @@
+mod NextFeature
+mod Below
