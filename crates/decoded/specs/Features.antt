@@ -21,7 +21,7 @@ feature_fields =
     ∷ field (codes "Length") (big_endian 3 1) Decimal
     ∷ []
 
--- TPer (Core 2.01, section 3.3.6.4)
+-- TPer (Opal SSC 2.01, section 3.1.1.2)
 unfoldable pub tper_fields : List FieldRow
 tper_fields =
     field (codes "SyncSupported") (big_endian 4 1) (Flag 0x01)
@@ -32,7 +32,7 @@ tper_fields =
     ∷ field (codes "ComIDManagementSupported") (big_endian 4 1) (Flag 0x40)
     ∷ []
 
--- Locking (Core 2.01, section 3.3.6.5)
+-- Locking (Opal SSC 2.01, section 3.1.1.3)
 unfoldable pub locking_fields : List FieldRow
 locking_fields =
     field (codes "LockingSupported") (big_endian 4 1) (Flag 0x01)

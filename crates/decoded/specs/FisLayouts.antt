@@ -121,7 +121,8 @@ layout_of kind =
     if kind == h2d_type
     then Some (laid_out (codes "RegisterHostToDevice") h2d_length host_fields []) else
     if kind == d2h_type
-    then Some (laid_out (codes "RegisterDeviceToHost") d2h_length device_fields device_reserved) else
+    then Some (laid_out (codes "RegisterDeviceToHost") d2h_length device_fields
+    device_reserved) else
     if kind == set_device_bits_type
     then Some (laid_out (codes "SetDeviceBits") set_device_bits_length device_bits_fields
     device_bits_reserved) else

@@ -8,7 +8,7 @@ use Rattle.tool.specs.OptionTexts.{DriveText, drive_text}
 use Rattle.tool.specs.declared.tokens.Naming.{Naming}
 use Rattle.tool.specs.declared.tokens.Naming.TheVariants.{Numbers, Names}
 use Rattle.opalport.specs.declared.command_line.Request.{Request}
-use Rattle.opalport.specs.declared.command_line.Request.TheVariants.{Run, Level0, Threads, Tokens, Hba}
+use Rattle.opalport.specs.declared.command_line.Request.TheVariants.{Run, Level0, Threads, Tokens, Decode, Hba}
 
 -- `--name TEXT`, and the text that stands for it where it is left out
 abbrev pub option_rule : Text → Text → Rule
@@ -70,6 +70,16 @@ tokens_line =
     with_rule (with_rule (new_app (codes "tokens")) (required_rule (codes "hex")))
     (flag_rule (codes "names"))
 
+-- an argument that may be left out
+abbrev pub optional_rule : Text → Rule
+optional_rule name = record (new_rule name) { value_names = 1 }
+
+-- `decode KIND HEX`, of which HEX may be left out
+abbrev pub decode_line : App
+decode_line =
+    with_rule (with_rule (new_app (codes "decode")) (required_rule (codes "kind")))
+    (optional_rule (codes "hex"))
+
 -- settings of a program that has a version, and wants one of its commands
 abbrev pub wants_command : Shape → Shape
 wants_command s =
@@ -79,16 +89,17 @@ wants_command s =
 abbrev pub top_line : App
 top_line = on_top wants_command (new_app (codes "opalport"))
 
--- the program takes one of the five, and nothing else
+-- the program takes one of the six, and nothing else
 abbrev pub opalport_line : App
 opalport_line =
     with_subcommand
     (with_subcommand
     (with_subcommand
     (with_subcommand
+    (with_subcommand
     (with_subcommand top_line
     (drive_line (codes "run")).top) (drive_line (codes "level0")).top) threads_line.top)
-    tokens_line.top) hba_line.top
+    tokens_line.top) decode_line.top) hba_line.top
 
 -- what words ask for, by the texts as they are written
 pub data Wanted : Type 0 where
@@ -96,6 +107,7 @@ pub data Wanted : Type 0 where
   level0 : DriveText → Wanted
   threads : Text → Text → Wanted
   tokens : Text → Naming → Wanted
+  decode : Text → Text → Wanted
   hba : DriveText → List Text → Wanted
 
 -- what a request asks for
@@ -104,6 +116,7 @@ wanted_by (Run drive) = run (drive_text drive)
 wanted_by (Level0 drive) = level0 (drive_text drive)
 wanted_by (Threads load) = threads load.clients.now load.rounds.now
 wanted_by (Tokens tokens_asked) = tokens tokens_asked.hex.now tokens_asked.naming
+wanted_by (Decode texts) = decode texts.kind.now texts.hex.now
 wanted_by (Hba texts) = hba (drive_text texts.drive) (map (λ s. s.now) texts.ranges.items)
 
 -- the text of an argument; one that is required or has a default has one, and any other may be empty
@@ -141,6 +154,8 @@ asked_of (name, rows) =
     then Some (threads (text_of (codes "clients") rows) (text_of (codes "rounds") rows))
     else if bytes_eq name (codes "tokens")
     then Some (tokens (text_of (codes "hex") rows) (naming_in rows))
+    else if bytes_eq name (codes "decode")
+    then Some (decode (text_of (codes "kind") rows) (text_of (codes "hex") rows))
     else if bytes_eq name (codes "hba") then Some (hba (drive_in rows) (range_texts rows))
     else None
 

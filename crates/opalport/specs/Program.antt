@@ -12,13 +12,14 @@ use Rattle.tool.specs.Outcomes.{ScriptYields}
 use Rattle.tool.specs.Level0.{level0_text}
 use Rattle.tool.specs.TokenLines.{token_text}
 use Rattle.tool.specs.declared.tokens.Naming.{Naming}
+use Rattle.decoded.specs.Decodings.{DecodeEnds}
 use Rattle.hba_tool.specs.Openings.{option_rows, IsFaultOf}
 use Rattle.hba_tool.specs.Steps.{ServesOpened}
 use Rattle.hba_tool.specs.declared.opening.RangeFault.{RangeFault}
 use Rattle.clap.specs.Words.{IsAmong, Kinds, Text, fault_of}
 use Rattle.clap.specs.declared.error.kind.ErrorKind.{ErrorKind}
 use Rattle.clap.specs.declared.error.kind.ErrorKind.TheVariants.{DisplayHelp, DisplayVersion}
-use Rattle.opalport.specs.CommandLine.{Wanted, run, level0, threads, tokens, hba, asked_by, opalport_line}
+use Rattle.opalport.specs.CommandLine.{Wanted, run, level0, threads, tokens, decode, hba, asked_by, opalport_line}
 
 -- the texts write a configuration within the limits
 abbrev pub WritesLimitedConfig : DriveText → Type 0
@@ -94,6 +95,8 @@ Serves remaining contents (Some (threads clients rounds)) input status old new =
     ThreadsEnd clients rounds status old new
 Serves remaining contents (Some (tokens hex naming)) input status old new =
     TokensEnd hex naming status old new
+Serves remaining contents (Some (decode kind hex)) input status old new =
+    DecodeEnds kind hex input status old new
 Serves remaining contents (Some (hba texts ranges)) input status old new =
     HbaEnds remaining contents texts ranges input status old new
 

@@ -3,9 +3,10 @@
 ghost use Rattle.std.specs.Prelude.{◌≡◌, IfOk, false, map, option_map, option_and_then, string_bytes, codes};
 ghost use Rattle.clap.specs.Words.{FailsBy, app_of, fault_of, found_of, rows_of, rule_of, subcommand_rows_of};
 ghost use Rattle.tool.specs.OptionTexts.{drive_text};
-ghost use Rattle.opalport.specs.CommandLine.{top_line, option_rule, free_rule, required_rule, flag_rule, drive_line, drive_in, hba_line, range_rule, range_texts, threads_line, tokens_line, opalport_line, text_of, naming_in, wanted_by, asked_of, asked_by};
+ghost use Rattle.opalport.specs.CommandLine.{top_line, option_rule, free_rule, required_rule, flag_rule, drive_line, drive_in, hba_line, range_rule, range_texts, optional_rule, threads_line, tokens_line, decode_line, opalport_line, text_of, naming_in, wanted_by, asked_of, asked_by};
 
 use crate::controller_help::LINES as CONTROLLER_LINES;
+use crate::decode_help::KINDS;
 use clap::{Arg, ArgAction, ArgMatches, Command, Error};
 use std::alloc::{AllocError, Global};
 use tool::{DriveTexts, Naming};
@@ -32,6 +33,15 @@ pub struct TokenTexts<'a> {
     pub naming: Naming,
 }
 
+/// Bytes that are to be told as the lines of their fields.
+#[derive(Clone, Copy)]
+pub struct DecodeTexts<'a> {
+    /// What they are.
+    pub kind: &'a str,
+    /// The bytes, in hex; empty where the input has them.
+    pub hex: &'a str,
+}
+
 /// What a command line asks for.
 #[derive(Drop)]
 pub enum Request<'a> {
@@ -43,6 +53,8 @@ pub enum Request<'a> {
     Threads(LoadTexts<'a>),
     /// To tell a token stream, written in hex, as text.
     Tokens(TokenTexts<'a>),
+    /// To tell the fields of bytes, written in hex.
+    Decode(DecodeTexts<'a>),
     /// To serve a host as a controller.
     Hba(HbaTexts<'a>),
 }
@@ -197,6 +209,19 @@ fn required<'a>(
         .help(help)
 }
 
+/// An argument that may be left out.
+fn optional<'a>(
+    alloc: Global,
+    name: &'static str,
+    value: &'static str,
+    help: &'static str,
+) -> Arg<'a>
+    ensures rule { rule_of result ≡ optional_rule name.now }
+    ensures local { result.global ≡ false }
+{
+    Arg::new(alloc, name).value_name(value).help(help)
+}
+
 /// An option without a value.
 fn flag<'a>(alloc: Global, name: &'static str, help: &'static str) -> Arg<'a>
     ensures rule { rule_of result ≡ flag_rule name.now }
@@ -222,6 +247,24 @@ fn tokens_command<'a>(alloc: Global) -> Result<Command<'a>, AllocError>
         .about("Tells the item that a token stream spells, or what is wrong with it")
         .arg(hex)?
         .arg(names)
+}
+
+/// The command that tells bytes as the lines of their fields.
+fn decode_command<'a>(alloc: Global) -> Result<Command<'a>, AllocError>
+    ensures { IfOk result (λ command. app_of command ≡ decode_line) }
+{
+    let kind = required(alloc, "kind", "KIND", "What the bytes are");
+    let hex = optional(
+        alloc,
+        "hex",
+        "HEX",
+        "The bytes, in hex; without it they are read from standard input",
+    );
+    Command::new(alloc, "decode")
+        .about("Tells the fields of bytes, a line for each")
+        .after_help(KINDS)
+        .arg(kind)?
+        .arg(hex)
 }
 
 /// The option that gives a range, as often as there are ranges.
@@ -275,6 +318,7 @@ fn command<'a>(alloc: Global) -> Result<Command<'a>, AllocError>
         )?)?
         .subcommand(threads_command(alloc)?)?
         .subcommand(tokens_command(alloc)?)?
+        .subcommand(decode_command(alloc)?)?
         .subcommand(hba_command(alloc)?)
 }
 
@@ -329,6 +373,17 @@ fn token_texts<'a>(matches: &ArgMatches<'a>) -> TokenTexts<'a>
     }
 }
 
+/// The bytes that are to be told, and what they are.
+fn decode_texts<'a>(matches: &ArgMatches<'a>) -> DecodeTexts<'a>
+    ensures kind { result.kind.now ≡ text_of (codes "kind") (rows_of (found_of matches.now)) }
+    ensures hex { result.hex.now ≡ text_of (codes "hex") (rows_of (found_of matches.now)) }
+{
+    DecodeTexts {
+        kind: text_of(matches, "kind"),
+        hex: text_of(matches, "hex"),
+    }
+}
+
 /// The options of a controller's drive.
 fn hba_texts<'a>(alloc: Global, matches: &ArgMatches<'a>) -> Result<HbaTexts<'a>, AllocError>
     ensures drive { IfOk result (λ texts. drive_text texts.drive
@@ -357,6 +412,7 @@ fn request_in<'a>(
         "level0" => Ok(Some(Request::Level0(drive_texts(matches)))),
         "threads" => Ok(Some(Request::Threads(load_texts(matches)))),
         "tokens" => Ok(Some(Request::Tokens(token_texts(matches)))),
+        "decode" => Ok(Some(Request::Decode(decode_texts(matches)))),
         "hba" => {
             let texts = hba_texts(alloc, matches)?;
             Ok(Some(Request::Hba(texts)))

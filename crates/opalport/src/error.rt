@@ -1,5 +1,6 @@
 //! Why the program comes to no status of its own.
 
+use decoded::DecodeError;
 use hba_tool::WireError;
 use port_threads::LoadError;
 use thiserror::Error;
@@ -10,6 +11,8 @@ use tool::RunError;
 pub(crate) enum ProgramError {
     #[error(transparent)]
     Run(#[from] RunError),
+    #[error(transparent)]
+    Decode(#[from] DecodeError),
     #[error(transparent)]
     Hba(#[from] WireError),
     #[error(transparent)]

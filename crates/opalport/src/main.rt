@@ -4,6 +4,7 @@
 mod command_line;
 mod controller;
 mod controller_help;
+mod decode_help;
 mod error;
 mod program;
 

@@ -9,6 +9,7 @@ use crate::command_line::{LoadTexts, Request, TokenTexts, request_of};
 use crate::controller::serve_controller;
 use crate::error::ProgramError;
 use clap::error::ErrorKind;
+use decoded::run_decode;
 use port_threads::{Load, LoadError, run_load};
 use std::alloc::Global;
 use std::io::{Read, Write};
@@ -149,6 +150,10 @@ pub fn ends<T: Threads + Wait + Sync, R: Read + Drop, W: Write, E: Write>(
         Ok(Some(Request::Level0(drive))) => Ok(level0(alloc, &drive, output, faults)?),
         Ok(Some(Request::Threads(load))) => Ok(threads(rt, alloc, &load, output, faults)?),
         Ok(Some(Request::Tokens(texts))) => Ok(tokens(alloc, &texts, output, faults)?),
+        Ok(Some(Request::Decode(texts))) => {
+            let status = run_decode(alloc, texts.kind, texts.hex, input, output, faults)?;
+            Ok(status)
+        }
         Ok(Some(Request::Hba(texts))) => { serve_controller(alloc, &texts, input, output, faults) },
         Ok(None) => Ok(2),
         Err(error) => Ok(tell(&error, output, faults)?),

@@ -20,5 +20,8 @@ returns c =
     let with_threads = c.in_ok-subcommand-3.ensures.shape threads_plain.globals ∙ ap₂ with_subcommand with_level0 (ap (λ (a : App). a.top) threads_line) in
     let hba_line = c.in_ok-hba_command.ensures in
     let hba_plain = plain_fields c.in_ok-hba_command.field-0 (ap (λ (a : App). a.top.is_plain) hba_line) in
+    let decode_line = c.in_ok-decode_command.ensures in
+    let decode_plain = plain_fields c.in_ok-decode_command.field-0 (ap (λ (a : App). a.top.is_plain) decode_line) in
     let with_tokens = c.in_ok-subcommand-4.ensures.shape tokens_plain.globals ∙ ap₂ with_subcommand with_threads (ap (λ (a : App). a.top) tokens_line) in
-    IfOk-weaker c.subcommand-5.result _ _ (λ command adds. adds.shape hba_plain.globals ∙ ap₂ with_subcommand with_tokens (ap (λ (a : App). a.top) hba_line)) c.subcommand-5.ensures
+    let with_decode = c.in_ok-subcommand-5.ensures.shape decode_plain.globals ∙ ap₂ with_subcommand with_tokens (ap (λ (a : App). a.top) decode_line) in
+    IfOk-weaker c.subcommand-6.result _ _ (λ command adds. adds.shape hba_plain.globals ∙ ap₂ with_subcommand with_decode (ap (λ (a : App). a.top) hba_line)) c.subcommand-6.ensures

@@ -26,3 +26,9 @@ returns-in-tokens c =
     let entered : subcommand_rows_of c.args.matches.now ≡ Some (c.in-Some.name.now, rows_of (found_of c.in-Some.matches.now)) =
     entered_as _ _ _ _ _ c.in-Some.ensures.name c.in-Some.ensures.rows in
     rw (entered, c.in-tokens.is) (cc)
+
+pub returns-in-decode : goal.returns-in-decode
+returns-in-decode c =
+    let entered : subcommand_rows_of c.args.matches.now ≡ Some (c.in-Some.name.now, rows_of (found_of c.in-Some.matches.now)) =
+    entered_as _ _ _ _ _ c.in-Some.ensures.name c.in-Some.ensures.rows in
+    rw (entered, c.in-decode.is) (cc)
