@@ -3,7 +3,7 @@
 use Rattle.std.specs.Prelude.{ℕ, ◌==◌, bit_and, List, [], ◌∷◌, ◌++◌, slice_index, Option, None, Some, option_map, codes, if◌then◌else◌}
 use Rattle.fis.specs.Types.{h2d_type, h2d_length, d2h_type, d2h_length, set_device_bits_type, set_device_bits_length, dma_setup_type, dma_setup_length, pio_setup_type, pio_setup_length}
 use Rattle.decoded.specs.declared.field.Form.TheVariants.{Decimal, Hex, Flag, Low}
-use Rattle.decoded.specs.declared.fis.Layout.{Layout}
+use Rattle.decoded.specs.declared.fis_fields.Layout.{Layout}
 use Rattle.decoded.specs.Fields.{FieldRow, field, rows_of, little_endian, field_line, row_lines}
 use Rattle.decoded.specs.Faults.{BytesFault, unknown_type, reserved_in, earlier, fields_fault, size_fault}
 

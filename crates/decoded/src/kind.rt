@@ -10,7 +10,7 @@ use crate::device::{
     check_directory, check_identify, check_queued_error,
 };
 use crate::fault::DecodeFault;
-use crate::fis::{append_fis, check_fis};
+use crate::fis_fields::{append_fis, check_fis};
 use crate::level0::{append_level0, check_level0};
 use std::alloc::{AllocError, Global};
 

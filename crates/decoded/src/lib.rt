@@ -5,7 +5,7 @@ mod com_packet;
 mod device;
 mod fault;
 mod field;
-mod fis;
+mod fis_fields;
 mod kind;
 mod level0;
 mod listing;
