@@ -125,6 +125,8 @@ Behind a first line `port` the lines are steps of an AHCI port, with range and e
   reset C K                         client C resets the port and the drive
   take C T                          client C takes its answer; the slot is free
 
+A script whose first byte is # may hold comments, which are lines that begin with #, and blank lines.
+
 Status: 0 done, 1 an expectation failed, 2 a bad line, bad usage or an error";
 
 /// A command that opens a drive, with the options that say which.

@@ -7,6 +7,7 @@ pub mod Groups
 pub mod Lines
 pub mod Texts
 pub mod PortLines
+pub mod Remarks
 pub mod Spellings
 pub mod Says
 pub mod PortSays

@@ -17,7 +17,8 @@ use Rattle.script_lines.specs.declared.report.Report.{Report}
 use Rattle.tool.specs.Courses.{Course, OnDrive, OnPort, Advances, DriveSteps, PhaseRunsOn, course_step, goes_on_drive, on_port, line_course, step_by, port_step, port_step_by}
 use Rattle.tool.specs.Effects.{LineEffect, RunsOn, Has, GoesTruly, Does}
 use Rattle.tool.specs.PortEffects.{PortEffect, PortRunsOn, PortHas, PortDoes}
-use Rattle.tool.specs.Progress.{Steps}
+use Rattle.tool.specs.Progress.{Steps, step_or_skip}
+use Rattle.tool.specs.Scripts.{is_skipped}
 use Rattle.tool.specs.declared.ending.Fault.TheVariants as faults
 use Rattle.tool.specs.declared.phase.Phase.{Phase}
 use Rattle.tool.specs.declared.phase.Phase.TheVariants as phases
@@ -247,3 +248,35 @@ port-turn (Ok turn) phase old new text before after is does =
     by-course o (OnDrive acts) runs = absurd runs
     by-course o (OnPort list) runs = does o list runs
 port-turn (Err e) phase old new text before after is does = does
+
+-- a line that is skipped does nothing
+pub skip-steps : (remarks : Bool) (phase : Phase) (o : Origin) (course : Course) (text : List ℕ)
+    (report : Report) → is_skipped remarks text ≡ true → PhaseRunsOn phase o course
+    → Steps (turns.Goes false) (step_or_skip remarks o course report.last.items text) phase o report report
+skip-steps remarks phase o course text report skipped runs =
+    subst
+    (λ (b : Bool). Steps (turns.Goes false)
+    (if b then Ok (record { course = course; lines = [] })
+    else course_step o course report.last.items text) phase o report report)
+    (sym skipped) (record {
+      runs = runs;
+      prints = record { pending = sym (append-nil report.pending.items); last = refl };
+    })
+
+-- any other line makes its step
+pub line-steps : {E : Type 0} (r : Result Turn E) (remarks : Bool) (old new : Phase) (text : List ℕ)
+    (before after : Report) → is_skipped remarks text ≡ false
+    → IfOk r
+    (λ turn. (o : Origin) (course : Course) → PhaseRunsOn old o course
+    → Steps turn (course_step o course before.last.items text) new o before after)
+    → IfOk r
+    (λ turn. (o : Origin) (course : Course) → PhaseRunsOn old o course
+    → Steps turn (step_or_skip remarks o course before.last.items text) new o before after)
+line-steps r remarks old new text before after stays steps =
+    subst
+    (λ (b : Bool). IfOk r
+    (λ turn. (o : Origin) (course : Course) → PhaseRunsOn old o course
+    → Steps turn
+    (if b then Ok (record { course = course; lines = [] })
+    else course_step o course before.last.items text) new o before after))
+    (sym stays) steps

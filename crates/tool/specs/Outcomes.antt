@@ -8,7 +8,7 @@ use Rattle.history.specs.Opening.{Origin, row_fault, with_range}
 use Rattle.script_lines.specs.PortLines.{is_port_line}
 use Rattle.script_lines.specs.Texts.{last_of, printed}
 use Rattle.script_lines.specs.declared.fault.LineFault.{LineFault}
-use Rattle.tool.specs.Scripts.{script_lines}
+use Rattle.tool.specs.Scripts.{script_lines, effective_lines}
 use Rattle.tool.specs.Openings.{origin_of, base_of, row_said}
 use Rattle.tool.specs.Courses.{Course, Advance, course_step, start}
 use Rattle.tool.specs.declared.opening.OpeningPhase.{OpeningPhase}
@@ -65,16 +65,17 @@ outcome_from on_port phase (text ∷ texts) =
     opened (λ next. outcome_from on_port next texts)
     (outcome_on (origin_of phase) (start on_port) [] (text ∷ texts)) phase (row_said on_port text)
 
--- what the lines of a script come to: behind the line `port` stand those of a port script
+-- what lines come to: behind the line `port` stand those of a port script
 abbrev pub outcome_of_lines : Config → List (List ℕ) → RunOutcome
 outcome_of_lines config [] = ends 0
 outcome_of_lines config (first ∷ texts) =
     if is_port_line first then outcome_from true (Factory config) texts
     else outcome_from false (Factory config) (first ∷ texts)
 
--- what a script comes to on a drive of this configuration
+-- what a script comes to on a drive of this configuration: in a script whose first line begins with
+-- `#`, a remark does nothing
 abbrev pub run_outcome_of : Config → List ℕ → RunOutcome
-run_outcome_of config text = outcome_of_lines config (script_lines text)
+run_outcome_of config text = outcome_of_lines config (effective_lines (script_lines text))
 
 -- this is the status, and the lines are written behind what was written before
 abbrev pub Yields : RunOutcome → ℕ → Option (List ℕ) → Option (List ℕ) → Type 0

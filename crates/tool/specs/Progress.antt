@@ -1,13 +1,13 @@
 -- How far a run of a script has come, within the program.
-use Rattle.std.specs.Prelude.{◌≡◌, ℕ, Bool, List, [], ◌∷◌, ◌++◌, Option, None, Some, IfSome, Result, Ok, Err}
+use Rattle.std.specs.Prelude.{◌≡◌, ℕ, Bool, false, if◌then◌else◌, List, [], ◌++◌, Option, None, Some, IfSome, Result, Ok, Err}
 use Rattle.std.specs.Io.KnownBytes.{Appends}
 use Rattle.sp_cells.specs.Config.{Config}
 use Rattle.history.specs.Opening.{Origin}
 use Rattle.script_lines.specs.Texts.{printed}
 use Rattle.script_lines.specs.declared.report.Report.{Report}
-use Rattle.tool.specs.Scripts.{bare, script_lines}
+use Rattle.tool.specs.Scripts.{bare, script_lines, is_skipped, effective_lines, lines_from, without_remarks}
 use Rattle.tool.specs.Ends.{exit_status}
-use Rattle.tool.specs.Courses.{Course, Advance, Advances, PhaseRunsOn, start}
+use Rattle.tool.specs.Courses.{Course, Advance, Advances, PhaseRunsOn, course_step, start}
 use Rattle.tool.specs.Outcomes.{RunOutcome, ends, printed_first, outcome_on, outcome_from, run_outcome_of}
 use Rattle.tool.specs.declared.ending.End.{End}
 use Rattle.tool.specs.declared.opening.OpeningPhase.{OpeningPhase}
@@ -15,6 +15,7 @@ use Rattle.tool.specs.declared.opening.OpeningPhase.TheVariants.{Factory}
 use Rattle.tool.specs.declared.phase.Phase.{Phase}
 use Rattle.tool.specs.declared.running.Turn.{Turn}
 use Rattle.tool.specs.declared.running.Turn.TheVariants as turns
+use Rattle.tool.specs.declared.script.Head.{Head}
 use Rattle.tool.specs.declared.script.Opened.{Opened}
 use Rattle.tool.specs.declared.script.Opened.TheVariants.{Ended, Runs}
 
@@ -39,12 +40,12 @@ Leads whole rest before after old new =
 
 -- the line at hand and those that are left come to this end, whatever origin and course left the
 -- drive or the port so
-abbrev pub RunLeads : Phase → List ℕ → Option (List ℕ) → End → Report → Report
+abbrev pub RunLeads : Bool → Phase → List ℕ → Option (List ℕ) → End → Report → Report
     → Option (List ℕ) → Option (List ℕ) → Type 0
-RunLeads run line left end old new before after =
+RunLeads remarks run line left end old new before after =
     (o : Origin) (course : Course) → PhaseRunsOn run o course
     → IfSome left
-    (λ text. Leads (outcome_on o course old.last.items (bare line ∷ script_lines text))
+    (λ text. Leads (outcome_on o course old.last.items (lines_from remarks line text))
     (ends (exit_status end)) before after old new)
 
 -- a whole script comes to this end
@@ -61,25 +62,46 @@ Steps turns.ExpectationFailed (Err status) new o before after = (status ≡ 1) �
 Steps (turns.Bad fault) (Err status) new o before after = (status ≡ 2) × (after ≡ before)
 Steps turn result new o before after = ⊥
 
+-- what a line makes of the course of a script: one that is skipped changes nothing
+abbrev pub step_or_skip : Bool → Origin → Course → List ℕ → List ℕ → Result Advance ℕ
+step_or_skip remarks o course last text =
+    if is_skipped remarks text then Ok (record { course = course; lines = [] })
+    else course_step o course last text
+
 -- what the range lines in front leave to come
-abbrev pub OpensTo : Bool → Opened → RunOutcome → List ℕ → Option (List ℕ) → Type 0
-OpensTo on_port (Ended end) whole line left = whole ≡ ends (exit_status end)
-OpensTo on_port (Runs run count) whole line left =
-    (o : Origin) × (text : List ℕ) × PhaseRunsOn run o (start on_port) × (left ≡ Some text)
-    × (whole ≡ outcome_on o (start on_port) [] (bare line ∷ script_lines text))
+abbrev pub OpensTo : Head → Opened → RunOutcome → List ℕ → Option (List ℕ) → Type 0
+OpensTo head (Ended end) whole line left = whole ≡ ends (exit_status end)
+OpensTo head (Runs run count) whole line left =
+    (o : Origin) × (text : List ℕ) × PhaseRunsOn run o (start head.on_port) × (left ≡ Some text)
+    × (whole ≡ outcome_on o (start head.on_port) [] (lines_from head.remarks line text))
 
 -- where the line at hand is in front of this text
-abbrev pub LinesOpenTo : Bool → Opened → OpeningPhase → List ℕ → Option (List ℕ) → List ℕ
+abbrev pub LinesOpenTo : Head → Opened → OpeningPhase → List ℕ → Option (List ℕ) → List ℕ
     → Option (List ℕ) → Type 0
-LinesOpenTo on_port opened phase first before line left =
+LinesOpenTo head opened phase first before line left =
     IfSome before
-    (λ text. OpensTo on_port opened (outcome_from on_port phase (bare first ∷ script_lines text))
-    line left)
+    (λ text. OpensTo head opened
+    (outcome_from head.on_port phase (lines_from head.remarks first text)) line left)
 
--- the first line is none, or the line at hand is the first of a script on a drive or of a port script
-abbrev pub FirstLine : Option Bool → List ℕ → List ℕ → Option (List ℕ) → Type 0
+-- all of these lines are skipped, or the line at hand is the first that is not
+abbrev pub SkipsTo : Bool → Option ℕ → List (List ℕ) → List ℕ → Option (List ℕ) → Type 0
+SkipsTo remarks None lines line left = without_remarks remarks lines ≡ []
+SkipsTo remarks (Some count) lines line left =
+    (text : List ℕ) × (left ≡ Some text) × (is_skipped remarks (bare line) ≡ false)
+    × (without_remarks remarks lines ≡ lines_from remarks line text)
+
+-- a script has no line that is not skipped, or the line at hand is the first of these
+abbrev pub BeginsScript : Option Head → List ℕ → List ℕ → Option (List ℕ) → Type 0
+BeginsScript None text line left = effective_lines (script_lines text) ≡ []
+BeginsScript (Some head) text line left =
+    (rest : List ℕ) × (left ≡ Some rest) × (is_skipped head.remarks (bare line) ≡ false)
+    × (head.on_port ≡ false)
+    × (effective_lines (script_lines text) ≡ lines_from head.remarks line rest)
+
+-- there is no line, or the line at hand is the first of a script on a drive or of a port script
+abbrev pub FirstLine : Option Head → List ℕ → List ℕ → Option (List ℕ) → Type 0
 FirstLine None text line left = (config : Config) → run_outcome_of config text ≡ ends 0
-FirstLine (Some on_port) text line left =
+FirstLine (Some head) text line left =
     (rest : List ℕ) × (left ≡ Some rest)
     × ((config : Config) → run_outcome_of config text
-    ≡ outcome_from on_port (Factory config) (bare line ∷ script_lines rest))
+    ≡ outcome_from head.on_port (Factory config) (lines_from head.remarks line rest))

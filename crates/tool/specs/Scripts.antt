@@ -1,7 +1,8 @@
 -- Scripts: their lines, and how they are read.
-use Rattle.std.specs.Prelude.{◌≤◌, ◌≡◌, ◌<◌, ℕ, ◌==◌, Bool, true, false, List, [], ◌∷◌, map, length, Option, Some, is_some, IfSome, if◌then◌else◌}
+use Rattle.std.specs.Prelude.{◌≤◌, ◌≡◌, ◌<◌, ℕ, ◌==◌, ◌&&◌, Bool, true, false, List, [], ◌∷◌, map, length, Option, Some, is_some, IfSome, if◌then◌else◌}
 use Rattle.std.specs.List.{list_any}
 use Rattle.std.specs.Io.BufRead.{strip_last, take_through, drop_through}
+use Rattle.script_lines.specs.Remarks.{hash_byte, is_remark}
 
 -- a byte in front of the first line
 abbrev pub in_front : ℕ → List (List ℕ) → List (List ℕ)
@@ -21,6 +22,30 @@ script_lines text = map (strip_last 13) (lines_of_text text)
 -- a line without its line feed, and without one carriage return before it
 abbrev pub bare : List ℕ → List ℕ
 bare line = strip_last 13 (strip_last 10 line)
+
+-- a script whose first line begins with `#` may hold remarks
+abbrev pub may_hold_remarks : List ℕ → Bool
+may_hold_remarks [] = false
+may_hold_remarks (byte ∷ bytes) = byte == hash_byte
+
+-- where remarks may stand, they are skipped
+abbrev pub is_skipped : Bool → List ℕ → Bool
+is_skipped remarks line = remarks && is_remark line
+
+unfoldable pub without_remarks : Bool → List (List ℕ) → List (List ℕ)
+without_remarks remarks [] = []
+without_remarks remarks (line ∷ lines) =
+    if is_skipped remarks line then without_remarks remarks lines
+    else line ∷ without_remarks remarks lines
+
+-- the lines that a script comes to: in one whose first line begins with `#`, remarks do nothing
+abbrev pub effective_lines : List (List ℕ) → List (List ℕ)
+effective_lines [] = []
+effective_lines (first ∷ lines) = without_remarks (may_hold_remarks first) (first ∷ lines)
+
+-- the line at hand and those of a text behind it, without the remarks
+abbrev pub lines_from : Bool → List ℕ → List ℕ → List (List ℕ)
+lines_from remarks line text = without_remarks remarks (bare line ∷ script_lines text)
 
 -- what reading a line takes from a text, if there is one, and leaves of it
 abbrev pub TakesLine : Bool → List ℕ → List ℕ → Option (List ℕ) → Type 0

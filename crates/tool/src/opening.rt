@@ -6,6 +6,7 @@ ghost use Rattle.tool.specs.Openings.{row_of_line, row_in_port, row_said};
 use crate::ending::Fault;
 use crate::phase::Phase;
 use crate::port_phase::PortPhase;
+use crate::remarks::is_skipped;
 use crate::running::RunningPhase;
 use drive::{Drive, DriveConfig, Opening, RangeRow, SetError};
 use port::Port;
@@ -64,7 +65,7 @@ fn row_said(on_port: bool, text: &[u8]) -> Result<Option<RangeRow>, LineFault>
 }
 
 impl OpeningPhase {
-    ghost use Rattle.std.specs.Prelude.{◌≡◌, ◌⊎◌, [], Option, None, Some, Ok, Err, IfOk, IfErr};
+    ghost use Rattle.std.specs.Prelude.{◌≡◌, ◌⊎◌, [], Option, None, Some, Ok, Err, IfOk, IfErr, true, false};
     ghost use Rattle.locking.specs.declared.range.RangeRow.{RangeRow};
     ghost use Rattle.script_lines.specs.declared.fault.LineFault.{LineFault};
     ghost use Rattle.sp_cells.specs.declared.error.SetError.{SetError};
@@ -72,6 +73,7 @@ impl OpeningPhase {
     ghost use Rattle.drive.specs.State.{Agrees};
     ghost use Rattle.tool.specs.PortEffects.{PortRunsOn};
     ghost use Rattle.tool.specs.Openings.{origin_of, base_of, OpensBy, RunsFrom, TurnStands, row_said};
+    ghost use Rattle.tool.specs.Scripts.{is_skipped};
     ghost use Rattle.tool.specs.declared.opening.OpeningPhase.TheVariants.{Activated};
 
     /// The opening that the next row is set over.
@@ -122,7 +124,7 @@ impl OpeningPhase {
     }
 
     /// Does what one line says, where it gives the cells of a range; any other line ends the phase.
-    pub fn turn(self, alloc: Global, on_port: bool, text: &[u8]) -> Result<OpeningTurn, AllocError>
+    fn turn(self, alloc: Global, on_port: bool, text: &[u8]) -> Result<OpeningTurn, AllocError>
         ensures stands { IfOk result TurnStands }
         ensures does { (row : Option RangeRow) → row_said on_port text.now ≡ Ok row
             → IfOk result (OpensBy on_port self row) }
@@ -133,6 +135,28 @@ impl OpeningPhase {
             Ok(row) => self.act(alloc, on_port, row),
             Err(fault) => Ok(OpeningTurn::Bad(Fault::Line(fault))),
         }
+    }
+
+    /// Does what one line says, and nothing where it is a remark of a script that may hold some.
+    pub fn turn_or_skip(
+        self,
+        alloc: Global,
+        remarks: bool,
+        on_port: bool,
+        text: &[u8],
+    ) -> Result<OpeningTurn, AllocError>
+        ensures stands { IfOk result TurnStands }
+        ensures skips { is_skipped remarks text.now ≡ true → result ≡ Ok (OpeningTurn.Goes self) }
+        ensures does { is_skipped remarks text.now ≡ false → (row : Option RangeRow)
+            → row_said on_port text.now ≡ Ok row → IfOk result (OpensBy on_port self row) }
+        ensures bad_line { is_skipped remarks text.now ≡ false → (fault : LineFault)
+            → row_said on_port text.now ≡ Err fault
+            → result ≡ Ok (OpeningTurn.Bad (Fault.Line fault)) }
+    {
+        if is_skipped(remarks, text) {
+            return Ok(OpeningTurn::Goes(self));
+        }
+        self.turn(alloc, on_port, text)
     }
 
     fn act(

@@ -1,6 +1,7 @@
 //! What a script runs on: a drive, or a port.
 
 use crate::port_phase::PortPhase;
+use crate::remarks::is_skipped;
 use crate::running::{RunningPhase, Turn};
 use script_lines::Report;
 use std::alloc::AllocError;
@@ -16,10 +17,10 @@ impl Phase {
     ghost use Rattle.std.specs.Prelude.{IfOk};
     ghost use Rattle.history.specs.Opening.{Origin};
     ghost use Rattle.tool.specs.Courses.{Course, PhaseRunsOn, PhaseStands, course_step};
-    ghost use Rattle.tool.specs.Progress.{Steps};
+    ghost use Rattle.tool.specs.Progress.{Steps, step_or_skip};
 
     /// Does what one line says.
-    pub fn turn(&mut self, text: &[u8], report: &mut Report) -> Result<Turn, AllocError>
+    fn turn(&mut self, text: &[u8], report: &mut Report) -> Result<Turn, AllocError>
         requires { PhaseStands self.old }
         ensures steps { IfOk result (λ turn. (o : Origin) (course : Course)
             → PhaseRunsOn self.old o course
@@ -30,5 +31,24 @@ impl Phase {
             Phase::Drive(run) => run.turn(text, report),
             Phase::Port(port) => port.turn(text, report),
         }
+    }
+
+    /// Does what one line says, and nothing where it is a remark of a script that may hold some.
+    pub fn turn_or_skip(
+        &mut self,
+        remarks: bool,
+        text: &[u8],
+        report: &mut Report,
+    ) -> Result<Turn, AllocError>
+        requires { PhaseStands self.old }
+        ensures steps { IfOk result (λ turn. (o : Origin) (course : Course)
+            → PhaseRunsOn self.old o course
+            → Steps turn (step_or_skip remarks o course report.old.last.items text.now) self.new o
+            report.old report.new) }
+    {
+        if is_skipped(remarks, text) {
+            return Ok(Turn::Goes { aborted: false });
+        }
+        self.turn(text, report)
     }
 }

@@ -1,6 +1,6 @@
 //! A whole script, from a reader to a writer.
 
-ghost use Rattle.std.specs.Prelude.{◌≡◌, ◌≤◌, ◌⊎◌, [], ℕ, Err, IfOk, IfSome};
+ghost use Rattle.std.specs.Prelude.{◌≡◌, ◌≤◌, ◌<◌, ◌⊎◌, ◌∷◌, [], ℕ, Err, IfOk, IfSome};
 ghost use Rattle.std.specs.Io.Buffered.{reader_remaining};
 ghost use Rattle.std.specs.Io.KnownBytes.{Appends};
 ghost use Rattle.tool.specs.declared.ending.RunError.{RunError};
@@ -8,13 +8,15 @@ ghost use Rattle.tool.specs.Ends.{OpenedStands, exit_status};
 ghost use Rattle.tool.specs.Courses.{PhaseStands};
 ghost use Rattle.tool.specs.Openings.{opens_with};
 ghost use Rattle.tool.specs.Outcomes.{ScriptYields};
-ghost use Rattle.tool.specs.Progress.{FirstLine, LinesOpenTo, RunLeads, ScriptLeads};
+ghost use Rattle.tool.specs.Progress.{BeginsScript, FirstLine, LinesOpenTo, RunLeads, ScriptLeads, SkipsTo};
+ghost use Rattle.tool.specs.Scripts.{bare, script_lines};
 
 use crate::ending::{End, RunError, tell, tell_abort};
 use crate::opening::{OpeningPhase, OpeningTurn};
 use crate::options::Options;
 use crate::phase::Phase;
 use crate::reading::{answer, line_at_hand, lines_of, read_line, without_end};
+use crate::remarks::{is_skipped, may_hold_remarks};
 use crate::running::Turn;
 use script_lines::{Report, is_port_line};
 use std::alloc::Global;
@@ -29,43 +31,110 @@ pub fn laws_of_limits()
     ensures { READ_LIMIT ≡ 4294967296 }
 {}
 
+/// What the lines in front of a script say of it.
+#[derive(Clone, Copy)]
+pub struct Head {
+    /// Whether remarks may stand in it, which do nothing.
+    pub remarks: bool,
+    /// Whether it runs on a port.
+    pub on_port: bool,
+    /// How many lines stand before the line at hand.
+    pub lines: u64,
+}
+
 /// What the opening phase comes to.
 #[derive(Drop)]
 pub enum Opened {
     /// The script ended.
     Ended(End),
-    /// So many lines were range lines, and the one behind them is none.
+    /// So many lines were range lines or remarks, and the one behind them is none.
     Runs { run: Phase, lines: u64 },
 }
 
-/// Reads the first line, and, where it says that a port script follows, the one behind it. It tells
-/// whether one does; `None` where no line is at hand.
-fn first_line<R: Read + Drop>(
+/// Goes on from the line at hand to the first that is not skipped, and tells how many lines stand
+/// before it; `None` where none is left.
+fn skip_remarks<R: Read + Drop>(
+    remarks: bool,
     reader: &mut BufReader<R>,
     report: &Report,
     line: &mut Vec<u8>,
-) -> Result<Option<bool>, RunError>
+) -> Result<Option<u64>, RunError>
     requires { report.now.pending.items ≡ [] }
-    ensures { IfOk result (λ first. IfSome (reader_remaining R.remaining reader.old)
-        (λ text. FirstLine first text line.new.items (reader_remaining R.remaining reader.new))) }
+    ensures limit { IfOk result (λ found. IfSome found (λ lines. lines < READ_LIMIT)) }
+    ensures skips { IfOk result (λ found. IfSome (reader_remaining R.remaining reader.old)
+        (λ text. SkipsTo remarks found (bare line.old.items ∷ script_lines text)
+        line.new.items (reader_remaining R.remaining reader.new))) }
+{
+    for number in 0..READ_LIMIT {
+        if !is_skipped(remarks, without_end(line)) {
+            return Ok(Some(number));
+        }
+        if !read_line(reader, line_at_hand(reader), line, report)? {
+            return Ok(None);
+        }
+    }
+    Err(RunError::ReadLimit)
+}
+
+/// Reads the first line, which says whether the script may hold remarks, and goes on to the first
+/// that is none; `None` where no line is at hand.
+fn begin<R: Read + Drop>(
+    reader: &mut BufReader<R>,
+    report: &Report,
+    line: &mut Vec<u8>,
+) -> Result<Option<Head>, RunError>
+    requires { report.now.pending.items ≡ [] }
+    ensures limit { IfOk result (λ first. IfSome first (λ head. head.lines < READ_LIMIT)) }
+    ensures begins { IfOk result (λ first. IfSome (reader_remaining R.remaining reader.old)
+        (λ text. BeginsScript first text line.new.items
+        (reader_remaining R.remaining reader.new))) }
 {
     if !read_line(reader, line_at_hand(reader), line, report)? {
         return Ok(None);
     }
+    let remarks = may_hold_remarks(without_end(line));
+    let Some(lines) = skip_remarks(remarks, reader, report, line)? else {
+        return Ok(None);
+    };
+    Ok(Some(Head {
+        remarks,
+        on_port: false,
+        lines,
+    }))
+}
+
+/// Reads the first line that is no remark, and, where it says that a port script follows, the one
+/// behind it. It tells what these lines say of the script; `None` where no line is at hand.
+fn first_line<R: Read + Drop>(
+    reader: &mut BufReader<R>,
+    report: &Report,
+    line: &mut Vec<u8>,
+) -> Result<Option<Head>, RunError>
+    requires { report.now.pending.items ≡ [] }
+    ensures { IfOk result (λ first. IfSome (reader_remaining R.remaining reader.old)
+        (λ text. FirstLine first text line.new.items (reader_remaining R.remaining reader.new))) }
+{
+    let Some(head) = begin(reader, report, line)? else {
+        return Ok(None);
+    };
     if !is_port_line(without_end(line)) {
-        return Ok(Some(false));
+        return Ok(Some(head));
     }
     if !read_line(reader, line_at_hand(reader), line, report)? {
         return Ok(None);
     }
-    Ok(Some(true))
+    Ok(Some(Head {
+        remarks: head.remarks,
+        on_port: true,
+        lines: head.lines + 1,
+    }))
 }
 
 /// Does the range lines from the line at hand on, and reads the line behind them.
 fn opening_lines<R: Read + Drop>(
     alloc: Global,
     options: &Options,
-    on_port: bool,
+    head: Head,
     reader: &mut BufReader<R>,
     report: &Report,
     line: &mut Vec<u8>,
@@ -73,13 +142,13 @@ fn opening_lines<R: Read + Drop>(
     requires { report.now.pending.items ≡ [] }
     ensures stands { IfOk result OpenedStands }
     ensures leads { IfOk result (λ opened.
-        LinesOpenTo on_port opened (opens_with options.now) line.old.items
+        LinesOpenTo head opened (opens_with options.now) line.old.items
         (reader_remaining R.remaining reader.old)
         line.new.items (reader_remaining R.remaining reader.new)) }
 {
     let mut phase = OpeningPhase::Factory(options.config());
-    for number in u64::from(on_port)..READ_LIMIT {
-        match phase.turn(alloc, on_port, without_end(line))? {
+    for number in head.lines..READ_LIMIT {
+        match phase.turn_or_skip(alloc, head.remarks, head.on_port, without_end(line))? {
             OpeningTurn::Goes(next) => phase = next,
             OpeningTurn::Runs(run) => return Ok(Opened::Runs { run, lines: number }),
             OpeningTurn::Bad(fault) => {
@@ -97,7 +166,7 @@ fn opening_lines<R: Read + Drop>(
 /// Does the line at hand, and those behind it.
 fn running_lines<R: Read + Drop, W: Write, E: Write>(
     run: &mut Phase,
-    lines: u64,
+    head: Head,
     reader: &mut BufReader<R>,
     report: &mut Report,
     line: &mut Vec<u8>,
@@ -106,11 +175,11 @@ fn running_lines<R: Read + Drop, W: Write, E: Write>(
 ) -> Result<End, RunError>
     requires { PhaseStands run.old }
     ensures { IfOk result (λ end.
-        RunLeads run.old line.old.items (reader_remaining R.remaining reader.old) end
+        RunLeads head.remarks run.old line.old.items (reader_remaining R.remaining reader.old) end
         report.old report.new (W.contents output.old) (W.contents output.new)) }
 {
-    for number in lines..READ_LIMIT {
-        match run.turn(without_end(line), report)? {
+    for number in head.lines..READ_LIMIT {
+        match run.turn_or_skip(head.remarks, without_end(line), report)? {
             Turn::Goes { aborted } => tell_abort(aborted, number + 1, faults)?,
             Turn::ExpectationFailed => return Ok(End::ExpectationFailed { line: number + 1 }),
             Turn::Bad(fault) => {
@@ -131,7 +200,7 @@ fn running_lines<R: Read + Drop, W: Write, E: Write>(
 /// Does the line at hand, and those behind it, and then lets the drive, or the port, go.
 fn remaining_lines<R: Read + Drop, W: Write, E: Write>(
     mut run: Phase,
-    lines: u64,
+    head: Head,
     reader: &mut BufReader<R>,
     report: &mut Report,
     line: &mut Vec<u8>,
@@ -140,10 +209,10 @@ fn remaining_lines<R: Read + Drop, W: Write, E: Write>(
 ) -> Result<End, RunError>
     requires { PhaseStands run }
     ensures { IfOk result (λ end.
-        RunLeads run line.old.items (reader_remaining R.remaining reader.old) end
+        RunLeads head.remarks run line.old.items (reader_remaining R.remaining reader.old) end
         report.old report.new (W.contents output.old) (W.contents output.new)) }
 {
-    running_lines(&mut run, lines, reader, report, line, output, faults)
+    running_lines(&mut run, head, reader, report, line, output, faults)
 }
 
 /// Does the lines of a script, and hands on most of the answers.
@@ -162,14 +231,15 @@ fn all_lines<R: Read + Drop, W: Write, E: Write>(
         ScriptLeads options.now (reader_remaining R.remaining reader.old) end
         report.old report.new (W.contents output.old) (W.contents output.new)) }
 {
-    let Some(on_port) = first_line(reader, report, line)? else {
+    let Some(head) = first_line(reader, report, line)? else {
         return Ok(End::Done);
     };
-    let opened = opening_lines(alloc, options, on_port, reader, report, line)?;
+    let opened = opening_lines(alloc, options, head, reader, report, line)?;
     match opened {
         Opened::Ended(end) => Ok(end),
         Opened::Runs { run, lines } => {
-            remaining_lines(run, lines, reader, report, line, output, faults)
+            let head = Head { lines, ..head };
+            remaining_lines(run, head, reader, report, line, output, faults)
         }
     }
 }
@@ -214,7 +284,9 @@ fn all_answers<R: Read + Drop, W: Write, E: Write>(
 /// Runs the script that a reader gives, writes what it prints to `output` and the fault that ended
 /// it to `faults`, and gives its status: 0 done, 1 an expectation failed, 2 a bad line or a refused
 /// range row. A script whose first line is `port` runs on a port, any other on a drive. Without a
-/// `range` line the drive is as it leaves the factory. Answers are written before each read that could
+/// `range` line the drive is as it leaves the factory. In a script whose first line begins with `#`
+/// remarks do nothing, wherever they stand: blank lines, and lines that begin with `#`, behind blanks
+/// or not. The first line that is none may be `port`. Answers are written before each read that could
 /// wait, and whenever more than 65,536 bytes of them wait.
 ///
 /// # Errors

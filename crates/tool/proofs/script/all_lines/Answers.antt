@@ -16,21 +16,21 @@ returns-in-Runs g c =
     let start = reader_remaining g.R.Read.remaining c.args.reader.now in
     let first = reader_remaining g.R.Read.remaining c.first_line.new.reader in
     let left = reader_remaining g.R.Read.remaining c.opening_lines.new.reader in
-    let on_port = c.in-Some.on_port in
+    let head = c.in-Some.head in
     let config = c.args.options.now in
     IfOk-weaker c.remaining_lines.result _ _
     (λ end leads. weaker start _ _
     (λ text said.
     let opens =
-    first-opens on_port config c.in_ok-opened.opened text c.first_line.new.line.items
+    first-opens head config c.in_ok-opened.opened text c.first_line.new.line.items
     c.opening_lines.new.line.items first left
     (subst (λ told. FirstLine told text c.first_line.new.line.items first) c.in-Some.is said)
     c.in_ok-opened.ensures.leads in
-    opened-runs on_port (run_outcome_of config text) _ c.in-Runs.run' c.args.report.now.last.items
+    opened-runs head (run_outcome_of config text) _ c.in-Runs.run' c.args.report.now.last.items
     c.opening_lines.new.line.items left _ _ _ _
     (subst
-    (λ opened. OpensTo on_port opened (run_outcome_of config text) c.opening_lines.new.line.items left)
+    (λ opened. OpensTo head opened (run_outcome_of config text) c.opening_lines.new.line.items left)
     c.in-Runs.is opens)
     c.requires.last leads)
-    c.in_ok-on_port.ensures)
+    c.in_ok-head.ensures)
     c.remaining_lines.ensures

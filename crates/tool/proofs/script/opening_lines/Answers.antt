@@ -1,6 +1,6 @@
-use Rattle.std.proofs.Common.{◌≡◌, ◌∷◌, IfSome, subst, sym, ap, ◌∙◌}
+use Rattle.std.proofs.Common.{◌≡◌, IfSome, subst, sym, ap, ◌∙◌}
 use Rattle.std.specs.Io.Buffered.{reader_remaining}
-use Rattle.tool.specs.Scripts.{bare, script_lines, TakesLine}
+use Rattle.tool.specs.Scripts.{bare, lines_from, TakesLine}
 use Rattle.tool.specs.Openings.{opens_with}
 use Rattle.tool.specs.Outcomes.{outcome_from}
 use Rattle.tool.proofs.Texts.{weaker}
@@ -15,11 +15,11 @@ returns-in-Runs-clause-leads g c =
     weaker (reader_remaining g.R.Read.remaining c.args.reader.now) _ _
     (λ text opens.
     subst
-    (λ turn. OpeningLeads c.args.on_port turn
-    (outcome_from c.args.on_port (opens_with c.args.options.now) (bare c.args.line.now.items ∷ script_lines text)) line left)
+    (λ turn. OpeningLeads c.args.head turn
+    (outcome_from c.args.head.on_port (opens_with c.args.options.now) (lines_from c.args.head.remarks c.args.line.now.items text)) line left)
     c.in-Runs.is
-    (opening-turned c.args.on_port c.in_ok-next.field-0 _ c.loop-number.phase line c.without_end.result.now left shown opens
-    c.in_ok-next.ensures.does c.in_ok-next.ensures.bad_line))
+    (opening-turned c.args.head c.in_ok-next.field-0 _ c.loop-number.phase line c.without_end.result.now left shown opens
+    c.in_ok-next.ensures.skips c.in_ok-next.ensures.does c.in_ok-next.ensures.bad_line))
     c.loop-number.invariant
 
 pub returns-in-Bad-clause-leads : goal.returns-in-Bad-clause-leads
@@ -30,11 +30,11 @@ returns-in-Bad-clause-leads g c =
     weaker (reader_remaining g.R.Read.remaining c.args.reader.now) _ _
     (λ text opens.
     subst
-    (λ turn. OpeningLeads c.args.on_port turn
-    (outcome_from c.args.on_port (opens_with c.args.options.now) (bare c.args.line.now.items ∷ script_lines text)) line left)
+    (λ turn. OpeningLeads c.args.head turn
+    (outcome_from c.args.head.on_port (opens_with c.args.options.now) (lines_from c.args.head.remarks c.args.line.now.items text)) line left)
     c.in-Bad.is
-    (opening-turned c.args.on_port c.in_ok-next.field-0 _ c.loop-number.phase line c.without_end.result.now left shown opens
-    c.in_ok-next.ensures.does c.in_ok-next.ensures.bad_line))
+    (opening-turned c.args.head c.in_ok-next.field-0 _ c.loop-number.phase line c.without_end.result.now left shown opens
+    c.in_ok-next.ensures.skips c.in_ok-next.ensures.does c.in_ok-next.ensures.bad_line))
     c.loop-number.invariant
 
 pub returns-then-not-branch-clause-leads : goal.returns-then-not-branch-clause-leads
@@ -45,13 +45,13 @@ returns-then-not-branch-clause-leads g c =
     let later = reader_remaining g.R.Read.remaining c.read_line.new.reader in
     let takes = subst (λ b. IfSome left (λ text. TakesLine b c.read_line.new.line.items text later)) c.if-not-branch.true c.in_ok-read_line.ensures.line in
     weaker (reader_remaining g.R.Read.remaining c.args.reader.now) _ _
-    (λ text opens. nothing-opens c.args.on_port _ c.in-Goes.next c.read_line.new.line.items left later
+    (λ text opens. nothing-opens c.args.head _ c.in-Goes.next c.read_line.new.line.items left later
     (subst
-    (λ turn. OpeningLeads c.args.on_port turn
-    (outcome_from c.args.on_port (opens_with c.args.options.now) (bare c.args.line.now.items ∷ script_lines text)) line left)
+    (λ turn. OpeningLeads c.args.head turn
+    (outcome_from c.args.head.on_port (opens_with c.args.options.now) (lines_from c.args.head.remarks c.args.line.now.items text)) line left)
     c.in-Goes.is
-    (opening-turned c.args.on_port c.in_ok-next.field-0 _ c.loop-number.phase line c.without_end.result.now left shown opens
-    c.in_ok-next.ensures.does c.in_ok-next.ensures.bad_line)) takes)
+    (opening-turned c.args.head c.in_ok-next.field-0 _ c.loop-number.phase line c.without_end.result.now left shown opens
+    c.in_ok-next.ensures.skips c.in_ok-next.ensures.does c.in_ok-next.ensures.bad_line)) takes)
     c.loop-number.invariant
 
 pub loop-number-preserved : goal.loop-number-preserved
@@ -62,13 +62,13 @@ loop-number-preserved g c =
     let later = reader_remaining g.R.Read.remaining c.read_line.new.reader in
     let takes = subst (λ b. IfSome left (λ text. TakesLine b c.read_line.new.line.items text later)) c.if-not-branch.false c.in_ok-read_line.ensures.line in
     weaker (reader_remaining g.R.Read.remaining c.args.reader.now) _ _
-    (λ text opens. next-opens c.args.on_port _ c.in-Goes.next c.read_line.new.line.items left later
+    (λ text opens. next-opens c.args.head _ c.in-Goes.next c.read_line.new.line.items left later
     (subst
-    (λ turn. OpeningLeads c.args.on_port turn
-    (outcome_from c.args.on_port (opens_with c.args.options.now) (bare c.args.line.now.items ∷ script_lines text)) line left)
+    (λ turn. OpeningLeads c.args.head turn
+    (outcome_from c.args.head.on_port (opens_with c.args.options.now) (lines_from c.args.head.remarks c.args.line.now.items text)) line left)
     c.in-Goes.is
-    (opening-turned c.args.on_port c.in_ok-next.field-0 _ c.loop-number.phase line c.without_end.result.now left shown opens
-    c.in_ok-next.ensures.does c.in_ok-next.ensures.bad_line)) takes)
+    (opening-turned c.args.head c.in_ok-next.field-0 _ c.loop-number.phase line c.without_end.result.now left shown opens
+    c.in_ok-next.ensures.skips c.in_ok-next.ensures.does c.in_ok-next.ensures.bad_line)) takes)
     c.loop-number.invariant
 
 pub loop-number-init : goal.loop-number-init
@@ -77,7 +77,7 @@ loop-number-init g c =
     let line = c.args.line.now.items in
     subst
     (λ config. IfSome start
-    (λ text. StillOpens c.args.on_port
-    (outcome_from c.args.on_port (opens_with c.args.options.now) (bare line ∷ script_lines text))
+    (λ text. StillOpens c.args.head
+    (outcome_from c.args.head.on_port (opens_with c.args.options.now) (lines_from c.args.head.remarks line text))
     (opens_with config) line start))
-    (sym c.config.ensures) (opens-all start c.args.on_port (opens_with c.args.options.now) line)
+    (sym c.config.ensures) (opens-all start c.args.head (opens_with c.args.options.now) line)

@@ -1,6 +1,6 @@
-use Rattle.std.proofs.Common.{◌≡◌, ◌∷◌, IfSome, subst, ap, ◌∙◌}
+use Rattle.std.proofs.Common.{◌≡◌, IfSome, subst, ap, ◌∙◌}
 use Rattle.std.specs.Io.Buffered.{reader_remaining}
-use Rattle.tool.specs.Scripts.{bare, script_lines, TakesLine}
+use Rattle.tool.specs.Scripts.{bare, lines_from, TakesLine}
 use Rattle.tool.specs.Outcomes.{outcome_on}
 use Rattle.tool.proofs.Texts.{weaker}
 use Rattle.tool.proofs.Outcomes.{TurnLeads, at-first, stands-so, turned, handed-on, next-at-hand, none-at-hand}
@@ -13,13 +13,13 @@ returns-in-ExpectationFailed g c = λ o course runs.
     weaker (reader_remaining g.R.Read.remaining c.args.reader.now) _ _
     (λ text at.
     subst
-    (λ turn. TurnLeads turn
-    (outcome_on o course c.args.report.now.last.items (bare c.args.line.now.items ∷ script_lines text)) o
-    c.turn.new.self c.turn.new.report left (g.W.Write.contents c.args.output.now)
+    (λ turn. TurnLeads c.args.head.remarks turn
+    (outcome_on o course c.args.report.now.last.items (lines_from c.args.head.remarks c.args.line.now.items text)) o
+    c.turn_or_skip.new.self c.turn_or_skip.new.report left (g.W.Write.contents c.args.output.now)
     (g.W.Write.contents c.loop-number.output) c.args.report.now.pending.items)
     c.in-ExpectationFailed.is
-    (turned _ _ o c.loop-number.run c.turn.new.self c.loop-number.report
-    c.turn.new.report c.loop-number.line.items c.without_end.result.now left _ _ _ shown
+    (turned c.args.head.remarks _ _ o c.loop-number.run c.turn_or_skip.new.self c.loop-number.report
+    c.turn_or_skip.new.report c.loop-number.line.items c.without_end.result.now left _ _ _ shown
     c.in_ok-aborted.ensures.steps at))
     (c.loop-number.invariant.1 o course runs)
 
@@ -30,13 +30,13 @@ returns-in-Bad g c = λ o course runs.
     weaker (reader_remaining g.R.Read.remaining c.args.reader.now) _ _
     (λ text at.
     subst
-    (λ turn. TurnLeads turn
-    (outcome_on o course c.args.report.now.last.items (bare c.args.line.now.items ∷ script_lines text)) o
-    c.turn.new.self c.turn.new.report left (g.W.Write.contents c.args.output.now)
+    (λ turn. TurnLeads c.args.head.remarks turn
+    (outcome_on o course c.args.report.now.last.items (lines_from c.args.head.remarks c.args.line.now.items text)) o
+    c.turn_or_skip.new.self c.turn_or_skip.new.report left (g.W.Write.contents c.args.output.now)
     (g.W.Write.contents c.loop-number.output) c.args.report.now.pending.items)
     c.in-Bad.is
-    (turned _ _ o c.loop-number.run c.turn.new.self c.loop-number.report
-    c.turn.new.report c.loop-number.line.items c.without_end.result.now left _ _ _ shown
+    (turned c.args.head.remarks _ _ o c.loop-number.run c.turn_or_skip.new.self c.loop-number.report
+    c.turn_or_skip.new.report c.loop-number.line.items c.without_end.result.now left _ _ _ shown
     c.in_ok-aborted.ensures.steps at))
     (c.loop-number.invariant.1 o course runs)
 
@@ -48,23 +48,24 @@ returns-then-not-branch g c = λ o course runs.
     let shown : c.without_end.result.now ≡ bare c.loop-number.line.items = c.without_end.ensures ∙ ap bare c.deref.ensures.value in
     weaker (reader_remaining g.R.Read.remaining c.args.reader.now) _ _
     (λ text at.
-    let whole = outcome_on o course c.args.report.now.last.items (bare c.args.line.now.items ∷ script_lines text) in
+    let whole = outcome_on o course c.args.report.now.last.items (lines_from c.args.head.remarks c.args.line.now.items text) in
     let goes =
     subst
-    (λ turn. TurnLeads turn whole o
-    c.turn.new.self c.turn.new.report now (g.W.Write.contents c.args.output.now)
+    (λ turn. TurnLeads c.args.head.remarks turn whole o
+    c.turn_or_skip.new.self c.turn_or_skip.new.report now (g.W.Write.contents c.args.output.now)
     (g.W.Write.contents c.loop-number.output) c.args.report.now.pending.items)
     c.in-Goes.is
-    (turned _ whole o c.loop-number.run c.turn.new.self c.loop-number.report
-    c.turn.new.report c.loop-number.line.items c.without_end.result.now now _ _ _ shown
+    (turned c.args.head.remarks _ whole o c.loop-number.run c.turn_or_skip.new.self c.loop-number.report
+    c.turn_or_skip.new.report c.loop-number.line.items c.without_end.result.now now _ _ _ shown
     c.in_ok-aborted.ensures.steps at) in
-    none-at-hand whole o c.turn.new.self c.answer.new.report.last.items c.read_line.new.line.items now after (g.W.Write.contents c.args.output.now) (g.W.Write.contents c.answer.new.output) _ _
-    (handed-on whole o c.turn.new.self _ _ now _ _ _ _ _ _ goes (ap (λ last. last.items) c.answer.ensures.last) c.in_ok-at_hand.ensures.written) takes)
+    none-at-hand c.args.head.remarks whole o c.turn_or_skip.new.self c.answer.new.report.last.items c.read_line.new.line.items now after (g.W.Write.contents c.args.output.now) (g.W.Write.contents c.answer.new.output) _ _
+    (handed-on c.args.head.remarks whole o c.turn_or_skip.new.self _ _ now _ _ _ _ _ _ goes (ap (λ last. last.items) c.answer.ensures.last) c.in_ok-at_hand.ensures.written) takes)
     (c.loop-number.invariant.1 o course runs)
 
 pub loop-number-preserved : goal.loop-number-preserved
 loop-number-preserved g c = (
-  stands-so _ _ c.loop-number.run c.turn.new.self _ _ c.loop-number.report c.turn.new.report c.in-Goes.is
+  stands-so c.args.head.remarks _ _ c.loop-number.run c.turn_or_skip.new.self
+      c.loop-number.report.last.items c.without_end.result.now c.loop-number.report c.turn_or_skip.new.report c.in-Goes.is
       c.loop-number.invariant.0 c.in_ok-aborted.ensures.steps,
   λ o course runs.
       let now = reader_remaining g.R.Read.remaining c.loop-number.reader in
@@ -73,23 +74,23 @@ loop-number-preserved g c = (
       let shown : c.without_end.result.now ≡ bare c.loop-number.line.items = c.without_end.ensures ∙ ap bare c.deref.ensures.value in
       weaker (reader_remaining g.R.Read.remaining c.args.reader.now) _ _
       (λ text at.
-      let whole = outcome_on o course c.args.report.now.last.items (bare c.args.line.now.items ∷ script_lines text) in
+      let whole = outcome_on o course c.args.report.now.last.items (lines_from c.args.head.remarks c.args.line.now.items text) in
       let goes =
       subst
-      (λ turn. TurnLeads turn whole o
-      c.turn.new.self c.turn.new.report now (g.W.Write.contents c.args.output.now)
+      (λ turn. TurnLeads c.args.head.remarks turn whole o
+      c.turn_or_skip.new.self c.turn_or_skip.new.report now (g.W.Write.contents c.args.output.now)
       (g.W.Write.contents c.loop-number.output) c.args.report.now.pending.items)
       c.in-Goes.is
-      (turned _ whole o c.loop-number.run c.turn.new.self c.loop-number.report
-      c.turn.new.report c.loop-number.line.items c.without_end.result.now now _ _ _ shown
+      (turned c.args.head.remarks _ whole o c.loop-number.run c.turn_or_skip.new.self c.loop-number.report
+      c.turn_or_skip.new.report c.loop-number.line.items c.without_end.result.now now _ _ _ shown
       c.in_ok-aborted.ensures.steps at) in
-      next-at-hand whole o c.turn.new.self c.answer.new.report.last.items c.read_line.new.line.items now after (g.W.Write.contents c.args.output.now) (g.W.Write.contents c.answer.new.output) _ _
-      (handed-on whole o c.turn.new.self _ _ now _ _ _ _ _ _ goes (ap (λ last. last.items) c.answer.ensures.last) c.in_ok-at_hand.ensures.written) takes)
+      next-at-hand c.args.head.remarks whole o c.turn_or_skip.new.self c.answer.new.report.last.items c.read_line.new.line.items now after (g.W.Write.contents c.args.output.now) (g.W.Write.contents c.answer.new.output) _ _
+      (handed-on c.args.head.remarks whole o c.turn_or_skip.new.self _ _ now _ _ _ _ _ _ goes (ap (λ last. last.items) c.answer.ensures.last) c.in_ok-at_hand.ensures.written) takes)
       (c.loop-number.invariant.1 o course runs),
 )
 
 pub loop-number-init : goal.loop-number-init
 loop-number-init g c = (
   c.requires,
-  λ o course runs. at-first (reader_remaining g.R.Read.remaining c.args.reader.now) o course c.args.run.now c.args.report.now.last.items c.args.line.now.items (g.W.Write.contents c.args.output.now) c.args.report.now.pending.items runs,
+  λ o course runs. at-first c.args.head.remarks (reader_remaining g.R.Read.remaining c.args.reader.now) o course c.args.run.now c.args.report.now.last.items c.args.line.now.items (g.W.Write.contents c.args.output.now) c.args.report.now.pending.items runs,
 )

@@ -1,7 +1,7 @@
-use Rattle.std.proofs.Common.{◌∷◌, IfSome}
+use Rattle.std.proofs.Common.{IfSome}
 use Rattle.std.specs.Io.Buffered.{reader_remaining}
 use Rattle.history.specs.Opening.{Origin}
-use Rattle.tool.specs.Scripts.{bare, script_lines}
+use Rattle.tool.specs.Scripts.{lines_from}
 use Rattle.tool.specs.Courses.{Course, PhaseRunsOn, PhaseStands}
 use Rattle.tool.specs.Outcomes.{outcome_on}
 use Rattle.tool.proofs.Outcomes.{AtHand}
@@ -12,8 +12,8 @@ invariant-loop-number g l =
     PhaseStands l.run
     × ((o : Origin) (course : Course) → PhaseRunsOn l.initial.run o course
     → IfSome (reader_remaining g.R.Read.remaining l.initial.reader)
-    (λ text. AtHand
-    (outcome_on o course l.initial.report.last.items (bare l.initial.line.items ∷ script_lines text)) o
+    (λ text. AtHand l.head.remarks
+    (outcome_on o course l.initial.report.last.items (lines_from l.head.remarks l.initial.line.items text)) o
     l.run l.report.last.items l.line.items (reader_remaining g.R.Read.remaining l.reader)
     (g.W.Write.contents l.initial.output) (g.W.Write.contents l.output)
     l.initial.report.pending.items l.report.pending.items))
