@@ -9,3 +9,5 @@ pub mod Groups
 pub mod Blocks
 pub mod Runs
 pub mod Cleared
+pub mod Heads
+pub mod Fills

@@ -14,7 +14,7 @@ put_length : (block bytes : List ℕ) (from : ℕ) → length block ≡ 512 → 
 put_length block bytes from whole fits = search (rules, places)
 
 -- One block has other bytes, and no sector another place.
-own_put : (ps : List (ℕ × ℕ)) (blocks : List (List ℕ)) (q : ℕ) (v : List ℕ) → AreOwn ps blocks → q < length blocks → length v ≡ 512 → AreOwn ps (set blocks q v)
+pub own_put : (ps : List (ℕ × ℕ)) (blocks : List (List ℕ)) (q : ℕ) (v : List ℕ) → AreOwn ps blocks → q < length blocks → length v ≡ 512 → AreOwn ps (set blocks q v)
 own_put ps blocks q v own below size = record {
   sorted = own.sorted;
   below = λ s p is. rw (length-set blocks q v) (own.below s p is);
@@ -51,4 +51,11 @@ covers_all ps blocks at len first end all touches each = (
       (λ s from below.
       sym (same_none ps blocks s (place_at ps s) refl)
       ∙ all_touched (λ s. is_some (block_in (blocks_of ps blocks) s)) at len have s (touches s ∙ is_between first end s from below)),
+)
+
+-- Each sector of a run has a block where each has a place.
+pub covers_run : (ps : List (ℕ × ℕ)) (blocks : List (List ℕ)) (first end : ℕ) (all : Bool) → (IsTrue all ↔ ((s : ℕ) → first ≤ s → s < end → is_some (place_at ps s) ≡ true)) → IsTrue all ↔ ((s : ℕ) → first ≤ s → s < end → is_some (block_in (blocks_of ps blocks) s) ≡ true)
+covers_run ps blocks first end all each = (
+  λ is s from below. same_none ps blocks s (place_at ps s) refl ∙ each.0 is s from below,
+  λ have. each.1 (λ s from below. sym (same_none ps blocks s (place_at ps s) refl) ∙ have s from below),
 )

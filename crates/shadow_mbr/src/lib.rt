@@ -14,6 +14,6 @@ mod places;
 mod sectors;
 
 pub use erasure::{Erasure, MOST_RUNS, Run, Runs};
-pub use kept::{Block, SECTOR_SIZE};
+pub use kept::{Block, HEAD_SIZE, SECTOR_SIZE};
 pub use mbr::Mbr;
 pub use media::Media;
