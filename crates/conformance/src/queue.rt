@@ -334,8 +334,9 @@ fn is_answered(drive: &mut Drive, fis: &[u8; 20], front: [u8; 4]) -> Result<bool
     let accepted = drive.accept(fis, &[])?;
     let mut expected = [0; 20];
     expected[..4].copy_from_slice(&front);
-    let is_one = accepted.fises.len() == 1 && accepted.bytes.is_empty();
-    Ok(is_one && is_fis(&accepted.fises, 0, &expected))
+    let fises = accepted.fises();
+    let is_one = fises.len() == 1 && accepted.bytes.is_empty();
+    Ok(is_one && is_fis(&fises, 0, &expected))
 }
 
 /// Whether the FIS at a place has these bytes.
@@ -377,8 +378,9 @@ fn is_done_by(
     let tag = Tag::low_bits(tag);
     let given = vec![in alloc; 0; drive.expects(tag)]?;
     let done = drive.complete(tag, &given)?;
-    let are_two = done.fises.len() == 2;
-    Ok(are_two && is_fis(&done.fises, 0, setup) && is_fis(&done.fises, 1, end))
+    let fises = done.fises();
+    let are_two = fises.len() == 2;
+    Ok(are_two && is_fis(&fises, 0, setup) && is_fis(&fises, 1, end))
 }
 
 /// Whether no command is held under a tag.
