@@ -4,7 +4,7 @@ use Rattle.std.specs.Prelude.{is_some, IfSome, unwrap_or}
 use Rattle.std.proofs.lemmas.Bool.{cases_lt, cases_eq, cases_Bool}
 use Rattle.std.proofs.lemmas.Bool.Decides.{nat_tests}
 use Rattle.std.proofs.lemmas.List.{length-replicate, take-replicate, drop-replicate, get_or-replicate}
-use Rattle.shadow_mbr.specs.Stored.{StoredSectors, zeros, sector_at, sector_in, sector_filled, sector_after, is_among, has_byte, byte_at, byte_after}
+use Rattle.shadow_mbr.specs.Stored.{StoredSectors, zeros, sector_at, kept_sector, sector_filled, sector_after, is_among, has_byte, byte_at, byte_after}
 use Rattle.shadow_mbr.specs.Places.{place_at, blocks_of, AreOwn}
 use Rattle.shadow_mbr.proofs.Blocks.{one_block, chosen, other}
 use Rattle.shadow_mbr.proofs.Runs.{own_put}
@@ -36,7 +36,7 @@ filled_else first n byte s before apart = elim (cases_lt s first) [
 ]
 
 -- The block of one more sector is filled.
-pub fill_more : (ps : List (ℕ × ℕ)) (was blocks new : List (List ℕ)) (o : Option ℕ) (first n byte : ℕ) → AreOwn ps blocks → o ≡ place_at ps n → is_some (place_at ps n) ≡ true → first ≤ n → IfSome o (λ p. new ≡ set blocks p (replicate 512 byte)) → ((s : ℕ) → sector_in (blocks_of ps blocks) s ≡ sector_filled first n byte (sector_in (blocks_of ps was) s) s) → AreOwn ps new × ((s : ℕ) → sector_in (blocks_of ps new) s ≡ sector_filled first (n + 1) byte (sector_in (blocks_of ps was) s) s)
+pub fill_more : (ps : List (ℕ × ℕ)) (was blocks new : List (List ℕ)) (o : Option ℕ) (first n byte : ℕ) → AreOwn ps blocks → o ≡ place_at ps n → is_some (place_at ps n) ≡ true → first ≤ n → IfSome o (λ p. new ≡ set blocks p (replicate 512 byte)) → ((s : ℕ) → kept_sector (blocks_of ps blocks) s ≡ sector_filled first n byte (kept_sector (blocks_of ps was) s) s) → AreOwn ps new × ((s : ℕ) → kept_sector (blocks_of ps new) s ≡ sector_filled first (n + 1) byte (kept_sector (blocks_of ps was) s) s)
 fill_more ps was blocks new None first n byte own at there from is so_far = absurd (let no = ap (λ (o : Option ℕ). is_some o) at ∙ there in cc)
 fill_more ps was blocks new (Some p) first n byte own at there from is so_far =
     let v : List ℕ = replicate 512 byte in
@@ -47,10 +47,10 @@ fill_more ps was blocks new (Some p) first n byte own at there from is so_far =
           ∙ elim (cases_eq s n) [
             | inl same ↦
                 ap (λ (o : Option (List ℕ)). unwrap_or o zeros) (chosen s n (Some v) _ same)
-                ∙ sym (filled_inside first (n + 1) byte s (sector_in (blocks_of ps was) s) (omega arith) (omega arith))
+                ∙ sym (filled_inside first (n + 1) byte s (kept_sector (blocks_of ps was) s) (omega arith) (omega arith))
             | inr apart ↦
                 ap (λ (o : Option (List ℕ)). unwrap_or o zeros) (other s n (Some v) _ apart)
-                ∙ so_far s ∙ filled_else first n byte s (sector_in (blocks_of ps was) s) apart
+                ∙ so_far s ∙ filled_else first n byte s (kept_sector (blocks_of ps was) s) apart
           ],
     )
 
@@ -102,14 +102,3 @@ filled_among lba count s = grind (arith, nat_tests)
 pub among_kept : (first end s : ℕ) (had : Bool) → first ≤ s → s < end → (had || is_among first end s) ≡ true
 among_kept first end s true from below = refl
 among_kept first end s false from below = is_between first end s from below
-
--- Where each sector of a run is kept already, none is new.
-pub none_added : (kept : ℕ → Bool) (first end : ℕ) → ((s : ℕ) → first ≤ s → s < end → kept s ≡ true) → (s : ℕ) → kept s ≡ (kept s || is_among first end s)
-none_added kept first end each s = elim (cases_Bool (is_among first end s)) [
-  | inl is ↦ let inside = between first end s is in rw (each s inside.0 inside.1) refl
-  | inr not ↦ rw not (or_none (kept s))
-]
-  where
-    or_none : (b : Bool) → b ≡ (b || false)
-    or_none true = refl
-    or_none false = refl

@@ -7,6 +7,7 @@ pub mod Walks
 pub mod Numbers
 pub mod Groups
 pub mod Blocks
+pub mod Grouped
 pub mod Runs
 pub mod Cleared
 pub mod Heads

@@ -52,10 +52,3 @@ covers_all ps blocks at len first end all touches each = (
       sym (same_none ps blocks s (place_at ps s) refl)
       ∙ all_touched (λ s. is_some (block_in (blocks_of ps blocks) s)) at len have s (touches s ∙ is_between first end s from below)),
 )
-
--- Each sector of a run has a block where each has a place.
-pub covers_run : (ps : List (ℕ × ℕ)) (blocks : List (List ℕ)) (first end : ℕ) (all : Bool) → (IsTrue all ↔ ((s : ℕ) → first ≤ s → s < end → is_some (place_at ps s) ≡ true)) → IsTrue all ↔ ((s : ℕ) → first ≤ s → s < end → is_some (block_in (blocks_of ps blocks) s) ≡ true)
-covers_run ps blocks first end all each = (
-  λ is s from below. same_none ps blocks s (place_at ps s) refl ∙ each.0 is s from below,
-  λ have. each.1 (λ s from below. sym (same_none ps blocks s (place_at ps s) refl) ∙ have s from below),
-)

@@ -28,8 +28,8 @@ abbrev pub block_in : List (ℕ × List ℕ) → ℕ → Option (List ℕ)
 block_in kept sector = lookup (is_at (nat_cmp sector)) kept
 
 -- What a sector holds where these sectors are kept.
-abbrev pub sector_in : List (ℕ × List ℕ) → ℕ → List ℕ
-sector_in kept sector = unwrap_or (block_in kept sector) zeros
+abbrev pub kept_sector : List (ℕ × List ℕ) → ℕ → List ℕ
+kept_sector kept sector = unwrap_or (block_in kept sector) zeros
 
 -- what is kept of a sector
 abbrev pub kept_at : StoredSectors → ℕ → Option (List ℕ)

@@ -5,7 +5,7 @@ ghost use Rattle.std.specs.List.{list_any};
 ghost use Rattle.std.specs.List.Sorted.{IsStrictlySortedBy};
 ghost use Rattle.std.specs.Map.{keys_of};
 ghost use Rattle.std.specs.Ordering.{nat_cmp};
-ghost use Rattle.shadow_mbr.specs.Stored.{sector_size, head_size, zeros, HaveBlocks, kept_byte, byte_after, sector_in, sector_filled};
+ghost use Rattle.shadow_mbr.specs.Stored.{sector_size, head_size, zeros, HaveBlocks, kept_byte, byte_after, kept_sector, sector_filled};
 ghost use Rattle.shadow_mbr.specs.Places.{place_at, block_at, blocks_of, blocks_after, AreOwn, AddsPlaces};
 
 use crate::erasure::Erasure;
@@ -157,8 +157,8 @@ fn fill_blocks(finder: &mut Finder<'_>, blocks: &mut Vec<Block>, first: u64, end
     requires own { AreOwn finder.old blocks.old.items }
     requires placed { (s : ℕ) → first ≤ s → s < end → is_some (place_at finder.old s) ≡ true }
     ensures own { AreOwn finder.old blocks.new.items }
-    ensures sectors { (s : ℕ) → sector_in (blocks_of finder.old blocks.new.items) s
-        ≡ sector_filled first end byte (sector_in (blocks_of finder.old blocks.old.items) s) s }
+    ensures sectors { (s : ℕ) → kept_sector (blocks_of finder.old blocks.new.items) s
+        ≡ sector_filled first end byte (kept_sector (blocks_of finder.old blocks.old.items) s) s }
 {
     for sector in first..end {
         let place = finder.at(sector);
@@ -204,7 +204,7 @@ impl Kept {
     ghost use Rattle.std.specs.List.Sorted.{IsStrictlySortedBy};
     ghost use Rattle.std.specs.Map.{keys_of};
     ghost use Rattle.std.specs.Ordering.{nat_cmp};
-    ghost use Rattle.shadow_mbr.specs.Stored.{sector_size, head_size, zeros, block_in, sector_in, sector_filled, HaveBlocks, kept_byte, byte_after, sectors_from};
+    ghost use Rattle.shadow_mbr.specs.Stored.{sector_size, head_size, zeros, block_in, kept_sector, sector_filled, HaveBlocks, kept_byte, byte_after, sectors_from};
     ghost use Rattle.shadow_mbr.specs.Erasure.{is_erased};
 
     pub(crate) fn new(alloc: Global) -> Kept
@@ -264,7 +264,7 @@ impl Kept {
     ) -> Result<(), AllocError>
         requires { first ≤ end }
         ensures { OnOk result (bytes.new.items
-            ≡ bytes.old.items ++ sectors_from (λ s. take head_size (sector_in self.now s)) first
+            ≡ bytes.old.items ++ sectors_from (λ s. take head_size (kept_sector self.now s)) first
             (end - first)) }
     {
         let blocks = &self.blocks;
@@ -334,25 +334,19 @@ impl Kept {
         all
     }
 
-    /// Fills the sectors of a run with a byte, if each of them is kept, and else changes nothing.
+    /// Fills the sectors of a run, which are kept, with a byte.
     #[tactic(auto, using(crate::proofs::Blocks::sorted_blocks))]
-    pub(crate) fn fills(&mut self, first: u64, end: u64, byte: u8) -> bool
-        requires { first ≤ end }
-        ensures covered { IsTrue result
-            ↔ ((s : ℕ) → first ≤ s → s < end → is_some (block_in self.old s) ≡ true) }
+    pub(crate) fn fill(&mut self, first: u64, end: u64, byte: u8)
+        requires from { first ≤ end }
+        requires all { (s : ℕ) → first ≤ s → s < end → is_some (block_in self.old s) ≡ true }
         ensures kept { (s : ℕ) → is_some (block_in self.new s) ≡ is_some (block_in self.old s) }
-        ensures sectors { result ≡ true → (s : ℕ) → sector_in self.new s
-            ≡ sector_filled first end byte (sector_in self.old s) s }
-        ensures misses { result ≡ false → self.new ≡ self.old }
-        ensures whole { (s : ℕ) → length (sector_in self.new s) ≡ sector_size }
+        ensures sectors { (s : ℕ) → kept_sector self.new s
+            ≡ sector_filled first end byte (kept_sector self.old s) s }
+        ensures whole { (s : ℕ) → length (kept_sector self.new s) ≡ sector_size }
         ensures sorted { IsStrictlySortedBy nat_cmp (keys_of self.new) }
     {
         let mut finder = self.places.finder(first);
-        let all = finder.has_all(first, end);
-        if all {
-            fill_blocks(&mut finder, &mut self.blocks, first, end, byte);
-        }
-        all
+        fill_blocks(&mut finder, &mut self.blocks, first, end, byte);
     }
 
     /// Keeps the listed sectors too, as zeros. Where memory is refused, nothing changes.

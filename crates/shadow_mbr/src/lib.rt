@@ -6,6 +6,7 @@
 
 mod erasing;
 mod erasure;
+mod group_map;
 mod kept;
 mod mbr;
 mod media;

@@ -175,10 +175,8 @@ impl Sectors {
     {
         self.is_sound();
         let end = first + u64::from(count);
-        if !self.kept.fills(first, end, byte) {
-            self.keep(first, end)?;
-            self.kept.fills(first, end, byte);
-        }
+        self.keep(first, end)?;
+        self.kept.fill(first, end, byte);
         Ok(())
     }
 
