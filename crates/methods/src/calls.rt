@@ -43,7 +43,6 @@ fn handler_of(kind: Option<Kind>, ask: &Ask) -> Option<Handler>
 }
 
 /// Fulfils what a granted call asks, by the kind of its object.
-#[inline(always)]
 fn perform(
     alloc: Global,
     store: &mut Store,
@@ -96,7 +95,6 @@ fn perform(
 }
 
 /// Why a call is denied in a session, by what it sees and what it holds.
-#[inline(always)]
 fn denied_in(
     store: &Store,
     sessions: &Sessions,
@@ -122,7 +120,6 @@ fn denied_in(
 }
 
 /// A call that has its shape.
-#[inline(always)]
 fn call_asked(
     alloc: Global,
     store: &mut Store,
@@ -148,7 +145,6 @@ fn call_asked(
 }
 
 /// A call of a method of an object.
-#[inline(always)]
 fn called(
     alloc: Global,
     store: &mut Store,
@@ -179,7 +175,6 @@ fn called(
 /// # Errors
 ///
 /// The session does not live, or a growth was refused: then nothing has changed.
-#[inline(always)]
 pub fn invoke(
     alloc: Global,
     store: &mut Store,

@@ -36,7 +36,6 @@ use transactions::{SessionId, Store, View};
 use trusted_cmds::SidBlock;
 
 /// What Get lists, as results.
-#[inline(always)]
 fn columns_outcome<R: Rows>(
     alloc: Global,
     rows: &R,
@@ -57,7 +56,6 @@ fn columns_outcome<R: Rows>(
 }
 
 /// Get of columns.
-#[inline(always)]
 pub(crate) fn read_cells(
     alloc: Global,
     store: &Store,

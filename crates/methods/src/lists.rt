@@ -38,7 +38,6 @@ macro_rules! column_arms {
 }
 
 /// Whether a column is asked for and has an ACE.
-#[inline(always)]
 fn is_listed<R: Rows>(
     rows: &R,
     sp: Sp,
@@ -57,7 +56,6 @@ fn is_listed<R: Rows>(
 }
 
 /// Adds a column with its value, where there is one.
-#[inline(always)]
 fn show<R: Rows>(
     alloc: Global,
     rows: &R,
@@ -110,7 +108,6 @@ fn list_each<R: Rows>(
 /// # Errors
 ///
 /// A growth was refused.
-#[inline(always)]
 pub fn list_columns<R: Rows>(
     alloc: Global,
     rows: &R,

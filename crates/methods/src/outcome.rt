@@ -62,7 +62,6 @@ impl<T: Drop> From<AllocFailed<T>> for MethodFault {
 }
 
 /// A reply with these results and this status.
-#[inline(always)]
 fn reply(results: Vec<Value>, status: u64) -> Item
     ensures { message result ≡ reply_of (map tree results.items) status }
 {
@@ -73,7 +72,6 @@ fn reply(results: Vec<Value>, status: u64) -> Item
 }
 
 /// These results of a call that may change something, and what was denied beside them.
-#[inline(always)]
 pub(crate) fn said(results: Vec<Value>, denied: Option<Why>, erases: Erasure) -> Outcome
     ensures reply { message result.reply ≡ reply_of (map tree results.items) success }
     ensures denied { result.denied ≡ denied }
@@ -89,7 +87,6 @@ pub(crate) fn said(results: Vec<Value>, denied: Option<Why>, erases: Erasure) ->
 }
 
 /// A refusal, which changes nothing.
-#[inline(always)]
 pub(crate) fn refused(alloc: Global, status: u64, denied: Option<Why>) -> Outcome
     ensures reply { message result.reply ≡ refusal_of status }
     ensures denied { result.denied ≡ denied }
@@ -106,7 +103,6 @@ pub(crate) fn refused(alloc: Global, status: u64, denied: Option<Why>) -> Outcom
 }
 
 /// These results of a call that changes nothing, where a response can carry them.
-#[inline(always)]
 pub(crate) fn fitting(alloc: Global, results: Vec<Value>) -> Outcome
     ensures { Tells (gives (map tree results.items)) result }
 {

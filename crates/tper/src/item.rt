@@ -31,7 +31,6 @@ use tcg_tokens::{Call, Item, TokenError, begins_with_end, read_item};
 use transactions::{SessionId, Store};
 
 /// An answer that nothing denied, and whether rows or bytes may have changed.
-#[inline(always)]
 fn answer(reply: Item, changes: bool) -> Outcome
     ensures reply { message result.reply ≡ message reply }
     ensures denied { result.denied ≡ None }
@@ -47,7 +46,6 @@ fn answer(reply: Item, changes: bool) -> Outcome
 }
 
 /// The refusal of an item that is none, or that cannot stand where it does.
-#[inline(always)]
 fn failed(alloc: Global) -> Outcome
     ensures reply { message result.reply ≡ refusal_of fail }
     ensures denied { result.denied ≡ None }
@@ -62,7 +60,6 @@ fn failed(alloc: Global) -> Outcome
 }
 
 /// The refusal of what is no item; want of memory stays an error.
-#[inline(always)]
 fn no_item(alloc: Global, fault: TokenError) -> Result<Outcome, AllocError>
     ensures fault { OnOk result (fault ≢ OutOfMemory) }
     ensures reply { IfOk result (λ said. message said.reply ≡ refusal_of fail) }
@@ -137,7 +134,6 @@ pub(crate) fn to_manager(
 }
 
 /// A method that a live session calls.
-#[inline(always)]
 fn call_in_session(
     alloc: Global,
     store: &mut Store,
@@ -216,7 +212,6 @@ fn end_session(store: &mut Store, sessions: &mut Sessions, session: SessionId) -
 }
 
 /// What an item comes to in a live session.
-#[inline(always)]
 fn read_in_session(
     alloc: Global,
     store: &mut Store,
@@ -255,7 +250,6 @@ fn ends_session(store: &Store, tokens: &[u8]) -> bool
 }
 
 /// What is sent to a live session.
-#[inline(always)]
 pub(crate) fn in_session(
     alloc: Global,
     store: &mut Store,

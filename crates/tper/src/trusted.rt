@@ -84,7 +84,6 @@ impl Model for Tper {
 }
 
 /// Nothing became of it.
-#[inline(always)]
 fn nothing() -> Sent
     ensures denied { result.denied ≡ None }
     ensures erases { result.erases ≡ no_sectors }
@@ -198,7 +197,6 @@ impl Tper {
     /// Takes what is sent to one of the ComIDs of sessions, and keeps the response. What is no frame of that
     /// ComID, or is for no live session, is taken and has no response. The response is written into the spare vector,
     /// where that has the room. After an error nothing has changed.
-    #[inline(always)]
     pub fn send(
         &mut self,
         com_id: ComId,
@@ -261,7 +259,6 @@ impl Tper {
     }
 
     /// What is sent to a live session.
-    #[inline(always)]
     fn serve(
         &mut self,
         com_id: ComId,
@@ -287,7 +284,6 @@ impl Tper {
     }
 
     /// Keeps the response that carries an answer.
-    #[inline(always)]
     fn respond(&mut self, com_id: ComId, session: Session, outcome: Outcome, room: Room) -> Sent
         requires com_id { is_session_com_id com_id ≡ true }
         requires carried { is_carried (message outcome.reply) ≡ true }
