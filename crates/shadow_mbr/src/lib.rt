@@ -4,6 +4,7 @@
 //! that was never written takes no memory.
 #![tactic(auto)]
 
+mod erased;
 mod erasing;
 mod erasure;
 mod kept;
@@ -13,6 +14,7 @@ mod piece;
 mod places;
 mod sectors;
 
+pub use erased::Erased;
 pub use erasure::{Erasure, MOST_RUNS, Run, Runs};
 pub use kept::{Block, SECTOR_SIZE};
 pub use mbr::Mbr;
