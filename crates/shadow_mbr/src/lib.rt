@@ -4,6 +4,7 @@
 //! that was never written takes no memory.
 #![tactic(auto)]
 
+mod erased;
 mod erasing;
 mod erasure;
 mod group_map;
@@ -14,6 +15,7 @@ mod piece;
 mod places;
 mod sectors;
 
+pub use erased::Erased;
 pub use erasure::{Erasure, MOST_RUNS, Run, Runs};
 pub use kept::{Block, HEAD_SIZE, SECTOR_SIZE};
 pub use mbr::Mbr;

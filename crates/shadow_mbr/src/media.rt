@@ -1,6 +1,6 @@
 //! The sectors of a drive.
 
-use crate::erasure::Erasure;
+use crate::erased::Erased;
 use crate::kept::Block;
 use crate::piece::SECTOR;
 use crate::sectors::Sectors;
@@ -160,11 +160,13 @@ impl Media {
 
     /// Makes zeros of the sectors that are erased; each other keeps its bytes. It takes no memory, and
     /// where all are erased it gives back what it has.
-    pub fn erase(&mut self, erasure: &Erasure)
+    pub fn erase(&mut self, erased: &Erased)
         ensures size { self.new.sectors ≡ self.old.sectors }
         ensures sectors { (sector : ℕ) → sector_at self.new sector
-            ≡ (if is_erased erasure.now sector then zeros else sector_at self.old sector) }
+            ≡ (if is_erased erased.now sector then zeros else sector_at self.old sector) }
     {
-        self.held.erase(erasure);
+        if let Some(erasure) = erased.erasure() {
+            self.held.erase(erasure);
+        }
     }
 }
