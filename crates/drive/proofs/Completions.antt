@@ -1,7 +1,7 @@
 -- What a completion leaves and gives is what its event says.
-use Rattle.std.proofs.Common.{◌≡◌, ℕ, ◌<◌, Bool, List, [], ◌∷◌, ◌++◌, reverse, Option, Some, None, Result, Ok, Err, IfOk, refl, sym, ap, ◌∙◌, option_map}
+use Rattle.std.proofs.Common.{◌≡◌, ℕ, ◌<◌, Bool, List, [], ◌∷◌, ◌++◌, reverse, Option, Some, None, Result, Ok, Err, IfOk, refl, sym, subst, ap, ◌∙◌, option_map}
 use Rattle.std.specs.Prelude.{OnOk}
-use Rattle.shadow_mbr.specs.Stored.{heads}
+use Rattle.shadow_mbr.specs.Stored.{heads, heads_of, sector_at}
 use Rattle.locking.specs.declared.range.Op.{Op}
 use Rattle.locking.specs.declared.range.Op.TheVariants.{Read, Write}
 use Rattle.history.specs.Opening.{Origin}
@@ -9,13 +9,14 @@ use Rattle.history.specs.Events.{HeldCommand, Event}
 use Rattle.history.specs.Readers.{held as held_in}
 use Rattle.history.specs.Facts.{Facts, facts}
 use Rattle.history.specs.Decisions.{completed}
-use Rattle.history.specs.Answers.{completed_fises, completed_data}
+use Rattle.history.specs.Answers.{completed_fises, completed_data, expected, fises_of, read_by}
 use Rattle.history.specs.History.{Act, Complete, log}
 use Rattle.drive.specs.declared.answer.Completed.{Completed}
 use Rattle.drive.specs.declared.error.DriveError.{DriveError}
 use Rattle.drive.specs.declared.transfer.Held.{Held}
-use Rattle.drive.specs.Transfer.{transfer_by, held_command, verdict_held, held_bytes}
-use Rattle.drive.specs.Queue.{slot_at}
+use Rattle.drive.specs.Transfer.{transfer_by, by_op, queued_command, held_command, verdict_held, held_bytes, payload_size_of, sector_then}
+use Rattle.drive.specs.Queue.{slot_at, held_at, with_slot}
+use Rattle.drive.specs.declared.queue.Queue.{Queue}
 use Rattle.drive.specs.State.{DriveState, kept_facts, KeepsDrive, Agrees, AgreesInOrder}
 use Rattle.drive.specs.Answers.{fises_done, IsCompletion, IsCompletionByHeads, Finishes, IsFinished}
 use Rattle.drive.proofs.Keeping.{seen-is, completed-keeps}
@@ -37,6 +38,37 @@ data-by : (f : Facts) (op : Op) (lba count : ℕ) (shadowed : Bool)
     → held_bytes f (record { transfer = transfer_by op lba count; is_shadowed = shadowed }) ≡ completed_data f (Some (held_command (record { transfer = transfer_by op lba count; is_shadowed = shadowed })))
 data-by f Read lba count shadowed = refl
 data-by f Write lba count shadowed = refl
+
+-- how many bytes what is held brings
+size-by : (op : Op) (lba count : ℕ) (shadowed : Bool)
+    → expected (Some (held_command (record { transfer = transfer_by op lba count; is_shadowed = shadowed }))) ≡ payload_size_of (transfer_by op lba count)
+size-by Read lba count shadowed = refl
+size-by Write lba count shadowed = refl
+
+pub brought-by : (queue : Queue) (tag : ℕ) (its : Held) → slot_at queue.slots tag ≡ Some its → payload_size_of its.transfer ≡ expected (held_at queue tag)
+brought-by queue tag its is =
+    sym (ap (λ (x : Option Held). expected (option_map held_command x)) is ∙ size-by its.transfer.op its.transfer.lba its.transfer.count its.is_shadowed)
+
+-- a write gives nothing
+pub heads-of-write : (v : List ℕ) (f : Facts) (held : Held) → held.transfer.op ≡ Write → v ≡ [] → v ≡ heads (held_bytes f held)
+unfolding heads_of
+heads-of-write v f held is none =
+    none ∙ sym (ap (λ (op : Op). heads (by_op op (read_by f held.transfer.lba held.transfer.count (verdict_held held)) [])) is)
+
+-- the transfer moves, and then its slot is free
+pub finished-some : (gives : List ℕ → List ℕ) (tag : ℕ) (payload : List ℕ) (x : Option Held) (its : Held) (old mid new : DriveState) (done : Completed) → x ≡ Some its
+    → mid.tper ≡ old.tper → mid.queue ≡ old.queue → ((s : ℕ) → sector_at mid.media s ≡ sector_then its.transfer payload (sector_at old.media s) s)
+    → new ≡ record mid { queue = with_slot tag None mid.queue }
+    → fises_done done ≡ fises_of tag (queued_command its.transfer) → ((f : Facts) → done.bytes.items ≡ gives (held_bytes (kept_facts old f) its))
+    → IsFinished gives tag payload x old new done
+finished-some gives tag payload x its old mid new done is tper queue media freed fises bytes =
+    subst (λ (x : Option Held). IsFinished gives tag payload x old new done) (sym is) (record {
+      tper = ap (λ (d : DriveState). d.tper) freed ∙ tper;
+      queue = ap (λ (d : DriveState). d.queue) freed ∙ ap (with_slot tag None) queue;
+      media = λ s. ap (λ (d : DriveState). sector_at d.media s) freed ∙ media s;
+      fises = fises;
+      bytes = bytes;
+    })
 
 abbrev Gives : (List ℕ → List ℕ) → Facts → ℕ → Option HeldCommand → Completed → Type 0
 Gives gives f tag held done = (fises_done done ≡ completed_fises tag held) × (done.bytes.items ≡ gives (completed_data f held))

@@ -10,10 +10,9 @@ loop-sector-preserved c =
     let i = c.loop-sector.sector in
     record {
       within = omega (arith, c.loop-sector-test.true);
-      heads = first_of (
-        grind (arith, next_head n i bytes),
-        rw c.in_ok-extend_from_slice.ensures (append_assoc c.loop-sector.heads.items _ _ ∙ ap (λ (xs : List ℕ). c.loop-sector.heads.items ++ xs) (next_head n i bytes (omega (arith, c.loop-sector-test.true))) ∙ c.loop-sector.invariant.heads),
-      );
+      heads =
+          rw c.in_ok-append_head.ensures (append_assoc c.loop-sector.heads.items _ _
+          ∙ ap (λ (xs : List ℕ). c.loop-sector.heads.items ++ xs) (next_head n i bytes (omega (arith, c.loop-sector-test.true))) ∙ c.loop-sector.invariant.heads);
     }
 
 pub returns : goal.returns
