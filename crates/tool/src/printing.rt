@@ -2,7 +2,7 @@
 
 ghost use Rattle.std.specs.Prelude.{◌≡◌, ◌∷◌, [], OnOk, take};
 ghost use Rattle.compacket.specs.Frames.{com_packet_size};
-ghost use Rattle.script_lines.specs.Texts.{Prints};
+ghost use Rattle.script_lines.specs.Texts.{Prints, denial_lines, refusal_lines};
 ghost use Rattle.tool.specs.Effects.{protocol_list_size, discovery_size, shown_bytes, served_text, told_lines};
 
 use audit::AuditLine;
@@ -85,33 +85,58 @@ fn print_served(report: &mut Report, command: &Command, bytes: &[u8]) -> Result<
     Ok(())
 }
 
-/// Prints what came of a command, and under the number of its act what denied it to a client. It gives the vector
-/// of the data, which is not wanted any more.
+/// Prints that a command failed, and under the number of its act what denied it to a client, which
+/// the answer does not keep.
+pub fn print_failure(
+    report: &mut Report,
+    step: u64,
+    client: u32,
+    answer: &mut Accepted,
+) -> Result<(), AllocError>
+    ensures { OnOk result (Prints report.old report.new
+        (refusal_lines step client answer.old.status answer.old.error answer.old.denied)) }
+{
+    let denied = answer.denied.take();
+    report.print_refusal(step, client, answer.status, answer.error, denied)?;
+    Ok(())
+}
+
+/// Prints that a command was served, with its data, and under the number of its act what it denied
+/// to a client, which the answer does not keep.
+fn print_success(
+    report: &mut Report,
+    step: u64,
+    client: u32,
+    command: &Command,
+    answer: &mut Accepted,
+) -> Result<(), AllocError>
+    ensures { OnOk result (Prints report.old report.new
+        (served_text command.now answer.old.bytes.items
+        ∷ denial_lines step client answer.old.denied)) }
+{
+    print_served(report, command, &answer.bytes)?;
+    if let Some(why) = answer.denied.take() {
+        report.print_audit(&AuditLine { step, client, why })?;
+    }
+    Ok(())
+}
+
+/// Prints what came of a command, and under the number of its act what denied it to a client, which
+/// the answer does not keep.
 pub fn print_answer(
     report: &mut Report,
     step: u64,
     client: u32,
     command: &Command,
-    accepted: Accepted,
-) -> Result<Vec<u8>, AllocError>
+    answer: &mut Accepted,
+) -> Result<(), AllocError>
     ensures { OnOk result (Prints report.old report.new
-        (told_lines step client command.now accepted)) }
+        (told_lines step client command.now answer.old)) }
 {
-    let failed = accepted.has_failed();
-    let Accepted {
-        status,
-        error,
-        bytes,
-        denied,
-        ..
-    } = accepted;
-    if failed {
-        report.print_refusal(step, client, status, error, denied)?;
-        return Ok(bytes);
+    if answer.has_failed() {
+        print_failure(report, step, client, answer)?;
+    } else {
+        print_success(report, step, client, command, answer)?;
     }
-    print_served(report, command, &bytes)?;
-    if let Some(why) = denied {
-        report.print_audit(&AuditLine { step, client, why })?;
-    }
-    Ok(bytes)
+    Ok(())
 }

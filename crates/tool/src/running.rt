@@ -10,7 +10,7 @@ use crate::commands::{
 };
 use crate::ending::Fault;
 use crate::payload::{fill, pad, put_frame};
-use crate::printing::print_answer;
+use crate::printing::{print_answer, print_failure};
 use compacket::{ComId, Session};
 use drive::{Accepted, Drive};
 use fis::Tag;
@@ -52,6 +52,8 @@ pub struct RunningPhase {
     payload: Vec<u8>,
     /// The tokens that the payload frames.
     tokens: Vec<u8>,
+    /// What the drive answered to the last command.
+    answer: Accepted,
 }
 
 impl RunningPhase {
@@ -78,6 +80,7 @@ impl RunningPhase {
             had_failed: false,
             payload: Vec::new(alloc),
             tokens: Vec::new(alloc),
+            answer: Accepted::none(alloc),
         }
     }
 
@@ -153,20 +156,20 @@ impl RunningPhase {
         }
     }
 
-    /// Gives the drive the FIS of a command, with the payload at hand.
+    /// Gives the drive the FIS of a command, with the payload at hand. Its answer stays here.
     #[inline(always)]
     #[tactic(auto, using(crate::proofs::Acts::brings))]
-    fn accept(&mut self, command: &Command, tag: Tag) -> Result<Accepted, AllocError>
+    fn accept(&mut self, command: &Command, tag: Tag) -> Result<(), AllocError>
         requires address { IfSome (lba_of command.now) (λ lba. lba < 2 ^ 48) }
         requires counted { IsCounted command.now }
         requires payload { length self.old.payload.items ≡ payload_length (fis_of command.now tag) }
-        ensures { IfOk result (λ accepted. (o : Origin) (acts : List Act) → RunsOn self.old o acts
-            → Accepts self.new o acts command.now tag self.old.payload.items accepted) }
+        ensures { OnOk result ((o : Origin) (acts : List Act) → RunsOn self.old o acts
+            → Accepts self.new o acts command.now tag self.old.payload.items self.new.answer) }
     {
         let fis = to_fis(command, tag).to_bytes();
-        let accepted = self.drive.accept(&fis, &self.payload)?;
+        self.drive.accept_into(&fis, &self.payload, &mut self.answer)?;
         self.acts = self.acts.wrapping_add(1);
-        Ok(accepted)
+        Ok(())
     }
 
     /// Whether the command that comes, where it fails, is the first one that a failed queue aborts: the
@@ -187,13 +190,14 @@ impl RunningPhase {
             ((o : Origin) (acts : List Act) → RunsOn self.old o acts
             → Has self.new o report.old report.new (completion_effect o acts tag byte)) }
     {
-        fill(&mut self.payload, self.drive.expects(tag), byte)?;
+        // What is held expects as many bytes as the acts say.
+        let _ = self.drive.expects(tag);
         // what is held completes, unless memory is refused
-        let Ok(done) = self.drive.complete(tag, &self.payload) else {
+        let Ok(done) = self.drive.complete_with_heads(tag, byte) else {
             return Err(AllocError);
         };
         self.acts = self.acts.wrapping_add(1);
-        report.print_data(&done.bytes)?;
+        report.print_heads(&done.bytes)?;
         self.drive.give_back(done.bytes);
         Ok(())
     }
@@ -217,18 +221,12 @@ impl RunningPhase {
         let has_failed = self.drive.failure().is_some();
         let aborted = self.is_first_abort(has_failed);
         self.payload.clear();
-        let accepted = self.accept(command, transfer.tag)?;
-        if accepted.held {
+        self.accept(command, transfer.tag)?;
+        if self.answer.held {
             self.serve(transfer.tag, byte, report)?;
             return Ok(false);
         }
-        let Accepted {
-            status,
-            error,
-            denied,
-            ..
-        } = accepted;
-        report.print_refusal(self.acts, transfer.client, status, error, denied)?;
+        print_failure(report, self.acts, transfer.client, &mut self.answer)?;
         Ok(aborted)
     }
 
@@ -250,10 +248,10 @@ impl RunningPhase {
     {
         let has_failed = self.drive.failure().is_some();
         let is_first = self.is_first_abort(has_failed);
-        let accepted = self.accept(command, Tag::low_bits(0))?;
-        let aborted = accepted.has_failed() && is_first;
-        let bytes = print_answer(report, self.acts, client, command, accepted)?;
-        self.drive.give_back(bytes);
+        self.accept(command, Tag::low_bits(0))?;
+        let aborted = self.answer.has_failed() && is_first;
+        print_answer(report, self.acts, client, command, &mut self.answer)?;
+        self.drive.give_back_from(&mut self.answer.bytes);
         Ok(aborted)
     }
 

@@ -7,6 +7,6 @@ pub returns : goal.returns
 returns c = λ o acts runs.
     accepts-so _ c.args.self.now.acts o acts c.args.command.now c.args.tag c.to_bytes-fis.result
     c.deref.result.now c.args.self.now.payload.items
-    c.in_ok-accepted.accepted c.deref.ensures.value
+    c.accept_into.new.answer c.deref.ensures.value
     (subst (IsH2dSpelling c.to_bytes-fis.result) c.to_fis.ensures.exact c.to_bytes-fis.ensures)
-    runs.1 refl (c.in_ok-accepted.ensures.agrees o acts runs.0) (c.in_ok-accepted.ensures.answer o acts runs.0)
+    runs.1 refl (c.in_ok-accept_into.ensures.agrees o acts runs.0) (c.in_ok-accept_into.ensures.answer o acts runs.0)
