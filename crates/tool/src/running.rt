@@ -167,7 +167,8 @@ impl RunningPhase {
             → Accepts self.new o acts command.now tag self.old.payload.items self.new.answer) }
     {
         let fis = to_fis(command, tag).to_bytes();
-        self.drive.accept_into(&fis, &self.payload, &mut self.answer)?;
+        self.drive
+            .accept_into(&fis, &self.payload, &mut self.answer)?;
         self.acts = self.acts.wrapping_add(1);
         Ok(())
     }

@@ -7,17 +7,17 @@ use Rattle.tool.proofs.running.RunningPhase.command.Goals.{then-has_failed, else
 pub returns : goal.returns
 returns c = λ o acts runs.
     let has = command-then c.accept.new.self o acts c.args.client c.args.command.now c.low_bits.result
-      c.is_first_abort-is_first.new.self.payload.items
-      c.args.self.now.payload.items c.args.report.now c.print_answer.new.report
-      c.accept.new.self.answer c.low_bits.ensures
-      (ap (λ payload. payload.items) c.is_first_abort-is_first.ensures.payload)
-      (c.in_ok-accept.ensures o acts (c.is_first_abort-is_first.ensures.runs o acts runs))
-      c.in_ok-print_answer.ensures in (
-  record { runs = rw c.give_back_from.ensures has.runs; prints = has.prints },
-  elim c.if-has_failed.branch [
-    | then-has_failed w ↦ λ told. sym (ap is_some (c.failure.ensures.told o acts runs.0))
-        ∙ sym c.is_some-has_failed.ensures
-        ∙ c.is_first_abort-is_first.ensures.told (sym w.aborted-is ∙ told)
-    | else-has_failed w ↦ λ told. absurd (cc (w.aborted-is, told))
-  ],
-)
+    c.is_first_abort-is_first.new.self.payload.items
+    c.args.self.now.payload.items c.args.report.now c.print_answer.new.report
+    c.accept.new.self.answer c.low_bits.ensures
+    (ap (λ payload. payload.items) c.is_first_abort-is_first.ensures.payload)
+    (c.in_ok-accept.ensures o acts (c.is_first_abort-is_first.ensures.runs o acts runs))
+    c.in_ok-print_answer.ensures in (
+      record { runs = rw c.give_back_from.ensures has.runs; prints = has.prints },
+      elim c.if-has_failed.branch [
+        | then-has_failed w ↦ λ told. sym (ap is_some (c.failure.ensures.told o acts runs.0))
+            ∙ sym c.is_some-has_failed.ensures
+            ∙ c.is_first_abort-is_first.ensures.told (sym w.aborted-is ∙ told)
+        | else-has_failed w ↦ λ told. absurd (cc (w.aborted-is, told))
+      ],
+    )
