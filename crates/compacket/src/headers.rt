@@ -20,7 +20,7 @@ pub(crate) const PACKET_HEADER: usize = 24;
 pub(crate) const SUBPACKET_HEADER: usize = 12;
 
 /// How many bytes the three headers have.
-pub(crate) const HEADERS: usize = COM_PACKET_HEADER + PACKET_HEADER + SUBPACKET_HEADER;
+pub const HEADERS: usize = COM_PACKET_HEADER + PACKET_HEADER + SUBPACKET_HEADER;
 
 /// The Kind of a data subpacket.
 pub(crate) const DATA_KIND: u16 = 0;

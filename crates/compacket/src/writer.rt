@@ -1,6 +1,6 @@
 //! Frames as they are written.
 
-ghost use Rattle.std.specs.Prelude.{ℕ, List, Ok, ◌≡◌, ◌+◌, ◌-◌, ◌^◌, ◌<◌, ◌≤◌, ◌++◌, IfOk, length, vec_len, vec_capacity};
+ghost use Rattle.std.specs.Prelude.{ℕ, List, Ok, ◌≡◌, ◌+◌, ◌-◌, ◌^◌, ◌<◌, ◌≤◌, ◌++◌, IfOk, length, drop, replicate, vec_len, vec_capacity};
 ghost use Rattle.compacket.specs.declared.headers.TheConstants.{MAX_COM_PACKET, COM_PACKET_HEADER};
 ghost use Rattle.compacket.specs.declared.writer.TheConstants.{MAX_PAYLOAD};
 ghost use Rattle.compacket.specs.Frames.{IsFrame, reading, headers_size, padded};
@@ -60,7 +60,7 @@ fn headers(com_id: ComId, session: Session, len: usize) -> [u8; HEADERS]
 }
 
 /// Adds the headers that stand before so many bytes of a payload, without taking memory.
-pub fn headers_into(com_id: ComId, session: Session, len: usize, out: &mut Vec<u8>)
+fn headers_into(com_id: ComId, session: Session, len: usize, out: &mut Vec<u8>)
     requires fits { len ≤ MAX_PAYLOAD }
     requires room { vec_len out.old + headers_size ≤ vec_capacity out.old }
     ensures items { out.new.items ≡ out.old.items ++ headers_bytes com_id session len }
@@ -69,6 +69,40 @@ pub fn headers_into(com_id: ComId, session: Session, len: usize, out: &mut Vec<u
     ensures room_stays { vec_capacity out.old ≤ vec_capacity out.new }
 {
     append(out, &headers(com_id, session, len));
+}
+
+/// Adds room for the headers of a payload that is to come behind it, without taking memory.
+pub fn headers_room(out: &mut Vec<u8>)
+    requires room { vec_len out.old + headers_size ≤ vec_capacity out.old }
+    ensures items { out.new.items ≡ out.old.items ++ replicate headers_size 0 }
+    ensures len { vec_len out.new ≡ vec_len out.old + headers_size }
+    ensures room_stays { vec_capacity out.old ≤ vec_capacity out.new }
+{
+    append(out, &[0; HEADERS]);
+}
+
+/// Puts bytes in the place of those at the front.
+fn put_in_front(bytes: &[u8], out: &mut [u8])
+    requires { length bytes.now ≤ length out.old }
+    ensures items { out.new ≡ bytes.now ++ drop (length bytes.now) out.old }
+{
+    let (front, _) = out.split_at_mut(bytes.len());
+    front.copy_from_slice(bytes);
+}
+
+/// Writes the headers of a payload into the room that stands before it, at the front of the vector, without taking
+/// memory.
+pub fn headers_before(com_id: ComId, session: Session, out: &mut Vec<u8>)
+    requires room { headers_size ≤ vec_len out.old }
+    requires fits { vec_len out.old - headers_size ≤ MAX_PAYLOAD }
+    ensures items { out.new.items ≡ headers_bytes com_id session (vec_len out.old - headers_size)
+        ++ drop headers_size out.old.items }
+    ensures fits { (session.tsn < 2 ^ 32) × (session.hsn < 2 ^ 32) }
+    ensures len { vec_len out.new ≡ vec_len out.old }
+    ensures room_stays { vec_capacity out.old ≤ vec_capacity out.new }
+{
+    let len = out.len() - HEADERS;
+    put_in_front(&headers(com_id, session, len), out.as_mut_slice());
 }
 
 /// Adds the zeros that stand behind so many bytes of a payload, without taking memory.

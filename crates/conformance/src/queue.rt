@@ -21,6 +21,8 @@ enum Row {
     Identity,
     /// The command under a tag is completed with data of one byte: its answer is so many bytes, all the same.
     Done(u8, u8, Data),
+    /// The same, with the first bytes of each sector.
+    Heads(u8, u8, Data),
     /// The command under a tag is completed with zeros, and told by two FISes.
     DoneBy(u8, &'static [u8; 28], &'static [u8; 8]),
     /// No command is held under a tag.
@@ -253,8 +255,18 @@ const MOVED_LATE: [Row; 6] = [
     Row::Done(1, 0, (512, 0xaa)),
 ];
 
+/// A completion whose bytes are all the same, and which gives the first four of each sector.
+const BY_HEADS: [Row; 6] = [
+    Row::Write(0, 5, 2, Told::Served),
+    Row::Heads(0, 0xbb, (0, 0)),
+    Row::Read(1, 5, 2, Told::Served),
+    Row::Heads(1, 0, (8, 0xbb)),
+    Row::Read(1, 5, 2, Told::Served),
+    Row::Done(1, 0, (1024, 0xbb)),
+];
+
 /// The lists, each for a drive on which nothing was done.
-const LISTS: [&[Row]; 11] = [
+const LISTS: [&[Row]; 12] = [
     &DROPPED,
     &MIXED,
     &MIXED_WRITE,
@@ -265,6 +277,7 @@ const LISTS: [&[Row]; 11] = [
     &ABORTS,
     &ENDS,
     &MOVED_LATE,
+    &BY_HEADS,
     &[Row::Identity],
 ];
 
@@ -334,8 +347,9 @@ fn is_answered(drive: &mut Drive, fis: &[u8; 20], front: [u8; 4]) -> Result<bool
     let accepted = drive.accept(fis, &[])?;
     let mut expected = [0; 20];
     expected[..4].copy_from_slice(&front);
-    let is_one = accepted.fises.len() == 1 && accepted.bytes.is_empty();
-    Ok(is_one && is_fis(&accepted.fises, 0, &expected))
+    let fises = accepted.fises();
+    let is_one = fises.len() == 1 && accepted.bytes.is_empty();
+    Ok(is_one && is_fis(&fises, 0, &expected))
 }
 
 /// Whether the FIS at a place has these bytes.
@@ -366,6 +380,12 @@ fn gives(
     Ok(are_bytes(&done.bytes, data))
 }
 
+/// Whether it gives the first bytes of its sectors so.
+fn gives_heads(drive: &mut Drive, tag: u8, byte: u8, data: Data) -> Result<bool, DriveError> {
+    let done = drive.complete_with_heads(Tag::low_bits(tag), byte)?;
+    Ok(are_bytes(&done.bytes, data))
+}
+
 /// Whether the command under a tag, completed with zeros, is told by these FISes.
 fn is_done_by(
     alloc: Global,
@@ -377,8 +397,9 @@ fn is_done_by(
     let tag = Tag::low_bits(tag);
     let given = vec![in alloc; 0; drive.expects(tag)]?;
     let done = drive.complete(tag, &given)?;
-    let are_two = done.fises.len() == 2;
-    Ok(are_two && is_fis(&done.fises, 0, setup) && is_fis(&done.fises, 1, end))
+    let fises = done.fises();
+    let are_two = fises.len() == 2;
+    Ok(are_two && is_fis(&fises, 0, setup) && is_fis(&fises, 1, end))
 }
 
 /// Whether no command is held under a tag.
@@ -430,6 +451,7 @@ fn is_right(alloc: Global, drive: &mut Drive, row: Row) -> Result<bool, DriveErr
         Row::Answer(fis, front) => is_answered(drive, fis, front),
         Row::Identity => is_identity(drive),
         Row::Done(tag, byte, data) => gives(alloc, drive, tag, byte, data),
+        Row::Heads(tag, byte, data) => gives_heads(drive, tag, byte, data),
         Row::DoneBy(tag, setup, end) => is_done_by(alloc, drive, tag, setup, end),
         Row::Free(tag) => Ok(is_free(drive, tag)),
         Row::Takes(tag, size) => Ok(drive.expects(Tag::low_bits(tag)) == size),

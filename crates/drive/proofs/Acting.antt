@@ -54,7 +54,7 @@ use Rattle.drive.specs.Decision.{ranges_of, transfer_deed, executed, reason, dec
 use Rattle.std.proofs.lemmas.Bool.Decides.{nat_tests}
 use Rattle.std.proofs.lemmas.List.{reverse-append}
 use Rattle.drive.specs.State.{DriveState, kept_facts, KeepsDrive, Agrees, AgreesInOrder}
-use Rattle.drive.specs.Answers.{IsAnswer, IsDoneAndAnswered}
+use Rattle.drive.specs.Answers.{fises_in, IsAnswer, IsDoneAndAnswered}
 use Rattle.shadow_mbr.specs.declared.erasure.Erasure.{Erasure}
 use Rattle.shadow_mbr.specs.Erasure.{is_erased}
 use Rattle.drive.proofs.Keeping.{seen-is, nothing-keeps, failed-keeps, holds-keeps, moved-keeps, mended-keeps, tper-keeps, sends-of-tper, sends-erase, sent-deed, IsOfTper}
@@ -202,7 +202,7 @@ pub record IsTold (a : Accepted) (status error : ℕ) (held : Bool) (fises : Lis
   pub status_is : a.status ≡ status
   pub error_is : a.error ≡ error
   pub held_is : a.held ≡ held
-  pub fises_are : a.fises.items ≡ fises
+  pub fises_are : fises_in a ≡ fises
   pub bytes_are : a.bytes.items ≡ bytes
   pub denied_is : a.denied ≡ denied
 

@@ -1,8 +1,10 @@
 //! What the drive answers (Serial ATA, FISes to the host; ACS-3, Status and Error).
 
-ghost use Rattle.std.specs.Prelude.{◌≡◌, ◌==◌, ◌^◌, ◌<◌, ◌≤◌, ℕ, true, false, [], ◌∷◌, Some, None};
-ghost use Rattle.history.specs.Answers.{answer_fis, pio_fis, served_fises, ready, errored, setup_fis, moved_fis, fises_of};
-ghost use Rattle.drive.specs.Transfer.{queued_command, by_op, size_of};
+ghost use Rattle.std.specs.Prelude.{◌≡◌, ◌==◌, ◌^◌, ◌<◌, ◌≤◌, ℕ, true, false, not, [], ◌∷◌, Some, None};
+ghost use Rattle.history.specs.Answers.{answer_fis, pio_fis, served_fises, ready, errored, setup_fis, moved_fis};
+ghost use Rattle.drive.specs.Answers.{form_fises, fises_in, fises_done};
+ghost use Rattle.drive.specs.Transfer.{by_op};
+ghost use Rattle.drive.specs.declared.answer.Form.TheVariants.{Register};
 
 use crate::transfer::Transfer;
 use arrayvec::ArrayVec;
@@ -22,19 +24,34 @@ pub struct Accepted {
     pub error: u8,
     /// Whether the command is held until it is completed.
     pub held: bool,
-    /// The FISes to the host, in their order.
-    pub fises: ArrayVec<Fis, 2>,
+    /// Which FISes go to the host: [`Accepted::fises`] gives them.
+    pub form: Form,
     /// The data to the host.
     pub bytes: Vec<u8>,
     /// What denied the command.
     pub denied: Option<Why>,
 }
 
+/// Which FISes answer a command.
+#[derive(Clone, Copy, Debug, PartialEq, Eq)]
+pub enum Form {
+    /// A Register FIS, with the status and the error.
+    Register,
+    /// A PIO Setup FIS alone: data that go to the host by PIO.
+    PioIn,
+    /// A PIO Setup FIS, and then a Register FIS: data that come from the host by PIO.
+    PioOut,
+}
+
 /// What a completed command gives: its FISes and its data.
 #[derive(Drop)]
 pub struct Completed {
-    /// A DMA Setup FIS, and then a Set Device Bits FIS.
-    pub fises: ArrayVec<Fis, 2>,
+    /// The tag of the command.
+    pub tag: Tag,
+    /// Which way its data move.
+    pub op: Op,
+    /// How many bytes move.
+    pub size: u32,
     /// The sectors of a read, none for a write.
     pub bytes: Vec<u8>,
 }
@@ -59,65 +76,135 @@ impl Accepted {
         self.status == FAILED
     }
 
-    /// The command failed.
-    pub(crate) fn failed(alloc: Global, error: u8, denied: Option<Why>) -> Accepted
-        ensures status { result.status ≡ errored }
-        ensures error { result.error ≡ error }
-        ensures held { result.held ≡ false }
-        ensures fises { result.fises.items ≡ answer_fis true errored error ∷ [] }
-        ensures bytes { result.bytes.items ≡ [] }
-        ensures denied { result.denied ≡ denied }
+    /// The FISes to the host, in their order.
+    pub fn fises(&self) -> ArrayVec<Fis, 2>
+        ensures { result.items ≡ fises_in self.now }
     {
         let mut fises = ArrayVec::new();
-        fises.push(answer_fis(true, FAILED, error));
-        Accepted {
-            status: FAILED,
-            error,
-            held: false,
-            fises,
-            bytes: Vec::new(alloc),
-            denied,
+        match self.form {
+            Form::Register => fises.push(answer_fis(!self.held, self.status, self.error)),
+            Form::PioIn => fises.push(pio_fis(true, READY)),
+            Form::PioOut => {
+                fises.push(pio_fis(false, BUSY));
+                fises.push(answer_fis(true, READY, 0));
+            }
         }
+        fises
     }
 
-    /// The command is held.
-    pub(crate) fn held(alloc: Global) -> Accepted
+    /// What stands before the first answer: ready, and no data.
+    pub fn none(alloc: Global) -> Accepted
         ensures status { result.status ≡ ready }
         ensures error { result.error ≡ 0 }
-        ensures held { result.held ≡ true }
-        ensures fises { result.fises.items ≡ answer_fis false ready 0 ∷ [] }
+        ensures held { result.held ≡ false }
+        ensures fises { fises_in result ≡ answer_fis true ready 0 ∷ [] }
         ensures bytes { result.bytes.items ≡ [] }
         ensures denied { result.denied ≡ None }
     {
-        let mut fises = ArrayVec::new();
-        fises.push(answer_fis(false, READY, 0));
         Accepted {
             status: READY,
             error: 0,
-            held: true,
-            fises,
+            held: false,
+            form: Form::Register,
             bytes: Vec::new(alloc),
             denied: None,
         }
     }
 
-    /// The command was executed, with these FISes: its data, and what denied the item that it sent.
-    pub(crate) fn served(fises: ArrayVec<Fis, 2>, bytes: Vec<u8>, denied: Option<Why>) -> Accepted
-        ensures status { result.status ≡ ready }
-        ensures error { result.error ≡ 0 }
-        ensures held { result.held ≡ false }
-        ensures fises { result.fises.items ≡ fises.items }
-        ensures bytes { result.bytes.items ≡ bytes.items }
-        ensures denied { result.denied ≡ denied }
+    /// The command failed.
+    pub(crate) fn set_failed(&mut self, error: u8, denied: Option<Why>)
+        ensures status { self.new.status ≡ errored }
+        ensures error { self.new.error ≡ error }
+        ensures held { self.new.held ≡ false }
+        ensures fises { fises_in self.new ≡ answer_fis true errored error ∷ [] }
+        ensures bytes { self.new.bytes.items ≡ [] }
+        ensures denied { self.new.denied ≡ denied }
     {
-        Accepted {
-            status: READY,
-            error: 0,
-            held: false,
-            fises,
+        self.status = FAILED;
+        self.error = error;
+        self.held = false;
+        self.form = Form::Register;
+        self.bytes.clear();
+        self.denied = denied;
+    }
+
+    /// The command is held.
+    pub(crate) fn set_held(&mut self)
+        ensures status { self.new.status ≡ ready }
+        ensures error { self.new.error ≡ 0 }
+        ensures held { self.new.held ≡ true }
+        ensures fises { fises_in self.new ≡ answer_fis false ready 0 ∷ [] }
+        ensures bytes { self.new.bytes.items ≡ [] }
+        ensures denied { self.new.denied ≡ None }
+    {
+        self.status = READY;
+        self.error = 0;
+        self.held = true;
+        self.form = Form::Register;
+        self.bytes.clear();
+        self.denied = None;
+    }
+
+    /// The command was executed: its form, its data, and what denied the item that it sent.
+    pub(crate) fn set_served(&mut self, form: Form, bytes: Vec<u8>, denied: Option<Why>)
+        ensures status { self.new.status ≡ ready }
+        ensures error { self.new.error ≡ 0 }
+        ensures held { self.new.held ≡ false }
+        ensures fises { fises_in self.new ≡ form_fises form false ready 0 }
+        ensures bytes { self.new.bytes.items ≡ bytes.items }
+        ensures denied { self.new.denied ≡ denied }
+    {
+        self.status = READY;
+        self.error = 0;
+        self.held = false;
+        self.form = form;
+        self.bytes = bytes;
+        self.denied = denied;
+    }
+
+    /// The command was executed, and has no data: its form.
+    pub(crate) fn set_done(&mut self, form: Form)
+        ensures status { self.new.status ≡ ready }
+        ensures error { self.new.error ≡ 0 }
+        ensures held { self.new.held ≡ false }
+        ensures fises { fises_in self.new ≡ form_fises form false ready 0 }
+        ensures bytes { self.new.bytes.items ≡ [] }
+        ensures denied { self.new.denied ≡ None }
+    {
+        self.status = READY;
+        self.error = 0;
+        self.held = false;
+        self.form = form;
+        self.bytes.clear();
+        self.denied = None;
+    }
+}
+
+impl Completed {
+    ghost use Rattle.drive.specs.Transfer.{queued_command};
+    ghost use Rattle.history.specs.Answers.{fises_of};
+
+    /// The transfer under a tag was completed: its data.
+    pub(crate) fn of(tag: Tag, transfer: &Transfer, bytes: Vec<u8>) -> Completed
+        ensures fises { fises_done result ≡ fises_of tag (queued_command transfer.now) }
+        ensures bytes { result.bytes.items ≡ bytes.items }
+    {
+        Completed {
+            tag,
+            op: transfer.op,
+            size: transfer.size(),
             bytes,
-            denied,
         }
+    }
+
+    /// A DMA Setup FIS, and then a Set Device Bits FIS.
+    pub fn fises(&self) -> ArrayVec<Fis, 2>
+        ensures { result.items ≡ fises_done self.now }
+    {
+        let mut fises = ArrayVec::new();
+        fises.push(setup_fis(self.tag, self.op, self.size));
+        fises.push(moved_fis(self.tag));
+        fises
     }
 }
 
@@ -147,53 +234,29 @@ fn pio_fis(to_host: bool, end_status: u8) -> Fis
     })
 }
 
-/// The FIS of a transfer that was executed at once.
-pub(crate) fn moved_fises() -> ArrayVec<Fis, 2>
-    ensures { result.items ≡ answer_fis true ready 0 ∷ [] }
-{
-    let mut fises = ArrayVec::new();
-    fises.push(answer_fis(true, READY, 0));
-    fises
-}
-
-/// The FISes of a command that was executed: those that read by PIO have a PIO Setup FIS alone, a send by PIO has it
+/// The form of a command that was executed: those that read by PIO have a PIO Setup FIS alone, a send by PIO has it
 /// in front.
-pub(crate) fn served_fises(command: &Command) -> ArrayVec<Fis, 2>
-    ensures { result.items ≡ served_fises command.now }
+pub(crate) fn served_form(command: &Command) -> Form
+    ensures { form_fises result false ready 0 ≡ served_fises command.now }
 {
-    let mut fises = ArrayVec::new();
     match *command {
-        Command::Send { dma: false, .. } => {
-            fises.push(pio_fis(false, BUSY));
-            fises.push(answer_fis(true, READY, 0));
-        }
-        Command::Receive { dma: false, .. } => fises.push(pio_fis(true, READY)),
-        Command::ReadLog10 { dma: false } => fises.push(pio_fis(true, READY)),
-        Command::ReadLog { dma: false, .. } => fises.push(pio_fis(true, READY)),
-        Command::Identify => fises.push(pio_fis(true, READY)),
-        _ => fises.push(answer_fis(true, READY, 0)),
+        Command::Send { dma: false, .. } => Form::PioOut,
+        Command::Receive { dma: false, .. } => Form::PioIn,
+        Command::ReadLog10 { dma: false } => Form::PioIn,
+        Command::ReadLog { dma: false, .. } => Form::PioIn,
+        Command::Identify => Form::PioIn,
+        _ => Form::Register,
     }
-    fises
-}
-
-/// The FISes that complete a held transfer.
-pub(crate) fn completion_fises(tag: Tag, transfer: &Transfer) -> ArrayVec<Fis, 2>
-    ensures { result.items ≡ fises_of tag (queued_command transfer.now) }
-{
-    let mut fises = ArrayVec::new();
-    fises.push(setup_fis(tag, transfer));
-    fises.push(moved_fis(tag));
-    fises
 }
 
 /// The DMA Setup FIS that begins the data of a queued command.
-fn setup_fis(tag: Tag, transfer: &Transfer) -> Fis
-    ensures { result ≡ setup_fis (by_op transfer.now.op true false) tag (size_of transfer.now) }
+fn setup_fis(tag: Tag, op: Op, size: u32) -> Fis
+    ensures { result ≡ setup_fis (by_op op true false) tag size }
 {
     Fis::DmaSetup(DmaSetup {
-        to_host: matches!(transfer.op, Op::Read),
+        to_host: matches!(op, Op::Read),
         buffer_low: u32::from(tag.number()),
-        count: transfer.size(),
+        count: size,
         ..DmaSetup::default()
     })
 }

@@ -6,9 +6,10 @@ ghost use Rattle.fis.specs.Tags.{slot_count};
 ghost use Rattle.locking.specs.Ranges.{ranges_in};
 ghost use Rattle.transactions.specs.Sights.{look_up};
 
-use crate::answer::{Accepted, Completed, completion_fises};
+use crate::answer::{Accepted, Completed};
 use crate::decision::{ABORTED, Refusal, policy};
 use crate::error::DriveError;
+use crate::heads::heads;
 use crate::opening::Opening;
 use crate::queue::Queue;
 use crate::transfer::{Held, Transfer};
@@ -23,7 +24,7 @@ use sp_cells::{DriveConfig, SetError};
 use sp_tables::Tables;
 use std::alloc::{AllocError, Global};
 use std::marker::Model;
-use std::mem::replace;
+use std::mem::{replace, swap};
 use tper::{Tper, sized};
 use transactions::View;
 use trusted_cmds::{Command, SidBlock, is_block_sid, is_programmatic_reset};
@@ -72,11 +73,12 @@ impl Model for Drive {
 }
 
 impl Drive {
-    ghost use Rattle.std.specs.Prelude.{◌⊎◌, ◌||◌, [], ◌∷◌, ◌++◌, ℕ, List, Option, ◌<◌, ◌↔◌, ◌*◌, IfErr, IsErrOf, IsOk, None, Some, Ok, Err, is_some, true, false};
+    ghost use Rattle.std.specs.Prelude.{replicate, slice_index, ◌⊎◌, ◌||◌, [], ◌∷◌, ◌++◌, ℕ, List, Option, ◌<◌, ◌↔◌, ◌*◌, IfErr, IsErrOf, IsOk, None, Some, Ok, Err, is_some, true, false};
     ghost use Rattle.fis.specs.H2d.{h2d_at};
+    ghost use Rattle.fis.specs.Types.{h2d_type};
     ghost use Rattle.fis.specs.declared.h2d.RegH2d.{RegH2d};
     ghost use Rattle.compacket.specs.Frames.{reading as frame_in};
-    ghost use Rattle.shadow_mbr.specs.Stored.{sector_at, sector_size};
+    ghost use Rattle.shadow_mbr.specs.Stored.{sector_at, sector_size, heads};
     ghost use Rattle.device_data.specs.Discovery.{has_owner, discovery_of};
     ghost use Rattle.trusted_cmds.specs.BlockSid.{is_block_sid, is_blocked};
     ghost use Rattle.device_data.specs.ErrorLog.{sized, error_log as log_page};
@@ -99,7 +101,7 @@ impl Drive {
     ghost use Rattle.drive.specs.Transfer.{payload_size_of, held_bytes, sector_then, StandsOnDrive};
     ghost use Rattle.drive.specs.Decision.{told, policy_on, FitsPolicy, IsDue, decision_event};
     ghost use Rattle.drive.specs.State.{kept_facts, KeepsDrive, Agrees, AgreesInOrder};
-    ghost use Rattle.drive.specs.Answers.{IsAnswer, IsCompletion, IsDoneAndAnswered, IsFinished};
+    ghost use Rattle.drive.specs.Answers.{IsAnswer, IsCompletion, IsCompletionByHeads, IsDoneAndAnswered, IsFinished};
 
     // What is opened.
 
@@ -390,7 +392,6 @@ impl Drive {
         Ok(page)
     }
 
-    /// A vector with nothing in it.
     pub(crate) fn allocator(&self) -> Global {
         self.alloc
     }
@@ -410,8 +411,6 @@ impl Drive {
     /// # Errors
     ///
     /// Want of memory, and then the drive is as before.
-    // An answer is large: where the caller has the code at hand, it is not moved.
-    #[inline(always)]
     pub fn accept(&mut self, fis: &[u8; H2D_LENGTH], payload: &[u8]) -> Result<Accepted, AllocError>
         requires { length payload.now ≡ payload_of self.old.tper.store.config fis.now }
         ensures agrees { OnOk result ((o : Origin) (acts : List Act) → Agrees self.old o acts
@@ -425,26 +424,119 @@ impl Drive {
             (event o (log o acts) (Accept fis.now payload.now)) accepted) }
         ensures err { OnErr result (self.new ≡ self.old) }
     {
-        let accepted = self.take(fis, payload)?;
-        Ok(accepted)
+        let mut answer = Accepted::none(self.alloc);
+        self.accept_into(fis, payload, &mut answer)?;
+        Ok(answer)
+    }
+
+    /// [`Drive::accept`], whose answer takes the place of another one: an answer is large, and so it
+    /// is not moved.
+    ///
+    /// # Errors
+    ///
+    /// Want of memory, and then the drive and the answer are as before.
+    #[inline(always)]
+    pub fn accept_into(
+        &mut self,
+        fis: &[u8; H2D_LENGTH],
+        payload: &[u8],
+        answer: &mut Accepted,
+    ) -> Result<(), AllocError>
+        requires { length payload.now ≡ payload_of self.old.tper.store.config fis.now }
+        ensures agrees { OnOk result ((o : Origin) (acts : List Act) → Agrees self.old o acts
+            → Agrees self.new o (Accept fis.now payload.now ∷ acts)) }
+        ensures in_order { OnOk result ((o : Origin) (acts : List Act)
+            → AgreesInOrder self.old o acts
+            → AgreesInOrder self.new o (acts ++ Accept fis.now payload.now ∷ [])) }
+        ensures answer { OnOk result ((o : Origin) (acts : List Act)
+            → Agrees self.old o acts
+            → IsAnswer (facts o (log o acts)) (h2d_at fis.now)
+            (event o (log o acts) (Accept fis.now payload.now)) answer.new) }
+        ensures err { OnErr result (self.new ≡ self.old) }
+        ensures unsaid { OnErr result (answer.new ≡ answer.old) }
+    {
+        self.take(fis, payload, answer)?;
+        Ok(())
+    }
+
+    /// [`Drive::accept_into`] of a FIS whose fields were read, so that they are not read again.
+    ///
+    /// # Errors
+    ///
+    /// Want of memory, and then the drive and the answer are as before.
+    #[inline(always)]
+    pub fn accept_command(
+        &mut self,
+        fis: &[u8; H2D_LENGTH],
+        h: &RegH2d,
+        payload: &[u8],
+        answer: &mut Accepted,
+    ) -> Result<(), AllocError>
+        requires kind { slice_index fis.now 0 ≡ h2d_type }
+        requires read { h.now ≡ h2d_at fis.now }
+        requires payload { length payload.now ≡ payload_of self.old.tper.store.config fis.now }
+        ensures agrees { OnOk result ((o : Origin) (acts : List Act) → Agrees self.old o acts
+            → Agrees self.new o (Accept fis.now payload.now ∷ acts)) }
+        ensures in_order { OnOk result ((o : Origin) (acts : List Act)
+            → AgreesInOrder self.old o acts
+            → AgreesInOrder self.new o (acts ++ Accept fis.now payload.now ∷ [])) }
+        ensures answer { OnOk result ((o : Origin) (acts : List Act)
+            → Agrees self.old o acts
+            → IsAnswer (facts o (log o acts)) (h2d_at fis.now)
+            (event o (log o acts) (Accept fis.now payload.now)) answer.new) }
+        ensures err { OnErr result (self.new ≡ self.old) }
+        ensures unsaid { OnErr result (answer.new ≡ answer.old) }
+    {
+        self.take_command(fis, h, payload, answer)?;
+        Ok(())
     }
 
     /// Decides on a FIS, and does it.
     #[inline(always)]
-    fn take(&mut self, fis: &[u8; H2D_LENGTH], payload: &[u8]) -> Result<Accepted, AllocError>
+    fn take(
+        &mut self,
+        fis: &[u8; H2D_LENGTH],
+        payload: &[u8],
+        answer: &mut Accepted,
+    ) -> Result<(), AllocError>
         requires { length payload.now ≡ payload_of self.old.tper.store.config fis.now }
-        ensures done { IfOk result (λ a. (o : Origin) (acts : List Act) → Agrees self.old o acts
+        ensures done { OnOk result ((o : Origin) (acts : List Act) → Agrees self.old o acts
             → IsDoneAndAnswered (facts o (log o acts)) (h2d_at fis.now)
-            (event o (log o acts) (Accept fis.now payload.now)) self.new o (log o acts) a) }
+            (event o (log o acts) (Accept fis.now payload.now)) self.new o (log o acts)
+            answer.new) }
         ensures err { OnErr result (self.new ≡ self.old) }
+        ensures unsaid { OnErr result (answer.new ≡ answer.old) }
     {
         if fis[0] != H2D_TYPE {
-            return Ok(Accepted::failed(self.allocator(), ABORTED, None));
+            answer.set_failed(ABORTED, None);
+            return Ok(());
         }
-        let h = RegH2d::read(fis);
-        let decision = self.decide(&h);
-        let accepted = self.act(&h, decision, payload)?;
-        Ok(accepted)
+        self.take_command(fis, &RegH2d::read(fis), payload, answer)?;
+        Ok(())
+    }
+
+    /// Decides on a command, and does it.
+    #[inline(always)]
+    fn take_command(
+        &mut self,
+        fis: &[u8; H2D_LENGTH],
+        h: &RegH2d,
+        payload: &[u8],
+        answer: &mut Accepted,
+    ) -> Result<(), AllocError>
+        requires kind { slice_index fis.now 0 ≡ h2d_type }
+        requires read { h.now ≡ h2d_at fis.now }
+        requires payload { length payload.now ≡ payload_of self.old.tper.store.config fis.now }
+        ensures done { OnOk result ((o : Origin) (acts : List Act) → Agrees self.old o acts
+            → IsDoneAndAnswered (facts o (log o acts)) (h2d_at fis.now)
+            (event o (log o acts) (Accept fis.now payload.now)) self.new o (log o acts)
+            answer.new) }
+        ensures err { OnErr result (self.new ≡ self.old) }
+        ensures unsaid { OnErr result (answer.new ≡ answer.old) }
+    {
+        let decision = self.decide(h);
+        self.act(h, decision, payload, answer)?;
+        Ok(())
     }
 
     /// Moves the data of a held command, and lets it go. `NotHeld` where nothing is held under the
@@ -475,7 +567,7 @@ impl Drive {
     fn finish(&mut self, tag: Tag, payload: &[u8]) -> Result<Completed, DriveError>
         requires { length payload.now ≡ expected (held_at self.old.queue tag) }
         ensures slot { tag < slot_count }
-        ensures done { IfOk result (λ done. IsFinished tag payload.now
+        ensures done { IfOk result (λ done. IsFinished (λ bytes. bytes) tag payload.now
             (slot_at self.old.queue.slots tag) self.old self.new done) }
         ensures not_held { IsErrOf result DriveError.NotHeld
             ↔ (slot_at self.old.queue.slots tag ≡ None) }
@@ -486,10 +578,84 @@ impl Drive {
             Some(held) => {
                 let bytes = self.carry_out(&held, payload)?;
                 self.release(tag);
-                Ok(Completed {
-                    fises: completion_fises(tag, &held.transfer),
-                    bytes,
-                })
+                Ok(Completed::of(tag, &held.transfer, bytes))
+            }
+        }
+    }
+
+    /// Completes a held command as [`Drive::complete`] does with a payload that is one byte, again and
+    /// again, and gives of each sector of a read the first four bytes alone: who needs no more of it
+    /// neither fills a payload nor takes the sectors.
+    ///
+    /// # Errors
+    ///
+    /// `NotHeld`, and want of memory: then the drive is as before.
+    pub fn complete_with_heads(&mut self, tag: Tag, byte: u8) -> Result<Completed, DriveError>
+        ensures agrees { OnOk result ((o : Origin) (acts : List Act) → Agrees self.old o acts
+            → Agrees self.new o (Complete tag
+            (replicate (expected (held_at self.old.queue tag)) byte) ∷ acts)) }
+        ensures in_order { OnOk result ((o : Origin) (acts : List Act)
+            → AgreesInOrder self.old o acts
+            → AgreesInOrder self.new o (acts ++ Complete tag
+            (replicate (expected (held_at self.old.queue tag)) byte) ∷ [])) }
+        ensures answer { IfOk result (λ done. (o : Origin) (acts : List Act)
+            → Agrees self.old o acts
+            → IsCompletionByHeads (facts o (log o acts)) tag (held_in (log o acts) tag) done) }
+        ensures stands { IsErrOf result DriveError.NotHeld
+            ↔ (slot_at self.old.queue.slots tag ≡ None) }
+        ensures not_held { (o : Origin) (acts : List Act) → Agrees self.old o acts
+            → (IsErrOf result DriveError.NotHeld ↔ (held_in (log o acts) tag ≡ None)) }
+        ensures err { OnErr result (self.new ≡ self.old) }
+    {
+        self.finish_with_heads(tag, byte)
+    }
+
+    fn finish_with_heads(&mut self, tag: Tag, byte: u8) -> Result<Completed, DriveError>
+        ensures slot { tag < slot_count }
+        ensures done { IfOk result (λ done. IsFinished heads tag
+            (replicate (expected (held_at self.old.queue tag)) byte)
+            (slot_at self.old.queue.slots tag) self.old self.new done) }
+        ensures not_held { IsErrOf result DriveError.NotHeld
+            ↔ (slot_at self.old.queue.slots tag ≡ None) }
+        ensures err { OnErr result (self.new ≡ self.old) }
+    {
+        match self.held(tag) {
+            None => Err(DriveError::NotHeld),
+            Some(held) => {
+                let bytes = self.carry_out_with_heads(&held, byte)?;
+                self.release(tag);
+                Ok(Completed::of(tag, &held.transfer, bytes))
+            }
+        }
+    }
+
+    /// Moves the data of a transfer, each byte of a write the same, and gives the first bytes of each
+    /// sector that was read.
+    fn carry_out_with_heads(&mut self, held: &Held, byte: u8) -> Result<Vec<u8>, AllocError>
+        requires { StandsOnDrive self.old.tper.store.config.sectors
+            self.old.tper.store.config.mbr_sectors held.now }
+        ensures data { IfOk result (λ v. (f : Facts)
+            → v.items ≡ heads (held_bytes (kept_facts self.old f) held.now)) }
+        ensures tper { self.new.tper ≡ self.old.tper }
+        ensures queue { self.new.queue ≡ self.old.queue }
+        ensures media { OnOk result ((s : ℕ) → sector_at self.new.media s
+            ≡ sector_then held.now.transfer
+            (replicate (payload_size_of held.now.transfer) byte) (sector_at self.old.media s) s) }
+        ensures err { OnErr result (self.new ≡ self.old) }
+    {
+        let (lba, count) = (held.transfer.lba, held.transfer.count.number());
+        match held.transfer.op {
+            Op::Read if held.is_shadowed => {
+                let bytes = self.tper.read_shadow(lba, count)?;
+                heads(self.alloc, &bytes)
+            }
+            Op::Read => {
+                let buffer = replace(&mut self.spare, Vec::new(self.alloc));
+                self.media.read_heads_into(buffer, lba, count)
+            }
+            Op::Write => {
+                self.media.fill(lba, count, byte)?;
+                Ok(Vec::new(self.alloc))
             }
         }
     }
@@ -508,6 +674,15 @@ impl Drive {
     {
         if self.spare.capacity() < bytes.capacity() {
             self.spare = bytes;
+        }
+    }
+
+    /// [`Drive::give_back`] of a vector that stays where it is: what it holds then is not said.
+    pub fn give_back_from(&mut self, bytes: &mut Vec<u8>)
+        ensures { self.new ≡ self.old }
+    {
+        if self.spare.capacity() < bytes.capacity() {
+            swap(&mut self.spare, bytes);
         }
     }
 

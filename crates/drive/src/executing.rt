@@ -2,7 +2,7 @@
 
 ghost use Rattle.std.specs.Prelude.{◌≡◌, ◌∷◌, List, length, IfOk, OnOk, OnErr};
 
-use crate::answer::{Accepted, moved_fises, served_fises};
+use crate::answer::{Accepted, Form, served_form};
 use crate::deciding::DISCOVERY_COM_ID;
 use crate::decision::{Decision, reason};
 use crate::drive::Drive;
@@ -29,52 +29,60 @@ impl Drive {
     ghost use Rattle.drive.specs.State.{KeepsDrive, Agrees};
     ghost use Rattle.drive.specs.Answers.{IsDoneAndAnswered};
 
-    /// Does what was decided on the command of a FIS.
+    /// Does what was decided on the command of a FIS, and answers. Where memory is refused nothing is said.
     #[inline(always)]
     pub(crate) fn act(
         &mut self,
         h: &RegH2d,
         decision: Decision,
         payload: &[u8],
-    ) -> Result<Accepted, AllocError>
+        answer: &mut Accepted,
+    ) -> Result<(), AllocError>
         requires due { IsDue self.old h.now decision }
         requires payload { length payload.now
             ≡ payload_length_in self.old.tper.store.config.profile h.now }
-        ensures done { IfOk result (λ a. (o : Origin) (acts : List Act) → Agrees self.old o acts
+        ensures done { OnOk result ((o : Origin) (acts : List Act) → Agrees self.old o acts
             → IsDoneAndAnswered (facts o (log o acts)) h.now
             (decision_event (facts o (log o acts)) payload.now decision) self.new o
-            (log o acts) a) }
+            (log o acts) answer.new) }
         ensures err { OnErr result (self.new ≡ self.old) }
+        ensures unsaid { OnErr result (answer.new ≡ answer.old) }
     {
-        let alloc = self.allocator();
         match decision {
             Decision::Aborts { error, denied } => {
-                Ok(Accepted::failed(alloc, error, reason(&denied)))
+                answer.set_failed(error, reason(&denied));
+                Ok(())
             }
             Decision::FailsQueue { failure, denied } => {
                 let error = failure.error;
                 self.fail_queue(failure);
-                Ok(Accepted::failed(alloc, error, reason(&denied)))
+                answer.set_failed(error, reason(&denied));
+                Ok(())
             }
             Decision::Holds { tag, held } => {
                 self.hold(tag, held);
-                Ok(Accepted::held(alloc))
+                answer.set_held();
+                Ok(())
             }
             Decision::Moves(held) => {
                 let bytes = self.carry_out(&held, payload)?;
-                Ok(Accepted::served(moved_fises(), bytes, None))
+                answer.set_served(Form::Register, bytes, None);
+                Ok(())
             }
             Decision::Executes(command) => {
                 let (bytes, denied) = self.execute(&command, payload)?;
-                Ok(Accepted::served(served_fises(&command), bytes, denied))
+                answer.set_served(served_form(&command), bytes, denied);
+                Ok(())
             }
             Decision::Restarts(command) => {
                 self.restart(PROGRAMMATIC);
-                Ok(Accepted::served(served_fises(&command), Vec::new(alloc), None))
+                answer.set_done(served_form(&command));
+                Ok(())
             }
             Decision::Blocks(command) => {
                 self.block_sid(SidBlock::asked(payload));
-                Ok(Accepted::served(served_fises(&command), Vec::new(alloc), None))
+                answer.set_done(served_form(&command));
+                Ok(())
             }
         }
     }

@@ -8,6 +8,7 @@ mod decision;
 mod drive;
 mod error;
 mod executing;
+mod heads;
 mod laws;
 mod opening;
 mod payload;
@@ -16,7 +17,7 @@ mod reset;
 mod stored;
 mod transfer;
 
-pub use answer::{Accepted, Completed};
+pub use answer::{Accepted, Completed, Form};
 pub use audit::Why;
 pub use device_data::Failure;
 pub use drive::Drive;

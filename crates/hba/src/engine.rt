@@ -9,7 +9,7 @@ ghost use Rattle.hba.specs.Engine.{signature_fis};
 use crate::hba::{Hba, one_more};
 use crate::work::{Done, Outcome, Work, fault_of};
 use drive::{Accepted, Completed, DriveError};
-use fis::{Fis, H2D_LENGTH, Lba, RegD2h, Tag};
+use fis::{Fis, H2D_LENGTH, Lba, RegD2h, RegH2d, Tag};
 use hba_memory::{Header, Miss, Place, deliver, gather, header_by, is_command, post_all};
 use host_memory::{HostMemory, read_array};
 use std::alloc::AllocError;
@@ -31,6 +31,10 @@ fn signature_fis() -> Fis
 impl Hba {
     ghost use Rattle.history.specs.Opening.{Origin};
     ghost use Rattle.history.specs.History.{Accept, Complete};
+    ghost use Rattle.std.specs.Prelude.{slice_index};
+    ghost use Rattle.fis.specs.H2d.{h2d_at};
+    ghost use Rattle.fis.specs.Types.{h2d_type};
+    ghost use Rattle.drive.specs.Answers.{fises_in, fises_done};
     ghost use Rattle.drive.specs.Queue.{held_at};
     ghost use Rattle.hba.specs.History.{Operation, Completed as CompletedTag, Signed, Missed, Controlled, AgreesHba, HasActed, Adds, account, acts_of, effect_after};
     ghost use Rattle.hba.specs.Showing.{fetching, fault_of, served};
@@ -39,25 +43,34 @@ impl Hba {
     ghost use Rattle.hba.specs.declared.work.Done.TheVariants as dones;
 
     /// The drive takes a command.
-    fn take(&mut self, fis: &[u8; H2D_LENGTH], payload: &[u8]) -> Result<Accepted, AllocError>
-        requires { length payload.now ≡ payload_of self.old.drive.tper.store.config fis.now }
+    fn take(
+        &mut self,
+        fis: &[u8; H2D_LENGTH],
+        h: &RegH2d,
+        payload: &[u8],
+        answer: &mut Accepted,
+    ) -> Result<(), AllocError>
+        requires kind { slice_index fis.now 0 ≡ h2d_type }
+        requires read { h.now ≡ h2d_at fis.now }
+        requires payload { length payload.now
+            ≡ payload_of self.old.drive.tper.store.config fis.now }
         ensures acted { OnOk result ((o : Origin) (list : List Operation)
             → AgreesHba self.old o list
             → HasActed self.new o (Accept fis.now payload.now ∷ acts_of o list)) }
-        ensures effect { IfOk result (λ a. (o : Origin) (list : List Operation)
+        ensures effect { OnOk result ((o : Origin) (list : List Operation)
             → AgreesHba self.old o list
             → IsEffect (effect_after o (account o list) (Accept fis.now payload.now))
-            a.fises.items a.bytes.items) }
-        ensures denied { IfOk result (λ a. (o : Origin) (list : List Operation)
+            (fises_in answer.new) answer.new.bytes.items) }
+        ensures denied { OnOk result ((o : Origin) (list : List Operation)
             → AgreesHba self.old o list
-            → a.denied
+            → answer.new.denied
             ≡ (effect_after o (account o list) (Accept fis.now payload.now)).event.denied) }
         ensures registers { self.new.registers ≡ self.old.registers }
         ensures err { OnErr result (self.new ≡ self.old) }
     {
-        let accepted = self.drive.accept(fis, payload)?;
+        self.drive.accept_command(fis, h, payload, answer)?;
         self.acts = one_more(self.acts);
-        Ok(accepted)
+        Ok(())
     }
 
     /// The drive completes what it holds under a tag.
@@ -70,7 +83,7 @@ impl Hba {
         ensures effect { IfOk result (λ a. (o : Origin) (list : List Operation)
             → AgreesHba self.old o list
             → IsEffect (effect_after o (account o list) (Complete tag payload.now))
-            a.fises.items a.bytes.items) }
+            (fises_done a) a.bytes.items) }
         ensures registers { self.new.registers ≡ self.old.registers }
         ensures err { OnErr result (self.new ≡ self.old) }
     {
@@ -195,10 +208,13 @@ impl Hba {
         tag: Tag,
         place: Place,
         fis: &[u8; H2D_LENGTH],
+        h: &RegH2d,
         room: &mut [u8],
         memory: &mut M,
     ) -> Result<Outcome, AllocError>
         requires near { place.at < 2 ^ 40 }
+        requires kind { slice_index fis.now 0 ≡ h2d_type }
+        requires read { h.now ≡ h2d_at fis.now }
         requires long { length room.old ≡ payload_of self.old.drive.tper.store.config fis.now }
         ensures done { IfOk result (λ r. TurnsAs M.does (λ o a. Executes o a place tag fis.now)
             self.old memory.old self.new memory.new r.done r.denied) }
@@ -210,15 +226,17 @@ impl Hba {
             Ok(()) => {}
             Err(miss) => return Ok(self.miss(miss)),
         }
-        let accepted = self.take(fis, room)?;
-        let (fises, bytes) = (accepted.fises.as_slice(), accepted.bytes.as_slice());
+        let mut answer = Accepted::none(self.alloc);
+        self.take(fis, h, room, &mut answer)?;
+        let told = answer.fises();
+        let (fises, bytes) = (told.as_slice(), answer.bytes.as_slice());
         let delivered = deliver(memory, place, room.len(), fises, bytes);
         self.note_fetch(tag);
         let done = self.show(tag, fises, delivered);
-        self.give_back(accepted.bytes);
+        self.give_back(answer.bytes);
         Ok(Outcome {
             done,
-            denied: accepted.denied,
+            denied: answer.denied,
         })
     }
 
@@ -231,14 +249,16 @@ impl Hba {
         memory: &mut M,
     ) -> Result<Outcome, AllocError>
         requires near { place.at < 2 ^ 40 }
+        requires kind { slice_index fis.now 0 ≡ h2d_type }
         ensures done { IfOk result (λ r. TurnsAs M.does (λ o a. Executes o a place tag fis.now)
             self.old memory.old self.new memory.new r.done r.denied) }
         ensures err { OnErr result (self.new ≡ self.old) }
         ensures kept { OnErr result (OnlyReads M.does memory.old memory.new) }
     {
-        let len = self.drive.payload_len(fis);
+        let h = RegH2d::read(fis);
+        let len = self.drive.payload_len_of(fis, &h);
         let mut room = self.take_room(len)?;
-        let outcome = self.execute_in(tag, place, fis, &mut room[..len], memory);
+        let outcome = self.execute_in(tag, place, fis, &h, &mut room[..len], memory);
         self.put_back(room);
         outcome
     }
@@ -289,7 +309,8 @@ impl Hba {
             Err(miss) => return Ok(self.miss(miss)),
         }
         let completed = self.finish(tag, room)?;
-        let (fises, bytes) = (completed.fises.as_slice(), completed.bytes.as_slice());
+        let told = completed.fises();
+        let (fises, bytes) = (told.as_slice(), completed.bytes.as_slice());
         let delivered = deliver(memory, place, room.len(), fises, bytes);
         let done = self.show(tag, fises, delivered);
         self.give_back(completed.bytes);

@@ -3,7 +3,7 @@
 ghost use Rattle.std.specs.Prelude.{◌≡◌, ◌≤◌, ◌<◌, ◌+◌, ◌^◌, ℕ, List, Some, None, length};
 ghost use Rattle.std.specs.Result.{result_err};
 ghost use Rattle.fis.specs.Fis.{IsSpelling};
-ghost use Rattle.host_memory.specs.Access.{Access, Accessed};
+ghost use Rattle.host_memory.specs.Access.{Access, Accessed, IsAccess, Laid};
 ghost use Rattle.hba_memory.specs.Memory.{offset_of, tells_error, data_taken, Scatters, Counts, Posts, PostsTo, Delivers};
 
 use crate::miss::Miss;
@@ -104,6 +104,20 @@ fn data_taken(fises: &[Fis], brought: usize) -> usize
     }
 }
 
+/// Stores a FIS at an address; false where memory failed.
+fn store<M: HostMemory>(memory: &mut M, at: u64, fis: &Fis) -> bool
+    ensures { (bytes : List ℕ) × IsSpelling bytes fis.now
+        × IsAccess M.does memory.old (Laid at bytes result) memory.new }
+{
+    match fis {
+        Fis::H2d(f) => write_at(memory, at, &f.to_bytes()),
+        Fis::D2h(f) => write_at(memory, at, &f.to_bytes()),
+        Fis::SetDeviceBits(f) => write_at(memory, at, &f.to_bytes()),
+        Fis::DmaSetup(f) => write_at(memory, at, &f.to_bytes()),
+        Fis::PioSetup(f) => write_at(memory, at, &f.to_bytes()),
+    }
+}
+
 /// Stores received FISes at a place, in their order.
 ///
 /// # Errors
@@ -114,8 +128,7 @@ fn post<M: HostMemory>(memory: &mut M, at: u32, fises: &[Fis]) -> Result<(), Mis
         × Posts at fises.now talk (result_err result) }
 {
     for fis in fises {
-        let bytes = fis.to_bytes();
-        if !write_at(memory, u64::from(at) + offset_of(fis), &bytes) {
+        if !store(memory, u64::from(at) + offset_of(fis), fis) {
             return Err(Miss::Fis);
         }
     }

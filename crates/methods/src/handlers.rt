@@ -27,7 +27,7 @@ use audit::{AttemptFailure, Why};
 use call_shapes::limits::MOST_RESPONSE;
 use call_shapes::{Ask, list_value, status};
 use sessions::{AuthAnswer, Sessions};
-use shadow_mbr::Erasure;
+use shadow_mbr::{Erased, Erasure};
 use sp_cells::limits::MANUFACTURED;
 use sp_cells::{ByteTable, Column, Rows, Sp, Uid, number_at};
 use std::alloc::{AllocError, Global};
@@ -183,7 +183,7 @@ pub(crate) fn write(
         return Ok(refused(alloc, status::INVALID_PARAMETER, None));
     };
     if apply_set(alloc, store, session, &change)? {
-        Ok(said(Vec::new(alloc), None, Erasure::none()))
+        Ok(said(Vec::new(alloc), None, Erased::none()))
     } else {
         Ok(refused(alloc, status::INVALID_PARAMETER, None))
     }
@@ -209,8 +209,8 @@ pub(crate) fn authenticate(
     let right = number_result(alloc, 1)?;
     let wrong = number_result(alloc, 0)?;
     match sessions.authenticate(store, session, authority, proof) {
-        AuthAnswer::Right => Ok(said(right, None, Erasure::none())),
-        AuthAnswer::Wrong(why) => Ok(said(wrong, Some(why), Erasure::none())),
+        AuthAnswer::Right => Ok(said(right, None, Erased::none())),
+        AuthAnswer::Wrong(why) => Ok(said(wrong, Some(why), Erased::none())),
         AuthAnswer::LockedOut => Ok(refused(
             alloc,
             status::AUTHORITY_LOCKED_OUT,
@@ -240,7 +240,7 @@ pub(crate) fn activate(
         return Ok(refused(alloc, status::FAIL, None));
     }
     store.activate()?;
-    Ok(said(Vec::new(alloc), None, Erasure::none()))
+    Ok(said(Vec::new(alloc), None, Erased::none()))
 }
 
 /// Whether the Locking SP is in use.
@@ -295,7 +295,7 @@ pub(crate) fn revert(
     if store.is_open(session) {
         return Ok(refused(alloc, status::FAIL, None));
     }
-    let erases = erased_by_revert(store);
+    let erases = Erased::of(alloc, erased_by_revert(store))?;
     let sp = sp_of_row(object);
     store.revert(sp)?;
     match sp {
@@ -325,11 +325,10 @@ pub(crate) fn gen_key(
         return Ok(refused(alloc, status::FAIL, None));
     }
     match object.key_number() {
-        Some(range) => Ok(said(
-            Vec::new(alloc),
-            None,
-            erased_by_key(&store.committed(), range),
-        )),
+        Some(range) => {
+            let erases = Erased::of(alloc, erased_by_key(&store.committed(), range))?;
+            Ok(said(Vec::new(alloc), None, erases))
+        }
         None => Ok(refused(alloc, status::FAIL, None)),
     }
 }
@@ -356,7 +355,7 @@ pub(crate) fn revert_sp(
     if keep && is_wholly_locked(&store.view(session)) {
         return Ok(refused(alloc, status::FAIL, None));
     }
-    let erases = erased_by_revert_sp(&store.committed(), keep);
+    let erases = Erased::of(alloc, erased_by_revert_sp(&store.committed(), keep))?;
     store.revert(Sp::Locking)?;
     sessions.end_on(Sp::Locking);
     Ok(said(Vec::new(alloc), None, erases))

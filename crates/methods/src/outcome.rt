@@ -12,7 +12,7 @@ ghost use Rattle.methods.specs.Calls.{Tells};
 use audit::Why;
 use call_shapes::limits::MOST_RESPONSE;
 use call_shapes::status;
-use shadow_mbr::Erasure;
+use shadow_mbr::Erased;
 use std::alloc::{AllocError, AllocFailed, Global};
 use tcg_tokens::{Item, Value, item_len, writable};
 use thiserror::Error;
@@ -23,7 +23,7 @@ use thiserror::Error;
 pub struct Outcome {
     pub reply: Item,
     pub denied: Option<Why>,
-    pub erases: Erasure,
+    pub erases: Erased,
     pub changes: bool,
 }
 
@@ -72,7 +72,7 @@ fn reply(results: Vec<Value>, status: u64) -> Item
 }
 
 /// These results of a call that may change something, and what was denied beside them.
-pub(crate) fn said(results: Vec<Value>, denied: Option<Why>, erases: Erasure) -> Outcome
+pub(crate) fn said(results: Vec<Value>, denied: Option<Why>, erases: Erased) -> Outcome
     ensures reply { message result.reply ≡ reply_of (map tree results.items) success }
     ensures denied { result.denied ≡ denied }
     ensures erases { result.erases ≡ erases }
@@ -97,7 +97,7 @@ pub(crate) fn refused(alloc: Global, status: u64, denied: Option<Why>) -> Outcom
     Outcome {
         reply: reply(Vec::new(alloc), status),
         denied,
-        erases: Erasure::none(),
+        erases: Erased::none(),
         changes: false,
     }
 }
@@ -111,7 +111,7 @@ pub(crate) fn fitting(alloc: Global, results: Vec<Value>) -> Outcome
         return Outcome {
             reply,
             denied: None,
-            erases: Erasure::none(),
+            erases: Erased::none(),
             changes: false,
         };
     }

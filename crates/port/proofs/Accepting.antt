@@ -18,7 +18,7 @@ use Rattle.history.specs.Events.{Event}
 use Rattle.history.specs.Facts.{Facts, facts}
 use Rattle.history.specs.History.{Act, Accept as AcceptFis, event, log}
 use Rattle.history.specs.Opening.{Origin}
-use Rattle.drive.specs.Answers.{IsAnswer}
+use Rattle.drive.specs.Answers.{IsAnswer, fises_in}
 use Rattle.drive.specs.State.{Agrees as DriveAgrees}
 use Rattle.drive.specs.declared.answer.Accepted.{Accepted as DriveAccepted}
 use Rattle.port_history.specs.declared.request.Answer.{Answer}
@@ -129,7 +129,7 @@ record Accepting (old new : PortState) (o : Origin) (list : List Step) (tag : �
   same : made.put ≡ put
   was : stage (trace o list) tag ≡ Issued put
   event_is : IsAnswer (facts o (events (trace o list))) (h2d_at (command_fis put.command tag)) e.event made.answer
-  fises_are : made.answer.fises.items ≡ e.fises
+  fises_are : fises_in made.answer ≡ e.fises
   bytes_are : made.answer.bytes.items ≡ e.bytes
   fits : length e.bytes ≤ buffer_size
 
@@ -213,10 +213,10 @@ accept_regs old new o list tag put e w =
     let s = w.made in
     let f = facts o (events (trace o list)) in
     s.regs
-    ∙ ap (λ (p : Put). restarted_if (not (is_queued_command p.command) && has_error_status s.answer) (all_shown tag old.regs s.answer.fises.items)) w.same
-    ∙ ap (λ (b : Bool). restarted_if (not (is_queued_command put.command) && b) (all_shown tag old.regs s.answer.fises.items))
+    ∙ ap (λ (p : Put). restarted_if (not (is_queued_command p.command) && has_error_status s.answer) (all_shown tag old.regs (fises_in s.answer))) w.same
+    ∙ ap (λ (b : Bool). restarted_if (not (is_queued_command put.command) && b) (all_shown tag old.regs (fises_in s.answer)))
     (answer_fails f (command_fis put.command tag) e.event s.answer w.event_is)
-    ∙ ap (λ (r : Regs). restarted_if (not (is_queued_command put.command) && is_some e.event.failed) (all_shown tag r s.answer.fises.items)) w.agrees.regs
+    ∙ ap (λ (r : Regs). restarted_if (not (is_queued_command put.command) && is_some e.event.failed) (all_shown tag r (fises_in s.answer))) w.agrees.regs
     ∙ ap (λ (xs : List Fis). restarted_if (not (is_queued_command put.command) && is_some e.event.failed) (all_shown tag (registers (trace o list)) xs)) w.fises_are
 
 -- the payload stands in the buffer

@@ -16,7 +16,7 @@ use Rattle.history.specs.Facts.{facts}
 use Rattle.history.specs.History.{Act, Complete as CompleteTag, log}
 use Rattle.history.specs.Opening.{Origin}
 use Rattle.history.specs.Readers.{held}
-use Rattle.drive.specs.Answers.{IsCompletion}
+use Rattle.drive.specs.Answers.{IsCompletion, fises_done}
 use Rattle.drive.specs.Queue.{held_at}
 use Rattle.drive.specs.State.{Agrees as DriveAgrees}
 use Rattle.port_history.specs.declared.request.Answer.TheVariants as answers
@@ -143,7 +143,7 @@ complete_agrees old new o list tag lt h lawful s =
             refl refl refl (h.tags t below))
       ]);
       regs =
-          s.regs ∙ ap (λ (r : Regs). all_shown tag r s.done.fises.items) h.regs
+          s.regs ∙ ap (λ (r : Regs). all_shown tag r (fises_done s.done)) h.regs
           ∙ ap (all_shown tag (registers ms)) answered.fises;
       received =
           subst (λ (xs : List Fis). IsReceived new.memory (reverse xs ++ sent_fises ms)) answered.fises (s.received (sent_fises ms) h.received);

@@ -7,7 +7,7 @@ use Rattle.device_data.specs.declared.log_page.Failure.{Failure}
 use Rattle.fis.specs.H2d.{h2d_at}
 use Rattle.fis.specs.declared.any.Fis.{Fis}
 use Rattle.hba_regs.specs.Registers.{Regs}
-use Rattle.drive.specs.Answers.{IsAnswer}
+use Rattle.drive.specs.Answers.{IsAnswer, fises_in}
 use Rattle.history.specs.declared.reset.ResetKind.{ResetKind}
 use Rattle.history.specs.Answers.{status_of}
 use Rattle.history.specs.Events.{Event}
@@ -96,7 +96,7 @@ recover_agrees old new o list h lawful s =
             laid = laid_recovered new.memory t (is_tag t (failed ms)) (stage ms t) (payload ms t) (laid_same old.memory new.memory t (stage ms t) (payload ms t) memory x.laid);
           };
       regs =
-          s.regs ∙ ap (λ (g : Regs). all_shown 0 (restarted g) s.answer.fises.items) h.regs
+          s.regs ∙ ap (λ (g : Regs). all_shown 0 (restarted g) (fises_in s.answer)) h.regs
           ∙ ap (all_shown 0 (restarted (registers ms))) answered.fises;
       received = subst (λ (xs : List Fis). IsReceived new.memory (reverse xs ++ sent_fises ms)) answered.fises (s.received (sent_fises ms) h.received);
       history = one_entry old o list step new.history (entry_of step) h s.history refl;

@@ -10,7 +10,7 @@ use Rattle.history.specs.Facts.{facts}
 use Rattle.history.specs.History.{Act, Accept as AcceptFis, Complete as CompleteTag, Reset as ResetDrive, log, event}
 use Rattle.history.specs.Opening.{Origin}
 use Rattle.history.specs.Readers.{held}
-use Rattle.drive.specs.Answers.{IsAnswer, IsCompletion}
+use Rattle.drive.specs.Answers.{IsAnswer, IsCompletion, fises_in, fises_done}
 use Rattle.drive.specs.Queue.{held_at}
 use Rattle.drive.specs.State.{DriveState, Agrees as DriveAgrees}
 use Rattle.drive.specs.declared.answer.Accepted.{Accepted as DriveAccepted}
@@ -146,7 +146,7 @@ pub record IsAccepted (old new : PortState) (tag : ℕ) (fis : List ℕ) : Type 
       (buffer_front old.memory tag (fis_payload old.drive.tper.store.config fis)) answer
   pub memory : IsFilled old.memory new.memory tag
       (is_queued_command put.command) answer.bytes.items bytes
-  pub received : Receives old.memory new.memory answer.fises.items
+  pub received : Receives old.memory new.memory (fises_in answer)
   pub slots : new.slots ≡ slice_set old.slots tag (accepted_stage put)
   pub outcomes : new.outcomes
       ≡ slice_set old.outcomes tag
@@ -156,7 +156,7 @@ pub record IsAccepted (old new : PortState) (tag : ℕ) (fis : List ℕ) : Type 
       ≡ failed_then (is_queued_command put.command) (has_error_status answer) tag old.failed
   pub regs : new.regs
       ≡ restarted_if (not (is_queued_command put.command) && has_error_status answer)
-      (all_shown tag old.regs answer.fises.items)
+      (all_shown tag old.regs (fises_in answer))
   pub history : new.history ≡ old.history ++ entry_of (steps.Accept tag) ∷ []
   pub audit : new.audit
       ≡ old.audit ++ line_for (1 + length old.history) put.client answer.denied
@@ -173,11 +173,11 @@ pub record IsCompleted (old new : PortState) (tag : ℕ) : Type 0 where
   pub answers : (o : Origin) (acts : List Act) → DriveAgrees old.drive o acts
       → IsCompletion (facts o (log o acts)) tag (held (log o acts) tag) done
   pub memory : IsFilled old.memory new.memory tag false done.bytes.items bytes
-  pub received : Receives old.memory new.memory done.fises.items
+  pub received : Receives old.memory new.memory (fises_done done)
   pub slots : new.slots ≡ slice_set old.slots tag (Answered put)
   pub outcomes : new.outcomes ≡ slice_set old.outcomes tag (Some (outcomes.Done (length bytes)))
   pub failed : new.failed ≡ old.failed
-  pub regs : new.regs ≡ all_shown tag old.regs done.fises.items
+  pub regs : new.regs ≡ all_shown tag old.regs (fises_done done)
   pub history : new.history ≡ old.history ++ entry_of (steps.Complete tag) ∷ []
   pub audit : new.audit ≡ old.audit
 
@@ -201,8 +201,8 @@ pub record IsRecovered (old new : PortState) : Type 0 where
       (outcome_at old.outcomes t)
   pub failed : new.failed ≡ None
   pub elsewhere : AreSameButReceived old.memory new.memory
-  pub received : Receives old.memory new.memory answer.fises.items
-  pub regs : new.regs ≡ all_shown 0 (restarted old.regs) answer.fises.items
+  pub received : Receives old.memory new.memory (fises_in answer)
+  pub regs : new.regs ≡ all_shown 0 (restarted old.regs) (fises_in answer)
   pub history : new.history ≡ old.history ++ entry_of steps.Recover ∷ []
   pub audit : new.audit ≡ old.audit
 

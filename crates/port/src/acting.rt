@@ -159,7 +159,8 @@ impl Port {
             return Err(PortError::OutOfMemory);
         };
         let queued = is_queued(put.command);
-        let fises = answer.fises.as_slice();
+        let told = answer.fises();
+        let fises = told.as_slice();
         let len = host::take_in(&mut self.memory, tag, queued, fises, &answer.bytes);
         show_answer(&mut self.regs, tag, queued, &answer);
         let slot = usize::from(tag.number());
@@ -207,7 +208,8 @@ impl Port {
             Err(DriveError::NotHeld) => return Err(PortError::NotAccepted),
             Err(DriveError::OutOfMemory) => return Err(PortError::OutOfMemory),
         };
-        let fises = done.fises.as_slice();
+        let told = done.fises();
+        let fises = told.as_slice();
         let len = host::take_in(&mut self.memory, tag, false, fises, &done.bytes);
         show_all(&mut self.regs, tag, fises);
         let slot = usize::from(tag.number());

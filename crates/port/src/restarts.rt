@@ -46,8 +46,9 @@ impl Port {
             return Err(PortError::OutOfMemory);
         };
         restart(&mut self.regs);
-        show_all(&mut self.regs, Tag::low_bits(0), answer.fises.as_slice());
-        host::receive(&mut self.memory, answer.fises.as_slice());
+        let fises = answer.fises();
+        show_all(&mut self.regs, Tag::low_bits(0), fises.as_slice());
+        host::receive(&mut self.memory, fises.as_slice());
         let log = LogEntry::read(&answer.bytes);
         recover_slots(&mut self.slots, &mut self.outcomes, &log);
         self.failed = None;

@@ -12,7 +12,7 @@ use Rattle.hex.proofs.HexLemmas.{decode_of-ok, decode_of-digits, decode_sized-tw
 use Rattle.script_lines.specs.Hexes.{at_most, bytes_up_to, is_hex_up_to}
 
 -- the bytes of a text
-abbrev value : List ℕ → List ℕ
+abbrev pub value : List ℕ → List ℕ
 value text = result_unwrap_or (decode_of text) []
 
 -- the value of what is decoded
@@ -20,7 +20,7 @@ is_ok_value : (r : Result (List ℕ) FromHexError) → IsOk r → r ≡ Ok (resu
 is_ok_value (Ok bytes) ok = refl
 is_ok_value (Err e) ok = cc ok
 
-decodes_to_value : (text : List ℕ) → IsOk (decode_of text) → decode_of text ≡ Ok (value text)
+pub decodes_to_value : (text : List ℕ) → IsOk (decode_of text) → decode_of text ≡ Ok (value text)
 decodes_to_value text ok = is_ok_value (decode_of text) ok
 
 -- Two digits stand for each byte.

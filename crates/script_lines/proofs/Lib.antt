@@ -1,4 +1,6 @@
 mod HexTexts
+mod Digits
+mod Heads
 mod Numerals
 mod SameWords
 mod Sectors

@@ -1,7 +1,8 @@
 -- The lines that a script prints.
-use Rattle.std.specs.Prelude.{◌≡◌, ℕ, Option, Some, None, ◌+◌, ◌*◌, ◌/◌, suc, zero, List, [], ◌∷◌, ◌++◌, slice_range, length, codes, decimal}
+use Rattle.std.specs.Prelude.{◌≡◌, ℕ, Option, Some, None, ◌+◌, ◌*◌, ◌/◌, suc, zero, List, [], ◌∷◌, ◌++◌, take, drop, slice_range, length, codes, decimal}
 use Rattle.hex.specs.Hex.{encode_lower}
 use Rattle.trusted_cmds.specs.Commands.{sector_size}
+use Rattle.shadow_mbr.specs.Stored.{head_size}
 use Rattle.audit.specs.AuditText.{line_text}
 use Rattle.std.specs.List.{flat_map}
 use Rattle.audit.specs.declared.reason.AuditLine.{AuditLine}
@@ -20,6 +21,19 @@ sectors_text bytes = first_bytes (length bytes / sector_size) 0 bytes
 
 abbrev pub data_text : List ℕ → List ℕ
 data_text bytes = codes "ok" ++ sectors_text bytes
+
+-- a blank and each of so many heads of sectors
+unfoldable pub each_head : ℕ → List ℕ → List ℕ
+each_head zero heads = []
+each_head (suc n) heads =
+    32 ∷ (encode_lower (take head_size heads) ++ each_head n (drop head_size heads))
+
+abbrev pub heads_text : List ℕ → List ℕ
+heads_text heads = each_head (length heads / head_size) heads
+
+-- what was done, and gave the sectors of these heads
+abbrev pub given_text : List ℕ → List ℕ
+given_text heads = codes "ok" ++ heads_text heads
 
 -- what was done, and gave no data
 abbrev pub done_text : List ℕ

@@ -1,8 +1,8 @@
 //! Bytes that a line writes in hex text.
 
-ghost use Rattle.std.specs.Prelude.{◌≡◌};
+ghost use Rattle.std.specs.Prelude.{◌≡◌, ◌<◌, ◌*◌, ℕ, Some, Ok, IsOk, true, length};
 ghost use Rattle.std.specs.List.{list_all};
-ghost use Rattle.hex.specs.Hex.{is_hex_digit};
+ghost use Rattle.hex.specs.Hex.{decode_of, hex_digit_value, is_hex_digit, pair_value};
 ghost use Rattle.script_lines.specs.Hexes.{is_hex_up_to};
 
 use std::alloc::AllocError;
@@ -73,7 +73,39 @@ impl<'a> Hex<'a> {
         requires { length room.old ≡ length self.now }
         ensures { room.new ≡ self.now }
     {
-        let _ = hex::decode_to_slice(self.digits, room);
+        decode(self.digits, room);
+    }
+}
+
+/// The value of a hex digit, of either case.
+#[inline(always)]
+#[tactic(auto, using(crate::proofs::Digits::value_is, crate::proofs::Digits::is_small))]
+fn value_of(digit: u8) -> u8
+    requires { is_hex_digit digit ≡ true }
+    ensures value { hex_digit_value digit ≡ Some result }
+    ensures small { result < 16 }
+{
+    digit % 16 + 9 * (digit / 64)
+}
+
+/// The byte of two hex digits.
+#[inline(always)]
+fn byte_of(high: u8, low: u8) -> u8
+    requires high { is_hex_digit high ≡ true }
+    requires low { is_hex_digit low ≡ true }
+    ensures { (at : ℕ) → pair_value high low at ≡ Ok result }
+{
+    value_of(high) * 16 + value_of(low)
+}
+
+/// Writes the bytes of a text of digits to their room. LLVM does many at once.
+fn decode(digits: &[u8], room: &mut [u8])
+    requires digits { IsOk (decode_of digits.now) }
+    requires room { 2 * length room.old ≡ length digits.now }
+    ensures { decode_of digits.now ≡ Ok room.new }
+{
+    for i in 0..room.len() {
+        room[i] = byte_of(digits[2 * i], digits[2 * i + 1]);
     }
 }
 

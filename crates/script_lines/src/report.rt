@@ -1,11 +1,12 @@
 //! The lines that a script prints.
 
-ghost use Rattle.std.specs.Prelude.{◌≡◌, ◌++◌, ◌∷◌, [], OnOk, length};
+ghost use Rattle.std.specs.Prelude.{◌≡◌, ◌<◌, ◌++◌, ◌∷◌, ◌*◌, [], OnOk, length, slice_index};
 ghost use Rattle.std.specs.Io.KnownBytes.{Appends};
-ghost use Rattle.hex.specs.Hex.{encode_lower};
-ghost use Rattle.script_lines.specs.Texts.{sectors_text};
+ghost use Rattle.hex.specs.Hex.{encode_lower, lower_digits};
+ghost use Rattle.script_lines.specs.Texts.{sectors_text, heads_text};
 
 use audit::{AuditLine, Why, line_bytes};
+use shadow_mbr::HEAD_SIZE;
 use std::alloc::{AllocError, Global};
 use std::io;
 use std::io::Write;
@@ -22,7 +23,8 @@ pub struct Report {
 impl Report {
     ghost use Rattle.std.specs.Prelude.{◌≡◌, ◌++◌, ◌∷◌, [], ℕ, List, Option, OnOk, option_map};
     ghost use Rattle.std.specs.Io.KnownBytes.{Appends};
-    ghost use Rattle.script_lines.specs.Texts.{done_text, data_text, hex_text, command_failure_text, audit_text, refusal_lines, refused_text, reset_text, Prints};
+    ghost use Rattle.shadow_mbr.specs.Stored.{heads as heads_of};
+    ghost use Rattle.script_lines.specs.Texts.{done_text, data_text, given_text, hex_text, command_failure_text, audit_text, refusal_lines, refused_text, reset_text, Prints};
 
     /// Nothing is printed.
     pub fn new(alloc: Global) -> Report
@@ -87,6 +89,31 @@ impl Report {
         self.last.clear();
         self.last.extend_from_slice(b"ok")?;
         append_sectors(&mut self.last, sectors)?;
+        self.print_last()?;
+        Ok(())
+    }
+
+    /// Prints that a transfer was served, by the heads of the sectors that it gave: the first four
+    /// bytes of each.
+    ///
+    /// # Errors
+    ///
+    /// Want of memory: then the line may be pending in part.
+    pub fn print_heads(&mut self, heads: &[u8]) -> Result<(), AllocError>
+        ensures { OnOk result ((sectors : List ℕ) → heads.now ≡ heads_of sectors
+            → Prints self.old self.new (data_text sectors ∷ [])) }
+    {
+        self.print_each(heads)?;
+        Ok(())
+    }
+
+    /// Prints that a transfer was served, with the heads of its sectors.
+    fn print_each(&mut self, heads: &[u8]) -> Result<(), AllocError>
+        ensures { OnOk result (Prints self.old self.new (given_text heads.now ∷ [])) }
+    {
+        self.last.clear();
+        self.last.extend_from_slice(b"ok")?;
+        append_heads(&mut self.last, heads)?;
         self.print_last()?;
         Ok(())
     }
@@ -219,11 +246,44 @@ fn append_sectors(line: &mut Vec<u8>, sectors: &[u8]) -> Result<(), AllocError>
     Ok(())
 }
 
+/// Appends the heads of sectors, each in hex behind a blank.
+#[tactic(auto, using(crate::proofs::Heads::goes_on))]
+fn append_heads(line: &mut Vec<u8>, heads: &[u8]) -> Result<(), AllocError>
+    ensures { OnOk result (line.new.items ≡ line.old.items ++ heads_text heads.now) }
+{
+    for head in 0..heads.len() / HEAD_SIZE {
+        append_four(line, &heads[HEAD_SIZE * head..HEAD_SIZE * head + HEAD_SIZE])?;
+    }
+    Ok(())
+}
+
+/// The digit of a number below 16.
+#[inline(always)]
+#[tactic(auto, using(crate::proofs::Digits::letter, crate::proofs::Digits::numeral))]
+fn digit(n: u8) -> u8
+    requires { n < 16 }
+    ensures { result ≡ slice_index lower_digits n }
+{
+    if n > 9 { n + (b'a' - 10) } else { n + b'0' }
+}
+
+/// Writes the digits of bytes to their room. LLVM does many at once.
+fn spell(bytes: &[u8], room: &mut [u8])
+    requires { length room.old ≡ 2 * length bytes.now }
+    ensures { room.new ≡ encode_lower bytes.now }
+{
+    for i in 0..bytes.len() {
+        let byte = bytes[i];
+        room[2 * i] = digit(byte / 16);
+        room[2 * i + 1] = digit(byte % 16);
+    }
+}
+
 fn append_byte(line: &mut Vec<u8>, byte: u8) -> Result<(), AllocError>
     ensures { OnOk result (line.new.items ≡ line.old.items ++ encode_lower (byte ∷ [])) }
 {
     let mut digits = [0; 2];
-    let _ = hex::encode_to_slice([byte].as_slice(), &mut digits);
+    spell(&[byte], &mut digits);
     line.extend_from_slice(&digits)?;
     Ok(())
 }
@@ -234,7 +294,7 @@ fn append_four(line: &mut Vec<u8>, bytes: &[u8]) -> Result<(), AllocError>
     ensures { OnOk result (line.new.items ≡ line.old.items ++ 32 ∷ encode_lower bytes.now) }
 {
     let mut text = [b' '; 9];
-    let _ = hex::encode_to_slice(bytes, &mut text[1..]);
+    spell(bytes, &mut text[1..]);
     line.extend_from_slice(&text)?;
     Ok(())
 }
@@ -247,6 +307,6 @@ fn append_hex(line: &mut Vec<u8>, bytes: &[u8]) -> Result<(), AllocError>
     let digits = bytes.len().checked_mul(2).ok_or(AllocError)?;
     let end = start.checked_add(digits).ok_or(AllocError)?;
     line.resize(end, 0)?;
-    let _ = hex::encode_to_slice(bytes, &mut line[start..]);
+    spell(bytes, &mut line[start..]);
     Ok(())
 }

@@ -26,10 +26,10 @@ block_in-blocks_of places blocks s = lookup-map_values (block_at blocks) (is_at 
 pub sorted_blocks : (places : List (ℕ × ℕ)) (blocks : List (List ℕ)) → IsStrictlySortedBy nat_cmp (keys_of places) → IsStrictlySortedBy nat_cmp (keys_of (blocks_of places blocks))
 sorted_blocks places blocks sorted = rw (keys_of-map_values (block_at blocks) places) sorted
 
-chosen : {A : Type 0} (s t : ℕ) (a b : A) → s ≡ t → (if s == t then a else b) ≡ a
+pub chosen : {A : Type 0} (s t : ℕ) (a b : A) → s ≡ t → (if s == t then a else b) ≡ a
 chosen s t a b same = grind (arith, nat_tests)
 
-other : {A : Type 0} (s t : ℕ) (a b : A) → s ≢ t → (if s == t then a else b) ≡ b
+pub other : {A : Type 0} (s t : ℕ) (a b : A) → s ≢ t → (if s == t then a else b) ≡ b
 other s t a b apart = grind (arith, nat_tests)
 
 -- One block is another one: only the sector that stands there changes.

@@ -44,14 +44,14 @@ unfolding placed_from blocks_erased
 group_ends p first i group blocks all = ap (λ (os : List (Option ℕ)). blocks_erased p (placed_from (first + i) os) blocks) (drop_all i group all)
 
 -- the groups one after another
-pub groups_go_on : (p : ℕ → Bool) (number first : ℕ) (group : List (Option ℕ)) (rest : List (ℕ × List (Option ℕ))) (blocks new : List (List ℕ)) → first ≡ number * 64 → length group ≡ 64 → new ≡ blocks_erased p (placed_from first group) blocks → blocks_erased p (placed_in rest) new ≡ blocks_erased p (placed_in ((number, group) ∷ rest)) blocks
+pub groups_go_on : (p : ℕ → Bool) (number first : ℕ) (group : List (Option ℕ)) (rest : List (ℕ × List (Option ℕ))) (blocks new : List (List ℕ)) → first ≡ number * 16 → length group ≤ 16 → new ≡ blocks_erased p (placed_from first group) blocks → blocks_erased p (placed_in rest) new ≡ blocks_erased p (placed_in ((number, group) ∷ rest)) blocks
 unfolding placed_in
 groups_go_on p number first group rest blocks new begins long made =
-    let at : first ≡ 64 * number = omega arith in
-    let whole : take 64 group ≡ group = take_all 64 group (omega arith) in
+    let at : first ≡ 16 * number = omega arith in
+    let whole : take 16 group ≡ group = take_all 16 group (omega arith) in
     ap (λ (bs : List (List ℕ)). blocks_erased p (placed_in rest) bs)
-    (made ∙ ap (λ (n : ℕ). blocks_erased p (placed_from n group) blocks) at ∙ ap (λ (os : List (Option ℕ)). blocks_erased p (placed_from (64 * number) os) blocks) (sym whole))
-    ∙ sym (both_erased p (placed_from (64 * number) (take 64 group)) (placed_in rest) blocks)
+    (made ∙ ap (λ (n : ℕ). blocks_erased p (placed_from n group) blocks) at ∙ ap (λ (os : List (Option ℕ)). blocks_erased p (placed_from (16 * number) os) blocks) (sym whole))
+    ∙ sym (both_erased p (placed_from (16 * number) (take 16 group)) (placed_in rest) blocks)
 
 pub groups_end : (p : ℕ → Bool) (rest : List (ℕ × List (Option ℕ))) (blocks : List (List ℕ)) → rest ≡ [] → blocks_erased p (placed_in rest) blocks ≡ blocks
 unfolding placed_in blocks_erased

@@ -1,16 +1,16 @@
 -- A look-up in the places of all groups is one in the group of the sector.
-use Rattle.std.proofs.Common.{◌≡◌, ℕ, zero, suc, ◌+◌, ◌-◌, ◌*◌, ◌/◌, ◌%◌, ◌<◌, ◌≤◌, Bool, List, [], ◌∷◌, ◌++◌, length, take, get_or, set, cond, ◌≢◌, refl, ap, sym, ◌∙◌, arith, inl, inr, nat_cmp, Option, Some, None}
+use Rattle.std.proofs.Common.{◌≡◌, ℕ, zero, suc, ◌+◌, ◌-◌, ◌*◌, ◌/◌, ◌%◌, ◌<◌, ◌≤◌, Bool, List, [], ◌∷◌, ◌++◌, length, take, get_or, set, replicate, ◌≢◌, refl, ap, sym, ◌∙◌, arith, inl, inr, nat_cmp, Option, Some, None}
 use Rattle.std.specs.declared.cmp.Ordering.TheVariants.{Less, Equal, Greater}
 use Rattle.std.specs.Cmp.{nat_cmp_is}
 use Rattle.std.proofs.lemmas.Bool.{cases_lt, cases_eq, cases_Bool}
-use Rattle.std.proofs.lemmas.List.{get_or-take, get_or_past, length-take, get_or-set_same, get_or-set_other}
+use Rattle.std.proofs.lemmas.List.{get_or-take, get_or_past, get_or-replicate, length-take, get_or-set_same, get_or-set_other}
 use Rattle.std.proofs.lemmas.Bool.Decides.{nat_tests}
-use Rattle.std.specs.Prelude.{if◌then◌else◌, ◌==◌}
+use Rattle.std.specs.Prelude.{if◌then◌else◌, ◌==◌, IfSome, option_map, unwrap_or}
 use Rattle.std.specs.List.{AllByRecursion}
 use Rattle.std.specs.List.Sorted.{IsStrictlySortedBy}
 use Rattle.std.specs.BTreeMap.{is_at}
 use Rattle.std.specs.Map.{lookup, keys_of}
-use Rattle.shadow_mbr.specs.Places.{placed_from, placed_in, place_at}
+use Rattle.shadow_mbr.specs.Places.{placed_from, placed_in, place_at, group_in, group_after, in_group, no_places}
 use Rattle.shadow_mbr.proofs.Numbers.{at_less, at_same, at_more, at_other}
 
 -- a look-up in one list behind another
@@ -51,51 +51,46 @@ inside s from (Some p ∷ os) le =
       | inr ge ↦ let e : s - from ≡ 0 = omega arith in let same : from ≡ s = omega arith in rw (e, same, at_same s) refl
     ]
 
--- the place in the group of a sector
-abbrev pub in_group : Option (List (Option ℕ)) → ℕ → Option ℕ
-in_group None i = None
-in_group (Some places) i = get_or places i None
-
 -- the groups rise
 abbrev pub AreRising : ℕ → List (ℕ × List (Option ℕ)) → Type 0
 AreRising next [] = Unit {0}
 AreRising next (g ∷ rest) = (next ≤ g.0) × AreRising (g.0 + 1) rest
 
-none_before : (next s : ℕ) (gs : List (ℕ × List (Option ℕ))) → AreRising next gs → s < 64 * next → place_at (placed_in gs) s ≡ None
+none_before : (next s : ℕ) (gs : List (ℕ × List (Option ℕ))) → AreRising next gs → s < 16 * next → place_at (placed_in gs) s ≡ None
 unfolding placed_in
 none_before next s [] rising lt = refl
 none_before next s (g ∷ gs) rising lt =
-    second (is_at (nat_cmp s)) (placed_from (64 * g.0) (take 64 g.1)) (placed_in gs) (before s (64 * g.0) (take 64 g.1) (omega (arith, rising.0)))
+    second (is_at (nat_cmp s)) (placed_from (16 * g.0) (take 16 g.1)) (placed_in gs) (before s (16 * g.0) (take 16 g.1) (omega (arith, rising.0)))
     ∙ none_before (g.0 + 1) s gs rising.1 (omega (arith, rising.0))
 
 absent : (next k : ℕ) (gs : List (ℕ × List (Option ℕ))) → AreRising next gs → k < next → lookup (is_at (nat_cmp k)) gs ≡ None
 absent next k [] rising lt = refl
 absent next k (g ∷ gs) rising lt = rw (at_less k g.0 (omega (arith, rising.0))) (absent (g.0 + 1) k gs rising.1 (omega (arith, rising.0)))
 
-own : (s n : ℕ) (g : List (Option ℕ)) → s / 64 ≡ n → place_at (placed_from (64 * n) (take 64 g)) s ≡ get_or g (s % 64) None
+own : (s n : ℕ) (g : List (Option ℕ)) → s / 16 ≡ n → place_at (placed_from (16 * n) (take 16 g)) s ≡ get_or g (s % 16) None
 own s n g is =
-    let e : s - 64 * n ≡ s % 64 = omega arith in
-    inside s (64 * n) (take 64 g) (omega arith) ∙ rw e (get_or-take 64 g (s % 64) None (omega arith))
+    let e : s - 16 * n ≡ s % 16 = omega arith in
+    inside s (16 * n) (take 16 g) (omega arith) ∙ rw e (get_or-take 16 g (s % 16) None (omega arith))
 
-foreign : (s n : ℕ) (g : List (Option ℕ)) → n < s / 64 → place_at (placed_from (64 * n) (take 64 g)) s ≡ None
+foreign : (s n : ℕ) (g : List (Option ℕ)) → n < s / 16 → place_at (placed_from (16 * n) (take 16 g)) s ≡ None
 foreign s n g lt =
-    inside s (64 * n) (take 64 g) (omega arith) ∙ get_or_past (take 64 g) (s - 64 * n) None (omega (arith, length-take 64 g))
+    inside s (16 * n) (take 16 g) (omega arith) ∙ get_or_past (take 16 g) (s - 16 * n) None (omega (arith, length-take 16 g))
 
-pub place_rising : (next s : ℕ) (gs : List (ℕ × List (Option ℕ))) → AreRising next gs → place_at (placed_in gs) s ≡ in_group (lookup (is_at (nat_cmp (s / 64))) gs) (s % 64)
+pub place_rising : (next s : ℕ) (gs : List (ℕ × List (Option ℕ))) → AreRising next gs → place_at (placed_in gs) s ≡ in_group (lookup (is_at (nat_cmp (s / 16))) gs) (s % 16)
 unfolding placed_in
 place_rising next s [] rising = refl
 place_rising next s (g ∷ gs) rising =
-    elim (cases_lt g.0 (s / 64)) [
+    elim (cases_lt g.0 (s / 16)) [
       | inl lt ↦
-          second (is_at (nat_cmp s)) (placed_from (64 * g.0) (take 64 g.1)) (placed_in gs) (foreign s g.0 g.1 lt)
-          ∙ rw (at_more (s / 64) g.0 lt) (place_rising (g.0 + 1) s gs rising.1)
-      | inr le ↦ elim (cases_lt (s / 64) g.0) [
+          second (is_at (nat_cmp s)) (placed_from (16 * g.0) (take 16 g.1)) (placed_in gs) (foreign s g.0 g.1 lt)
+          ∙ rw (at_more (s / 16) g.0 lt) (place_rising (g.0 + 1) s gs rising.1)
+      | inr le ↦ elim (cases_lt (s / 16) g.0) [
         | inl lt ↦
             none_before g.0 s (g ∷ gs) (omega arith, rising.1) (omega arith)
-            ∙ rw (at_less (s / 64) g.0 lt, absent (g.0 + 1) (s / 64) gs rising.1 (omega arith)) refl
+            ∙ rw (at_less (s / 16) g.0 lt, absent (g.0 + 1) (s / 16) gs rising.1 (omega arith)) refl
         | inr ge ↦
-            let same : s / 64 ≡ g.0 = omega arith in
-            first (is_at (nat_cmp s)) (placed_from (64 * g.0) (take 64 g.1)) (placed_in gs) (none_before (g.0 + 1) s gs rising.1 (omega arith))
+            let same : s / 16 ≡ g.0 = omega arith in
+            first (is_at (nat_cmp s)) (placed_from (16 * g.0) (take 16 g.1)) (placed_in gs) (none_before (g.0 + 1) s gs rising.1 (omega arith))
             ∙ own s g.0 g.1 same ∙ rw (same, at_same g.0) refl
       ]
     ]
@@ -124,7 +119,7 @@ unfolding IsStrictlySortedBy
 rises next [] low sorted = tt
 rises next (g ∷ gs) low sorted = (low.0, rises (g.0 + 1) gs (above g.0 (keys_of gs) sorted.0) sorted.1)
 
-pub place_in_group : (gs : List (ℕ × List (Option ℕ))) → IsStrictlySortedBy nat_cmp (keys_of gs) → (s : ℕ) → place_at (placed_in gs) s ≡ in_group (lookup (is_at (nat_cmp (s / 64))) gs) (s % 64)
+pub place_in_group : (gs : List (ℕ × List (Option ℕ))) → IsStrictlySortedBy nat_cmp (keys_of gs) → (s : ℕ) → place_at (placed_in gs) s ≡ in_group (lookup (is_at (nat_cmp (s / 16))) gs) (s % 16)
 place_in_group gs sorted s = place_rising 0 s gs (rises 0 gs (from_zero (keys_of gs)) sorted)
 
 -- the places are sorted
@@ -170,21 +165,21 @@ lower_all : (a b : ℕ) (ks : List ℕ) → b ≤ a → AllByRecursion (λ k. a 
 lower_all a b [] le all = tt
 lower_all a b (k ∷ ks) le all = (omega (arith, all.0), lower_all a b ks le all.1)
 
-from_group : (next : ℕ) (gs : List (ℕ × List (Option ℕ))) → AreRising next gs → AllByRecursion (λ k. 64 * next ≤ k) (keys_of (placed_in gs))
+from_group : (next : ℕ) (gs : List (ℕ × List (Option ℕ))) → AreRising next gs → AllByRecursion (λ k. 16 * next ≤ k) (keys_of (placed_in gs))
 unfolding placed_in
 from_group next [] rising = tt
 from_group next (g ∷ gs) rising =
-    all_both (λ k. 64 * next ≤ k) (placed_from (64 * g.0) (take 64 g.1)) (placed_in gs)
-    (higher (64 * g.0) (64 * g.0 + length (take 64 g.1)) (64 * next) (placed_from (64 * g.0) (take 64 g.1)) (omega (arith, rising.0)) (bounded (64 * g.0) (take 64 g.1) (64 * g.0) (64 * g.0 + length (take 64 g.1)) (omega arith) (omega arith)))
-    (lower_all (64 * (g.0 + 1)) (64 * next) (keys_of (placed_in gs)) (omega (arith, rising.0)) (from_group (g.0 + 1) gs rising.1))
+    all_both (λ k. 16 * next ≤ k) (placed_from (16 * g.0) (take 16 g.1)) (placed_in gs)
+    (higher (16 * g.0) (16 * g.0 + length (take 16 g.1)) (16 * next) (placed_from (16 * g.0) (take 16 g.1)) (omega (arith, rising.0)) (bounded (16 * g.0) (take 16 g.1) (16 * g.0) (16 * g.0 + length (take 16 g.1)) (omega arith) (omega arith)))
+    (lower_all (16 * (g.0 + 1)) (16 * next) (keys_of (placed_in gs)) (omega (arith, rising.0)) (from_group (g.0 + 1) gs rising.1))
 
 sorted_rising : (next : ℕ) (gs : List (ℕ × List (Option ℕ))) → AreRising next gs → IsStrictlySortedBy nat_cmp (keys_of (placed_in gs))
 unfolding placed_in IsStrictlySortedBy
 sorted_rising next [] rising = tt
 sorted_rising next (g ∷ gs) rising =
-    sorted_both (64 * g.0) (64 * (g.0 + 1)) (placed_from (64 * g.0) (take 64 g.1)) (placed_in gs)
-    (bounded (64 * g.0) (take 64 g.1) (64 * g.0) (64 * (g.0 + 1)) (omega arith) (omega (arith, length-take 64 g.1)))
-    (from_group (g.0 + 1) gs rising.1) (sorted_from (64 * g.0) (take 64 g.1)) (sorted_rising (g.0 + 1) gs rising.1)
+    sorted_both (16 * g.0) (16 * (g.0 + 1)) (placed_from (16 * g.0) (take 16 g.1)) (placed_in gs)
+    (bounded (16 * g.0) (take 16 g.1) (16 * g.0) (16 * (g.0 + 1)) (omega arith) (omega (arith, length-take 16 g.1)))
+    (from_group (g.0 + 1) gs rising.1) (sorted_from (16 * g.0) (take 16 g.1)) (sorted_rising (g.0 + 1) gs rising.1)
 
 pub sorted_in : (gs : List (ℕ × List (Option ℕ))) → IsStrictlySortedBy nat_cmp (keys_of gs) → IsStrictlySortedBy nat_cmp (keys_of (placed_in gs))
 sorted_in gs sorted = sorted_rising 0 gs (rises 0 gs (from_zero (keys_of gs)) sorted)
@@ -193,41 +188,68 @@ pub none_placed : (gs : List (ℕ × List (Option ℕ))) → gs ≡ [] → place
 unfolding placed_in
 none_placed gs none = rw none refl
 
-chosen : (s t : ℕ) (a b : Option ℕ) → s ≡ t → (if s == t then a else b) ≡ a
+chosen : {A : Type 0} (s t : ℕ) (a b : A) → s ≡ t → (if s == t then a else b) ≡ a
 chosen s t a b same = grind (arith, nat_tests)
 
-other : (s t : ℕ) (a b : Option ℕ) → s ≢ t → (if s == t then a else b) ≡ b
+other : {A : Type 0} (s t : ℕ) (a b : A) → s ≢ t → (if s == t then a else b) ≡ b
 other s t a b apart = grind (arith, nat_tests)
 
 -- Another place in the group of a sector.
-pub put_in_group : (gs hs : List (ℕ × List (Option ℕ))) (sector : ℕ) (old new : List (Option ℕ)) (place : Option ℕ) → IsStrictlySortedBy nat_cmp (keys_of gs) → IsStrictlySortedBy nat_cmp (keys_of hs) → new ≡ set old (sector % 64) place → sector % 64 < length old → ((j : ℕ) → in_group (lookup (is_at (nat_cmp (sector / 64))) gs) j ≡ get_or old j None) → ((k : ℕ) → lookup (is_at (nat_cmp k)) hs ≡ cond (is_at (nat_cmp (sector / 64)) k) (Some new) (lookup (is_at (nat_cmp k)) gs)) → (s : ℕ) → place_at (placed_in hs) s ≡ (if s == sector then place else place_at (placed_in gs) s)
+pub put_in_group : (gs hs : List (ℕ × List (Option ℕ))) (sector : ℕ) (old new : List (Option ℕ)) (place : Option ℕ) → IsStrictlySortedBy nat_cmp (keys_of gs) → IsStrictlySortedBy nat_cmp (keys_of hs) → new ≡ set old (sector % 16) place → sector % 16 < length old → ((j : ℕ) → in_group (group_in gs (sector / 16)) j ≡ get_or old j None) → ((k : ℕ) → group_in hs k ≡ group_after (sector / 16) (Some new) (group_in gs k) k) → (s : ℕ) → place_at (placed_in hs) s ≡ (if s == sector then place else place_at (placed_in gs) s)
 put_in_group gs hs sector old new place sorted_gs sorted_hs put within was looks s =
     place_in_group hs sorted_hs s
-    ∙ elim (cases_eq (s / 64) (sector / 64)) [
+    ∙ elim (cases_eq (s / 16) (sector / 16)) [
       | inl same ↦
-          rw (looks (s / 64), same, at_same (sector / 64), put)
-          (elim (cases_eq (s % 64) (sector % 64)) [
-            | inl here ↦ rw here (get_or-set_same old (sector % 64) place None within) ∙ sym (chosen s sector place (place_at (placed_in gs) s) (omega arith))
+          ap (λ (g : Option (List (Option ℕ))). in_group g (s % 16)) (looks (s / 16) ∙ chosen (s / 16) (sector / 16) (Some new) _ same)
+          ∙ rw put
+          (elim (cases_eq (s % 16) (sector % 16)) [
+            | inl here ↦ rw here (get_or-set_same old (sector % 16) place None within) ∙ sym (chosen s sector place (place_at (placed_in gs) s) (omega arith))
             | inr there ↦
-                get_or-set_other old (sector % 64) (s % 64) place None there
-                ∙ sym (was (s % 64)) ∙ rw (sym same) refl ∙ sym (place_in_group gs sorted_gs s)
-                ∙ sym (other s sector place (place_at (placed_in gs) s) (λ e. there (ap (λ n. n % 64) e)))
+                get_or-set_other old (sector % 16) (s % 16) place None there
+                ∙ sym (was (s % 16)) ∙ rw (sym same) refl ∙ sym (place_in_group gs sorted_gs s)
+                ∙ sym (other s sector place (place_at (placed_in gs) s) (λ e. there (ap (λ n. n % 16) e)))
           ])
       | inr apart ↦
-          rw (looks (s / 64), at_other (sector / 64) (s / 64) apart) (sym (place_in_group gs sorted_gs s))
-          ∙ sym (other s sector place (place_at (placed_in gs) s) (λ e. apart (ap (λ n. n / 64) e)))
+          ap (λ (g : Option (List (Option ℕ))). in_group g (s % 16)) (looks (s / 16) ∙ other (s / 16) (sector / 16) (Some new) _ apart)
+          ∙ sym (place_in_group gs sorted_gs s)
+          ∙ sym (other s sector place (place_at (placed_in gs) s) (λ e. apart (ap (λ n. n / 16) e)))
     ]
 
-pub none_anywhere : (os : List (Option ℕ)) → AllByRecursion (λ o. o ≡ None) os → (j : ℕ) → None ≡ get_or os j None
-none_anywhere [] none j = refl
-none_anywhere (o ∷ os) none zero = sym none.0
-none_anywhere (o ∷ os) none (suc j) = none_anywhere os none.1 j
+none_in : (j : ℕ) → None ≡ get_or no_places j None
+unfolding no_places
+none_in j = elim (cases_lt j 16) [
+  | inl below ↦ sym (get_or-replicate 16 j None None below)
+  | inr past ↦ sym (get_or_past (replicate 16 None) j None past)
+]
+
+-- A group that is absent has no place.
+pub was_there : (o : Option (List (Option ℕ))) (j : ℕ) → in_group o j ≡ get_or (unwrap_or o no_places) j None
+was_there None j = none_in j
+was_there (Some g) j = refl
 
 -- A sector whose group is absent has no place.
-pub none_left : (gs : List (ℕ × List (Option ℕ))) (sector : ℕ) → IsStrictlySortedBy nat_cmp (keys_of gs) → None ≡ lookup (is_at (nat_cmp (sector / 64))) gs → (s : ℕ) → place_at (placed_in gs) s ≡ (if s == sector then None else place_at (placed_in gs) s)
+none_left : (gs : List (ℕ × List (Option ℕ))) (sector : ℕ) → IsStrictlySortedBy nat_cmp (keys_of gs) → group_in gs (sector / 16) ≡ None → (s : ℕ) → place_at (placed_in gs) s ≡ (if s == sector then None else place_at (placed_in gs) s)
 none_left gs sector sorted absent s =
     elim (cases_eq s sector) [
       | inl same ↦
-          rw (place_in_group gs sorted s, same, sym absent) (sym (chosen sector sector None (in_group None (sector % 64)) refl))
+          ap (place_at (placed_in gs)) same ∙ place_in_group gs sorted sector
+          ∙ ap (λ (g : Option (List (Option ℕ))). in_group g (sector % 16)) absent
+          ∙ sym (chosen s sector None (place_at (placed_in gs) s) same)
       | inr apart ↦ sym (other s sector None (place_at (placed_in gs) s) apart)
     ]
+
+-- A sector is taken from its group, if there is one.
+pub taken_from_group : (gs hs : List (ℕ × List (Option ℕ))) (sector : ℕ) → IsStrictlySortedBy nat_cmp (keys_of gs) → IsStrictlySortedBy nat_cmp (keys_of hs) → (o : Option (List (Option ℕ))) → group_in gs (sector / 16) ≡ o → IfSome o (λ g. length g ≡ 16) → ((k : ℕ) → group_in hs k ≡ group_after (sector / 16) (option_map (λ g. set g (sector % 16) None) o) (group_in gs k) k) → (s : ℕ) → place_at (placed_in hs) s ≡ (if s == sector then None else place_at (placed_in gs) s)
+taken_from_group gs hs sector sorted_gs sorted_hs None is long looks s =
+    let same : (k : ℕ) → group_in hs k ≡ group_in gs k =
+    λ k. elim (cases_eq k (sector / 16)) [
+      | inl here ↦ looks k ∙ chosen k (sector / 16) None (group_in gs k) here ∙ sym (ap (group_in gs) here ∙ is)
+      | inr apart ↦ looks k ∙ other k (sector / 16) None (group_in gs k) apart
+    ] in
+    place_in_group hs sorted_hs s
+    ∙ ap (λ (g : Option (List (Option ℕ))). in_group g (s % 16)) (same (s / 16))
+    ∙ sym (place_in_group gs sorted_gs s)
+    ∙ none_left gs sector sorted_gs is s
+taken_from_group gs hs sector sorted_gs sorted_hs (Some g) is long looks s =
+    put_in_group gs hs sector g (set g (sector % 16) None) None sorted_gs sorted_hs refl (omega (arith, long))
+    (λ j. ap (λ (o : Option (List (Option ℕ))). in_group o j) is) looks s

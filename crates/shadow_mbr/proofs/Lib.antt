@@ -7,5 +7,8 @@ pub mod Walks
 pub mod Numbers
 pub mod Groups
 pub mod Blocks
+pub mod Grouped
 pub mod Runs
 pub mod Cleared
+pub mod Heads
+pub mod Fills

@@ -14,7 +14,7 @@ put_length : (block bytes : List ℕ) (from : ℕ) → length block ≡ 512 → 
 put_length block bytes from whole fits = search (rules, places)
 
 -- One block has other bytes, and no sector another place.
-own_put : (ps : List (ℕ × ℕ)) (blocks : List (List ℕ)) (q : ℕ) (v : List ℕ) → AreOwn ps blocks → q < length blocks → length v ≡ 512 → AreOwn ps (set blocks q v)
+pub own_put : (ps : List (ℕ × ℕ)) (blocks : List (List ℕ)) (q : ℕ) (v : List ℕ) → AreOwn ps blocks → q < length blocks → length v ≡ 512 → AreOwn ps (set blocks q v)
 own_put ps blocks q v own below size = record {
   sorted = own.sorted;
   below = λ s p is. rw (length-set blocks q v) (own.below s p is);

@@ -71,10 +71,10 @@ read_exact stored lba buffer n is same_size whole same =
     (λ k below. read_chunk stored lba k buffer is whole same (omega arith))
 
 -- A sector inside what was written, and one outside it.
-after_inside : (lba s : ℕ) (bytes before : List ℕ) → lba ≤ s → s < lba + length bytes / 512 → sector_after lba bytes before s ≡ take 512 (drop (512 * (s - lba)) bytes)
+pub after_inside : (lba s : ℕ) (bytes before : List ℕ) → lba ≤ s → s < lba + length bytes / 512 → sector_after lba bytes before s ≡ take 512 (drop (512 * (s - lba)) bytes)
 after_inside lba s bytes before from below = grind (arith, nat_tests)
 
-after_outside : (lba s : ℕ) (bytes before : List ℕ) → (s < lba) ⊎ (lba + length bytes / 512 ≤ s) → sector_after lba bytes before s ≡ before
+pub after_outside : (lba s : ℕ) (bytes before : List ℕ) → (s < lba) ⊎ (lba + length bytes / 512 ≤ s) → sector_after lba bytes before s ≡ before
 after_outside lba s bytes before out = grind (arith, nat_tests)
 
 -- The sectors after a write, by the bytes.

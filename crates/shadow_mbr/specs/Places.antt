@@ -1,5 +1,5 @@
 -- Where the blocks of sectors stand, by groups of neighbouring sectors.
-use Rattle.std.specs.Prelude.{◌≡◌, ℕ, [], ◌∷◌, ◌++◌, ◌+◌, ◌*◌, ◌<◌, List, length, take, drop, set, map, nat_eq, true, false, Option, None, Some, slice_index, slice_index_or}
+use Rattle.std.specs.Prelude.{◌≡◌, ℕ, [], ◌∷◌, ◌++◌, ◌+◌, ◌*◌, ◌<◌, List, length, take, drop, set, map, nat_eq, true, false, Option, None, Some, slice_index, slice_index_or, replicate, ◌==◌, if◌then◌else◌}
 use Rattle.std.specs.List.{list_any}
 use Rattle.std.specs.BTreeMap.{is_at}
 use Rattle.std.specs.Map.{lookup, keys_of}
@@ -9,7 +9,7 @@ use Rattle.shadow_mbr.specs.Stored.{zeros, sector_size}
 
 -- how many neighbouring sectors are one group
 abbrev pub group_size : ℕ
-group_size = 64
+group_size = 16
 
 -- the sectors from one on that have a place, with their places
 unfoldable pub placed_from : ℕ → List (Option ℕ) → List (ℕ × ℕ)
@@ -22,6 +22,32 @@ unfoldable pub placed_in : List (ℕ × List (Option ℕ)) → List (ℕ × ℕ)
 placed_in [] = []
 placed_in (group ∷ rest) =
     placed_from (group_size * group.0) (take group_size group.1) ++ placed_in rest
+
+-- a group in which no sector has a place
+unfoldable pub no_places : List (Option ℕ)
+no_places = replicate group_size None
+
+-- the group at an index
+abbrev pub group_at : List (List (Option ℕ)) → ℕ → List (Option ℕ)
+group_at groups index = slice_index_or groups index []
+
+-- The groups that have a number, with their numbers, where these stand at such indexes.
+abbrev pub groups_of : List (ℕ × ℕ) → List (List (Option ℕ)) → List (ℕ × List (Option ℕ))
+groups_of indexes groups = map (λ e. (e.0, group_at groups e.1)) indexes
+
+-- the group of a number
+abbrev pub group_in : List (ℕ × List (Option ℕ)) → ℕ → Option (List (Option ℕ))
+group_in groups number = lookup (is_at (nat_cmp number)) groups
+
+-- the group of one number after that of another became this one
+abbrev pub group_after : ℕ → Option (List (Option ℕ)) → Option (List (Option ℕ)) → ℕ
+    → Option (List (Option ℕ))
+group_after number group before n = if n == number then group else before
+
+-- the place in the group of a sector
+abbrev pub in_group : Option (List (Option ℕ)) → ℕ → Option ℕ
+in_group None i = None
+in_group (Some places) i = slice_index_or places i None
 
 -- where a sector stands
 abbrev pub place_at : List (ℕ × ℕ) → ℕ → Option ℕ
@@ -55,3 +81,10 @@ pub record AddsPlaces (old new : List (ℕ × ℕ)) (sectors : List ℕ) (from :
       → (i : ℕ) × (i < length sectors) × (slice_index sectors i ≡ s)
       × (place_at new s ≡ Some (from + i))
   pub stays : (s : ℕ) → list_any (nat_eq s) sectors ≡ false → place_at new s ≡ place_at old s
+
+-- The groups are sorted by their numbers, and each number has a group, which is of no other number.
+pub record AreGrouped (indexes : List (ℕ × ℕ)) (groups : List (List (Option ℕ))) : Type 0 where
+  pub sorted : IsStrictlySortedBy nat_cmp (keys_of indexes)
+  pub below : (number index : ℕ) → place_at indexes number ≡ Some index → index < length groups
+  pub apart : (n m index : ℕ) → place_at indexes n ≡ Some index → place_at indexes m ≡ Some index
+      → n ≡ m

@@ -15,6 +15,10 @@ pub record StoredSectors : Type 0 where
 abbrev pub sector_size : ℕ
 sector_size = 512
 
+-- how many bytes of a sector are its head
+abbrev pub head_size : ℕ
+head_size = 4
+
 -- a sector of zeros
 unfoldable pub zeros : List ℕ
 zeros = replicate sector_size 0
@@ -22,6 +26,10 @@ zeros = replicate sector_size 0
 -- the bytes of a sector among those of all sectors that are kept
 abbrev pub block_in : List (ℕ × List ℕ) → ℕ → Option (List ℕ)
 block_in kept sector = lookup (is_at (nat_cmp sector)) kept
+
+-- What a sector holds where these sectors are kept.
+abbrev pub kept_sector : List (ℕ × List ℕ) → ℕ → List ℕ
+kept_sector kept sector = unwrap_or (block_in kept sector) zeros
 
 -- what is kept of a sector
 abbrev pub kept_at : StoredSectors → ℕ → Option (List ℕ)
@@ -58,6 +66,24 @@ sector_after lba bytes before sector =
 unfoldable pub sectors_from : (ℕ → List ℕ) → ℕ → ℕ → List ℕ
 sectors_from holds lba zero = []
 sectors_from holds lba (suc n) = holds lba ++ sectors_from holds (lba + 1) n
+
+-- The first four bytes of each of so many sectors.
+unfoldable pub heads_of : ℕ → List ℕ → List ℕ
+heads_of zero bytes = []
+heads_of (suc n) bytes = take head_size bytes ++ heads_of n (drop sector_size bytes)
+
+-- The first four bytes of each whole sector of some bytes.
+abbrev pub heads : List ℕ → List ℕ
+heads bytes = heads_of (length bytes / sector_size) bytes
+
+-- Whether a sector is one of those from the first to before the end.
+abbrev pub is_among : ℕ → ℕ → ℕ → Bool
+is_among first end sector = nat_le first sector && nat_lt sector end
+
+-- What a sector holds after those from the first to before the end were filled with a byte, where it held `before`.
+abbrev pub sector_filled : ℕ → ℕ → ℕ → List ℕ → ℕ → List ℕ
+sector_filled first end byte before sector =
+    if is_among first end sector then replicate sector_size byte else before
 
 -- The sector of each of so many bytes from `at` on is kept.
 abbrev pub AreKept : StoredSectors → ℕ → ℕ → Type 0

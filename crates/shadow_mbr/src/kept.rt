@@ -1,11 +1,11 @@
 //! The sectors that are kept, by the places of their blocks.
 
-ghost use Rattle.std.specs.Prelude.{IfSome, option_map, unwrap_or, ◌≡◌, ◌+◌, ◌<◌, ◌≤◌, ◌++◌, ◌^◌, ◌==◌, ℕ, None, OnOk, OnErr, true, if◌then◌else◌, length, nat_eq, set, take, drop, vec_len};
+ghost use Rattle.std.specs.Prelude.{IfSome, is_some, option_map, unwrap_or, ◌≡◌, ◌+◌, ◌<◌, ◌≤◌, ◌++◌, ◌^◌, ◌==◌, ℕ, None, OnOk, OnErr, true, if◌then◌else◌, length, nat_eq, replicate, set, take, drop, vec_len};
 ghost use Rattle.std.specs.List.{list_any};
 ghost use Rattle.std.specs.List.Sorted.{IsStrictlySortedBy};
 ghost use Rattle.std.specs.Map.{keys_of};
 ghost use Rattle.std.specs.Ordering.{nat_cmp};
-ghost use Rattle.shadow_mbr.specs.Stored.{sector_size, zeros, HaveBlocks, kept_byte, byte_after};
+ghost use Rattle.shadow_mbr.specs.Stored.{sector_size, head_size, zeros, HaveBlocks, kept_byte, byte_after, kept_sector, sector_filled};
 ghost use Rattle.shadow_mbr.specs.Places.{place_at, block_at, blocks_of, blocks_after, AreOwn, AddsPlaces};
 
 use crate::erasure::Erasure;
@@ -19,6 +19,9 @@ pub const SECTOR_SIZE: usize = 512;
 
 /// What a sector holds.
 pub type Block = [u8; SECTOR_SIZE];
+
+/// How many bytes of a sector are its head.
+pub const HEAD_SIZE: usize = 4;
 
 static ZEROS: Block = [0; SECTOR_SIZE];
 
@@ -122,6 +125,47 @@ fn write_blocks(finder: &mut Finder<'_>, blocks: &mut Vec<Block>, at: u64, bytes
     }
 }
 
+/// Appends the first bytes of the block at a place, zeros for none.
+fn append_head(
+    bytes: &mut Vec<u8>,
+    blocks: &[Block],
+    place: Option<usize>,
+) -> Result<(), AllocError>
+    requires { IfSome place (λ p. p < length blocks.now) }
+    ensures { OnOk result (bytes.new.items ≡ bytes.old.items
+        ++ take head_size (unwrap_or (option_map (block_at blocks.now) place) zeros)) }
+{
+    let block = block_or_zeros(blocks, place);
+    bytes.extend_from_slice(&block[..HEAD_SIZE])?;
+    Ok(())
+}
+
+/// Fills the block at a place with a byte, if there is one.
+fn fill_block(blocks: &mut Vec<Block>, place: Option<usize>, byte: u8)
+    requires { IfSome place (λ p. p < vec_len blocks.old) }
+    ensures { IfSome place
+        (λ p. blocks.new.items ≡ set blocks.old.items p (replicate sector_size byte)) }
+{
+    if let Some(place) = place {
+        blocks[place] = [byte; SECTOR_SIZE];
+    }
+}
+
+/// Fills the blocks of sectors, which each have one, with a byte.
+fn fill_blocks(finder: &mut Finder<'_>, blocks: &mut Vec<Block>, first: u64, end: u64, byte: u8)
+    requires from { first ≤ end }
+    requires own { AreOwn finder.old blocks.old.items }
+    requires placed { (s : ℕ) → first ≤ s → s < end → is_some (place_at finder.old s) ≡ true }
+    ensures own { AreOwn finder.old blocks.new.items }
+    ensures sectors { (s : ℕ) → kept_sector (blocks_of finder.old blocks.new.items) s
+        ≡ sector_filled first end byte (kept_sector (blocks_of finder.old blocks.old.items) s) s }
+{
+    for sector in first..end {
+        let place = finder.at(sector);
+        fill_block(blocks, place, byte);
+    }
+}
+
 /// Takes the places of sectors away.
 fn remove_all(places: &mut Places, sectors: &[u64])
     ensures removed { (s : ℕ) → place_at places.new s
@@ -155,12 +199,12 @@ fn place_all(places: &mut Places, sectors: &[u64], from: usize) -> Result<(), Al
 }
 
 impl Kept {
-    ghost use Rattle.std.specs.Prelude.{◌≡◌, ◌==◌, ◌-◌, ◌&&◌, nat_le, nat_lt, not, ◌+◌, ◌<◌, ◌≤◌, ◌++◌, ℕ, [], None, Some, OnOk, OnErr, IsTrue, ◌↔◌, ◌^◌, true, false, length, nat_eq, is_some, unwrap_or, if◌then◌else◌};
+    ghost use Rattle.std.specs.Prelude.{take, ◌≡◌, ◌==◌, ◌-◌, ◌&&◌, nat_le, nat_lt, not, ◌+◌, ◌<◌, ◌≤◌, ◌++◌, ℕ, [], None, Some, OnOk, OnErr, IsTrue, ◌↔◌, ◌^◌, true, false, length, nat_eq, is_some, unwrap_or, if◌then◌else◌};
     ghost use Rattle.std.specs.List.{list_any};
     ghost use Rattle.std.specs.List.Sorted.{IsStrictlySortedBy};
     ghost use Rattle.std.specs.Map.{keys_of};
     ghost use Rattle.std.specs.Ordering.{nat_cmp};
-    ghost use Rattle.shadow_mbr.specs.Stored.{sector_size, zeros, block_in, HaveBlocks, kept_byte, byte_after, sectors_from};
+    ghost use Rattle.shadow_mbr.specs.Stored.{sector_size, head_size, zeros, block_in, kept_sector, sector_filled, HaveBlocks, kept_byte, byte_after, sectors_from};
     ghost use Rattle.shadow_mbr.specs.Erasure.{is_erased};
 
     pub(crate) fn new(alloc: Global) -> Kept
@@ -205,6 +249,28 @@ impl Kept {
         let mut finder = self.places.finder(first);
         for sector in first..end {
             append_block(bytes, blocks, finder.at(sector))?;
+        }
+        Ok(())
+    }
+
+    /// Appends the first bytes of each sector, from one to before another, zeros where one is not
+    /// kept.
+    #[tactic(auto, using(crate::proofs::Walks::no_sector))]
+    pub(crate) fn append_heads(
+        &self,
+        bytes: &mut Vec<u8>,
+        first: u64,
+        end: u64,
+    ) -> Result<(), AllocError>
+        requires { first ≤ end }
+        ensures { OnOk result (bytes.new.items
+            ≡ bytes.old.items ++ sectors_from (λ s. take head_size (kept_sector self.now s)) first
+            (end - first)) }
+    {
+        let blocks = &self.blocks;
+        let mut finder = self.places.finder(first);
+        for sector in first..end {
+            append_head(bytes, blocks, finder.at(sector))?;
         }
         Ok(())
     }
@@ -266,6 +332,21 @@ impl Kept {
             write_blocks(&mut finder, &mut self.blocks, at, bytes);
         }
         all
+    }
+
+    /// Fills the sectors of a run, which are kept, with a byte.
+    #[tactic(auto, using(crate::proofs::Blocks::sorted_blocks))]
+    pub(crate) fn fill(&mut self, first: u64, end: u64, byte: u8)
+        requires from { first ≤ end }
+        requires all { (s : ℕ) → first ≤ s → s < end → is_some (block_in self.old s) ≡ true }
+        ensures kept { (s : ℕ) → is_some (block_in self.new s) ≡ is_some (block_in self.old s) }
+        ensures sectors { (s : ℕ) → kept_sector self.new s
+            ≡ sector_filled first end byte (kept_sector self.old s) s }
+        ensures whole { (s : ℕ) → length (kept_sector self.new s) ≡ sector_size }
+        ensures sorted { IsStrictlySortedBy nat_cmp (keys_of self.new) }
+    {
+        let mut finder = self.places.finder(first);
+        fill_blocks(&mut finder, &mut self.blocks, first, end, byte);
     }
 
     /// Keeps the listed sectors too, as zeros. Where memory is refused, nothing changes.

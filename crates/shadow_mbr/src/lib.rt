@@ -4,8 +4,10 @@
 //! that was never written takes no memory.
 #![tactic(auto)]
 
+mod erased;
 mod erasing;
 mod erasure;
+mod group_map;
 mod kept;
 mod mbr;
 mod media;
@@ -13,7 +15,8 @@ mod piece;
 mod places;
 mod sectors;
 
+pub use erased::Erased;
 pub use erasure::{Erasure, MOST_RUNS, Run, Runs};
-pub use kept::{Block, SECTOR_SIZE};
+pub use kept::{Block, HEAD_SIZE, SECTOR_SIZE};
 pub use mbr::Mbr;
 pub use media::Media;

@@ -1,6 +1,6 @@
 //! The sectors of a drive.
 
-use crate::erasure::Erasure;
+use crate::erased::Erased;
 use crate::kept::Block;
 use crate::piece::SECTOR;
 use crate::sectors::Sectors;
@@ -25,8 +25,8 @@ impl Model for Media {
 }
 
 impl Media {
-    ghost use Rattle.std.specs.Prelude.{◌≡◌, ◌+◌, ◌*◌, ◌/◌, ◌%◌, ◌≤◌, ◌<◌, ◌^◌, ℕ, length, is_some, ◌||◌, OnOk, OnErr, IfOk, [], slice_index, slice_range, if◌then◌else◌};
-    ghost use Rattle.shadow_mbr.specs.Stored.{sector_size, sector_limit, zeros, kept_at, has_byte, sector_at, byte_at, byte_after, sector_after, sectors_from};
+    ghost use Rattle.std.specs.Prelude.{◌≡◌, ◌+◌, ◌*◌, ◌/◌, ◌%◌, ◌≤◌, ◌<◌, ◌^◌, ℕ, length, is_some, ◌||◌, OnOk, OnErr, IfOk, [], slice_index, slice_range, replicate, if◌then◌else◌};
+    ghost use Rattle.shadow_mbr.specs.Stored.{sector_size, sector_limit, heads, zeros, kept_at, has_byte, sector_at, byte_at, byte_after, sector_after, sectors_from};
     ghost use Rattle.shadow_mbr.specs.Erasure.{is_erased};
 
     /// So many sectors of zeros.
@@ -97,6 +97,45 @@ impl Media {
         self.held.read_sectors_into(buffer, lba, count)
     }
 
+    /// The first four bytes of each of so many sectors from `lba` on, in the memory of a vector that
+    /// is given: what it held is gone, and where its room is enough none is taken.
+    pub fn read_heads_into(
+        &self,
+        buffer: Vec<u8>,
+        lba: u64,
+        count: u32,
+    ) -> Result<Vec<u8>, AllocError>
+        requires { lba + count ≤ self.now.sectors }
+        ensures { IfOk result (λ bytes. bytes.items
+            ≡ heads (sectors_from (sector_at self.now) lba count)) }
+    {
+        self.held.read_heads_into(buffer, lba, count)
+    }
+
+    /// Writes so many sectors from `lba` on, each byte the same. Where memory is refused, nothing
+    /// changes.
+    #[tactic(auto, using(crate::proofs::Fills::filled_among))]
+    pub fn fill(&mut self, lba: u64, count: u32, byte: u8) -> Result<(), AllocError>
+        requires { lba + count ≤ self.old.sectors }
+        ensures size { self.new.sectors ≡ self.old.sectors }
+        ensures sectors { OnOk result ((sector : ℕ)
+            → sector_at self.new sector
+            ≡ sector_after lba (replicate (sector_size * count) byte) (sector_at self.old sector)
+            sector) }
+        ensures bytes { OnOk result ((place : ℕ)
+            → byte_at self.new place
+            ≡ byte_after (sector_size * lba) (replicate (sector_size * count) byte)
+            (byte_at self.old place) place) }
+        ensures kept { OnOk result ((sector : ℕ)
+            → is_some (kept_at self.new sector)
+            ≡ (is_some (kept_at self.old sector)
+            || has_byte (sector_size * lba) (sector_size * count) sector)) }
+        ensures err { OnErr result (self.new ≡ self.old) }
+    {
+        self.held.fill(lba, count, byte)?;
+        Ok(())
+    }
+
     /// Writes whole sectors from `lba` on. Where memory is refused, nothing changes.
     #[tactic(auto, using(crate::proofs::Whole::write_sectors))]
     pub fn write(&mut self, lba: u64, bytes: &[u8]) -> Result<(), AllocError>
@@ -121,11 +160,13 @@ impl Media {
 
     /// Makes zeros of the sectors that are erased; each other keeps its bytes. It takes no memory, and
     /// where all are erased it gives back what it has.
-    pub fn erase(&mut self, erasure: &Erasure)
+    pub fn erase(&mut self, erased: &Erased)
         ensures size { self.new.sectors ≡ self.old.sectors }
         ensures sectors { (sector : ℕ) → sector_at self.new sector
-            ≡ (if is_erased erasure.now sector then zeros else sector_at self.old sector) }
+            ≡ (if is_erased erased.now sector then zeros else sector_at self.old sector) }
     {
-        self.held.erase(erasure);
+        if let Some(erasure) = erased.erasure() {
+            self.held.erase(erasure);
+        }
     }
 }

@@ -1,27 +1,19 @@
 //! Where the blocks of sectors stand, by groups of neighbouring sectors, so that a search goes over
 //! few keys.
 
-ghost use Rattle.std.specs.Prelude.{◌≡◌, ◌<◌, length, set};
+ghost use Rattle.std.specs.Prelude.{◌≡◌, ◌%◌, None, slice_index_or};
+ghost use Rattle.shadow_mbr.specs.Places.{group_size};
 
-use crate::erasing::erase_group;
 use crate::erasure::Erasure;
+use crate::group_map::{GROUP, Group, Groups, index_of};
 use crate::kept::Block;
 use std::alloc::{AllocError, Global};
-use std::collections::BTreeMap;
 use std::marker::Model;
-
-/// How many neighbouring sectors are one group.
-const GROUP_SIZE: usize = 64;
-
-const GROUP: u64 = GROUP_SIZE as u64;
-
-/// Where the blocks of the sectors of a group stand.
-pub(crate) type Group = [Option<usize>; GROUP_SIZE];
 
 /// Where the block of each sector stands that has one.
 #[derive(Drop)]
 pub(crate) struct Places {
-    groups: BTreeMap<u64, Group>,
+    groups: Groups,
 }
 
 impl Model for Places {
@@ -33,15 +25,15 @@ impl Model for Places {
 
     ghost Value = { List (ℕ × ℕ) };
 
-    ghost view = { λ a. placed_in a.groups.entries };
+    ghost view = { λ a. placed_in a.groups };
 
-    ghost invariant = { λ a. IsStrictlySortedBy nat_cmp (keys_of a.groups.entries) };
+    ghost invariant = { λ a. IsStrictlySortedBy nat_cmp (keys_of a.groups) };
 }
 
 /// A search that remembers the group that it found last.
 #[derive(Drop)]
 pub(crate) struct Finder<'a> {
-    groups: &'a BTreeMap<u64, Group>,
+    groups: &'a Groups,
     number: u64,
     found: Option<&'a Group>,
 }
@@ -49,18 +41,27 @@ pub(crate) struct Finder<'a> {
 impl<'a> Model for Finder<'a> {
     ghost use Rattle.std.specs.Prelude.{◌≡◌, List, ℕ};
     ghost use Rattle.std.specs.Option.{option_copied};
-    ghost use Rattle.std.specs.BTreeMap.{get_by};
     ghost use Rattle.std.specs.Ordering.{nat_cmp};
     ghost use Rattle.std.specs.Map.{keys_of};
     ghost use Rattle.std.specs.List.Sorted.{IsStrictlySortedBy};
-    ghost use Rattle.shadow_mbr.specs.Places.{placed_in};
+    ghost use Rattle.shadow_mbr.specs.Places.{placed_in, group_in};
 
     ghost Value = { List (ℕ × ℕ) };
 
-    ghost view = { λ a. placed_in a.groups.now.entries };
+    ghost view = { λ a. placed_in a.groups.now };
 
-    ghost invariant = { λ a. IsStrictlySortedBy nat_cmp (keys_of a.groups.now.entries)
-        × (option_copied a.found ≡ get_by (nat_cmp a.number) a.groups.now) };
+    ghost invariant = { λ a. IsStrictlySortedBy nat_cmp (keys_of a.groups.now)
+        × (option_copied a.found ≡ group_in a.groups.now a.number) };
+}
+
+/// Where a sector stands by its group.
+fn place_in(group: &Group, sector: u64) -> Option<usize>
+    ensures { result ≡ slice_index_or group.now (sector % group_size) None }
+{
+    match group[(sector % GROUP) as usize] {
+        Some(place) => Some(place as usize),
+        None => None,
+    }
 }
 
 impl<'a> Finder<'a> {
@@ -75,10 +76,10 @@ impl<'a> Finder<'a> {
         let number = sector / GROUP;
         if number != self.number {
             self.number = number;
-            self.found = self.groups.get(&number);
+            self.found = self.groups.get(number);
         }
         match self.found {
-            Some(group) => group[(sector % GROUP) as usize],
+            Some(group) => place_in(group, sector),
             None => None,
         }
     }
@@ -99,15 +100,6 @@ impl<'a> Finder<'a> {
     }
 }
 
-/// Puts a place, or none, into a group.
-fn put_place(group: &mut Group, index: usize, place: Option<usize>)
-    requires { index < GROUP_SIZE }
-    ensures put { group.new ≡ set group.old index place }
-    ensures long { length group.old ≡ GROUP_SIZE }
-{
-    group[index] = place;
-}
-
 impl Places {
     ghost use Rattle.std.specs.Prelude.{◌≡◌, ◌==◌, ℕ, [], None, Some, OnOk, OnErr, if◌then◌else◌};
     ghost use Rattle.std.specs.Ordering.{nat_cmp};
@@ -120,7 +112,7 @@ impl Places {
         ensures { result ≡ [] }
     {
         Places {
-            groups: BTreeMap::new(alloc),
+            groups: Groups::new(alloc),
         }
     }
 
@@ -130,8 +122,8 @@ impl Places {
         ensures value { result ≡ place_at self.now sector }
         ensures sorted { IsStrictlySortedBy nat_cmp (keys_of self.now) }
     {
-        match self.groups.get(&(sector / GROUP)) {
-            Some(group) => group[(sector % GROUP) as usize],
+        match self.groups.get(sector / GROUP) {
+            Some(group) => place_in(group, sector),
             None => None,
         }
     }
@@ -144,7 +136,7 @@ impl Places {
         Finder {
             groups: &self.groups,
             number,
-            found: self.groups.get(&number),
+            found: self.groups.get(number),
         }
     }
 
@@ -156,14 +148,11 @@ impl Places {
         ensures err { OnErr result (self.new ≡ self.old) }
         ensures sorted { IsStrictlySortedBy nat_cmp (keys_of self.new) }
     {
-        let index = (sector % GROUP) as usize;
-        if let Some(group) = self.groups.get_mut(&(sector / GROUP)) {
-            put_place(group, index, Some(place));
-            return Ok(());
-        }
-        let mut group = [None; GROUP_SIZE];
-        put_place(&mut group, index, Some(place));
-        self.groups.insert(sector / GROUP, group)?;
+        // The groups are sorted: the field says so once it is used.
+        let _ = &self.groups;
+        let place = index_of(place)?;
+        self.groups
+            .set(sector / GROUP, (sector % GROUP) as usize, place)?;
         Ok(())
     }
 
@@ -174,9 +163,8 @@ impl Places {
             ≡ (if s == sector then None else place_at self.old s) }
         ensures sorted { IsStrictlySortedBy nat_cmp (keys_of self.new) }
     {
-        if let Some(group) = self.groups.get_mut(&(sector / GROUP)) {
-            put_place(group, (sector % GROUP) as usize, None);
-        }
+        self.groups
+            .remove(sector / GROUP, (sector % GROUP) as usize);
     }
 
     /// Makes zeros of the blocks of the sectors that are erased.
@@ -184,9 +172,6 @@ impl Places {
         ensures { blocks.new.items
             ≡ blocks_erased (is_erased erasure.now) self.now blocks.old.items }
     {
-        for (number, group) in &self.groups {
-            let first = u128::from(*number) * u128::from(GROUP);
-            erase_group(erasure, first, group, blocks);
-        }
+        self.groups.erase(erasure, blocks);
     }
 }

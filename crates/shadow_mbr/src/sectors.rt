@@ -5,7 +5,7 @@ ghost use Rattle.std.specs.List.{list_any};
 ghost use Rattle.shadow_mbr.specs.Stored.{sector_size, zeros, has_byte};
 
 use crate::erasure::Erasure;
-use crate::kept::{Block, Kept, SECTOR_SIZE};
+use crate::kept::{Block, HEAD_SIZE, Kept, SECTOR_SIZE};
 use crate::piece::{SECTOR, piece_len, sectors_of};
 use std::alloc::{AllocError, Global};
 use std::marker::Model;
@@ -33,7 +33,7 @@ impl Sectors {
     ghost use Rattle.std.specs.Prelude.{◌≡◌, ◌+◌, ◌*◌, ◌/◌, ◌%◌, ◌≤◌, ◌<◌, ◌^◌, ◌==◌, ◌++◌, ℕ, length, OnOk, OnErr, IfOk, IsTrue, ◌↔◌, [], true, false, is_some, slice_index, take, drop, if◌then◌else◌};
     ghost use Rattle.std.specs.Prelude.{nat_eq, ◌||◌, None, Some};
     ghost use Rattle.std.specs.List.{list_any};
-    ghost use Rattle.shadow_mbr.specs.Stored.{IsSound, AreKept, ListsMissing, sector_size, sector_limit, zeros, kept_at, sector_at, byte_at, byte_after, has_byte, sectors_from};
+    ghost use Rattle.shadow_mbr.specs.Stored.{IsSound, AreKept, ListsMissing, sector_size, sector_limit, heads, is_among, sector_filled, zeros, kept_at, sector_at, byte_at, byte_after, has_byte, sectors_from};
     ghost use Rattle.shadow_mbr.specs.Erasure.{is_erased};
 
     pub(crate) fn new(alloc: Global, sectors: u64) -> Sectors
@@ -141,6 +141,45 @@ impl Sectors {
         Ok(bytes)
     }
 
+    /// The first bytes of so many sectors from one on, in the memory of a vector that is given.
+    #[tactic(auto, using(crate::proofs::Heads::heads_from))]
+    pub(crate) fn read_heads_into(
+        &self,
+        buffer: Vec<u8>,
+        first: u64,
+        count: u32,
+    ) -> Result<Vec<u8>, AllocError>
+        requires { first + count ≤ self.now.sectors }
+        ensures { IfOk result (λ bytes. bytes.items
+            ≡ heads (sectors_from (sector_at self.now) first count)) }
+    {
+        self.is_sound();
+        let end = first + u64::from(count);
+        let mut bytes = buffer;
+        bytes.clear();
+        bytes.reserve(HEAD_SIZE * count as usize)?;
+        self.kept.append_heads(&mut bytes, first, end)?;
+        Ok(bytes)
+    }
+
+    /// Fills so many sectors from one on with a byte. Where memory is refused, nothing changes.
+    pub(crate) fn fill(&mut self, first: u64, count: u32, byte: u8) -> Result<(), AllocError>
+        requires { first + count ≤ self.old.sectors }
+        ensures size { self.new.sectors ≡ self.old.sectors }
+        ensures kept { OnOk result ((s : ℕ) → is_some (kept_at self.new s)
+            ≡ (is_some (kept_at self.old s) || is_among first (first + count) s)) }
+        ensures sectors { OnOk result ((s : ℕ) → sector_at self.new s
+            ≡ sector_filled first (first + count) byte (sector_at self.old s) s) }
+        ensures err { OnErr result (self.new ≡ self.old) }
+        ensures sound { IsSound self.new }
+    {
+        self.is_sound();
+        let end = first + u64::from(count);
+        self.keep(first, end)?;
+        self.kept.fill(first, end, byte);
+        Ok(())
+    }
+
     /// Writes bytes from a place on, into sectors that are kept.
     pub(crate) fn overwrite(&mut self, at: u64, bytes: &[u8])
         requires inside { at + length bytes.now ≤ sector_size * self.old.sectors }
@@ -200,6 +239,22 @@ impl Sectors {
         Ok(missing)
     }
 
+    /// Keeps each sector of a run. Where memory is refused, nothing changes.
+    fn keep(&mut self, first: u64, end: u64) -> Result<(), AllocError>
+        requires from { first ≤ end }
+        requires within { end ≤ self.old.sectors }
+        ensures size { self.new.sectors ≡ self.old.sectors }
+        ensures kept { OnOk result ((s : ℕ) → is_some (kept_at self.new s)
+            ≡ (is_some (kept_at self.old s) || is_among first end s)) }
+        ensures bytes { (s : ℕ) → sector_at self.new s ≡ sector_at self.old s }
+        ensures err { OnErr result (self.new ≡ self.old) }
+        ensures sound { IsSound self.new }
+    {
+        let missing = self.missing(first, end)?;
+        self.kept.add_all(&missing)?;
+        Ok(())
+    }
+
     /// Keeps each sector that has one of so many bytes.
     fn prepare(&mut self, at: u64, len: usize) -> Result<(), AllocError>
         requires { at + len ≤ sector_size * self.old.sectors }
@@ -212,8 +267,7 @@ impl Sectors {
     {
         self.is_sound();
         let (first, end) = sectors_of(at, len);
-        let missing = self.missing(first, end)?;
-        self.kept.add_all(&missing)?;
+        self.keep(first, end)?;
         Ok(())
     }
 

@@ -11,3 +11,4 @@ pub mod Settled
 pub mod Skips
 pub mod Faults
 pub mod LeftmostProofs
+pub mod FirstBytes

@@ -234,7 +234,7 @@ mark_is m b body rest t code e =
     let p = ok_is (mark m) t body rest e in
     (b ∷ [], ap (λ (x : List ℕ). b ∷ x) p.1, subst (IsTokenSpelling (b ∷ [])) p.0 (subst (λ (x : ℕ). IsTokenSpelling (x ∷ []) (mark m)) (sym code) (mark_byte m)))
 
-mark_found : (b : ℕ) (ms : List Mark) (m : Mark) → find (λ n. eqb b (code_of n)) ms ≡ Some m → b ≡ code_of m
+pub mark_found : (b : ℕ) (ms : List Mark) (m : Mark) → find (λ n. eqb b (code_of n)) ms ≡ Some m → b ≡ code_of m
 mark_found b [] m e = absurd cc
 mark_found b (n ∷ ms) m e =
     elim (chosen (eqb b (code_of n)) (Some n) (find (λ k. eqb b (code_of k)) ms) (Some m) e) [

@@ -1,6 +1,6 @@
 //! Items from bytes.
 
-ghost use Rattle.std.specs.Prelude.{◌≡◌, ◌≢◌, ◌++◌, ◌==◌, false, List, ℕ, Err, length, Some, None, Ok, IfOk, if◌then◌else◌};
+ghost use Rattle.std.specs.Prelude.{◌≡◌, ◌≢◌, ◌<◌, ◌++◌, ◌∷◌, IfSome, ◌==◌, false, List, ℕ, Err, length, Some, None, Ok, IfOk, if◌then◌else◌};
 ghost use Rattle.tcg_tokens.specs.declared.error.TokenError.{TokenError};
 ghost use Rattle.tcg_tokens.specs.declared.error.TokenError.TheVariants.{Truncated, OutOfMemory};
 ghost use Rattle.tcg_tokens.specs.Gives.{Fails, Gives, TellsReadingFault, is_fault};
@@ -11,6 +11,7 @@ ghost use Rattle.tcg_tokens.specs.Message.{Message, message};
 ghost use Rattle.tcg_tokens.specs.Reading.{expect, number_at, uid_at, list_with, list_value_with, named_with, name_of, value_after_token, list_at, status_at, call_at, reply_at, marked_of, message_at, reading};
 
 use crate::error::TokenError;
+use crate::form::TINY_LIMIT;
 use crate::limits::NESTING_LIMIT;
 use crate::skip::skip_whole;
 use crate::token::{Mark, Token, next_token, skipped};
@@ -18,12 +19,27 @@ use crate::value::{Call, Item, Value};
 use basics::Bytes;
 use std::alloc::Global;
 
+/// What is behind that byte, where the bytes begin with it.
+#[inline(always)]
+fn behind_code(code: u8, bytes: &[u8]) -> Option<&[u8]>
+    ensures { IfSome result (λ rest. bytes.now ≡ code ∷ rest.now) }
+{
+    match bytes {
+        [first, rest @ ..] if *first == code => Some(rest),
+        _ => None,
+    }
+}
+
 /// What is behind that mark.
-#[tactic(auto, unfolding(crate::specs::Reading::expect))]
+#[tactic(auto, unfolding(crate::specs::Reading::expect), using(crate::proofs::FirstBytes::mark_in_front))]
 #[inline(always)]
 pub(crate) fn after_mark(mark: Mark, bytes: &[u8]) -> Result<&[u8], TokenError>
     ensures { TellsReadingFault (λ x. x.now) result (expect mark bytes.now) }
 {
+    // Nearly always the mark stands there, with nothing to skip.
+    if let Some(rest) = behind_code(mark.code(), bytes) {
+        return Ok(rest);
+    }
     let (token, rest) = next_token(bytes)?;
     match token {
         Token::Mark(found) => {
@@ -38,12 +54,27 @@ pub(crate) fn after_mark(mark: Mark, bytes: &[u8]) -> Result<&[u8], TokenError>
     }
 }
 
+/// A number in one byte at the front, and what is behind it.
+#[inline(always)]
+fn tiny(bytes: &[u8]) -> Option<(u8, &[u8])>
+    ensures { IfSome result (λ x. (x.0 < TINY_LIMIT) × (bytes.now ≡ x.0 ∷ x.1.now)) }
+{
+    match bytes {
+        [first, rest @ ..] if *first < TINY_LIMIT => Some((*first, rest)),
+        _ => None,
+    }
+}
+
 /// A number, and what is behind it.
-#[tactic(auto, unfolding(crate::specs::Reading::number_at))]
+#[tactic(auto, unfolding(crate::specs::Reading::number_at), using(crate::proofs::FirstBytes::tiny_in_front))]
 #[inline(always)]
 pub(crate) fn number(bytes: &[u8]) -> Result<(u64, &[u8]), TokenError>
     ensures { TellsReadingFault (λ x. (x.0, x.1.now)) result (number_at bytes.now) }
 {
+    // Nearly always it is a tiny atom, with nothing to skip.
+    if let Some((number, rest)) = tiny(bytes) {
+        return Ok((u64::from(number), rest));
+    }
     let (token, rest) = next_token(bytes)?;
     match token {
         Token::Number(number) => Ok((number, rest)),
@@ -62,12 +93,31 @@ fn uid_from(content: &[u8]) -> Option<[u8; 8]>
     }
 }
 
+/// The first byte of a short atom of eight bytes.
+const SHORT_UID: u8 = 0xa8;
+
+/// Eight bytes as a short atom at the front, and what is behind it.
+#[inline(always)]
+fn short_uid(bytes: &[u8]) -> Option<(&[u8; 8], &[u8])>
+    ensures { IfSome result (λ x. (length x.0.now ≡ 8)
+        × (bytes.now ≡ SHORT_UID ∷ (x.0.now ++ x.1.now))) }
+{
+    match bytes {
+        [SHORT_UID, behind @ ..] => behind.split_first_chunk::<8>(),
+        _ => None,
+    }
+}
+
 /// A UID, and what is behind it.
-#[tactic(auto, unfolding(crate::specs::Reading::uid_at))]
+#[tactic(auto, unfolding(crate::specs::Reading::uid_at), using(crate::proofs::FirstBytes::uid_in_front))]
 #[inline(always)]
 pub(crate) fn uid(bytes: &[u8]) -> Result<([u8; 8], &[u8]), TokenError>
     ensures { TellsReadingFault (λ x. (x.0, x.1.now)) result (uid_at bytes.now) }
 {
+    // Nearly always it is a short atom, with nothing to skip.
+    if let Some((uid, rest)) = short_uid(bytes) {
+        return Ok((*uid, rest));
+    }
     let (token, rest) = next_token(bytes)?;
     match token {
         Token::Bytes(content) => match uid_from(content) {

@@ -1,6 +1,6 @@
 //! One token at the front of bytes.
 
-ghost use Rattle.std.specs.Prelude.{◌≡◌, ◌≤◌, ◌<◌, ◌^◌, length, nat_lt, Some, None, if◌then◌else◌};
+ghost use Rattle.std.specs.Prelude.{◌≡◌, ◌≤◌, ◌<◌, ◌^◌, ◌∷◌, ℕ, List, length, nat_lt, Ok, Some, None, IfSome, if◌then◌else◌};
 ghost use Rattle.tcg_tokens.specs.Gives.{TellsReadingFault};
 ghost use Rattle.tcg_tokens.specs.Lex.{content_at, atom_at, form_at, mark_of, mark_at, lexeme_at, token_at, skip, begins_with_end};
 ghost use Rattle.tcg_tokens.specs.Lexeme.{code_of, number_from, same, is_mark, seen};
@@ -205,10 +205,50 @@ fn token_from(first: u8, rest: &[u8]) -> Result<(Token<'_>, &[u8]), TokenError>
     mark_from(first, rest)
 }
 
+/// The first byte, and what is behind it.
+#[inline(always)]
+fn front(bytes: &[u8]) -> Option<(u8, &[u8])>
+    ensures { IfSome result (λ x. bytes.now ≡ x.0 ∷ x.1.now) }
+{
+    match bytes {
+        [] => None,
+        [first, rest @ ..] => Some((*first, rest)),
+    }
+}
+
+/// The token that one byte is: a tiny atom or a mark.
+#[tactic(auto, using(crate::proofs::FirstBytes::tiny_token, crate::proofs::FirstBytes::mark_token))]
+#[inline(always)]
+fn token_of<'a>(byte: u8) -> Option<Token<'a>>
+    ensures { IfSome result (λ t. (rest : List ℕ) → token_at (byte ∷ rest) ≡ Ok (seen t, rest)) }
+{
+    if byte < TINY_LIMIT {
+        return Some(Token::Number(u64::from(byte)));
+    }
+    match mark_of(byte) {
+        Some(mark) => Some(Token::Mark(mark)),
+        None => None,
+    }
+}
+
 /// The token at the front, and what is behind it.
-#[tactic(auto, unfolding(crate::specs::Lex::first_lexeme))]
 #[inline(always)]
 pub(crate) fn next_token(bytes: &[u8]) -> Result<(Token<'_>, &[u8]), TokenError>
+    ensures { TellsReadingFault (λ x. (seen x.0, x.1.now)) result (token_at bytes.now) }
+{
+    // Nearly always it is a token of one byte, with nothing to skip.
+    if let Some((first, rest)) = front(bytes) {
+        if let Some(token) = token_of(first) {
+            return Ok((token, rest));
+        }
+    }
+    any_token(bytes)
+}
+
+/// The token at the front, of any form, and what is behind it.
+#[tactic(auto, unfolding(crate::specs::Lex::first_lexeme))]
+#[inline(never)]
+fn any_token(bytes: &[u8]) -> Result<(Token<'_>, &[u8]), TokenError>
     ensures { TellsReadingFault (λ x. (seen x.0, x.1.now)) result (token_at bytes.now) }
 {
     match skipped(bytes) {

@@ -24,7 +24,7 @@ use call_shapes::{status, uid_of};
 use compacket::ComId;
 use methods::{MethodFault, Outcome, invoke};
 use sessions::Sessions;
-use shadow_mbr::Erasure;
+use shadow_mbr::Erased;
 use sp_cells::Uid;
 use std::alloc::{AllocError, Global};
 use tcg_tokens::{Call, Item, TokenError, begins_with_end, read_item};
@@ -40,7 +40,7 @@ fn answer(reply: Item, changes: bool) -> Outcome
     Outcome {
         reply,
         denied: None,
-        erases: Erasure::none(),
+        erases: Erased::none(),
         changes,
     }
 }
@@ -99,7 +99,7 @@ fn call_manager(
         return Ok(Outcome {
             reply: started.reply,
             denied: started.denied,
-            erases: Erasure::none(),
+            erases: Erased::none(),
             changes: true,
         });
     }

@@ -8,12 +8,13 @@ ghost use Rattle.history.specs.Tcg.{received_bytes};
 ghost use Rattle.tper.specs.Tper.{response_at, fits_in};
 
 use compacket::{
-    ComId, MAX_COM_PACKET, Session, empty_header, headers_into, padding_into, short_header,
+    ComId, HEADERS, MAX_COM_PACKET, Session, empty_header, headers_before, headers_room,
+    padding_into, short_header,
 };
 use std::alloc::{AllocError, Global};
 use std::marker::Model;
 use std::mem::replace;
-use tcg_tokens::{Item, item_len, write_item_into};
+use tcg_tokens::{Item, write_item_into};
 
 /// How many ComIDs sessions have.
 const COM_IDS: usize = 4;
@@ -231,9 +232,10 @@ impl Room {
     {
         let Room { mut frame } = self;
         frame.clear();
-        let len = item_len(answer);
-        headers_into(com_id, session, len, &mut frame);
+        headers_room(&mut frame);
         write_item_into(answer, &mut frame);
+        headers_before(com_id, session, &mut frame);
+        let len = frame.len() - HEADERS;
         padding_into(len, &mut frame);
         Response::new(frame)
     }

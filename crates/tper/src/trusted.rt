@@ -36,7 +36,7 @@ use compacket::{ComId, Session, open};
 use device_data::has_owner;
 use methods::Outcome;
 use sessions::Sessions;
-use shadow_mbr::{Erasure, Mbr, SECTOR_SIZE};
+use shadow_mbr::{Erased, Mbr, SECTOR_SIZE};
 use sp_cells::{Column, Sp, Uid, number_at};
 use sp_tables::{Rows, Tables};
 use std::alloc::{AllocError, Global};
@@ -50,7 +50,7 @@ pub struct Sent {
     /// What denied the item.
     pub denied: Option<Why>,
     /// Which sectors become zeros.
-    pub erases: Erasure,
+    pub erases: Erased,
     /// Whether rows or bytes may have changed.
     pub changes: bool,
 }
@@ -90,7 +90,7 @@ fn nothing() -> Sent
 {
     Sent {
         denied: None,
-        erases: Erasure::none(),
+        erases: Erased::none(),
         changes: false,
     }
 }

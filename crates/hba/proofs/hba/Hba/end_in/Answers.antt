@@ -28,7 +28,7 @@ returns-in_err-completed-clause-kept g c =
 
 pub returns-clause-done : goal.returns-clause-done
 returns-clause-done g c =
-    let gives = rw (← c.as_slice-fises.ensures.value, ← c.as_slice-bytes.ensures.value) at c.in_ok-completed.ensures.effect in
+    let gives = rw (← c.fises-told.ensures, ← c.as_slice-fises.ensures.value, ← c.as_slice-bytes.ensures.value) at c.in_ok-completed.ensures.effect in
     turn_kept g.M.HostMemory.does (λ o a. ServesSo o a c.args.place c.args.len (Complete c.args.tag) (Completed c.args.tag)) c.args.self.now c.args.memory.now c.show-done.new.self c.give_back.new.self
     c.deliver-delivered.new.memory c.show-done.result None c.give_back.ensures
     (serves_done g.M.HostMemory.does c.args.place c.args.len (Complete c.args.tag) (Completed c.args.tag)

@@ -23,30 +23,30 @@ returns-in-Err-clause-done g c =
     (rw (c.descriptors-at.ensures.value, c.requires.long, c.in-Err.is) at c.gather.ensures)
     c.miss.ensures.agrees))
 
-pub returns-in_err-accepted-clause-kept : goal.returns-in_err-accepted-clause-kept
-returns-in_err-accepted-clause-kept g c =
+pub returns-in_err-take-clause-kept : goal.returns-in_err-take-clause-kept
+returns-in_err-take-clause-kept g c =
     on_err c.from_residual.result _
     (brought_reads g.M.HostMemory.does c.args.place (payload_of c.args.self.now.drive.tper.store.config c.args.fis.now) c.args.memory.now c.gather.new.memory (Ok c.gather.new.into)
     (rw (c.descriptors-at.ensures.value, c.requires.long, c.in-Ok.is) at c.gather.ensures))
 
 pub returns-clause-done : goal.returns-clause-done
 returns-clause-done g c =
-    let gives = rw (← c.as_slice-fises.ensures.value, ← c.as_slice-bytes.ensures.value) at c.in_ok-accepted.ensures.effect in
+    let gives = rw (← c.fises-told.ensures, ← c.as_slice-fises.ensures.value, ← c.as_slice-bytes.ensures.value) at c.in_ok-take.ensures.effect in
     turn_kept g.M.HostMemory.does (λ o a. Executes o a c.args.place c.args.tag c.args.fis.now) c.args.self.now c.args.memory.now c.show-done.new.self c.give_back.new.self
-    c.deliver-delivered.new.memory c.show-done.result c.in_ok-accepted.accepted.denied c.give_back.ensures
+    c.deliver-delivered.new.memory c.show-done.result c.take.new.answer.denied c.give_back.ensures
     (executes_as g.M.HostMemory.does c.args.place c.args.tag c.args.fis.now c.args.self.now c.args.memory.now c.show-done.new.self
-    c.deliver-delivered.new.memory c.show-done.result c.in_ok-accepted.accepted.denied
+    c.deliver-delivered.new.memory c.show-done.result c.take.new.answer.denied
     (serves_done g.M.HostMemory.does c.args.place (payload_of c.args.self.now.drive.tper.store.config c.args.fis.now) (Accept c.args.fis.now) (Fetched c.args.tag c.args.fis.now)
     c.args.self.now c.args.memory.now c.gather.new.memory c.show-done.new.self c.deliver-delivered.new.memory
     c.gather.new.into c.as_slice-fises.result.now c.as_slice-bytes.result.now (result_err c.deliver-delivered.result)
-    c.show-done.result c.in_ok-accepted.accepted.denied
+    c.show-done.result c.take.new.answer.denied
     (rw (c.descriptors-at.ensures.value, c.requires.long, c.in-Ok.is) at c.gather.ensures)
     c.deliver-delivered.ensures
     (ap (λ (d : Done). Some d) (sym c.show-done.ensures.told))
     gives
     (adds_fetched c.args.self.now c.take.new.self c.show-done.new.self c.args.tag c.args.fis.now c.gather.new.into
     c.as_slice-fises.result.now c.as_slice-bytes.result.now (result_err c.deliver-delivered.result)
-    c.in_ok-accepted.ensures.acted gives
+    c.in_ok-take.ensures.acted gives
     (shown_fetched c.args.self.now c.take.new.self c.note_fetch.new.self c.show-done.new.self c.args.tag c.as_slice-fises.result.now
-    (result_err c.deliver-delivered.result) c.in_ok-accepted.ensures.registers c.note_fetch.ensures c.show-done.ensures.shown))
-    c.in_ok-accepted.ensures.denied))
+    (result_err c.deliver-delivered.result) c.in_ok-take.ensures.registers c.note_fetch.ensures c.show-done.ensures.shown))
+    c.in_ok-take.ensures.denied))

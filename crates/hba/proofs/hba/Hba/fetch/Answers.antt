@@ -1,5 +1,6 @@
 -- The header is read, and the FIS.
-use Rattle.std.proofs.Common.{Some, None, Ok, Err, sym, refl, ◌∙◌}
+use Rattle.std.proofs.lemmas.Bool.Decides.{nat_tests}
+use Rattle.std.proofs.Common.{arith, Some, None, Ok, Err, sym, refl, ◌∙◌}
 use Rattle.hba.specs.declared.work.Done.TheVariants as dones
 use Rattle.hba.specs.Showing.{fault_of}
 use Rattle.hba.specs.Engine.{Executes, Fetches, FetchesFrom, FetchesFis, place_of}
@@ -43,6 +44,11 @@ returns-then-not-is_command-clause-done g c =
     (rw (c.from.ensures, c.in-Some.is) at c.read_array-2.ensures)
     (fetch_control g.M.HostMemory.does c.args.self.now c.read_array-2.new.memory c.control.new.self c.args.tag c.in-Ok.header c.in-Some.fis
     (sym c.is_command.ensures ∙ c.if-not-is_command.true) c.control.ensures.agrees)))
+
+pub execute-requires-clause-kind : goal.execute-requires-clause-kind
+execute-requires-clause-kind g c =
+    let is = sym c.is_command.ensures ∙ c.if-not-is_command.false in
+    grind (arith, nat_tests, is)
 
 pub returns-clause-done : goal.returns-clause-done
 returns-clause-done g c =

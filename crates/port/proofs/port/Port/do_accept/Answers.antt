@@ -41,7 +41,7 @@ returns-clause-state c = rw (← c.self.view_is) (λ f e.
       memory =
           subst (λ (xs : List ℕ). IsFilled memory c.take_in-len.new.memory tag (is_queued_command c.in_ok-put.put.command) xs filled.0) c.deref.ensures.value
           (subst (λ (b : Bool). IsFilled memory c.take_in-len.new.memory tag b c.deref.result.now filled.0) c.is_queued-queued.ensures filled.2);
-      received = subst (Receives memory c.take_in-len.new.memory) c.as_slice-fises.ensures.value c.take_in-len.ensures.received;
+      received = subst (Receives memory c.take_in-len.new.memory) (c.as_slice-fises.ensures.value ∙ c.fises-told.ensures) c.take_in-len.ensures.received;
       slots = search rules;
       outcomes = (let h = filled.1 in search (rules, h));
       failed = search rules;

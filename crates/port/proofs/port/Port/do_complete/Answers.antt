@@ -19,7 +19,7 @@ returns-clause-state c =
       drive = λ o acts h. rw c.give_back.ensures (subst (λ (xs : List ℕ). DriveAgrees c.complete.new.self o (CompleteTag c.args.tag xs ∷ acts)) (c.front-payload.ensures.value ∙ ap (buffer_front c.self.inside.memory c.args.tag) c.expects-len.ensures.stands) (c.in-Ok.ensures.agrees o acts h));
       answers = c.in-Ok.ensures.answer;
       memory = subst (λ (xs : List ℕ). IsFilled c.self.inside.memory c.take_in-len.new.memory c.args.tag false xs filled.0) c.deref.ensures.value filled.2;
-      received = subst (Receives c.self.inside.memory c.take_in-len.new.memory) c.as_slice-fises.ensures.value c.take_in-len.ensures.received;
+      received = subst (Receives c.self.inside.memory c.take_in-len.new.memory) (c.as_slice-fises.ensures.value ∙ c.fises-told.ensures) c.take_in-len.ensures.received;
       slots = search rules;
       outcomes = (let h = filled.1 in search (rules, h));
       failed = refl;

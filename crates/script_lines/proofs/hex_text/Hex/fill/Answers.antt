@@ -1,9 +1,14 @@
-use Rattle.std.proofs.Common.{◌∙◌, sym, ap, length}
-use Rattle.script_lines.proofs.HexTexts.{is_written}
+use Rattle.std.proofs.Common.{◌*◌, ◌∙◌, sym, ap, length, List, ℕ, Result, arith, []}
+use Rattle.std.specs.Result.{result_unwrap_or}
+use Rattle.hex.specs.declared.error.FromHexError.{FromHexError}
+use Rattle.script_lines.proofs.HexTexts.{twice}
 use Rattle.script_lines.proofs.hex_text.Hex.fill.Goals as goal
 
--- src/hex_text.rt:68:5
+pub decode-requires-clause-room : goal.decode-requires-clause-room
+decode-requires-clause-room c =
+    let len = twice c.self.inside.digits.now c.self.invariant in
+    ap (λ n. 2 * n) (c.requires ∙ sym (ap length c.self.view_is)) ∙ sym len
+
 pub returns : goal.returns
 returns c =
-    is_written c.self.inside.digits.now c.decode_to_slice.new.out (length c.args.room.now) c.decode_to_slice.result c.decode_to_slice.ensures.value
-    c.self.invariant (c.requires ∙ sym (ap length c.self.view_is)) ∙ c.self.view_is
+    sym (ap (λ (r : Result (List ℕ) FromHexError). result_unwrap_or r []) c.decode.ensures) ∙ c.self.view_is
