@@ -16,7 +16,8 @@ const WINDOW: usize = 65_536;
 /// takes no memory, and goes over the receipts once for each window of the history, which has 17 at most in a port.
 #[tactic(auto, using(crate::proofs::Windows::apart_of_shown))]
 pub fn check_receipts(history: &Entries, receipts: &[Receipt]) -> bool
-    ensures { IsTrue result ↔ (HaveOwnNumbers receipts.now × All (IsShown history.now.items) receipts.now
+    ensures { IsTrue result ↔ (HaveOwnNumbers receipts.now
+        × All (IsShown history.now.items) receipts.now
         × AreNamed history.now.items receipts.now) }
 {
     are_shown(history, receipts) && are_matched(history, receipts)
@@ -144,7 +145,9 @@ fn is_matched<const SIZE: usize>(history: &Entries, receipts: &[Receipt], first:
 fn are_matched(history: &Entries, receipts: &[Receipt]) -> bool
     ensures apart { IsTrue result → AreApartIn 0 (length history.now.items) receipts.now }
     ensures named { IsTrue result → AreNamed history.now.items receipts.now }
-    ensures only { HaveOwnNumbers receipts.now → AreNamed history.now.items receipts.now → IsTrue result }
+    ensures only { HaveOwnNumbers receipts.now
+        → AreNamed history.now.items receipts.now
+        → IsTrue result }
 {
     for window in 0..history.len() / WINDOW + 1 {
         if !is_matched::<WINDOW>(history, receipts, WINDOW * window) {
