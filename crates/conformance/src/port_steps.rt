@@ -365,8 +365,9 @@ fn turns(port: &mut Port, choice: usize) -> bool {
 
 /// Whether the last step of a history is this one.
 fn is_last(port: &Port, step: &Step) -> bool {
-    match port.history().last() {
-        Some(entry) => entry.step == *step,
+    let history = port.history();
+    match history.get(history.len().saturating_sub(1)) {
+        Some(entry) => entry.step.matches(step),
         None => false,
     }
 }
@@ -425,7 +426,7 @@ fn has_replied(port: &Port, replies: &[(usize, Reply)]) -> bool {
     let mut has = true;
     for (number, reply) in replies {
         has &= match port.history().get(number.saturating_sub(1)) {
-            Some(entry) => is_reply(&entry.reply, *reply),
+            Some(entry) => is_reply(entry.reply, *reply),
             None => false,
         };
     }

@@ -7,10 +7,10 @@ ghost use Rattle.locked_port.specs.Counts.{client_steps};
 use crate::desk::Desk;
 use crate::gate::{Gate, Pick};
 use crate::pass::{Pass, PortName, gather};
-use crate::receipts::is_client;
+use crate::receipts::is_client_at;
 use crate::ticket::{Receipt, Ticket};
 use fis::Tag;
-use port::{Built, Entry, Port, PortError, Request, fits};
+use port::{Built, Entries, Port, PortError, Request, fits};
 use std::alloc::Global;
 use std::sync::ledger::Blank;
 use std::sync::{Condvar, Mutex, Wait};
@@ -265,25 +265,25 @@ impl<L: PortName> LockedPort<L> {
     }
 }
 
-/// Builds the command of a request. Nothing but memory is refused.
+/// Builds the command of a copy of a request. Nothing but memory is refused.
 fn build(alloc: Global, request: &Request, tag: Tag) -> Result<Built, PortError>
     requires { is_sized request.now ≡ true }
     ensures built { IfOk result (λ built. (built.request ≡ request.now) × (built.tag ≡ tag)) }
     ensures memory { IsOkUnless result PortError.OutOfMemory }
 {
-    match Built::new(alloc, request, tag) {
-        Ok(built) => Ok(built),
+    match request.copy(alloc) {
+        Ok(request) => Ok(Built::new(request, tag)),
         Err(_) => Err(PortError::OutOfMemory),
     }
 }
 
 /// How many steps of a history are clients'.
-fn count_client_steps(history: &[Entry]) -> u64
-    ensures { result ≡ client_steps history.now }
+fn count_client_steps(history: &Entries) -> u64
+    ensures { result ≡ client_steps history.now.items }
 {
     let mut count = 0;
-    for entry in history {
-        if is_client(&entry.step) {
+    for place in 0..history.len() {
+        if is_client_at(history, place) {
             count += 1;
         }
     }

@@ -1,11 +1,13 @@
 //! Whether receipts are those of a history.
 
-ghost use Rattle.std.specs.Prelude.{◌≡◌, ◌+◌, ◌^◌, ◌<◌, ◌≤◌, ◌⊎◌, ◌↔◌, length, true, false, IsTrue, All, MatchOption};
+ghost use Rattle.std.specs.Prelude.{◌≡◌, ◌+◌, ◌^◌, ◌<◌, ◌≤◌, ◌⊎◌, ◌↔◌, length, slice_index_or, true, false, IsTrue, All, MatchOption};
 ghost use Rattle.locked_port.specs.Counts.{is_client};
+ghost use Rattle.port_history.specs.declared.step.Entry.{Entry};
+ghost use Rattle.port_history.specs.Entries.{entry_lent, step_lent};
 ghost use Rattle.locked_port.specs.Receipts.{HaveOwnNumbers, IsShown, AreNamed, AreApartIn, AreNamedIn, AreThere, AreOnly, AreMarked};
 
 use crate::ticket::Receipt;
-use port::{Entry, Step};
+use port::{Entries, EntryRef, StepRef};
 
 /// How many steps of a history are looked at in one go: for each so many of them the receipts are gone over once.
 const WINDOW: usize = 65_536;
@@ -13,24 +15,25 @@ const WINDOW: usize = 65_536;
 /// Whether receipts are for distinct steps of a history, each as the history has it, and for every client step of it. It
 /// takes no memory, and goes over the receipts once for each window of the history, which has 17 at most in a port.
 #[tactic(auto, using(crate::proofs::Windows::apart_of_shown))]
-pub fn check_receipts(history: &[Entry], receipts: &[Receipt]) -> bool
-    ensures { IsTrue result ↔ (HaveOwnNumbers receipts.now × All (IsShown history.now) receipts.now
-        × AreNamed history.now receipts.now) }
+pub fn check_receipts(history: &Entries, receipts: &[Receipt]) -> bool
+    ensures { IsTrue result ↔ (HaveOwnNumbers receipts.now
+        × All (IsShown history.now.items) receipts.now
+        × AreNamed history.now.items receipts.now) }
 {
     are_shown(history, receipts) && are_matched(history, receipts)
 }
 
 /// Whether an entry is what a receipt says.
-fn is_same(entry: &Entry, receipt: &Receipt) -> bool
-    ensures { IsTrue result
-        ↔ (entry.now ≡ record { step = receipt.now.step; reply = receipt.now.reply }) }
+fn is_same(entry: &EntryRef<'_>, receipt: &Receipt) -> bool
+    ensures { IsTrue result ↔ (entry_lent entry.now
+        ≡ record { step = receipt.now.step; reply = receipt.now.reply }) }
 {
-    entry.step == receipt.step && entry.reply == receipt.reply
+    entry.matches(&receipt.step, &receipt.reply)
 }
 
 /// Whether the history has a receipt's step and reply at its number.
-fn is_shown(history: &[Entry], receipt: &Receipt) -> bool
-    ensures { IsTrue result ↔ IsShown history.now receipt.now }
+fn is_shown(history: &Entries, receipt: &Receipt) -> bool
+    ensures { IsTrue result ↔ IsShown history.now.items receipt.now }
 {
     let number = receipt.number;
     if number == 0 {
@@ -38,27 +41,38 @@ fn is_shown(history: &[Entry], receipt: &Receipt) -> bool
     }
     match history.get(number as usize - 1) {
         None => false,
-        Some(entry) => is_same(entry, receipt),
+        Some(entry) => is_same(&entry, receipt),
     }
 }
 
-fn are_shown(history: &[Entry], receipts: &[Receipt]) -> bool
-    ensures { IsTrue result ↔ All (IsShown history.now) receipts.now }
+fn are_shown(history: &Entries, receipts: &[Receipt]) -> bool
+    ensures { IsTrue result ↔ All (IsShown history.now.items) receipts.now }
 {
     receipts.iter().all(|r| is_shown(history, r))
 }
 
 /// Whether a step is a client's Put or Take.
-pub(crate) fn is_client(step: &Step) -> bool
-    ensures { result ≡ is_client step.now }
+fn is_client(step: &StepRef<'_>) -> bool
+    ensures { result ≡ is_client (step_lent step.now) }
 {
     match *step {
-        Step::Put { .. } | Step::Take { .. } => true,
-        Step::Issue { .. }
-        | Step::Accept { .. }
-        | Step::Complete { .. }
-        | Step::Recover
-        | Step::Reset { .. } => false,
+        StepRef::Put { .. } | StepRef::Take { .. } => true,
+        StepRef::Issue { .. }
+        | StepRef::Accept { .. }
+        | StepRef::Complete { .. }
+        | StepRef::Recover
+        | StepRef::Reset { .. } => false,
+    }
+}
+
+/// Whether the step at a place of a history is a client's.
+pub(crate) fn is_client_at(history: &Entries, place: usize) -> bool
+    requires { place < length history.now.items }
+    ensures { (d : Entry) → result ≡ is_client (slice_index_or history.now.items place d).step }
+{
+    match history.get(place) {
+        None => false,
+        Some(entry) => is_client(&entry.step),
     }
 }
 
@@ -101,13 +115,12 @@ fn mark(receipts: &[Receipt], first: usize, marks: &mut [bool]) -> bool
 }
 
 /// Whether each client step of a window is marked.
-fn are_marked(history: &[Entry], first: usize, marks: &[bool]) -> bool
-    requires { first ≤ length history.now }
-    ensures { IsTrue result ↔ AreMarked history.now first marks.now (length marks.now) }
+fn are_marked(history: &Entries, first: usize, marks: &[bool]) -> bool
+    requires { first ≤ length history.now.items }
+    ensures { IsTrue result ↔ AreMarked history.now.items first marks.now (length marks.now) }
 {
-    let (_, rest) = history.split_at(first);
-    for k in 0..marks.len().min(rest.len()) {
-        if is_client(&rest[k].step) && !marks[k] {
+    for k in 0..marks.len().min(history.len() - first) {
+        if is_client_at(history, first + k) && !marks[k] {
             return false;
         }
     }
@@ -115,13 +128,13 @@ fn are_marked(history: &[Entry], first: usize, marks: &[bool]) -> bool
 }
 
 /// Whether in a window of a history no two receipts have one number, and each client step has one.
-fn is_matched<const SIZE: usize>(history: &[Entry], receipts: &[Receipt], first: usize) -> bool
+fn is_matched<const SIZE: usize>(history: &Entries, receipts: &[Receipt], first: usize) -> bool
     requires size { SIZE < 2 ^ 32 }
-    requires first { first ≤ length history.now }
+    requires first { first ≤ length history.now.items }
     ensures apart { IsTrue result → AreApartIn first SIZE receipts.now }
-    ensures named { IsTrue result → AreNamedIn first SIZE history.now receipts.now }
+    ensures named { IsTrue result → AreNamedIn first SIZE history.now.items receipts.now }
     ensures only { AreApartIn first SIZE receipts.now
-        → AreNamedIn first SIZE history.now receipts.now
+        → AreNamedIn first SIZE history.now.items receipts.now
         → IsTrue result }
 {
     let mut marks = [false; SIZE];
@@ -129,10 +142,12 @@ fn is_matched<const SIZE: usize>(history: &[Entry], receipts: &[Receipt], first:
 }
 
 /// Whether no two receipts have one number, and each client step has one, window by window.
-fn are_matched(history: &[Entry], receipts: &[Receipt]) -> bool
-    ensures apart { IsTrue result → AreApartIn 0 (length history.now) receipts.now }
-    ensures named { IsTrue result → AreNamed history.now receipts.now }
-    ensures only { HaveOwnNumbers receipts.now → AreNamed history.now receipts.now → IsTrue result }
+fn are_matched(history: &Entries, receipts: &[Receipt]) -> bool
+    ensures apart { IsTrue result → AreApartIn 0 (length history.now.items) receipts.now }
+    ensures named { IsTrue result → AreNamed history.now.items receipts.now }
+    ensures only { HaveOwnNumbers receipts.now
+        → AreNamed history.now.items receipts.now
+        → IsTrue result }
 {
     for window in 0..history.len() / WINDOW + 1 {
         if !is_matched::<WINDOW>(history, receipts, WINDOW * window) {

@@ -11,7 +11,7 @@ use crate::stages::{accepted_stage, failed_then};
 use audit::{AuditLine, Why};
 use drive::DriveError;
 use fis::Tag;
-use port_history::{Answer, Entry, PortError, Put, Request, Stage, Step, is_queued};
+use port_history::{Answer, EngineStep, PortError, Put, Request, Stage, is_queued};
 use slots::BUFFER;
 
 /// Adds the line of a denial, if there was one.
@@ -49,33 +49,32 @@ impl Port {
     /// # Errors
     ///
     /// In this order: `HistoryFull`, `Size`, `SlotBusy`, `OutOfMemory`. The port is then as before.
-    pub fn put(&mut self, client: u32, tag: Tag, request: &Request) -> Result<u64, PortError>
-        ensures agrees { MakesStep self.old self.new (steps.Put client tag request.now) result }
+    pub fn put(&mut self, client: u32, tag: Tag, request: Request) -> Result<u64, PortError>
+        ensures agrees { MakesStep self.old self.new (steps.Put client tag request) result }
         ensures number { NumbersStep self.old result }
-        ensures refused { RefusesStep self.old (steps.Put client tag request.now) result }
+        ensures refused { RefusesStep self.old (steps.Put client tag request) result }
         ensures err { OnErr result (self.new ≡ self.old) }
     {
         self.do_put(client, tag, request)
     }
 
-    fn do_put(&mut self, client: u32, tag: Tag, request: &Request) -> Result<u64, PortError>
-        ensures refused { IsRefusedBy (refusal_on self.old (steps.Put client tag request.now))
+    pub(crate) fn do_put(
+        &mut self,
+        client: u32,
+        tag: Tag,
+        request: Request,
+    ) -> Result<u64, PortError>
+        ensures refused { IsRefusedBy (refusal_on self.old (steps.Put client tag request))
             result }
         ensures number { IfOk result (λ n. n ≡ 1 + length self.old.history) }
-        ensures state { OnOk result (IsPut self.old self.new client tag request.now) }
+        ensures state { OnOk result (IsPut self.old self.new client tag request) }
         ensures slot { tag < slot_count }
         ensures err { OnErr result (self.new ≡ self.old) }
     {
-        self.may_put(tag, request)?;
+        self.may_put(tag, &request)?;
         let number = self.next_number();
         let command = request.command();
-        let step = Step::Put {
-            client,
-            tag,
-            request: request.copy(self.alloc)?,
-        };
-        let reply = Answer::nothing();
-        self.history.reserve(1)?;
+        self.history.reserve_put()?;
         host::lay(&mut self.memory, tag, command, request.payload());
         let put = Put {
             client,
@@ -84,7 +83,7 @@ impl Port {
         };
         self.slots[usize::from(tag.number())] = Stage::Prepared(put);
         self.outcomes[usize::from(tag.number())] = None;
-        self.history.push_reserved(Entry { step, reply });
+        self.history.push_put(client, tag, request);
         Ok(number)
     }
 
@@ -111,14 +110,10 @@ impl Port {
     {
         let put = self.prepared(tag)?;
         let number = self.next_number();
-        let reply = Answer::nothing();
-        self.history.reserve(1)?;
+        self.history.reserve()?;
         self.slots[usize::from(tag.number())] = Stage::Issued(put);
         self.regs.set_issue(tag, is_queued(put.command));
-        self.history.push_reserved(Entry {
-            step: Step::Issue { tag },
-            reply,
-        });
+        self.history.push_engine(EngineStep::Issue { tag });
         Ok(number)
     }
 
@@ -157,8 +152,7 @@ impl Port {
             return Err(PortError::NotIssued);
         }
         let number = self.next_number();
-        let reply = Answer::nothing();
-        self.history.reserve(1)?;
+        self.history.reserve()?;
         self.audit.reserve(1)?;
         let payload = host::front(&self.memory, tag, len);
         let Ok(answer) = self.drive.accept(&command.fis, payload) else {
@@ -174,10 +168,7 @@ impl Port {
         self.outcomes[slot] = outcome_then(queued, &answer, len, self.outcomes[slot]);
         self.failed = failed_then(queued, answer.has_failed(), tag, self.failed);
         note(&mut self.audit, number, put.client, answer.denied);
-        self.history.push_reserved(Entry {
-            step: Step::Accept { tag },
-            reply,
-        });
+        self.history.push_engine(EngineStep::Accept { tag });
         Ok(number)
     }
 
@@ -210,8 +201,7 @@ impl Port {
             return Err(PortError::NotAccepted);
         }
         let number = self.next_number();
-        let reply = Answer::nothing();
-        self.history.reserve(1)?;
+        self.history.reserve()?;
         let payload = host::front(&self.memory, tag, len);
         let done = match self.drive.complete(tag, payload) {
             Ok(done) => done,
@@ -226,10 +216,7 @@ impl Port {
         self.slots[slot] = Stage::Answered(put);
         self.outcomes[slot] = Some(Outcome::Done(len));
         self.drive.give_back(done.bytes);
-        self.history.push_reserved(Entry {
-            step: Step::Complete { tag },
-            reply,
-        });
+        self.history.push_engine(EngineStep::Complete { tag });
         Ok(number)
     }
 
@@ -268,15 +255,12 @@ impl Port {
         let slot = usize::from(tag.number());
         let outcome = self.outcomes[slot].unwrap_or(Outcome::Done(0));
         let answer = host::answer(&self.memory, self.alloc, tag, outcome)?;
-        let reply = answer.copy(self.alloc)?;
+        let reply = answer.share()?;
         let number = self.next_number();
-        self.history.reserve(1)?;
+        self.history.reserve_take()?;
         self.slots[slot] = Stage::Free;
         self.outcomes[slot] = None;
-        self.history.push_reserved(Entry {
-            step: Step::Take { client, tag },
-            reply,
-        });
+        self.history.push_take(client, tag, reply);
         Ok((number, answer))
     }
 }

@@ -6,9 +6,8 @@ ghost use Rattle.port_history.specs.Requests.{is_sized};
 use crate::host;
 use crate::port::Port;
 use fis::Tag;
-use port_history::{Answer, Entry, PortError, Put, Request, Stage, Step};
+use port_history::{PortError, Put, Request, Stage};
 use slots::CommandBlock;
-use std::alloc::{AllocError, Global};
 use std::marker::Model;
 
 /// Whether a port takes a request, by its size: false exactly where `put` answers `Size`.
@@ -40,18 +39,13 @@ impl Model for Built {
 }
 
 impl Built {
-    /// Builds the command of a request, and takes the memory that the history keeps of it.
-    ///
-    /// # Errors
-    ///
-    /// `AllocError`, when a growth is refused.
-    pub fn new(alloc: Global, request: &Request, tag: Tag) -> Result<Built, AllocError>
-        requires { is_sized request.now ≡ true }
-        ensures { IfOk result (λ built. (built.tag ≡ tag) × (built.request ≡ request.now)) }
+    /// Builds the command of a request.
+    pub fn new(request: Request, tag: Tag) -> Built
+        requires { is_sized request ≡ true }
+        ensures { (result.tag ≡ tag) × (result.request ≡ request) }
     {
         let fis = host::command_block(request.command(), tag);
-        let request = request.copy(alloc)?;
-        Ok(Built { tag, request, fis })
+        Built { tag, request, fis }
     }
 
     /// The tag.
@@ -102,11 +96,10 @@ impl Port {
         if let Err(error) = self.may_put(built.tag, &built.request) {
             return Err((error, built));
         }
-        if self.history.reserve(1).is_err() {
+        if self.history.reserve_put().is_err() {
             return Err((PortError::OutOfMemory, built));
         }
         let number = self.next_number();
-        let reply = Answer::nothing();
         let Built { tag, request, fis } = built;
         let command = request.command();
         host::lay_block(&mut self.memory, tag, &fis, command, request.payload());
@@ -117,14 +110,7 @@ impl Port {
         };
         self.slots[usize::from(tag.number())] = Stage::Prepared(put);
         self.outcomes[usize::from(tag.number())] = None;
-        self.history.push_reserved(Entry {
-            step: Step::Put {
-                client,
-                tag,
-                request,
-            },
-            reply,
-        });
+        self.history.push_put(client, tag, request);
         Ok(number)
     }
 }

@@ -3,10 +3,10 @@
 use crate::port::Port;
 use arrayvec::ArrayVec;
 use fis::{SLOT_COUNT, Tag};
-use port_history::{EngineStep, PlayError, PortError, Step};
+use port_history::{EngineStep, PlayError, PortError, Request, Step};
 
 impl Port {
-    ghost use Rattle.std.specs.Prelude.{◌≡◌, ◌+◌, ◌++◌, ℕ, List, [], ◌∷◌, length, reverse, option_map, is_none, Ok, None, OnOk, OnErr, IfOk, IfErr};
+    ghost use Rattle.std.specs.Prelude.{◌≡◌, ◌+◌, ◌<◌, ◌++◌, ℕ, List, [], ◌∷◌, length, reverse, option_map, is_none, Ok, None, OnOk, OnErr, IfOk, IfErr};
     ghost use Rattle.fis.specs.Tags.{slot_count};
     ghost use Rattle.history.specs.Opening.{Origin};
     ghost use Rattle.port_history.specs.declared.step.EngineStep.TheVariants as engine;
@@ -16,7 +16,7 @@ impl Port {
     ghost use Rattle.port_history.specs.Refusals.{refusal, IsRefusedBy};
     ghost use Rattle.port_history.specs.Steps.{trace};
     ghost use Rattle.port.specs.Agreement.{PortAgrees, IsStopped, MakesStep, NumbersStep, RefusesStep};
-    ghost use Rattle.port.specs.State.{refusal_on};
+    ghost use Rattle.port.specs.State.{refusal_on, IsPut};
 
     /// Does a step.
     ///
@@ -34,7 +34,7 @@ impl Port {
                 tag,
                 ref request,
             } => {
-                self.put(client, tag, request)?;
+                self.put_copy(client, tag, request)?;
             }
             Step::Issue { tag } => {
                 self.issue(tag)?;
@@ -56,6 +56,27 @@ impl Port {
             }
         }
         Ok(())
+    }
+
+    /// Puts a copy of a request.
+    fn put_copy(&mut self, client: u32, tag: Tag, request: &Request) -> Result<u64, PortError>
+        ensures agrees { MakesStep self.old self.new (steps.Put client tag request.now) result }
+        ensures refused { RefusesStep self.old (steps.Put client tag request.now) result }
+        ensures err { OnErr result (self.new ≡ self.old) }
+    {
+        self.do_put_copy(client, tag, request)
+    }
+
+    fn do_put_copy(&mut self, client: u32, tag: Tag, request: &Request) -> Result<u64, PortError>
+        ensures refused { IsRefusedBy (refusal_on self.old (steps.Put client tag request.now))
+            result }
+        ensures state { OnOk result (IsPut self.old self.new client tag request.now) }
+        ensures slot { tag < slot_count }
+        ensures err { OnErr result (self.new ≡ self.old) }
+    {
+        self.may_put(tag, request)?;
+        let request = request.copy(self.alloc)?;
+        self.do_put(client, tag, request)
     }
 
     /// Does steps one after the other, and stops at the first refused one: the steps before it are done.

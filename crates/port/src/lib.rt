@@ -18,5 +18,6 @@ pub use built::{Built, fits};
 pub use outcome::Outcome;
 pub use port::Port;
 pub use port_history::{
-    Answer, EngineStep, Entry, PlayError, PortError, Put, ReplyBytes, Request, Stage, Step,
+    Answer, EngineStep, Entries, Entry, EntryRef, PlayError, PortError, Put, ReplyBytes, Request,
+    Stage, Step, StepRef,
 };

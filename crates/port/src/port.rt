@@ -6,7 +6,7 @@ use audit::AuditLine;
 use drive::Drive;
 use fis::{SLOT_COUNT, Tag};
 use hba_regs::PortRegs;
-use port_history::{Entry, PortError, Stage};
+use port_history::{Entries, PortError, Stage};
 use slots::PortMemory;
 use std::alloc::{AllocError, Global};
 use std::marker::Model;
@@ -22,7 +22,7 @@ pub struct Port {
     pub(crate) failed: Option<Tag>,
     pub(crate) memory: PortMemory,
     pub(crate) regs: PortRegs,
-    pub(crate) history: Vec<Entry>,
+    pub(crate) history: Entries,
     pub(crate) audit: Vec<AuditLine>,
 }
 
@@ -85,16 +85,16 @@ impl Port {
             failed: None,
             memory: PortMemory::new(alloc)?,
             regs: PortRegs::new(),
-            history: Vec::new(alloc),
+            history: Entries::new(alloc),
             audit: Vec::new(alloc),
         })
     }
 
     /// The steps so far, the oldest first, each with what it answered.
-    pub fn history(&self) -> &[Entry]
-        ensures { result.now ≡ self.now.history }
+    pub fn history(&self) -> &Entries
+        ensures { result.now.items ≡ self.now.history }
     {
-        self.history.as_slice()
+        &self.history
     }
 
     /// The denials so far, the oldest first.

@@ -6,7 +6,7 @@ use crate::stages::{LogEntry, recover_slots, reset_slots};
 use crate::{host, registers};
 use drive::ResetKind;
 use fis::Tag;
-use port_history::{Answer, Entry, PortError, Step};
+use port_history::{EngineStep, PortError};
 
 impl Port {
     ghost use Rattle.std.specs.Prelude.{◌≡◌, ◌+◌, ℕ, List, ◌∷◌, length, OnOk, OnErr, IfOk};
@@ -41,8 +41,7 @@ impl Port {
     {
         self.has_failed()?;
         let number = self.next_number();
-        let reply = Answer::nothing();
-        self.history.reserve(1)?;
+        self.history.reserve()?;
         let Ok(answer) = self.drive.accept(&host::log_fis(), &[]) else {
             return Err(PortError::OutOfMemory);
         };
@@ -53,10 +52,7 @@ impl Port {
         let log = LogEntry::read(&answer.bytes);
         recover_slots(&mut self.slots, &mut self.outcomes, &log);
         self.failed = None;
-        self.history.push_reserved(Entry {
-            step: Step::Recover,
-            reply,
-        });
+        self.history.push_engine(EngineStep::Recover);
         Ok(number)
     }
 
@@ -82,16 +78,12 @@ impl Port {
     {
         self.may_reset()?;
         let number = self.next_number();
-        let reply = Answer::nothing();
-        self.history.reserve(1)?;
+        self.history.reserve()?;
         self.drive.reset(kind);
         registers::reset(&mut self.regs);
         reset_slots(&mut self.slots, &mut self.outcomes);
         self.failed = None;
-        self.history.push_reserved(Entry {
-            step: Step::Reset { client, kind },
-            reply,
-        });
+        self.history.push_reset(client, kind);
         Ok(number)
     }
 }

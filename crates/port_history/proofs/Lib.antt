@@ -14,3 +14,4 @@ pub mod FullProofs
 pub mod Pages
 mod Rows
 mod RowsSession
+pub mod EntryProofs

@@ -5,4 +5,5 @@ pub mod Steps
 pub mod Registers
 pub mod Refusals
 pub mod Ready
+pub mod Entries
 pub mod Laws

@@ -2,6 +2,7 @@
 //! feature set).
 #![tactic(auto)]
 
+mod entries;
 mod error;
 mod laws;
 mod reply;
@@ -9,6 +10,7 @@ mod request;
 mod stages;
 mod step;
 
+pub use entries::{Entries, EntryRef, StepRef};
 pub use error::{PlayError, PortError};
 pub use laws::{laws_of_equality, laws_of_limits, laws_of_steps};
 pub use reply::ReplyBytes;

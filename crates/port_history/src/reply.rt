@@ -5,9 +5,9 @@ ghost use Rattle.port_history.specs.Replies.{are_zero};
 
 use basics::Bytes;
 use std::alloc::{AllocError, Global};
-use std::boxed::Box;
 use std::fmt;
 use std::marker::Model;
+use std::sync::Arc;
 
 /// Zeros up to this many take no memory of a reply.
 const MOST_ZEROS: usize = 65_535;
@@ -15,7 +15,7 @@ const MOST_ZEROS: usize = 65_535;
 static ZEROS: [u8; MOST_ZEROS] = [0; MOST_ZEROS];
 
 /// Bytes of any length, seen as their list and compared by it. It is small, and where it has zeros alone, as what was
-/// read of sectors that were never written, it takes no memory.
+/// read of sectors that were never written, it takes no memory. A copy shares the memory of what it is a copy of.
 #[derive(Drop)]
 pub struct ReplyBytes {
     kept: Kept,
@@ -25,7 +25,7 @@ pub struct ReplyBytes {
 enum Kept {
     /// So many zeros.
     Zeros(u16),
-    Own(Box<Bytes>),
+    Own(Arc<Bytes>),
 }
 
 impl Model for ReplyBytes {
@@ -121,13 +121,16 @@ impl ReplyBytes {
         }
     }
 
-    /// The bytes as a vector: without a copy, but for zeros, which take memory now.
+    /// The bytes as a vector: without a copy, but for zeros and for bytes that another reply shares, which take memory now.
     pub fn into_vec(self, alloc: Global) -> Result<Vec<u8>, AllocError>
         ensures { IfOk result (λ v. v.items ≡ self) }
     {
         match self.kept {
             Kept::Zeros(count) => zeros(count).to_vec(alloc),
-            Kept::Own(bytes) => Ok(Box::into_inner(bytes).into_vec()),
+            Kept::Own(bytes) => match Arc::try_unwrap(bytes) {
+                Ok(bytes) => Ok(bytes.into_vec()),
+                Err(shared) => shared.as_slice().to_vec(alloc),
+            },
         }
     }
 
@@ -141,16 +144,19 @@ impl ReplyBytes {
         }
     }
 
-    /// The same bytes once more.
-    pub fn copy(&self, alloc: Global) -> Result<ReplyBytes, AllocError>
+    /// The same bytes once more, in the same memory.
+    ///
+    /// # Errors
+    ///
+    /// `AllocError`, where 2⁶³ − 1 replies share them.
+    pub fn share(&self) -> Result<ReplyBytes, AllocError>
         ensures { IfOk result (λ b. b ≡ self.now) }
     {
-        match &self.kept {
-            Kept::Zeros(count) => Ok(ReplyBytes {
-                kept: Kept::Zeros(*count),
-            }),
-            Kept::Own(bytes) => own(alloc, bytes.copy()?),
-        }
+        let kept = match &self.kept {
+            Kept::Zeros(count) => Kept::Zeros(*count),
+            Kept::Own(bytes) => Kept::Own(Arc::try_clone(bytes)?),
+        };
+        Ok(ReplyBytes { kept })
     }
 }
 
@@ -169,7 +175,7 @@ fn counted(bytes: &[u8]) -> Option<ReplyBytes>
 fn own(alloc: Global, bytes: Bytes) -> Result<ReplyBytes, AllocError>
     ensures { IfOk result (λ b. b ≡ bytes) }
 {
-    let bytes = Box::new(alloc, bytes)?;
+    let bytes = Arc::new(alloc, bytes)?;
     Ok(ReplyBytes {
         kept: Kept::Own(bytes),
     })

@@ -91,13 +91,13 @@ impl Answer {
         }
     }
 
-    /// The same answer once more.
-    pub fn copy(&self, alloc: Global) -> Result<Answer, AllocError>
+    /// The same answer once more, its bytes in the same memory.
+    pub fn share(&self) -> Result<Answer, AllocError>
         ensures { IfOk result (λ a. a ≡ self.now) }
     {
         match *self {
             Answer::Done(ref bytes) => {
-                let bytes = bytes.copy(alloc)?;
+                let bytes = bytes.share()?;
                 Ok(Answer::Done(bytes))
             }
             Answer::Failed { status, error } => Ok(Answer::Failed { status, error }),

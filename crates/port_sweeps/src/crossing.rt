@@ -6,7 +6,7 @@ use crate::ports::{are_same, port_with};
 use basics::Bytes;
 use fis::Tag;
 use locked_port::{Gate, LockedPort, Pass, Pick, PortName, Receipt, Ticket, check_receipts};
-use port::{Answer, EngineStep, Entry, Port, PortError, Request, Step};
+use port::{Answer, EngineStep, Entries, Port, PortError, Request, Step};
 use std::alloc::{AllocError, Global};
 use std::sync::Wait;
 use std::sync::atomic::{AtomicBool, Ordering};
@@ -281,10 +281,11 @@ pub fn cross<L: PortName + Send + Sync, R: Threads + Wait + Sync>(
 }
 
 /// The first place of a history behind a Put at which a step stands.
-fn place_of(history: &[Entry], put: u64, step: &Step) -> Option<usize> {
+fn place_of(history: &Entries, put: u64, step: &Step) -> Option<usize> {
     for at in 0..history.len() {
-        if at as u64 >= put && history[at].step == *step {
-            return Some(at);
+        match history.get(at) {
+            Some(entry) if at as u64 >= put && entry.step.matches(step) => return Some(at),
+            _ => {}
         }
     }
     None
@@ -299,7 +300,7 @@ fn tag_of(receipt: &Receipt) -> Option<Tag> {
 }
 
 /// Whether the drive was given the read before the write ended, and the write ended before the read did.
-fn is_crossed(history: &[Entry], read: &Receipt, write: &Receipt) -> Option<bool> {
+fn is_crossed(history: &Entries, read: &Receipt, write: &Receipt) -> Option<bool> {
     let (was_read, tag) = (tag_of(read)?, tag_of(write)?);
     let given = place_of(history, read.number, &Step::Accept { tag: was_read })?;
     let written = place_of(history, write.number, &Step::Complete { tag })?;
@@ -308,7 +309,7 @@ fn is_crossed(history: &[Entry], read: &Receipt, write: &Receipt) -> Option<bool
 }
 
 /// Whether the second command of the one client crossed the second one of the other.
-fn have_crossed(history: &[Entry], logs: &Logs) -> bool {
+fn have_crossed(history: &Entries, logs: &Logs) -> bool {
     match (logs.one.get(2), logs.two.get(2)) {
         (Some(read), Some(write)) => is_crossed(history, read, write) == Some(true),
         _ => false,
@@ -357,19 +358,20 @@ fn are_receipts(port: &Port, logs: &mut Logs) -> bool {
 }
 
 /// Whether a port does the steps of another one, with the same answers and denials.
-fn has_replayed(was: &Port, again: &mut Port) -> bool {
-    for entry in was.history() {
-        if again.step(&entry.step).is_err() {
-            return false;
+fn has_replayed(alloc: Global, was: &Port, again: &mut Port) -> Result<bool, PortError> {
+    let history = was.history();
+    for at in 0..history.len() {
+        if let Some(entry) = history.get(at) {
+            again.step(&entry.step.to_step(alloc)?)?;
         }
     }
-    are_same(was, again)
+    Ok(are_same(was, again))
 }
 
 /// Whether a new port does.
 fn is_same_again(alloc: Global, was: &Port) -> bool {
     match port_with(alloc, &LOCKED) {
-        Ok(mut again) => has_replayed(was, &mut again),
+        Ok(mut again) => has_replayed(alloc, was, &mut again) == Ok(true),
         Err(_) => false,
     }
 }

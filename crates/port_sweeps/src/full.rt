@@ -69,8 +69,8 @@ fn is_full<T>(answer: &Result<T, PortError>) -> bool {
 /// Whether a full port refuses each step of a command, the Put of no blocks too.
 fn refuses_commands(port: &mut Port) -> bool {
     let tag = Tag::low_bits(0);
-    is_full(&port.put(1, tag, &READ))
-        && is_full(&port.put(1, Tag::low_bits(7), &NO_BLOCKS))
+    is_full(&port.put(1, tag, READ))
+        && is_full(&port.put(1, Tag::low_bits(7), NO_BLOCKS))
         && is_full(&port.issue(tag))
         && is_full(&port.accept(tag))
         && is_full(&port.complete(tag))

@@ -4,7 +4,7 @@ ghost use Rattle.std.specs.Prelude.{◌≡◌, IfOk};
 ghost use Rattle.locked_port.specs.Counts.{Stands};
 
 use drive::{Drive, DriveConfig, RangeRow};
-use port::{Port, PortError};
+use port::{Entries, Port, PortError};
 use std::alloc::Global;
 
 /// How many sectors the drive has, and its shadow; its MSID.
@@ -52,7 +52,16 @@ pub fn port_of(alloc: Global, rows: &[RangeRow]) -> Result<Port, PortError> {
     port_with(alloc, rows)
 }
 
+/// Whether two histories are the same.
+fn have_same_entries(one: &Entries, two: &Entries) -> bool {
+    let mut are_same = one.len() == two.len();
+    for at in 0..one.len() {
+        are_same &= one.get(at) == two.get(at);
+    }
+    are_same
+}
+
 /// Whether two ports have the same history, answers and audit log.
 pub fn are_same(one: &Port, two: &Port) -> bool {
-    one.history() == two.history() && one.audit() == two.audit()
+    have_same_entries(one.history(), two.history()) && one.audit() == two.audit()
 }

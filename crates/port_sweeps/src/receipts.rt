@@ -2,7 +2,7 @@
 
 use fis::Tag;
 use locked_port::{Receipt, check_receipts};
-use port::{Answer, Entry, ReplyBytes, Request, Step};
+use port::{Answer, EngineStep, Entries, ReplyBytes, Request, Step};
 use std::alloc::{AllocError, Global};
 
 const CLIENT: u32 = 1;
@@ -27,11 +27,15 @@ const LISTS: [(&[Row], bool); 7] = [
 ];
 
 /// The Put of a read of one sector.
+fn read(lba: u64) -> Request {
+    Request::Read { lba, count: 1 }
+}
+
 fn put(lba: u64) -> Step {
     Step::Put {
         client: CLIENT,
         tag: Tag::low_bits(3),
-        request: Request::Read { lba, count: 1 },
+        request: read(lba),
     }
 }
 
@@ -47,27 +51,24 @@ fn sector(alloc: Global, byte: u8) -> Result<Answer, AllocError> {
     Ok(Answer::Done(ReplyBytes::new(alloc, &[byte; 512])?))
 }
 
-fn done(step: Step) -> Entry {
-    Entry {
-        step,
-        reply: Answer::nothing(),
-    }
-}
-
 /// A client's read of sector 100, which holds 55h bytes.
-fn history(alloc: Global) -> Result<Vec<Entry>, AllocError> {
+fn history(alloc: Global) -> Result<Entries, AllocError> {
     let tag = Tag::low_bits(3);
-    let taken = Entry {
-        step: take(),
-        reply: sector(alloc, 0x55)?,
-    };
-    Ok(vec![in alloc;
-        done(put(100)),
-        done(Step::Issue { tag }),
-        done(Step::Accept { tag }),
-        done(Step::Complete { tag }),
-        taken,
-    ]?)
+    let mut history = Entries::new(alloc);
+    history.reserve_put()?;
+    history.push_put(CLIENT, tag, read(100));
+    for step in [
+        EngineStep::Issue { tag },
+        EngineStep::Accept { tag },
+        EngineStep::Complete { tag },
+    ] {
+        history.reserve()?;
+        history.push_engine(step);
+    }
+    let reply = sector(alloc, 0x55)?;
+    history.reserve_take()?;
+    history.push_take(CLIENT, tag, reply);
+    Ok(history)
 }
 
 /// The receipt of a row.

@@ -354,7 +354,7 @@ impl PortPhase {
             self.old self.new report.old report.new) }
     {
         let request = request_of(self.alloc, asked)?;
-        print_step(self.port.put(client, tag, &request), report)?;
+        print_step(self.port.put(client, tag, request), report)?;
         Ok(Turn::Goes { aborted: false })
     }
 

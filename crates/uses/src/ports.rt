@@ -17,15 +17,15 @@ pub fn serve_alone(
     port: &mut Port,
     client: u32,
     tag: Tag,
-    request: &Request,
+    request: Request,
 ) -> Result<Answer, PortError>
     ensures agrees { OnOk result ((o : Origin) (list : List Step) → PortAgrees port.old o list
         → PortAgrees port.new o
-        (steps.Take client tag ∷ served_steps client tag request.now list)) }
+        (steps.Take client tag ∷ served_steps client tag request list)) }
     // A read or a write is done exactly where every range that it touches permits it.
     ensures served { IfOk result (λ answer. (o : Origin) (list : List Step)
         → PortAgrees port.old o list
-        → IsServedAnswer tcg o (served_steps client tag request.now list) tag answer) }
+        → IsServedAnswer tcg o (served_steps client tag request list) tag answer) }
 {
     port.put(client, tag, request)?;
     port.issue(tag)?;
