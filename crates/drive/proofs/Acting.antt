@@ -32,7 +32,7 @@ use Rattle.basics.specs.declared.profile.Profile.{Profile}
 use Rattle.sp_cells.specs.Resets.{programmatic}
 use Rattle.history.specs.Opening.{Origin}
 use Rattle.sessions.specs.Deeds.{Begun}
-use Rattle.history.specs.Events.{Deed, Nothing, InSession, OfQueue, QueueMended, Took, WasReset, BlockedSid, Event, did}
+use Rattle.history.specs.Events.{Deed, Nothing, InSession, OfQueue, QueueMended, Took, WasReset, BlockedSid, Event, did, ignores}
 use Rattle.history.specs.Readers.{waiting, writing}
 use Rattle.history.specs.Facts.{Facts, facts, session_named}
 use Rattle.history.specs.Decisions.{received, aborted}
@@ -42,7 +42,8 @@ use Rattle.history.specs.History.{Act, log}
 use Rattle.tper.specs.Tper.{Keeps as KeepsTper, IsToldOfSend, response_at}
 use Rattle.tper.specs.declared.trusted.Sent.{Sent}
 use Rattle.drive.specs.declared.answer.Accepted.{Accepted}
-use Rattle.drive.specs.declared.decision.Denied.{Denied as Denial}
+use Rattle.drive.specs.declared.decision.Cause.{Cause}
+use Rattle.drive.specs.declared.decision.Cause.TheVariants as causes
 use Rattle.drive.specs.declared.decision.Decision.{Decision}
 use Rattle.drive.specs.declared.decision.Decision.TheVariants.{Aborts, FailsQueue, Holds, Moves, Executes, Restarts, Blocks}
 use Rattle.drive.specs.declared.queue.Queue.{Queue}
@@ -50,7 +51,7 @@ use Rattle.drive.specs.declared.transfer.Held.{Held}
 use Rattle.drive.specs.declared.transfer.Transfer.{Transfer}
 use Rattle.drive.specs.Transfer.{transfer_by, queued_command, unqueued_command, verdict_held, held_bytes, sector_then}
 use Rattle.drive.specs.Queue.{with_slot, failed_queue, mended_queue}
-use Rattle.drive.specs.Decision.{ranges_of, transfer_deed, executed, reason, decision_event, CanExecute, IsMoved}
+use Rattle.drive.specs.Decision.{ranges_of, transfer_deed, executed, reason, ruling, decision_event, CanExecute, IsMoved}
 use Rattle.std.proofs.lemmas.Bool.Decides.{nat_tests}
 use Rattle.std.proofs.lemmas.List.{reverse-append}
 use Rattle.drive.specs.State.{DriveState, kept_facts, KeepsDrive, Agrees, AgreesInOrder}
@@ -58,6 +59,8 @@ use Rattle.drive.specs.Answers.{fises_in, IsAnswer, IsDoneAndAnswered}
 use Rattle.shadow_mbr.specs.declared.erasure.Erasure.{Erasure}
 use Rattle.shadow_mbr.specs.Erasure.{is_erased}
 use Rattle.drive.proofs.Keeping.{seen-is, nothing-keeps, failed-keeps, holds-keeps, moved-keeps, mended-keeps, tper-keeps, sends-of-tper, sends-erase, sent-deed, IsOfTper}
+use Rattle.rules.specs.declared.rule.Rule.TheVariants.{NoCommand, NoFrame}
+use Rattle.rules.specs.declared.rule.Rule.{Rule}
 
 -- what is sent and received
 
@@ -163,7 +166,7 @@ framed-succeeds : (f : Facts) (com_id : ℕ) (frame : Frame) (b : Bool)
 framed-succeeds f com_id frame true = (refl, refl)
 framed-succeeds f com_id frame false = to-session-succeeds f com_id frame.session frame.payload (session_named f com_id frame.session)
 
-frame-succeeds : (f : Facts) (com_id : ℕ) (frame : Frame) (b : Bool) → Succeeds (if b then framed f com_id frame else did Nothing)
+frame-succeeds : (f : Facts) (com_id : ℕ) (frame : Frame) (b : Bool) → Succeeds (if b then framed f com_id frame else ignores NoFrame)
 frame-succeeds f com_id frame true = framed-succeeds f com_id frame (is_manager frame.session)
 frame-succeeds f com_id frame false = (refl, refl)
 
@@ -198,22 +201,23 @@ executed-succeeds f payload (WriteDma lba count) can = absurd can
 
 -- the fields of an answer
 
-pub record IsTold (a : Accepted) (status error : ℕ) (held : Bool) (fises : List Fis) (bytes : List ℕ) (denied : Option Why) : Type 0 where
+pub record IsTold (a : Accepted) (status error : ℕ) (held : Bool) (fises : List Fis) (bytes : List ℕ) (denied : Option Why) (rule : Option Rule) : Type 0 where
   pub status_is : a.status ≡ status
   pub error_is : a.error ≡ error
   pub held_is : a.held ≡ held
   pub fises_are : fises_in a ≡ fises
   pub bytes_are : a.bytes.items ≡ bytes
   pub denied_is : a.denied ≡ denied
+  pub rule_is : a.rule ≡ rule
 
-failed-answer : (f : Facts) (h : RegH2d) (error : ℕ) (deed : Deed) (denied : Option Why) (a : Accepted) → is_holding deed ≡ false
-    → IsTold a errored error false (answer_fis true errored error ∷ []) [] denied
-    → IsAnswer f h (record { failed = Some error; deed = deed; denied = denied }) a
-failed-answer f h error deed denied a free t =
-    record { status = t.status_is; error = t.error_is; held = t.held_is ∙ sym free; fises = t.fises_are; bytes = t.bytes_are; denied = t.denied_is }
+failed-answer : (f : Facts) (h : RegH2d) (error : ℕ) (deed : Deed) (denied : Option Why) (rule : Option Rule) (a : Accepted) → is_holding deed ≡ false
+    → IsTold a errored error false (answer_fis true errored error ∷ []) [] denied rule
+    → IsAnswer f h (record { failed = Some error; deed = deed; denied = denied; rule = rule }) a
+failed-answer f h error deed denied rule a free t =
+    record { status = t.status_is; error = t.error_is; held = t.held_is ∙ sym free; fises = t.fises_are; bytes = t.bytes_are; denied = t.denied_is; rule = t.rule_is }
 
 served-answer : (f : Facts) (h : RegH2d) (ev : Event) (a : Accepted) (command : Command) → Succeeds ev → command_read f.config h ≡ Ok (command, None)
-    → IsTold a ready 0 false (served_fises command) (data_of f command) ev.denied → IsAnswer f h ev a
+    → IsTold a ready 0 false (served_fises command) (data_of f command) ev.denied ev.rule → IsAnswer f h ev a
 served-answer f h ev a command s reads t = record {
   status = t.status_is ∙ rw s.0 refl;
   error = t.error_is ∙ rw s.0 refl;
@@ -221,6 +225,7 @@ served-answer f h ev a command s reads t = record {
   fises = t.fises_are ∙ rw (s.0, s.1, reads) refl;
   bytes = t.bytes_are ∙ rw (s.0, reads) refl;
   denied = t.denied_is;
+  rule = t.rule_is;
 }
 
 -- what the drive reads is what the history reads
@@ -230,35 +235,35 @@ read-as d o past h r k e = ap (λ (config : Config). command_read config h) (sym
 
 -- what each decision comes to
 
-pub aborts-done : (f : Facts) (h : RegH2d) (d : DriveState) (o : Origin) (past : List Event) (payload : List ℕ) (error : ℕ) (denied : Option Denial) (made : Decision) (a : Accepted)
-    → made ≡ Aborts error denied → IsTold a errored error false (answer_fis true errored error ∷ []) [] (reason denied)
+pub aborts-done : (f : Facts) (h : RegH2d) (d : DriveState) (o : Origin) (past : List Event) (payload : List ℕ) (error : ℕ) (cause : Cause) (made : Decision) (a : Accepted)
+    → made ≡ Aborts error cause → IsTold a errored error false (answer_fis true errored error ∷ []) [] (reason cause) (ruling cause)
     → KeepsDrive d o past → IsDoneAndAnswered f h (decision_event f payload made) d o past a
-aborts-done f h d o past payload error denied made a is t k =
+aborts-done f h d o past payload error cause made a is t k =
     subst (λ (x : Decision). IsDoneAndAnswered f h (decision_event f payload x) d o past a) (sym is)
-    (nothing-keeps d o past (decision_event f payload (Aborts error denied)) refl k, failed-answer f h error Nothing (reason denied) a refl t)
+    (nothing-keeps d o past (decision_event f payload (Aborts error cause)) refl k, failed-answer f h error Nothing (reason cause) (ruling cause) a refl t)
 
-pub fails-done : (f : Facts) (h : RegH2d) (d e : DriveState) (o : Origin) (past : List Event) (payload : List ℕ) (fault : Failure) (denied : Option Denial) (made : Decision) (a : Accepted)
-    → made ≡ FailsQueue fault denied → e ≡ record d { queue = failed_queue fault }
-    → IsTold a errored fault.error false (answer_fis true errored fault.error ∷ []) [] (reason denied)
+pub fails-done : (f : Facts) (h : RegH2d) (d e : DriveState) (o : Origin) (past : List Event) (payload : List ℕ) (fault : Failure) (cause : Cause) (made : Decision) (a : Accepted)
+    → made ≡ FailsQueue fault cause → e ≡ record d { queue = failed_queue fault }
+    → IsTold a errored fault.error false (answer_fis true errored fault.error ∷ []) [] (reason cause) (ruling cause)
     → KeepsDrive d o past → IsDoneAndAnswered f h (decision_event f payload made) e o past a
-fails-done f h d e o past payload fault denied made a is to t k =
+fails-done f h d e o past payload fault cause made a is to t k =
     subst (λ (x : Decision). IsDoneAndAnswered f h (decision_event f payload x) e o past a) (sym is)
-    (failed-keeps d e o past fault (decision_event f payload (FailsQueue fault denied)) refl to k, failed-answer f h fault.error _ (reason denied) a refl t)
+    (failed-keeps d e o past fault (decision_event f payload (FailsQueue fault cause)) refl to k, failed-answer f h fault.error _ (reason cause) (ruling cause) a refl t)
 
 pub holds-done : (f : Facts) (h : RegH2d) (d e : DriveState) (o : Origin) (past : List Event) (payload : List ℕ) (tag : ℕ) (its : Held) (made : Decision) (a : Accepted)
     → tag < 32 → made ≡ Holds tag its → e ≡ record d { queue = with_slot tag (Some its) d.queue }
     → command_read f.config h ≡ Ok (queued_command its.transfer, Some tag)
-    → IsTold a ready 0 true (answer_fis false ready 0 ∷ []) [] None
+    → IsTold a ready 0 true (answer_fis false ready 0 ∷ []) [] None None
     → KeepsDrive d o past → IsDoneAndAnswered f h (decision_event f payload made) e o past a
 holds-done f h d e o past payload tag its made a small is to reads t k =
     subst (λ (x : Decision). IsDoneAndAnswered f h (decision_event f payload x) e o past a) (sym is) (
       holds-keeps d e o past tag its (decision_event f payload (Holds tag its)) small refl to k,
-      record { status = t.status_is; error = t.error_is; held = t.held_is; fises = t.fises_are; bytes = t.bytes_are ∙ sym (ap (data_read f) reads); denied = t.denied_is },
+      record { status = t.status_is; error = t.error_is; held = t.held_is; fises = t.fises_are; bytes = t.bytes_are ∙ sym (ap (data_read f) reads); denied = t.denied_is; rule = t.rule_is },
     )
 
 pub executes-done : (f : Facts) (h : RegH2d) (e : DriveState) (o : Origin) (past : List Event) (payload : List ℕ) (command : Command) (made : Decision) (a : Accepted)
     → made ≡ Executes command → (command_read f.config h ≡ Ok (command, None)) × CanExecute command
-    → IsTold a ready 0 false (served_fises command) (data_of f command) (executed f payload command).denied
+    → IsTold a ready 0 false (served_fises command) (data_of f command) (executed f payload command).denied (executed f payload command).rule
     → KeepsDrive e o (executed f payload command ∷ past) → IsDoneAndAnswered f h (decision_event f payload made) e o past a
 executes-done f h e o past payload command made a is due t k =
     subst (λ (x : Decision). IsDoneAndAnswered f h (decision_event f payload x) e o past a) (sym is)
@@ -280,11 +285,11 @@ reset-no-data f (WriteDma lba count) is = absurd cc
 
 pub restarts-done : (f : Facts) (h : RegH2d) (e : DriveState) (o : Origin) (past : List Event) (payload : List ℕ) (command : Command) (made : Decision) (a : Accepted)
     → made ≡ Restarts command → (command_read f.config h ≡ Ok (command, None)) × (is_programmatic_reset command ≡ true)
-    → IsTold a ready 0 false (served_fises command) [] None
+    → IsTold a ready 0 false (served_fises command) [] None None
     → KeepsDrive e o (did (WasReset programmatic) ∷ past) → IsDoneAndAnswered f h (decision_event f payload made) e o past a
 restarts-done f h e o past payload command made a is due t k =
-    let told : IsTold a ready 0 false (served_fises command) (data_of f command) None =
-    record { status_is = t.status_is; error_is = t.error_is; held_is = t.held_is; fises_are = t.fises_are; bytes_are = t.bytes_are ∙ reset-no-data f command due.1; denied_is = t.denied_is } in
+    let told : IsTold a ready 0 false (served_fises command) (data_of f command) None None =
+    record { status_is = t.status_is; error_is = t.error_is; held_is = t.held_is; fises_are = t.fises_are; bytes_are = t.bytes_are ∙ reset-no-data f command due.1; denied_is = t.denied_is; rule_is = t.rule_is } in
     subst (λ (x : Decision). IsDoneAndAnswered f h (decision_event f payload x) e o past a) (sym is)
     (k, served-answer f h (did (WasReset programmatic)) a command (refl, refl) due.0 told)
 
@@ -304,11 +309,11 @@ block-no-data f profile (WriteDma lba count) is = absurd cc
 
 pub blocks-done : (f : Facts) (h : RegH2d) (e : DriveState) (o : Origin) (past : List Event) (payload : List ℕ) (profile : Profile) (command : Command) (made : Decision) (a : Accepted)
     → made ≡ Blocks command → (command_read f.config h ≡ Ok (command, None)) × (is_block_sid profile command ≡ true)
-    → IsTold a ready 0 false (served_fises command) [] None
+    → IsTold a ready 0 false (served_fises command) [] None None
     → KeepsDrive e o (did (BlockedSid (block_asked payload)) ∷ past) → IsDoneAndAnswered f h (decision_event f payload made) e o past a
 blocks-done f h e o past payload profile command made a is due t k =
-    let told : IsTold a ready 0 false (served_fises command) (data_of f command) None =
-    record { status_is = t.status_is; error_is = t.error_is; held_is = t.held_is; fises_are = t.fises_are; bytes_are = t.bytes_are ∙ block-no-data f profile command due.1; denied_is = t.denied_is } in
+    let told : IsTold a ready 0 false (served_fises command) (data_of f command) None None =
+    record { status_is = t.status_is; error_is = t.error_is; held_is = t.held_is; fises_are = t.fises_are; bytes_are = t.bytes_are ∙ block-no-data f profile command due.1; denied_is = t.denied_is; rule_is = t.rule_is } in
     subst (λ (x : Decision). IsDoneAndAnswered f h (decision_event f payload x) e o past a) (sym is)
     (k, served-answer f h (did (BlockedSid (block_asked payload))) a command (refl, refl) due.0 told)
 
@@ -337,7 +342,7 @@ moves-succeeds Write lba count payload = (refl, refl)
 pub moves-done : (h : RegH2d) (d e : DriveState) (o : Origin) (past : List Event) (payload : List ℕ) (its : Held) (made : Decision) (a : Accepted)
     → made ≡ Moves its → IsMoved d h its → e.tper ≡ d.tper → e.queue ≡ d.queue
     → ((s : ℕ) → sector_at e.media s ≡ sector_then its.transfer payload (sector_at d.media s) s)
-    → IsTold a ready 0 false (answer_fis true ready 0 ∷ []) (held_bytes (kept_facts d (facts o past)) its) None
+    → IsTold a ready 0 false (answer_fis true ready 0 ∷ []) (held_bytes (kept_facts d (facts o past)) its) None None
     → KeepsDrive d o past → IsDoneAndAnswered (facts o past) h (decision_event (facts o past) payload made) e o past a
 moves-done h d e o past payload its made a is due tper queue media t k =
     let op : Op = its.transfer.op in
@@ -345,8 +350,8 @@ moves-done h d e o past payload its made a is due tper queue media t k =
     let count : ℕ = its.transfer.count in
     let same : held_bytes (kept_facts d (facts o past)) its ≡ data_of (facts o past) (unqueued_command its.transfer) =
     moved-data d (facts o past) op lba count its.is_shadowed due.verdict ∙ ap (λ (f : Facts). data_of f (unqueued_command its.transfer)) (seen-is d o past k) in
-    let told : IsTold a ready 0 false (served_fises (unqueued_command its.transfer)) (data_of (facts o past) (unqueued_command its.transfer)) None =
-    record { status_is = t.status_is; error_is = t.error_is; held_is = t.held_is; fises_are = t.fises_are ∙ sym (moved-fises op lba count); bytes_are = t.bytes_are ∙ same; denied_is = t.denied_is } in
+    let told : IsTold a ready 0 false (served_fises (unqueued_command its.transfer)) (data_of (facts o past) (unqueued_command its.transfer)) None None =
+    record { status_is = t.status_is; error_is = t.error_is; held_is = t.held_is; fises_are = t.fises_are ∙ sym (moved-fises op lba count); bytes_are = t.bytes_are ∙ same; denied_is = t.denied_is; rule_is = t.rule_is } in
     subst (λ (x : Decision). IsDoneAndAnswered (facts o past) h (decision_event (facts o past) payload x) e o past a) (sym is) (
       moved-keeps d e o past op lba count payload (did (transfer_deed its.transfer payload)) refl tper queue media k,
       served-answer (facts o past) h (did (transfer_deed its.transfer payload)) a (unqueued_command its.transfer) (moves-succeeds op lba count payload) (read-as d o past h _ k due.reads) told,
@@ -363,11 +368,11 @@ event-is d o past fis payload h made kind is decided k =
 
 -- another FIS than a command's
 pub other-done : (d : DriveState) (o : Origin) (past : List Event) (fis payload : List ℕ) (a : Accepted) → (slice_index fis 0 == h2d_type) ≡ false
-    → IsTold a errored aborted false (answer_fis true errored aborted ∷ []) [] None
+    → IsTold a errored aborted false (answer_fis true errored aborted ∷ []) [] None (Some NoCommand)
     → KeepsDrive d o past → IsDoneAndAnswered (facts o past) (h2d_at fis) (accepted (facts o past) fis payload) d o past a
 other-done d o past fis payload a other t k =
     subst (λ (ev : Event). IsDoneAndAnswered (facts o past) (h2d_at fis) ev d o past a) (accepted-other (facts o past) fis payload other)
-    (aborts-done (facts o past) (h2d_at fis) d o past payload aborted None (Aborts aborted None) a refl t k)
+    (aborts-done (facts o past) (h2d_at fis) d o past payload aborted (causes.Rule NoCommand) (Aborts aborted (causes.Rule NoCommand)) a refl t k)
 
 -- the newest act comes first, or last
 pub in-order : (d e : DriveState) (o : Origin) (acts : List Act) (act : Act) → (Agrees d o (reverse acts) → Agrees e o (act ∷ reverse acts))

@@ -24,6 +24,7 @@ use Rattle.drive.specs.Transfer.{transfer_by, queued_command, held_command}
 use Rattle.drive.specs.Queue.{slot_at, held_at}
 use Rattle.drive.specs.Decision.{transfer_deed}
 use Rattle.drive.specs.State.{DriveState, kept_facts}
+use Rattle.rules.specs.declared.rule.Rule.TheVariants.{NoCommand, SidKept}
 
 -- what is in a slot is held
 pub held-some : (x : Option Held) → is_some (option_map held_command x) ≡ is_some x
@@ -54,7 +55,7 @@ pub block_made : (f : Facts) (payload : List ℕ) (c : Command) → is_block_sid
 block_made f payload (Send protocol com_id blocks dma) is kept free =
     sym (ap (λ b. cond b (did (WasReset programmatic)) (send f protocol com_id blocks payload)) kept
     ∙ ap (λ b. cond b (blocks_sid f payload) (send_item f protocol com_id blocks payload)) is
-    ∙ ap (λ b. cond b refuses (did (BlockedSid (block_asked payload)))) (sym free))
+    ∙ ap (λ b. cond b (refuses SidKept) (did (BlockedSid (block_asked payload)))) (sym free))
 block_made f payload (Receive protocol com_id blocks dma) is kept free = cc
 block_made f payload Identify is kept free = cc
 block_made f payload (ReadLog10 dma) is kept free = cc
@@ -67,11 +68,11 @@ block_made f payload (ReadDma lba count) is kept free = cc
 block_made f payload (WriteDma lba count) is kept free = cc
 
 pub block_refused : (f : Facts) (payload : List ℕ) (c : Command) → is_block_sid f.config.profile c ≡ true → resets f.rows c ≡ false → true ≡ (has_owner f.rows || is_blocked f.block)
-    → refuses ≡ unqueued f payload c
+    → refuses SidKept ≡ unqueued f payload c
 block_refused f payload (Send protocol com_id blocks dma) is kept free =
     sym (ap (λ b. cond b (did (WasReset programmatic)) (send f protocol com_id blocks payload)) kept
     ∙ ap (λ b. cond b (blocks_sid f payload) (send_item f protocol com_id blocks payload)) is
-    ∙ ap (λ b. cond b refuses (did (BlockedSid (block_asked payload)))) (sym free))
+    ∙ ap (λ b. cond b (refuses SidKept) (did (BlockedSid (block_asked payload)))) (sym free))
 block_refused f payload (Receive protocol com_id blocks dma) is kept free = cc
 block_refused f payload Identify is kept free = cc
 block_refused f payload (ReadLog10 dma) is kept free = cc
@@ -113,5 +114,5 @@ known-none f h payload r c x e is none =
 pub accepted-command : (f : Facts) (fis payload : List ℕ) (h : RegH2d) → slice_index fis 0 ≡ h2d_type → h ≡ h2d_at fis → commanded f h payload ≡ accepted f fis payload
 accepted-command f fis payload h is made = ap (λ (r : RegH2d). commanded f r payload) made ∙ rw is refl
 
-pub accepted-other : (f : Facts) (fis payload : List ℕ) → (slice_index fis 0 == h2d_type) ≡ false → refuses ≡ accepted f fis payload
+pub accepted-other : (f : Facts) (fis payload : List ℕ) → (slice_index fis 0 == h2d_type) ≡ false → refuses NoCommand ≡ accepted f fis payload
 accepted-other f fis payload is = rw is refl

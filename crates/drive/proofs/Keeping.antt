@@ -18,7 +18,7 @@ use Rattle.sessions.specs.Deeds.{Begun, erased_by}
 use Rattle.history.specs.Decisions.{completed}
 use Rattle.history.specs.Tcg.{sent, framed, to_session, to_manager, answers, is_manager}
 use Rattle.history.specs.Opening.{Origin}
-use Rattle.history.specs.Events.{HeldCommand, QueueDeed, Held as HeldDeed, Completed, CompletedWrite, QueueFailed, QueueMended, Deed, Nothing, OfQueue, Wrote, Took, BlockedSid, WasReset, InSession, Event, did, or_else, latest}
+use Rattle.history.specs.Events.{HeldCommand, QueueDeed, Held as HeldDeed, Completed, CompletedWrite, QueueFailed, QueueMended, Deed, Nothing, OfQueue, Wrote, Took, BlockedSid, WasReset, InSession, Event, did, or_else, latest, ignores}
 use Rattle.history.specs.Readers.{holding, held, in_force, failing, failure, writing, sector}
 use Rattle.history.specs.Facts.{Facts, facts, session_named}
 use Rattle.history.specs.KeptStore.{ReadsStore}
@@ -33,6 +33,7 @@ use Rattle.drive.specs.Decision.{transfer_deed}
 use Rattle.drive.specs.Queue.{slot_at, held_at, with_slot, failed_queue, mended_queue, empty_queue}
 use Rattle.drive.specs.State.{DriveState, kept_facts, KeepsDrive}
 use Rattle.drive.proofs.Slots.{no_slot, none_length, slot_set}
+use Rattle.rules.specs.declared.rule.Rule.TheVariants.{NoFrame}
 
 -- what is kept shows the facts of the past
 pub seen-is : (d : DriveState) (o : Origin) (past : List Event) → KeepsDrive d o past → kept_facts d (facts o past) ≡ facts o past
@@ -215,7 +216,7 @@ framed-deed : (f : Facts) (com_id : ℕ) (frame : Frame) (b : Bool)
 framed-deed f com_id frame true = tt
 framed-deed f com_id frame false = to-session-deed f com_id frame.session frame.payload (session_named f com_id frame.session)
 
-frame-deed : (f : Facts) (com_id : ℕ) (frame : Frame) (b : Bool) → IsSendDeed (if b then framed f com_id frame else did Nothing).deed
+frame-deed : (f : Facts) (com_id : ℕ) (frame : Frame) (b : Bool) → IsSendDeed (if b then framed f com_id frame else ignores NoFrame).deed
 frame-deed f com_id frame true = framed-deed f com_id frame (is_manager frame.session)
 frame-deed f com_id frame false = tt
 

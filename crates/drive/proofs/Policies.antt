@@ -20,6 +20,7 @@ use Rattle.drive.specs.declared.transfer.Transfer.{Transfer}
 use Rattle.drive.specs.Decision.{ranges_of, Refused, told, by_verdict, policy, policy_on}
 use Rattle.drive.specs.Transfer.{is_on_drive, StandsOnDrive}
 use Rattle.drive.specs.State.{DriveState, kept_facts}
+use Rattle.rules.specs.declared.rule.Rule.TheVariants.{BeyondDrive}
 
 -- a verdict that permits
 abbrev permitting : Bool → Verdict
@@ -30,29 +31,29 @@ queued-by-ok h tag c Serve b e = let same : false ≡ b = cc in ap (λ x. holds 
 queued-by-ok h tag c Shadow b e = let same : true ≡ b = cc in ap (λ x. holds tag c (permitting x)) same
 queued-by-ok h tag c (Denied why) b e = absurd cc
 
-queued-by-err : (h : RegH2d) (tag : ℕ) (c : Command) (v : Verdict) (r : Refused) → by_verdict v ≡ Err r → queued_by h tag c v ≡ fails_queue (Some tag) r.error h r.denied
+queued-by-err : (h : RegH2d) (tag : ℕ) (c : Command) (v : Verdict) (r : Refused) → by_verdict v ≡ Err r → queued_by h tag c v ≡ fails_queue (Some tag) r.error h r.denied r.rule
 queued-by-err h tag c Serve r e = absurd cc
 queued-by-err h tag c Shadow r e = absurd cc
-queued-by-err h tag c (Denied why) r e = let same : (record { error = aborted; denied = Some why }) ≡ r = cc in ap (λ (x : Refused). fails_queue (Some tag) x.error h x.denied) same
+queued-by-err h tag c (Denied why) r e = let same : (record { error = aborted; denied = Some why; rule = None }) ≡ r = cc in ap (λ (x : Refused). fails_queue (Some tag) x.error h x.denied x.rule) same
 
 queued-ok : (b : Bool) (h : RegH2d) (tag : ℕ) (c : Command) (v : Verdict) (s : Bool)
-    → (if b then by_verdict v else Err (record { error = not_found; denied = None })) ≡ Ok s
-    → (if b then queued_by h tag c v else fails_queue (Some tag) not_found h None) ≡ holds tag c (permitting s)
+    → (if b then by_verdict v else Err (record { error = not_found; denied = None; rule = Some BeyondDrive })) ≡ Ok s
+    → (if b then queued_by h tag c v else fails_queue (Some tag) not_found h None (Some BeyondDrive)) ≡ holds tag c (permitting s)
 queued-ok true h tag c v s e = queued-by-ok h tag c v s e
 queued-ok false h tag c v s e = absurd cc
 
 queued-err : (b : Bool) (h : RegH2d) (tag : ℕ) (c : Command) (v : Verdict) (r : Refused)
-    → (if b then by_verdict v else Err (record { error = not_found; denied = None })) ≡ Err r
-    → (if b then queued_by h tag c v else fails_queue (Some tag) not_found h None) ≡ fails_queue (Some tag) r.error h r.denied
+    → (if b then by_verdict v else Err (record { error = not_found; denied = None; rule = Some BeyondDrive })) ≡ Err r
+    → (if b then queued_by h tag c v else fails_queue (Some tag) not_found h None (Some BeyondDrive)) ≡ fails_queue (Some tag) r.error h r.denied r.rule
 queued-err true h tag c v r e = queued-by-err h tag c v r e
-queued-err false h tag c v r e = let same : (record { error = not_found; denied = None }) ≡ r = cc in ap (λ (x : Refused). fails_queue (Some tag) x.error h x.denied) same
+queued-err false h tag c v r e = let same : (record { error = not_found; denied = None; rule = Some BeyondDrive }) ≡ r = cc in ap (λ (x : Refused). fails_queue (Some tag) x.error h x.denied x.rule) same
 
 pub queued_held : (d : DriveState) (f : Facts) (h : RegH2d) (tag : ℕ) (c : Command) (t : Transfer) (s : Bool) → policy_on d t ≡ Ok s
     → queued_transfer (kept_facts d f) h tag c t.op t.lba t.count ≡ holds tag c (permitting s)
 queued_held d f h tag c t s e = queued-ok (on_drive (kept_facts d f) t.lba t.count) h tag c (verdict_on (kept_facts d f) t.op t.lba t.count) s e
 
 pub queued_refused : (d : DriveState) (f : Facts) (h : RegH2d) (tag : ℕ) (c : Command) (t : Transfer) (r : Refused) → policy_on d t ≡ Err r
-    → queued_transfer (kept_facts d f) h tag c t.op t.lba t.count ≡ fails_queue (Some tag) r.error h r.denied
+    → queued_transfer (kept_facts d f) h tag c t.op t.lba t.count ≡ fails_queue (Some tag) r.error h r.denied r.rule
 queued_refused d f h tag c t r e = queued-err (on_drive (kept_facts d f) t.lba t.count) h tag c (verdict_on (kept_facts d f) t.op t.lba t.count) r e
 
 unqueued-by-ok : (deed : Deed) (v : Verdict) (b : Bool) → by_verdict v ≡ Ok b → unqueued_by deed v ≡ did deed
@@ -60,29 +61,29 @@ unqueued-by-ok deed Serve b e = refl
 unqueued-by-ok deed Shadow b e = refl
 unqueued-by-ok deed (Denied why) b e = absurd cc
 
-unqueued-by-err : (deed : Deed) (v : Verdict) (r : Refused) → by_verdict v ≡ Err r → unqueued_by deed v ≡ fails r.error r.denied
+unqueued-by-err : (deed : Deed) (v : Verdict) (r : Refused) → by_verdict v ≡ Err r → unqueued_by deed v ≡ fails r.error r.denied r.rule
 unqueued-by-err deed Serve r e = absurd cc
 unqueued-by-err deed Shadow r e = absurd cc
-unqueued-by-err deed (Denied why) r e = let same : (record { error = aborted; denied = Some why }) ≡ r = cc in ap (λ (x : Refused). fails x.error x.denied) same
+unqueued-by-err deed (Denied why) r e = let same : (record { error = aborted; denied = Some why; rule = None }) ≡ r = cc in ap (λ (x : Refused). fails x.error x.denied x.rule) same
 
 unqueued-ok : (b : Bool) (deed : Deed) (v : Verdict) (s : Bool)
-    → (if b then by_verdict v else Err (record { error = not_found; denied = None })) ≡ Ok s
-    → (if b then unqueued_by deed v else fails not_found None) ≡ did deed
+    → (if b then by_verdict v else Err (record { error = not_found; denied = None; rule = Some BeyondDrive })) ≡ Ok s
+    → (if b then unqueued_by deed v else fails not_found None (Some BeyondDrive)) ≡ did deed
 unqueued-ok true deed v s e = unqueued-by-ok deed v s e
 unqueued-ok false deed v s e = absurd cc
 
 unqueued-err : (b : Bool) (deed : Deed) (v : Verdict) (r : Refused)
-    → (if b then by_verdict v else Err (record { error = not_found; denied = None })) ≡ Err r
-    → (if b then unqueued_by deed v else fails not_found None) ≡ fails r.error r.denied
+    → (if b then by_verdict v else Err (record { error = not_found; denied = None; rule = Some BeyondDrive })) ≡ Err r
+    → (if b then unqueued_by deed v else fails not_found None (Some BeyondDrive)) ≡ fails r.error r.denied r.rule
 unqueued-err true deed v r e = unqueued-by-err deed v r e
-unqueued-err false deed v r e = let same : (record { error = not_found; denied = None }) ≡ r = cc in ap (λ (x : Refused). fails x.error x.denied) same
+unqueued-err false deed v r e = let same : (record { error = not_found; denied = None; rule = Some BeyondDrive }) ≡ r = cc in ap (λ (x : Refused). fails x.error x.denied x.rule) same
 
 pub unqueued_moved : (d : DriveState) (f : Facts) (deed : Deed) (t : Transfer) (s : Bool) → policy_on d t ≡ Ok s
     → unqueued_transfer (kept_facts d f) deed t.op t.lba t.count ≡ did deed
 unqueued_moved d f deed t s e = unqueued-ok (on_drive (kept_facts d f) t.lba t.count) deed (verdict_on (kept_facts d f) t.op t.lba t.count) s e
 
 pub unqueued_refused : (d : DriveState) (f : Facts) (deed : Deed) (t : Transfer) (r : Refused) → policy_on d t ≡ Err r
-    → unqueued_transfer (kept_facts d f) deed t.op t.lba t.count ≡ fails r.error r.denied
+    → unqueued_transfer (kept_facts d f) deed t.op t.lba t.count ≡ fails r.error r.denied r.rule
 unqueued_refused d f deed t r e = unqueued-err (on_drive (kept_facts d f) t.lba t.count) deed (verdict_on (kept_facts d f) t.op t.lba t.count) r e
 
 permitted-by : (v : Verdict) (s : Bool) → by_verdict v ≡ Ok s → v ≡ permitting s
@@ -91,7 +92,7 @@ permitted-by Shadow s e = let same : true ≡ s = cc in ap permitting same
 permitted-by (Denied why) s e = absurd cc
 
 permitted-if : (b : Bool) (v : Verdict) (s : Bool)
-    → (if b then by_verdict v else Err (record { error = not_found; denied = None })) ≡ Ok s → v ≡ permitting s
+    → (if b then by_verdict v else Err (record { error = not_found; denied = None; rule = Some BeyondDrive })) ≡ Ok s → v ≡ permitting s
 permitted-if true v s e = permitted-by v s e
 permitted-if false v s e = absurd cc
 
@@ -123,7 +124,7 @@ fits-shadow sectors mbr look t Shadow s e r is =
 fits-shadow sectors mbr look t (Denied why) s e r is = absurd cc
 
 policy-by : (b : Bool) (sectors mbr : ℕ) (look : LookUp) (t : Transfer) (r : Result Bool Refused) → is_on_drive sectors t ≡ b
-    → r ≡ (if b then by_verdict (verdict_of (ranges_in mbr look) t.op t.lba t.count) else Err (record { error = not_found; denied = None }))
+    → r ≡ (if b then by_verdict (verdict_of (ranges_in mbr look) t.op t.lba t.count) else Err (record { error = not_found; denied = None; rule = Some BeyondDrive }))
     → IfOk r (λ s. StandsOnDrive sectors mbr (record { transfer = t; is_shadowed = s }))
 policy-by true sectors mbr look t (Ok s) e h =
     record { on_drive = e; in_shadow = λ is. fits-shadow sectors mbr look t (verdict_of (ranges_in mbr look) t.op t.lba t.count) s refl (sym h) is }

@@ -40,6 +40,7 @@ pub record IsAnswer (f : Facts) (h : RegH2d) (event : Event) (answer : Accepted)
   pub fises : fises_in answer ≡ answer_fises f h event
   pub bytes : answer.bytes.items ≡ answer_data f h event
   pub denied : answer.denied ≡ event.denied
+  pub rule : answer.rule ≡ event.rule
 
 -- What the completion of what is held under a tag gives.
 pub record IsCompletion (f : Facts) (tag : ℕ) (held : Option HeldCommand)

@@ -3,6 +3,8 @@ use Rattle.std.specs.Prelude.{◌≡◌, ◌<◌, ◌||◌, ◌==◌, ℕ, Bool,
 use Rattle.fis.specs.Tags.{slot_count}
 use Rattle.fis.specs.declared.h2d.RegH2d.{RegH2d}
 use Rattle.audit.specs.declared.reason.Why.{Why}
+use Rattle.rules.specs.declared.rule.Rule.{Rule}
+use Rattle.rules.specs.declared.rule.Rule.TheVariants.{BeyondDrive, Protocol}
 use Rattle.compacket.specs.Frames.{reading as frame_in}
 use Rattle.locking.specs.Range.{RangeRows}
 use Rattle.locking.specs.Ranges.{ranges_in}
@@ -17,14 +19,15 @@ use Rattle.trusted_cmds.specs.BlockSid.{is_block_sid, block_asked}
 use Rattle.sp_cells.specs.Resets.{programmatic}
 use Rattle.history.specs.Events.{Deed, Nothing, OfQueue, QueueFailed, QueueMended, Wrote, WasReset, BlockedSid, Event, did}
 use Rattle.history.specs.Facts.{Facts}
-use Rattle.history.specs.Decisions.{aborted, not_found, fails, holds, received, is_session_com_id, discovery_com_id}
-use Rattle.history.specs.Tcg.{sent, command_read}
+use Rattle.history.specs.Decisions.{aborted, not_found, fails, holds, received, is_session_com_id, discovery_com_id, unreceived}
+use Rattle.history.specs.Tcg.{sent, command_read, unsent}
 use Rattle.tper.specs.Tper.{Tper}
 use Rattle.drive.specs.Transfer.{by_op, queued_command, unqueued_command, verdict_held, is_on_drive, StandsOnDrive}
 use Rattle.drive.specs.State.{DriveState}
 use Rattle.drive.specs.declared.decision.Decision.{Decision}
 use Rattle.drive.specs.declared.decision.Decision.TheVariants.{Aborts, FailsQueue, Holds, Moves, Restarts, Blocks, Executes}
-use Rattle.drive.specs.declared.decision.Denied.{Denied as Denial}
+use Rattle.drive.specs.declared.decision.Cause.{Cause}
+use Rattle.drive.specs.declared.decision.Cause.TheVariants as causes
 use Rattle.drive.specs.declared.decision.Refusal.{Refusal}
 use Rattle.drive.specs.declared.transfer.Transfer.{Transfer}
 use Rattle.drive.specs.declared.transfer.Held.{Held}
@@ -33,32 +36,41 @@ use Rattle.drive.specs.declared.transfer.Held.{Held}
 abbrev pub ranges_of : Tper → RangeRows
 ranges_of t = ranges_in t.store.config.mbr_sectors (look_up (committed_sight t.store))
 
--- The reason of a denial, of the transfer and what denies it.
-abbrev pub reason : Option Denial → Option Why
-reason None = None
-reason (Some denied) =
+-- The reason of a denial, of the transfer and what denies it; and the rule of what is refused without one.
+abbrev pub reason : Cause → Option Why
+reason (causes.Denial denied) =
     Some (denial_why denied.transfer.op denied.transfer.lba denied.transfer.count denied.by)
+reason (causes.Rule rule) = None
 
--- Why a transfer is refused: the error, and the reason of a denial.
+abbrev pub ruling : Cause → Option Rule
+ruling (causes.Denial denied) = None
+ruling (causes.Rule rule) = Some rule
+
+-- Why a transfer is refused: the error, and the reason of a denial, or the rule.
 pub record Refused : Type 0 where
   pub error : ℕ
   pub denied : Option Why
+  pub rule : Option Rule
 
 abbrev pub told : Result Bool Refusal → Result Bool Refused
 told (Ok is_shadowed) = Ok is_shadowed
-told (Err refusal) = Err (record { error = refusal.error; denied = reason refusal.denied })
+told (Err refusal) = Err (record {
+  error = refusal.error;
+  denied = reason refusal.cause;
+  rule = ruling refusal.cause;
+})
 
 -- Whether a transfer reads the shadow, or why it is refused: the addresses come before the policy.
 abbrev pub by_verdict : Verdict → Result Bool Refused
 by_verdict Serve = Ok false
 by_verdict Shadow = Ok true
-by_verdict (Denied why) = Err (record { error = aborted; denied = Some why })
+by_verdict (Denied why) = Err (record { error = aborted; denied = Some why; rule = None })
 
 abbrev pub policy : ℕ → RangeRows → Transfer → Result Bool Refused
 policy sectors ranges transfer =
     if is_on_drive sectors transfer
     then by_verdict (verdict_of ranges transfer.op transfer.lba transfer.count)
-    else Err (record { error = not_found; denied = None })
+    else Err (record { error = not_found; denied = None; rule = Some BeyondDrive })
 
 abbrev pub policy_on : DriveState → Transfer → Result Bool Refused
 policy_on d transfer = policy d.tper.store.config.sectors (ranges_of d.tper) transfer
@@ -82,13 +94,20 @@ executed f payload (ReadLog10 dma) =
     did (if is_some f.failure then OfQueue QueueMended else Nothing)
 executed f payload _ = did Nothing
 
+-- Why a trusted command is not taken.
+abbrev pub untaken : Command → Rule
+untaken (Send protocol com_id blocks dma) = unsent protocol com_id blocks
+untaken (Receive protocol com_id blocks dma) = unreceived protocol blocks
+untaken _ = Protocol
+
 -- The event of a decision.
 abbrev pub decision_event : Facts → List ℕ → Decision → Event
-decision_event f payload (Aborts error denied) = fails error (reason denied)
-decision_event f payload (FailsQueue failure denied) = record {
+decision_event f payload (Aborts error cause) = fails error (reason cause) (ruling cause)
+decision_event f payload (FailsQueue failure cause) = record {
   failed = Some failure.error;
   deed = OfQueue (QueueFailed failure);
-  denied = reason denied;
+  denied = reason cause;
+  rule = ruling cause;
 }
 decision_event f payload (Holds tag held) = holds tag (queued_command held.transfer)
     (verdict_held held)
@@ -128,8 +147,8 @@ CanExecute (ReadLog page dma) = Unit {0}
 CanExecute _ = ⊥
 
 abbrev pub IsDue : DriveState → RegH2d → Decision → Type 0
-IsDue d h (Aborts error denied) = Unit {0}
-IsDue d h (FailsQueue failure denied) = Unit {0}
+IsDue d h (Aborts error cause) = Unit {0}
+IsDue d h (FailsQueue failure cause) = Unit {0}
 IsDue d h (Holds tag held) = IsHeld d h tag held
 IsDue d h (Moves held) = IsMoved d h held
 IsDue d h (Restarts command) =

@@ -6,11 +6,13 @@ ghost use Rattle.drive.specs.Answers.{form_fises, fises_in, fises_done};
 ghost use Rattle.drive.specs.Transfer.{by_op};
 ghost use Rattle.drive.specs.declared.answer.Form.TheVariants.{Register};
 
+use crate::decision::Objection;
 use crate::transfer::Transfer;
 use arrayvec::ArrayVec;
 use audit::Why;
 use fis::{DmaSetup, Fis, PioSetup, RegD2h, SetDeviceBits, StatusBits, Tag};
 use locking::Op;
+use rules::Rule;
 use shadow_mbr::SECTOR_SIZE;
 use std::alloc::Global;
 use trusted_cmds::Command;
@@ -28,8 +30,10 @@ pub struct Accepted {
     pub form: Form,
     /// The data to the host.
     pub bytes: Vec<u8>,
-    /// What denied the command.
+    /// What denied the command, or the item that it sent.
     pub denied: Option<Why>,
+    /// Which rule refused it, where nothing denied it.
+    pub rule: Option<Rule>,
 }
 
 /// Which FISes answer a command.
@@ -100,6 +104,7 @@ impl Accepted {
         ensures fises { fises_in result ≡ answer_fis true ready 0 ∷ [] }
         ensures bytes { result.bytes.items ≡ [] }
         ensures denied { result.denied ≡ None }
+        ensures rule { result.rule ≡ None }
     {
         Accepted {
             status: READY,
@@ -108,24 +113,28 @@ impl Accepted {
             form: Form::Register,
             bytes: Vec::new(alloc),
             denied: None,
+            rule: None,
         }
     }
 
     /// The command failed.
-    pub(crate) fn set_failed(&mut self, error: u8, denied: Option<Why>)
+    pub(crate) fn set_failed(&mut self, error: u8, objection: Objection)
         ensures status { self.new.status ≡ errored }
         ensures error { self.new.error ≡ error }
         ensures held { self.new.held ≡ false }
         ensures fises { fises_in self.new ≡ answer_fis true errored error ∷ [] }
         ensures bytes { self.new.bytes.items ≡ [] }
-        ensures denied { self.new.denied ≡ denied }
+        ensures denied { self.new.denied ≡ objection.denied }
+        ensures rule { self.new.rule ≡ objection.rule }
     {
         self.status = FAILED;
         self.error = error;
         self.held = false;
         self.form = Form::Register;
         self.bytes.clear();
+        let Objection { denied, rule } = objection;
         self.denied = denied;
+        self.rule = rule;
     }
 
     /// The command is held.
@@ -136,6 +145,7 @@ impl Accepted {
         ensures fises { fises_in self.new ≡ answer_fis false ready 0 ∷ [] }
         ensures bytes { self.new.bytes.items ≡ [] }
         ensures denied { self.new.denied ≡ None }
+        ensures rule { self.new.rule ≡ None }
     {
         self.status = READY;
         self.error = 0;
@@ -143,23 +153,27 @@ impl Accepted {
         self.form = Form::Register;
         self.bytes.clear();
         self.denied = None;
+        self.rule = None;
     }
 
-    /// The command was executed: its form, its data, and what denied the item that it sent.
-    pub(crate) fn set_served(&mut self, form: Form, bytes: Vec<u8>, denied: Option<Why>)
+    /// The command was executed: its form, its data, and what denied or refused the item that it sent.
+    pub(crate) fn set_served(&mut self, form: Form, bytes: Vec<u8>, objection: Objection)
         ensures status { self.new.status ≡ ready }
         ensures error { self.new.error ≡ 0 }
         ensures held { self.new.held ≡ false }
         ensures fises { fises_in self.new ≡ form_fises form false ready 0 }
         ensures bytes { self.new.bytes.items ≡ bytes.items }
-        ensures denied { self.new.denied ≡ denied }
+        ensures denied { self.new.denied ≡ objection.denied }
+        ensures rule { self.new.rule ≡ objection.rule }
     {
         self.status = READY;
         self.error = 0;
         self.held = false;
         self.form = form;
         self.bytes = bytes;
+        let Objection { denied, rule } = objection;
         self.denied = denied;
+        self.rule = rule;
     }
 
     /// The command was executed, and has no data: its form.
@@ -170,6 +184,7 @@ impl Accepted {
         ensures fises { fises_in self.new ≡ form_fises form false ready 0 }
         ensures bytes { self.new.bytes.items ≡ [] }
         ensures denied { self.new.denied ≡ None }
+        ensures rule { self.new.rule ≡ None }
     {
         self.status = READY;
         self.error = 0;
@@ -177,6 +192,7 @@ impl Accepted {
         self.form = form;
         self.bytes.clear();
         self.denied = None;
+        self.rule = None;
     }
 }
 

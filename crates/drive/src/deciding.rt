@@ -7,14 +7,17 @@ ghost use Rattle.history.specs.Tcg.{commanded, known, unqueued, send, command_re
 ghost use Rattle.trusted_cmds.specs.Commands.{IsCounted, most_sectors};
 ghost use Rattle.device_data.specs.ErrorLog.{failure_by};
 ghost use Rattle.drive.specs.declared.decision.Decision.{Decision};
+ghost use Rattle.drive.specs.declared.decision.Cause.{Cause};
+ghost use Rattle.drive.specs.Decision.{untaken};
 
-use crate::decision::{ABORTED, Decision};
+use crate::decision::{ABORTED, Cause, Decision};
 use crate::drive::Drive;
 use crate::transfer::{Held, Transfer};
 use basics::Profile;
 use device_data::Failure;
 use fis::{RegH2d, Tag};
 use locking::Op;
+use rules::Rule;
 use tper::is_session_com_id;
 use trusted_cmds::{Command, is_protocol_list, is_queued, of_fis, tag_of};
 
@@ -31,23 +34,51 @@ fn is_trusted(protocol: u8, blocks: u16) -> bool
     protocol == TCG_PROTOCOL && blocks > 0
 }
 
-/// Aborted, and nothing changes.
-fn aborts() -> Decision
-    ensures { result ≡ Decision.Aborts aborted None }
+/// Aborted by a rule, and nothing changes.
+fn aborts(rule: Rule) -> Decision
+    ensures { result ≡ Decision.Aborts aborted (Cause.Rule rule) }
 {
     Decision::Aborts {
         error: ABORTED,
-        denied: None,
+        cause: Cause::Rule(rule),
     }
 }
 
-/// The command of a FIS fails, and the queue with it.
-fn fails_queue(tag: Option<Tag>, h: &RegH2d) -> Decision
-    ensures { result ≡ Decision.FailsQueue (failure_by tag aborted h.now) None }
+/// The command of a FIS fails by a rule, and the queue with it.
+fn fails_queue(tag: Option<Tag>, h: &RegH2d, rule: Rule) -> Decision
+    ensures { result ≡ Decision.FailsQueue (failure_by tag aborted h.now) (Cause.Rule rule) }
 {
     Decision::FailsQueue {
         failure: Failure::of(tag, ABORTED, h),
-        denied: None,
+        cause: Cause::Rule(rule),
+    }
+}
+
+/// Why a trusted command is not taken.
+fn untaken(command: &Command) -> Rule
+    ensures { result ≡ untaken command.now }
+{
+    match *command {
+        Command::Send {
+            protocol,
+            sp_specific,
+            blocks,
+            ..
+        } => {
+            if !is_trusted(protocol, blocks) {
+                Rule::Protocol
+            } else if !is_session_com_id(sp_specific) {
+                Rule::ComId
+            } else {
+                Rule::ResponseWaits
+            }
+        }
+        Command::Receive {
+            protocol,
+            blocks,
+            ..
+        } if is_trusted(protocol, blocks) => Rule::ComId,
+        _ => Rule::Protocol,
     }
 }
 
@@ -72,13 +103,13 @@ impl Drive {
         ensures due { IsDue self.now h.now result }
     {
         if !h.is_command {
-            return aborts();
+            return aborts(Rule::NoCommand);
         }
         if self.failure().is_some() {
             return self.while_failed(h);
         }
         if self.is_mixing(h) {
-            return fails_queue(None, h);
+            return fails_queue(None, h, Rule::Mixed);
         }
         self.known(h)
     }
@@ -101,7 +132,7 @@ impl Drive {
     {
         match of_fis(self.profile(), h) {
             Ok((Command::ReadLog10 { dma }, _)) => Decision::Executes(Command::ReadLog10 { dma }),
-            _ => aborts(),
+            _ => aborts(Rule::QueueFailed),
         }
     }
 
@@ -115,8 +146,10 @@ impl Drive {
         ensures due { IsDue self.now h.now result }
     {
         match of_fis(self.profile(), h) {
-            Err(_) if is_queued(h.command) => fails_queue(Some(tag_of(h)), h),
-            Err(_) => aborts(),
+            Err(fault) if is_queued(h.command) => {
+                fails_queue(Some(tag_of(h)), h, Rule::Unreadable(fault))
+            }
+            Err(fault) => aborts(Rule::Unreadable(fault)),
             Ok((command, Some(tag))) => self.queued(h, tag, command),
             Ok((command, None)) => self.unqueued(h, command),
         }
@@ -133,7 +166,7 @@ impl Drive {
         ensures due { IsDue self.now h.now result }
     {
         if self.held(tag).is_some() {
-            return fails_queue(Some(tag), h);
+            return fails_queue(Some(tag), h, Rule::TagHeld);
         }
         match command {
             Command::ReadQueued { lba, count } => {
@@ -142,7 +175,7 @@ impl Drive {
             Command::WriteQueued { lba, count } => {
                 self.queued_transfer(h, tag, Transfer::by(Op::Write, lba, count))
             }
-            _ => aborts(),
+            _ => aborts(Rule::NoCommand),
         }
     }
 
@@ -168,7 +201,7 @@ impl Drive {
             },
             Err(refusal) => Decision::FailsQueue {
                 failure: Failure::of(Some(tag), refusal.error, h),
-                denied: refusal.denied,
+                cause: refusal.cause,
             },
         }
     }
@@ -198,7 +231,7 @@ impl Drive {
             | Command::Flush
             | Command::SetFeatures
             | Command::ReadLog { .. } => Decision::Executes(command),
-            Command::ReadQueued { .. } | Command::WriteQueued { .. } => aborts(),
+            Command::ReadQueued { .. } | Command::WriteQueued { .. } => aborts(Rule::NoCommand),
         }
     }
 
@@ -220,7 +253,7 @@ impl Drive {
             }),
             Err(refusal) => Decision::Aborts {
                 error: refusal.error,
-                denied: refusal.denied,
+                cause: refusal.cause,
             },
         }
     }
@@ -247,7 +280,7 @@ impl Drive {
         ensures due { IsDue self.now h.now result }
     {
         if self.keeps_sid() {
-            return aborts();
+            return aborts(Rule::SidKept);
         }
         Decision::Blocks(command)
     }
@@ -290,7 +323,7 @@ impl Drive {
         if is_taken {
             Decision::Executes(command)
         } else {
-            aborts()
+            aborts(untaken(&command))
         }
     }
 }

@@ -1,13 +1,14 @@
 //! What the drive decides on a command, before it does it.
 
-ghost use Rattle.std.specs.Prelude.{◌≡◌, ◌≤◌, ◌^◌};
-ghost use Rattle.drive.specs.Decision.{policy, told, reason};
+ghost use Rattle.std.specs.Prelude.{◌≡◌, ◌≤◌, ◌^◌, None, Some};
+ghost use Rattle.drive.specs.Decision.{policy, told, reason, ruling};
 
 use crate::transfer::{Held, Transfer};
 use audit::Why;
 use device_data::Failure;
 use fis::Tag;
 use locking::{Denier, Judgement, Ranges};
+use rules::Rule;
 use trusted_cmds::Command;
 
 /// A transfer that is denied, and what denies it.
@@ -17,24 +18,24 @@ pub struct Denied {
     pub by: Denier,
 }
 
+/// Why a command fails.
+#[derive(Clone, Copy, Debug, PartialEq, Eq)]
+pub enum Cause {
+    /// A range or the shadow denies its transfer.
+    Denial(Denied),
+    /// A rule refuses it.
+    Rule(Rule),
+}
+
 /// What the drive does with a command.
 #[derive(Clone, Copy, Debug, PartialEq, Eq)]
 pub enum Decision {
     /// The command fails, and nothing changes.
-    Aborts {
-        error: u8,
-        denied: Option<Denied>,
-    },
+    Aborts { error: u8, cause: Cause },
     /// The command fails, and the queue with it.
-    FailsQueue {
-        failure: Failure,
-        denied: Option<Denied>,
-    },
+    FailsQueue { failure: Failure, cause: Cause },
     /// A queued transfer is held until it is completed.
-    Holds {
-        tag: Tag,
-        held: Held,
-    },
+    Holds { tag: Tag, held: Held },
     /// An unqueued transfer moves its data.
     Moves(Held),
     /// Another command that is not queued is executed.
@@ -49,19 +50,51 @@ pub enum Decision {
 #[derive(Clone, Copy, Debug, PartialEq, Eq)]
 pub struct Refusal {
     pub error: u8,
-    /// What denied it, where a range or the shadow did.
-    pub denied: Option<Denied>,
+    pub cause: Cause,
 }
 
-/// The reason of a denial.
-pub(crate) fn reason(denied: &Option<Denied>) -> Option<Why>
-    ensures { result ≡ reason denied.now }
-{
-    match denied {
-        None => None,
-        Some(Denied { transfer, by }) => {
-            Some(by.why(transfer.op, transfer.lba, transfer.count.number()))
+/// What denied an item or a command, or which rule refused it, where nothing denied it.
+#[derive(Drop)]
+pub(crate) struct Objection {
+    pub denied: Option<Why>,
+    pub rule: Option<Rule>,
+}
+
+impl Objection {
+    /// None.
+    pub(crate) fn none() -> Objection
+        ensures denied { result.denied ≡ None }
+        ensures rule { result.rule ≡ None }
+    {
+        Objection {
+            denied: None,
+            rule: None,
         }
+    }
+
+    /// By a rule.
+    pub(crate) fn by(rule: Rule) -> Objection
+        ensures denied { result.denied ≡ None }
+        ensures rule { result.rule ≡ Some rule }
+    {
+        Objection {
+            denied: None,
+            rule: Some(rule),
+        }
+    }
+}
+
+/// The reason of a denial, or the rule.
+pub(crate) fn objection_to(cause: &Cause) -> Objection
+    ensures denied { result.denied ≡ reason cause.now }
+    ensures rule { result.rule ≡ ruling cause.now }
+{
+    match cause {
+        Cause::Denial(Denied { transfer, by }) => Objection {
+            denied: Some(by.why(transfer.op, transfer.lba, transfer.count.number())),
+            rule: None,
+        },
+        Cause::Rule(rule) => Objection::by(*rule),
     }
 }
 
@@ -80,7 +113,7 @@ pub(crate) fn policy(sectors: u64, ranges: &Ranges, transfer: &Transfer) -> Resu
     if !transfer.fits(sectors) {
         return Err(Refusal {
             error: NOT_FOUND,
-            denied: None,
+            cause: Cause::Rule(Rule::BeyondDrive),
         });
     }
     match ranges.judge(transfer.op, transfer.lba, transfer.count.number()) {
@@ -88,7 +121,7 @@ pub(crate) fn policy(sectors: u64, ranges: &Ranges, transfer: &Transfer) -> Resu
         Judgement::GivesShadow => Ok(true),
         Judgement::Denies(by) => Err(Refusal {
             error: ABORTED,
-            denied: Some(Denied {
+            cause: Cause::Denial(Denied {
                 transfer: *transfer,
                 by,
             }),

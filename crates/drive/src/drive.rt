@@ -7,20 +7,20 @@ ghost use Rattle.locking.specs.Ranges.{ranges_in};
 ghost use Rattle.transactions.specs.Sights.{look_up};
 
 use crate::answer::{Accepted, Completed};
-use crate::decision::{ABORTED, Refusal, policy};
+use crate::decision::{ABORTED, Objection, Refusal, policy};
 use crate::error::DriveError;
 use crate::heads::heads;
 use crate::opening::Opening;
 use crate::queue::Queue;
 use crate::transfer::{Held, Transfer};
-use audit::Why;
 use basics::Profile;
 use device_data::{Failure, discovery, error_log, field_discovery, identity_of, protocol_list};
 use fis::{H2D_LENGTH, H2D_TYPE, RegH2d, Tag};
 use history::ResetKind;
 use locking::{Op, RangeRow, Ranges};
+use rules::Rule;
 use shadow_mbr::Media;
-use sp_cells::{DriveConfig, SetError};
+use sp_cells::{DriveConfig, SetError, Sp};
 use sp_tables::Tables;
 use std::alloc::{AllocError, Global};
 use std::marker::Model;
@@ -95,7 +95,9 @@ impl Drive {
     ghost use Rattle.history.specs.Facts.{Facts, facts};
     ghost use Rattle.history.specs.History.{Act, Accept, Complete, Reset, log, event};
     ghost use Rattle.history.specs.Resets.{reset_kind_number};
-    ghost use Rattle.history.specs.Readers.{failure as failure_in, held as held_in, in_force as rows_after_all, waiting};
+    ghost use Rattle.history.specs.Readers.{failure as failure_in, held as held_in, in_force as rows_after_all, waiting, session_on, open_on};
+    ghost use Rattle.transactions.specs.Stored.{part};
+    ghost use Rattle.sessions.specs.Live.{lives_on};
     ghost use Rattle.tper.specs.Tper.{response_at};
     ghost use Rattle.drive.specs.Queue.{slot_at, held_at, with_slot, failed_queue, mended_queue, SlotFits};
     ghost use Rattle.drive.specs.Transfer.{payload_size_of, held_bytes, sector_then, StandsOnDrive};
@@ -252,6 +254,24 @@ impl Drive {
         self.profile
     }
 
+    /// Whether a session of the SP lives.
+    pub fn has_session(&self, sp: Sp) -> bool
+        ensures stands { result ≡ lives_on sp self.now.tper.live }
+        ensures told { (o : Origin) (acts : List Act) → Agrees self.now o acts
+            → result ≡ is_some (session_on (log o acts) sp) }
+    {
+        self.tper.has_session(sp)
+    }
+
+    /// Whether a transaction is open on the SP.
+    pub fn has_transaction(&self, sp: Sp) -> bool
+        ensures stands { result ≡ is_some (part self.now.tper.store sp).pending }
+        ensures told { (o : Origin) (acts : List Act) → Agrees self.now o acts
+            → result ≡ is_some (open_on (log o acts) sp) }
+    {
+        self.tper.has_transaction(sp)
+    }
+
     /// How the queue has failed, if it has: what log page 10h tells.
     pub fn failure(&self) -> Option<Failure>
         ensures stands { result ≡ self.now.queue.failure }
@@ -309,20 +329,26 @@ impl Drive {
         }
     }
 
-    /// Sends to the TPer, and does to media and ranges what came of it; gives what denied the item.
-    pub(crate) fn send(&mut self, com_id: u16, payload: &[u8]) -> Result<Option<Why>, AllocError>
+    /// Sends to the TPer, and does to media and ranges what came of it; gives what denied or refused the
+    /// item.
+    pub(crate) fn send(&mut self, com_id: u16, payload: &[u8]) -> Result<Objection, AllocError>
         requires { is_session_com_id com_id ≡ true }
         ensures kept { OnOk result ((o : Origin) (acts : List Act) → Agrees self.old o acts
             → KeepsDrive self.new o (sent (facts o (log o acts)) com_id (frame_in payload.now)
             ∷ log o acts)) }
-        ensures denied { IfOk result (λ why. (o : Origin) (acts : List Act) → Agrees self.old o acts
-            → why ≡ (sent (facts o (log o acts)) com_id (frame_in payload.now)).denied) }
+        ensures denied { IfOk result (λ r. (o : Origin) (acts : List Act) → Agrees self.old o acts
+            → r.denied ≡ (sent (facts o (log o acts)) com_id (frame_in payload.now)).denied) }
+        ensures rule { IfOk result (λ r. (o : Origin) (acts : List Act) → Agrees self.old o acts
+            → r.rule ≡ (sent (facts o (log o acts)) com_id (frame_in payload.now)).rule) }
         ensures err { OnErr result (self.new ≡ self.old) }
     {
         let sent = self.tper.send(com_id, payload, &mut self.spare)?;
         self.media.erase(&sent.erases);
         refresh_where(sent.changes, &mut self.ranges, &self.tper.in_force());
-        Ok(sent.denied)
+        Ok(Objection {
+            denied: sent.denied,
+            rule: sent.rule,
+        })
     }
 
     /// Blocks SID so.
@@ -392,6 +418,7 @@ impl Drive {
         Ok(page)
     }
 
+    /// The allocator of what the drive gives.
     pub(crate) fn allocator(&self) -> Global {
         self.alloc
     }
@@ -508,7 +535,7 @@ impl Drive {
         ensures unsaid { OnErr result (answer.new ≡ answer.old) }
     {
         if fis[0] != H2D_TYPE {
-            answer.set_failed(ABORTED, None);
+            answer.set_failed(ABORTED, Objection::by(Rule::NoCommand));
             return Ok(());
         }
         self.take_command(fis, &RegH2d::read(fis), payload, answer)?;

@@ -4,10 +4,9 @@ ghost use Rattle.std.specs.Prelude.{◌≡◌, ◌∷◌, List, length, IfOk, On
 
 use crate::answer::{Accepted, Form, served_form};
 use crate::deciding::DISCOVERY_COM_ID;
-use crate::decision::{Decision, reason};
+use crate::decision::{Decision, Objection, objection_to};
 use crate::drive::Drive;
 use crate::reset::PROGRAMMATIC;
-use audit::Why;
 use device_data::device_page;
 use fis::RegH2d;
 use shadow_mbr::SECTOR_SIZE;
@@ -49,14 +48,14 @@ impl Drive {
         ensures unsaid { OnErr result (answer.new ≡ answer.old) }
     {
         match decision {
-            Decision::Aborts { error, denied } => {
-                answer.set_failed(error, reason(&denied));
+            Decision::Aborts { error, cause } => {
+                answer.set_failed(error, objection_to(&cause));
                 Ok(())
             }
-            Decision::FailsQueue { failure, denied } => {
+            Decision::FailsQueue { failure, cause } => {
                 let error = failure.error;
                 self.fail_queue(failure);
-                answer.set_failed(error, reason(&denied));
+                answer.set_failed(error, objection_to(&cause));
                 Ok(())
             }
             Decision::Holds { tag, held } => {
@@ -66,12 +65,12 @@ impl Drive {
             }
             Decision::Moves(held) => {
                 let bytes = self.carry_out(&held, payload)?;
-                answer.set_served(Form::Register, bytes, None);
+                answer.set_served(Form::Register, bytes, Objection::none());
                 Ok(())
             }
             Decision::Executes(command) => {
-                let (bytes, denied) = self.execute(&command, payload)?;
-                answer.set_served(served_form(&command), bytes, denied);
+                let (bytes, objection) = self.execute(&command, payload)?;
+                answer.set_served(served_form(&command), bytes, objection);
                 Ok(())
             }
             Decision::Restarts(command) => {
@@ -87,12 +86,13 @@ impl Drive {
         }
     }
 
-    /// Executes a command that moves no sectors: gives its data, and what denied the item that it sent.
+    /// Executes a command that moves no sectors: gives its data, and what denied or refused the item that
+    /// it sent.
     fn execute(
         &mut self,
         command: &Command,
         payload: &[u8],
-    ) -> Result<(Vec<u8>, Option<Why>), AllocError>
+    ) -> Result<(Vec<u8>, Objection), AllocError>
         requires { CanExecute command.now }
         ensures kept { OnOk result ((o : Origin) (acts : List Act) → Agrees self.old o acts
             → KeepsDrive self.new o (executed (facts o (log o acts)) payload.now command.now
@@ -100,13 +100,15 @@ impl Drive {
         ensures data { IfOk result (λ r. (o : Origin) (acts : List Act) → Agrees self.old o acts
             → r.0.items ≡ data_of (facts o (log o acts)) command.now) }
         ensures denied { IfOk result (λ r. (o : Origin) (acts : List Act) → Agrees self.old o acts
-            → r.1 ≡ (executed (facts o (log o acts)) payload.now command.now).denied) }
+            → r.1.denied ≡ (executed (facts o (log o acts)) payload.now command.now).denied) }
+        ensures rule { IfOk result (λ r. (o : Origin) (acts : List Act) → Agrees self.old o acts
+            → r.1.rule ≡ (executed (facts o (log o acts)) payload.now command.now).rule) }
         ensures err { OnErr result (self.new ≡ self.old) }
     {
         match *command {
             Command::Send { sp_specific, .. } => {
-                let denied = self.send(sp_specific, payload)?;
-                Ok((Vec::new(self.allocator()), denied))
+                let objection = self.send(sp_specific, payload)?;
+                Ok((Vec::new(self.allocator()), objection))
             }
             Command::Receive {
                 sp_specific,
@@ -115,16 +117,18 @@ impl Drive {
             } => {
                 let room = SECTOR_SIZE * usize::from(blocks);
                 if is_protocol_list(command) {
-                    return Ok((self.protocols(room)?, None));
+                    return Ok((self.protocols(room)?, Objection::none()));
                 }
                 let bytes = self.received(sp_specific, room)?;
-                Ok((bytes, None))
+                Ok((bytes, Objection::none()))
             }
-            Command::Identify => Ok((self.identify()?, None)),
-            Command::ReadLog10 { .. } => Ok((self.read_log()?, None)),
-            Command::Flush => Ok((Vec::new(self.allocator()), None)),
-            Command::SetFeatures => Ok((Vec::new(self.allocator()), None)),
-            Command::ReadLog { page, .. } => Ok((device_page(self.allocator(), &page)?, None)),
+            Command::Identify => Ok((self.identify()?, Objection::none())),
+            Command::ReadLog10 { .. } => Ok((self.read_log()?, Objection::none())),
+            Command::Flush => Ok((Vec::new(self.allocator()), Objection::none())),
+            Command::SetFeatures => Ok((Vec::new(self.allocator()), Objection::none())),
+            Command::ReadLog { page, .. } => {
+                Ok((device_page(self.allocator(), &page)?, Objection::none()))
+            }
             Command::ReadQueued { .. }
             | Command::WriteQueued { .. }
             | Command::ReadDma { .. }

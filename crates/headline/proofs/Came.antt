@@ -21,6 +21,8 @@ use Rattle.port_history.specs.declared.request.Answer.TheVariants as answers
 use Rattle.port_history.specs.Stages.{is_queued_command}
 use Rattle.port_history.specs.Steps.{answered_with}
 use Rattle.headline.specs.Transfers.{Transfer, transfer_of}
+use Rattle.rules.specs.declared.rule.Rule.TheVariants.{BeyondDrive}
+use Rattle.rules.specs.declared.rule.Rule.{Rule}
 
 -- The answer to a transfer, by the facts at its acceptance, and those at the act that moves its data.
 abbrev pub moved_by : Facts → Op → ℕ → ℕ → Verdict → List ℕ
@@ -45,7 +47,7 @@ pub data IsTaken (tag : ℕ) (command : Command) (f : Facts) (x : Transfer) (h :
   TakenHeld : (v : Verdict) → e ≡ holds tag command v
       → ((g : Facts) → answer_to f g x ≡ answers.Done (held_data g (record { command = command; verdict = v })))
       → IsTaken tag command f x h e
-  TakenFailed : (error : ℕ) (denied : Option Why) → e ≡ fails_queue (Some tag) error h denied
+  TakenFailed : (error : ℕ) (denied : Option Why × Option Rule) → e ≡ fails_queue (Some tag) error h denied.0 denied.1
       → ((g : Facts) → answer_to f g x ≡ answers.Failed 0x51 error)
       → IsTaken tag command f x h e
 
@@ -59,11 +61,11 @@ answer_is f g op lba count on v is_on is_v =
 read_taken : (f : Facts) (h : RegH2d) (tag lba count : ℕ) (on : Bool) (v : Verdict)
     → on_drive f lba count ≡ on → verdict_on f Read lba count ≡ v
     → IsTaken tag (ReadQueued lba count) f (record { op = Read; lba = lba; count = count }) h
-    (if on then queued_by h tag (ReadQueued lba count) v else fails_queue (Some tag) not_found h None)
+    (if on then queued_by h tag (ReadQueued lba count) v else fails_queue (Some tag) not_found h None (Some BeyondDrive))
 read_taken f h tag lba count false v is_on is_v =
-    TakenFailed 0x10 None refl (λ g. answer_is f g Read lba count false v is_on is_v)
+    TakenFailed 0x10 (None, Some BeyondDrive) refl (λ g. answer_is f g Read lba count false v is_on is_v)
 read_taken f h tag lba count true (Denied why) is_on is_v =
-    TakenFailed 0x04 (Some why) refl (λ g. answer_is f g Read lba count true (Denied why) is_on is_v)
+    TakenFailed 0x04 (Some why, None) refl (λ g. answer_is f g Read lba count true (Denied why) is_on is_v)
 read_taken f h tag lba count true Serve is_on is_v =
     TakenHeld Serve refl (λ g. answer_is f g Read lba count true Serve is_on is_v)
 read_taken f h tag lba count true Shadow is_on is_v =
@@ -72,11 +74,11 @@ read_taken f h tag lba count true Shadow is_on is_v =
 write_taken : (f : Facts) (h : RegH2d) (tag lba count : ℕ) (on : Bool) (v : Verdict)
     → on_drive f lba count ≡ on → verdict_on f Write lba count ≡ v
     → IsTaken tag (WriteQueued lba count) f (record { op = Write; lba = lba; count = count }) h
-    (if on then queued_by h tag (WriteQueued lba count) v else fails_queue (Some tag) not_found h None)
+    (if on then queued_by h tag (WriteQueued lba count) v else fails_queue (Some tag) not_found h None (Some BeyondDrive))
 write_taken f h tag lba count false v is_on is_v =
-    TakenFailed 0x10 None refl (λ g. answer_is f g Write lba count false v is_on is_v)
+    TakenFailed 0x10 (None, Some BeyondDrive) refl (λ g. answer_is f g Write lba count false v is_on is_v)
 write_taken f h tag lba count true (Denied why) is_on is_v =
-    TakenFailed 0x04 (Some why) refl (λ g. answer_is f g Write lba count true (Denied why) is_on is_v)
+    TakenFailed 0x04 (Some why, None) refl (λ g. answer_is f g Write lba count true (Denied why) is_on is_v)
 write_taken f h tag lba count true Serve is_on is_v =
     TakenHeld Serve refl (λ g. answer_is f g Write lba count true Serve is_on is_v)
 write_taken f h tag lba count true Shadow is_on is_v =
@@ -117,7 +119,7 @@ executed e bytes = answered_with e.failed (if is_some e.failed then [] else byte
 
 served_now : (g : Facts) (d : Deed) (op : Op) (lba count : ℕ) (on : Bool) (v : Verdict) (bytes : List ℕ)
     → bytes ≡ moved_by g op lba count v
-    → executed (if on then unqueued_by d v else fails not_found None) bytes
+    → executed (if on then unqueued_by d v else fails not_found None (Some BeyondDrive)) bytes
     ≡ answer_at g op lba count on v
 served_now g d op lba count false v bytes is = refl
 served_now g d op lba count true (Denied why) bytes is = refl

@@ -171,7 +171,7 @@ queued_self items o before u put e mended was queued taken = by_event taken.take
         })
     by_event (TakenFailed error denied is comes) =
         comes_by {u = Some u} {f = f} {g = f} {s = Accepted put}
-        (failed_by_event ms u put e (fails_queue (Some u) error (fis_of put.command u) denied) is
+        (failed_by_event ms u put e (fails_queue (Some u) error (fis_of put.command u) denied.0 denied.1) is
         ∙ failed_failed ms u put error denied queued)
         refl refl (same_f _) (same_f _) refl stands
         (record {
@@ -218,7 +218,7 @@ queued_other items o before u put e mended queued taken t apart k = by_event tak
         was)
     by_event (TakenFailed error denied is comes) =
         comes_by {u = Some u}
-        (failed_by_event ms u put e (fails_queue (Some u) error (fis_of put.command u) denied) is
+        (failed_by_event ms u put e (fails_queue (Some u) error (fis_of put.command u) denied.0 denied.1) is
         ∙ failed_failed ms u put error denied queued)
         refl refl (same_f _) (same_f _) (skips (u == t) _ (answer ms t) apart)
         (other_if (u == t) _ (stage ms t) apart)

@@ -37,6 +37,7 @@ use Rattle.headline.specs.Steps.{past_of, facts_after, through_move}
 use Rattle.headline.specs.Transfers.{Transfer, transfer_of, HaveData}
 use Rattle.headline.proofs.Came.{executed}
 use Rattle.headline.proofs.KeptTransfers.{this_if, other_if, skips, takes, itself, unqueued_event, executed_now}
+use Rattle.rules.specs.declared.rule.Rule.TheVariants.{BeyondDrive}
 
 -- A write that is done has its data in media after those events.
 abbrev pub Lands : List Event → Transfer → List ℕ → Option Answer → Type 0
@@ -154,9 +155,9 @@ lands_at e past lba k count content is long below =
 -- an unqueued write
 wrote_lands : (past : List Event) (lba count : ℕ) (content : List ℕ) (on : Bool) (v : Verdict)
     → length content ≡ 512 * count → (given bytes : List ℕ)
-    → Some (executed (if on then unqueued_by (Wrote lba content) v else fails not_found None) given)
+    → Some (executed (if on then unqueued_by (Wrote lba content) v else fails not_found None (Some BeyondDrive)) given)
     ≡ Some (answers.Done bytes)
-    → HaveData ((if on then unqueued_by (Wrote lba content) v else fails not_found None) ∷ past)
+    → HaveData ((if on then unqueued_by (Wrote lba content) v else fails not_found None (Some BeyondDrive)) ∷ past)
     (record { op = Write; lba = lba; count = count }) content
 wrote_lands past lba count content false v long given bytes e = absurd (has_failed 0x51 0x10 bytes e)
 wrote_lands past lba count content true (Denied why) long given bytes e = absurd (has_failed 0x51 0x04 bytes e)

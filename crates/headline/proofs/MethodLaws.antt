@@ -1,7 +1,7 @@
 -- A call takes effect exactly where it is granted.
 use Rattle.port_history.specs.Laws.{read_as}
 use Rattle.std.proofs.Common.{nat_le, ◌==◌, ◌≡◌, ◌∙◌, ◌||◌, ◌+◌, ◌-◌, ℕ, ◌%◌, ◌≤◌, ◌<◌, nat_lt, not, ◌&&◌, Bool, true, false, List, [], ◌∷◌, Option, Some, None, refl, sym, ap, subst, arith, eq-eqb}
-use Rattle.std.specs.Prelude.{is_some, option_map, Ok, if◌then◌else◌}
+use Rattle.std.specs.Prelude.{is_some, option_map, Ok, if◌then◌else◌, Result, Err}
 use Rattle.std.proofs.lemmas.Bool.{ltb-true}
 use Rattle.std.proofs.lemmas.Bool.Decides.{nat_tests}
 use Rattle.fis.specs.H2d.{h2d_at}
@@ -27,7 +27,7 @@ use Rattle.methods.specs.Listed.{listed}
 use Rattle.methods.proofs.ListLaws.{list_law}
 use Rattle.sp_cells.specs.Numbers.{key_number}
 use Rattle.methods.specs.Erasures.{erased_by_key, erased_by_revert_sp, is_wholly_locked}
-use Rattle.methods.specs.Judgement.{RevertsSp, erases, Judgement, Refuses, Gives, Activates, Reverts, Standing, bytes_between, rows_given, gives, listing, makes, unless_open, does_ask, does, judged, asked}
+use Rattle.methods.specs.Judgement.{RevertsSp, erases, Judgement, Refuses, Gives, Activates, Reverts, Standing, bytes_between, rows_given, gives, listing, makes, unless_open, does_ask, does, judged, asked, Denies}
 use Rattle.history.specs.Decisions.{is_session_com_id, is_trusted}
 use Rattle.history.specs.Tcg.{answers, tcg}
 use Rattle.methods.specs.Calls.{outcome_of}
@@ -60,6 +60,8 @@ use Rattle.headline.specs.Steps.{facts_after, event_after}
 use Rattle.headline.proofs.AuditLaws.{lawful_before}
 use Rattle.headline.proofs.Rising.{listed_rises}
 use Rattle.headline.specs.Methods.{IsCallStep, IsGrantedAt, comes_to, EffectIs, refused_with, DoesSo, Lists, IsJudged, MethodLaw}
+use Rattle.rules.specs.declared.rule.Rule.TheVariants.{OutsideTable, TooLong, GlobalLocked}
+use Rattle.rules.specs.declared.rule.Rule.{Rule}
 
 -- a ComID of sessions has 16 bits
 com_id_fits : (com_id : ℕ) → is_session_com_id com_id ≡ true → com_id % 65536 ≡ com_id
@@ -169,8 +171,8 @@ gives_cells s object first last valid =
     by_kind (has_ask (kind_of s.sp object) (GetCells first last)) valid
   where
     by_room : (b : Bool) (results : List Tree)
-        → takes_effect (if b then Gives results else Refuses response_overflow None) ≡ true
-        → (if b then Gives results else Refuses response_overflow None) ≡ Gives results
+        → takes_effect (if b then Gives results else Refuses response_overflow TooLong) ≡ true
+        → (if b then Gives results else Refuses response_overflow TooLong) ≡ Gives results
     by_room true results v = refl
     by_room false results v = absurd (cc)
 
@@ -183,16 +185,16 @@ gives_cells s object first last valid =
 
 -- what takes effect, method by method
 by_room : (f : Facts) (session : Begun) (b : Bool) (results : List Tree)
-    → (outcome_of f.rows session.sp (if b then Gives results else Refuses response_overflow None)).deed ≡ Unchanged
+    → (outcome_of f.rows session.sp (if b then Gives results else Refuses response_overflow TooLong)).deed ≡ Unchanged
 by_room f session true results = refl
 by_room f session false results = refl
 
-by_setting : (f : Facts) (session : Begun) (found : Option Setting)
+by_setting : (f : Facts) (session : Begun) (found : Result Setting Rule)
     → takes_effect (makes found) ≡ true
-    → (set : Setting) × (found ≡ Some set)
+    → (set : Setting) × (found ≡ Ok set)
     × ((outcome_of f.rows session.sp (makes found)).deed ≡ Changed session.sp (Sets set))
-by_setting f session None valid = absurd (cc)
-by_setting f session (Some set) valid = (set, refl, refl)
+by_setting f session (Err rule) valid = absurd (cc)
+by_setting f session (Ok set) valid = (set, refl, refl)
 
 rows_deed : (f : Facts) (session : Begun) (byte : ℕ → ℕ) (size first last : ℕ)
     → (outcome_of f.rows session.sp (rows_given byte size first last)).deed ≡ Unchanged
@@ -202,8 +204,8 @@ rows_deed f session byte size first last =
     (nat_lt most_response (last + 1 - first))
   where
     by_tests : (a b : Bool)
-        → (outcome_of f.rows session.sp (if a then Refuses invalid_parameter None
-        else (if b then Refuses response_overflow None
+        → (outcome_of f.rows session.sp (if a then Refuses invalid_parameter OutsideTable
+        else (if b then Refuses response_overflow TooLong
         else gives (bytes_between byte first last)))).deed ≡ Unchanged
     by_tests true b = refl
     by_tests false true = refl
@@ -245,9 +247,9 @@ erases_deed f session None false valid = absurd (cc)
 erases_deed f session (Some range) false valid = (range, refl, refl)
 
 reverts_sp_deed : (f : Facts) (session : Begun) (locked keep is_open : Bool)
-    → takes_effect (unless_open is_open (if keep && locked then Refuses fail None else RevertsSp keep)) ≡ true
+    → takes_effect (unless_open is_open (if keep && locked then Refuses fail GlobalLocked else RevertsSp keep)) ≡ true
     → (keep ≡ true → locked ≡ false)
-    × ((outcome_of f.rows session.sp (unless_open is_open (if keep && locked then Refuses fail None else RevertsSp keep))).deed
+    × ((outcome_of f.rows session.sp (unless_open is_open (if keep && locked then Refuses fail GlobalLocked else RevertsSp keep))).deed
     ≡ Reverted Locking (erased_by_revert_sp f.rows keep))
 reverts_sp_deed f session locked keep true valid = absurd (cc)
 reverts_sp_deed f session true true false valid = absurd (cc)
@@ -323,7 +325,7 @@ judged_so_far o before step session object method args ask h c shaped = record {
         (outcome_of f.rows session.sp (judged (standing f session) (uid_of object) (uid_of method) x))) shaped
 
     refused_by : (IsGrantedAt o before session object method ask → ⊥)
-        → (why : Why) × (judged (standing f session) (uid_of object) (uid_of method) (Some ask) ≡ Refuses not_authorized (Some why))
+        → (why : Why) × (judged (standing f session) (uid_of object) (uid_of method) (Some ask) ≡ Denies why)
         → (why : Why) × DoesSo o before step session object method args c (refused_with why)
     refused_by bare d = (
       d.0,

@@ -38,6 +38,7 @@ use Rattle.headline.specs.Transfers.{IsAnswered, IsAllowed}
 use Rattle.headline.proofs.NoTraceLaws.{open_law_of_steps, abort_law_of_steps}
 use Rattle.headline.proofs.Scenes.{are_lawful, are_lawful_by, lawful_by, lays, brings}
 use Rattle.headline.proofs.TransferLaws.{transfer_law}
+use Rattle.rules.specs.declared.rule.Rule.TheVariants.{Protocol}
 
 -- A command set of one byte, without sessions: 1 locks range 1 against reads, 2 begins a transaction,
 -- 3 aborts it.
@@ -50,7 +51,7 @@ locks = Changed Locking (Sets (cells_set (range_uid 1) ((read_locked_column, Num
 abbrev told_by : ℕ → Event
 told_by byte =
     if byte == 1 then in_it locks
-    else (if byte == 2 then in_it (Began Locking 7) else (if byte == 3 then in_it (Aborted Locking) else refuses))
+    else (if byte == 2 then in_it (Began Locking 7) else (if byte == 3 then in_it (Aborted Locking) else refuses Protocol))
 
 abbrev one_byte : Items
 one_byte = record { reads = command_read; sends = λ f protocol com_id blocks payload. told_by (slice_index payload 0); gives = λ f command. [] }
@@ -60,7 +61,7 @@ one_byte_quiet : IsQuiet one_byte
 one_byte_quiet f protocol com_id blocks payload =
     by_byte (slice_index payload 0 == 1) (slice_index payload 0 == 2) (slice_index payload 0 == 3)
   where
-    by_byte : (a b c : Bool) → is_quiet (if a then in_it locks else (if b then in_it (Began Locking 7) else (if c then in_it (Aborted Locking) else refuses))).deed ≡ true
+    by_byte : (a b c : Bool) → is_quiet (if a then in_it locks else (if b then in_it (Began Locking 7) else (if c then in_it (Aborted Locking) else refuses Protocol))).deed ≡ true
     by_byte true b c = refl
     by_byte false true c = refl
     by_byte false false true = refl

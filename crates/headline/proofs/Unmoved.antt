@@ -36,6 +36,7 @@ use Rattle.headline.specs.Transfers.{Transfer, transfer_of, MoveNothing}
 use Rattle.headline.proofs.Came.{executed, IsTaken, TakenHeld, TakenFailed}
 use Rattle.headline.proofs.KeptTransfers.{ComesAt, this_if, other_if, skips, takes, itself, queued_event, unqueued_event, executed_now, comes}
 use Rattle.headline.proofs.Waits.{Comes}
+use Rattle.rules.specs.declared.rule.Rule.TheVariants.{BeyondDrive}
 
 -- A write, and answered with Done.
 abbrev pub IsWritten : Transfer → Option Answer → Type 0
@@ -153,17 +154,17 @@ taken_quiet tag command f x h e (TakenFailed error denied is comes) place =
 
 -- Of one that is executed whole.
 read_quiet : (on : Bool) (v : Verdict) (place : ℕ)
-    → writing place (if on then unqueued_by Nothing v else fails not_found None).deed ≡ None
+    → writing place (if on then unqueued_by Nothing v else fails not_found None (Some BeyondDrive)).deed ≡ None
 read_quiet false v place = refl
 read_quiet true (Denied why) place = refl
 read_quiet true Serve place = refl
 read_quiet true Shadow place = refl
 
 write_quiet : (lba : ℕ) (content given : List ℕ) (on : Bool) (v : Verdict)
-    → ((bytes : List ℕ) × (Some (executed (if on then unqueued_by (Wrote lba content) v else fails not_found None) given)
+    → ((bytes : List ℕ) × (Some (executed (if on then unqueued_by (Wrote lba content) v else fails not_found None (Some BeyondDrive)) given)
     ≡ Some (answers.Done bytes)) → ⊥)
     → (place : ℕ)
-    → writing place (if on then unqueued_by (Wrote lba content) v else fails not_found None).deed ≡ None
+    → writing place (if on then unqueued_by (Wrote lba content) v else fails not_found None (Some BeyondDrive)).deed ≡ None
 write_quiet lba content given false v undone place = refl
 write_quiet lba content given true (Denied why) undone place = refl
 write_quiet lba content given true Serve undone place = absurd (undone (given, refl))
@@ -176,10 +177,10 @@ executed_unmoved : (items : Items) (f : Facts) (own : List Event) (content given
 executed_unmoved items f own content given (commands.ReadQueued lba count) unqueued_is k = absurd (cc)
 executed_unmoved items f own content given (commands.WriteQueued lba count) unqueued_is k = absurd (cc)
 executed_unmoved items f own content given (commands.ReadDma lba count) unqueued_is k =
-    λ undone. and_then (if on_drive f lba count then unqueued_by Nothing (verdict_on f Read lba count) else fails not_found None)
+    λ undone. and_then (if on_drive f lba count then unqueued_by Nothing (verdict_on f Read lba count) else fails not_found None (Some BeyondDrive))
     own (read_quiet (on_drive f lba count) (verdict_on f Read lba count)) k
 executed_unmoved items f own content given (commands.WriteDma lba count) unqueued_is k =
-    λ undone. and_then (if on_drive f lba count then unqueued_by (Wrote lba content) (verdict_on f Write lba count) else fails not_found None)
+    λ undone. and_then (if on_drive f lba count then unqueued_by (Wrote lba content) (verdict_on f Write lba count) else fails not_found None (Some BeyondDrive))
     own
     (write_quiet lba content given (on_drive f lba count) (verdict_on f Write lba count) (λ d. undone (refl, d))) k
 executed_unmoved items f own content given (commands.Send protocol com_id blocks dma) unqueued_is k = tt

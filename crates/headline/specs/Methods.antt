@@ -90,10 +90,10 @@ abbrev pub EffectIs : Facts → Begun → Uid → Ask → SessionDeed → Type 0
 EffectIs f session object (GetCells first last) deed = deed ≡ Unchanged
 EffectIs f session object (GetBytes first last) deed = deed ≡ Unchanged
 EffectIs f session object (SetCells values) deed =
-    (set : Setting) × (to_set (standing f session) object (SetCells values) ≡ Some set)
+    (set : Setting) × (to_set (standing f session) object (SetCells values) ≡ Ok set)
     × (deed ≡ Changed session.sp (Sets set))
 EffectIs f session object (SetBytes at content) deed =
-    (set : Setting) × (to_set (standing f session) object (SetBytes at content) ≡ Some set)
+    (set : Setting) × (to_set (standing f session) object (SetBytes at content) ≡ Ok set)
     × (deed ≡ Changed session.sp (Sets set))
 EffectIs f session object (Authenticate authority pin) deed =
     (attempt : Attempt) × (deed ≡ Tried attempt)
@@ -117,7 +117,7 @@ EffectIs f session object Other deed = ⊥
 -- status 01h.
 abbrev pub refused_with : Why → Outcome
 refused_with why =
-    record { deed = Unchanged; said = reply_of [] not_authorized; denied = Some why }
+    record { deed = Unchanged; said = reply_of [] not_authorized; denied = Some why; rule = None }
 
 -- The step does so, and leaves its response.
 pub record DoesSo (o : Origin) (before : List Step) (step : Step) (session : Begun)

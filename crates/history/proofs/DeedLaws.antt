@@ -21,7 +21,7 @@ use Rattle.tcg_tokens.specs.declared.error.TokenError.{TokenError}
 use Rattle.tcg_tokens.specs.Message.{Message, call, reply, end_session, begin, end}
 use Rattle.tcg_tokens.specs.Tree.{Tree, Trees}
 use Rattle.history.specs.Opening.{Origin}
-use Rattle.sessions.specs.Deeds.{Sets, Begun, Setting, cells_set, bytes_set, SessionDeed, Unchanged, Started, Tried, Changed, Began, Committed, Aborted, Ended, Activated, Reverted, Erased, Outcome, says}
+use Rattle.sessions.specs.Deeds.{Sets, Begun, Setting, cells_set, bytes_set, SessionDeed, Unchanged, Started, Tried, Changed, Began, Committed, Aborted, Ended, Activated, Reverted, Erased, Outcome, says, refuses as refuses_item}
 use Rattle.sp_cells.specs.ColumnNames.{pin_column}
 use Rattle.sessions.specs.Attempts.{attempt_failure as failure_of}
 use Rattle.call_shapes.specs.Asks.{uid_of}
@@ -42,7 +42,7 @@ use Rattle.methods.specs.Said.{reply_of, refusal_of}
 use Rattle.call_shapes.specs.Limits.{most_response}
 use Rattle.methods.specs.Effects.{has_ask, last_row, unless_fault, sp_of_row}
 use Rattle.sp_cells.specs.declared.values.ColumnType.{ColumnType}
-use Rattle.methods.specs.Judgement.{asked, Standing, Judgement, Refuses, Gives, Makes, Attempts, Activates, Reverts, Erases, RevertsSp, erases, reverts_sp, denial, gives, listing, bytes_between, rows_given, fault_by, valid, to_set, makes, unless_open, does_ask, does, unless_denied, judged}
+use Rattle.methods.specs.Judgement.{asked, Standing, Judgement, Refuses, Gives, Makes, Attempts, Activates, Reverts, Erases, RevertsSp, erases, reverts_sp, denial, gives, listing, bytes_between, rows_given, fault_by, valid, to_set, makes, unless_open, does_ask, does, unless_denied, judged, Denies}
 use Rattle.sessions.specs.declared.opening.Opening.{Opening}
 use Rattle.sessions.specs.declared.opening.StartVerdict.{StartVerdict}
 use Rattle.sessions.specs.declared.opening.StartVerdict.TheVariants.{Refused, Attempted}
@@ -64,10 +64,13 @@ use Rattle.history.proofs.Words.{latest-here, latest-skip, sp-is, sp-same}
 use Rattle.history.proofs.Items.{item-from}
 use Rattle.history.proofs.MethodProofs.{denial-none, granted-row}
 use Rattle.history.proofs.Asked.{is_own, own-of-field, gen-key-locking, revert-sp-locking, asked-own, activate-admin, revert-admin, set-in-admin}
+use Rattle.rules.specs.declared.rule.Rule.TheVariants.{NoMethod, NotInUse, SpBusy, NoNumber, OutsideTable, TooLong, GlobalLocked}
+use Rattle.rules.specs.declared.rule.Rule.{Rule}
 
 -- the kinds of judgements, a refusal being 0, and of asks
 abbrev kind : Judgement → ℕ
-kind (Refuses status denied) = 0
+kind (Denies why) = 0
+kind (Refuses status rule) = 0
 kind (Gives results) = 1
 kind (Makes setting) = 2
 kind (Attempts block authority pin) = 3
@@ -98,18 +101,18 @@ kind-if true x y k n z h g = absurd (zero-one (sym z ∙ g))
 gives-kind : (results : List Tree) (k : ℕ) → kind (gives results) ≡ suc k → 1 ≡ suc k
 gives-kind results k h = by_carried (is_carried (reply_of results success)) h
   where
-    by_carried : (b : Bool) → kind (cond b (Gives results) (Refuses 0x11 None)) ≡ suc k → 1 ≡ suc k
+    by_carried : (b : Bool) → kind (cond b (Gives results) (Refuses 0x11 TooLong)) ≡ suc k → 1 ≡ suc k
     by_carried true g = g
     by_carried false g = absurd (zero-one g)
 
 rows-kind : (byte : ℕ → ℕ) (size first last : ℕ) (k : ℕ) → kind (rows_given byte size first last) ≡ suc k → 1 ≡ suc k
 rows-kind byte size first last k h =
-    kind-if ((size == 0) || (nat_le size last || nat_lt last first)) (Refuses 0x0c None) _ k 1 refl
-    (kind-if (nat_lt most_response (last + 1 - first)) (Refuses 0x11 None) (gives (bytes_between byte first last)) k 1 refl (gives-kind (bytes_between byte first last) k)) h
+    kind-if ((size == 0) || (nat_le size last || nat_lt last first)) (Refuses 0x0c OutsideTable) _ k 1 refl
+    (kind-if (nat_lt most_response (last + 1 - first)) (Refuses 0x11 TooLong) (gives (bytes_between byte first last)) k 1 refl (gives-kind (bytes_between byte first last) k)) h
 
-makes-kind : (x : Option Setting) (k : ℕ) → kind (makes x) ≡ suc k → 2 ≡ suc k
-makes-kind None k h = absurd (zero-one h)
-makes-kind (Some set) k h = h
+makes-kind : (x : Result Setting Rule) (k : ℕ) → kind (makes x) ≡ suc k → 2 ≡ suc k
+makes-kind (Err rule) k h = absurd (zero-one h)
+makes-kind (Ok set) k h = h
 
 open-kind : (b : Bool) (j : Judgement) (k : ℕ) → kind (unless_open b j) ≡ suc k → (kind j ≡ suc k) × (b ≡ false)
 open-kind true j k h = absurd (zero-one h)
@@ -119,7 +122,7 @@ erases-kind : (x : Option ℕ) (k : ℕ) → kind (erases x) ≡ suc k → 6 ≡
 erases-kind None k h = absurd (zero-one h)
 erases-kind (Some range) k h = h
 
-reverts-kind : (b keep : Bool) (k : ℕ) → kind (cond b (Refuses 0x3f None) (RevertsSp keep)) ≡ suc k → 7 ≡ suc k
+reverts-kind : (b keep : Bool) (k : ℕ) → kind (cond b (Refuses 0x3f GlobalLocked) (RevertsSp keep)) ≡ suc k → 7 ≡ suc k
 reverts-kind true keep k h = absurd (zero-one h)
 reverts-kind false keep k h = h
 
@@ -238,7 +241,7 @@ erases-outside s object method range g =
       x.1,
     )
 
-unlocked-by : (b k l keep : Bool) → unless_open b (cond (k && l) (Refuses 0x3f None) (RevertsSp k)) ≡ RevertsSp keep → keep ≡ true → l ≡ false
+unlocked-by : (b k l keep : Bool) → unless_open b (cond (k && l) (Refuses 0x3f GlobalLocked) (RevertsSp k)) ≡ RevertsSp keep → keep ≡ true → l ≡ false
 unlocked-by true k l keep h is = absurd (zero-one (ap kind h))
 unlocked-by false true true keep h is = absurd (zero-one (ap kind h))
 unlocked-by false true false keep h is = refl
@@ -318,17 +321,17 @@ setting-fit p sp sizes object fit (Some kinds.LockingInfo) ask set h = asked-fit
 setting-fit p sp sizes object fit (Some kinds.Table) ask set h = asked-fit p sp (sectors_of sizes) object fit (set_types_of (Some kinds.Table)) ask set h
 setting-fit p sp sizes object fit (Some kinds.Key) ask set h = asked-fit p sp (sectors_of sizes) object fit (set_types_of (Some kinds.Key)) ask set h
 
-unfaulted : (fault : Option SetError) (set made : Setting) → unless_fault fault set ≡ Some made → made ≡ set
-unfaulted None set made h = some-same h
-unfaulted (Some fault) set made h = absurd (none-some h)
+unfaulted : (fault : Option SetError) (set made : Setting) → unless_fault fault set ≡ Ok made → made ≡ set
+unfaulted None set made h = cc
+unfaulted (Some fault) set made h = cc
 
-valid-fit : (p : Setting → Bool) (s : Standing) (x : Option Setting) (made : Setting) → ((set : Setting) → x ≡ Some set → p set ≡ true) → valid s x ≡ Some made → p made ≡ true
-valid-fit p s None made h g = absurd (none-some g)
+valid-fit : (p : Setting → Bool) (s : Standing) (x : Option Setting) (made : Setting) → ((set : Setting) → x ≡ Some set → p set ≡ true) → valid s x ≡ Ok made → p made ≡ true
+valid-fit p s None made h g = cc
 valid-fit p s (Some set) made h g = ap p (unfaulted (fault_by s.sectors s.newest s.sp set) set made g) ∙ h set refl
 
-makes-is : (x : Option Setting) (made : Setting) → makes x ≡ Makes made → x ≡ Some made
-makes-is None made h = absurd (zero-one (ap kind h))
-makes-is (Some set) made h = ap (λ y. Some y) (sym (made-same h))
+makes-is : (x : Result Setting Rule) (made : Setting) → makes x ≡ Makes made → x ≡ Ok made
+makes-is (Err rule) made h = absurd (zero-one (ap kind h))
+makes-is (Ok set) made h = ap (λ (y : Setting). let r : Result Setting Rule = Ok y in r) (sym (made-same h))
 
 makes-fit : (p : Setting → Bool) (s : Standing) (object : Uid) → AreFit p s.sp (sectors_of s.sizes) object → (ask : Ask) (made : Setting) → ask_kind ask ≡ 2 → does_ask s object ask ≡ Makes made → p made ≡ true
 makes-fit p s object fit (SetCells values) made k h =
@@ -433,7 +436,8 @@ outside-of o past s h sp on outside = record {
 }
 
 judged-can : (o : Origin) (past : List Event) (s : Begun) → session_on past s.sp ≡ Some s → (object method : Uid) (args : Trees) (j : Judgement) → judgement_on (facts o past) s object method args ≡ j → CanDo o past (outcome_of (in_force o past) s.sp j).deed
-judged-can o past s h object method args (Refuses status denied) is = tt
+judged-can o past s h object method args (Denies why) is = tt
+judged-can o past s h object method args (Refuses status rule) is = tt
 judged-can o past s h object method args (Gives results) is = tt
 judged-can o past s h object method args (Makes c) is = record {
   session = s;
@@ -526,7 +530,7 @@ no-session o past Locking h =
     none-alive past Locking (session_on past Locking) refl apart.1
 
 begins-new : (look : LookUp) (l : Live) (sp sp' : Sp) (x : Option AttemptFailure) (m b n : Bool) → is_in_use look sp' ≡ m → lives_on sp' l ≡ b
-    → cond (not m) (Refused 0x0c) (cond b (Refused 3) (cond n (Refused 7) (Attempted sp' x))) ≡ Attempted sp None → (lives_on sp l ≡ false) × (is_in_use look sp ≡ true)
+    → cond (not m) (Refused 0x0c NotInUse) (cond b (Refused 3 SpBusy) (cond n (Refused 7 NoNumber) (Attempted sp' x))) ≡ Attempted sp None → (lives_on sp l ≡ false) × (is_in_use look sp ≡ true)
 begins-new look l sp sp' x false b n is lives h = cc
 begins-new look l sp sp' x true true n is lives h = cc
 begins-new look l sp sp' x true false true is lives h = cc
@@ -542,7 +546,7 @@ started-can o past com_id None = tt
 started-can o past com_id (Some opening) = by_verdict (start_verdict (facts o past) (Some opening)) refl
   where
     by_verdict : (v : StartVerdict) → start_verdict (facts o past) (Some opening) ≡ v → CanDo o past (deed_of_start (facts o past) com_id opening v)
-    by_verdict (Refused status) is = tt
+    by_verdict (Refused status rule) is = tt
     by_verdict (Attempted sp (Some failure)) is = tt
     by_verdict (Attempted sp None) is =
         let x = start-new (in_force o past) (live (facts o past)) opening sp (sp_named opening.spid) is in
@@ -555,7 +559,7 @@ either-can o past false x y h g = g
 manager-can : (o : Origin) (past : List Event) (com_id : ℕ) (read : Result Message TokenError) → CanDo o past (to_manager (facts o past) com_id read).deed
 manager-can o past com_id (Ok (call object method args status)) =
     either-can o past (is_method_of_manager properties (uid_of object) (uid_of method)) (says Unchanged (properties_message (values_of args))) _ tt
-    (either-can o past (is_method_of_manager start_session (uid_of object) (uid_of method)) (started (facts o past) com_id (values_of args)) (says Unchanged (refusal_of fail)) (started-can o past com_id (opening_of (values_of args))) tt)
+    (either-can o past (is_method_of_manager start_session (uid_of object) (uid_of method)) (started (facts o past) com_id (values_of args)) (refuses_item (refusal_of fail) NoMethod) (started-can o past com_id (opening_of (values_of args))) tt)
 manager-can o past com_id (Ok (reply results status)) = tt
 manager-can o past com_id (Ok (begin n)) = tt
 manager-can o past com_id (Ok (end n)) = tt

@@ -26,7 +26,7 @@ use Rattle.locking.specs.declared.ranges.Verdict.TheVariants.{Serve, Shadow, Den
 use Rattle.sessions.specs.Attempts.{attempt_failure as failure_of}
 use Rattle.call_shapes.specs.Asks.{uid_of}
 use Rattle.sp_cells.specs.Names.{properties, start_session}
-use Rattle.sessions.specs.Deeds.{Begun, Setting, Unchanged, says}
+use Rattle.sessions.specs.Deeds.{Begun, Setting, Unchanged, says, refuses as refuses_item}
 use Rattle.call_shapes.specs.Statuses.{success, fail}
 use Rattle.sessions.specs.Properties.{properties_message}
 use Rattle.sessions.specs.declared.opening.Opening.{Opening}
@@ -42,38 +42,40 @@ use Rattle.methods.specs.Kinds.{kind_of, byte_table_of}
 use Rattle.methods.specs.Effects.{ask_at, last_row, sp_of_row}
 use Rattle.sp_cells.specs.Numbers.{key_number}
 use Rattle.methods.specs.Erasures.{is_wholly_locked}
-use Rattle.methods.specs.Judgement.{asked, Standing, Judgement, Refuses, Gives, Makes, Attempts, Activates, Reverts, Erases, RevertsSp, erases, reverts_sp, denial, gives, listing, bytes_between, rows_given, to_set, makes, unless_open, does_ask, does, unless_denied, judged}
+use Rattle.methods.specs.Judgement.{asked, Standing, Judgement, Refuses, Gives, Makes, Attempts, Activates, Reverts, Erases, RevertsSp, erases, reverts_sp, denial, gives, listing, bytes_between, rows_given, to_set, makes, unless_open, does_ask, does, unless_denied, judged, Denies}
 use Rattle.call_shapes.specs.declared.ask.Ask.{Ask}
 use Rattle.call_shapes.specs.declared.ask.Ask.TheVariants.{GetCells, GetBytes, SetCells, SetBytes, Authenticate, Activate, Revert, GenKey, RevertSp, Other}
 use Rattle.trusted_cmds.specs.BlockSid.{is_block_sid, block_asked, is_blocked}
 use Rattle.device_data.specs.Discovery.{has_owner}
-use Rattle.history.specs.Events.{Nothing, Wrote, Took, HeldCommand, Event, did, WasReset, BlockedSid}
+use Rattle.history.specs.Events.{Nothing, Wrote, Took, HeldCommand, Event, did, WasReset, BlockedSid, ignores}
 use Rattle.history.specs.Facts.{Facts, session_named, has_open, standing}
-use Rattle.history.specs.Decisions.{not_found, fails, refuses, aborted, fails_queue, on_drive, verdict_on, queued_by, admitted, unqueued_by, is_trusted, is_session_com_id, discovery_com_id, received, while_failed, is_busy, completed_by, completed, resets, is_received}
-use Rattle.history.specs.Tcg.{answers, start_verdict, started_by, started, is_method_of_manager, to_manager, judgement_on, begins_on, ends_on, in_session, is_manager, to_session, framed, sent, unqueued, known, commanded, tcg, command_read, item_in, blocks_sid, send_item, send}
+use Rattle.history.specs.Decisions.{not_found, fails, refuses, aborted, fails_queue, on_drive, verdict_on, queued_by, admitted, unqueued_by, is_trusted, is_session_com_id, discovery_com_id, received, while_failed, is_busy, completed_by, completed, resets, is_received, unreceived}
+use Rattle.history.specs.Tcg.{answers, start_verdict, started_by, started, is_method_of_manager, to_manager, judgement_on, begins_on, ends_on, in_session, is_manager, to_session, framed, sent, unqueued, known, commanded, tcg, command_read, item_in, blocks_sid, send_item, send, unsent}
 use Rattle.methods.specs.Calls.{tried_in, outcome_of}
 use Rattle.history.specs.History.{Act, Accept, Complete, Reset, event_by}
 use Rattle.history.specs.MethodLaws.{IsLookedAt, IsSent, IsCall}
 use Rattle.history.specs.DenialLaws.{Moves, read_queued, write_queued, read_dma, write_dma, IsFree, TransferDenied, MethodDenied, AttemptDenied, StartDenied, IsDenied, DenialLaw}
 use Rattle.history.proofs.MethodProofs.{looked_event, looked_law, sent_law, call_law}
 use Rattle.sp_cells.specs.Resets.{programmatic}
+use Rattle.rules.specs.declared.rule.Rule.TheVariants.{NoCommand, Unreadable, Mixed, BeyondDrive, SidKept, NoMethod, OutsideTable, TooLong, GlobalLocked, NoFrame}
+use Rattle.rules.specs.declared.rule.Rule.{Rule}
 
 -- forward: each of the four is denied for its reason
 
 moved : (f : Facts) (h : RegH2d) (payload : List ℕ) (command : Command) (tag : Option ℕ) (op : Op) (lba count : ℕ) (why : Why) → Moves command tag op lba count → IsFree f tag → on_drive f lba count ≡ true → verdict_on f op lba count ≡ Denied why → (looked_event tcg f h payload command tag).denied ≡ Some why
 moved f h payload c tag op lba count why (read_queued {lba = l} {count = n} {tag = t}) free drive v =
     ap (λ x. (admitted f h t (ReadQueued l n) (is_some x)).denied) free
-    ∙ ap (λ b. (cond b (queued_by h t (ReadQueued l n) (verdict_on f Read l n)) (fails_queue (Some t) not_found h None)).denied) drive
+    ∙ ap (λ b. (cond b (queued_by h t (ReadQueued l n) (verdict_on f Read l n)) (fails_queue (Some t) not_found h None (Some BeyondDrive))).denied) drive
     ∙ ap (λ x. (queued_by h t (ReadQueued l n) x).denied) v
 moved f h payload c tag op lba count why (write_queued {lba = l} {count = n} {tag = t}) free drive v =
     ap (λ x. (admitted f h t (WriteQueued l n) (is_some x)).denied) free
-    ∙ ap (λ b. (cond b (queued_by h t (WriteQueued l n) (verdict_on f Write l n)) (fails_queue (Some t) not_found h None)).denied) drive
+    ∙ ap (λ b. (cond b (queued_by h t (WriteQueued l n) (verdict_on f Write l n)) (fails_queue (Some t) not_found h None (Some BeyondDrive))).denied) drive
     ∙ ap (λ x. (queued_by h t (WriteQueued l n) x).denied) v
 moved f h payload c tag op lba count why (read_dma {lba = l} {count = n}) free drive v =
-    ap (λ b. (cond b (unqueued_by Nothing (verdict_on f Read l n)) (fails not_found None)).denied) drive
+    ap (λ b. (cond b (unqueued_by Nothing (verdict_on f Read l n)) (fails not_found None (Some BeyondDrive))).denied) drive
     ∙ ap (λ x. (unqueued_by Nothing x).denied) v
 moved f h payload c tag op lba count why (write_dma {lba = l} {count = n}) free drive v =
-    ap (λ b. (cond b (unqueued_by (Wrote l payload) (verdict_on f Write l n)) (fails not_found None)).denied) drive
+    ap (λ b. (cond b (unqueued_by (Wrote l payload) (verdict_on f Write l n)) (fails not_found None (Some BeyondDrive))).denied) drive
     ∙ ap (λ x. (unqueued_by (Wrote l payload) x).denied) v
 
 transfer-denied : (f : Facts) (act : Act) (why : Why) → TransferDenied f act why → (event_by f act).denied ≡ Some why
@@ -100,8 +102,8 @@ start-denied f act why d =
     ap (λ (e : Event). e.denied) (sent_law f act d.com_id d.frame d.sent)
     ∙ ap (λ b. (cond b (answers d.com_id d.frame.session (to_manager f d.com_id (message_in d.frame.payload))) (to_session f d.com_id d.frame.session d.frame.payload (session_named f d.com_id d.frame.session))).denied) d.manager
     ∙ ap (λ r. (to_manager f d.com_id r).denied) d.calls
-    ∙ ap (λ b. (cond b (says Unchanged (properties_message (values_of d.args))) (cond (is_method_of_manager start_session o m) (started f d.com_id (values_of d.args)) (says Unchanged (refusal_of fail)))).denied) d.no_properties
-    ∙ ap (λ b. (cond b (started f d.com_id (values_of d.args)) (says Unchanged (refusal_of fail))).denied) d.starts
+    ∙ ap (λ b. (cond b (says Unchanged (properties_message (values_of d.args))) (cond (is_method_of_manager start_session o m) (started f d.com_id (values_of d.args)) (refuses_item (refusal_of fail) NoMethod))).denied) d.no_properties
+    ∙ ap (λ b. (cond b (started f d.com_id (values_of d.args)) (refuses_item (refusal_of fail) NoMethod)).denied) d.starts
     ∙ ap (λ x. (started_by f d.com_id (host_of (values_of d.args)) x).denied) d.shaped
     ∙ ap (λ v. denied_with (Some d.opening) v) d.fails
     ∙ ap (λ y. Some y) (sym d.why_is)
@@ -122,7 +124,8 @@ same-why h = cc
 
 -- the reason in a judgement; what a granted call comes to has none
 abbrev reason : Judgement → Option Why
-reason (Refuses status denied) = denied
+reason (Denies why) = Some why
+reason (Refuses status rule) = None
 reason (Gives results) = None
 reason (Makes setting) = None
 reason (Attempts block authority pin) = None
@@ -136,16 +139,16 @@ clean-if true x y h g = h
 clean-if false x y h g = g
 
 gives-clean : (results : List Tree) → reason (gives results) ≡ None
-gives-clean results = clean-if (is_carried (reply_of results success)) (Gives results) (Refuses 0x11 None) refl refl
+gives-clean results = clean-if (is_carried (reply_of results success)) (Gives results) (Refuses 0x11 TooLong) refl refl
 
 rows-clean : (byte : ℕ → ℕ) (size first last : ℕ) → reason (rows_given byte size first last) ≡ None
 rows-clean byte size first last =
-    clean-if ((size == 0) || (nat_le size last || nat_lt last first)) (Refuses 0x0c None) _ refl
-    (clean-if (nat_lt most_response (last + 1 - first)) (Refuses 0x11 None) (gives (bytes_between byte first last)) refl (gives-clean (bytes_between byte first last)))
+    clean-if ((size == 0) || (nat_le size last || nat_lt last first)) (Refuses 0x0c OutsideTable) _ refl
+    (clean-if (nat_lt most_response (last + 1 - first)) (Refuses 0x11 TooLong) (gives (bytes_between byte first last)) refl (gives-clean (bytes_between byte first last)))
 
-makes-clean : (x : Option Setting) → reason (makes x) ≡ None
-makes-clean None = refl
-makes-clean (Some set) = refl
+makes-clean : (x : Result Setting Rule) → reason (makes x) ≡ None
+makes-clean (Err rule) = refl
+makes-clean (Ok set) = refl
 
 open-clean : (b : Bool) (j : Judgement) → reason j ≡ None → reason (unless_open b j) ≡ None
 open-clean true j h = refl
@@ -164,7 +167,7 @@ done-clean s object (Authenticate a pin) = refl
 done-clean s object Activate = open-clean s.is_open Activates refl
 done-clean s object Revert = open-clean s.is_open (Reverts (sp_of_row object)) refl
 done-clean s object GenKey = open-clean s.is_open (erases (key_number object)) (erases-clean (key_number object))
-done-clean s object (RevertSp keep) = open-clean s.is_open (reverts_sp s.rows keep) (clean-if (keep && is_wholly_locked s.rows) (Refuses 0x3f None) (RevertsSp keep) refl refl)
+done-clean s object (RevertSp keep) = open-clean s.is_open (reverts_sp s.rows keep) (clean-if (keep && is_wholly_locked s.rows) (Refuses 0x3f GlobalLocked) (RevertsSp keep) refl refl)
 done-clean s object Other = refl
 
 does-clean : (s : Standing) (object : Uid) (ask : Ask) → reason (does s object ask) ≡ None
@@ -180,11 +183,11 @@ own-if d true x y h g = h
 own-if d false x y h g = g
 
 own-gives : (d : SidBlock) (results : List Tree) → block-of d (gives results) ≡ d
-own-gives d results = own-if d (is_carried (reply_of results success)) (Gives results) (Refuses 0x11 None) refl refl
+own-gives d results = own-if d (is_carried (reply_of results success)) (Gives results) (Refuses 0x11 TooLong) refl refl
 
-own-makes : (d : SidBlock) (x : Option Setting) → block-of d (makes x) ≡ d
-own-makes d None = refl
-own-makes d (Some set) = refl
+own-makes : (d : SidBlock) (x : Result Setting Rule) → block-of d (makes x) ≡ d
+own-makes d (Err rule) = refl
+own-makes d (Ok set) = refl
 
 own-open : (d : SidBlock) (b : Bool) (j : Judgement) → block-of d j ≡ d → block-of d (unless_open b j) ≡ d
 own-open d true j h = refl
@@ -196,8 +199,8 @@ own-erases d (Some range) = refl
 
 own-rows : (d : SidBlock) (byte : ℕ → ℕ) (size first last : ℕ) → block-of d (rows_given byte size first last) ≡ d
 own-rows d byte size first last =
-    own-if d ((size == 0) || (nat_le size last || nat_lt last first)) (Refuses 0x0c None) _ refl
-    (own-if d (nat_lt most_response (last + 1 - first)) (Refuses 0x11 None) (gives (bytes_between byte first last)) refl (own-gives d (bytes_between byte first last)))
+    own-if d ((size == 0) || (nat_le size last || nat_lt last first)) (Refuses 0x0c OutsideTable) _ refl
+    (own-if d (nat_lt most_response (last + 1 - first)) (Refuses 0x11 TooLong) (gives (bytes_between byte first last)) refl (own-gives d (bytes_between byte first last)))
 
 own-done : (s : Standing) (object : Uid) (ask : Ask) → block-of s.block (does_ask s object ask) ≡ s.block
 own-done s object (GetCells a b) = own-gives s.block (listing s object a b)
@@ -208,7 +211,7 @@ own-done s object (Authenticate a pin) = refl
 own-done s object Activate = own-open s.block s.is_open Activates refl
 own-done s object Revert = own-open s.block s.is_open (Reverts (sp_of_row object)) refl
 own-done s object GenKey = own-open s.block s.is_open (erases (key_number object)) (own-erases s.block (key_number object))
-own-done s object (RevertSp keep) = own-open s.block s.is_open (reverts_sp s.rows keep) (own-if s.block (keep && is_wholly_locked s.rows) (Refuses 0x3f None) (RevertsSp keep) refl refl)
+own-done s object (RevertSp keep) = own-open s.block s.is_open (reverts_sp s.rows keep) (own-if s.block (keep && is_wholly_locked s.rows) (Refuses 0x3f GlobalLocked) (RevertsSp keep) refl refl)
 own-done s object Other = refl
 
 own-denied : (s : Standing) (d : Option Why) (j : Judgement) → block-of s.block j ≡ s.block → block-of s.block (unless_denied d j) ≡ s.block
@@ -236,7 +239,8 @@ attempt-is f act why session object method args c authority pin j (Some failure)
     inr (inr (inl (record { session = session; object = object; method = method; args = args; called = c; authority = authority; pin = pin; attempts = j; failure = failure; fails = is; why_is = same-why (sym h) })))
 
 judged-is : (f : Facts) (act : Act) (why : Why) (session : Begun) (object method : List ℕ) (args : Trees) → IsCall f act session object method args → (j : Judgement) → judgement_on f session (uid_of object) (uid_of method) args ≡ j → (outcome_of f.rows session.sp j).denied ≡ Some why → IsDenied f act why
-judged-is f act why session object method args c (Refuses status denied) is h =
+judged-is f act why session object method args c (Refuses status rule) is h = absurd (nothing h)
+judged-is f act why session object method args c (Denies reason_why) is h =
     refused-is f act why session object method args c (asked f.config.profile session.sp (uid_of object) (uid_of method) args) refl (ap reason is ∙ h)
 judged-is f act why session object method args c (Attempts block authority pin) is h =
     let own : block ≡ f.block = ap (block-of f.block) (sym is) ∙ own-block (standing f session) (uid_of object) (uid_of method) (asked f.config.profile session.sp (uid_of object) (uid_of method) args) in
@@ -271,13 +275,13 @@ session-is f act why com_id frame sent no_manager session named (Err e) is h = a
 -- the session manager
 called-is : (f : Facts) (act : Act) (why : Why) (com_id : ℕ) (frame : Frame) → IsSent f act com_id frame → is_manager frame.session ≡ true → (object method : List ℕ) (args : Trees) (status : List ℕ) → message_in frame.payload ≡ Ok (call object method args status)
     → (p q : Bool) → is_method_of_manager properties (uid_of object) (uid_of method) ≡ p → is_method_of_manager start_session (uid_of object) (uid_of method) ≡ q
-    → (cond p (says Unchanged (properties_message (values_of args))) (cond q (started f com_id (values_of args)) (says Unchanged (refusal_of fail)))).denied ≡ Some why → IsDenied f act why
+    → (cond p (says Unchanged (properties_message (values_of args))) (cond q (started f com_id (values_of args)) (refuses_item (refusal_of fail) NoMethod))).denied ≡ Some why → IsDenied f act why
 called-is f act why com_id frame sent manager object method args status calls true q is_p is_q h = absurd (nothing h)
 called-is f act why com_id frame sent manager object method args status calls false false is_p is_q h = absurd (nothing h)
 called-is f act why com_id frame sent manager object method args status calls false true is_p is_q h = by_opening (opening_of (values_of args)) refl h
   where
     by_verdict : (c : Opening) → opening_of (values_of args) ≡ Some c → (v : StartVerdict) → start_verdict f (Some c) ≡ v → denied_with (Some c) v ≡ Some why → IsDenied f act why
-    by_verdict c shaped (Refused s) is g = absurd (nothing g)
+    by_verdict c shaped (Refused s r) is g = absurd (nothing g)
     by_verdict c shaped (Attempted sp None) is g = absurd (nothing g)
     by_verdict c shaped (Attempted sp (Some failure)) is g = inr (inr (inr (record {
       com_id = com_id;
@@ -326,7 +330,7 @@ framed-is f act why com_id frame sent h = by_manager (is_manager frame.session) 
 send-is : (f : Facts) (act : Act) (why : Why) (protocol com_id blocks : ℕ) (dma : Bool) (looked : IsLookedAt f act (Send protocol com_id blocks dma) None) → (send_item f protocol com_id blocks looked.payload).denied ≡ Some why → IsDenied f act why
 send-is f act why protocol com_id blocks dma looked h = by_taken (is_trusted protocol blocks && is_session_com_id com_id && not (is_some (f.waiting com_id))) refl h
   where
-    by_id : (is_trusted protocol blocks && is_session_com_id com_id && not (is_some (f.waiting com_id))) ≡ true → (frame : Frame) → frame_in looked.payload ≡ Ok frame → (b : Bool) → (frame.com_id == com_id) ≡ b → (cond b (framed f com_id frame) (did Nothing)).denied ≡ Some why → IsDenied f act why
+    by_id : (is_trusted protocol blocks && is_session_com_id com_id && not (is_some (f.waiting com_id))) ≡ true → (frame : Frame) → frame_in looked.payload ≡ Ok frame → (b : Bool) → (frame.com_id == com_id) ≡ b → (cond b (framed f com_id frame) (ignores NoFrame)).denied ≡ Some why → IsDenied f act why
     by_id taken frame is false same g = absurd (nothing g)
     by_id taken frame is true same g = framed-is f act why com_id frame (record { protocol = protocol; blocks = blocks; dma = dma; looked = looked; taken = taken; framed = is; addressed = same }) g
 
@@ -334,7 +338,7 @@ send-is f act why protocol com_id blocks dma looked h = by_taken (is_trusted pro
     by_frame taken (Err e) is g = absurd (nothing g)
     by_frame taken (Ok frame) is g = by_id taken frame is (frame.com_id == com_id) refl g
 
-    by_taken : (b : Bool) → (is_trusted protocol blocks && is_session_com_id com_id && not (is_some (f.waiting com_id))) ≡ b → (cond b (sent f com_id (frame_in looked.payload)) refuses).denied ≡ Some why → IsDenied f act why
+    by_taken : (b : Bool) → (is_trusted protocol blocks && is_session_com_id com_id && not (is_some (f.waiting com_id))) ≡ b → (cond b (sent f com_id (frame_in looked.payload)) (refuses (unsent protocol com_id blocks))).denied ≡ Some why → IsDenied f act why
     by_taken false is g = absurd (nothing g)
     by_taken true is g = by_frame is (frame_in looked.payload) refl g
 
@@ -354,8 +358,8 @@ moves-is f act why command tag looked op lba count moves free make otherwise no_
     by_drive true is g = by_verdict is (verdict_on f op lba count) refl g
 
 queued-is : (f : Facts) (act : Act) (why : Why) (command : Command) (tag : ℕ) (looked : IsLookedAt f act command (Some tag)) → f.held tag ≡ None → (admitted f (h2d_at looked.fis) tag command false).denied ≡ Some why → IsDenied f act why
-queued-is f act why (ReadQueued l n) tag looked free h = moves-is f act why (ReadQueued l n) (Some tag) looked Read l n read_queued free (queued_by (h2d_at looked.fis) tag (ReadQueued l n)) (fails_queue (Some tag) not_found (h2d_at looked.fis) None) refl refl refl (λ w. refl) h
-queued-is f act why (WriteQueued l n) tag looked free h = moves-is f act why (WriteQueued l n) (Some tag) looked Write l n write_queued free (queued_by (h2d_at looked.fis) tag (WriteQueued l n)) (fails_queue (Some tag) not_found (h2d_at looked.fis) None) refl refl refl (λ w. refl) h
+queued-is f act why (ReadQueued l n) tag looked free h = moves-is f act why (ReadQueued l n) (Some tag) looked Read l n read_queued free (queued_by (h2d_at looked.fis) tag (ReadQueued l n)) (fails_queue (Some tag) not_found (h2d_at looked.fis) None (Some BeyondDrive)) refl refl refl (λ w. refl) h
+queued-is f act why (WriteQueued l n) tag looked free h = moves-is f act why (WriteQueued l n) (Some tag) looked Write l n write_queued free (queued_by (h2d_at looked.fis) tag (WriteQueued l n)) (fails_queue (Some tag) not_found (h2d_at looked.fis) None (Some BeyondDrive)) refl refl refl (λ w. refl) h
 queued-is f act why (ReadDma l n) tag looked free h = absurd (nothing h)
 queued-is f act why (WriteDma l n) tag looked free h = absurd (nothing h)
 queued-is f act why (Send p c b d) tag looked free h = absurd (nothing h)
@@ -379,19 +383,19 @@ none-if true x y h g = h
 none-if false x y h g = g
 
 unqueued-is : (f : Facts) (act : Act) (why : Why) (command : Command) (looked : IsLookedAt f act command None) → (unqueued f looked.payload command).denied ≡ Some why → IsDenied f act why
-unqueued-is f act why (ReadDma l n) looked h = moves-is f act why (ReadDma l n) None looked Read l n read_dma tt (unqueued_by Nothing) (fails not_found None) refl refl refl (λ w. refl) h
-unqueued-is f act why (WriteDma l n) looked h = moves-is f act why (WriteDma l n) None looked Write l n write_dma tt (unqueued_by (Wrote l looked.payload)) (fails not_found None) refl refl refl (λ w. refl) h
+unqueued-is f act why (ReadDma l n) looked h = moves-is f act why (ReadDma l n) None looked Read l n read_dma tt (unqueued_by Nothing) (fails not_found None (Some BeyondDrive)) refl refl refl (λ w. refl) h
+unqueued-is f act why (WriteDma l n) looked h = moves-is f act why (WriteDma l n) None looked Write l n write_dma tt (unqueued_by (Wrote l looked.payload)) (fails not_found None (Some BeyondDrive)) refl refl refl (λ w. refl) h
 unqueued-is f act why (Send p c b d) looked h = by_reset (resets f.rows (Send p c b d)) h
   where
     by_block : (x : Bool) → (cond x (blocks_sid f looked.payload) (send_item f p c b looked.payload)).denied ≡ Some why → IsDenied f act why
-    by_block true g = absurd (nothing (sym (none-if (has_owner f.rows || is_blocked f.block) refuses (did (BlockedSid (block_asked looked.payload))) refl refl) ∙ g))
+    by_block true g = absurd (nothing (sym (none-if (has_owner f.rows || is_blocked f.block) (refuses SidKept) (did (BlockedSid (block_asked looked.payload))) refl refl) ∙ g))
     by_block false g = send-is f act why p c b d looked g
 
     by_reset : (x : Bool) → (cond x (did (WasReset programmatic)) (send f p c b looked.payload)).denied ≡ Some why → IsDenied f act why
     by_reset true g = absurd (nothing g)
     by_reset false g = by_block (is_block_sid f.config.profile (Send p c b true)) g
 unqueued-is f act why (Receive p c b d) looked h =
-    absurd (nothing (sym (none-if (is_received f p c b) (received c b (f.waiting c)) refuses (received-none c b (f.waiting c)) refl) ∙ h))
+    absurd (nothing (sym (none-if (is_received f p c b) (received c b (f.waiting c)) (refuses (unreceived p b)) (received-none c b (f.waiting c)) refl) ∙ h))
 unqueued-is f act why (ReadQueued l n) looked h = absurd (nothing h)
 unqueued-is f act why (WriteQueued l n) looked h = absurd (nothing h)
 unqueued-is f act why Identify looked h = absurd (nothing h)
@@ -420,25 +424,25 @@ accept-is f fis payload why h = by_kind (slice_index fis 0 == h2d_type) refl h
     c = h2d_at fis
 
     by_reading : (slice_index fis 0 == h2d_type) ≡ true → c.is_command ≡ true → f.failure ≡ None → (is_busy f && not (is_queued c.command)) ≡ false → (r : Result (Command × Option ℕ) CommandError) → command_read f.config c ≡ r → (known f c payload r).denied ≡ Some why → IsDenied f (Accept fis payload) why
-    by_reading kind commands mended unmixed (Err e) is g = absurd (nothing (sym (none-if (is_queued c.command) (fails_queue (Some (tag_of c)) aborted c None) refuses refl refl) ∙ g))
+    by_reading kind commands mended unmixed (Err e) is g = absurd (nothing (sym (none-if (is_queued c.command) (fails_queue (Some (tag_of c)) aborted c None (Some (Unreadable e))) (refuses (Unreadable e)) refl refl) ∙ g))
     by_reading kind commands mended unmixed (Ok (command, Some tag)) is g =
         looked-is f (Accept fis payload) why command (Some tag) (record { fis = fis; payload = payload; accepts = refl; kind = eqb-true (slice_index fis 0) h2d_type kind; commands = commands; mended = mended; unmixed = unmixed; reads = is }) g
     by_reading kind commands mended unmixed (Ok (command, None)) is g =
         looked-is f (Accept fis payload) why command None (record { fis = fis; payload = payload; accepts = refl; kind = eqb-true (slice_index fis 0) h2d_type kind; commands = commands; mended = mended; unmixed = unmixed; reads = is }) g
 
-    by_mix : (slice_index fis 0 == h2d_type) ≡ true → c.is_command ≡ true → f.failure ≡ None → (b : Bool) → (is_busy f && not (is_queued c.command)) ≡ b → (cond b (fails_queue None aborted c None) (known f c payload (command_read f.config c))).denied ≡ Some why → IsDenied f (Accept fis payload) why
+    by_mix : (slice_index fis 0 == h2d_type) ≡ true → c.is_command ≡ true → f.failure ≡ None → (b : Bool) → (is_busy f && not (is_queued c.command)) ≡ b → (cond b (fails_queue None aborted c None (Some Mixed)) (known f c payload (command_read f.config c))).denied ≡ Some why → IsDenied f (Accept fis payload) why
     by_mix kind commands mended true is g = absurd (nothing g)
     by_mix kind commands mended false is g = by_reading kind commands mended is (command_read f.config c) refl g
 
-    by_failure : (slice_index fis 0 == h2d_type) ≡ true → c.is_command ≡ true → (x : _) → f.failure ≡ x → (cond (is_some x) (while_failed (command_read f.config c)) (cond (is_busy f && not (is_queued c.command)) (fails_queue None aborted c None) (known f c payload (command_read f.config c)))).denied ≡ Some why → IsDenied f (Accept fis payload) why
+    by_failure : (slice_index fis 0 == h2d_type) ≡ true → c.is_command ≡ true → (x : _) → f.failure ≡ x → (cond (is_some x) (while_failed (command_read f.config c)) (cond (is_busy f && not (is_queued c.command)) (fails_queue None aborted c None (Some Mixed)) (known f c payload (command_read f.config c)))).denied ≡ Some why → IsDenied f (Accept fis payload) why
     by_failure kind commands (Some x) is g = absurd (nothing (sym (while_failed-none (command_read f.config c)) ∙ g))
     by_failure kind commands None is g = by_mix kind commands is (is_busy f && not (is_queued c.command)) refl g
 
-    by_command : (slice_index fis 0 == h2d_type) ≡ true → (b : Bool) → c.is_command ≡ b → (cond (not b) refuses (cond (is_some f.failure) (while_failed (command_read f.config c)) (cond (is_busy f && not (is_queued c.command)) (fails_queue None aborted c None) (known f c payload (command_read f.config c))))).denied ≡ Some why → IsDenied f (Accept fis payload) why
+    by_command : (slice_index fis 0 == h2d_type) ≡ true → (b : Bool) → c.is_command ≡ b → (cond (not b) (refuses NoCommand) (cond (is_some f.failure) (while_failed (command_read f.config c)) (cond (is_busy f && not (is_queued c.command)) (fails_queue None aborted c None (Some Mixed)) (known f c payload (command_read f.config c))))).denied ≡ Some why → IsDenied f (Accept fis payload) why
     by_command kind false is g = absurd (nothing g)
     by_command kind true is g = by_failure kind is f.failure refl g
 
-    by_kind : (b : Bool) → (slice_index fis 0 == h2d_type) ≡ b → (cond b (commanded f c payload) refuses).denied ≡ Some why → IsDenied f (Accept fis payload) why
+    by_kind : (b : Bool) → (slice_index fis 0 == h2d_type) ≡ b → (cond b (commanded f c payload) (refuses NoCommand)).denied ≡ Some why → IsDenied f (Accept fis payload) why
     by_kind false is g = absurd (nothing g)
     by_kind true is g = by_command is c.is_command refl g
 

@@ -19,7 +19,7 @@ use Rattle.device_data.specs.declared.log_page.Failure.{Failure}
 use Rattle.history.specs.Events.{HeldCommand, Held, Completed, CompletedWrite, QueueFailed, QueueMended, Deed, Nothing, InSession, OfQueue, Wrote, Took, BlockedSid, WasReset, Event, did}
 use Rattle.history.specs.Readers.{holding, held}
 use Rattle.history.specs.Facts.{Facts, facts}
-use Rattle.history.specs.Decisions.{not_found, aborted, fails, refuses, fails_queue, on_drive, ranges_in_force, verdict_on, queued_by, admitted, unqueued_by, is_trusted, is_session_com_id, discovery_com_id, received, while_failed, is_busy, completed_by, completed, resets, unqueued_of, known_of, commanded_of, is_received}
+use Rattle.history.specs.Decisions.{not_found, aborted, fails, refuses, fails_queue, on_drive, ranges_in_force, verdict_on, queued_by, admitted, unqueued_by, is_trusted, is_session_com_id, discovery_com_id, received, while_failed, is_busy, completed_by, completed, resets, unqueued_of, known_of, commanded_of, is_received, unreceived}
 use Rattle.history.specs.Items.{Items}
 use Rattle.history.specs.Quiet.{IsQuiet, ReadsTags}
 use Rattle.history.specs.Answers.{is_holding}
@@ -32,6 +32,7 @@ use Rattle.history.proofs.Words.{latest-here, latest-skip}
 use Rattle.history.proofs.QuietProofs.{quiet-none}
 use Rattle.history.proofs.TransferProofs.{verdict_law}
 use Rattle.sp_cells.specs.Resets.{programmatic}
+use Rattle.rules.specs.declared.rule.Rule.TheVariants.{NoCommand, Unreadable, Mixed, BeyondDrive}
 
 clash : {b : Bool} → b ≡ true → b ≡ false → ⊥
 clash h g = absurd (true-false (sym h ∙ g))
@@ -79,12 +80,12 @@ received-none com_id blocks None = refl
 received-none com_id blocks (Some r) = none-if (nat_le (length r) (sector_size * blocks)) (did (Took com_id)) (did Nothing) refl refl
 
 unqueued-none : (items : Items) (still : IsQuiet items) (f : Facts) (payload : List ℕ) (c : Command) → is_holding (unqueued_of items f payload c).deed ≡ false
-unqueued-none items still f payload (ReadDma l n) = none-if (on_drive f l n) (unqueued_by Nothing (verdict_on f Read l n)) (fails not_found None) (unqueued_by-none Nothing (verdict_on f Read l n) refl) refl
-unqueued-none items still f payload (WriteDma l n) = none-if (on_drive f l n) (unqueued_by (Wrote l payload) (verdict_on f Write l n)) (fails not_found None) (unqueued_by-none (Wrote l payload) (verdict_on f Write l n) refl) refl
+unqueued-none items still f payload (ReadDma l n) = none-if (on_drive f l n) (unqueued_by Nothing (verdict_on f Read l n)) (fails not_found None (Some BeyondDrive)) (unqueued_by-none Nothing (verdict_on f Read l n) refl) refl
+unqueued-none items still f payload (WriteDma l n) = none-if (on_drive f l n) (unqueued_by (Wrote l payload) (verdict_on f Write l n)) (fails not_found None (Some BeyondDrive)) (unqueued_by-none (Wrote l payload) (verdict_on f Write l n) refl) refl
 unqueued-none items still f payload (Send p c b d) =
     none-if (resets f.rows (Send p c b d)) (did (WasReset programmatic)) (items.sends f p c b payload) refl
     (quiet-none (items.sends f p c b payload).deed (still f p c b payload))
-unqueued-none items still f payload (Receive p c b d) = none-if (is_received f p c b) (received c b (f.waiting c)) refuses (received-none c b (f.waiting c)) refl
+unqueued-none items still f payload (Receive p c b d) = none-if (is_received f p c b) (received c b (f.waiting c)) (refuses (unreceived p b)) (received-none c b (f.waiting c)) refl
 unqueued-none items still f payload _ = refl
 
 -- an act that holds a command
@@ -105,7 +106,7 @@ not-held : {d : Deed} {tag : ℕ} {h : HeldCommand} → is_holding d ≡ false �
 not-held g is = clash (ap is_holding is) g
 
 moved-is : (items : Items) (f : Facts) (act : Act) (tag t : ℕ) (h : HeldCommand) (c : Command) (op : Op) (lba count : ℕ) (r : RegH2d) → IsLookedAtBy items f act c (Some t) → Moves c (Some t) op lba count → (b : Bool) (v : Verdict) → on_drive f lba count ≡ b → verdict_on f op lba count ≡ v
-    → (cond b (queued_by r t c v) (fails_queue (Some t) not_found r None)).deed ≡ OfQueue (Held tag h) → HeldBy items f act tag h
+    → (cond b (queued_by r t c v) (fails_queue (Some t) not_found r None (Some BeyondDrive))).deed ≡ OfQueue (Held tag h) → HeldBy items f act tag h
 moved-is items f act tag t h c op lba count r looked moves false v drive is g = absurd (not-held refl g)
 moved-is items f act tag t h c op lba count r looked moves true (Denied why) drive is g = absurd (not-held refl g)
 moved-is items f act tag t h c op lba count r looked moves true Serve drive is g =
@@ -138,24 +139,24 @@ accept-is items still f fis payload tag h g = by_kind (slice_index fis 0 == h2d_
     c = h2d_at fis
 
     by_reading : (slice_index fis 0 == h2d_type) ≡ true → c.is_command ≡ true → f.failure ≡ None → (is_busy f && not (is_queued c.command)) ≡ false → (r : Result (Command × Option ℕ) CommandError) → items.reads f.config c ≡ r → (known_of items f c payload r).deed ≡ OfQueue (Held tag h) → HeldBy items f (Accept fis payload) tag h
-    by_reading kind commands mended unmixed (Err e) is k = absurd (not-held (none-if (is_queued c.command) (fails_queue (Some (tag_of c)) aborted c None) refuses refl refl) k)
+    by_reading kind commands mended unmixed (Err e) is k = absurd (not-held (none-if (is_queued c.command) (fails_queue (Some (tag_of c)) aborted c None (Some (Unreadable e))) (refuses (Unreadable e)) refl refl) k)
     by_reading kind commands mended unmixed (Ok (command, None)) is k = absurd (not-held (unqueued-none items still f payload command) k)
     by_reading kind commands mended unmixed (Ok (command, Some t)) is k =
         admitted-is items f (Accept fis payload) tag t h command (record { fis = fis; payload = payload; accepts = refl; kind = eqb-true (slice_index fis 0) h2d_type kind; commands = commands; mended = mended; unmixed = unmixed; reads = is }) (is_some (f.held t)) k
 
-    by_mix : (slice_index fis 0 == h2d_type) ≡ true → c.is_command ≡ true → f.failure ≡ None → (b : Bool) → (is_busy f && not (is_queued c.command)) ≡ b → (cond b (fails_queue None aborted c None) (known_of items f c payload (items.reads f.config c))).deed ≡ OfQueue (Held tag h) → HeldBy items f (Accept fis payload) tag h
+    by_mix : (slice_index fis 0 == h2d_type) ≡ true → c.is_command ≡ true → f.failure ≡ None → (b : Bool) → (is_busy f && not (is_queued c.command)) ≡ b → (cond b (fails_queue None aborted c None (Some Mixed)) (known_of items f c payload (items.reads f.config c))).deed ≡ OfQueue (Held tag h) → HeldBy items f (Accept fis payload) tag h
     by_mix kind commands mended true is k = absurd (not-held refl k)
     by_mix kind commands mended false is k = by_reading kind commands mended is (items.reads f.config c) refl k
 
-    by_failure : (slice_index fis 0 == h2d_type) ≡ true → c.is_command ≡ true → (x : Option Failure) → f.failure ≡ x → (cond (is_some x) (while_failed (items.reads f.config c)) (cond (is_busy f && not (is_queued c.command)) (fails_queue None aborted c None) (known_of items f c payload (items.reads f.config c)))).deed ≡ OfQueue (Held tag h) → HeldBy items f (Accept fis payload) tag h
+    by_failure : (slice_index fis 0 == h2d_type) ≡ true → c.is_command ≡ true → (x : Option Failure) → f.failure ≡ x → (cond (is_some x) (while_failed (items.reads f.config c)) (cond (is_busy f && not (is_queued c.command)) (fails_queue None aborted c None (Some Mixed)) (known_of items f c payload (items.reads f.config c)))).deed ≡ OfQueue (Held tag h) → HeldBy items f (Accept fis payload) tag h
     by_failure kind commands (Some x) is k = absurd (not-held (while_failed-none (items.reads f.config c)) k)
     by_failure kind commands None is k = by_mix kind commands is (is_busy f && not (is_queued c.command)) refl k
 
-    by_command : (slice_index fis 0 == h2d_type) ≡ true → (b : Bool) → c.is_command ≡ b → (cond (not b) refuses (cond (is_some f.failure) (while_failed (items.reads f.config c)) (cond (is_busy f && not (is_queued c.command)) (fails_queue None aborted c None) (known_of items f c payload (items.reads f.config c))))).deed ≡ OfQueue (Held tag h) → HeldBy items f (Accept fis payload) tag h
+    by_command : (slice_index fis 0 == h2d_type) ≡ true → (b : Bool) → c.is_command ≡ b → (cond (not b) (refuses NoCommand) (cond (is_some f.failure) (while_failed (items.reads f.config c)) (cond (is_busy f && not (is_queued c.command)) (fails_queue None aborted c None (Some Mixed)) (known_of items f c payload (items.reads f.config c))))).deed ≡ OfQueue (Held tag h) → HeldBy items f (Accept fis payload) tag h
     by_command kind false is k = absurd (not-held refl k)
     by_command kind true is k = by_failure kind is f.failure refl k
 
-    by_kind : (b : Bool) → (slice_index fis 0 == h2d_type) ≡ b → (cond b (commanded_of items f c payload) refuses).deed ≡ OfQueue (Held tag h) → HeldBy items f (Accept fis payload) tag h
+    by_kind : (b : Bool) → (slice_index fis 0 == h2d_type) ≡ b → (cond b (commanded_of items f c payload) (refuses NoCommand)).deed ≡ OfQueue (Held tag h) → HeldBy items f (Accept fis payload) tag h
     by_kind false is k = absurd (not-held refl k)
     by_kind true is k = by_command is c.is_command refl k
 

@@ -25,10 +25,11 @@ use Rattle.trusted_cmds.specs.BlockSid.{is_block_sid, block_asked, is_blocked}
 use Rattle.device_data.specs.Discovery.{has_owner}
 use Rattle.history.specs.Events.{Response, HeldCommand, Deed, Nothing, InSession, Wrote, Event, or_else, WasReset, did, BlockedSid}
 use Rattle.history.specs.Facts.{Facts, is_named, if_named, session_named}
-use Rattle.history.specs.Decisions.{aborted, not_found, fails, refuses, fails_queue, on_drive, verdict_on, queued_by, queued_transfer, admitted, unqueued_by, unqueued_transfer, is_trusted, is_session_com_id, discovery_com_id, received, while_failed, is_busy, completed_by, completed, resets, is_received}
-use Rattle.history.specs.Tcg.{answers, to_manager, in_session, is_manager, to_session, framed, sent, unqueued, known, commanded, command_read, item_in, blocks_sid}
+use Rattle.history.specs.Decisions.{aborted, not_found, fails, refuses, fails_queue, on_drive, verdict_on, queued_by, queued_transfer, admitted, unqueued_by, unqueued_transfer, is_trusted, is_session_com_id, discovery_com_id, received, while_failed, is_busy, completed_by, completed, resets, is_received, unreceived}
+use Rattle.history.specs.Tcg.{answers, to_manager, in_session, is_manager, to_session, framed, sent, unqueued, known, commanded, command_read, item_in, blocks_sid, unsent}
 use Rattle.history.specs.History.{Act, Accept, Complete, Reset, event_by}
 use Rattle.sp_cells.specs.Resets.{programmatic}
+use Rattle.rules.specs.declared.rule.Rule.TheVariants.{NoCommand, Unreadable, Mixed, BeyondDrive, SidKept}
 
 pub record OfManager (f : Facts) (deed : SessionDeed) : Type 0 where
   pub com_id : ℕ
@@ -108,7 +109,7 @@ unqueued_by-comes f d Serve h = no_item h
 unqueued_by-comes f d Shadow h = no_item h
 
 transfer-comes : (f : Facts) (d : Deed) (op : Op) (lba count : ℕ) → is_item d ≡ false → Comes f (unqueued_transfer f d op lba count)
-transfer-comes f d op lba count h = either f (on_drive f lba count) _ (fails not_found None) (unqueued_by-comes f d (verdict_on f op lba count) h) (no_item refl)
+transfer-comes f d op lba count h = either f (on_drive f lba count) _ (fails not_found None (Some BeyondDrive)) (unqueued_by-comes f d (verdict_on f op lba count) h) (no_item refl)
 
 unqueued-comes : (f : Facts) (payload : List ℕ) (c : Command) → Comes f (unqueued f payload c)
 unqueued-comes f payload (ReadDma lba count) = transfer-comes f Nothing Read lba count refl
@@ -116,9 +117,9 @@ unqueued-comes f payload (WriteDma lba count) = transfer-comes f (Wrote lba payl
 unqueued-comes f payload (Send protocol com_id blocks dma) =
     either f (resets f.rows (Send protocol com_id blocks dma)) (did (WasReset programmatic)) _ (no_item refl)
     (either f (is_block_sid f.config.profile (Send protocol com_id blocks true)) (blocks_sid f payload) _
-    (either f (has_owner f.rows || is_blocked f.block) refuses (did (BlockedSid (block_asked payload))) (no_item refl) (no_item refl))
-    (either f (is_trusted protocol blocks && is_session_com_id com_id && not (is_some (f.waiting com_id))) _ refuses (sent-comes f com_id (frame_in payload)) (no_item refl)))
-unqueued-comes f payload (Receive protocol com_id blocks dma) = either f (is_received f protocol com_id blocks) _ refuses (received-comes f com_id blocks (f.waiting com_id)) (no_item refl)
+    (either f (has_owner f.rows || is_blocked f.block) (refuses SidKept) (did (BlockedSid (block_asked payload))) (no_item refl) (no_item refl))
+    (either f (is_trusted protocol blocks && is_session_com_id com_id && not (is_some (f.waiting com_id))) _ (refuses (unsent protocol com_id blocks)) (sent-comes f com_id (frame_in payload)) (no_item refl)))
+unqueued-comes f payload (Receive protocol com_id blocks dma) = either f (is_received f protocol com_id blocks) _ (refuses (unreceived protocol blocks)) (received-comes f com_id blocks (f.waiting com_id)) (no_item refl)
 unqueued-comes f payload _ = no_item refl
 
 queued_by-comes : (f : Facts) (h : RegH2d) (tag : ℕ) (c : Command) (v : Verdict) → Comes f (queued_by h tag c v)
@@ -127,7 +128,7 @@ queued_by-comes f h tag c Serve = no_item refl
 queued_by-comes f h tag c Shadow = no_item refl
 
 queued-comes : (f : Facts) (h : RegH2d) (tag : ℕ) (c : Command) (op : Op) (lba count : ℕ) → Comes f (queued_transfer f h tag c op lba count)
-queued-comes f h tag c op lba count = either f (on_drive f lba count) _ (fails_queue (Some tag) not_found h None) (queued_by-comes f h tag c (verdict_on f op lba count)) (no_item refl)
+queued-comes f h tag c op lba count = either f (on_drive f lba count) _ (fails_queue (Some tag) not_found h None (Some BeyondDrive)) (queued_by-comes f h tag c (verdict_on f op lba count)) (no_item refl)
 
 admitted-comes : (f : Facts) (h : RegH2d) (tag : ℕ) (c : Command) (b : Bool) → Comes f (admitted f h tag c b)
 admitted-comes f h tag c true = no_item refl
@@ -136,7 +137,7 @@ admitted-comes f h tag (WriteQueued lba count) false = queued-comes f h tag (Wri
 admitted-comes f h tag _ false = no_item refl
 
 known-comes : (f : Facts) (h : RegH2d) (payload : List ℕ) (r : Result (Command × Option ℕ) CommandError) → Comes f (known f h payload r)
-known-comes f h payload (Err e) = either f (is_queued h.command) (fails_queue (Some (tag_of h)) aborted h None) refuses (no_item refl) (no_item refl)
+known-comes f h payload (Err e) = either f (is_queued h.command) (fails_queue (Some (tag_of h)) aborted h None (Some (Unreadable e))) (refuses (Unreadable e)) (no_item refl) (no_item refl)
 known-comes f h payload (Ok (c, Some tag)) = admitted-comes f h tag c (is_some (f.held tag))
 known-comes f h payload (Ok (c, None)) = unqueued-comes f payload c
 
@@ -146,9 +147,9 @@ while_failed-comes f _ = no_item refl
 
 commanded-comes : (f : Facts) (h : RegH2d) (payload : List ℕ) → Comes f (commanded f h payload)
 commanded-comes f h payload =
-    either f (not h.is_command) refuses _ (no_item refl)
+    either f (not h.is_command) (refuses NoCommand) _ (no_item refl)
     (either f (is_some f.failure) (while_failed (command_read f.config h)) _ (while_failed-comes f (command_read f.config h))
-    (either f (is_busy f && not (is_queued h.command)) (fails_queue None aborted h None) (known f h payload (command_read f.config h)) (no_item refl) (known-comes f h payload (command_read f.config h))))
+    (either f (is_busy f && not (is_queued h.command)) (fails_queue None aborted h None (Some Mixed)) (known f h payload (command_read f.config h)) (no_item refl) (known-comes f h payload (command_read f.config h))))
 
 completed_by-comes : (f : Facts) (tag : ℕ) (payload : List ℕ) (c : Command) → Comes f (completed_by tag payload c)
 completed_by-comes f tag payload (WriteQueued lba count) = no_item refl
@@ -159,7 +160,7 @@ completed-comes f tag payload None = no_item refl
 completed-comes f tag payload (Some h) = completed_by-comes f tag payload h.command
 
 event-comes : (f : Facts) (act : Act) → Comes f (event_by f act)
-event-comes f (Accept fis payload) = either f (slice_index fis 0 == h2d_type) (commanded f (h2d_at fis) payload) refuses (commanded-comes f (h2d_at fis) payload) (no_item refl)
+event-comes f (Accept fis payload) = either f (slice_index fis 0 == h2d_type) (commanded f (h2d_at fis) payload) (refuses NoCommand) (commanded-comes f (h2d_at fis) payload) (no_item refl)
 event-comes f (Complete tag payload) = completed-comes f tag payload (f.held tag)
 event-comes f (Reset kind) = no_item refl
 

@@ -23,7 +23,7 @@ use Rattle.sessions.specs.Attempts.{attempt_failure as failure_of, credential}
 use Rattle.sessions.specs.Answers.{rows_in_force, up}
 use Rattle.sessions.specs.Gains.{first_held}
 use Rattle.sessions.specs.Live.{Holder, Live, session_at, lives_on, AreNumbered}
-use Rattle.sessions.specs.Starts.{opening_of, sp_named, is_in_use, is_full, opening_verdict_on, verdict, host_of, reply_to, denied_with, stored_by, stored_with, begun_by, begun_with, next_by}
+use Rattle.sessions.specs.Starts.{opening_of, sp_named, is_in_use, is_full, opening_verdict_on, verdict, host_of, reply_to, denied_with, rule_of, stored_by, stored_with, begun_by, begun_with, next_by}
 use Rattle.history.specs.Opening.{Origin}
 use Rattle.shadow_mbr.specs.Erasure.{no_sectors}
 use Rattle.sessions.specs.Deeds.{Begun, erased_by}
@@ -37,6 +37,7 @@ use Rattle.history.specs.KeptCalls.{StartLaw}
 use Rattle.history.proofs.Words.{sp-same}
 use Rattle.history.proofs.KeptStoreReads.{store_read_law}
 use Rattle.history.proofs.KeptSessionsNumbers.{Hits, split, numbered-miss, numbered-hit, none-apart, kept-none, Kept, kept-some}
+use Rattle.rules.specs.declared.rule.Rule.TheVariants.{NotInUse, SpBusy, NoNumber}
 
 -- Whether a session of an SP lives.
 
@@ -75,7 +76,7 @@ kept-lives past l sp k n h is on = elim (split (session_on past) n) [
         let its : hit.sp ≡ sp = sym (k.on hit.sp hit.session hit.lives) ∙ sym kept.keeps.sp ∙ ap (λ (g : Holder). g.sp) same ∙ on in
         ap (λ x. is_some (session_on past x)) (sym its) ∙ ap is_some hit.lives
 
-lives-past : (past : List Event) (l : Live) (sp : Sp) → KeepsSessions l past → AreNumbered l → lives_on sp l ≡ is_some (session_on past sp)
+pub lives-past : (past : List Event) (l : Live) (sp : Sp) → KeepsSessions l past → AreNumbered l → lives_on sp l ≡ is_some (session_on past sp)
 lives-past past l sp k are = by_both (lives_on sp l) (session_on past sp) refl refl
   where
     by_both : (b : Bool) (x : Option Begun) → lives_on sp l ≡ b → session_on past sp ≡ x → b ≡ is_some x
@@ -121,9 +122,9 @@ verdict-on : (look : LookUp) (l m : Live) (opening : Opening) → Alike l m → 
 verdict-on look l m opening alike None = refl
 verdict-on look l m opening alike (Some sp) =
     let attempts : SidBlock → StartVerdict = λ block. Attempted sp (failure_of block look sp opening.authority opening.proof) in
-    ap (λ b. cond (not (is_in_use look sp)) (Refused invalid_parameter) (cond b (Refused sp_busy) (cond (is_full l) (Refused no_sessions_available) (attempts l.block)))) (alike.lives sp)
-    ∙ ap (λ n. cond (not (is_in_use look sp)) (Refused invalid_parameter) (cond (lives_on sp m) (Refused sp_busy) (cond (nat_lt 0xffffffff n) (Refused no_sessions_available) (attempts l.block)))) alike.next
-    ∙ ap (λ b. cond (not (is_in_use look sp)) (Refused invalid_parameter) (cond (lives_on sp m) (Refused sp_busy) (cond (is_full m) (Refused no_sessions_available) (attempts b)))) alike.block
+    ap (λ b. cond (not (is_in_use look sp)) (Refused invalid_parameter NotInUse) (cond b (Refused sp_busy SpBusy) (cond (is_full l) (Refused no_sessions_available NoNumber) (attempts l.block)))) (alike.lives sp)
+    ∙ ap (λ n. cond (not (is_in_use look sp)) (Refused invalid_parameter NotInUse) (cond (lives_on sp m) (Refused sp_busy SpBusy) (cond (nat_lt 0xffffffff n) (Refused no_sessions_available NoNumber) (attempts l.block)))) alike.next
+    ∙ ap (λ b. cond (not (is_in_use look sp)) (Refused invalid_parameter NotInUse) (cond (lives_on sp m) (Refused sp_busy SpBusy) (cond (is_full m) (Refused no_sessions_available NoNumber) (attempts b)))) alike.block
 
 verdict-same : (look : LookUp) (l m : Live) → Alike l m → (x : Option Opening) → verdict look l x ≡ verdict look m x
 verdict-same look l m alike None = refl
@@ -131,7 +132,7 @@ verdict-same look l m alike (Some opening) = verdict-on look l m opening alike (
 
 -- an attempt is made on an SP with no session
 by-tests : (a b c : Bool) (s sp : Sp) (g f : Option AttemptFailure) (l : Live) → lives_on s l ≡ b
-    → cond a (Refused invalid_parameter) (cond b (Refused sp_busy) (cond c (Refused no_sessions_available) (Attempted s g))) ≡ Attempted sp f → lives_on sp l ≡ false
+    → cond a (Refused invalid_parameter NotInUse) (cond b (Refused sp_busy SpBusy) (cond c (Refused no_sessions_available NoNumber) (Attempted s g))) ≡ Attempted sp f → lives_on sp l ≡ false
 by-tests true b c s sp g f l is h = cc
 by-tests false true c s sp g f l is h = cc
 by-tests false false true s sp g f l is h = cc
@@ -147,7 +148,7 @@ counted : (s : Stored) (rows : LookUp) (sp : Sp) (authority : Uid) (n : ℕ) →
 counted s rows sp authority n same = ap (λ look. with_count sp (credential look sp authority) n s) same
 
 store-by : (f : Facts) (com_id : ℕ) (opening : Opening) (s : Stored) → rows_in_force s ≡ f.rows → (v : StartVerdict) → StoresAs (deed_of_start f com_id opening v) s (stored_by opening.authority v s)
-store-by f com_id opening s same (Refused status) = refl
+store-by f com_id opening s same (Refused status rule) = refl
 store-by f com_id opening s same (Attempted sp None) = counted s f.rows sp opening.authority 0 same
 store-by f com_id opening s same (Attempted sp (Some WrongPin)) =
     ap (λ look. with_count sp (credential look sp opening.authority) (up (number (rows_in_force s) sp (credential look sp opening.authority) tries_column)) s) same
@@ -182,7 +183,7 @@ free-at l sp free n h is = by_test (sp_eq h.sp sp) refl
 lives-by : (f : Facts) (com_id : ℕ) (opening : Opening) (look : LookUp) (l m : Live) → look ≡ f.rows → l.next ≡ f.next_number → (v : StartVerdict)
     → ((sp : Sp) (g : Option AttemptFailure) → v ≡ Attempted sp g → lives_on sp l ≡ false) → m.next ≡ next_by v l.next
     → ((n : ℕ) → session_at m n ≡ begun_by look com_id opening v (l.next == n) (session_at l n)) → LivesAs (deed_of_start f com_id opening v) l m
-lives-by f com_id opening look l m rows next (Refused status) free after points = record { next = after; at = points }
+lives-by f com_id opening look l m rows next (Refused status rule) free after points = record { next = after; at = points }
 lives-by f com_id opening look l m rows next (Attempted sp (Some failure)) free after points = record { next = after; at = λ n. points n ∙ gains-none sp (session_at l n) }
 lives-by f com_id opening look l m rows next (Attempted sp None) free after points = record {
   number = sym next;
@@ -201,7 +202,7 @@ lives-with f com_id look l m rows next (Some opening) verdicts after points =
 -- No StartSession erases.
 
 erases-by : (f : Facts) (com_id : ℕ) (opening : Opening) (v : StartVerdict) → no_sectors ≡ erased_by (deed_of_start f com_id opening v)
-erases-by f com_id opening (Refused status) = refl
+erases-by f com_id opening (Refused status rule) = refl
 erases-by f com_id opening (Attempted sp None) = refl
 erases-by f com_id opening (Attempted sp (Some failure)) = refl
 
@@ -212,7 +213,7 @@ erases-with f com_id (Some opening) = erases-by f com_id opening (start_verdict 
 -- Nor does it free SID.
 
 block-by : (f : Facts) (com_id : ℕ) (block : SidBlock) (opening : Opening) (v : StartVerdict) → block ≡ block_after (deed_of_start f com_id opening v) block
-block-by f com_id block opening (Refused status) = refl
+block-by f com_id block opening (Refused status rule) = refl
 block-by f com_id block opening (Attempted sp None) = refl
 block-by f com_id block opening (Attempted sp (Some failure)) = refl
 
@@ -229,6 +230,7 @@ start_law o past s l m com_id args store k are is stays after points =
     record {
       answer = ap (λ n. reply_to (host_of args) n (verdict (rows_in_force s) l x)) k.next ∙ ap (reply_to (host_of args) f.next_number) verdicts;
       denied = ap (denied_with x) verdicts;
+      rule = ap rule_of verdicts;
       erases = erases-with f com_id x;
       store = store-with f com_id s l rows x verdicts;
       sessions = lives-with f com_id (rows_in_force s) l m rows k.next x verdicts after points;

@@ -43,6 +43,7 @@ use Rattle.history.proofs.KeptStoreParts.{Spares, closed-part, was-closed, was-o
 use Rattle.history.proofs.KeptStoreBytes.{closed-bytes, spared-bytes, shut-bytes, begun-bytes, set-bytes, committed-bytes, blank-length, blank-at, FitsIn}
 use Rattle.history.proofs.KeptStoreOpenings.{restored-part, no-tries-in}
 use Rattle.history.proofs.KeptStoreTries.{unknown-none, one_more-up, counted-number, tries-after, reset-tries, admin-reset}
+use Rattle.rules.specs.declared.rule.Rule.{Rule}
 
 abbrev other : Sp → Sp
 other Admin = Locking
@@ -53,8 +54,8 @@ other-apart Admin = refl
 other-apart Locking = refl
 
 -- an event by its deed
-abbrev doing : Option ℕ → Option Why → Deed → Event
-doing failed denied deed = record { failed = failed; deed = deed; denied = denied }
+abbrev doing : Option ℕ → Option Why × Option Rule → Deed → Event
+doing failed w deed = record { failed = failed; deed = deed; denied = w.0; rule = w.1 }
 
 -- the Tries of an SP stay
 abbrev SameTries : Event → List Event → Sp → Type 0
@@ -147,7 +148,7 @@ put-part p object column v o e past sp h closed rows same =
     (counts-same p.tries (tries past sp) (tries (e ∷ past) sp) (rows_after o past sp) (λ u k. h.tries u k) same) (put-places object column v (rows_after o past sp)))
 
 -- sessions, attempts
-started-kept : (s : Stored) (o : Origin) (past : List Event) (x : Option ℕ) (w : Option Why) (session : Begun) (row : Uid) (r : Response) → KeepsStore s o past → KeepsStore (with_count session.sp row 0 s) o (doing x w (InSession (Started session row) r) ∷ past)
+started-kept : (s : Stored) (o : Origin) (past : List Event) (x : Option ℕ) (w : Option Why × Option Rule) (session : Begun) (row : Uid) (r : Response) → KeepsStore s o past → KeepsStore (with_count session.sp row 0 s) o (doing x w (InSession (Started session row) r) ∷ past)
 started-kept s o past x w session row r h =
     count-kept s o (doing x w (InSession (Started session row) r)) past session.sp row 0 (λ n. 0) h (λ any. record { turn = refl; start = refl; change = refl; bring = refl }) (λ any u. refl) (λ u k is counted some. refl)
 
@@ -155,7 +156,7 @@ if-same : (b : Bool) (n : ℕ) → cond b n n ≡ n
 if-same true n = refl
 if-same false n = refl
 
-tried-kept : (s t : Stored) (o : Origin) (past : List Event) (x : Option ℕ) (w : Option Why) (a : Attempt) (r : Response) (f : Option AttemptFailure) → a.failure ≡ f → KeepsStore s o past → StoresBy (InSession (Tried (record a { failure = f })) r) s t → KeepsStore t o (doing x w (InSession (Tried (record a { failure = f })) r) ∷ past)
+tried-kept : (s t : Stored) (o : Origin) (past : List Event) (x : Option ℕ) (w : Option Why × Option Rule) (a : Attempt) (r : Response) (f : Option AttemptFailure) → a.failure ≡ f → KeepsStore s o past → StoresBy (InSession (Tried (record a { failure = f })) r) s t → KeepsStore t o (doing x w (InSession (Tried (record a { failure = f })) r) ∷ past)
 tried-kept s t o past x w a r None is h by =
     keep-as (with_count a.sp a.row 0 s) t o _ by
     (count-kept s o (doing x w (InSession (Tried (record a { failure = None })) r)) past a.sp a.row 0 (λ n. 0) h (λ any. record { turn = refl; start = refl; change = refl; bring = refl }) (λ any u. refl) (λ u k is counted some. refl))
@@ -176,7 +177,7 @@ tried-kept s t o past x w a r (Some Unknown) is h by =
 le-of : (a b : ℕ) → nat_le a b ≡ true → a ≤ b
 le-of a b h = grind (arith, nat_tests)
 
-set-kept : (s : Stored) (o : Origin) (past : List Event) (x : Option ℕ) (w : Option Why) (sp : Sp) (st : Setting) (r : Response) → KeepsStore s o past → (sp ≡ Locking → FitsIn st (sector_size * table_sectors o.tables.config)) → KeepsStore (at_part sp (λ p. part_with st p p.pending) s) o (doing x w (InSession (Changed sp (Sets st)) r) ∷ past)
+set-kept : (s : Stored) (o : Origin) (past : List Event) (x : Option ℕ) (w : Option Why × Option Rule) (sp : Sp) (st : Setting) (r : Response) → KeepsStore s o past → (sp ≡ Locking → FitsIn st (sector_size * table_sectors o.tables.config)) → KeepsStore (at_part sp (λ p. part_with st p p.pending) s) o (doing x w (InSession (Changed sp (Sets st)) r) ∷ past)
 set-kept s o past x w Admin st r h fits =
     let e : Event = doing x w (InSession (Changed Admin (Sets st)) r) in
     one-part s o e past Admin (λ p. part_with st p p.pending) h (set-part s.admin o e past Admin st r (h.parts Admin) refl (λ u. refl) refl) tt (record { turn = refl; start = refl; change = refl; bring = refl }) (λ u. refl)
@@ -190,11 +191,11 @@ can-fit : (s : Stored) (o : Origin) (past : List Event) (st : Setting) → Keeps
 can-fit s o past (cells_set object cells) h can = tt
 can-fit s o past (bytes_set start bytes) h can = subst (λ (c : Config). start + length bytes ≤ sector_size * table_sectors c) h.config (le-of (start + length bytes) (512 * table_sectors s.config) can)
 
-setting-kept : (s t : Stored) (o : Origin) (past : List Event) (x : Option ℕ) (w : Option Why) (sp : Sp) (st : Setting) (r : Response) → KeepsStore s o past → StoresChange sp (Sets st) s t → KeepsStore t o (doing x w (InSession (Changed sp (Sets st)) r) ∷ past)
+setting-kept : (s t : Stored) (o : Origin) (past : List Event) (x : Option ℕ) (w : Option Why × Option Rule) (sp : Sp) (st : Setting) (r : Response) → KeepsStore s o past → StoresChange sp (Sets st) s t → KeepsStore t o (doing x w (InSession (Changed sp (Sets st)) r) ∷ past)
 setting-kept s t o past x w sp st r h by = keep-as _ t o _ by.1 (set-kept s o past x w sp st r h (λ is. can-fit s o past st h (subst (λ sp. CanSet (table_sectors s.config) sp st) is by.0)))
 
 -- transactions
-begun-kept : (s : Stored) (o : Origin) (past : List Event) (x : Option ℕ) (w : Option Why) (sp : Sp) (n : ℕ) (r : Response) → KeepsStore s o past → KeepsStore (at_part sp (part_begin n) s) o (doing x w (InSession (Began sp n) r) ∷ past)
+begun-kept : (s : Stored) (o : Origin) (past : List Event) (x : Option ℕ) (w : Option Why × Option Rule) (sp : Sp) (n : ℕ) (r : Response) → KeepsStore s o past → KeepsStore (at_part sp (part_begin n) s) o (doing x w (InSession (Began sp n) r) ∷ past)
 begun-kept s o past x w Admin n r h =
     let e : Event = doing x w (InSession (Began Admin n) r) in
     one-part s o e past Admin (part_begin n) h (begun-part s.admin o e past Admin n r (h.parts Admin) refl (λ u. refl)) tt (record { turn = refl; start = refl; change = refl; bring = refl }) (λ u. refl)
@@ -202,7 +203,7 @@ begun-kept s o past x w Locking n r h =
     let e : Event = doing x w (InSession (Began Locking n) r) in
     one-part s o e past Locking (part_begin n) h (begun-part s.locking o e past Locking n r (h.parts Locking) refl (λ u. refl)) (begun-bytes s.locking o e past n r h.bytes refl) (record { turn = refl; start = refl; change = refl; bring = refl }) (λ u. refl)
 
-committed-kept : (s : Stored) (o : Origin) (past : List Event) (x : Option ℕ) (w : Option Why) (sp : Sp) (its : Transaction) (r : Response) → KeepsStore s o past → (part s sp).pending ≡ Some its → KeepsStore (at_part sp (part_commit its.tsn) s) o (doing x w (InSession (Committed sp) r) ∷ past)
+committed-kept : (s : Stored) (o : Origin) (past : List Event) (x : Option ℕ) (w : Option Why × Option Rule) (sp : Sp) (its : Transaction) (r : Response) → KeepsStore s o past → (part s sp).pending ≡ Some its → KeepsStore (at_part sp (part_commit its.tsn) s) o (doing x w (InSession (Committed sp) r) ∷ past)
 committed-kept s o past x w Admin its r h has =
     let e : Event = doing x w (InSession (Committed Admin) r) in
     one-part s o e past Admin (part_commit its.tsn) h (committed-part s.admin o e past Admin its r (h.parts Admin) refl has (λ u. refl)) tt (record { turn = refl; start = refl; change = refl; bring = refl }) (λ u. refl)
@@ -218,7 +219,7 @@ closed-kept s o e past Locking h turn bring same apart there =
     (shut-bytes s.locking (part_close s.locking) o e past h.bytes (λ place. ap (λ cs. byte_in (cs ++ changes past Locking) place) bring) refl refl) apart there
 
 -- Activate
-pin-part : (s : Stored) (o : Origin) (past : List Event) (x : Option ℕ) (w : Option Why) (pin : Option Cell) (r : Response) → KeepsStore s o past → KeepsPart (with_pin pin s.locking) o (doing x w (InSession (Activated pin) r) ∷ past) Locking
+pin-part : (s : Stored) (o : Origin) (past : List Event) (x : Option ℕ) (w : Option Why × Option Rule) (pin : Option Cell) (r : Response) → KeepsStore s o past → KeepsPart (with_pin pin s.locking) o (doing x w (InSession (Activated pin) r) ∷ past) Locking
 pin-part s o past x w None r h =
     let e : Event = doing x w (InSession (Activated None) r) in
     close-part s.locking o e past Locking (h.parts Locking) (turned Locking e past None refl) (rows-by o e past Locking [] refl) (λ u. refl)
@@ -226,11 +227,11 @@ pin-part s o past x w (Some pin) r h =
     let e : Event = doing x w (InSession (Activated (Some pin)) r) in
     put-part s.locking (admin_pin_uid 1) pin_column pin o e past Locking (h.parts Locking) (turned Locking e past None refl) (rows-by o e past Locking _ refl) (λ u. refl)
 
-pin-bytes : (s : Stored) (o : Origin) (past : List Event) (x : Option ℕ) (w : Option Why) (pin : Option Cell) (r : Response) → KeepsStore s o past → KeepsBytes (with_pin pin s.locking) o (doing x w (InSession (Activated pin) r) ∷ past)
+pin-bytes : (s : Stored) (o : Origin) (past : List Event) (x : Option ℕ) (w : Option Why × Option Rule) (pin : Option Cell) (r : Response) → KeepsStore s o past → KeepsBytes (with_pin pin s.locking) o (doing x w (InSession (Activated pin) r) ∷ past)
 pin-bytes s o past x w None r h = shut-bytes s.locking (with_pin None s.locking) o (doing x w (InSession (Activated None) r)) past h.bytes (λ place. refl) refl refl
 pin-bytes s o past x w (Some pin) r h = shut-bytes s.locking (with_pin (Some pin) s.locking) o (doing x w (InSession (Activated (Some pin)) r)) past h.bytes (λ place. refl) refl refl
 
-activated-kept : (s : Stored) (o : Origin) (past : List Event) (x : Option ℕ) (w : Option Why) (pin : Option Cell) (r : Response) → KeepsStore s o past → KeepsStore (activated_with pin s) o (doing x w (InSession (Activated pin) r) ∷ past)
+activated-kept : (s : Stored) (o : Origin) (past : List Event) (x : Option ℕ) (w : Option Why × Option Rule) (pin : Option Cell) (r : Response) → KeepsStore s o past → KeepsStore (activated_with pin s) o (doing x w (InSession (Activated pin) r) ∷ past)
 activated-kept s o past x w pin r h = record {
   config = h.config;
   known = h.known;
@@ -261,7 +262,7 @@ locking-bytes : (s : Stored) (o : Origin) (e : Event) (past : List Event) → Ke
 locking-bytes s o e past h bring =
     closed-bytes (part_from (new_locking s.config) (blank s.locking.bytes)) o (e ∷ past) (Restores ∷ changes past Locking) refl (ap (λ cs. cs ++ changes past Locking) bring) (blank-length s.locking.bytes ∙ h.bytes.size) (λ place. blank-at s.locking.bytes place)
 
-reverted-kept : (s : Stored) (o : Origin) (past : List Event) (x : Option ℕ) (w : Option Why) (sp : Sp) (erasure : Erasure) (r : Response) → KeepsStore s o past → KeepsStore (reverted sp s) o (doing x w (InSession (Reverted sp erasure) r) ∷ past)
+reverted-kept : (s : Stored) (o : Origin) (past : List Event) (x : Option ℕ) (w : Option Why × Option Rule) (sp : Sp) (erasure : Erasure) (r : Response) → KeepsStore s o past → KeepsStore (reverted sp s) o (doing x w (InSession (Reverted sp erasure) r) ∷ past)
 reverted-kept s o past x w Admin erasure r h = record { config = h.config; known = h.known; parts = parts; bytes = locking-bytes s o e past h refl }
   where
     e : Event
@@ -283,7 +284,7 @@ reverted-kept s o past x w Locking erasure r h = record { config = h.config; kno
     parts Locking = locking-part s o e past h refl refl (λ u. refl)
 
 -- a reset
-reset-kept : (s : Stored) (o : Origin) (past : List Event) (x : Option ℕ) (w : Option Why) (kind : ℕ) → KeepsStore s o past → KeepsStore (after_reset kind s) o (doing x w (WasReset kind) ∷ past)
+reset-kept : (s : Stored) (o : Origin) (past : List Event) (x : Option ℕ) (w : Option Why × Option Rule) (kind : ℕ) → KeepsStore s o past → KeepsStore (after_reset kind s) o (doing x w (WasReset kind) ∷ past)
 reset-kept s o past x w kind h = record {
   config = h.config;
   known = h.known;
@@ -307,7 +308,7 @@ reset-kept s o past x w kind h = record {
         (shows-places (locking_tries_after kind s.locking.tries) (tries (e ∷ past) Locking) (rows_after o past Locking) (reset_rows kind (rows_after o past Locking)) (counts Locking) (reset-same kind (rows_after o past Locking)))
 
 -- each deed
-deed-kept : (s t : Stored) (o : Origin) (past : List Event) (x : Option ℕ) (w : Option Why) (d : Deed) → KeepsStore s o past → StoresBy d s t → KeepsStore t o (doing x w d ∷ past)
+deed-kept : (s t : Stored) (o : Origin) (past : List Event) (x : Option ℕ) (w : Option Why × Option Rule) (d : Deed) → KeepsStore s o past → StoresBy d s t → KeepsStore t o (doing x w d ∷ past)
 deed-kept s t o past x w Nothing h by = keep-as s t o _ by (left s o (doing x w Nothing) past h (λ sp. record { turn = refl; start = refl; change = refl; bring = refl }) (λ sp u. refl))
 deed-kept s t o past x w (OfQueue d) h by = keep-as s t o _ by (left s o (doing x w (OfQueue d)) past h (λ sp. record { turn = refl; start = refl; change = refl; bring = refl }) (λ sp u. refl))
 deed-kept s t o past x w (Wrote lba bytes) h by = keep-as s t o _ by (left s o (doing x w (Wrote lba bytes)) past h (λ sp. record { turn = refl; start = refl; change = refl; bring = refl }) (λ sp u. refl))
@@ -331,4 +332,4 @@ deed-kept s t o past x w (InSession (Erased erasure) r) h by = keep-as s t o _ b
 deed-kept s t o past x w (WasReset kind) h by = keep-as _ t o _ by (reset-kept s o past x w kind h)
 
 pub store_law : StoreLaw
-store_law o past e s t h by = deed-kept s t o past e.failed e.denied e.deed h by
+store_law o past e s t h by = deed-kept s t o past e.failed (e.denied, e.rule) e.deed h by

@@ -13,10 +13,10 @@ use Rattle.tcg_tokens.specs.Message.{Message, call, reply, end_session, begin, e
 use Rattle.sp_cells.specs.ColumnNames.{pin_column, try_limit_column, tries_column, is_class_column, enabled_column}
 use Rattle.sessions.specs.Attempts.{attempt_failure as failure_of, is_there, credential, is_pin, is_used_up}
 use Rattle.call_shapes.specs.Asks.{uid_of}
-use Rattle.sessions.specs.Deeds.{Begun, SessionDeed, Unchanged, Tried, Activated, Outcome, says}
+use Rattle.sessions.specs.Deeds.{Begun, SessionDeed, Unchanged, Tried, Activated, Outcome, says, refuses as refuses_item}
 use Rattle.call_shapes.specs.Statuses.{fail}
 use Rattle.sessions.specs.Properties.{properties_message}
-use Rattle.methods.specs.Judgement.{Judgement, Refuses, Gives, Makes, Attempts, Activates, Reverts, Erases, RevertsSp}
+use Rattle.methods.specs.Judgement.{Judgement, Refuses, Gives, Makes, Attempts, Activates, Reverts, Erases, RevertsSp, Denies}
 use Rattle.sessions.specs.declared.opening.Opening.{Opening}
 use Rattle.sessions.specs.declared.opening.StartVerdict.{StartVerdict}
 use Rattle.sessions.specs.declared.opening.StartVerdict.TheVariants.{Refused, Attempted}
@@ -32,6 +32,7 @@ use Rattle.history.proofs.Items.{item-from}
 use Rattle.sp_cells.specs.Ranges.{number}
 use Rattle.audit.specs.declared.reason.AttemptFailure.TheVariants.{WrongPin, LockedOut, Disabled, Blocked, Unknown}
 use Rattle.history.specs.TriesLaw.{is_below_limit, LimitLaw}
+use Rattle.rules.specs.declared.rule.Rule.TheVariants.{NoMethod, NotInUse, SpBusy, NoNumber}
 
 -- the tests of an attempt
 by-tests : (a b d c u p : Bool) → cond a (Some Unknown) (cond b (Some Disabled) (cond d (Some Blocked) (cond c None (cond u (Some LockedOut) (cond p None (Some WrongPin)))))) ≡ Some WrongPin → not u ≡ true
@@ -51,7 +52,7 @@ failed-below block look sp authority proof h =
 
 -- a StartSession that fails by its attempt
 attempted-by : (look : LookUp) (l : Live) (opening : Opening) (sp s : Sp) (g f : Option AttemptFailure) (a b c : Bool) → g ≡ failure_of l.block look s opening.authority opening.proof
-    → cond (not a) (Refused 0x0c) (cond b (Refused 3) (cond c (Refused 7) (Attempted s g))) ≡ Attempted sp f → failure_of l.block look sp opening.authority opening.proof ≡ f
+    → cond (not a) (Refused 0x0c NotInUse) (cond b (Refused 3 SpBusy) (cond c (Refused 7 NoNumber) (Attempted s g))) ≡ Attempted sp f → failure_of l.block look sp opening.authority opening.proof ≡ f
 attempted-by look l opening sp s g f false b c is h = cc
 attempted-by look l opening sp s g f true true c is h = cc
 attempted-by look l opening sp s g f true false true is h = cc
@@ -70,7 +71,7 @@ Below f (Tried attempt) = attempt.failure ≡ Some WrongPin → is_below_limit f
 Below f _ = Unit {0}
 
 start-below : (f : Facts) (com_id : ℕ) (opening : Opening) (v : StartVerdict) → start_verdict f (Some opening) ≡ v → Below f (deed_of_start f com_id opening v)
-start-below f com_id opening (Refused status) is = tt
+start-below f com_id opening (Refused status rule) is = tt
 start-below f com_id opening (Attempted sp None) is = tt
 start-below f com_id opening (Attempted sp (Some failure)) is = λ h. failed-below f.block f.rows sp opening.authority opening.proof (attempted f.rows (live f) opening sp (Some failure) (sp_named opening.spid) is ∙ h)
 
@@ -85,7 +86,7 @@ either-below f false x y h g = g
 manager-below : (f : Facts) (com_id : ℕ) (read : Result Message TokenError) → Below f (to_manager f com_id read).deed
 manager-below f com_id (Ok (call object method args status)) =
     either-below f (is_method_of_manager properties (uid_of object) (uid_of method)) (says Unchanged (properties_message (values_of args))) _ tt
-    (either-below f (is_method_of_manager start_session (uid_of object) (uid_of method)) (started f com_id (values_of args)) (says Unchanged (refusal_of fail)) (started-below f com_id (opening_of (values_of args))) tt)
+    (either-below f (is_method_of_manager start_session (uid_of object) (uid_of method)) (started f com_id (values_of args)) (refuses_item (refusal_of fail) NoMethod) (started-below f com_id (opening_of (values_of args))) tt)
 manager-below f com_id (Ok (reply results status)) = tt
 manager-below f com_id (Ok (begin n)) = tt
 manager-below f com_id (Ok (end n)) = tt
@@ -93,7 +94,8 @@ manager-below f com_id (Ok end_session) = tt
 manager-below f com_id (Err e) = tt
 
 judged-below : (f : Facts) (sp : Sp) (j : Judgement) → Below f (outcome_of f.rows sp j).deed
-judged-below f sp (Refuses status why) = tt
+judged-below f sp (Denies why) = tt
+judged-below f sp (Refuses status rule) = tt
 judged-below f sp (Gives results) = tt
 judged-below f sp (Makes set) = tt
 judged-below f sp (Attempts block authority pin) = λ h. failed-below block f.rows sp authority pin h

@@ -30,19 +30,20 @@ use Rattle.std.specs.Option.{option_or}
 use Rattle.methods.specs.Grants.{why_denied, unless_allowed, denial as denial_of, wanted, first_some}
 use Rattle.methods.specs.Laws.{EachHasAce, IsGranted, takes_effect}
 use Rattle.methods.proofs.GrantLaws.{grant_law as grants, effect_law as judges}
-use Rattle.methods.specs.Judgement.{Standing, Judgement, Refuses, Gives, Makes, Attempts, Activates, Reverts, Erases, RevertsSp, denial, does, unless_denied, judged}
+use Rattle.methods.specs.Judgement.{Standing, Judgement, Refuses, Gives, Makes, Attempts, Activates, Reverts, Erases, RevertsSp, denial, does, unless_denied, judged, Denies}
 use Rattle.trusted_cmds.specs.BlockSid.{is_block_sid}
 use Rattle.basics.specs.declared.profile.Profile.{Profile}
-use Rattle.history.specs.Events.{Event, Nothing, did, WasReset}
+use Rattle.history.specs.Events.{Event, Nothing, did, WasReset, ignores}
 use Rattle.history.specs.Items.{Items}
 use Rattle.history.specs.Facts.{Facts, standing, session_named}
 use Rattle.history.specs.Decisions.{admitted, fails_queue, refuses, aborted, while_failed, is_busy, resets, is_trusted, is_session_com_id, unqueued_of, known_of, commanded_of}
-use Rattle.history.specs.Tcg.{answers, to_manager, to_session, in_session, framed, sent, send, tcg, blocks_sid, send_item}
+use Rattle.history.specs.Tcg.{answers, to_manager, to_session, in_session, framed, sent, send, tcg, blocks_sid, send_item, unsent}
 use Rattle.methods.specs.Calls.{outcome_of, tried_in}
 use Rattle.history.specs.History.{Act, event_by, event_in}
 use Rattle.history.specs.MethodLaws.{ActEffectLaw, IsSent, CallLaw}
 use Rattle.history.specs.Looked.{IsLookedAtBy}
 use Rattle.sp_cells.specs.Resets.{programmatic}
+use Rattle.rules.specs.declared.rule.Rule.TheVariants.{NoCommand, Mixed, NoFrame}
 
 none-some : {A : Type 0} {x : A} → None ≡ Some x → ⊥
 none-some h = cc
@@ -96,10 +97,10 @@ pub looked_law : (items : Items) (f : Facts) (act : Act) (command : Command) (ta
 looked_law items f act command tag c =
     let h = h2d_at c.fis in
     ap (event_in items f) c.accepts
-    ∙ ap (λ b. cond b (commanded_of items f h c.payload) refuses) (eq-eqb (slice_index c.fis 0) 0x27 c.kind)
-    ∙ ap (λ b. cond (not b) refuses (cond (is_some f.failure) (while_failed (items.reads f.config h)) (cond (is_busy f && not (is_queued h.command)) (fails_queue None aborted h None) (known_of items f h c.payload (items.reads f.config h))))) c.commands
-    ∙ ap (λ x. cond (is_some x) (while_failed (items.reads f.config h)) (cond (is_busy f && not (is_queued h.command)) (fails_queue None aborted h None) (known_of items f h c.payload (items.reads f.config h)))) c.mended
-    ∙ ap (λ b. cond b (fails_queue None aborted h None) (known_of items f h c.payload (items.reads f.config h))) c.unmixed
+    ∙ ap (λ b. cond b (commanded_of items f h c.payload) (refuses NoCommand)) (eq-eqb (slice_index c.fis 0) 0x27 c.kind)
+    ∙ ap (λ b. cond (not b) (refuses NoCommand) (cond (is_some f.failure) (while_failed (items.reads f.config h)) (cond (is_busy f && not (is_queued h.command)) (fails_queue None aborted h None (Some Mixed)) (known_of items f h c.payload (items.reads f.config h))))) c.commands
+    ∙ ap (λ x. cond (is_some x) (while_failed (items.reads f.config h)) (cond (is_busy f && not (is_queued h.command)) (fails_queue None aborted h None (Some Mixed)) (known_of items f h c.payload (items.reads f.config h)))) c.mended
+    ∙ ap (λ b. cond b (fails_queue None aborted h None (Some Mixed)) (known_of items f h c.payload (items.reads f.config h))) c.unmixed
     ∙ ap (known_of items f h c.payload) c.reads
     ∙ known-looked items f h c.payload command tag
 
@@ -125,9 +126,9 @@ sent_law f act com_id frame c =
     looked_law tcg f act (Send c.protocol com_id c.blocks c.dma) None c.looked
     ∙ ap (λ b. cond b (did (WasReset programmatic)) (send f c.protocol com_id c.blocks c.looked.payload)) (no-reset f.rows c.protocol com_id c.blocks c.dma (is_session_com_id com_id) (not (is_some (f.waiting com_id))) c.taken)
     ∙ ap (λ b. cond b (blocks_sid f c.looked.payload) (send_item f c.protocol com_id c.blocks c.looked.payload)) (no-block f.config.profile c.protocol com_id c.blocks (is_session_com_id com_id) (not (is_some (f.waiting com_id))) c.taken)
-    ∙ ap (λ b. cond b (sent f com_id (frame_in c.looked.payload)) refuses) c.taken
+    ∙ ap (λ b. cond b (sent f com_id (frame_in c.looked.payload)) (refuses (unsent c.protocol com_id c.blocks))) c.taken
     ∙ ap (sent f com_id) c.framed
-    ∙ ap (λ b. cond b (framed f com_id frame) (did Nothing)) c.addressed
+    ∙ ap (λ b. cond b (framed f com_id frame) (ignores NoFrame)) c.addressed
 
 pub call_law : CallLaw
 call_law f act session object method args c =
@@ -178,7 +179,8 @@ tried-reason f sp authority (Some Blocked) = refl
 tried-reason f sp authority (Some Unknown) = refl
 
 effect-reason : (f : Facts) (sp : Sp) (j : Judgement) → takes_effect j ≡ true → reason_of (outcome_of f.rows sp j).denied ≡ false
-effect-reason f sp (Refuses status denied) h = absurd (clash h)
+effect-reason f sp (Denies why) h = absurd (clash h)
+effect-reason f sp (Refuses status rule) h = absurd (clash h)
 effect-reason f sp (Gives results) h = refl
 effect-reason f sp (Makes change) h = refl
 effect-reason f sp (Attempts block authority pin) h = tried-reason f sp authority (failure_of block f.rows sp authority pin)

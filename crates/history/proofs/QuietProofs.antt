@@ -10,11 +10,12 @@ use Rattle.trusted_cmds.specs.declared.command.Command.TheVariants.{Send}
 use Rattle.trusted_cmds.specs.BlockSid.{is_block_sid, block_asked, is_blocked}
 use Rattle.device_data.specs.Discovery.{has_owner}
 use Rattle.history.specs.Answers.{is_holding}
-use Rattle.history.specs.Events.{Deed, Nothing, InSession, OfQueue, Wrote, Took, BlockedSid, WasReset, Event, did}
+use Rattle.history.specs.Events.{Deed, Nothing, InSession, OfQueue, Wrote, Took, BlockedSid, WasReset, Event, did, ignores}
 use Rattle.history.specs.Facts.{Facts, session_named}
 use Rattle.history.specs.Decisions.{refuses, is_trusted, is_session_com_id}
-use Rattle.history.specs.Tcg.{answers, to_manager, is_manager, to_session, framed, sent, tcg, blocks_sid, send_item}
+use Rattle.history.specs.Tcg.{answers, to_manager, is_manager, to_session, framed, sent, tcg, blocks_sid, send_item, unsent}
 use Rattle.history.specs.Quiet.{is_quiet, IsQuiet}
+use Rattle.rules.specs.declared.rule.Rule.TheVariants.{SidKept, NoFrame}
 
 either : (b : Bool) (x y : Event) → is_quiet x.deed ≡ true → is_quiet y.deed ≡ true → is_quiet (cond b x y).deed ≡ true
 either true x y h g = h
@@ -27,15 +28,15 @@ to_session-quiet f com_id named payload (Some s) = refl
 sent-quiet : (f : Facts) (com_id : ℕ) (r : Result Frame FrameError) → is_quiet (sent f com_id r).deed ≡ true
 sent-quiet f com_id (Err e) = refl
 sent-quiet f com_id (Ok frame) =
-    either (frame.com_id == com_id) (framed f com_id frame) (did Nothing)
+    either (frame.com_id == com_id) (framed f com_id frame) (ignores NoFrame)
     (either (is_manager frame.session) (answers com_id frame.session (to_manager f com_id (message_in frame.payload))) (to_session f com_id frame.session frame.payload (session_named f com_id frame.session)) refl (to_session-quiet f com_id frame.session frame.payload (session_named f com_id frame.session)))
     refl
 
 pub tcg_quiet : IsQuiet tcg
 tcg_quiet f protocol com_id blocks payload =
     either (is_block_sid f.config.profile (Send protocol com_id blocks true)) (blocks_sid f payload) (send_item f protocol com_id blocks payload)
-    (either (has_owner f.rows || is_blocked f.block) refuses (did (BlockedSid (block_asked payload))) refl refl)
-    (either (is_trusted protocol blocks && is_session_com_id com_id && not (is_some (f.waiting com_id))) (sent f com_id (frame_in payload)) refuses (sent-quiet f com_id (frame_in payload)) refl)
+    (either (has_owner f.rows || is_blocked f.block) (refuses SidKept) (did (BlockedSid (block_asked payload))) refl refl)
+    (either (is_trusted protocol blocks && is_session_com_id com_id && not (is_some (f.waiting com_id))) (sent f com_id (frame_in payload)) (refuses (unsent protocol com_id blocks)) (sent-quiet f com_id (frame_in payload)) refl)
 
 -- a quiet deed holds nothing, and is no write
 pub quiet-none : (d : Deed) → is_quiet d ≡ true → is_holding d ≡ false

@@ -19,14 +19,15 @@ use Rattle.locking.specs.declared.ranges.Verdict.TheVariants.{Serve, Shadow, Den
 use Rattle.sessions.specs.Deeds.{Begun}
 use Rattle.trusted_cmds.specs.BlockSid.{is_block_sid, block_asked, is_blocked}
 use Rattle.device_data.specs.Discovery.{has_owner}
-use Rattle.history.specs.Events.{did, HeldCommand, Deed, Nothing, InSession, Wrote, Event, or_else, OfQueue, Took, BlockedSid, WasReset, latest}
+use Rattle.history.specs.Events.{did, HeldCommand, Deed, Nothing, InSession, Wrote, Event, or_else, OfQueue, Took, BlockedSid, WasReset, latest, ignores}
 use Rattle.history.specs.Facts.{Facts, facts, session_named}
-use Rattle.history.specs.Decisions.{aborted, not_found, fails, refuses, fails_queue, on_drive, verdict_on, queued_by, queued_transfer, admitted, unqueued_by, unqueued_transfer, is_trusted, is_session_com_id, discovery_com_id, received, while_failed, is_busy, completed_by, completed, resets, is_received}
-use Rattle.history.specs.Tcg.{answers, to_manager, is_manager, to_session, framed, sent, unqueued, known, commanded, command_read, blocks_sid}
+use Rattle.history.specs.Decisions.{aborted, not_found, fails, refuses, fails_queue, on_drive, verdict_on, queued_by, queued_transfer, admitted, unqueued_by, unqueued_transfer, is_trusted, is_session_com_id, discovery_com_id, received, while_failed, is_busy, completed_by, completed, resets, is_received, unreceived}
+use Rattle.history.specs.Tcg.{answers, to_manager, is_manager, to_session, framed, sent, unqueued, known, commanded, command_read, blocks_sid, unsent}
 use Rattle.history.specs.History.{Act, Accept, Complete, Reset, event_by, event, log}
 use Rattle.history.specs.Readers.{waits, waiting}
 use Rattle.history.specs.Bounds.{ResponseLaw}
 use Rattle.sp_cells.specs.Resets.{programmatic}
+use Rattle.rules.specs.declared.rule.Rule.TheVariants.{NoCommand, Unreadable, Mixed, BeyondDrive, SidKept, NoFrame}
 
 abbrev on_session : Deed → Bool
 on_session (InSession deed response) = is_session_com_id response.com_id
@@ -46,7 +47,7 @@ framed-on f com_id frame h =
 
 sent-on : (f : Facts) (com_id : ℕ) (r : Result Frame FrameError) → is_session_com_id com_id ≡ true → on_session (sent f com_id r).deed ≡ true
 sent-on f com_id (Err e) h = refl
-sent-on f com_id (Ok frame) h = either (frame.com_id == com_id) (framed f com_id frame) (did Nothing) (λ is. framed-on f com_id frame h) refl
+sent-on f com_id (Ok frame) h = either (frame.com_id == com_id) (framed f com_id frame) (ignores NoFrame) (λ is. framed-on f com_id frame h) refl
 
 middle : (a b c : Bool) → (a && b && c) ≡ true → b ≡ true
 middle true true c h = refl
@@ -63,7 +64,7 @@ unqueued_by-on d Serve h = h
 unqueued_by-on d Shadow h = h
 
 transfer-on : (f : Facts) (d : Deed) (op : Op) (lba count : ℕ) → on_session d ≡ true → on_session (unqueued_transfer f d op lba count).deed ≡ true
-transfer-on f d op lba count h = either (on_drive f lba count) _ (fails not_found None) (λ is. unqueued_by-on d (verdict_on f op lba count) h) refl
+transfer-on f d op lba count h = either (on_drive f lba count) _ (fails not_found None (Some BeyondDrive)) (λ is. unqueued_by-on d (verdict_on f op lba count) h) refl
 
 unqueued-on : (f : Facts) (payload : List ℕ) (c : Command) → on_session (unqueued f payload c).deed ≡ true
 unqueued-on f payload (ReadDma lba count) = transfer-on f Nothing Read lba count refl
@@ -71,10 +72,10 @@ unqueued-on f payload (WriteDma lba count) = transfer-on f (Wrote lba payload) W
 unqueued-on f payload (Send protocol com_id blocks dma) =
     either (resets f.rows (Send protocol com_id blocks dma)) (did (WasReset programmatic)) _ (λ is. refl)
     (either (is_block_sid f.config.profile (Send protocol com_id blocks true)) (blocks_sid f payload) _
-    (λ is. either (has_owner f.rows || is_blocked f.block) refuses (did (BlockedSid (block_asked payload))) (λ is. refl) refl)
-    (either (is_trusted protocol blocks && is_session_com_id com_id && not (is_some (f.waiting com_id))) _ refuses
+    (λ is. either (has_owner f.rows || is_blocked f.block) (refuses SidKept) (did (BlockedSid (block_asked payload))) (λ is. refl) refl)
+    (either (is_trusted protocol blocks && is_session_com_id com_id && not (is_some (f.waiting com_id))) _ (refuses (unsent protocol com_id blocks))
     (λ is. sent-on f com_id (frame_in payload) (middle (is_trusted protocol blocks) (is_session_com_id com_id) (not (is_some (f.waiting com_id))) is)) refl))
-unqueued-on f payload (Receive protocol com_id blocks dma) = either (is_received f protocol com_id blocks) _ refuses (λ is. received-on com_id blocks (f.waiting com_id)) refl
+unqueued-on f payload (Receive protocol com_id blocks dma) = either (is_received f protocol com_id blocks) _ (refuses (unreceived protocol blocks)) (λ is. received-on com_id blocks (f.waiting com_id)) refl
 unqueued-on f payload _ = refl
 
 queued_by-on : (h : RegH2d) (tag : ℕ) (c : Command) (v : Verdict) → on_session (queued_by h tag c v).deed ≡ true
@@ -83,7 +84,7 @@ queued_by-on h tag c Serve = refl
 queued_by-on h tag c Shadow = refl
 
 queued-on : (f : Facts) (h : RegH2d) (tag : ℕ) (c : Command) (op : Op) (lba count : ℕ) → on_session (queued_transfer f h tag c op lba count).deed ≡ true
-queued-on f h tag c op lba count = either (on_drive f lba count) _ (fails_queue (Some tag) not_found h None) (λ is. queued_by-on h tag c (verdict_on f op lba count)) refl
+queued-on f h tag c op lba count = either (on_drive f lba count) _ (fails_queue (Some tag) not_found h None (Some BeyondDrive)) (λ is. queued_by-on h tag c (verdict_on f op lba count)) refl
 
 admitted-on : (f : Facts) (h : RegH2d) (tag : ℕ) (c : Command) (b : Bool) → on_session (admitted f h tag c b).deed ≡ true
 admitted-on f h tag c true = refl
@@ -92,7 +93,7 @@ admitted-on f h tag (WriteQueued lba count) false = queued-on f h tag (WriteQueu
 admitted-on f h tag _ false = refl
 
 known-on : (f : Facts) (h : RegH2d) (payload : List ℕ) (r : Result (Command × Option ℕ) CommandError) → on_session (known f h payload r).deed ≡ true
-known-on f h payload (Err e) = either (is_queued h.command) (fails_queue (Some (tag_of h)) aborted h None) refuses (λ is. refl) refl
+known-on f h payload (Err e) = either (is_queued h.command) (fails_queue (Some (tag_of h)) aborted h None (Some (Unreadable e))) (refuses (Unreadable e)) (λ is. refl) refl
 known-on f h payload (Ok (c, Some tag)) = admitted-on f h tag c (is_some (f.held tag))
 known-on f h payload (Ok (c, None)) = unqueued-on f payload c
 
@@ -102,9 +103,9 @@ while_failed-on _ = refl
 
 commanded-on : (f : Facts) (h : RegH2d) (payload : List ℕ) → on_session (commanded f h payload).deed ≡ true
 commanded-on f h payload =
-    either (not h.is_command) refuses _ (λ is. refl)
+    either (not h.is_command) (refuses NoCommand) _ (λ is. refl)
     (either (is_some f.failure) (while_failed (command_read f.config h)) _ (λ is. while_failed-on (command_read f.config h))
-    (either (is_busy f && not (is_queued h.command)) (fails_queue None aborted h None) (known f h payload (command_read f.config h)) (λ is. refl) (known-on f h payload (command_read f.config h))))
+    (either (is_busy f && not (is_queued h.command)) (fails_queue None aborted h None (Some Mixed)) (known f h payload (command_read f.config h)) (λ is. refl) (known-on f h payload (command_read f.config h))))
 
 completed_by-on : (tag : ℕ) (payload : List ℕ) (c : Command) → on_session (completed_by tag payload c).deed ≡ true
 completed_by-on tag payload (WriteQueued lba count) = refl
@@ -115,7 +116,7 @@ completed-on tag payload None = refl
 completed-on tag payload (Some h) = completed_by-on tag payload h.command
 
 event-on : (f : Facts) (act : Act) → on_session (event_by f act).deed ≡ true
-event-on f (Accept fis payload) = either (slice_index fis 0 == h2d_type) (commanded f (h2d_at fis) payload) refuses (λ is. commanded-on f (h2d_at fis) payload) refl
+event-on f (Accept fis payload) = either (slice_index fis 0 == h2d_type) (commanded f (h2d_at fis) payload) (refuses NoCommand) (λ is. commanded-on f (h2d_at fis) payload) refl
 event-on f (Complete tag payload) = completed-on tag payload (f.held tag)
 event-on f (Reset kind) = refl
 

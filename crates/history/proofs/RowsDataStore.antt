@@ -33,6 +33,8 @@ use Rattle.transactions.specs.Resets.{is_range}
 use Rattle.methods.specs.Listed.{listed_among}
 use Rattle.methods.specs.Settings.{cells_for}
 use Rattle.history.specs.Decisions.{any_below}
+use Rattle.rules.specs.declared.rule.Rule.TheVariants.{OutsideTable, WrongValue}
+use Rattle.sp_cells.specs.declared.error.SetError.TheVariants.{WrongType}
 
 -- A drive with a shadow of 8 sectors, and so many bytes of DataStore.
 drive_of : ℕ → Origin
@@ -69,12 +71,12 @@ row_set : (comes_to (drive_of 4096) Locking [] datastore_table (SetBytes 16 (0xd
 unfolding label_authorities label_pins label_aces removal_aces data_removals datastore_aces gen_key_aces range_keys locking_infos byte_tables label_grants removal_grants datastore_grants gen_key_ace_grants info_grants key_grants admin_sps admin_authorities locking_authorities admin_pins locking_pins locking_ranges locking_mbr_controls admin_aces authority_aces pin_aces range_get_aces range_aces mbr_aces this_sp_grants owner_grants authority_grants fixed_ace_gets user_ace_grants read_locked_ace_grants write_locked_ace_grants done_ace_grants pin_grants range_get_ace_grants range_get_grants range_set_grants mbr_grants first_lexeme expect number_at uid_at values_up_to list_with list_value_with named_with value_after_token list_at status_at call_at reply_at message_at message_in number_spelling bytes_spelling any_below ranges_in verdict_of is_range listed_among cells_for zeros sectors_from authorities_of_locking any_to drive_of session comes_to pairs signed_in writes within removal
 row_set = (refl, refl)
 
-row_set_past : (comes_to (drive_of 4096) Locking [] datastore_table (SetBytes 4095 (1 ∷ 2 ∷ [])) ≡ Refuses 0x0c None) × (comes_to (drive_of 10) Locking [] datastore_table (SetBytes 10 (1 ∷ [])) ≡ Refuses 0x0c None)
+row_set_past : (comes_to (drive_of 4096) Locking [] datastore_table (SetBytes 4095 (1 ∷ 2 ∷ [])) ≡ Refuses 0x0c WrongValue) × (comes_to (drive_of 10) Locking [] datastore_table (SetBytes 10 (1 ∷ [])) ≡ Refuses 0x0c WrongValue)
 unfolding label_authorities label_pins label_aces removal_aces data_removals datastore_aces gen_key_aces range_keys locking_infos byte_tables label_grants removal_grants datastore_grants gen_key_ace_grants info_grants key_grants admin_sps admin_authorities locking_authorities admin_pins locking_pins locking_ranges locking_mbr_controls admin_aces authority_aces pin_aces range_get_aces range_aces mbr_aces this_sp_grants owner_grants authority_grants fixed_ace_gets user_ace_grants read_locked_ace_grants write_locked_ace_grants done_ace_grants pin_grants range_get_ace_grants range_get_grants range_set_grants mbr_grants first_lexeme expect number_at uid_at values_up_to list_with list_value_with named_with value_after_token list_at status_at call_at reply_at message_at message_in number_spelling bytes_spelling any_below ranges_in verdict_of is_range listed_among cells_for zeros sectors_from authorities_of_locking any_to drive_of session comes_to pairs signed_in writes within removal
 row_set_past = (refl, refl)
 
 -- The shadow's are where they were, and none of them is one of DataStore.
-row_shadow : (comes_to (drive_of 4096) Locking [] mbr_table (SetBytes 4095 (1 ∷ [])) ≡ Makes (bytes_set 4095 (1 ∷ []))) × (comes_to (drive_of 4096) Locking [] mbr_table (SetBytes 4096 (1 ∷ [])) ≡ Refuses 0x0c None)
+row_shadow : (comes_to (drive_of 4096) Locking [] mbr_table (SetBytes 4095 (1 ∷ [])) ≡ Makes (bytes_set 4095 (1 ∷ []))) × (comes_to (drive_of 4096) Locking [] mbr_table (SetBytes 4096 (1 ∷ [])) ≡ Refuses 0x0c WrongValue)
 unfolding label_authorities label_pins label_aces removal_aces data_removals datastore_aces gen_key_aces range_keys locking_infos byte_tables label_grants removal_grants datastore_grants gen_key_ace_grants info_grants key_grants admin_sps admin_authorities locking_authorities admin_pins locking_pins locking_ranges locking_mbr_controls admin_aces authority_aces pin_aces range_get_aces range_aces mbr_aces this_sp_grants owner_grants authority_grants fixed_ace_gets user_ace_grants read_locked_ace_grants write_locked_ace_grants done_ace_grants pin_grants range_get_ace_grants range_get_grants range_set_grants mbr_grants first_lexeme expect number_at uid_at values_up_to list_with list_value_with named_with value_after_token list_at status_at call_at reply_at message_at message_in number_spelling bytes_spelling any_below ranges_in verdict_of is_range listed_among cells_for zeros sectors_from authorities_of_locking any_to drive_of session comes_to pairs signed_in writes within removal
 row_shadow = (refl, refl)
 
@@ -83,12 +85,12 @@ row_read : (comes_to (drive_of 4096) Locking writes datastore_table (GetBytes 15
 unfolding label_authorities label_pins label_aces removal_aces data_removals datastore_aces gen_key_aces range_keys locking_infos byte_tables label_grants removal_grants datastore_grants gen_key_ace_grants info_grants key_grants admin_sps admin_authorities locking_authorities admin_pins locking_pins locking_ranges locking_mbr_controls admin_aces authority_aces pin_aces range_get_aces range_aces mbr_aces this_sp_grants owner_grants authority_grants fixed_ace_gets user_ace_grants read_locked_ace_grants write_locked_ace_grants done_ace_grants pin_grants range_get_ace_grants range_get_grants range_set_grants mbr_grants first_lexeme expect number_at uid_at values_up_to list_with list_value_with named_with value_after_token list_at status_at call_at reply_at message_at message_in number_spelling bytes_spelling any_below ranges_in verdict_of is_range listed_among cells_for zeros sectors_from authorities_of_locking any_to drive_of session comes_to pairs signed_in writes within removal
 row_read = (refl, refl)
 
-row_read_past : (comes_to (drive_of 10) Locking [] datastore_table (GetBytes 9 (Some 10)) ≡ Refuses 0x0c None) × (comes_to (drive_of 10) Locking [] datastore_table (GetBytes 8 None) ≡ Gives (tree.bytes (0 ∷ 0 ∷ []) ∷ []))
+row_read_past : (comes_to (drive_of 10) Locking [] datastore_table (GetBytes 9 (Some 10)) ≡ Refuses 0x0c OutsideTable) × (comes_to (drive_of 10) Locking [] datastore_table (GetBytes 8 None) ≡ Gives (tree.bytes (0 ∷ 0 ∷ []) ∷ []))
 unfolding label_authorities label_pins label_aces removal_aces data_removals datastore_aces gen_key_aces range_keys locking_infos byte_tables label_grants removal_grants datastore_grants gen_key_ace_grants info_grants key_grants admin_sps admin_authorities locking_authorities admin_pins locking_pins locking_ranges locking_mbr_controls admin_aces authority_aces pin_aces range_get_aces range_aces mbr_aces this_sp_grants owner_grants authority_grants fixed_ace_gets user_ace_grants read_locked_ace_grants write_locked_ace_grants done_ace_grants pin_grants range_get_ace_grants range_get_grants range_set_grants mbr_grants first_lexeme expect number_at uid_at values_up_to list_with list_value_with named_with value_after_token list_at status_at call_at reply_at message_at message_in number_spelling bytes_spelling any_below ranges_in verdict_of is_range listed_among cells_for zeros sectors_from authorities_of_locking any_to drive_of session comes_to pairs signed_in writes within removal
 row_read_past = (refl, refl)
 
 -- One of no bytes has none to read and none to write.
-row_none : (comes_to (drive_of 0) Locking [] datastore_table (GetBytes 0 None) ≡ Refuses 0x0c None) × (comes_to (drive_of 0) Locking [] datastore_table (SetBytes 0 (1 ∷ [])) ≡ Refuses 0x0c None)
+row_none : (comes_to (drive_of 0) Locking [] datastore_table (GetBytes 0 None) ≡ Refuses 0x0c OutsideTable) × (comes_to (drive_of 0) Locking [] datastore_table (SetBytes 0 (1 ∷ [])) ≡ Refuses 0x0c WrongValue)
 unfolding label_authorities label_pins label_aces removal_aces data_removals datastore_aces gen_key_aces range_keys locking_infos byte_tables label_grants removal_grants datastore_grants gen_key_ace_grants info_grants key_grants admin_sps admin_authorities locking_authorities admin_pins locking_pins locking_ranges locking_mbr_controls admin_aces authority_aces pin_aces range_get_aces range_aces mbr_aces this_sp_grants owner_grants authority_grants fixed_ace_gets user_ace_grants read_locked_ace_grants write_locked_ace_grants done_ace_grants pin_grants range_get_ace_grants range_get_grants range_set_grants mbr_grants first_lexeme expect number_at uid_at values_up_to list_with list_value_with named_with value_after_token list_at status_at call_at reply_at message_at message_in number_spelling bytes_spelling any_below ranges_in verdict_of is_range listed_among cells_for zeros sectors_from authorities_of_locking any_to drive_of session comes_to pairs signed_in writes within removal
 row_none = (refl, refl)
 
@@ -110,6 +112,6 @@ unfolding rows
 row_shapes = (refl, refl, refl)
 
 -- Data are removed in the one way that the drive has, and a Set takes that alone.
-row_removal : (removal 2 ≡ Makes (cells_set data_removal ((active_data_removal_mechanism_column, Number 2) ∷ []))) × (removal 1 ≡ Refuses 0x0c None)
+row_removal : (removal 2 ≡ Makes (cells_set data_removal ((active_data_removal_mechanism_column, Number 2) ∷ []))) × (removal 1 ≡ Refuses 0x0c WrongValue)
 unfolding label_authorities label_pins label_aces removal_aces data_removals datastore_aces gen_key_aces range_keys locking_infos byte_tables label_grants removal_grants datastore_grants gen_key_ace_grants info_grants key_grants admin_sps admin_authorities locking_authorities admin_pins locking_pins locking_ranges locking_mbr_controls admin_aces authority_aces pin_aces range_get_aces range_aces mbr_aces this_sp_grants owner_grants authority_grants fixed_ace_gets user_ace_grants read_locked_ace_grants write_locked_ace_grants done_ace_grants pin_grants range_get_ace_grants range_get_grants range_set_grants mbr_grants first_lexeme expect number_at uid_at values_up_to list_with list_value_with named_with value_after_token list_at status_at call_at reply_at message_at message_in number_spelling bytes_spelling any_below ranges_in verdict_of is_range listed_among cells_for zeros sectors_from authorities_of_locking any_to drive_of session comes_to pairs signed_in writes within removal
 row_removal = (refl, refl)

@@ -28,7 +28,7 @@ use Rattle.methods.specs.Erasures.{numbered_runs}
 use Rattle.methods.specs.Said.{refusal_of}
 use Rattle.methods.specs.Judgement.{asked, does}
 use Rattle.methods.specs.Calls.{outcome_of}
-use Rattle.sessions.specs.Deeds.{Begun, Outcome, Unchanged, says}
+use Rattle.sessions.specs.Deeds.{Begun, Outcome, Unchanged, says, refuses as refuses_item}
 use Rattle.history.specs.Opening.{Origin, activated_origin, with_range}
 use Rattle.history.specs.Events.{Event}
 use Rattle.history.specs.Readers.{sector}
@@ -37,6 +37,7 @@ use Rattle.history.specs.Decisions.{any_below}
 use Rattle.history.specs.Tcg.{answers}
 use Rattle.history.specs.History.{Act, log}
 use Rattle.history.proofs.Scripts.{msid, config, range_row, dwrite, start_as, tell, in_it, set_cells}
+use Rattle.rules.specs.declared.rule.Rule.TheVariants.{InTransaction, GlobalLocked}
 
 field : Origin
 field = activated_origin (record config { profile = Field })
@@ -84,7 +85,7 @@ unfolding label_authorities label_pins label_aces removal_aces data_removals dat
 row_empty_range_key = (refl, refl)
 
 -- GenKey within a transaction fails, and so none goes by the places of an open one.
-row_key_within : (comes_to ranged moves (key_uid 1) GenKey ≡ says Unchanged (refusal_of 0x3f)) × (after ranged moves (key_uid 1) GenKey 5 ≡ replicate 512 0xaa)
+row_key_within : (comes_to ranged moves (key_uid 1) GenKey ≡ refuses_item (refusal_of 0x3f) InTransaction) × (after ranged moves (key_uid 1) GenKey 5 ≡ replicate 512 0xaa)
 unfolding label_authorities label_pins label_aces removal_aces data_removals datastore_aces gen_key_aces range_keys locking_infos byte_tables label_grants removal_grants datastore_grants gen_key_ace_grants info_grants key_grants admin_sps admin_authorities locking_authorities admin_pins locking_pins locking_ranges locking_mbr_controls admin_aces authority_aces pin_aces range_get_aces range_aces mbr_aces this_sp_grants owner_grants authority_grants fixed_ace_gets user_ace_grants read_locked_ace_grants write_locked_ace_grants done_ace_grants pin_grants range_get_ace_grants range_get_grants range_set_grants mbr_grants first_lexeme expect number_at uid_at values_up_to list_with list_value_with named_with value_after_token list_at status_at call_at reply_at message_at message_in number_spelling bytes_spelling any_below ranges_in verdict_of is_range listed_among cells_for zeros sectors_from authorities_of_locking any_to numbered_runs field ranged session comes_to after writes moves
 row_key_within = (refl, refl)
 
@@ -99,7 +100,7 @@ unfolding label_authorities label_pins label_aces removal_aces data_removals dat
 row_revert_sp_keeps = (refl, refl)
 
 -- RevertSP within a transaction fails.
-row_revert_sp_within : (comes_to ranged moves this_sp (RevertSp false) ≡ says Unchanged (refusal_of 0x3f)) × (comes_to ranged moves this_sp (RevertSp true) ≡ says Unchanged (refusal_of 0x3f))
+row_revert_sp_within : (comes_to ranged moves this_sp (RevertSp false) ≡ refuses_item (refusal_of 0x3f) InTransaction) × (comes_to ranged moves this_sp (RevertSp true) ≡ refuses_item (refusal_of 0x3f) InTransaction)
 unfolding label_authorities label_pins label_aces removal_aces data_removals datastore_aces gen_key_aces range_keys locking_infos byte_tables label_grants removal_grants datastore_grants gen_key_ace_grants info_grants key_grants admin_sps admin_authorities locking_authorities admin_pins locking_pins locking_ranges locking_mbr_controls admin_aces authority_aces pin_aces range_get_aces range_aces mbr_aces this_sp_grants owner_grants authority_grants fixed_ace_gets user_ace_grants read_locked_ace_grants write_locked_ace_grants done_ace_grants pin_grants range_get_ace_grants range_get_grants range_set_grants mbr_grants first_lexeme expect number_at uid_at values_up_to list_with list_value_with named_with value_after_token list_at status_at call_at reply_at message_at message_in number_spelling bytes_spelling any_below ranges_in verdict_of is_range listed_among cells_for zeros sectors_from authorities_of_locking any_to numbered_runs field ranged session comes_to after writes moves
 row_revert_sp_within = (refl, refl)
 
@@ -108,7 +109,7 @@ row_revert_sp_within = (refl, refl)
 locked : Bool → Origin
 locked counts = with_range (range_row 0 0 0 true counts true true) field
 
-row_locked : (comes_to (locked true) [] this_sp (RevertSp true) ≡ says Unchanged (refusal_of 0x3f)) × ((comes_to (locked true) [] this_sp (RevertSp false)).said ≡ refusal_of 0) × ((comes_to (locked false) [] this_sp (RevertSp true)).said ≡ refusal_of 0)
+row_locked : (comes_to (locked true) [] this_sp (RevertSp true) ≡ refuses_item (refusal_of 0x3f) GlobalLocked) × ((comes_to (locked true) [] this_sp (RevertSp false)).said ≡ refusal_of 0) × ((comes_to (locked false) [] this_sp (RevertSp true)).said ≡ refusal_of 0)
 unfolding label_authorities label_pins label_aces removal_aces data_removals datastore_aces gen_key_aces range_keys locking_infos byte_tables label_grants removal_grants datastore_grants gen_key_ace_grants info_grants key_grants admin_sps admin_authorities locking_authorities admin_pins locking_pins locking_ranges locking_mbr_controls admin_aces authority_aces pin_aces range_get_aces range_aces mbr_aces this_sp_grants owner_grants authority_grants fixed_ace_gets user_ace_grants read_locked_ace_grants write_locked_ace_grants done_ace_grants pin_grants range_get_ace_grants range_get_grants range_set_grants mbr_grants first_lexeme expect number_at uid_at values_up_to list_with list_value_with named_with value_after_token list_at status_at call_at reply_at message_at message_in number_spelling bytes_spelling any_below ranges_in verdict_of is_range listed_among cells_for zeros sectors_from authorities_of_locking any_to numbered_runs field ranged session comes_to after writes moves locked
 row_locked = (refl, refl, refl)
 

@@ -18,6 +18,7 @@ use Rattle.sp_cells.specs.Names.{session_manager, start_session}
 use Rattle.history.specs.Events.{Event, Deed, InSession}
 use Rattle.device_data.specs.ErrorLog.{sized}
 use Rattle.history.specs.History.{Act, Accept, log}
+use Rattle.rules.specs.declared.rule.Rule.{Rule}
 
 abbrev pub msid : List ℕ
 msid = 0x4f ∷ 0x50 ∷ 0x41 ∷ 0x4c ∷ 0x4d ∷ 0x53 ∷ 0x49 ∷ 0x44 ∷ []
@@ -116,6 +117,14 @@ option_list (Some why) = why ∷ []
 
 abbrev pub whys : Origin → List Act → List Why
 whys o acts = reverse (flat_map (λ (e : Event). option_list e.denied) (log o (reverse acts)))
+
+-- and the rules that refused acts
+abbrev pub rule_list : Option Rule → List Rule
+rule_list None = []
+rule_list (Some rule) = rule ∷ []
+
+abbrev pub rules_met : Origin → List Act → List Rule
+rules_met o acts = reverse (flat_map (λ (e : Event). rule_list e.rule) (log o (reverse acts)))
 
 abbrev pub error_list : Option ℕ → List ℕ
 error_list None = []

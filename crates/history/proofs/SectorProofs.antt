@@ -24,10 +24,10 @@ use Rattle.sessions.specs.Deeds.{Begun, SessionDeed, Reverted}
 use Rattle.trusted_cmds.specs.BlockSid.{is_block_sid, block_asked, is_blocked}
 use Rattle.device_data.specs.Discovery.{has_owner}
 use Rattle.history.specs.Opening.{Origin}
-use Rattle.history.specs.Events.{did, HeldCommand, Deed, Nothing, InSession, Wrote, Event, or_else, OfQueue, Took, BlockedSid, WasReset, latest, CompletedWrite, Completed, Held, QueueFailed, QueueMended}
+use Rattle.history.specs.Events.{did, HeldCommand, Deed, Nothing, InSession, Wrote, Event, or_else, OfQueue, Took, BlockedSid, WasReset, latest, CompletedWrite, Completed, Held, QueueFailed, QueueMended, ignores}
 use Rattle.history.specs.Facts.{Facts, facts, session_named}
-use Rattle.history.specs.Decisions.{aborted, not_found, fails, refuses, fails_queue, on_drive, verdict_on, queued_by, queued_transfer, admitted, unqueued_by, unqueued_transfer, is_trusted, is_session_com_id, discovery_com_id, received, while_failed, is_busy, completed_by, completed, resets, is_received}
-use Rattle.history.specs.Tcg.{answers, to_manager, is_manager, to_session, framed, sent, unqueued, known, commanded, tcg, command_read, blocks_sid}
+use Rattle.history.specs.Decisions.{aborted, not_found, fails, refuses, fails_queue, on_drive, verdict_on, queued_by, queued_transfer, admitted, unqueued_by, unqueued_transfer, is_trusted, is_session_com_id, discovery_com_id, received, while_failed, is_busy, completed_by, completed, resets, is_received, unreceived}
+use Rattle.history.specs.Tcg.{answers, to_manager, is_manager, to_session, framed, sent, unqueued, known, commanded, tcg, command_read, blocks_sid, unsent}
 use Rattle.history.specs.History.{Act, Accept, Complete, Reset, event_by, log}
 use Rattle.shadow_mbr.specs.Erasure.{is_erased}
 use Rattle.sessions.specs.Deeds.{erased_by}
@@ -43,6 +43,7 @@ use Rattle.history.proofs.HeldProofs.{held_law}
 use Rattle.history.proofs.WriteProofs.{write_law}
 use Rattle.history.proofs.Payloads.{payload-of-command}
 use Rattle.sp_cells.specs.Resets.{programmatic}
+use Rattle.rules.specs.declared.rule.Rule.TheVariants.{NoCommand, Unreadable, Mixed, BeyondDrive, SidKept, NoFrame}
 
 -- no accepted command completes a write
 abbrev quiet : Deed → Bool
@@ -63,7 +64,7 @@ framed-quiet f com_id frame h =
 
 sent-quiet : (f : Facts) (com_id : ℕ) (r : Result Frame FrameError) → is_session_com_id com_id ≡ true → quiet (sent f com_id r).deed ≡ true
 sent-quiet f com_id (Err e) h = refl
-sent-quiet f com_id (Ok frame) h = either (frame.com_id == com_id) (framed f com_id frame) (did Nothing) (λ is. framed-quiet f com_id frame h) refl
+sent-quiet f com_id (Ok frame) h = either (frame.com_id == com_id) (framed f com_id frame) (ignores NoFrame) (λ is. framed-quiet f com_id frame h) refl
 
 middle : (a b c : Bool) → (a && b && c) ≡ true → b ≡ true
 middle true true c h = refl
@@ -80,7 +81,7 @@ unqueued_by-quiet d Serve h = h
 unqueued_by-quiet d Shadow h = h
 
 transfer-quiet : (f : Facts) (d : Deed) (op : Op) (lba count : ℕ) → quiet d ≡ true → quiet (unqueued_transfer f d op lba count).deed ≡ true
-transfer-quiet f d op lba count h = either (on_drive f lba count) _ (fails not_found None) (λ is. unqueued_by-quiet d (verdict_on f op lba count) h) refl
+transfer-quiet f d op lba count h = either (on_drive f lba count) _ (fails not_found None (Some BeyondDrive)) (λ is. unqueued_by-quiet d (verdict_on f op lba count) h) refl
 
 unqueued-quiet : (f : Facts) (payload : List ℕ) (c : Command) → quiet (unqueued f payload c).deed ≡ true
 unqueued-quiet f payload (ReadDma lba count) = transfer-quiet f Nothing Read lba count refl
@@ -88,10 +89,10 @@ unqueued-quiet f payload (WriteDma lba count) = transfer-quiet f (Wrote lba payl
 unqueued-quiet f payload (Send protocol com_id blocks dma) =
     either (resets f.rows (Send protocol com_id blocks dma)) (did (WasReset programmatic)) _ (λ is. refl)
     (either (is_block_sid f.config.profile (Send protocol com_id blocks true)) (blocks_sid f payload) _
-    (λ is. either (has_owner f.rows || is_blocked f.block) refuses (did (BlockedSid (block_asked payload))) (λ is. refl) refl)
-    (either (is_trusted protocol blocks && is_session_com_id com_id && not (is_some (f.waiting com_id))) _ refuses
+    (λ is. either (has_owner f.rows || is_blocked f.block) (refuses SidKept) (did (BlockedSid (block_asked payload))) (λ is. refl) refl)
+    (either (is_trusted protocol blocks && is_session_com_id com_id && not (is_some (f.waiting com_id))) _ (refuses (unsent protocol com_id blocks))
     (λ is. sent-quiet f com_id (frame_in payload) (middle (is_trusted protocol blocks) (is_session_com_id com_id) (not (is_some (f.waiting com_id))) is)) refl))
-unqueued-quiet f payload (Receive protocol com_id blocks dma) = either (is_received f protocol com_id blocks) _ refuses (λ is. received-quiet com_id blocks (f.waiting com_id)) refl
+unqueued-quiet f payload (Receive protocol com_id blocks dma) = either (is_received f protocol com_id blocks) _ (refuses (unreceived protocol blocks)) (λ is. received-quiet com_id blocks (f.waiting com_id)) refl
 unqueued-quiet f payload _ = refl
 
 queued_by-quiet : (h : RegH2d) (tag : ℕ) (c : Command) (v : Verdict) → quiet (queued_by h tag c v).deed ≡ true
@@ -100,7 +101,7 @@ queued_by-quiet h tag c Serve = refl
 queued_by-quiet h tag c Shadow = refl
 
 queued-quiet : (f : Facts) (h : RegH2d) (tag : ℕ) (c : Command) (op : Op) (lba count : ℕ) → quiet (queued_transfer f h tag c op lba count).deed ≡ true
-queued-quiet f h tag c op lba count = either (on_drive f lba count) _ (fails_queue (Some tag) not_found h None) (λ is. queued_by-quiet h tag c (verdict_on f op lba count)) refl
+queued-quiet f h tag c op lba count = either (on_drive f lba count) _ (fails_queue (Some tag) not_found h None (Some BeyondDrive)) (λ is. queued_by-quiet h tag c (verdict_on f op lba count)) refl
 
 admitted-quiet : (f : Facts) (h : RegH2d) (tag : ℕ) (c : Command) (b : Bool) → quiet (admitted f h tag c b).deed ≡ true
 admitted-quiet f h tag c true = refl
@@ -109,7 +110,7 @@ admitted-quiet f h tag (WriteQueued lba count) false = queued-quiet f h tag (Wri
 admitted-quiet f h tag _ false = refl
 
 known-quiet : (f : Facts) (h : RegH2d) (payload : List ℕ) (r : Result (Command × Option ℕ) CommandError) → quiet (known f h payload r).deed ≡ true
-known-quiet f h payload (Err e) = either (is_queued h.command) (fails_queue (Some (tag_of h)) aborted h None) refuses (λ is. refl) refl
+known-quiet f h payload (Err e) = either (is_queued h.command) (fails_queue (Some (tag_of h)) aborted h None (Some (Unreadable e))) (refuses (Unreadable e)) (λ is. refl) refl
 known-quiet f h payload (Ok (c, Some tag)) = admitted-quiet f h tag c (is_some (f.held tag))
 known-quiet f h payload (Ok (c, None)) = unqueued-quiet f payload c
 
@@ -119,9 +120,9 @@ while_failed-quiet _ = refl
 
 commanded-quiet : (f : Facts) (h : RegH2d) (payload : List ℕ) → quiet (commanded f h payload).deed ≡ true
 commanded-quiet f h payload =
-    either (not h.is_command) refuses _ (λ is. refl)
+    either (not h.is_command) (refuses NoCommand) _ (λ is. refl)
     (either (is_some f.failure) (while_failed (command_read f.config h)) _ (λ is. while_failed-quiet (command_read f.config h))
-    (either (is_busy f && not (is_queued h.command)) (fails_queue None aborted h None) (known f h payload (command_read f.config h)) (λ is. refl) (known-quiet f h payload (command_read f.config h))))
+    (either (is_busy f && not (is_queued h.command)) (fails_queue None aborted h None (Some Mixed)) (known f h payload (command_read f.config h)) (λ is. refl) (known-quiet f h payload (command_read f.config h))))
 
 -- bytes that end on the drive have no part behind it
 behind : (place lba n sectors_on : ℕ) → lba + n ≤ sectors_on → sectors_on ≤ place → nat_lt place (lba + n) ≡ false
@@ -294,7 +295,7 @@ completed-left o acts tag place payload (Some h) is size le rest = by_command h.
     by_command (ReadLog page dma) command = rest
 
 accept-quiet : (f : Facts) (fis payload : List ℕ) → quiet (event_by f (Accept fis payload)).deed ≡ true
-accept-quiet f fis payload = either (slice_index fis 0 == h2d_type) (commanded f (h2d_at fis) payload) refuses (λ is. commanded-quiet f (h2d_at fis) payload) refl
+accept-quiet f fis payload = either (slice_index fis 0 == h2d_type) (commanded f (h2d_at fis) payload) (refuses NoCommand) (λ is. commanded-quiet f (h2d_at fis) payload) refl
 
 pub sector_law : SectorLaw
 sector_law o [] place fed le = refl

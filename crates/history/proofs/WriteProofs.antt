@@ -14,7 +14,7 @@ use Rattle.locking.specs.declared.ranges.Verdict.TheVariants.{Serve, Shadow, Den
 use Rattle.device_data.specs.declared.log_page.Failure.{Failure}
 use Rattle.history.specs.Events.{HeldCommand, Deed, Nothing, InSession, OfQueue, Wrote, Took, BlockedSid, Event, did, WasReset}
 use Rattle.history.specs.Facts.{Facts}
-use Rattle.history.specs.Decisions.{not_found, aborted, fails, refuses, fails_queue, on_drive, ranges_in_force, verdict_on, queued_by, admitted, unqueued_by, is_trusted, is_session_com_id, discovery_com_id, received, while_failed, is_busy, completed_by, completed, resets, unqueued_of, known_of, commanded_of, is_received}
+use Rattle.history.specs.Decisions.{not_found, aborted, fails, refuses, fails_queue, on_drive, ranges_in_force, verdict_on, queued_by, admitted, unqueued_by, is_trusted, is_session_com_id, discovery_com_id, received, while_failed, is_busy, completed_by, completed, resets, unqueued_of, known_of, commanded_of, is_received, unreceived}
 use Rattle.history.specs.Items.{Items}
 use Rattle.history.specs.Quiet.{is_quiet, IsQuiet}
 use Rattle.history.specs.History.{Act, Accept, Complete, Reset, event_in}
@@ -22,6 +22,7 @@ use Rattle.history.specs.Looked.{IsLookedAtBy}
 use Rattle.history.specs.TransferLaws.{IsPermitted, is_denied, Writes, WriteLaw}
 use Rattle.history.proofs.TransferProofs.{verdict_law}
 use Rattle.sp_cells.specs.Resets.{programmatic}
+use Rattle.rules.specs.declared.rule.Rule.TheVariants.{NoCommand, Unreadable, Mixed, BeyondDrive}
 
 abbrev is_write : Deed → Bool
 is_write (Wrote lba bytes) = true
@@ -66,7 +67,7 @@ written-as items f act l lba n bytes looked drive may same =
     let made : Writes items f act l looked.payload = record { count = n; looked = looked; payload = refl; on_drive = drive; permitted = may } in
     subst (λ x. Writes items f act x bytes) is_lba (subst (Writes items f act l) (ap (λ (p : ℕ × List ℕ). p.1) (ap moved same)) made)
 
-served-is : (items : Items) (f : Facts) (act : Act) (l n lba : ℕ) (bytes : List ℕ) (looked : IsLookedAtBy items f act (WriteDma l n) None) → (b : Bool) (v : Verdict) → on_drive f l n ≡ b → verdict_on f Write l n ≡ v → (cond b (unqueued_by (Wrote l looked.payload) v) (fails not_found None)).deed ≡ Wrote lba bytes → Writes items f act lba bytes
+served-is : (items : Items) (f : Facts) (act : Act) (l n lba : ℕ) (bytes : List ℕ) (looked : IsLookedAtBy items f act (WriteDma l n) None) → (b : Bool) (v : Verdict) → on_drive f l n ≡ b → verdict_on f Write l n ≡ v → (cond b (unqueued_by (Wrote l looked.payload) v) (fails not_found None (Some BeyondDrive))).deed ≡ Wrote lba bytes → Writes items f act lba bytes
 served-is items f act l n lba bytes looked false v drive is g = absurd (not-write refl g)
 served-is items f act l n lba bytes looked true (Denied why) drive is g = absurd (not-write refl g)
 served-is items f act l n lba bytes looked true Serve drive is g = written-as items f act l lba n bytes looked drive ((verdict_law (ranges_in_force f) Write l n).served.0 (ap is_denied is)) g
@@ -74,11 +75,11 @@ served-is items f act l n lba bytes looked true Shadow drive is g = written-as i
 
 unqueued-is : (items : Items) (still : IsQuiet items) (f : Facts) (act : Act) (lba : ℕ) (bytes : List ℕ) (c : Command) (looked : IsLookedAtBy items f act c None) → (unqueued_of items f looked.payload c).deed ≡ Wrote lba bytes → Writes items f act lba bytes
 unqueued-is items still f act lba bytes (WriteDma l n) looked g = served-is items f act l n lba bytes looked (on_drive f l n) (verdict_on f Write l n) refl refl g
-unqueued-is items still f act lba bytes (ReadDma l n) looked g = absurd (not-write (none-if (on_drive f l n) (unqueued_by Nothing (verdict_on f Read l n)) (fails not_found None) (unqueued_by-none Nothing (verdict_on f Read l n) refl) refl) g)
+unqueued-is items still f act lba bytes (ReadDma l n) looked g = absurd (not-write (none-if (on_drive f l n) (unqueued_by Nothing (verdict_on f Read l n)) (fails not_found None (Some BeyondDrive)) (unqueued_by-none Nothing (verdict_on f Read l n) refl) refl) g)
 unqueued-is items still f act lba bytes (Send p c b d) looked g =
     absurd (not-write (none-if (resets f.rows (Send p c b d)) (did (WasReset programmatic)) (items.sends f p c b looked.payload) refl
     (quiet-none (items.sends f p c b looked.payload).deed (still f p c b looked.payload))) g)
-unqueued-is items still f act lba bytes (Receive p c b d) looked g = absurd (not-write (none-if (is_received f p c b) (received c b (f.waiting c)) refuses (received-none c b (f.waiting c)) refl) g)
+unqueued-is items still f act lba bytes (Receive p c b d) looked g = absurd (not-write (none-if (is_received f p c b) (received c b (f.waiting c)) (refuses (unreceived p b)) (received-none c b (f.waiting c)) refl) g)
 unqueued-is items still f act lba bytes (ReadQueued l n) looked g = absurd (not-write refl g)
 unqueued-is items still f act lba bytes (WriteQueued l n) looked g = absurd (not-write refl g)
 unqueued-is items still f act lba bytes Identify looked g = absurd (not-write refl g)
@@ -87,7 +88,7 @@ unqueued-is items still f act lba bytes Flush looked g = absurd (not-write refl 
 unqueued-is items still f act lba bytes SetFeatures looked g = absurd (not-write refl g)
 unqueued-is items still f act lba bytes (ReadLog page dma) looked g = absurd (not-write refl g)
 
-queued-none : (h : RegH2d) (tag : ℕ) (c : Command) (b : Bool) (v : Verdict) → is_write (cond b (queued_by h tag c v) (fails_queue (Some tag) not_found h None)).deed ≡ false
+queued-none : (h : RegH2d) (tag : ℕ) (c : Command) (b : Bool) (v : Verdict) → is_write (cond b (queued_by h tag c v) (fails_queue (Some tag) not_found h None (Some BeyondDrive))).deed ≡ false
 queued-none h tag c false v = refl
 queued-none h tag c true (Denied why) = refl
 queued-none h tag c true Serve = refl
@@ -110,24 +111,24 @@ accept-is items still f fis payload lba bytes g = by_kind (slice_index fis 0 == 
     c = h2d_at fis
 
     by_reading : (slice_index fis 0 == h2d_type) ≡ true → c.is_command ≡ true → f.failure ≡ None → (is_busy f && not (is_queued c.command)) ≡ false → (r : Result (Command × Option ℕ) CommandError) → items.reads f.config c ≡ r → (known_of items f c payload r).deed ≡ Wrote lba bytes → Writes items f (Accept fis payload) lba bytes
-    by_reading kind commands mended unmixed (Err e) is k = absurd (not-write (none-if (is_queued c.command) (fails_queue (Some (tag_of c)) aborted c None) refuses refl refl) k)
+    by_reading kind commands mended unmixed (Err e) is k = absurd (not-write (none-if (is_queued c.command) (fails_queue (Some (tag_of c)) aborted c None (Some (Unreadable e))) (refuses (Unreadable e)) refl refl) k)
     by_reading kind commands mended unmixed (Ok (command, Some t)) is k = absurd (not-write (admitted-none f c t command (is_some (f.held t))) k)
     by_reading kind commands mended unmixed (Ok (command, None)) is k =
         unqueued-is items still f (Accept fis payload) lba bytes command (record { fis = fis; payload = payload; accepts = refl; kind = eqb-true (slice_index fis 0) h2d_type kind; commands = commands; mended = mended; unmixed = unmixed; reads = is }) k
 
-    by_mix : (slice_index fis 0 == h2d_type) ≡ true → c.is_command ≡ true → f.failure ≡ None → (b : Bool) → (is_busy f && not (is_queued c.command)) ≡ b → (cond b (fails_queue None aborted c None) (known_of items f c payload (items.reads f.config c))).deed ≡ Wrote lba bytes → Writes items f (Accept fis payload) lba bytes
+    by_mix : (slice_index fis 0 == h2d_type) ≡ true → c.is_command ≡ true → f.failure ≡ None → (b : Bool) → (is_busy f && not (is_queued c.command)) ≡ b → (cond b (fails_queue None aborted c None (Some Mixed)) (known_of items f c payload (items.reads f.config c))).deed ≡ Wrote lba bytes → Writes items f (Accept fis payload) lba bytes
     by_mix kind commands mended true is k = absurd (not-write refl k)
     by_mix kind commands mended false is k = by_reading kind commands mended is (items.reads f.config c) refl k
 
-    by_failure : (slice_index fis 0 == h2d_type) ≡ true → c.is_command ≡ true → (x : Option Failure) → f.failure ≡ x → (cond (is_some x) (while_failed (items.reads f.config c)) (cond (is_busy f && not (is_queued c.command)) (fails_queue None aborted c None) (known_of items f c payload (items.reads f.config c)))).deed ≡ Wrote lba bytes → Writes items f (Accept fis payload) lba bytes
+    by_failure : (slice_index fis 0 == h2d_type) ≡ true → c.is_command ≡ true → (x : Option Failure) → f.failure ≡ x → (cond (is_some x) (while_failed (items.reads f.config c)) (cond (is_busy f && not (is_queued c.command)) (fails_queue None aborted c None (Some Mixed)) (known_of items f c payload (items.reads f.config c)))).deed ≡ Wrote lba bytes → Writes items f (Accept fis payload) lba bytes
     by_failure kind commands (Some x) is k = absurd (not-write (while_failed-none (items.reads f.config c)) k)
     by_failure kind commands None is k = by_mix kind commands is (is_busy f && not (is_queued c.command)) refl k
 
-    by_command : (slice_index fis 0 == h2d_type) ≡ true → (b : Bool) → c.is_command ≡ b → (cond (not b) refuses (cond (is_some f.failure) (while_failed (items.reads f.config c)) (cond (is_busy f && not (is_queued c.command)) (fails_queue None aborted c None) (known_of items f c payload (items.reads f.config c))))).deed ≡ Wrote lba bytes → Writes items f (Accept fis payload) lba bytes
+    by_command : (slice_index fis 0 == h2d_type) ≡ true → (b : Bool) → c.is_command ≡ b → (cond (not b) (refuses NoCommand) (cond (is_some f.failure) (while_failed (items.reads f.config c)) (cond (is_busy f && not (is_queued c.command)) (fails_queue None aborted c None (Some Mixed)) (known_of items f c payload (items.reads f.config c))))).deed ≡ Wrote lba bytes → Writes items f (Accept fis payload) lba bytes
     by_command kind false is k = absurd (not-write refl k)
     by_command kind true is k = by_failure kind is f.failure refl k
 
-    by_kind : (b : Bool) → (slice_index fis 0 == h2d_type) ≡ b → (cond b (commanded_of items f c payload) refuses).deed ≡ Wrote lba bytes → Writes items f (Accept fis payload) lba bytes
+    by_kind : (b : Bool) → (slice_index fis 0 == h2d_type) ≡ b → (cond b (commanded_of items f c payload) (refuses NoCommand)).deed ≡ Wrote lba bytes → Writes items f (Accept fis payload) lba bytes
     by_kind false is k = absurd (not-write refl k)
     by_kind true is k = by_command is c.is_command refl k
 

@@ -17,6 +17,8 @@ use Rattle.locking.specs.declared.range.Op.{Op}
 use Rattle.locking.specs.declared.range.Op.TheVariants.{Read, Write}
 use Rattle.trusted_cmds.specs.Commands.{is_queued, tag_of, sector_size, is_programmatic_reset, is_protocol_list}
 use Rattle.audit.specs.declared.reason.Why.{Why}
+use Rattle.rules.specs.declared.rule.Rule.{Rule}
+use Rattle.rules.specs.declared.rule.Rule.TheVariants.{NoCommand, Unreadable, QueueFailed, Mixed, TagHeld, BeyondDrive, Protocol, ComId}
 use Rattle.trusted_cmds.specs.declared.command.Command.{Command}
 use Rattle.trusted_cmds.specs.declared.command.Command.TheVariants.{ReadQueued, WriteQueued, ReadDma, WriteDma, Send, Receive, Identify, ReadLog10, Flush, SetFeatures, ReadLog}
 use Rattle.trusted_cmds.specs.declared.command.CommandError.{CommandError}
@@ -39,19 +41,26 @@ aborted = 0x04
 abbrev pub not_found : ℕ
 not_found = 0x10
 
-abbrev pub fails : ℕ → Option Why → Event
-fails error denied = record { failed = Some error; deed = Nothing; denied = denied }
+abbrev pub fails : ℕ → Option Why → Option Rule → Event
+fails error denied rule = record {
+  failed = Some error;
+  deed = Nothing;
+  denied = denied;
+  rule = rule;
+}
 
-abbrev pub refuses : Event
-refuses = fails aborted None
+-- Aborted, by a rule.
+abbrev pub refuses : Rule → Event
+refuses rule = fails aborted None (Some rule)
 
--- The queue fails with the command of a FIS: its error, and what denied it (ACS-3, NCQ feature set
--- and NCQ Command Error log).
-abbrev pub fails_queue : Option ℕ → ℕ → RegH2d → Option Why → Event
-fails_queue tag error h denied = record {
+-- The queue fails with the command of a FIS: its error, what denied it, or which rule refused it (ACS-3,
+-- NCQ feature set and NCQ Command Error log).
+abbrev pub fails_queue : Option ℕ → ℕ → RegH2d → Option Why → Option Rule → Event
+fails_queue tag error h denied rule = record {
   failed = Some error;
   deed = OfQueue (QueueFailed (failure_by tag error h));
   denied = denied;
+  rule = rule;
 }
 
 -- Transfers. The addresses (ACS-3, IDNF) come before the policy (Opal SSC 2.01, section 4.3.5).
@@ -70,7 +79,7 @@ abbrev pub holds : ℕ → Command → Verdict → Event
 holds tag command v = did (OfQueue (Held tag (record { command = command; verdict = v })))
 
 abbrev pub queued_by : RegH2d → ℕ → Command → Verdict → Event
-queued_by h tag command (Denied why) = fails_queue (Some tag) aborted h (Some why)
+queued_by h tag command (Denied why) = fails_queue (Some tag) aborted h (Some why) None
 queued_by h tag command Serve = holds tag command Serve
 queued_by h tag command Shadow = holds tag command Shadow
 
@@ -78,28 +87,28 @@ abbrev pub queued_transfer : Facts → RegH2d → ℕ → Command → Op → ℕ
 queued_transfer f h tag command op lba count =
     if on_drive f lba count
     then queued_by h tag command (verdict_on f op lba count)
-    else fails_queue (Some tag) not_found h None
+    else fails_queue (Some tag) not_found h None (Some BeyondDrive)
 
 -- A tag that is held fails the queue (ACS-3, READ FPDMA QUEUED, NCQ Tag).
 abbrev pub admitted : Facts → RegH2d → ℕ → Command → Bool → Event
-admitted f h tag command true = fails_queue (Some tag) aborted h None
+admitted f h tag command true = fails_queue (Some tag) aborted h None (Some TagHeld)
 admitted f h tag (ReadQueued lba count) false =
     queued_transfer f h tag (ReadQueued lba count) Read lba count
 admitted f h tag (WriteQueued lba count) false =
     queued_transfer f h tag (WriteQueued lba count) Write lba count
-admitted f h tag _ false = refuses
+admitted f h tag _ false = refuses NoCommand
 
 -- A transfer that is not queued is executed whole: a write moves its data here (ACS-3, READ DMA EXT
 -- and WRITE DMA EXT).
 abbrev pub unqueued_by : Deed → Verdict → Event
-unqueued_by deed (Denied why) = fails aborted (Some why)
+unqueued_by deed (Denied why) = fails aborted (Some why) None
 unqueued_by deed Serve = did deed
 unqueued_by deed Shadow = did deed
 
 abbrev pub unqueued_transfer : Facts → Deed → Op → ℕ → ℕ → Event
 unqueued_transfer f deed op lba count =
     if on_drive f lba count
-    then unqueued_by deed (verdict_on f op lba count) else fails not_found None
+    then unqueued_by deed (verdict_on f op lba count) else fails not_found None (Some BeyondDrive)
 
 -- Trusted commands (ACS-3, TRUSTED SEND and TRUSTED RECEIVE; Opal SSC 2.01, section 3.1.1).
 
@@ -140,10 +149,14 @@ is_received f protocol com_id blocks =
     tells_protocols f.config.profile (Receive protocol com_id blocks true)
     || (is_trusted protocol blocks && (is_session_com_id com_id || com_id == discovery_com_id))
 
+-- Why a receive is refused: its ComID, or else its protocol and its blocks.
+abbrev pub unreceived : ℕ → ℕ → Rule
+unreceived protocol blocks = if is_trusted protocol blocks then ComId else Protocol
+
 abbrev pub receive : Facts → ℕ → ℕ → ℕ → Event
 receive f protocol com_id blocks =
     if is_received f protocol com_id blocks
-    then received com_id blocks (f.waiting com_id) else refuses
+    then received com_id blocks (f.waiting com_id) else refuses (unreceived protocol blocks)
 
 -- Commands, by what an item does.
 
@@ -160,15 +173,17 @@ unqueued_of items f payload (ReadLog10 dma) = did Nothing
 unqueued_of items f payload Flush = did Nothing
 unqueued_of items f payload SetFeatures = did Nothing
 unqueued_of items f payload (ReadLog page dma) = did Nothing
-unqueued_of items f payload (ReadQueued lba count) = refuses
-unqueued_of items f payload (WriteQueued lba count) = refuses
+unqueued_of items f payload (ReadQueued lba count) = refuses NoCommand
+unqueued_of items f payload (WriteQueued lba count) = refuses NoCommand
 
 -- A command that the mixing of queues does not refuse. A queued one whose FIS has a fault fails the
 -- queue (ACS-3, READ FPDMA QUEUED, Device and Error Outputs).
 abbrev pub known_of : Items → Facts → RegH2d → List ℕ → Result (Command × Option ℕ) CommandError
     → Event
 known_of items f h payload (Err e) =
-    if is_queued h.command then fails_queue (Some (tag_of h)) aborted h None else refuses
+    if is_queued h.command
+    then fails_queue (Some (tag_of h)) aborted h None (Some (Unreadable e))
+    else refuses (Unreadable e)
 known_of items f h payload (Ok (command, Some tag)) =
     admitted f h tag command (is_some (f.held tag))
 known_of items f h payload (Ok (command, None)) = unqueued_of items f payload command
@@ -177,7 +192,7 @@ known_of items f h payload (Ok (command, None)) = unqueued_of items f payload co
 -- handling, and READ LOG EXT).
 abbrev pub while_failed : Result (Command × Option ℕ) CommandError → Event
 while_failed (Ok (ReadLog10 dma, tag)) = did (OfQueue QueueMended)
-while_failed _ = refuses
+while_failed _ = refuses QueueFailed
 
 -- Some number below n passes.
 unfoldable pub any_below : (ℕ → Bool) → ℕ → Bool
@@ -191,14 +206,14 @@ is_busy f = any_below (λ tag. is_some (f.held tag)) slot_count
 -- beside a held one, fails the queue (ACS-3, NCQ feature set).
 abbrev pub commanded_of : Items → Facts → RegH2d → List ℕ → Event
 commanded_of items f h payload =
-    if not h.is_command then refuses
+    if not h.is_command then refuses NoCommand
     else (if is_some f.failure then while_failed (items.reads f.config h)
-    else (if is_busy f && not (is_queued h.command) then fails_queue None aborted h None
+    else (if is_busy f && not (is_queued h.command) then fails_queue None aborted h None (Some Mixed)
     else known_of items f h payload (items.reads f.config h)))
 
 abbrev pub accepted_of : Items → Facts → List ℕ → List ℕ → Event
 accepted_of items f fis payload =
-    if slice_index fis 0 == h2d_type then commanded_of items f (h2d_at fis) payload else refuses
+    if slice_index fis 0 == h2d_type then commanded_of items f (h2d_at fis) payload else refuses NoCommand
 
 -- A completion moves the data of what is held (Serial ATA, DMA Setup and Set Device Bits).
 abbrev pub completed_by : ℕ → List ℕ → Command → Event

@@ -3,6 +3,7 @@
 -- an Activate copied, which sectors were erased, the bytes of a response.
 use Rattle.std.specs.Prelude.{ℕ, ◌+◌, Bool, List, [], ◌∷◌, ◌++◌, Option, Some, None, option_to_list, if◌then◌else◌}
 use Rattle.audit.specs.declared.reason.Why.{Why}
+use Rattle.rules.specs.declared.rule.Rule.{Rule}
 use Rattle.trusted_cmds.specs.declared.command.Command.{Command}
 use Rattle.trusted_cmds.specs.declared.block.SidBlock.{SidBlock}
 use Rattle.locking.specs.declared.ranges.Verdict.{Verdict}
@@ -45,11 +46,16 @@ pub record Event : Type 0 where
   -- the error of a command that failed
   pub failed : Option ℕ
   pub deed : Deed
-  -- what denied it
+  -- what denied it, and which rule refused it, where nothing denied it
   pub denied : Option Why
+  pub rule : Option Rule
 
 abbrev pub did : Deed → Event
-did deed = record { failed = None; deed = deed; denied = None }
+did deed = record { failed = None; deed = deed; denied = None; rule = None }
+
+-- What is taken, and has no effect and no answer, by a rule.
+abbrev pub ignores : Rule → Event
+ignores rule = record { failed = None; deed = Nothing; denied = None; rule = Some rule }
 
 -- The words.
 

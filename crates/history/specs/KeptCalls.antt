@@ -7,7 +7,7 @@ use Rattle.call_shapes.specs.Named.{values_of}
 use Rattle.transactions.specs.Stored.{Stored}
 use Rattle.shadow_mbr.specs.Erasure.{no_sectors}
 use Rattle.sessions.specs.Live.{Live, session_at, AreNumbered}
-use Rattle.sessions.specs.Starts.{start_reply, start_denied, start_stored, start_at, start_next}
+use Rattle.sessions.specs.Starts.{start_reply, start_denied, start_rule, start_stored, start_at, start_next}
 use Rattle.methods.specs.Calls.{judged_with, outcome_of, outcome_in}
 use Rattle.history.specs.Opening.{Origin}
 use Rattle.sessions.specs.Deeds.{Begun}
@@ -40,5 +40,5 @@ StartLaw =
     → m.next ≡ start_next s l args
     → ((n : ℕ) → session_at m n ≡ start_at s l com_id args n)
     → Meets (started (facts o past) com_id args)
-    (start_reply s l args) (start_denied s l args) no_sectors
+    (start_reply s l args) (start_denied s l args) (start_rule s l args) no_sectors
     s (start_stored s l args) l m

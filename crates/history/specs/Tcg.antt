@@ -30,18 +30,20 @@ use Rattle.trusted_cmds.specs.declared.command.CommandError.{CommandError}
 use Rattle.trusted_cmds.specs.Profiles.{reading_in}
 use Rattle.sessions.specs.Attempts.{credential}
 use Rattle.call_shapes.specs.Asks.{uid_of}
-use Rattle.sessions.specs.Deeds.{Begun, SessionDeed, Unchanged, Started, Began, Committed, Aborted, Ended, Outcome, says, tried}
+use Rattle.sessions.specs.Deeds.{Begun, SessionDeed, Unchanged, Started, Began, Committed, Aborted, Ended, Outcome, says, refuses as refuses_item, tried}
 use Rattle.call_shapes.specs.Statuses.{transaction_failure, fail}
 use Rattle.sessions.specs.declared.opening.Opening.{Opening}
 use Rattle.sessions.specs.declared.opening.StartVerdict.{StartVerdict}
 use Rattle.sessions.specs.declared.opening.StartVerdict.TheVariants.{Refused, Attempted}
 use Rattle.sessions.specs.Gains.{first_held}
-use Rattle.sessions.specs.Starts.{opening_of, verdict, host_of, reply_to, denied_with}
+use Rattle.sessions.specs.Starts.{opening_of, verdict, host_of, reply_to, denied_with, rule_of}
+use Rattle.rules.specs.declared.rule.Rule.{Rule}
+use Rattle.rules.specs.declared.rule.Rule.TheVariants.{NoMethod, NoItem, AlreadyOpen, NoneOpen, NoSession, NoFrame, SidKept, Protocol, ComId, ResponseWaits}
 use Rattle.sessions.specs.Properties.{properties_message}
 use Rattle.methods.specs.Said.{refusal_of}
 use Rattle.methods.specs.Judgement.{Judgement, asked, judged}
 use Rattle.methods.specs.Calls.{outcome_of}
-use Rattle.history.specs.Events.{Nothing, InSession, BlockedSid, Event, did}
+use Rattle.history.specs.Events.{Nothing, InSession, BlockedSid, Event, did, ignores}
 use Rattle.history.specs.Facts.{Facts, live, session_named, has_open, standing}
 use Rattle.device_data.specs.Discovery.{has_owner, discovery_of}
 use Rattle.device_data.specs.Identity.{identity_of}
@@ -61,6 +63,7 @@ answers com_id session outcome = record {
     bytes = frame_bytes com_id session (item_spelling_of outcome.said);
   });
   denied = outcome.denied;
+  rule = outcome.rule;
 }
 
 -- The session manager.
@@ -79,7 +82,7 @@ abbrev pub start_verdict : Facts → Option Opening → StartVerdict
 start_verdict f opening = verdict f.rows (live f) opening
 
 abbrev pub deed_of_start : Facts → ℕ → Opening → StartVerdict → SessionDeed
-deed_of_start f com_id opening (Refused status) = Unchanged
+deed_of_start f com_id opening (Refused status rule) = Unchanged
 deed_of_start f com_id opening (Attempted sp (Some failure)) =
     tried f.rows sp opening.authority (Some failure) []
 deed_of_start f com_id opening (Attempted sp None) =
@@ -94,6 +97,7 @@ started_by f com_id host opening = record {
   deed = start_deed f com_id opening;
   said = reply_to host f.next_number (start_verdict f opening);
   denied = denied_with opening (start_verdict f opening);
+  rule = rule_of (start_verdict f opening);
 }
 
 abbrev pub started : Facts → ℕ → List Tree → Outcome
@@ -106,12 +110,12 @@ abbrev pub called_manager : Facts → ℕ → Uid → Uid → List Tree → Outc
 called_manager f com_id object method args =
     if is_method_of_manager properties object method then says Unchanged (properties_message args)
     else (if is_method_of_manager start_session object method then started f com_id args
-    else says Unchanged (refusal_of fail))
+    else refuses_item (refusal_of fail) NoMethod)
 
 abbrev pub to_manager : Facts → ℕ → Result Message TokenError → Outcome
 to_manager f com_id (Ok (call object method args status)) =
     called_manager f com_id (uid_of object) (uid_of method) (values_of args)
-to_manager f com_id _ = says Unchanged (refusal_of fail)
+to_manager f com_id _ = refuses_item (refusal_of fail) NoItem
 
 -- A session.
 
@@ -122,7 +126,7 @@ judgement_on f session object method args =
 -- A transaction on an SP is opened where none is open, and closed where the session has one open.
 abbrev pub begins_on : Sp → ℕ → Option ℕ → Outcome
 begins_on sp number None = says (Began sp number) (begin 0)
-begins_on sp number (Some owner) = says Unchanged (begin transaction_failure)
+begins_on sp number (Some owner) = refuses_item (begin transaction_failure) AlreadyOpen
 
 abbrev pub transaction_end : Sp → ℕ → Outcome
 transaction_end sp zero = says (Committed sp) (end 0)
@@ -130,7 +134,7 @@ transaction_end sp (suc n) = says (Aborted sp) (end 1)
 
 abbrev pub ends_on : Sp → ℕ → Bool → Outcome
 ends_on sp number true = transaction_end sp number
-ends_on sp number false = says Unchanged (end transaction_failure)
+ends_on sp number false = refuses_item (end transaction_failure) NoneOpen
 
 abbrev pub in_session : Facts → Begun → Result Message TokenError → Outcome
 in_session f session (Ok (call object method args status)) =
@@ -138,8 +142,8 @@ in_session f session (Ok (call object method args status)) =
 in_session f session (Ok (begin n)) = begins_on session.sp session.number (f.open_on session.sp)
 in_session f session (Ok (end n)) = ends_on session.sp n (has_open f session)
 in_session f session (Ok end_session) = says (Ended session.sp) end_session
-in_session f session (Ok (reply results status)) = says Unchanged (refusal_of fail)
-in_session f session (Err e) = says Unchanged (refusal_of fail)
+in_session f session (Ok (reply results status)) = refuses_item (refusal_of fail) NoItem
+in_session f session (Err e) = refuses_item (refusal_of fail) NoItem
 
 abbrev pub is_manager : Session → Bool
 is_manager session = session.tsn == 0 && session.hsn == 0
@@ -156,7 +160,7 @@ item_in profile payload =
 
 -- An item for no live session is taken, and leaves no response.
 abbrev pub to_session : Facts → ℕ → Session → List ℕ → Option Begun → Event
-to_session f com_id named payload None = did Nothing
+to_session f com_id named payload None = ignores NoSession
 to_session f com_id named payload (Some session) =
     answers com_id named (in_session f session (item_in f.config.profile payload))
 
@@ -168,21 +172,27 @@ framed f com_id frame =
 
 -- A frame that is none, or that names another ComID, is taken likewise.
 abbrev pub sent : Facts → ℕ → Result Frame FrameError → Event
-sent f com_id (Err e) = did Nothing
-sent f com_id (Ok frame) = if frame.com_id == com_id then framed f com_id frame else did Nothing
+sent f com_id (Err e) = ignores NoFrame
+sent f com_id (Ok frame) = if frame.com_id == com_id then framed f com_id frame else ignores NoFrame
 
 -- SID is blocked where its PIN is the MSID still, and it is not blocked yet (Block SID Authentication
 -- feature set 1.00). No session ends.
 abbrev pub blocks_sid : Facts → List ℕ → Event
 blocks_sid f payload =
     if has_owner f.rows || is_blocked f.block
-    then refuses else did (BlockedSid (block_asked payload))
+    then refuses SidKept else did (BlockedSid (block_asked payload))
+
+-- Why a send is refused: its protocol and its blocks, its ComID, or that a response waits there.
+abbrev pub unsent : ℕ → ℕ → ℕ → Rule
+unsent protocol com_id blocks =
+    if not (is_trusted protocol blocks) then Protocol
+    else (if not (is_session_com_id com_id) then ComId else ResponseWaits)
 
 -- A send while a response waits is aborted.
 abbrev pub send_item : Facts → ℕ → ℕ → ℕ → List ℕ → Event
 send_item f protocol com_id blocks payload =
     if is_trusted protocol blocks && is_session_com_id com_id && not (is_some (f.waiting com_id))
-    then sent f com_id (frame_in payload) else refuses
+    then sent f com_id (frame_in payload) else refuses (unsent protocol com_id blocks)
 
 abbrev pub send : Facts → ℕ → ℕ → ℕ → List ℕ → Event
 send f protocol com_id blocks payload =

@@ -1,9 +1,11 @@
 -- What is answered, and made of the store and of the sessions, is what was judged: of a refusal, of results, of a Set, an
 -- attempt, an Activate and a Revert.
 use Rattle.std.proofs.Common.{◌≡◌, ℕ, ◌+◌, ◌==◌, true, false, ◌||◌, List, Option, Some, None, refl, sym, subst, ◌∙◌, ap, if◌then◌else◌}
-use Rattle.std.specs.Prelude.{Result, IfOk, ◌-◌, nat_le, nat_lt}
+use Rattle.std.specs.Prelude.{Result, Ok, IfOk, ◌-◌, nat_le, nat_lt}
 use Rattle.sp_cells.specs.declared.names.Uid.{Uid}
 use Rattle.audit.specs.declared.reason.AttemptFailure.{AttemptFailure}
+use Rattle.rules.specs.declared.rule.Rule.{Rule}
+use Rattle.rules.specs.declared.rule.Rule.TheVariants.{OutsideTable, TooLong}
 use Rattle.call_shapes.specs.Limits.{most_response}
 use Rattle.call_shapes.specs.Statuses.{invalid_parameter, response_overflow}
 use Rattle.call_shapes.specs.declared.ask.Ask.{Ask}
@@ -45,37 +47,38 @@ pub bytes-told : (byte : ℕ → ℕ) (size first last : ℕ) (to : Option ℕ) 
 bytes-told byte size first last to values is some below above few same =
     ap gives same
     ∙ sym (ap (rows_given byte size first) is
-    ∙ ap (λ b. if b || (nat_le size last || nat_lt last first) then Refuses invalid_parameter None else (if nat_lt most_response (last + 1 - first) then Refuses response_overflow None else gives (bytes_between byte first last))) some
-    ∙ ap (λ b. if b || nat_lt last first then Refuses invalid_parameter None else (if nat_lt most_response (last + 1 - first) then Refuses response_overflow None else gives (bytes_between byte first last))) below
-    ∙ ap (λ b. if b then Refuses invalid_parameter None else (if nat_lt most_response (last + 1 - first) then Refuses response_overflow None else gives (bytes_between byte first last))) above
-    ∙ ap (λ b. if b then Refuses response_overflow None else gives (bytes_between byte first last)) few)
+    ∙ ap (λ b. if b || (nat_le size last || nat_lt last first) then Refuses invalid_parameter OutsideTable else (if nat_lt most_response (last + 1 - first) then Refuses response_overflow TooLong else gives (bytes_between byte first last))) some
+    ∙ ap (λ b. if b || nat_lt last first then Refuses invalid_parameter OutsideTable else (if nat_lt most_response (last + 1 - first) then Refuses response_overflow TooLong else gives (bytes_between byte first last))) below
+    ∙ ap (λ b. if b then Refuses invalid_parameter OutsideTable else (if nat_lt most_response (last + 1 - first) then Refuses response_overflow TooLong else gives (bytes_between byte first last))) above
+    ∙ ap (λ b. if b then Refuses response_overflow TooLong else gives (bytes_between byte first last)) few)
 
 -- what may have changed something does not tell that nothing changed
 pub changed : {A : Type 0} (out : Outcome) → out.changes ≡ true → out.changes ≡ false → A
 changed out h k = absurd (let differ : true ≡ false = sym h ∙ k in cc)
 
 -- a Set
-pub set-made : (x : Option Setting) (set : Setting) (session : SessionId) (out : Outcome) (s t : Stored) (l : Live) → x ≡ Some set → CanSet (table_sectors s.config) session.sp set
-    → message out.reply ≡ done → out.denied ≡ None → out.erases ≡ no_sectors → out.changes ≡ true → t ≡ set_stored s session.sp set → Fulfils (outcome_in s session (makes x)) out s t l l
-set-made x set session out s t l is can answer denied erases changes store =
+pub set-made : (x : Result Setting Rule) (set : Setting) (session : SessionId) (out : Outcome) (s t : Stored) (l : Live) → x ≡ Ok set → CanSet (table_sectors s.config) session.sp set
+    → message out.reply ≡ done → out.denied ≡ None → out.rule ≡ None → out.erases ≡ no_sectors → out.changes ≡ true → t ≡ set_stored s session.sp set → Fulfils (outcome_in s session (makes x)) out s t l l
+set-made x set session out s t l is can answer denied rule erases changes store =
     subst (λ y. Fulfils (outcome_in s session (makes y)) out s t l l) (sym is)
     (record {
-      met = record { answer = answer; denied = denied; erases = erases; store = (can, store); sessions = record { next = refl; at = λ n. refl }; block = refl };
+      met = record { answer = answer; denied = denied; rule = rule; erases = erases; store = (can, store); sessions = record { next = refl; at = λ n. refl }; block = refl };
       unchanged = λ h. changed out changes h;
     })
 
 -- an attempt
 pub attempts : (authority : Uid) (pin : List ℕ) (session : SessionId) (out : Outcome) (s t : Stored) (l m : Live) → AreOnOwnSps l.sessions → (live_holder l session ≡ None → ⊥)
-    → message out.reply ≡ attempt_reply (attempt l.block s session.sp authority pin) → out.denied ≡ attempt_denied session.sp authority (attempt l.block s session.sp authority pin) → out.erases ≡ no_sectors
+    → message out.reply ≡ attempt_reply (attempt l.block s session.sp authority pin) → out.denied ≡ attempt_denied session.sp authority (attempt l.block s session.sp authority pin) → out.rule ≡ None → out.erases ≡ no_sectors
     → (out.changes ≡ false → t ≡ s) → t ≡ after_attempt session.sp authority (attempt l.block s session.sp authority pin) s
     → m.next ≡ l.next → ((n : ℕ) → session_at m n ≡ (if session.tsn == n then gaining_if (rows_in_force s) authority (attempt l.block s session.sp authority pin) (session_at l n) else session_at l n))
     → m.block ≡ l.block → Fulfils (outcome_in s session (Attempts l.block authority pin)) out s t l m
-attempts authority pin session out s t l m apart lives answer denied erases unchanged store next points block =
+attempts authority pin session out s t l m apart lives answer denied rule erases unchanged store next points block =
     let x : Option AttemptFailure = attempt l.block s session.sp authority pin in
     record {
       met = record {
         answer = answer;
         denied = denied;
+        rule = rule;
         erases = erases;
         store = subst (λ (u : Stored). StoresAs (outcome_in s session (Attempts l.block authority pin)).deed s u) (sym store) (attempt-stores s session.sp authority x);
         sessions = record {

@@ -1,6 +1,7 @@
 -- Changes of the store, and what they set.
-use Rattle.std.proofs.Common.{◌≡◌, ◌<◌, ◌+◌, ℕ, zero, suc, Bool, true, false, List, length, Option, None, Some, refl, ap, ◌∙◌, sym, arith, not, is_some, [], ◌∷◌, option_map, if◌then◌else◌}
-use Rattle.std.specs.Prelude.{slice_index}
+use Rattle.std.proofs.Common.{◌≡◌, ◌<◌, ◌+◌, ℕ, zero, suc, Bool, true, false, List, length, Option, None, Some, refl, ap, ◌∙◌, sym, arith, is_some, [], ◌∷◌, option_map, if◌then◌else◌}
+use Rattle.std.specs.Prelude.{slice_index, Ok, Err}
+use Rattle.rules.specs.declared.rule.Rule.TheVariants.{NotSet}
 use Rattle.sp_cells.specs.declared.names.Uid.{Uid}
 use Rattle.sp_cells.specs.declared.names.Sp.{Sp}
 use Rattle.sp_cells.specs.declared.names.Sp.TheVariants.{Admin, Locking}
@@ -123,6 +124,10 @@ pub told : (o : Option SetError) (e : SetError) → IsFault o e → is_told e �
 told None e f t = absurd (clash (sym (ap is_told f) ∙ t))
 told (Some x) e f t = refl
 
+pub told_same : (o : Option SetError) (e : SetError) → IsFault o e → is_told e ≡ true → Some e ≡ o
+told_same None e f t = absurd (clash (sym (ap is_told f) ∙ t))
+told_same (Some x) e f t = ap Some f
+
 -- a fault of a change is one that is told, and so is none where want of memory is told
 abbrev chain : (a b c d e : Bool) → Option SetError
 chain a b c d e = first_of ((a, faults.NoCell) ∷ (b, faults.WrongType) ∷ (c, faults.Overlap) ∷ (d, faults.Beyond) ∷ (e, faults.Expr) ∷ [])
@@ -158,36 +163,26 @@ stored_told None sp change s e = cc
 stored_told (Some x) sp change s e = refl
 
 -- a change that is refused leaves the store
-pub stored_refused : (o : Option SetError) (sp : Sp) (change : Change) (s : Stored) → false ≡ not (is_some o) → stored_after o sp change s ≡ s
-stored_refused None sp change s e = cc
-stored_refused (Some x) sp change s e = refl
+pub stored_refused : (f : SetError) (o : Option SetError) (sp : Sp) (change : Change) (s : Stored) → Some f ≡ o → stored_after o sp change s ≡ s
+stored_refused f o sp change s e = ap (λ x. stored_after x sp change s) (sym e)
 
 -- what is set by a Set whose values are read: its setting, unless the change has a fault
-set-left : (o : Option SetError) (st : Setting) → false ≡ not (is_some o) → unless_fault o st ≡ None
-set-left None st e = cc
-set-left (Some x) st e = refl
-
-set-stays : (o : Option SetError) (st : Setting) → true ≡ not (is_some o) → unless_fault o st ≡ Some st
-set-stays None st e = refl
-set-stays (Some x) st e = cc
-
 to_set-read : (s : Stored) (session : SessionId) (object : Uid) (ask : Ask) (change : Change) → has_set (kind_of session.sp object) ≡ true → Some (setting_seen change) ≡ setting session.sp (sizes_in s.config) object (kind_of session.sp object) ask → to_set (standing_on Free s session []) object ask ≡ unless_fault (fault_of_set s session change) (setting_seen change)
 to_set-read s session object ask change h e =
     sym (ap (valid (standing_on Free s session [])) e)
     ∙ ap (λ o. unless_fault o (setting_seen change)) (sym (fault_as s session object ask change h e))
 
-pub to_set-none : (s : Stored) (session : SessionId) (object : Uid) (ask : Ask) (change : Change) → has_set (kind_of session.sp object) ≡ true → Some (setting_seen change) ≡ setting session.sp (sizes_in s.config) object (kind_of session.sp object) ask → false ≡ not (is_some (fault_of_set s session change)) → to_set (standing_on Free s session []) object ask ≡ None
-to_set-none s session object ask change h e made = to_set-read s session object ask change h e ∙ set-left (fault_of_set s session change) (setting_seen change) made
+pub to_set-none : (s : Stored) (session : SessionId) (object : Uid) (ask : Ask) (change : Change) (f : SetError) → has_set (kind_of session.sp object) ≡ true → Some (setting_seen change) ≡ setting session.sp (sizes_in s.config) object (kind_of session.sp object) ask → Some f ≡ fault_of_set s session change → to_set (standing_on Free s session []) object ask ≡ Err (NotSet f)
+to_set-none s session object ask change f h e made = to_set-read s session object ask change h e ∙ ap (λ o. unless_fault o (setting_seen change)) (sym made)
 
-pub to_set-some : (s : Stored) (session : SessionId) (object : Uid) (ask : Ask) (change : Change) → has_set (kind_of session.sp object) ≡ true → Some (setting_seen change) ≡ setting session.sp (sizes_in s.config) object (kind_of session.sp object) ask → true ≡ not (is_some (fault_of_set s session change)) → to_set (standing_on Free s session []) object ask ≡ Some (setting_seen change)
-to_set-some s session object ask change h e made = to_set-read s session object ask change h e ∙ set-stays (fault_of_set s session change) (setting_seen change) made
+pub to_set-some : (s : Stored) (session : SessionId) (object : Uid) (ask : Ask) (change : Change) → has_set (kind_of session.sp object) ≡ true → Some (setting_seen change) ≡ setting session.sp (sizes_in s.config) object (kind_of session.sp object) ask → None ≡ fault_of_set s session change → to_set (standing_on Free s session []) object ask ≡ Ok (setting_seen change)
+to_set-some s session object ask change h e made = to_set-read s session object ask change h e ∙ ap (λ o. unless_fault o (setting_seen change)) (sym made)
 
 -- the store that it leaves
-pub stored-made : (o : Option SetError) (sp : Sp) (change : Change) (s : Stored) → true ≡ not (is_some o) → stored_after o sp change s ≡ set_stored s sp (setting_seen change)
-stored-made None sp change s e = set_made change sp s
-stored-made (Some x) sp change s e = cc
+pub stored-made : (o : Option SetError) (sp : Sp) (change : Change) (s : Stored) → None ≡ o → stored_after o sp change s ≡ set_stored s sp (setting_seen change)
+stored-made o sp change s e = ap (λ x. stored_after x sp change s) (sym e) ∙ set_made change sp s
 
-pub ruleset telling = (told, stored_told, no_fault)
+pub ruleset telling = (told, told_same, stored_told, no_fault)
 
 -- bytes that are told one by one
 pub bytes_told : (byte : ℕ → ℕ) (xs : List ℕ) (first n : ℕ) → length xs ≡ n → ((k : ℕ) → k < length xs → slice_index xs k ≡ byte (first + k)) → xs ≡ bytes_from byte first n

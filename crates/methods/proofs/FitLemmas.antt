@@ -1,6 +1,7 @@
 -- What is set at all: no Tries, and bytes of the Locking SP within its byte tables.
 use Rattle.std.proofs.Common.{◌≡◌, ◌+◌, ◌*◌, ◌/◌, ◌≤◌, ℕ, Bool, true, false, List, length, Option, Some, None, refl, subst, cond, arith}
-use Rattle.std.specs.Prelude.{nat_le}
+use Rattle.std.specs.Prelude.{nat_le, Result, Ok, Err}
+use Rattle.rules.specs.declared.rule.Rule.{Rule}
 use Rattle.std.proofs.lemmas.Bool.Decides.{nat_tests}
 use Rattle.sp_cells.specs.declared.names.Uid.{Uid}
 use Rattle.sp_cells.specs.declared.names.Sp.{Sp}
@@ -101,24 +102,24 @@ setting-fits sizes sp object (Some kinds.DataStore) ask = bytes-fit sizes sp Dat
 setting-fits sizes sp object (Some kinds.DataRemoval) ask = cells-fit sizes sp object (set_types_of (Some kinds.DataRemoval)) ask
 
 -- with what a fault tells
-abbrev Fits : TableSizes → Sp → Option Setting → Type 0
-Fits sizes sp x = (set : Setting) → x ≡ Some set → CanSet (sectors_of sizes) sp set
+abbrev Fits : TableSizes → Sp → Result Setting Rule → Type 0
+Fits sizes sp x = (set : Setting) → x ≡ Ok set → CanSet (sectors_of sizes) sp set
 
-none-some : {A : Type 0} {x : A} → None ≡ Some x → ⊥
+none-some : {rule : Rule} {x : Setting} → Err rule ≡ Ok x → ⊥
 none-some h = cc
 
-by-some : {x y : Setting} → Some x ≡ Some y → x ≡ y
+by-some : {x y : Setting} → ◌≡◌ {A = Result Setting Rule} (Ok x) (Ok y) → x ≡ y
 by-some h = cc
 
 valid-fits : (s : Standing) (x : Option Setting) → BytesFit s.sizes s.sp x → Fits s.sizes s.sp (valid s x)
 valid-fits s None h set is = absurd (none-some is)
 valid-fits s (Some (cells_set object cells)) h set is = by_tries (names_tries object cells) refl is
   where
-    by_fault : names_tries object cells ≡ false → (fault : Option SetError) → unless_fault fault (cells_set object cells) ≡ Some set → CanSet (sectors_of s.sizes) s.sp set
+    by_fault : names_tries object cells ≡ false → (fault : Option SetError) → unless_fault fault (cells_set object cells) ≡ Ok set → CanSet (sectors_of s.sizes) s.sp set
     by_fault no_tries None g = subst (CanSet (sectors_of s.sizes) s.sp) (by-some g) no_tries
     by_fault no_tries (Some fault) g = absurd (none-some g)
 
-    by_tries : (b : Bool) → names_tries object cells ≡ b → unless_fault (cond b (Some faults.NoCell) (fault_seen s.sectors (λ _. s.newest) s.sp object cells)) (cells_set object cells) ≡ Some set → CanSet (sectors_of s.sizes) s.sp set
+    by_tries : (b : Bool) → names_tries object cells ≡ b → unless_fault (cond b (Some faults.NoCell) (fault_seen s.sectors (λ _. s.newest) s.sp object cells)) (cells_set object cells) ≡ Ok set → CanSet (sectors_of s.sizes) s.sp set
     by_tries true at g = absurd (none-some g)
     by_tries false at g = by_fault at (fault_seen s.sectors (λ _. s.newest) s.sp object cells) g
 valid-fits s (Some (bytes_set place content)) h set is = subst (CanSet (sectors_of s.sizes) s.sp) (by-some is) (by_sp s.sp h)
@@ -127,5 +128,5 @@ valid-fits s (Some (bytes_set place content)) h set is = subst (CanSet (sectors_
     by_sp Admin g = g
     by_sp Locking g = g
 
-pub to_set-fits : (s : Standing) (object : Uid) (ask : Ask) (set : Setting) → to_set s object ask ≡ Some set → CanSet (sectors_of s.sizes) s.sp set
+pub to_set-fits : (s : Standing) (object : Uid) (ask : Ask) (set : Setting) → to_set s object ask ≡ Ok set → CanSet (sectors_of s.sizes) s.sp set
 to_set-fits s object ask set is = valid-fits s (setting s.sp s.sizes object (kind_of s.sp object) ask) (setting-fits s.sizes s.sp object (kind_of s.sp object) ask) set is

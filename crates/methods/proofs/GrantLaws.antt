@@ -9,9 +9,8 @@ use Rattle.ace_eval.specs.Aces.{HasAce, acl_at, ace_of}
 use Rattle.ace_eval.proofs.AceLemmas.{some_ace, no_ace}
 use Rattle.audit.specs.declared.reason.Why.{Why}
 use Rattle.call_shapes.specs.declared.ask.Ask.{Ask}
-use Rattle.call_shapes.specs.Statuses.{not_authorized}
 use Rattle.methods.specs.Grants.{denial as denial_of, wanted, unless_allowed, why_denied, first_some}
-use Rattle.methods.specs.Judgement.{Standing, Refuses, denial, does, unless_denied, judged}
+use Rattle.methods.specs.Judgement.{Standing, Denies, denial, does, unless_denied, judged}
 use Rattle.methods.specs.Laws.{EachHasAce, IsGranted, GrantLaw, DenyLaw, takes_effect, EffectLaw}
 
 clash : {A : Type 0} {x : A} → None ≡ Some x → ⊥
@@ -85,7 +84,7 @@ effect_if : (s : Standing) (object method : Uid) (ask : Ask) (d : Option Why) �
 effect_if s object method ask None is h = (grant_law s object method ask).0 is
 effect_if s object method ask (Some why) is h = absurd (untrue h)
 
-denied_if : (s : Standing) (object method : Uid) (ask : Ask) (d : Option Why) → denial s object method ask ≡ d → (IsGranted s object method ask → ⊥) → (why : Why) × (unless_denied d (does s object ask) ≡ Refuses not_authorized (Some why))
+denied_if : (s : Standing) (object method : Uid) (ask : Ask) (d : Option Why) → denial s object method ask ≡ d → (IsGranted s object method ask → ⊥) → (why : Why) × (unless_denied d (does s object ask) ≡ Denies why)
 denied_if s object method ask None is h = absurd (h ((grant_law s object method ask).0 is))
 denied_if s object method ask (Some why) is h = (why, refl)
 

@@ -1,6 +1,6 @@
 -- A Set sets cells of its own object alone, in columns that Set takes of the object's kind.
 use Rattle.std.proofs.Common.{◌≡◌, ◌==◌, ℕ, Bool, true, false, List, [], ◌∷◌, Option, None, Some, refl, sym, ◌∙◌, ap, subst, ◌⊎◌, inl, inr, if◌then◌else◌, eqb-true}
-use Rattle.std.specs.Prelude.{is_some}
+use Rattle.std.specs.Prelude.{is_some, Ok}
 use Rattle.std.specs.List.{list_all, filter_map, cons_option}
 use Rattle.sp_cells.specs.declared.names.Uid.{Uid}
 use Rattle.sp_cells.specs.declared.names.Sp.{Sp}
@@ -120,12 +120,12 @@ pub pin_law : PinLaw
 pin_law sp n object target ask cells kind is = subst (λ (k : Option Kind). SetsOnly object (set_columns_of k) target cells) kind (set_law sp n object target ask cells is)
 
 -- a setting that is valid is the one that was asked for
-fault_there : (fault : Option SetError) (st asked : Setting) → unless_fault fault asked ≡ Some st → Some asked ≡ Some st
-fault_there None st asked is = is
+fault_there : (fault : Option SetError) (st asked : Setting) → unless_fault fault asked ≡ Ok st → Some asked ≡ Some st
+fault_there None st asked is = let same : asked ≡ st = cc in ap Some same
 fault_there (Some f) st asked is = cc
 
-valid_there : (s : Standing) (o : Option Setting) (st : Setting) → valid s o ≡ Some st → o ≡ Some st
-valid_there s None st is = is
+valid_there : (s : Standing) (o : Option Setting) (st : Setting) → valid s o ≡ Ok st → o ≡ Some st
+valid_there s None st is = cc
 valid_there s (Some asked) st is = fault_there (fault_by s.sectors s.newest s.sp asked) st asked is
 
 pub store_law : SettingLaw

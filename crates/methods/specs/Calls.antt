@@ -1,6 +1,6 @@
 -- What a call in a session does: it is judged by what the session sees and holds, and the judgement says what is done
 -- and answered. Attempts go by the rows in force.
-use Rattle.std.specs.Prelude.{◌≡◌, slice_index, false, List, map, Option, if◌then◌else◌}
+use Rattle.std.specs.Prelude.{◌≡◌, slice_index, false, List, map, Option, Some, None, if◌then◌else◌}
 use Rattle.tcg_tokens.specs.Tree.{Tree, tree}
 use Rattle.tcg_tokens.specs.Message.{message}
 use Rattle.tcg_tokens.specs.declared.value.Call.{Call}
@@ -16,10 +16,10 @@ use Rattle.transactions.specs.declared.change.SessionId.{SessionId}
 use Rattle.transactions.specs.Stored.{Stored}
 use Rattle.transactions.specs.Sights.{sight_of, latest_look}
 use Rattle.call_shapes.specs.Asks.{ask_of, uid_of}
-use Rattle.call_shapes.specs.Statuses.{success}
+use Rattle.call_shapes.specs.Statuses.{success, not_authorized}
 use Rattle.sessions.specs.Answers.{rows_in_force}
 use Rattle.sessions.specs.Attempts.{attempt_failure as failure_of}
-use Rattle.sessions.specs.Deeds.{Unchanged, Changed, Sets, Activated, Reverted, Erased, Outcome, says, gains_of, tried}
+use Rattle.sessions.specs.Deeds.{Unchanged, Changed, Sets, Activated, Reverted, Erased, Outcome, says, refuses, gains_of, tried}
 use Rattle.sessions.specs.Live.{Live}
 use Rattle.sessions.specs.Made.{Meets}
 use Rattle.sessions.specs.Starts.{is_in_use}
@@ -28,7 +28,7 @@ use Rattle.methods.specs.declared.outcome.Outcome.{Outcome as Answered}
 use Rattle.methods.specs.Said.{reply_of, refusal_of, done, attempt_reply, attempt_denied}
 use Rattle.methods.specs.Effects.{held_in, seen_by, has_transaction}
 use Rattle.methods.specs.Erasures.{erased_by_revert, erased_by_key, erased_by_revert_sp}
-use Rattle.methods.specs.Judgement.{Standing, Judgement, Refuses, Gives, Makes, Attempts, Activates, Reverts, Erases, RevertsSp, judged}
+use Rattle.methods.specs.Judgement.{Standing, Judgement, Denies, Refuses, Gives, Makes, Attempts, Activates, Reverts, Erases, RevertsSp, judged}
 
 -- what the rules ask of a session that holds these authorities, of what is kept
 abbrev pub standing_on : SidBlock → Stored → SessionId → List Uid → Standing
@@ -64,6 +64,7 @@ tried_in rows sp authority failure = record {
   deed = tried rows sp authority failure (gains_of rows sp authority failure);
   said = attempt_reply failure;
   denied = attempt_denied sp authority failure;
+  rule = None;
 }
 
 abbrev pub activates : LookUp → Outcome
@@ -73,8 +74,13 @@ activates rows =
 
 -- what a judgement does, and how it is answered, by the rows in force
 abbrev pub outcome_of : LookUp → Sp → Judgement → Outcome
-outcome_of rows sp (Refuses status denied) =
-    record { deed = Unchanged; said = refusal_of status; denied = denied }
+outcome_of rows sp (Denies why) = record {
+  deed = Unchanged;
+  said = refusal_of not_authorized;
+  denied = Some why;
+  rule = None;
+}
+outcome_of rows sp (Refuses status rule) = refuses (refusal_of status) rule
 outcome_of rows sp (Gives results) = says Unchanged (reply_of results success)
 outcome_of rows sp (Makes setting) = says (Changed sp (Sets setting)) done
 outcome_of rows sp (Attempts block authority pin) =
@@ -90,7 +96,7 @@ outcome_in s session judgement = outcome_of (rows_in_force s) session.sp judgeme
 
 -- what is answered, and what is made of the store and of the sessions, is what an outcome says
 pub record Fulfils (outcome : Outcome) (out : Answered) (s t : Stored) (l m : Live) : Type 0 where
-  pub met : Meets outcome (message out.reply) out.denied out.erases s t l m
+  pub met : Meets outcome (message out.reply) out.denied out.rule out.erases s t l m
   pub unchanged : out.changes ≡ false → t ≡ s
 
 -- so it is of a judgement that changes nothing, whatever is kept

@@ -1,5 +1,5 @@
 -- Which methods a kind of object has, and what a session holds and sees.
-use Rattle.std.specs.Prelude.{◌==◌, ◌-◌, ◌||◌, ℕ, Bool, true, false, List, [], Option, None, Some, if◌then◌else◌}
+use Rattle.std.specs.Prelude.{◌==◌, ◌-◌, ◌||◌, ℕ, Bool, true, false, List, [], Option, None, Some, Result, Ok, Err, if◌then◌else◌}
 use Rattle.sp_cells.specs.declared.names.Uid.{Uid}
 use Rattle.sp_cells.specs.declared.names.Sp.{Sp}
 use Rattle.sp_cells.specs.declared.names.Sp.TheVariants.{Admin, Locking}
@@ -7,6 +7,8 @@ use Rattle.sp_cells.specs.declared.error.SetError.{SetError}
 use Rattle.sp_cells.specs.declared.error.SetError.TheVariants as faults
 use Rattle.sp_cells.specs.Names.{admin_sp}
 use Rattle.sp_cells.specs.Flat.{LookUp}
+use Rattle.rules.specs.declared.rule.Rule.{Rule}
+use Rattle.rules.specs.declared.rule.Rule.TheVariants.{NotSet}
 use Rattle.transactions.specs.declared.change.SessionId.{SessionId}
 use Rattle.transactions.specs.declared.change.Change.{Change}
 use Rattle.transactions.specs.Stored.{Stored, part, at_part, part_set, is_open}
@@ -121,9 +123,9 @@ is_told faults.Overlap = true
 is_told faults.Beyond = true
 is_told faults.Expr = true
 
-abbrev pub unless_fault : Option SetError → Setting → Option Setting
-unless_fault None st = Some st
-unless_fault (Some f) st = None
+abbrev pub unless_fault : Option SetError → Setting → Result Setting Rule
+unless_fault None st = Ok st
+unless_fault (Some f) st = Err (NotSet f)
 
 -- the SP that a row of the SP table names
 abbrev pub sp_of_row : Uid → Sp

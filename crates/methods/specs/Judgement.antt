@@ -1,5 +1,5 @@
 -- What comes of a call in a session: its shape, its ACEs, its values, in this order. Over any view and any authorities.
-use Rattle.std.specs.Prelude.{ℕ, ◌+◌, ◌==◌, ◌||◌, ◌-◌, ◌&&◌, Bool, true, false, nat_le, nat_lt, List, [], ◌∷◌, map, Option, Some, None, if◌then◌else◌}
+use Rattle.std.specs.Prelude.{ℕ, ◌+◌, ◌==◌, ◌||◌, ◌-◌, ◌&&◌, Bool, true, false, nat_le, nat_lt, List, [], ◌∷◌, map, Option, Some, None, Result, Ok, Err, if◌then◌else◌}
 use Rattle.basics.specs.declared.profile.Profile.{Profile}
 use Rattle.sp_cells.specs.declared.names.Uid.{Uid}
 use Rattle.sp_cells.specs.declared.names.Sp.{Sp}
@@ -14,6 +14,8 @@ use Rattle.sp_tables.specs.Looks.{RowLook, fault_seen}
 use Rattle.sp_tables.specs.Tries.{names_tries}
 use Rattle.transactions.specs.Bytes.{bytes_from}
 use Rattle.audit.specs.declared.reason.Why.{Why}
+use Rattle.rules.specs.declared.rule.Rule.{Rule}
+use Rattle.rules.specs.declared.rule.Rule.TheVariants.{NoMethod, Shape, OutsideTable, TooLong, WrongValue, InTransaction, NoKey, GlobalLocked}
 use Rattle.call_shapes.specs.Carried.{is_carried}
 use Rattle.tcg_tokens.specs.Tree.{Tree, Trees, bytes, list, trees_of}
 use Rattle.call_shapes.specs.declared.ask.Ask.{Ask}
@@ -21,7 +23,7 @@ use Rattle.call_shapes.specs.declared.ask.Ask.TheVariants.{GetCells, GetBytes, S
 use Rattle.call_shapes.specs.Named.{values_of}
 use Rattle.call_shapes.specs.Asks.{ask_of}
 use Rattle.call_shapes.specs.Limits.{most_response}
-use Rattle.call_shapes.specs.Statuses.{success, not_authorized, invalid_parameter, response_overflow, fail}
+use Rattle.call_shapes.specs.Statuses.{success, invalid_parameter, response_overflow, fail}
 use Rattle.trusted_cmds.specs.declared.block.SidBlock.{SidBlock}
 use Rattle.methods.specs.Kinds.{kind_of, byte_table_of}
 use Rattle.methods.specs.Grants.{denied}
@@ -52,7 +54,8 @@ abbrev pub asked : Profile → Sp → Uid → Uid → Trees → Option Ask
 asked profile sp object method args = ask_of profile sp object method (values_of args)
 
 pub data Judgement : Type 0 where
-  Refuses : (status : ℕ) (denied : Option Why) → Judgement
+  Denies : (why : Why) → Judgement
+  Refuses : (status : ℕ) (rule : Rule) → Judgement
   Gives : (results : List Tree) → Judgement
   Makes : (setting : Setting) → Judgement
   Attempts : (block : SidBlock) (authority : Uid) (pin : List ℕ) → Judgement
@@ -69,7 +72,7 @@ denial s object method ask = denied s.profile s.rows s.sp object method s.held a
 abbrev pub gives : List Tree → Judgement
 gives results =
     if is_carried (reply_of results success)
-    then Gives results else Refuses response_overflow None
+    then Gives results else Refuses response_overflow TooLong
 
 -- what a Get of columns gives: those that are listed, with their values
 abbrev pub list_given : Profile → LookUp → Sp → Uid → ℕ → ℕ → List Uid → List Tree
@@ -87,8 +90,8 @@ bytes_between byte first last = bytes (bytes_from byte first (last + 1 - first))
 abbrev pub rows_given : (ℕ → ℕ) → ℕ → ℕ → ℕ → Judgement
 rows_given byte size first last =
     if (size == 0) || (nat_le size last || nat_lt last first)
-    then Refuses invalid_parameter None
-    else (if nat_lt most_response (last + 1 - first) then Refuses response_overflow None
+    then Refuses invalid_parameter OutsideTable
+    else (if nat_lt most_response (last + 1 - first) then Refuses response_overflow TooLong
     else gives (bytes_between byte first last))
 
 -- a Get of bytes, to the last one where none is named
@@ -108,33 +111,33 @@ fault_by sectors newest sp (cells_set object cells) =
     then Some faults.NoCell else fault_seen sectors (λ _. newest) sp object cells
 fault_by sectors newest sp (bytes_set at content) = None
 
-abbrev pub valid : Standing → Option Setting → Option Setting
-valid s None = None
+abbrev pub valid : Standing → Option Setting → Result Setting Rule
+valid s None = Err WrongValue
 valid s (Some set) = unless_fault (fault_by s.sectors s.newest s.sp set) set
 
--- what a Set sets, where its values are valid
-abbrev pub to_set : Standing → Uid → Ask → Option Setting
+-- what a Set sets, where its values are valid, or the rule that refuses them
+abbrev pub to_set : Standing → Uid → Ask → Result Setting Rule
 to_set s object ask = valid s (setting s.sp s.sizes object (kind_of s.sp object) ask)
 
-abbrev pub makes : Option Setting → Judgement
-makes None = Refuses invalid_parameter None
-makes (Some set) = Makes set
+abbrev pub makes : Result Setting Rule → Judgement
+makes (Err rule) = Refuses invalid_parameter rule
+makes (Ok set) = Makes set
 
 -- Activate, Revert, GenKey and RevertSP do nothing within a transaction
 abbrev pub unless_open : Bool → Judgement → Judgement
-unless_open true judgement = Refuses fail None
+unless_open true judgement = Refuses fail InTransaction
 unless_open false judgement = judgement
 
 -- a new key of a range; there is none of what is no range's key
 abbrev pub erases : Option ℕ → Judgement
-erases None = Refuses fail None
+erases None = Refuses fail NoKey
 erases (Some range) = Erases range
 
 -- a RevertSP keeps no global range that is locked both ways. It is outside of a transaction, so what its session sees is
 -- what is in force
 abbrev pub reverts_sp : LookUp → Bool → Judgement
 reverts_sp rows keep =
-    if keep && is_wholly_locked rows then Refuses fail None else RevertsSp keep
+    if keep && is_wholly_locked rows then Refuses fail GlobalLocked else RevertsSp keep
 
 -- what a granted call comes to, where the object's kind has the method
 abbrev pub does_ask : Standing → Uid → Ask → Judgement
@@ -148,15 +151,15 @@ does_ask s object Activate = unless_open s.is_open Activates
 does_ask s object Revert = unless_open s.is_open (Reverts (sp_of_row object))
 does_ask s object GenKey = unless_open s.is_open (erases (key_number object))
 does_ask s object (RevertSp keep) = unless_open s.is_open (reverts_sp s.rows keep)
-does_ask s object Other = Refuses fail None
+does_ask s object Other = Refuses fail NoMethod
 
 abbrev pub does : Standing → Uid → Ask → Judgement
 does s object ask = does_ask s object (ask_at s.sp object ask)
 
 abbrev pub unless_denied : Option Why → Judgement → Judgement
 unless_denied None judgement = judgement
-unless_denied (Some why) judgement = Refuses not_authorized (Some why)
+unless_denied (Some why) judgement = Denies why
 
 abbrev pub judged : Standing → Uid → Uid → Option Ask → Judgement
-judged s object method None = Refuses invalid_parameter None
+judged s object method None = Refuses invalid_parameter Shape
 judged s object method (Some ask) = unless_denied (denial s object method ask) (does s object ask)

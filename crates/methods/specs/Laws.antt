@@ -1,7 +1,7 @@
 -- What calls come to, in the words of ACEs: a call does what it asks exactly where it is granted, it is denied by the
 -- first column without an ACE, and Get lists a column exactly where it has one.
 use Rattle.basics.specs.declared.profile.Profile.{Profile}
-use Rattle.std.specs.Prelude.{◌≡◌, ◌≤◌, ◌⊎◌, ◌↔◌, nat_lt, ℕ, Bool, true, false, ◌&&◌, List, [], ◌∷◌, ◌++◌, Option, None, Some}
+use Rattle.std.specs.Prelude.{◌≡◌, ◌≤◌, ◌⊎◌, ◌↔◌, nat_lt, ℕ, Bool, true, false, ◌&&◌, List, [], ◌∷◌, ◌++◌, Option, None, Some, Ok}
 use Rattle.sp_cells.specs.declared.names.Uid.{Uid}
 use Rattle.sp_cells.specs.declared.names.Sp.{Sp}
 use Rattle.sp_cells.specs.declared.names.Column.{Column}
@@ -13,7 +13,6 @@ use Rattle.sp_cells.specs.Flat.{LookUp}
 use Rattle.ace_eval.specs.Aces.{HasAce, acl_at}
 use Rattle.audit.specs.declared.reason.Why.{Why}
 use Rattle.call_shapes.specs.declared.ask.Ask.{Ask}
-use Rattle.call_shapes.specs.Statuses.{not_authorized}
 use Rattle.methods.specs.declared.kinds.Kind.{Kind}
 use Rattle.methods.specs.declared.kinds.Kind.TheVariants as kinds
 use Rattle.methods.specs.Kinds.{kind_of}
@@ -22,7 +21,7 @@ use Rattle.methods.specs.Listed.{listed}
 use Rattle.methods.specs.Grants.{wanted, why_denied}
 use Rattle.methods.specs.Settings.{setting}
 use Rattle.sessions.specs.Deeds.{Setting, cells_set}
-use Rattle.methods.specs.Judgement.{Standing, Judgement, Refuses, Gives, Makes, Attempts, Activates, Reverts, Erases, RevertsSp, denial, to_set, does, judged}
+use Rattle.methods.specs.Judgement.{Standing, Judgement, Denies, Refuses, Gives, Makes, Attempts, Activates, Reverts, Erases, RevertsSp, denial, to_set, does, judged}
 
 -- each of these columns has an ACE: one that names it, and whose expression is the postorder writing of a tree that is
 -- true of the authorities held
@@ -56,7 +55,8 @@ DenyLaw = (s : Standing) (object method : Uid) (ask : Ask) (why : Why)
     → denial s object method ask ≡ Some why → IsDeniedBy s object method ask why
 
 abbrev pub takes_effect : Judgement → Bool
-takes_effect (Refuses status denied) = false
+takes_effect (Denies why) = false
+takes_effect (Refuses status rule) = false
 takes_effect (Gives results) = true
 takes_effect (Makes setting) = true
 takes_effect (Attempts block authority pin) = true
@@ -73,7 +73,7 @@ pub record IsJudgedByAces (s : Standing) (object method : Uid) (ask : Ask) : Typ
   pub granted : IsGranted s object method ask
       → judged s object method (Some ask) ≡ does s object ask
   pub denied : (IsGranted s object method ask → ⊥)
-      → (why : Why) × (judged s object method (Some ask) ≡ Refuses not_authorized (Some why))
+      → (why : Why) × (judged s object method (Some ask) ≡ Denies why)
 
 abbrev pub EffectLaw : Type 0
 EffectLaw = (s : Standing) (object method : Uid) (ask : Ask) → IsJudgedByAces s object method ask
@@ -140,5 +140,5 @@ PinLaw = (sp : Sp) (sizes : TableSizes) (object target : Uid) (ask : Ask)
 -- what is stored is what the call sets
 abbrev pub SettingLaw : Type 0
 SettingLaw = (s : Standing) (object : Uid) (ask : Ask) (set : Setting)
-    → to_set s object ask ≡ Some set
+    → to_set s object ask ≡ Ok set
     → setting s.sp s.sizes object (kind_of s.sp object) ask ≡ Some set

@@ -12,10 +12,11 @@ use crate::cases::method_cases;
 use crate::grants::denied;
 use crate::handlers;
 use crate::kinds::{Handler, Kind, byte_table_of, kind_of};
-use crate::outcome::{MethodFault, Outcome, refused};
+use crate::outcome::{self, MethodFault, Outcome, refused};
 use ace_eval::Authorities;
 use audit::Why;
 use call_shapes::{Ask, read_ask, status, uid_of};
+use rules::Rule;
 use sessions::Sessions;
 use sp_cells::{Sp, Uid};
 use std::alloc::Global;
@@ -62,7 +63,7 @@ fn perform(
 {
     let kind = kind_of(session.sp, object);
     let Some(handler) = handler_of(kind, ask) else {
-        return Ok(refused(alloc, status::FAIL, None));
+        return Ok(refused(alloc, status::FAIL, Rule::NoMethod));
     };
     match (handler, ask) {
         (Handler::ReadCells, Ask::GetCells { first, last }) => {
@@ -90,7 +91,7 @@ fn perform(
         (Handler::RevertSp, Ask::RevertSp { keep }) => {
             handlers::revert_sp(alloc, store, sessions, session, *keep)
         }
-        _ => Ok(refused(alloc, status::FAIL, None)),
+        _ => Ok(refused(alloc, status::FAIL, Rule::NoMethod)),
     }
 }
 
@@ -139,7 +140,7 @@ fn call_asked(
         ≡ None) }
 {
     match denied_in(store, sessions, session, object, method, ask) {
-        Some(why) => Ok(refused(alloc, status::NOT_AUTHORIZED, Some(why))),
+        Some(why) => Ok(outcome::denied(alloc, status::NOT_AUTHORIZED, why)),
         None => perform(alloc, store, sessions, session, object, ask),
     }
 }
@@ -166,7 +167,7 @@ fn called(
     let profile = store.committed().config().profile();
     match read_ask(alloc, profile, session.sp, object, method, args)? {
         Some(ask) => call_asked(alloc, store, sessions, session, object, method, &ask),
-        None => Ok(refused(alloc, status::INVALID_PARAMETER, None)),
+        None => Ok(refused(alloc, status::INVALID_PARAMETER, Rule::Shape)),
     }
 }
 

@@ -20,12 +20,13 @@ ghost use Rattle.methods.specs.declared.outcome.MethodFault.TheVariants as fault
 use crate::changes::apply_set;
 use crate::erasures::{erased_by_key, erased_by_revert_sp, is_wholly_locked};
 use crate::lists::list_columns;
-use crate::outcome::{MethodFault, Outcome, fitting, number_result, refused, said};
+use crate::outcome::{MethodFault, Outcome, denied, fitting, number_result, refused, said};
 use crate::settings::check_set;
 use ace_eval::Authorities;
 use audit::{AttemptFailure, Why};
 use call_shapes::limits::MOST_RESPONSE;
 use call_shapes::{Ask, list_value, status};
+use rules::Rule;
 use sessions::{AuthAnswer, Sessions};
 use shadow_mbr::{Erased, Erasure};
 use sp_cells::limits::MANUFACTURED;
@@ -101,18 +102,18 @@ fn bytes_outcome(
     let sizes = view.table_sizes();
     let size = u128::from(sizes.bytes_of(table));
     if size == 0 {
-        return Ok(refused(alloc, status::INVALID_PARAMETER, None));
+        return Ok(refused(alloc, status::INVALID_PARAMETER, Rule::OutsideTable));
     }
     let last = match last {
         Some(last) => u128::from(last),
         None => size - 1,
     };
     if size <= last || last < u128::from(first) {
-        return Ok(refused(alloc, status::INVALID_PARAMETER, None));
+        return Ok(refused(alloc, status::INVALID_PARAMETER, Rule::OutsideTable));
     }
     let count = last + 1 - u128::from(first);
     if count > u128::from(MOST_RESPONSE) {
-        return Ok(refused(alloc, status::RESPONSE_OVERFLOW, None));
+        return Ok(refused(alloc, status::RESPONSE_OVERFLOW, Rule::TooLong));
     }
     let read = read_rows(alloc, view, sizes.begin_of(table) + first, count as usize)?;
     let mut results = Vec::new(alloc);
@@ -180,12 +181,11 @@ pub(crate) fn write(
     ensures memory { IfErr result (λ e. e ≡ faults.OutOfMemory) }
 {
     let Some(change) = check_set(alloc, &store.view(session), session.sp, object, ask)? else {
-        return Ok(refused(alloc, status::INVALID_PARAMETER, None));
+        return Ok(refused(alloc, status::INVALID_PARAMETER, Rule::WrongValue));
     };
-    if apply_set(alloc, store, session, &change)? {
-        Ok(said(Vec::new(alloc), None, Erased::none()))
-    } else {
-        Ok(refused(alloc, status::INVALID_PARAMETER, None))
+    match apply_set(alloc, store, session, &change)? {
+        None => Ok(said(Vec::new(alloc), None, Erased::none())),
+        Some(fault) => Ok(refused(alloc, status::INVALID_PARAMETER, Rule::NotSet(fault))),
     }
 }
 
@@ -211,14 +211,14 @@ pub(crate) fn authenticate(
     match sessions.authenticate(store, session, authority, proof) {
         AuthAnswer::Right => Ok(said(right, None, Erased::none())),
         AuthAnswer::Wrong(why) => Ok(said(wrong, Some(why), Erased::none())),
-        AuthAnswer::LockedOut => Ok(refused(
+        AuthAnswer::LockedOut => Ok(denied(
             alloc,
             status::AUTHORITY_LOCKED_OUT,
-            Some(Why::AttemptFailed {
+            Why::AttemptFailed {
                 sp: session.sp,
                 authority,
                 failure: AttemptFailure::LockedOut,
-            }),
+            },
         )),
     }
 }
@@ -237,7 +237,7 @@ pub(crate) fn activate(
     ensures memory { IfErr result (λ e. e ≡ faults.OutOfMemory) }
 {
     if store.is_open(session) {
-        return Ok(refused(alloc, status::FAIL, None));
+        return Ok(refused(alloc, status::FAIL, Rule::InTransaction));
     }
     store.activate()?;
     Ok(said(Vec::new(alloc), None, Erased::none()))
@@ -293,7 +293,7 @@ pub(crate) fn revert(
     ensures memory { IfErr result (λ e. e ≡ faults.OutOfMemory) }
 {
     if store.is_open(session) {
-        return Ok(refused(alloc, status::FAIL, None));
+        return Ok(refused(alloc, status::FAIL, Rule::InTransaction));
     }
     let erases = Erased::of(alloc, erased_by_revert(store))?;
     let sp = sp_of_row(object);
@@ -322,14 +322,14 @@ pub(crate) fn gen_key(
     ensures memory { IfErr result (λ e. e ≡ faults.OutOfMemory) }
 {
     if store.is_open(session) {
-        return Ok(refused(alloc, status::FAIL, None));
+        return Ok(refused(alloc, status::FAIL, Rule::InTransaction));
     }
     match object.key_number() {
         Some(range) => {
             let erases = Erased::of(alloc, erased_by_key(&store.committed(), range))?;
             Ok(said(Vec::new(alloc), None, erases))
         }
-        None => Ok(refused(alloc, status::FAIL, None)),
+        None => Ok(refused(alloc, status::FAIL, Rule::NoKey)),
     }
 }
 
@@ -350,10 +350,10 @@ pub(crate) fn revert_sp(
     ensures memory { IfErr result (λ e. e ≡ faults.OutOfMemory) }
 {
     if store.is_open(session) {
-        return Ok(refused(alloc, status::FAIL, None));
+        return Ok(refused(alloc, status::FAIL, Rule::InTransaction));
     }
     if keep && is_wholly_locked(&store.view(session)) {
-        return Ok(refused(alloc, status::FAIL, None));
+        return Ok(refused(alloc, status::FAIL, Rule::GlobalLocked));
     }
     let erases = Erased::of(alloc, erased_by_revert_sp(&store.committed(), keep))?;
     store.revert(Sp::Locking)?;

@@ -1,28 +1,30 @@
 //! What a call is answered.
 
-ghost use Rattle.std.specs.Prelude.{◌≡◌, true, false, [], ◌∷◌, map, None, nat_lt, IfOk};
+ghost use Rattle.std.specs.Prelude.{◌≡◌, true, false, [], ◌∷◌, map, None, Some, nat_lt, IfOk};
 ghost use Rattle.tcg_tokens.specs.Tree.{tree, number};
 ghost use Rattle.tcg_tokens.specs.Message.{message};
-ghost use Rattle.call_shapes.specs.Statuses.{success};
+ghost use Rattle.call_shapes.specs.Statuses.{success, not_authorized};
 ghost use Rattle.shadow_mbr.specs.Erasure.{no_sectors};
 ghost use Rattle.methods.specs.Said.{reply_of, refusal_of};
-ghost use Rattle.methods.specs.Judgement.{Refuses, gives};
+ghost use Rattle.methods.specs.Judgement.{Denies, Refuses, gives};
 ghost use Rattle.methods.specs.Calls.{Tells};
 
 use audit::Why;
 use call_shapes::limits::MOST_RESPONSE;
 use call_shapes::status;
+use rules::Rule;
 use shadow_mbr::Erased;
 use std::alloc::{AllocError, AllocFailed, Global};
 use tcg_tokens::{Item, Value, item_len, writable};
 use thiserror::Error;
 
-/// What comes of a call: the reply, why it was denied, which sectors become zeros, and whether rows or
-/// bytes may have changed.
+/// What comes of a call: the reply, why it was denied, which rule refused it where nothing denied it, which sectors
+/// become zeros, and whether rows or bytes may have changed.
 #[derive(Drop)]
 pub struct Outcome {
     pub reply: Item,
     pub denied: Option<Why>,
+    pub rule: Option<Rule>,
     pub erases: Erased,
     pub changes: bool,
 }
@@ -75,28 +77,50 @@ fn reply(results: Vec<Value>, status: u64) -> Item
 pub(crate) fn said(results: Vec<Value>, denied: Option<Why>, erases: Erased) -> Outcome
     ensures reply { message result.reply ≡ reply_of (map tree results.items) success }
     ensures denied { result.denied ≡ denied }
+    ensures rule { result.rule ≡ None }
     ensures erases { result.erases ≡ erases }
     ensures changes { result.changes ≡ true }
 {
     Outcome {
         reply: reply(results, status::SUCCESS),
         denied,
+        rule: None,
         erases,
         changes: true,
     }
 }
 
-/// A refusal, which changes nothing.
-pub(crate) fn refused(alloc: Global, status: u64, denied: Option<Why>) -> Outcome
+/// A denial, which changes nothing: this status, and why.
+pub(crate) fn denied(alloc: Global, status: u64, why: Why) -> Outcome
     ensures reply { message result.reply ≡ refusal_of status }
-    ensures denied { result.denied ≡ denied }
+    ensures denied { result.denied ≡ Some why }
+    ensures rule { result.rule ≡ None }
     ensures erases { result.erases ≡ no_sectors }
     ensures changes { result.changes ≡ false }
-    ensures tells { Tells (Refuses status denied) result }
+    ensures tells { status ≡ not_authorized → Tells (Denies why) result }
 {
     Outcome {
         reply: reply(Vec::new(alloc), status),
-        denied,
+        denied: Some(why),
+        rule: None,
+        erases: Erased::none(),
+        changes: false,
+    }
+}
+
+/// A refusal by a rule, which changes nothing.
+pub(crate) fn refused(alloc: Global, status: u64, rule: Rule) -> Outcome
+    ensures reply { message result.reply ≡ refusal_of status }
+    ensures denied { result.denied ≡ None }
+    ensures rule { result.rule ≡ Some rule }
+    ensures erases { result.erases ≡ no_sectors }
+    ensures changes { result.changes ≡ false }
+    ensures tells { Tells (Refuses status rule) result }
+{
+    Outcome {
+        reply: reply(Vec::new(alloc), status),
+        denied: None,
+        rule: Some(rule),
         erases: Erased::none(),
         changes: false,
     }
@@ -111,11 +135,12 @@ pub(crate) fn fitting(alloc: Global, results: Vec<Value>) -> Outcome
         return Outcome {
             reply,
             denied: None,
+            rule: None,
             erases: Erased::none(),
             changes: false,
         };
     }
-    refused(alloc, status::RESPONSE_OVERFLOW, None)
+    refused(alloc, status::RESPONSE_OVERFLOW, Rule::TooLong)
 }
 
 /// One number as the results.

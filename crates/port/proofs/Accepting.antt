@@ -33,7 +33,7 @@ use Rattle.port_history.specs.Registers.{registers, all_shown, restarted_if}
 use Rattle.port_history.specs.Requests.{command_fis, to_device, bytes_moved}
 use Rattle.port_history.specs.Stages.{is_queued_command, is_queued_put, to, put_at, accepted_stage}
 use Rattle.history.specs.Audit.{line_for}
-use Rattle.port_history.specs.Steps.{Effect, Moment, moment, effect_by, acceptance, accept_payload, act_of, act_before, event_before, executed_answer, answered_with, failing_by, has_failed, trace, events, acts, sent_fises, stage, failed, payload, answer, audit}
+use Rattle.port_history.specs.Steps.{Effect, Moment, moment, effect_by, acceptance, accept_payload, act_of, act_before, event_before, executed_answer, answered_with, failing_by, has_failed, trace, events, acts, sent_fises, stage, failed, payload, answer, audit, accepted_rule}
 use Rattle.port_history.proofs.Tests.{none_holds, issued_is, none_is}
 use Rattle.port.specs.declared.outcome.Outcome.{Outcome}
 use Rattle.port.specs.declared.outcome.Outcome.TheVariants as outcomes
@@ -303,4 +303,5 @@ accept_agrees old new o list tag lt h lawful made =
           (s.audit ∙ ap (λ (x : Put). old.audit ++ line_for (1 + length old.history) x.client s.answer.denied) same)
           answered.denied
           ∙ sym (ap (λ (m : Moment). reverse (audit (m ∷ ms))) moment_is);
+      rule = s.rule ∙ answered.rule ∙ sym (ap (λ (m : Moment). accepted_rule (m ∷ ms)) moment_is);
     }

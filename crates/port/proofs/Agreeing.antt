@@ -164,6 +164,7 @@ put_agrees old new o list client tag request lt h s lawful =
       received = received_same old.memory new.memory (sent_fises ms) (received_but_slot old.memory new.memory tag lt s.elsewhere) h.received;
       history = one_entry old o list step new.history (entry_of step) h s.history refl;
       log = s.audit ∙ h.log;
+      rule = s.rule ∙ h.rule;
     }
 
 -- Issue
@@ -211,6 +212,7 @@ issue_agrees old new o list tag lt h lawful s =
       received = received_kept old.memory new.memory (sent_fises ms) s.memory h.received;
       history = one_entry old o list step new.history (entry_of step) h s.history refl;
       log = s.audit ∙ h.log;
+      rule = s.rule ∙ h.rule;
     }
 
 -- Take
@@ -260,6 +262,7 @@ take_agrees old new o list client tag lt h lawful s =
       received = received_kept old.memory new.memory (sent_fises ms) s.memory h.received;
       history = one_entry old o list step new.history _ h s.history (ap (λ (a : Answer). record { step = step; reply = a }) (taken_answer old o list tag lt h));
       log = s.audit ∙ h.log;
+      rule = s.rule ∙ h.rule;
     }
 
 -- A port that did nothing.
@@ -280,4 +283,5 @@ fresh_agrees port drive o f h = record {
   received = λ fis e. absurd cc;
   history = f.history;
   log = f.audit;
+  rule = f.rule;
 }

@@ -152,6 +152,7 @@ complete_agrees old new o list tag lt h lawful s =
           s.audit ∙ h.log
           ∙ sym (ap (λ (xs : List AuditLine). reverse (xs ++ audit ms)) (no_line (1 + length ms) tag put (payload ms tag) (held (events ms) tag) e.fises e.bytes))
           ∙ sym (ap (λ (m : Moment). reverse (audit (m ∷ ms))) moment_is);
+      rule = s.rule ∙ h.rule;
     }
 
 none_not : (x : Option HeldCommand) → x ≡ None → option_map (λ (h : HeldCommand). h.command) x ≡ None

@@ -103,6 +103,7 @@ recover_agrees old new o list h lawful s =
       log =
           s.audit ∙ h.log
           ∙ sym (ap (λ (why : Option Why). reverse (line_for (1 + length ms) 0 why ++ audit ms)) r.denied);
+      rule = s.rule ∙ h.rule;
     }
 
 laid_reset : (memory : List ℕ) (t : ℕ) (s : Stage) (bytes : List ℕ)
@@ -146,4 +147,5 @@ reset_agrees old new o list client kind h lawful s =
       received = received_kept old.memory new.memory (sent_fises ms) s.memory h.received;
       history = one_entry old o list step new.history (entry_of step) h s.history refl;
       log = s.audit ∙ h.log;
+      rule = s.rule ∙ h.rule;
     }

@@ -5,7 +5,7 @@ use Rattle.history.specs.Opening.{Origin}
 use Rattle.drive.specs.State.{Agrees as DriveAgrees}
 use Rattle.port_history.specs.Refusals.{IsLawful, IsRefusedBy, refusal}
 use Rattle.port_history.specs.Registers.{registers}
-use Rattle.port_history.specs.Steps.{Moment, trace, acts, sent_fises, stage, failed, payload, answer, audit, entries}
+use Rattle.port_history.specs.Steps.{Moment, trace, acts, sent_fises, stage, failed, payload, answer, audit, accepted_rule, entries}
 use Rattle.port_history.specs.declared.error.PortError.{PortError}
 use Rattle.port_history.specs.declared.request.Answer.{Answer}
 use Rattle.port_history.specs.declared.stages.Stage.{Stage}
@@ -47,6 +47,7 @@ pub record PortAgrees (port : PortState) (o : Origin) (steps : List Step) : Type
   pub received : IsReceived port.memory (sent_fises (trace o steps))
   pub history : port.history ≡ reverse (entries o steps)
   pub log : port.audit ≡ reverse (audit (trace o steps))
+  pub rule : port.rule ≡ accepted_rule (trace o steps)
 
 -- Of steps, the oldest first, those before a place are done, and the one there is refused.
 pub record IsStopped (port : PortState) (o : Origin) (steps : List Step) (at : ℕ)

@@ -1,6 +1,7 @@
 -- What contracts see of a port, and what each step makes of it.
 use Rattle.std.specs.Prelude.{◌≡◌, ℕ, ◌+◌, ◌++◌, ◌∷◌, ◌≤◌, ◌<◌, ◌==◌, ◌&&◌, ◌%◌, Bool, true, false, not, nat_lt, List, [], length, reverse, slice_index, slice_set, is_some, Option, Some, None, if◌then◌else◌}
 use Rattle.audit.specs.declared.reason.AuditLine.{AuditLine}
+use Rattle.rules.specs.declared.rule.Rule.{Rule}
 use Rattle.fis.specs.H2d.{h2d_at}
 use Rattle.fis.specs.Tags.{slot_count}
 use Rattle.fis.specs.declared.any.Fis.{Fis}
@@ -46,6 +47,7 @@ pub record PortState : Type 0 where
   pub regs : Regs
   pub history : List Entry
   pub audit : List AuditLine
+  pub rule : Option Rule
 
 -- A port that did nothing.
 pub record IsFresh (port : PortState) (drive : DriveState) : Type 0 where
@@ -58,6 +60,7 @@ pub record IsFresh (port : PortState) (drive : DriveState) : Type 0 where
   pub regs : port.regs ≡ start_registers
   pub history : port.history ≡ []
   pub audit : port.audit ≡ []
+  pub rule : port.rule ≡ None
 
 -- The history has no room.
 abbrev pub is_history_full : PortState → Bool
@@ -88,6 +91,7 @@ pub record IsPut (old new : PortState) (client tag : ℕ) (request : Request) : 
   pub regs : new.regs ≡ old.regs
   pub history : new.history ≡ old.history ++ entry_of (steps.Put client tag request) ∷ []
   pub audit : new.audit ≡ old.audit
+  pub rule : new.rule ≡ old.rule
 
 pub record IsIssued (old new : PortState) (tag : ℕ) : Type 0 where
   pub put : Put
@@ -100,6 +104,7 @@ pub record IsIssued (old new : PortState) (tag : ℕ) : Type 0 where
   pub regs : new.regs ≡ with_issue tag (is_queued_command put.command) old.regs
   pub history : new.history ≡ old.history ++ entry_of (steps.Issue tag) ∷ []
   pub audit : new.audit ≡ old.audit
+  pub rule : new.rule ≡ old.rule
 
 -- The drive did an act, and said this of it.
 pub record Took (old new : DriveState) (fis payload : List ℕ)
@@ -160,6 +165,7 @@ pub record IsAccepted (old new : PortState) (tag : ℕ) (fis : List ℕ) : Type 
   pub history : new.history ≡ old.history ++ entry_of (steps.Accept tag) ∷ []
   pub audit : new.audit
       ≡ old.audit ++ line_for (1 + length old.history) put.client answer.denied
+  pub rule : new.rule ≡ answer.rule
 
 pub record IsCompleted (old new : PortState) (tag : ℕ) : Type 0 where
   pub put : Put
@@ -180,6 +186,7 @@ pub record IsCompleted (old new : PortState) (tag : ℕ) : Type 0 where
   pub regs : new.regs ≡ all_shown tag old.regs (fises_done done)
   pub history : new.history ≡ old.history ++ entry_of (steps.Complete tag) ∷ []
   pub audit : new.audit ≡ old.audit
+  pub rule : new.rule ≡ old.rule
 
 -- The tag that a log page names: bits 4 to 0 of its first byte, where bit 7 is clear (ACS-3, NCQ Command Error log).
 -- Behind it stand the status and the error.
@@ -205,6 +212,7 @@ pub record IsRecovered (old new : PortState) : Type 0 where
   pub regs : new.regs ≡ all_shown 0 (restarted old.regs) (fises_in answer)
   pub history : new.history ≡ old.history ++ entry_of steps.Recover ∷ []
   pub audit : new.audit ≡ old.audit
+  pub rule : new.rule ≡ old.rule
 
 pub record IsReset (old new : PortState) (client : ℕ) (kind : ResetKind) : Type 0 where
   pub drive : (o : Origin) (acts : List Act) → DriveAgrees old.drive o acts
@@ -220,6 +228,7 @@ pub record IsReset (old new : PortState) (client : ℕ) (kind : ResetKind) : Typ
   pub regs : new.regs ≡ reset_regs old.regs
   pub history : new.history ≡ old.history ++ entry_of (steps.Reset client kind) ∷ []
   pub audit : new.audit ≡ old.audit
+  pub rule : new.rule ≡ old.rule
 
 pub record IsTaken (old new : PortState) (client tag : ℕ) : Type 0 where
   pub drive : new.drive ≡ old.drive
@@ -234,6 +243,7 @@ pub record IsTaken (old new : PortState) (client tag : ℕ) : Type 0 where
         reply = taken old.memory tag (outcome_at old.outcomes tag);
       }) ∷ []
   pub audit : new.audit ≡ old.audit
+  pub rule : new.rule ≡ old.rule
 
 -- The drive holds a command under the tag, whose data the buffer has room for.
 pub record IsReady (port : PortState) (tag : ℕ) : Type 0 where

@@ -167,6 +167,7 @@ impl Port {
         self.slots[slot] = accepted_stage(put);
         self.outcomes[slot] = outcome_then(queued, &answer, len, self.outcomes[slot]);
         self.failed = failed_then(queued, answer.has_failed(), tag, self.failed);
+        self.rule = answer.rule;
         note(&mut self.audit, number, put.client, answer.denied);
         self.history.push_engine(EngineStep::Accept { tag });
         Ok(number)

@@ -7,6 +7,7 @@ use drive::Drive;
 use fis::{SLOT_COUNT, Tag};
 use hba_regs::PortRegs;
 use port_history::{Entries, PortError, Stage};
+use rules::Rule;
 use slots::PortMemory;
 use std::alloc::{AllocError, Global};
 use std::marker::Model;
@@ -24,6 +25,7 @@ pub struct Port {
     pub(crate) regs: PortRegs,
     pub(crate) history: Entries,
     pub(crate) audit: Vec<AuditLine>,
+    pub(crate) rule: Option<Rule>,
 }
 
 impl Model for Port {
@@ -40,6 +42,7 @@ impl Model for Port {
       regs = p.regs;
       history = p.history.items;
       audit = p.audit.items;
+      rule = p.rule;
     } };
 }
 
@@ -54,7 +57,7 @@ impl Port {
     ghost use Rattle.port_history.specs.declared.stages.Put.{Put};
     ghost use Rattle.port_history.specs.declared.step.Step.{Step};
     ghost use Rattle.port_history.specs.Stages.{is_active, is_issued};
-    ghost use Rattle.port_history.specs.Steps.{trace, stage, failed, is_tag};
+    ghost use Rattle.port_history.specs.Steps.{trace, stage, failed, is_tag, accepted_rule};
     ghost use Rattle.port.specs.Agreement.{PortAgrees};
     ghost use Rattle.port.specs.Answers.{stage_at};
     ghost use Rattle.port.specs.Host.{fetched_of};
@@ -87,6 +90,7 @@ impl Port {
             regs: PortRegs::new(),
             history: Entries::new(alloc),
             audit: Vec::new(alloc),
+            rule: None,
         })
     }
 
@@ -97,11 +101,27 @@ impl Port {
         &self.history
     }
 
+    /// The drive behind the port.
+    pub fn drive(&self) -> &Drive
+        ensures { result.now ≡ self.now.drive }
+    {
+        &self.drive
+    }
+
     /// The denials so far, the oldest first.
     pub fn audit(&self) -> &[AuditLine]
         ensures { result.now ≡ self.now.audit }
     {
         self.audit.as_slice()
+    }
+
+    /// Which rule refused the command that was accepted last, or the item that it sent, where nothing denied it.
+    pub fn rule(&self) -> Option<Rule>
+        ensures stands { result ≡ self.now.rule }
+        ensures told { (o : Origin) (list : List Step) → PortAgrees self.now o list
+            → result ≡ accepted_rule (trace o list) }
+    {
+        self.rule
     }
 
     /// The registers. PxSACT has the queued tags that are issued or accepted, PxCI those that are issued, and the one

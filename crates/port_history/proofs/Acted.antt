@@ -22,7 +22,7 @@ use Rattle.history.specs.Items.{Items}
 use Rattle.history.specs.Quiet.{is_quiet}
 use Rattle.history.proofs.QuietProofs.{tcg_quiet}
 use Rattle.history.specs.Facts.{Facts, facts}
-use Rattle.history.specs.Decisions.{not_found, aborted, fails, refuses, fails_queue, on_drive, verdict_on, holds, queued_by, admitted, unqueued_by, is_trusted, is_session_com_id, discovery_com_id, received, is_busy, resets, unqueued_of, known_of, commanded_of, while_failed, is_received}
+use Rattle.history.specs.Decisions.{not_found, aborted, fails, refuses, fails_queue, on_drive, verdict_on, holds, queued_by, admitted, unqueued_by, is_trusted, is_session_com_id, discovery_com_id, received, is_busy, resets, unqueued_of, known_of, commanded_of, while_failed, is_received, unreceived}
 use Rattle.history.specs.Tcg.{data_read, command_read, tcg}
 use Rattle.history.specs.Answers.{answer_fis, pio_fis, ready, errored, is_holding, answer_fises_of, fises_read, answer_data_of, data_read_of}
 use Rattle.history.specs.History.{Accept as AcceptFis, event_by, event_in}
@@ -35,6 +35,8 @@ use Rattle.sp_cells.specs.Config.{Config}
 use Rattle.trusted_cmds.proofs.Spellings.{ok-reads}
 use Rattle.port_history.proofs.Sizes.{sector_length, data-fits}
 use Rattle.sp_cells.specs.Resets.{programmatic}
+use Rattle.rules.specs.declared.rule.Rule.TheVariants.{NoCommand, Mixed, BeyondDrive}
+use Rattle.rules.specs.declared.rule.Rule.{Rule}
 
 -- the FISes
 pub commands_of : (command : Command) (tag : ℕ) → (fis_of command tag).is_command ≡ true
@@ -80,18 +82,18 @@ comes-to : (items : Items) (f : Facts) (h : RegH2d) (payload : List ℕ) → h.i
     → commanded_of items f h payload ≡ known_of items f h payload (items.reads f.config h)
 comes-to items f h payload commands mended unmixed =
     ap
-    (λ (b : Bool). if not b then refuses
+    (λ (b : Bool). if not b then refuses NoCommand
     else (if is_some f.failure then while_failed (items.reads f.config h)
-    else (if is_busy f && not (is_queued_code h.command) then fails_queue None aborted h None
+    else (if is_busy f && not (is_queued_code h.command) then fails_queue None aborted h None (Some Mixed)
     else known_of items f h payload (items.reads f.config h))))
     commands
     ∙ ap
     (λ (x : Option Failure). if is_some x then while_failed
     (items.reads f.config h) else (if is_busy f && not (is_queued_code h.command)
-    then fails_queue None aborted h None else known_of items f h payload (items.reads f.config h)))
+    then fails_queue None aborted h None (Some Mixed) else known_of items f h payload (items.reads f.config h)))
     mended
     ∙ ap
-    (λ (b : Bool). if b then fails_queue None aborted h None else known_of items f h payload (items.reads f.config h))
+    (λ (b : Bool). if b then fails_queue None aborted h None (Some Mixed) else known_of items f h payload (items.reads f.config h))
     unmixed
 
 -- A FIS of the port comes to its command: past the failure of the queue and the mixing of queues.
@@ -137,34 +139,34 @@ held_effect tag command v = record {
 }
 
 -- Or it fails the queue, which its tag names.
-abbrev pub failed_effect : ℕ → Command → ℕ → Option Why → Effect
+abbrev pub failed_effect : ℕ → Command → ℕ → Option Why × Option Rule → Effect
 failed_effect tag command error denied = record {
-  event = fails_queue (Some tag) error (fis_of command tag) denied;
+  event = fails_queue (Some tag) error (fis_of command tag) denied.0 denied.1;
   fises = answer_fis true errored error ∷ [];
   bytes = [];
 }
 
 pub data IsHeldOrFailed (tag : ℕ) (command : Command) (e : Effect) : Type 0 where
   IsHeld : (v : Verdict) → e ≡ held_effect tag command v → IsHeldOrFailed tag command e
-  IsFailed : (error : ℕ) (denied : Option Why) → e ≡ failed_effect tag command error denied
+  IsFailed : (error : ℕ) (denied : Option Why × Option Rule) → e ≡ failed_effect tag command error denied
       → IsHeldOrFailed tag command e
 
 data IsEither (tag : ℕ) (command : Command) (h : RegH2d) (e : Event) : Type 0 where
   EventHeld : (v : Verdict) → e ≡ holds tag command v → IsEither tag command h e
-  EventFailed : (error : ℕ) (denied : Option Why) → e ≡ fails_queue (Some tag) error h denied
+  EventFailed : (error : ℕ) (denied : Option Why × Option Rule) → e ≡ fails_queue (Some tag) error h denied.0 denied.1
       → IsEither tag command h e
 
 queued_by-either : (h : RegH2d) (tag : ℕ) (command : Command) (v : Verdict)
     → IsEither tag command h (queued_by h tag command v)
 queued_by-either h tag command Serve = EventHeld Serve refl
 queued_by-either h tag command Shadow = EventHeld Shadow refl
-queued_by-either h tag command (Denied why) = EventFailed aborted (Some why) refl
+queued_by-either h tag command (Denied why) = EventFailed aborted (Some why, None) refl
 
 placed-either : (h : RegH2d) (tag : ℕ) (command : Command) (v : Verdict) (on : Bool)
     → IsEither tag command h
-    (if on then queued_by h tag command v else fails_queue (Some tag) not_found h None)
+    (if on then queued_by h tag command v else fails_queue (Some tag) not_found h None (Some BeyondDrive))
 placed-either h tag command v true = queued_by-either h tag command v
-placed-either h tag command v false = EventFailed not_found None refl
+placed-either h tag command v false = EventFailed not_found (None, Some BeyondDrive) refl
 
 known-either : (items : Items) (f : Facts) (h : RegH2d) (bytes : List ℕ) (command : Command) (tag : ℕ)
     → is_queued_command command ≡ true → f.held tag ≡ None
@@ -245,7 +247,7 @@ queued_effect items still o past command tag bytes lt sized queued mended free =
         }) none)
     by_event e same (EventFailed error denied made) =
         IsFailed error denied
-        (effect-of items f fis bytes (fails_queue (Some tag) error (fis_of command tag) denied) (is ∙ same
+        (effect-of items f fis bytes (fails_queue (Some tag) error (fis_of command tag) denied.0 denied.1) (is ∙ same
         ∙ made))
 
 -- Unqueued commands.
@@ -287,7 +289,7 @@ transfer-quiet : (f : Facts) (d : Deed) (op : Op) (lba count : ℕ) → is_of_qu
     → is_of_queue (Rattle.history.specs.Decisions.unqueued_transfer f d op lba count).deed ≡ false
 transfer-quiet f d op lba count h =
     quiet-if (on_drive f lba count) (unqueued_by d (verdict_on f op lba count))
-    (fails not_found None)
+    (fails not_found None (Some BeyondDrive))
     (unqueued_by-quiet d (verdict_on f op lba count) h) refl
 
 of-items : (d : Deed) → is_quiet d ≡ true → is_of_queue d ≡ false
@@ -319,7 +321,7 @@ unqueued-quiet items still f payload (Send protocol com_id blocks dma) =
 unqueued-quiet items still f payload (Receive protocol com_id blocks dma) =
     quiet-if
     (is_received f protocol com_id blocks)
-    (received com_id blocks (f.waiting com_id)) refuses
+    (received com_id blocks (f.waiting com_id)) (refuses (unreceived protocol blocks))
     (received-quiet com_id blocks (f.waiting com_id)) refl
 unqueued-quiet items still f payload Identify = refl
 unqueued-quiet items still f payload (ReadLog10 dma) = refl

@@ -29,6 +29,7 @@ use Rattle.port_history.proofs.Fises.{brought}
 use Rattle.port_history.specs.Laws.{IsSized}
 use Rattle.port_history.proofs.Acted.{IsExecuted, held_effect, failed_effect, mended_effect}
 use Rattle.port_history.proofs.Tests.{none_passes}
+use Rattle.rules.specs.declared.rule.Rule.{Rule}
 
 -- What is held under a tag, by its stage, while the port has not failed.
 abbrev pub held_by : Option ℕ → Stage → Option Command
@@ -507,7 +508,7 @@ failed_held ms u put v = by_kind (is_queued_command put.command)
     by_kind true = refl
     by_kind false = refl
 
-pub failed_failed : (ms : List Moment) (u : ℕ) (put : Put) (error : ℕ) (denied : Option Why)
+pub failed_failed : (ms : List Moment) (u : ℕ) (put : Put) (error : ℕ) (denied : Option Why × Option Rule)
     → is_queued_command put.command ≡ true
     → failed (accept_moment u put (failed_effect u put.command error denied) ∷ ms) ≡ Some u
 failed_failed ms u put error denied queued =
@@ -549,7 +550,7 @@ kept_held ms u put v lu k mended was queued =
       | inr other ↦ rw (ne_eqb u t other) (k.queue t)
     ]
 
-pub kept_failed : (ms : List Moment) (u : ℕ) (put : Put) (error : ℕ) (denied : Option Why)
+pub kept_failed : (ms : List Moment) (u : ℕ) (put : Put) (error : ℕ) (denied : Option Why × Option Rule)
     → u < 32 → Kept ms → stage ms u ≡ Issued put → is_queued_command put.command ≡ true
     → Kept (accept_moment u put (failed_effect u put.command error denied) ∷ ms)
 kept_failed ms u put error denied lu k was queued =

@@ -28,6 +28,7 @@ use Rattle.port_history.proofs.Bits.{or_same, or_other, without_same, without_ot
 use Rattle.port_history.proofs.Tests.{none_is, some_is, was_true, none_holds, tests_of, free_is, prepared_is, issued_is, accepted_is, answered_is}
 use Rattle.port_history.proofs.Kept.{Kept, accept_moment, complete_moment, moves, accepted_moves, executed_moves, recovered_in, reset_in, is_single, failed_held, failed_failed, failed_executed}
 use Rattle.port_history.proofs.KeptLaw.{kept, accept_is, complete_is, recover_is, accepted_effect, completed_effect, queued_comes, unqueued_comes, accepted_moves as completion_is, fit_accepted, found}
+use Rattle.rules.specs.declared.rule.Rule.{Rule}
 
 -- The bits of a tag, by its stage and the tag that failed.
 pub record AreBits (active issued tag : ℕ) (s : Stage) (f : Option ℕ) : Type 0 where
@@ -241,7 +242,7 @@ bits_held ms u tag put v lu lt mended was queued h =
     (held-bits regs.active regs.issued u tag put (stage ms) lu lt was
     (subst (λ (f : Option ℕ). AreBits regs.active regs.issued tag (stage ms tag) f) mended h))))
 
-bits_failed : (ms : List Moment) (u tag : ℕ) (put : Put) (error : ℕ) (denied : Option Why)
+bits_failed : (ms : List Moment) (u tag : ℕ) (put : Put) (error : ℕ) (denied : Option Why × Option Rule)
     → failed ms ≡ None → stage ms u ≡ Issued put → is_queued_command put.command ≡ true → BitsOf ms tag
     → BitsOf (accept_moment u put (failed_effect u put.command error denied) ∷ ms) tag
 bits_failed ms u tag put error denied mended was queued h =

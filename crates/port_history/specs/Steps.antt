@@ -2,6 +2,7 @@
 -- what is read off them.
 use Rattle.std.specs.Prelude.{ℕ, ◌+◌, ◌&&◌, ◌==◌, Bool, false, ◌∷◌, ◌++◌, List, [], length, reverse, is_some, option_map, unwrap_or, Option, Some, None, if◌then◌else◌}
 use Rattle.audit.specs.declared.reason.AuditLine.{AuditLine}
+use Rattle.rules.specs.declared.rule.Rule.{Rule}
 use Rattle.device_data.specs.declared.log_page.Failure.{Failure}
 use Rattle.fis.specs.declared.any.Fis.{Fis}
 use Rattle.history.specs.Resets.{reset_kind_number}
@@ -263,6 +264,24 @@ line_of number served (Some e) = line_for number (client_of served) e.event.deni
 abbrev pub audit : List Moment → List AuditLine
 audit [] = []
 audit (m ∷ before) = line_of (1 + length before) m.served m.effect ++ audit before
+
+-- Which rule refused the command, or the item, of the latest acceptance, where nothing denied it.
+abbrev pub rule_told : Option Effect → Option Rule → Option Rule
+rule_told None before = before
+rule_told (Some effect) before = effect.event.rule
+
+abbrev pub rule_after : Step → Option Effect → Option Rule → Option Rule
+rule_after (steps.Put client slot request) effect before = before
+rule_after (steps.Issue slot) effect before = before
+rule_after (steps.Accept slot) effect before = rule_told effect before
+rule_after (steps.Complete slot) effect before = before
+rule_after steps.Recover effect before = before
+rule_after (steps.Reset client kind) effect before = before
+rule_after (steps.Take client slot) effect before = before
+
+abbrev pub accepted_rule : List Moment → Option Rule
+accepted_rule [] = None
+accepted_rule (m ∷ before) = rule_after m.step m.effect (accepted_rule before)
 
 -- What a step replies: a Take the answer, every other step that it is done.
 abbrev pub reply : List Moment → Step → Answer

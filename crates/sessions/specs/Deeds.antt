@@ -10,6 +10,7 @@ use Rattle.shadow_mbr.specs.declared.erasure.Erasure.{Erasure}
 use Rattle.shadow_mbr.specs.Erasure.{no_sectors}
 use Rattle.audit.specs.declared.reason.AttemptFailure.{AttemptFailure}
 use Rattle.audit.specs.declared.reason.Why.{Why}
+use Rattle.rules.specs.declared.rule.Rule.{Rule}
 use Rattle.tcg_tokens.specs.Message.{Message}
 use Rattle.sessions.specs.Attempts.{credential}
 use Rattle.sessions.specs.Gains.{gained as gained_by}
@@ -70,14 +71,19 @@ erased_by (Reverted sp erasure) = erasure
 erased_by (Erased erasure) = erasure
 erased_by _ = no_sectors
 
--- what it does and is answered, and what denied it
+-- what it does and is answered, what denied it, and which rule refused it, where nothing denied it
 pub record Outcome : Type 0 where
   pub deed : SessionDeed
   pub said : Message
   pub denied : Option Why
+  pub rule : Option Rule
 
 abbrev pub says : SessionDeed → Message → Outcome
-says deed said = record { deed = deed; said = said; denied = None }
+says deed said = record { deed = deed; said = said; denied = None; rule = None }
+
+-- what a rule refuses does nothing
+abbrev pub refuses : Message → Rule → Outcome
+refuses said rule = record { deed = Unchanged; said = said; denied = None; rule = Some rule }
 
 -- an attempt goes by the rows in force, never by an open transaction's; a right one gains the authority and its class
 abbrev pub gains_of : LookUp → Sp → Uid → Option AttemptFailure → List Uid

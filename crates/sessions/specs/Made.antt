@@ -15,6 +15,7 @@ use Rattle.ace_eval.specs.Truth.{has}
 use Rattle.audit.specs.declared.reason.AttemptFailure.{AttemptFailure}
 use Rattle.audit.specs.declared.reason.AttemptFailure.TheVariants.{WrongPin, LockedOut, Disabled, Blocked, Unknown}
 use Rattle.audit.specs.declared.reason.Why.{Why}
+use Rattle.rules.specs.declared.rule.Rule.{Rule}
 use Rattle.tcg_tokens.specs.Message.{Message}
 use Rattle.transactions.specs.Bytes.{written}
 use Rattle.transactions.specs.Stored.{Transaction, Part, Stored, part, at_part, part_begin, part_commit, part_close, part_tries, reverted}
@@ -139,11 +140,13 @@ LivesAs (Aborted sp) l m = LeavesAll l m
 LivesAs (Activated pin) l m = LeavesAll l m
 LivesAs (Erased erasure) l m = LeavesAll l m
 
--- what is answered, which sectors are erased, and what is made of the store and of the sessions, is what an outcome says
-pub record Meets (out : Outcome) (said : Message) (why : Option Why) (erasure : Erasure)
-    (s t : Stored) (l m : Live) : Type 0 where
+-- what is answered, what denied or refused it, which sectors are erased, and what is made of the store and of the
+-- sessions, is what an outcome says
+pub record Meets (out : Outcome) (said : Message) (why : Option Why) (ruled : Option Rule)
+    (erasure : Erasure) (s t : Stored) (l m : Live) : Type 0 where
   pub answer : said ≡ out.said
   pub denied : why ≡ out.denied
+  pub rule : ruled ≡ out.rule
   pub erases : erasure ≡ erased_by out.deed
   pub store : StoresAs out.deed s t
   pub sessions : LivesAs out.deed l m

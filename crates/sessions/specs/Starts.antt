@@ -15,6 +15,8 @@ use Rattle.audit.specs.declared.reason.AttemptFailure.{AttemptFailure}
 use Rattle.audit.specs.declared.reason.AttemptFailure.TheVariants.{WrongPin, LockedOut, Disabled, Blocked, Unknown}
 use Rattle.audit.specs.declared.reason.Why.{Why}
 use Rattle.audit.specs.declared.reason.Why.TheVariants.{AttemptFailed}
+use Rattle.rules.specs.declared.rule.Rule.{Rule}
+use Rattle.rules.specs.declared.rule.Rule.TheVariants.{Shape, UnknownSp, NotInUse, SpBusy, NoNumber}
 use Rattle.call_shapes.specs.Parameters.{host_challenge_parameter, host_signing_authority_parameter}
 use Rattle.call_shapes.specs.Named.{options, value_of, bytes_or_empty}
 use Rattle.call_shapes.specs.CellValues.{number_in, uid_in}
@@ -83,16 +85,16 @@ abbrev pub is_full : Live → Bool
 is_full l = nat_lt 0xffffffff l.next
 
 abbrev pub opening_verdict_on : LookUp → Live → Opening → Option Sp → StartVerdict
-opening_verdict_on look l o None = Refused invalid_parameter
+opening_verdict_on look l o None = Refused invalid_parameter UnknownSp
 opening_verdict_on look l o (Some sp) =
-    if not (is_in_use look sp) then Refused invalid_parameter else
-    if lives_on sp l then Refused sp_busy else
-    if is_full l then Refused no_sessions_available else
+    if not (is_in_use look sp) then Refused invalid_parameter NotInUse else
+    if lives_on sp l then Refused sp_busy SpBusy else
+    if is_full l then Refused no_sessions_available NoNumber else
     Attempted sp (attempt_failure l.block look sp o.authority o.proof)
 
 -- what comes of a StartSession: a refusal, or an attempt on its authority
 abbrev pub verdict : LookUp → Live → Option Opening → StartVerdict
-verdict look l None = Refused invalid_parameter
+verdict look l None = Refused invalid_parameter Shape
 verdict look l (Some o) = opening_verdict_on look l o (sp_named o.spid)
 
 -- the number that a host gave, or 0 where it gave none of 32 bits
@@ -118,24 +120,29 @@ attempt_status Disabled = not_authorized
 attempt_status Blocked = not_authorized
 attempt_status Unknown = not_authorized
 
--- the answer, why it was denied, and what is left
+-- the answer, why it was denied, which rule refused it, and what is left
 abbrev pub reply_to : ℕ → ℕ → StartVerdict → Message
-reply_to host tsn (Refused status) = sync_message host 0 status
+reply_to host tsn (Refused status rule) = sync_message host 0 status
 reply_to host tsn (Attempted sp (Some f)) = sync_message host 0 (attempt_status f)
 reply_to host tsn (Attempted sp None) = sync_message host tsn success
 
 abbrev pub denied_by : Uid → StartVerdict → Option Why
-denied_by authority (Refused status) = None
+denied_by authority (Refused status rule) = None
 denied_by authority (Attempted sp (Some f)) = Some (AttemptFailed sp authority f)
 denied_by authority (Attempted sp None) = None
 
+-- which rule refused it
+abbrev pub rule_of : StartVerdict → Option Rule
+rule_of (Refused status rule) = Some rule
+rule_of (Attempted sp f) = None
+
 abbrev pub stored_by : Uid → StartVerdict → Stored → Stored
-stored_by authority (Refused status) s = s
+stored_by authority (Refused status rule) s = s
 stored_by authority (Attempted sp f) s = after_attempt sp authority f s
 
 -- the session that begins has the next number, and holds what its authority brings
 abbrev pub begun_by : LookUp → ℕ → Opening → StartVerdict → Bool → Option Holder → Option Holder
-begun_by look com_id o (Refused status) is_next before = before
+begun_by look com_id o (Refused status rule) is_next before = before
 begun_by look com_id o (Attempted sp (Some f)) is_next before = before
 begun_by look com_id o (Attempted sp None) is_next before =
     if is_next then Some (record {
@@ -147,7 +154,7 @@ begun_by look com_id o (Attempted sp None) is_next before =
     }) else before
 
 abbrev pub next_by : StartVerdict → ℕ → ℕ
-next_by (Refused status) next = next
+next_by (Refused status rule) next = next
 next_by (Attempted sp (Some f)) next = next
 next_by (Attempted sp None) next = next + 1
 
@@ -173,12 +180,15 @@ opening_verdict s l o = verdict (rows_in_force s) l (Some o)
 abbrev pub start_verdict : Stored → Live → List Tree → StartVerdict
 start_verdict s l args = verdict (rows_in_force s) l (opening_of args)
 
--- its answer, why it was denied, the store and the session of each number after it, and the next number
+-- its answer, why it was denied, which rule refused it, the store and the session of each number after it, and the next number
 abbrev pub start_reply : Stored → Live → List Tree → Message
 start_reply s l args = reply_to (host_of args) l.next (start_verdict s l args)
 
 abbrev pub start_denied : Stored → Live → List Tree → Option Why
 start_denied s l args = denied_with (opening_of args) (start_verdict s l args)
+
+abbrev pub start_rule : Stored → Live → List Tree → Option Rule
+start_rule s l args = rule_of (start_verdict s l args)
 
 abbrev pub start_stored : Stored → Live → List Tree → Stored
 start_stored s l args = stored_with (opening_of args) (start_verdict s l args) s

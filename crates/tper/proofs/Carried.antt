@@ -1,6 +1,6 @@
 -- Each answer can be carried by a response: that to a call, that to a StartSession, and that to Properties.
 use Rattle.std.proofs.Common.{◌≡◌, ℕ, ◌+◌, ◌^◌, ◌<◌, ◌≤◌, Bool, true, false, not, ltb, List, [], ◌∷◌, ◌++◌, length, Option, None, Some, refl, cond, arith, inl, inr, ◌&&◌}
-use Rattle.std.specs.Prelude.{◌==◌, ◌-◌, ◌||◌, suc, nat_le, nat_lt}
+use Rattle.std.specs.Prelude.{◌==◌, ◌-◌, ◌||◌, suc, nat_le, nat_lt, Result, Ok, Err}
 use Rattle.std.specs.Int.{w64, to_be_bytes}
 use Rattle.std.proofs.Math.Nat.{min-le_left}
 use Rattle.std.proofs.lemmas.Bool.{ltb-true, le-leb, lt-ltb}
@@ -43,6 +43,8 @@ use Rattle.sp_cells.specs.Numbers.{key_number}
 use Rattle.methods.specs.Erasures.{is_wholly_locked}
 use Rattle.methods.specs.Judgement.{Standing, Judgement, Refuses, Gives, Activates, Reverts, RevertsSp, erases, reverts_sp, denial, gives, listing, bytes_between, bytes_given, to_set, makes, unless_open, does_ask, does, unless_denied, judged}
 use Rattle.methods.specs.Calls.{outcome_of}
+use Rattle.rules.specs.declared.rule.Rule.TheVariants.{NotInUse, SpBusy, NoNumber, OutsideTable, TooLong, GlobalLocked}
+use Rattle.rules.specs.declared.rule.Rule.{Rule}
 
 -- ---- the answers without results, and those of one number
 
@@ -84,14 +86,14 @@ one_success = refl
 abbrev Told : LookUp → Sp → Judgement → Type 0
 Told rows sp j = is_carried (outcome_of rows sp j).said ≡ true
 
-fitting : (rows : LookUp) (sp : Sp) (results : List Tree) (b : Bool) → is_carried (reply_of results success) ≡ b → Told rows sp (cond b (Gives results) (Refuses response_overflow None))
+fitting : (rows : LookUp) (sp : Sp) (results : List Tree) (b : Bool) → is_carried (reply_of results success) ≡ b → Told rows sp (cond b (Gives results) (Refuses response_overflow TooLong))
 fitting rows sp results true h = h
 fitting rows sp results false h = bare_overflow
 
 given : (rows : LookUp) (sp : Sp) (results : List Tree) → Told rows sp (gives results)
 given rows sp results = fitting rows sp results (is_carried (reply_of results success)) refl
 
-rows_carried : (rows : LookUp) (sp : Sp) (past_end too_long : Bool) (results : List Tree) → Told rows sp (cond past_end (Refuses invalid_parameter None) (cond too_long (Refuses response_overflow None) (gives results)))
+rows_carried : (rows : LookUp) (sp : Sp) (past_end too_long : Bool) (results : List Tree) → Told rows sp (cond past_end (Refuses invalid_parameter OutsideTable) (cond too_long (Refuses response_overflow TooLong) (gives results)))
 rows_carried rows sp true too_long results = bare_invalid
 rows_carried rows sp false true results = bare_overflow
 rows_carried rows sp false false results = given rows sp results
@@ -101,9 +103,9 @@ bytes_carried rows sp byte size first to =
     let last : ℕ = last_row size to in
     rows_carried rows sp ((size == 0) || (nat_le size last || nat_lt last first)) (nat_lt most_response (last + 1 - first)) (bytes_between byte first last)
 
-set_carried : (rows : LookUp) (sp : Sp) (o : Option Setting) → Told rows sp (makes o)
-set_carried rows sp None = bare_invalid
-set_carried rows sp (Some st) = bare_success
+set_carried : (rows : LookUp) (sp : Sp) (o : Result Setting Rule) → Told rows sp (makes o)
+set_carried rows sp (Err rule) = bare_invalid
+set_carried rows sp (Ok st) = bare_success
 
 attempt_carried : (o : Option AttemptFailure) → is_carried (attempt_reply o) ≡ true
 attempt_carried None = one_success
@@ -121,7 +123,7 @@ erases_carried : (rows : LookUp) (sp : Sp) (o : Option ℕ) → Told rows sp (er
 erases_carried rows sp None = bare_fail
 erases_carried rows sp (Some range) = bare_success
 
-revert_carried : (rows : LookUp) (sp : Sp) (b keep : Bool) → Told rows sp (cond b (Refuses fail None) (RevertsSp keep))
+revert_carried : (rows : LookUp) (sp : Sp) (b keep : Bool) → Told rows sp (cond b (Refuses fail GlobalLocked) (RevertsSp keep))
 revert_carried rows sp true keep = bare_fail
 revert_carried rows sp false keep = bare_success
 
@@ -229,7 +231,7 @@ attempt_answered host next sp (Some Blocked) h k = sync_carried host 0 not_autho
 attempt_answered host next sp (Some Unknown) h k = sync_carried host 0 not_authorized h (omega arith) (omega arith)
 
 -- after the tests in their order: the SP is in use, no session lives on it, and a number is left
-tests_answered : (used busy full : Bool) (host next : ℕ) (sp : Sp) (o : Option AttemptFailure) → host < 2 ^ 32 → (full ≡ false → next < 2 ^ 32) → is_carried (reply_to host next (cond used (Refused invalid_parameter) (cond busy (Refused sp_busy) (cond full (Refused no_sessions_available) (Attempted sp o))))) ≡ true
+tests_answered : (used busy full : Bool) (host next : ℕ) (sp : Sp) (o : Option AttemptFailure) → host < 2 ^ 32 → (full ≡ false → next < 2 ^ 32) → is_carried (reply_to host next (cond used (Refused invalid_parameter NotInUse) (cond busy (Refused sp_busy SpBusy) (cond full (Refused no_sessions_available NoNumber) (Attempted sp o))))) ≡ true
 tests_answered true busy full host next sp o h k = sync_carried host 0 invalid_parameter h (omega arith) (omega arith)
 tests_answered false true full host next sp o h k = sync_carried host 0 sp_busy h (omega arith) (omega arith)
 tests_answered false false true host next sp o h k = sync_carried host 0 no_sessions_available h (omega arith) (omega arith)

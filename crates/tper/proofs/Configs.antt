@@ -36,7 +36,7 @@ attempted sp authority (Some Blocked) s = refl
 attempted sp authority (Some Unknown) s = refl
 
 by-verdict : (authority : Uid) (v : StartVerdict) (s : Stored) → Same (stored_by authority v s) s
-by-verdict authority (Refused status) s = refl
+by-verdict authority (Refused status rule) s = refl
 by-verdict authority (Attempted sp f) s = attempted sp authority f s
 
 with-verdict : (o : Option Opening) (v : StartVerdict) (s : Stored) → Same (stored_with o v s) s

@@ -2,15 +2,15 @@
 use Rattle.history.specs.History.{log}
 use Rattle.tcg_tokens.specs.Reading.{reading as message_in}
 use Rattle.sp_cells.specs.Config.{Config}
-use Rattle.std.proofs.Common.{◌≡◌, ℕ, true, false, List, Option, None, refl, sym, subst, ◌∙◌, ap, Bool, if◌then◌else◌}
-use Rattle.std.specs.Prelude.{Result, Err, map, Ok}
+use Rattle.std.proofs.Common.{◌≡◌, ◌==◌, ℕ, true, false, List, Option, None, Some, refl, sym, subst, ◌∙◌, ap, Bool, eqb-true, if◌then◌else◌}
+use Rattle.std.specs.Prelude.{Result, Err, map, option_map, Ok}
 use Rattle.sp_cells.specs.declared.names.Uid.{Uid}
 use Rattle.sp_cells.specs.Names.{session_manager, start_session}
 use Rattle.tcg_tokens.specs.declared.error.TokenError.{TokenError}
 use Rattle.tcg_tokens.specs.declared.error.TokenError.TheVariants.{OutOfMemory}
 use Rattle.tcg_tokens.specs.declared.value.Call.{Call}
 use Rattle.tcg_tokens.specs.Tree.{Tree, tree, trees}
-use Rattle.tcg_tokens.specs.Message.{Message, message, end_session}
+use Rattle.tcg_tokens.specs.Message.{Message, message, end, end_session}
 use Rattle.tcg_tokens.specs.Gives.{Fails}
 use Rattle.audit.specs.declared.reason.Why.{Why}
 use Rattle.call_shapes.specs.Asks.{ask_of, uid_of}
@@ -18,20 +18,21 @@ use Rattle.call_shapes.specs.Carried.{is_carried}
 use Rattle.call_shapes.specs.Named.{values_of}
 use Rattle.call_shapes.proofs.NamedLemmas.{values_trees}
 use Rattle.transactions.specs.declared.change.SessionId.{SessionId}
-use Rattle.transactions.specs.Stored.{Stored}
+use Rattle.transactions.specs.Stored.{Transaction, Stored, part, at_part, is_open, part_commit}
 use Rattle.shadow_mbr.specs.declared.erasure.Erasure.{Erasure}
 use Rattle.shadow_mbr.specs.Erasure.{no_sectors}
 use Rattle.sessions.specs.Answers.{rows_in_force}
 use Rattle.sessions.specs.Live.{Live, AreNumbered, session_at}
-use Rattle.sessions.specs.Starts.{start_reply, start_denied, start_stored, start_at, start_next}
+use Rattle.sessions.specs.Starts.{start_rule, start_reply, start_denied, start_stored, start_at, start_next}
 use Rattle.methods.specs.declared.outcome.Outcome.{Outcome as Answered}
 use Rattle.methods.specs.Calls.{standing_in, judged_with, judged_call, outcome_of, outcome_in, Fulfils}
 use Rattle.history.specs.Opening.{Origin}
 use Rattle.history.specs.Events.{Event}
-use Rattle.history.specs.Readers.{sid_block}
-use Rattle.sessions.specs.Deeds.{Unchanged, Outcome, says, Ended}
-use Rattle.history.specs.Facts.{Facts, facts}
-use Rattle.history.specs.Tcg.{called_manager, to_manager, in_session, judgement_on, started, item_in, ends_session}
+use Rattle.history.specs.Readers.{sid_block, is_of, open_on}
+use Rattle.call_shapes.specs.Statuses.{transaction_failure}
+use Rattle.sessions.specs.Deeds.{Begun, Unchanged, Outcome, says, Ended, refuses as refuses_item}
+use Rattle.history.specs.Facts.{Facts, facts, has_open}
+use Rattle.history.specs.Tcg.{called_manager, to_manager, in_session, judgement_on, started, item_in, ends_session, ends_on}
 use Rattle.history.specs.KeptStore.{KeepsStore}
 use Rattle.history.specs.KeptSessions.{KeepsSessions, id_of}
 use Rattle.sessions.specs.Made.{Meets}
@@ -39,6 +40,8 @@ use Rattle.history.proofs.KeptCallsProofs.{kept_call_law}
 use Rattle.history.proofs.KeptSessionsStart.{start_law}
 use Rattle.tper.specs.Items.{AnswersAs, OfManager, OfSession}
 use Rattle.tper.proofs.Carried.{call_carried}
+use Rattle.rules.specs.declared.rule.Rule.{Rule}
+use Rattle.rules.specs.declared.rule.Rule.TheVariants.{NoneOpen}
 
 -- an answer that is this message can be carried, as the message can
 pub carried-as : (said : Message) (m : Message) → said ≡ m → is_carried m ≡ true → is_carried said ≡ true
@@ -72,10 +75,11 @@ is-start : (f : Facts) (com_id : ℕ) (object method : Uid) (args : List Tree) �
 is-start f com_id object method args h k =
     ap (λ (u : Uid). called_manager f com_id u start_session args) (sym h) ∙ ap (λ (u : Uid). called_manager f com_id object u args) (sym k)
 
-pub start-met : (s t : Stored) (l m : Live) (com_id : ℕ) (object method : Uid) (call : Call) (said : Message) (why : Option Why) (erasure : Erasure)
+pub start-met : (s t : Stored) (l m : Live) (com_id : ℕ) (object method : Uid) (call : Call) (said : Message) (why : Option Why) (rule : Option Rule) (erasure : Erasure)
     → object ≡ session_manager → method ≡ start_session
     → said ≡ start_reply s l (map tree call.args.items)
     → why ≡ start_denied s l (map tree call.args.items)
+    → rule ≡ start_rule s l (map tree call.args.items)
     → t ≡ start_stored s l (map tree call.args.items)
     → ((n : ℕ) → session_at m n ≡ start_at s l com_id (map tree call.args.items) n)
     → m.next ≡ start_next s l (map tree call.args.items)
@@ -83,16 +87,17 @@ pub start-met : (s t : Stored) (l m : Live) (com_id : ℕ) (object method : Uid)
     → m.block ≡ l.block
     → erasure ≡ no_sectors
     → (o : Origin) (past : List Event) → KeepsStore s o past → KeepsSessions l past → l.block ≡ sid_block past
-    → Meets (called_manager (facts o past) com_id object method (values_of (trees call.args.items))) said why erasure s t l m
-start-met s t l m com_id object method call said why erasure is-object is-method answered reasons stored points next numbered stays none o past ks kl block =
+    → Meets (called_manager (facts o past) com_id object method (values_of (trees call.args.items))) said why rule erasure s t l m
+start-met s t l m com_id object method call said why rule erasure is-object is-method answered reasons ruled stored points next numbered stays none o past ks kl block =
     let args = map tree call.args.items in
     let law = start_law o past s l m com_id args ks kl numbered block stays next points in
-    let by-answer = subst (λ (x : Message). Meets (started (facts o past) com_id args) x (start_denied s l args) no_sectors s (start_stored s l args) l m) (sym answered) law in
-    let by-reason = subst (λ (x : Option Why). Meets (started (facts o past) com_id args) said x no_sectors s (start_stored s l args) l m) (sym reasons) by-answer in
-    let by-store = subst (λ (x : Stored). Meets (started (facts o past) com_id args) said why no_sectors s x l m) (sym stored) by-reason in
-    let by-call = subst (λ (x : Outcome). Meets x said why no_sectors s t l m) (is-start (facts o past) com_id object method args is-object is-method) by-store in
-    let by-args = subst (λ (x : List Tree). Meets (called_manager (facts o past) com_id object method x) said why no_sectors s t l m) (sym (values_trees call.args.items)) by-call in
-    subst (λ (x : Erasure). Meets (called_manager (facts o past) com_id object method (values_of (trees call.args.items))) said why x s t l m) (sym none) by-args
+    let by-answer = subst (λ (x : Message). Meets (started (facts o past) com_id args) x (start_denied s l args) (start_rule s l args) no_sectors s (start_stored s l args) l m) (sym answered) law in
+    let by-reason = subst (λ (x : Option Why). Meets (started (facts o past) com_id args) said x (start_rule s l args) no_sectors s (start_stored s l args) l m) (sym reasons) by-answer in
+    let by-rule = subst (λ (x : Option Rule). Meets (started (facts o past) com_id args) said why x no_sectors s (start_stored s l args) l m) (sym ruled) by-reason in
+    let by-store = subst (λ (x : Stored). Meets (started (facts o past) com_id args) said why rule no_sectors s x l m) (sym stored) by-rule in
+    let by-call = subst (λ (x : Outcome). Meets x said why rule no_sectors s t l m) (is-start (facts o past) com_id object method args is-object is-method) by-store in
+    let by-args = subst (λ (x : List Tree). Meets (called_manager (facts o past) com_id object method x) said why rule no_sectors s t l m) (sym (values_trees call.args.items)) by-call in
+    subst (λ (x : Erasure). Meets (called_manager (facts o past) com_id object method (values_of (trees call.args.items))) said why rule x s t l m) (sym none) by-args
 
 -- ---- what was read
 
@@ -134,5 +139,72 @@ pub read-by : (read r : Result Message TokenError) (com_id : ℕ) (said : Answer
 read-by read r com_id said s t l m h g = subst (λ (x : Result Message TokenError). OfManager (λ f. to_manager f com_id x) said s t l m) (sym h) g
 
 -- an answer that changes nothing
-pub unchanged : (x : Message) (said : Answered) (s : Stored) (l : Live) → message said.reply ≡ x → said.denied ≡ None → said.erases ≡ no_sectors → AnswersAs (says Unchanged x) said s s l l
-unchanged x said s l h k w = record { answer = h; denied = k; erases = w; store = refl; sessions = record { next = refl; at = λ n. refl }; block = refl }
+pub unchanged : (x : Message) (said : Answered) (s : Stored) (l : Live) → message said.reply ≡ x → said.denied ≡ None → said.rule ≡ None → said.erases ≡ no_sectors → AnswersAs (says Unchanged x) said s s l l
+unchanged x said s l h k r w = record { answer = h; denied = k; rule = r; erases = w; store = refl; sessions = record { next = refl; at = λ n. refl }; block = refl }
+
+-- an answer of a refusal by a rule, which changes nothing
+pub ruled : (x : Message) (rule : Rule) (said : Answered) (s : Stored) (l : Live) → message said.reply ≡ x → said.denied ≡ None → said.rule ≡ Some rule → said.erases ≡ no_sectors → AnswersAs (refuses_item x rule) said s s l l
+ruled x rule said s l h k r w = record { answer = h; denied = k; rule = r; erases = w; store = refl; sessions = record { next = refl; at = λ n. refl }; block = refl }
+
+-- ---- the end of a transaction
+
+not-false : (b : Bool) → (b ≡ false → ⊥) → b ≡ true
+not-false true h = refl
+not-false false h = absurd (h refl)
+
+pub unequal : false ≡ true → ⊥
+unequal h = cc
+
+-- what is kept of a transaction, by the past
+open-same : (p : Option Transaction) (n : ℕ) → is_open p n ≡ is_of n (option_map (λ t. t.tsn) p)
+open-same None n = refl
+open-same (Some t) n = refl
+
+has-open : (o : Origin) (past : List Event) (s : Stored) (its : Begun) (b : Bool) → KeepsStore s o past → is_open (part s its.sp).pending its.number ≡ b → has_open (facts o past) its ≡ b
+has-open o past s its b ks is =
+    ap (is_of its.number) (sym (ks.parts its.sp).transaction) ∙ sym (open-same (part s its.sp).pending its.number) ∙ is
+
+owner-is : (p : Option Transaction) (n : ℕ) → (is_open p n ≡ false → ⊥) → (its : Transaction) × (p ≡ Some its) × (its.tsn ≡ n)
+owner-is None n h = absurd (h refl)
+owner-is (Some t) n h = (t, refl, eqb-true t.tsn n (not-false (t.tsn == n) h))
+
+-- one that is open, which 0 commits
+commits-here : (o : Origin) (past : List Event) (its : Begun) (number : ℕ) (said : Answered) (s t : Stored) (live : Live) → KeepsStore s o past → number ≡ 0
+    → (is_open (part s its.sp).pending its.number ≡ false → ⊥) → t ≡ at_part its.sp (part_commit its.number) s
+    → message said.reply ≡ end 0 → said.denied ≡ None → said.rule ≡ None → said.erases ≡ no_sectors
+    → AnswersAs (ends_on its.sp number (has_open (facts o past) its)) said s t live live
+commits-here o past its number said s t live ks zeroed shown made reply denied rule erases =
+    let is : is_open (part s its.sp).pending its.number ≡ true = not-false _ shown in
+    let own = owner-is (part s its.sp).pending its.number shown in
+    subst (λ (n : ℕ). AnswersAs (ends_on its.sp n (has_open (facts o past) its)) said s t live live) (sym zeroed)
+    (subst (λ (b : Bool). AnswersAs (ends_on its.sp 0 b) said s t live live) (sym (has-open o past s its true ks is))
+    (record {
+      answer = reply;
+      denied = denied;
+      rule = rule;
+      erases = erases;
+      store = (own.0, own.1, made ∙ ap (λ (n : ℕ). at_part its.sp (part_commit n) s) (sym own.2));
+      sessions = record { next = refl; at = λ n. refl };
+      block = refl;
+    }))
+
+pub commits : (session : SessionId) (number : ℕ) (said : Answered) (s t : Stored) (live : Live) → number ≡ 0
+    → (is_open (part s session.sp).pending session.tsn ≡ false → ⊥) → t ≡ at_part session.sp (part_commit session.tsn) s
+    → message said.reply ≡ end 0 → said.denied ≡ None → said.rule ≡ None → said.erases ≡ no_sectors
+    → OfSession (λ f its. ends_on its.sp number (has_open f its)) session said s t live live
+commits session number said s t live zeroed shown made reply denied rule erases = λ o acts its ks kl block lives same.
+    commits-here o (log o acts) its number said s t live ks zeroed
+    (subst (λ (x : SessionId). is_open (part s x.sp).pending x.tsn ≡ false → ⊥) same shown)
+    (subst (λ (x : SessionId). t ≡ at_part x.sp (part_commit x.tsn) s) same made)
+    reply denied rule erases
+
+-- and none that is open
+pub ends-none : (session : SessionId) (number : ℕ) (said : Answered) (s t : Stored) (live : Live)
+    → is_open (part s session.sp).pending session.tsn ≡ false → t ≡ s
+    → message said.reply ≡ end transaction_failure → said.denied ≡ None → said.rule ≡ Some NoneOpen → said.erases ≡ no_sectors
+    → OfSession (λ f its. ends_on its.sp number (has_open f its)) session said s t live live
+ends-none session number said s t live shut stays reply denied rule erases = λ o acts its ks kl block lives same.
+    let here : is_open (part s its.sp).pending its.number ≡ false = subst (λ (x : SessionId). is_open (part s x.sp).pending x.tsn ≡ false) same shut in
+    subst (λ (b : Bool). AnswersAs (ends_on its.sp number b) said s t live live) (sym (has-open o (log o acts) s its false ks here))
+    (subst (λ (x : Stored). AnswersAs (ends_on its.sp number false) said s x live live) (sym stays)
+    (ruled (end transaction_failure) NoneOpen said s live reply denied rule erases))

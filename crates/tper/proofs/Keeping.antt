@@ -46,9 +46,9 @@ answer-kept t u o past com_id session out said met responds k =
     ∙ waits-there (com_id == other) (frame_bytes com_id session (item_spelling_of out.said)) (response_at t.waiting other)) k
 
 pub answer-sent : (t u : Tper) (com_id : ℕ) (session : Session) (out : Outcome) (said : Answered) (s : Sent)
-    → AnswersAs out said t.store u.store t.live u.live → s.denied ≡ said.denied → s.erases ≡ said.erases
+    → AnswersAs out said t.store u.store t.live u.live → s.denied ≡ said.denied → s.rule ≡ said.rule → s.erases ≡ said.erases
     → IsToldOfSend (answers com_id session out) s
-answer-sent t u com_id session out said s met denied erases = record { failed = refl; denied = denied ∙ met.denied; erases = erases ∙ met.erases }
+answer-sent t u com_id session out said s met denied rule erases = record { failed = refl; denied = denied ∙ met.denied; rule = rule ∙ met.rule; erases = erases ∙ met.erases }
 
 -- ---- a receive
 

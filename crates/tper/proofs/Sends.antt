@@ -12,7 +12,7 @@ use Rattle.sessions.specs.Live.{Holder, Live, session_at, is_of_host, found, hol
 use Rattle.methods.specs.Effects.{live_holder}
 use Rattle.history.specs.Opening.{Origin}
 use Rattle.sessions.specs.Deeds.{Begun}
-use Rattle.history.specs.Events.{Event, Nothing, did}
+use Rattle.history.specs.Events.{Event, Nothing, did, ignores}
 use Rattle.history.specs.Readers.{session_on}
 use Rattle.history.specs.Facts.{Facts, facts, session_named}
 use Rattle.history.specs.Tcg.{is_manager, answers, to_manager, in_session, to_session, framed, sent, item_in}
@@ -26,6 +26,8 @@ use Rattle.tper.specs.Items.{OfManager, OfSession}
 use Rattle.tper.specs.Tper.{Tper, Keeps, IsToldOfSend, Handles}
 use Rattle.tper.proofs.KeptBeside.{spares, kept_beside}
 use Rattle.tper.proofs.Keeping.{answer-kept, answer-sent}
+use Rattle.rules.specs.declared.rule.Rule.TheVariants.{NoFrame, NoSession}
+use Rattle.rules.specs.declared.rule.Rule.{Rule}
 
 pub on-ok : {A E : Type 0} (r : Result A E) (P : A → Type 0) (Q : Type 0) → IfOk r P → ((x : A) → P x → Q) → OnOk r Q
 on-ok (Ok x) P Q h f = f x h
@@ -37,11 +39,11 @@ if-ok (Err e) P Q h f = tt
 
 -- ---- nothing
 
-pub nothing-kept : (t : Tper) (o : Origin) (past : List Event) (e : Event) → e ≡ did Nothing → Keeps t o past → Keeps t o (e ∷ past)
-nothing-kept t o past e h k = kept_beside t o past e (ap (λ (x : Event). spares x.deed) h) k
+pub nothing-kept : (t : Tper) (o : Origin) (past : List Event) (e : Event) (rule : Rule) → e ≡ ignores rule → Keeps t o past → Keeps t o (e ∷ past)
+nothing-kept t o past e rule h k = kept_beside t o past e (ap (λ (x : Event). spares x.deed) h) k
 
-pub nothing-sent : (e : Event) (s : Sent) → s.denied ≡ None → s.erases ≡ no_sectors → e ≡ did Nothing → IsToldOfSend e s
-nothing-sent e s d w h = subst (λ (x : Event). IsToldOfSend x s) (sym h) (record { failed = refl; denied = d; erases = w })
+pub nothing-sent : (e : Event) (rule : Rule) (s : Sent) → s.denied ≡ None → s.rule ≡ Some rule → s.erases ≡ no_sectors → e ≡ ignores rule → IsToldOfSend e s
+nothing-sent e rule s d r w h = subst (λ (x : Event). IsToldOfSend x s) (sym h) (record { failed = refl; denied = d; rule = r; erases = w })
 
 -- ---- which event it is
 
@@ -50,7 +52,7 @@ pub record IsFor (read : Result Frame FrameError) (com_id : ℕ) (frame : Frame)
   pub reads : read ≡ Ok frame
   pub own : frame.com_id ≡ com_id
 
-pub no-frame : (f : Facts) (com_id : ℕ) (read : Result Frame FrameError) (e : FrameError) → read ≡ Err e → sent f com_id read ≡ did Nothing
+pub no-frame : (f : Facts) (com_id : ℕ) (read : Result Frame FrameError) (e : FrameError) → read ≡ Err e → sent f com_id read ≡ ignores NoFrame
 no-frame f com_id read e h = ap (λ (r : Result Frame FrameError). sent f com_id r) h
 
 differs : (n k : ℕ) → (n ≡ k → ⊥) → (n == k) ≡ false
@@ -60,13 +62,13 @@ differs n k h = by (n == k) refl
     by true e = absurd (h (eqb-true n k e))
     by false e = e
 
-pub other-frame : (f : Facts) (com_id : ℕ) (read : Result Frame FrameError) (frame : Frame) → read ≡ Ok frame → (frame.com_id ≡ com_id → ⊥) → sent f com_id read ≡ did Nothing
+pub other-frame : (f : Facts) (com_id : ℕ) (read : Result Frame FrameError) (frame : Frame) → read ≡ Ok frame → (frame.com_id ≡ com_id → ⊥) → sent f com_id read ≡ ignores NoFrame
 other-frame f com_id read frame h g =
-    ap (λ (r : Result Frame FrameError). sent f com_id r) h ∙ ap (λ (b : Bool). cond b (framed f com_id frame) (did Nothing)) (differs frame.com_id com_id g)
+    ap (λ (r : Result Frame FrameError). sent f com_id r) h ∙ ap (λ (b : Bool). cond b (framed f com_id frame) (ignores NoFrame)) (differs frame.com_id com_id g)
 
 own-frame : (f : Facts) (com_id : ℕ) (read : Result Frame FrameError) (frame : Frame) → IsFor read com_id frame → sent f com_id read ≡ framed f com_id frame
 own-frame f com_id read frame h =
-    ap (λ (r : Result Frame FrameError). sent f com_id r) h.reads ∙ ap (λ (b : Bool). cond b (framed f com_id frame) (did Nothing)) (eq-eqb frame.com_id com_id h.own)
+    ap (λ (r : Result Frame FrameError). sent f com_id r) h.reads ∙ ap (λ (b : Bool). cond b (framed f com_id frame) (ignores NoFrame)) (eq-eqb frame.com_id com_id h.own)
 
 by-manager : (f : Facts) (com_id : ℕ) (read : Result Frame FrameError) (frame : Frame) → IsFor read com_id frame → is_manager frame.session ≡ true
     → sent f com_id read ≡ answers com_id frame.session (to_manager f com_id (message_in frame.payload))
@@ -173,7 +175,7 @@ pub manager-sent : (t u : Tper) (o : Origin) (acts : List Act) (com_id : ℕ) (r
     → ByManager t u com_id frame s → Keeps t o (log o acts) → IsToldOfSend (sent (facts o (log o acts)) com_id read) s
 manager-sent t u o acts com_id read frame s h m its k =
     subst (λ (e : Event). IsToldOfSend e s) (sym (by-manager (facts o (log o acts)) com_id read frame h m))
-    (answer-sent t u com_id frame.session _ its.said s (its.met o (log o acts) k.store k.sessions k.block) its.denied its.erases)
+    (answer-sent t u com_id frame.session _ its.said s (its.met o (log o acts) k.store k.sessions k.block) its.denied its.rule its.erases)
 
 pub session-kept : (t u : Tper) (o : Origin) (acts : List Act) (com_id : ℕ) (read : Result Frame FrameError) (frame : Frame) (id : SessionId) (s : Sent) → IsFor read com_id frame → is_manager frame.session ≡ false
     → found_at t.live com_id frame.session ≡ Some id
@@ -189,10 +191,10 @@ pub session-sent : (t u : Tper) (o : Origin) (acts : List Act) (com_id : ℕ) (r
 session-sent t u o acts com_id read frame id s h m named its k =
     let n = somebody o (log o acts) t.live com_id frame.session id k.sessions named in
     subst (λ (e : Event). IsToldOfSend e s) (sym (by-session (facts o (log o acts)) com_id read frame (Some n.its) h m n.by_past))
-    (answer-sent t u com_id frame.session _ its.said s (its.met o acts n.its k.store k.sessions k.block n.lives n.is) its.denied its.erases)
+    (answer-sent t u com_id frame.session _ its.said s (its.met o acts n.its k.store k.sessions k.block n.lives n.is) its.denied its.rule its.erases)
 
 pub nobody-named : (t : Tper) (o : Origin) (past : List Event) (com_id : ℕ) (read : Result Frame FrameError) (frame : Frame) → IsFor read com_id frame → is_manager frame.session ≡ false
     → found_at t.live com_id frame.session ≡ None
-    → Keeps t o past → sent (facts o past) com_id read ≡ did Nothing
+    → Keeps t o past → sent (facts o past) com_id read ≡ ignores NoSession
 nobody-named t o past com_id read frame h m none k =
     by-session (facts o past) com_id read frame None h m (nobody o past t.live com_id frame.session k.sessions none)

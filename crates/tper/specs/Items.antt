@@ -17,7 +17,7 @@ use Rattle.sessions.specs.Made.{Meets}
 
 -- The answer, and what was made of the store and of the sessions, is what an outcome says.
 abbrev pub AnswersAs : Outcome → Answered → Stored → Stored → Live → Live → Type 0
-AnswersAs out said s t l m = Meets out (message said.reply) said.denied said.erases s t l m
+AnswersAs out said s t l m = Meets out (message said.reply) said.denied said.rule said.erases s t l m
 
 -- What an outcome of the session manager comes to.
 abbrev pub OfManager : (Facts → Outcome) → Answered → Stored → Stored → Live → Live → Type 0

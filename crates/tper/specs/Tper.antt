@@ -53,6 +53,7 @@ erased_by_deed _ = no_sectors
 pub record IsToldOfSend (event : Event) (s : Sent) : Type 0 where
   pub failed : event.failed ≡ None
   pub denied : s.denied ≡ event.denied
+  pub rule : s.rule ≡ event.rule
   pub erases : s.erases ≡ erased_by_deed event.deed
 
 -- The framed answer waits on the ComID, and all else stays.
@@ -76,5 +77,6 @@ pub record Handles (Met : Outcome → Type 0) (com_id : ℕ) (session : Session)
   pub said : Outcome
   pub met : Met said
   pub denied : s.denied ≡ said.denied
+  pub rule : s.rule ≡ said.rule
   pub erases : s.erases ≡ said.erases
   pub responds : Responds com_id session (message said.reply) old new

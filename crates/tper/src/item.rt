@@ -1,6 +1,6 @@
 //! What an item does, sent to the session manager or to a live session (TCG Core 2.01, sections 3.3.7 to 3.3.9).
 
-ghost use Rattle.std.specs.Prelude.{◌≡◌, ◌≢◌, None, true, false, IfOk, OnErr, OnOk};
+ghost use Rattle.std.specs.Prelude.{◌≡◌, ◌≢◌, None, Some, true, false, IfOk, OnErr, OnOk};
 ghost use Rattle.call_shapes.specs.Asks.{uid_of as uid_in};
 ghost use Rattle.call_shapes.specs.Carried.{is_carried};
 ghost use Rattle.call_shapes.specs.Named.{values_of};
@@ -10,6 +10,7 @@ ghost use Rattle.tcg_tokens.specs.Message.{message, end_session};
 ghost use Rattle.tcg_tokens.specs.Reading.{reading as message_in};
 ghost use Rattle.tcg_tokens.specs.Tree.{trees};
 ghost use Rattle.methods.specs.Effects.{live_holder};
+ghost use Rattle.rules.specs.declared.rule.Rule.TheVariants.{NoItem};
 ghost use Rattle.shadow_mbr.specs.Erasure.{no_sectors};
 ghost use Rattle.sessions.specs.Live.{Live};
 ghost use Rattle.sessions.specs.Deeds.{Ended, says};
@@ -23,6 +24,7 @@ use basics::Profile;
 use call_shapes::{status, uid_of};
 use compacket::ComId;
 use methods::{MethodFault, Outcome, invoke};
+use rules::Rule;
 use sessions::Sessions;
 use shadow_mbr::Erased;
 use sp_cells::Uid;
@@ -30,25 +32,29 @@ use std::alloc::{AllocError, Global};
 use tcg_tokens::{Call, Item, TokenError, begins_with_end, read_item};
 use transactions::{SessionId, Store};
 
-/// An answer that nothing denied, and whether rows or bytes may have changed.
-fn answer(reply: Item, changes: bool) -> Outcome
+/// An answer that nothing denied, by the rule that refused what it answers, if one did, and whether rows or bytes may have
+/// changed.
+fn answer(reply: Item, rule: Option<Rule>, changes: bool) -> Outcome
     ensures reply { message result.reply ≡ message reply }
     ensures denied { result.denied ≡ None }
+    ensures rule { result.rule ≡ rule }
     ensures erases { result.erases ≡ no_sectors }
     ensures changes { result.changes ≡ changes }
 {
     Outcome {
         reply,
         denied: None,
+        rule,
         erases: Erased::none(),
         changes,
     }
 }
 
-/// The refusal of an item that is none, or that cannot stand where it does.
-fn failed(alloc: Global) -> Outcome
+/// The refusal of an item, by a rule.
+fn failed(alloc: Global, rule: Rule) -> Outcome
     ensures reply { message result.reply ≡ refusal_of fail }
     ensures denied { result.denied ≡ None }
+    ensures rule { result.rule ≡ Some rule }
     ensures erases { result.erases ≡ no_sectors }
     ensures carried { is_carried (message result.reply) ≡ true }
 {
@@ -56,7 +62,7 @@ fn failed(alloc: Global) -> Outcome
         results: Vec::new(alloc),
         status: [status::FAIL, 0, 0],
     };
-    answer(reply, false)
+    answer(reply, Some(rule), false)
 }
 
 /// The refusal of what is no item; want of memory stays an error.
@@ -64,13 +70,14 @@ fn no_item(alloc: Global, fault: TokenError) -> Result<Outcome, AllocError>
     ensures fault { OnOk result (fault ≢ OutOfMemory) }
     ensures reply { IfOk result (λ said. message said.reply ≡ refusal_of fail) }
     ensures denied { IfOk result (λ said. said.denied ≡ None) }
+    ensures rule { IfOk result (λ said. said.rule ≡ Some NoItem) }
     ensures erases { IfOk result (λ said. said.erases ≡ no_sectors) }
     ensures carried { IfOk result (λ said. is_carried (message said.reply) ≡ true) }
 {
     if fault == TokenError::OutOfMemory {
         return Err(AllocError);
     }
-    Ok(failed(alloc))
+    Ok(failed(alloc, Rule::NoItem))
 }
 
 /// A method of the session manager.
@@ -92,18 +99,19 @@ fn call_manager(
     ensures config { store.new.config ≡ store.old.config }
 {
     if uid_of(&call.object) == Uid::SESSION_MANAGER && uid_of(&call.method) == Uid::PROPERTIES {
-        return Ok(answer(sessions.properties(call)?, false));
+        return Ok(answer(sessions.properties(call)?, None, false));
     }
     if uid_of(&call.object) == Uid::SESSION_MANAGER && uid_of(&call.method) == Uid::START_SESSION {
         let started = sessions.start(store, com_id, call)?;
         return Ok(Outcome {
             reply: started.reply,
             denied: started.denied,
+            rule: started.rule,
             erases: Erased::none(),
             changes: true,
         });
     }
-    Ok(failed(alloc))
+    Ok(failed(alloc, Rule::NoMethod))
 }
 
 /// What is sent to the session manager.
@@ -125,10 +133,10 @@ pub(crate) fn to_manager(
 {
     match read_item(alloc, tokens) {
         Ok(Item::Call(call)) => call_manager(alloc, store, sessions, com_id, &call),
-        Ok(Item::Reply { .. }) => Ok(failed(alloc)),
-        Ok(Item::EndSession) => Ok(failed(alloc)),
-        Ok(Item::Begin(_)) => Ok(failed(alloc)),
-        Ok(Item::End(_)) => Ok(failed(alloc)),
+        Ok(Item::Reply { .. }) => Ok(failed(alloc, Rule::NoItem)),
+        Ok(Item::EndSession) => Ok(failed(alloc, Rule::NoItem)),
+        Ok(Item::Begin(_)) => Ok(failed(alloc, Rule::NoItem)),
+        Ok(Item::End(_)) => Ok(failed(alloc, Rule::NoItem)),
         Err(fault) => no_item(alloc, fault),
     }
 }
@@ -170,8 +178,12 @@ fn begin(store: &mut Store, session: SessionId) -> Outcome
     ensures config { store.new.config ≡ store.old.config }
 {
     match store.begin(session) {
-        Ok(()) => answer(Item::Begin(0), true),
-        Err(_) => answer(Item::Begin(status::TRANSACTION_FAILURE), true),
+        Ok(()) => answer(Item::Begin(0), None, true),
+        Err(_) => answer(
+            Item::Begin(status::TRANSACTION_FAILURE),
+            Some(Rule::AlreadyOpen),
+            true,
+        ),
     }
 }
 
@@ -187,13 +199,21 @@ fn end(store: &mut Store, session: SessionId, number: u64) -> Outcome
 {
     if number == 0 {
         return match store.commit(session) {
-            Ok(()) => answer(Item::End(0), true),
-            Err(_) => answer(Item::End(status::TRANSACTION_FAILURE), true),
+            Ok(()) => answer(Item::End(0), None, true),
+            Err(_) => answer(
+                Item::End(status::TRANSACTION_FAILURE),
+                Some(Rule::NoneOpen),
+                true,
+            ),
         };
     }
     match store.abort(session) {
-        Ok(()) => answer(Item::End(1), true),
-        Err(_) => answer(Item::End(status::TRANSACTION_FAILURE), true),
+        Ok(()) => answer(Item::End(1), None, true),
+        Err(_) => answer(
+            Item::End(status::TRANSACTION_FAILURE),
+            Some(Rule::NoneOpen),
+            true,
+        ),
     }
 }
 
@@ -208,7 +228,7 @@ fn end_session(store: &mut Store, sessions: &mut Sessions, session: SessionId) -
 {
     store.close(session.sp);
     sessions.end_on(session.sp);
-    answer(Item::EndSession, true)
+    answer(Item::EndSession, None, true)
 }
 
 /// What an item comes to in a live session.
@@ -234,7 +254,7 @@ fn read_in_session(
         Ok(Item::Begin(_)) => Ok(begin(store, session)),
         Ok(Item::End(number)) => Ok(end(store, session, number)),
         Ok(Item::EndSession) => Ok(end_session(store, sessions, session)),
-        Ok(Item::Reply { .. }) => Ok(failed(alloc)),
+        Ok(Item::Reply { .. }) => Ok(failed(alloc, Rule::NoItem)),
         Err(fault) => no_item(alloc, fault),
     }
 }

@@ -8,8 +8,8 @@ ghost use Rattle.shadow_mbr.specs.Erasure.{no_sectors};
 ghost use Rattle.shadow_mbr.specs.Stored.{sector_size};
 ghost use Rattle.transactions.specs.Bytes.{bytes_from};
 ghost use Rattle.transactions.specs.Sights.{look_up, committed_sight};
-ghost use Rattle.transactions.specs.Stored.{after_reset};
-ghost use Rattle.sessions.specs.Live.{session_at};
+ghost use Rattle.transactions.specs.Stored.{after_reset, part};
+ghost use Rattle.sessions.specs.Live.{session_at, lives_on};
 ghost use Rattle.sessions.specs.Block.{block_at_reset};
 ghost use Rattle.trusted_cmds.specs.BlockSid.{is_blocked};
 ghost use Rattle.device_data.specs.Discovery.{has_owner};
@@ -21,7 +21,7 @@ ghost use Rattle.history.specs.Facts.{facts};
 ghost use Rattle.history.specs.History.{Act, log};
 ghost use Rattle.history.specs.KeptStore.{HasKnownRows};
 ghost use Rattle.history.specs.Opening.{Origin, origin_on};
-ghost use Rattle.history.specs.Readers.{waiting};
+ghost use Rattle.history.specs.Readers.{waiting, session_on, open_on};
 ghost use Rattle.call_shapes.specs.Carried.{is_carried};
 ghost use Rattle.tcg_tokens.specs.Message.{message};
 ghost use Rattle.tcg_tokens.specs.Reading.{reading as message_in};
@@ -35,6 +35,7 @@ use audit::Why;
 use compacket::{ComId, Session, open};
 use device_data::has_owner;
 use methods::Outcome;
+use rules::Rule;
 use sessions::Sessions;
 use shadow_mbr::{Erased, Mbr, SECTOR_SIZE};
 use sp_cells::{Column, Sp, Uid, number_at};
@@ -49,6 +50,8 @@ use trusted_cmds::SidBlock;
 pub struct Sent {
     /// What denied the item.
     pub denied: Option<Why>,
+    /// Which rule refused it, where nothing denied it.
+    pub rule: Option<Rule>,
     /// Which sectors become zeros.
     pub erases: Erased,
     /// Whether rows or bytes may have changed.
@@ -83,13 +86,15 @@ impl Model for Tper {
     ghost invariant = { λ t. t.store.config.mbr_sectors ≤ most_mbr_sectors };
 }
 
-/// Nothing became of it.
-fn nothing() -> Sent
+/// Nothing became of it, by a rule.
+fn nothing(rule: Rule) -> Sent
     ensures denied { result.denied ≡ None }
+    ensures rule { result.rule ≡ Some rule }
     ensures erases { result.erases ≡ no_sectors }
 {
     Sent {
         denied: None,
+        rule: Some(rule),
         erases: Erased::none(),
         changes: false,
     }
@@ -116,6 +121,25 @@ impl Tper {
         ensures { result ≡ committed_sight self.now.store }
     {
         self.store.committed()
+    }
+
+    /// Whether a session of the SP lives.
+    pub fn has_session(&self, sp: Sp) -> bool
+        ensures stands { result ≡ lives_on sp self.now.live }
+        ensures told { (o : Origin) (past : List Event) → Keeps self.now o past
+            → result ≡ is_some (session_on past sp) }
+    {
+        self.sessions.numbered();
+        self.sessions.any_on(sp)
+    }
+
+    /// Whether a transaction is open on the SP.
+    pub fn has_transaction(&self, sp: Sp) -> bool
+        ensures stands { result ≡ is_some (part self.now.store sp).pending }
+        ensures told { (o : Origin) (past : List Event) → Keeps self.now o past
+            → result ≡ is_some (open_on past sp) }
+    {
+        self.store.open_on(sp).is_some()
     }
 
     /// The sectors of the drive that can be shadowed.
@@ -215,17 +239,17 @@ impl Tper {
         ensures config { self.new.store.config ≡ self.old.store.config }
     {
         let Ok(frame) = open(payload) else {
-            return Ok(nothing());
+            return Ok(nothing(Rule::NoFrame));
         };
         if frame.com_id != com_id {
-            return Ok(nothing());
+            return Ok(nothing(Rule::NoFrame));
         }
         let session = frame.session;
         if session.tsn == 0 && session.hsn == 0 {
             return self.manage(com_id, session, frame.payload, spare);
         }
         match self.sessions.find(com_id, session.tsn, session.hsn) {
-            None => Ok(nothing()),
+            None => Ok(nothing(Rule::NoSession)),
             Some(id) => self.serve(com_id, session, id, frame.payload, spare),
         }
     }
@@ -291,12 +315,14 @@ impl Tper {
         ensures live { self.new.live ≡ self.old.live }
         ensures waiting { Responds com_id session (message outcome.reply) self.old self.new }
         ensures denied { result.denied ≡ outcome.denied }
+        ensures rule { result.rule ≡ outcome.rule }
         ensures erases { result.erases ≡ outcome.erases }
         ensures changes { result.changes ≡ outcome.changes }
     {
         let Outcome {
             reply,
             denied,
+            rule,
             erases,
             changes,
         } = outcome;
@@ -304,6 +330,7 @@ impl Tper {
         self.responses.put(com_id, Some(response));
         Sent {
             denied,
+            rule,
             erases,
             changes,
         }

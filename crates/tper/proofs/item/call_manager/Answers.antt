@@ -15,8 +15,8 @@ pub returns-then-eq-4-clause-met : goal.returns-then-eq-4-clause-met
 returns-then-eq-4-clause-met c =
     let object : uid_of c.args.call.now.object ≡ session_manager = search rules in
     let method : uid_of c.args.call.now.method ≡ start_session = search rules in
-    start-met c.args.store.now c.start.new.store c.args.sessions.now c.start.new.self c.args.com_id _ _ c.args.call.now _ _ _ object method
-    c.in_ok-started.ensures.reply c.in_ok-started.ensures.denied c.in_ok-started.ensures.store c.in_ok-started.ensures.points c.in_ok-started.ensures.next c.in_ok-started.ensures.numbered c.in_ok-started.ensures.block c.none.ensures
+    start-met c.args.store.now c.start.new.store c.args.sessions.now c.start.new.self c.args.com_id _ _ c.args.call.now _ _ _ _ object method
+    c.in_ok-started.ensures.reply c.in_ok-started.ensures.denied c.in_ok-started.ensures.rule c.in_ok-started.ensures.store c.in_ok-started.ensures.points c.in_ok-started.ensures.next c.in_ok-started.ensures.numbered c.in_ok-started.ensures.block c.none.ensures
 
 pub returns-then-eq-4-clause-carried : goal.returns-then-eq-4-clause-carried
 returns-then-eq-4-clause-carried c = carried-as _ _ c.in_ok-started.ensures.reply (start_carried c.args.store.now c.args.sessions.now (map tree c.args.call.now.args.items))

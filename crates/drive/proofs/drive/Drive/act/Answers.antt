@@ -13,21 +13,21 @@ use Rattle.drive.proofs.drive.Drive.act.Goals as goal
 pub returns-in-Aborts-clause-done : goal.returns-in-Aborts-clause-done
 returns-in-Aborts-clause-done c = λ o acts k.
     let e = c.set_failed.ensures in
-    aborts-done (facts o (log o acts)) c.args.h.now c.args.self.now o (log o acts) c.args.payload.now c.in-Aborts.error c.in-Aborts.denied c.args.decision c.set_failed.new.self c.in-Aborts.is
-    (record { status_is = e.status; error_is = e.error; held_is = e.held; fises_are = e.fises; bytes_are = e.bytes; denied_is = e.denied ∙ c.reason.ensures }) k
+    aborts-done (facts o (log o acts)) c.args.h.now c.args.self.now o (log o acts) c.args.payload.now c.in-Aborts.error c.in-Aborts.cause c.args.decision c.set_failed.new.self c.in-Aborts.is
+    (record { status_is = e.status; error_is = e.error; held_is = e.held; fises_are = e.fises; bytes_are = e.bytes; denied_is = e.denied ∙ c.objection_to.ensures.denied; rule_is = e.rule ∙ c.objection_to.ensures.rule }) k
 
 pub returns-in-FailsQueue-clause-done : goal.returns-in-FailsQueue-clause-done
 returns-in-FailsQueue-clause-done c = λ o acts k.
     let e = c.set_failed-in-FailsQueue.ensures in
-    fails-done (facts o (log o acts)) c.args.h.now c.args.self.now c.fail_queue.new.self o (log o acts) c.args.payload.now c.in-FailsQueue.failure c.in-FailsQueue.denied c.args.decision c.set_failed-in-FailsQueue.new.self c.in-FailsQueue.is c.fail_queue.ensures
-    (record { status_is = e.status; error_is = e.error; held_is = e.held; fises_are = e.fises; bytes_are = e.bytes; denied_is = e.denied ∙ c.reason-in-FailsQueue.ensures }) k
+    fails-done (facts o (log o acts)) c.args.h.now c.args.self.now c.fail_queue.new.self o (log o acts) c.args.payload.now c.in-FailsQueue.failure c.in-FailsQueue.cause c.args.decision c.set_failed-in-FailsQueue.new.self c.in-FailsQueue.is c.fail_queue.ensures
+    (record { status_is = e.status; error_is = e.error; held_is = e.held; fises_are = e.fises; bytes_are = e.bytes; denied_is = e.denied ∙ c.objection_to-in-FailsQueue.ensures.denied; rule_is = e.rule ∙ c.objection_to-in-FailsQueue.ensures.rule }) k
 
 pub returns-in-Holds-clause-done : goal.returns-in-Holds-clause-done
 returns-in-Holds-clause-done c = λ o acts k.
     let e = c.set_held.ensures in
     let due = subst (λ (x : Decision). IsDue c.args.self.now c.args.h.now x) c.in-Holds.is c.requires.due in
     holds-done (facts o (log o acts)) c.args.h.now c.args.self.now c.hold.new.self o (log o acts) c.args.payload.now c.in-Holds.tag c.in-Holds.held c.args.decision c.set_held.new.self due.slot c.in-Holds.is c.hold.ensures (read-as c.args.self.now o (log o acts) c.args.h.now _ k due.reads)
-    (record { status_is = e.status; error_is = e.error; held_is = e.held; fises_are = e.fises; bytes_are = e.bytes; denied_is = e.denied }) k
+    (record { status_is = e.status; error_is = e.error; held_is = e.held; fises_are = e.fises; bytes_are = e.bytes; denied_is = e.denied; rule_is = e.rule }) k
 
 pub returns-in_ok-bytes-in-Moves-clause-done : goal.returns-in_ok-bytes-in-Moves-clause-done
 returns-in_ok-bytes-in-Moves-clause-done c = λ o acts k.
@@ -35,7 +35,7 @@ returns-in_ok-bytes-in-Moves-clause-done c = λ o acts k.
     let m = c.in_ok-bytes-in-Moves.ensures in
     let due = subst (λ (x : Decision). IsDue c.args.self.now c.args.h.now x) c.in-Moves.is c.requires.due in
     moves-done c.args.h.now c.args.self.now c.carry_out.new.self o (log o acts) c.args.payload.now c.in-Moves.held c.args.decision c.set_served.new.self c.in-Moves.is due m.tper m.queue m.media
-    (record { status_is = e.status; error_is = e.error; held_is = e.held; fises_are = e.fises; bytes_are = e.bytes ∙ m.data (facts o (log o acts)); denied_is = e.denied }) k
+    (record { status_is = e.status; error_is = e.error; held_is = e.held; fises_are = e.fises; bytes_are = e.bytes ∙ m.data (facts o (log o acts)); denied_is = e.denied ∙ c.none.ensures.denied; rule_is = e.rule ∙ c.none.ensures.rule }) k
 
 pub returns-in_ok-bytes-in-Executes-clause-done : goal.returns-in_ok-bytes-in-Executes-clause-done
 returns-in_ok-bytes-in-Executes-clause-done c = λ o acts k.
@@ -43,14 +43,14 @@ returns-in_ok-bytes-in-Executes-clause-done c = λ o acts k.
     let x = c.in_ok-bytes-in-Executes.ensures in
     let due = subst (λ (x : Decision). IsDue c.args.self.now c.args.h.now x) c.in-Executes.is c.requires.due in
     executes-done (facts o (log o acts)) c.args.h.now c.execute.new.self o (log o acts) c.args.payload.now c.in-Executes.command c.args.decision c.set_served-in-Executes.new.self c.in-Executes.is (read-as c.args.self.now o (log o acts) c.args.h.now _ k due.0, due.1)
-    (record { status_is = e.status; error_is = e.error; held_is = e.held; fises_are = e.fises ∙ c.served_form.ensures; bytes_are = e.bytes ∙ x.data o acts k; denied_is = e.denied ∙ x.denied o acts k }) (x.kept o acts k)
+    (record { status_is = e.status; error_is = e.error; held_is = e.held; fises_are = e.fises ∙ c.served_form.ensures; bytes_are = e.bytes ∙ x.data o acts k; denied_is = e.denied ∙ x.denied o acts k; rule_is = e.rule ∙ x.rule o acts k }) (x.kept o acts k)
 
 pub returns-in-Restarts-clause-done : goal.returns-in-Restarts-clause-done
 returns-in-Restarts-clause-done c = λ o acts k.
     let e = c.set_done.ensures in
     let due = subst (λ (x : Decision). IsDue c.args.self.now c.args.h.now x) c.in-Restarts.is c.requires.due in
     restarts-done (facts o (log o acts)) c.args.h.now c.restart.new.self o (log o acts) c.args.payload.now c.in-Restarts.command c.args.decision c.set_done.new.self c.in-Restarts.is (read-as c.args.self.now o (log o acts) c.args.h.now _ k due.0, due.1)
-    (record { status_is = e.status; error_is = e.error; held_is = e.held; fises_are = e.fises ∙ c.served_form-in-Restarts.ensures; bytes_are = e.bytes; denied_is = e.denied }) (c.restart.ensures o (log o acts) k)
+    (record { status_is = e.status; error_is = e.error; held_is = e.held; fises_are = e.fises ∙ c.served_form-in-Restarts.ensures; bytes_are = e.bytes; denied_is = e.denied; rule_is = e.rule }) (c.restart.ensures o (log o acts) k)
 
 pub returns-in-Blocks-clause-done : goal.returns-in-Blocks-clause-done
 returns-in-Blocks-clause-done c = λ o acts k.
@@ -58,7 +58,7 @@ returns-in-Blocks-clause-done c = λ o acts k.
     let due = subst (λ (x : Decision). IsDue c.args.self.now c.args.h.now x) c.in-Blocks.is c.requires.due in
     let kept = subst (λ (b : SidBlock). KeepsDrive c.block_sid.new.self o (did (BlockedSid b) ∷ log o acts)) c.asked.ensures (c.block_sid.ensures o (log o acts) k) in
     blocks-done (facts o (log o acts)) c.args.h.now c.block_sid.new.self o (log o acts) c.args.payload.now c.args.self.now.tper.store.config.profile c.in-Blocks.command c.args.decision c.set_done-in-Blocks.new.self c.in-Blocks.is (read-as c.args.self.now o (log o acts) c.args.h.now _ k due.0, due.1)
-    (record { status_is = e.status; error_is = e.error; held_is = e.held; fises_are = e.fises ∙ c.served_form-in-Blocks.ensures; bytes_are = e.bytes; denied_is = e.denied }) kept
+    (record { status_is = e.status; error_is = e.error; held_is = e.held; fises_are = e.fises ∙ c.served_form-in-Blocks.ensures; bytes_are = e.bytes; denied_is = e.denied; rule_is = e.rule }) kept
 
 pub carry_out-requires-clause-length : goal.carry_out-requires-clause-length
 carry_out-requires-clause-length c =

@@ -47,6 +47,7 @@ returns-clause-state c = rw (← c.self.view_is) (λ f e.
       failed = search rules;
       regs = search rules;
       history = search rules;
+      rule = refl;
       audit =
           c.note.ensures
           ∙ ap (λ (xs : List AuditLine). xs ++ line_for c.next_number-number.result c.in_ok-put.put.client answer.denied) c.reserve-2.ensures.items

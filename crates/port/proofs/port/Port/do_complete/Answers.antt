@@ -26,4 +26,5 @@ returns-clause-state c =
       regs = search rules;
       history = search rules;
       audit = refl;
+      rule = refl;
     })

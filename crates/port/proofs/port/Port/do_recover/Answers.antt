@@ -28,4 +28,5 @@ returns-clause-state c =
       regs = search rules;
       history = search rules;
       audit = refl;
+      rule = refl;
     })

@@ -16,6 +16,7 @@ returns-clause-state c = rw (← c.self.view_is) (record {
   regs = c.reset-2.ensures;
   history = search rules;
   audit = refl;
+  rule = refl;
 })
 
 pub returns-in_err-reserve-clause-refused : goal.returns-in_err-reserve-clause-refused

@@ -8,22 +8,23 @@ use Rattle.tper.specs.Tper.{Tper}
 use Rattle.tper.proofs.Sends.{IsFor, ByManager, BySession, found_at, on-ok, if-ok, nothing-kept, nothing-sent, no-frame, other-frame, nobody-named, manager-is, no-manager, manager-kept, manager-sent, session-kept, session-sent, found-lives}
 use Rattle.tper.proofs.trusted.Tper.send.Goals as goal
 use Rattle.tper.proofs.trusted.Tper.send.Goals.{else-session-eq0-via-then-session-eq0+else-session-eq0-2, else-session-eq0-via-else-session-eq0}
+use Rattle.rules.specs.declared.rule.Rule.TheVariants.{NoFrame, NoSession}
 
 abbrev frame_of : Opened → Frame
 frame_of o = record { com_id = o.com_id; session = o.session; payload = o.payload.now }
 
 pub returns-in_default-clause-kept : goal.returns-in_default-clause-kept
 returns-in_default-clause-kept c = λ o acts k.
-    nothing-kept c.args.self.now o (log o acts) _ (no-frame (facts o (log o acts)) c.args.com_id (reading c.args.payload.now) c.in_default.field-0 c.in_default.ensures.exact) k
+    nothing-kept c.args.self.now o (log o acts) _ NoFrame (no-frame (facts o (log o acts)) c.args.com_id (reading c.args.payload.now) c.in_default.field-0 c.in_default.ensures.exact) k
 
 pub returns-then-frame-com_id-clause-kept : goal.returns-then-frame-com_id-clause-kept
 returns-then-frame-com_id-clause-kept c = λ o acts k.
-    nothing-kept c.args.self.now o (log o acts) _
+    nothing-kept c.args.self.now o (log o acts) _ NoFrame
     (other-frame (facts o (log o acts)) c.args.com_id (reading c.args.payload.now) (frame_of c.in-Ok.frame) c.in-Ok.ensures.exact c.if-frame-com_id.true) k
 
 pub returns-then-frame-com_id-clause-answer : goal.returns-then-frame-com_id-clause-answer
 returns-then-frame-com_id-clause-answer c = λ o acts k.
-    nothing-sent _ c.nothing-then-frame-com_id.result c.nothing-then-frame-com_id.ensures.denied c.nothing-then-frame-com_id.ensures.erases
+    nothing-sent _ NoFrame c.nothing-then-frame-com_id.result c.nothing-then-frame-com_id.ensures.denied c.nothing-then-frame-com_id.ensures.rule c.nothing-then-frame-com_id.ensures.erases
     (other-frame (facts o (log o acts)) c.args.com_id (reading c.args.payload.now) (frame_of c.in-Ok.frame) c.in-Ok.ensures.exact c.if-frame-com_id.true)
 
 pub returns-then-session-eq0-2-clause-kept : goal.returns-then-session-eq0-2-clause-kept
@@ -56,7 +57,7 @@ returns-in-None-clause-kept c =
       | else-session-eq0-via-else-session-eq0 w ↦ w.if-session-eq0.false t
     ]) in
     let is : found_at c.args.self.now.live c.args.com_id c.in-Ok.frame.session ≡ None = ap (λ (t : Tper). found_at t.live c.args.com_id c.in-Ok.frame.session) (sym c.self.view_is) ∙ sym c.find.ensures ∙ c.in-None.is in
-    λ o acts k. nothing-kept c.args.self.now o (log o acts) _ (nobody-named c.args.self.now o (log o acts) c.args.com_id (reading c.args.payload.now) frame own other is k) k
+    λ o acts k. nothing-kept c.args.self.now o (log o acts) _ NoSession (nobody-named c.args.self.now o (log o acts) c.args.com_id (reading c.args.payload.now) frame own other is k) k
 
 pub returns-in-None-clause-answer : goal.returns-in-None-clause-answer
 returns-in-None-clause-answer c =
@@ -67,7 +68,7 @@ returns-in-None-clause-answer c =
       | else-session-eq0-via-else-session-eq0 w ↦ w.if-session-eq0.false t
     ]) in
     let is : found_at c.args.self.now.live c.args.com_id c.in-Ok.frame.session ≡ None = ap (λ (t : Tper). found_at t.live c.args.com_id c.in-Ok.frame.session) (sym c.self.view_is) ∙ sym c.find.ensures ∙ c.in-None.is in
-    λ o acts k. nothing-sent _ c.nothing-in-None.result c.nothing-in-None.ensures.denied c.nothing-in-None.ensures.erases
+    λ o acts k. nothing-sent _ NoSession c.nothing-in-None.result c.nothing-in-None.ensures.denied c.nothing-in-None.ensures.rule c.nothing-in-None.ensures.erases
     (nobody-named c.args.self.now o (log o acts) c.args.com_id (reading c.args.payload.now) frame own other is k)
 
 pub returns-in-Some-clause-kept : goal.returns-in-Some-clause-kept
