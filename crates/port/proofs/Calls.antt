@@ -1,7 +1,8 @@
 -- What a call of the port owes, by its private step.
 use Rattle.port_history.proofs.Acted.{tcg_for_ports}
 use Rattle.std.proofs.Common.{◌≡◌, ℕ, ◌+◌, true, List, ◌∷◌, length, Result, Ok, Err, Option, None, sym, ap, ◌∙◌, subst}
-use Rattle.std.specs.Prelude.{OnOk, IfOk, is_ok, is_none, unwrap_or, ◌<◌}
+use Rattle.std.specs.Prelude.{OnOk, IfOk, is_ok, is_none, unwrap_or, Some, ◌<◌}
+use Rattle.core.specs.Result.{result_err}
 use Rattle.port_history.specs.declared.request.Answer.{Answer}
 use Rattle.port.specs.Answers.{outcome_at}
 use Rattle.port_history.specs.Requests.{no_bytes}
@@ -54,3 +55,7 @@ agrees_where Made old new step (Err error) slot told made keep = tt
 pub told_is : {A : Type 0} (r : Result A PortError) (refused : Option PortError) → IsTold refused r → is_ok r ≡ is_none refused
 told_is (Ok a) refused e = sym (ap is_none e)
 told_is (Err error) refused e = sym (ap is_none e)
+
+pub error_is : {A : Type 0} (r : Result A PortError) (refused : Option PortError) → IsTold refused r → result_err r ≡ refused
+error_is (Ok a) refused e = sym e
+error_is (Err error) refused e = sym e

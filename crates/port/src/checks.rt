@@ -39,30 +39,42 @@ impl Port {
     ghost use Rattle.port.specs.Answers.{stage_at};
     ghost use Rattle.port.specs.State.{is_history_full, refusal_on};
 
-    /// Whether the step would not be refused for another cause than memory.
-    pub fn may(&self, step: &Step) -> bool
+    /// Why the step would be refused, for another cause than memory; None where it would not be.
+    pub fn refuses(&self, step: &Step) -> Option<PortError>
         ensures { (o : Origin) (list : List Step) → PortAgrees self.now o list
-            → result ≡ is_none (refusal (trace o list) step.now) }
+            → result ≡ refusal (trace o list) step.now }
     {
-        has_slot(step) && self.may_do(step)
+        if has_slot(step) {
+            self.refuses_so(step)
+        } else {
+            None
+        }
     }
 
-    fn may_do(&self, step: &Step) -> bool
-        ensures { result ≡ is_none (refusal_on self.now step.now) }
+    fn refuses_so(&self, step: &Step) -> Option<PortError>
+        ensures { result ≡ refusal_on self.now step.now }
     {
         match *step {
             Step::Put {
                 tag,
                 ref request,
                 ..
-            } => self.may_put(tag, request).is_ok(),
-            Step::Issue { tag } => self.prepared(tag).is_ok(),
-            Step::Accept { tag } => self.issued(tag).is_ok(),
-            Step::Complete { tag } => self.accepted(tag).is_ok(),
-            Step::Recover => self.has_failed().is_ok(),
-            Step::Reset { .. } => self.may_reset().is_ok(),
-            Step::Take { client, tag } => self.answered(client, tag).is_ok(),
+            } => self.may_put(tag, request).err(),
+            Step::Issue { tag } => self.prepared(tag).err(),
+            Step::Accept { tag } => self.issued(tag).err(),
+            Step::Complete { tag } => self.accepted(tag).err(),
+            Step::Recover => self.has_failed().err(),
+            Step::Reset { .. } => self.may_reset().err(),
+            Step::Take { client, tag } => self.answered(client, tag).err(),
         }
+    }
+
+    /// Whether the step would not be refused for another cause than memory.
+    pub fn may(&self, step: &Step) -> bool
+        ensures { (o : Origin) (list : List Step) → PortAgrees self.now o list
+            → result ≡ is_none (refusal (trace o list) step.now) }
+    {
+        self.refuses(step).is_none()
     }
 
     /// There is room for a step.
