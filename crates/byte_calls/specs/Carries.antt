@@ -9,7 +9,7 @@ use Rattle.byte_calls.specs.declared.error.CallError.{CallError}
 use Rattle.byte_calls.specs.declared.error.CallError.TheVariants.{Length, Malformed}
 use Rattle.byte_calls.specs.declared.frames.Carried.{Carried}
 use Rattle.byte_calls.specs.Counts.{refused_count}
-use Rattle.byte_calls.specs.Copies.{IsTold}
+use Rattle.byte_calls.specs.Copies.{IsWrittenOut}
 use Rattle.byte_calls.specs.Refusals.{code_of_call, done_code}
 
 -- the bytes of a payload that a ComPacket has room for
@@ -20,7 +20,7 @@ most_payload_bytes = 65480
 pub record FramedAs (com_id : ℕ) (session : Session) (payload old new : List ℕ)
     (count : Count) : Type 0 where
   pub framed : 0 < length payload → length payload ≤ most_payload_bytes
-      → IsTold (frame_bytes com_id session payload) old new count
+      → IsWrittenOut (frame_bytes com_id session payload) old new count
   pub empty : length payload ≡ 0 → (count ≡ refused_count Length) × (new ≡ old)
   pub long : most_payload_bytes < length payload → (count ≡ refused_count Length) × (new ≡ old)
 

@@ -17,6 +17,6 @@ pub record IsCopied (bytes old new : List ℕ) (count : Count) : Type 0 where
   pub kept : length old < length bytes → new ≡ old
 
 -- The text was copied, or memory was refused and nothing was written.
-abbrev pub IsTold : List ℕ → List ℕ → List ℕ → Count → Type 0
-IsTold text old new count = IsCopied text old new count
+abbrev pub IsWrittenOut : List ℕ → List ℕ → List ℕ → Count → Type 0
+IsWrittenOut text old new count = IsCopied text old new count
     ⊎ ((count ≡ refused_count OutOfMemory) × (new ≡ old))

@@ -12,8 +12,8 @@ use Rattle.byte_calls.specs.Counts.{refused_count}
 use Rattle.byte_calls.specs.Copies.{IsCopied}
 
 -- a command can name these sectors
-abbrev pub is_named : ℕ → ℕ → Bool
-is_named lba count = nat_lt lba address_limit && nat_le 1 count && nat_le count most_sectors
+abbrev pub names_sectors : ℕ → ℕ → Bool
+names_sectors lba count = nat_lt lba address_limit && nat_le 1 count && nat_le count most_sectors
 
 -- the transfer of a number
 abbrev pub transfer_asked : ℕ → ℕ → ℕ → Option Command
@@ -29,7 +29,7 @@ command_asked kind lba count =
     if kind == 4 then Some Identify
     else (if kind == 5 then Some (ReadLog10 true)
     else (if kind == 6 then Some Flush
-    else (if is_named lba count then transfer_asked kind lba count else None)))
+    else (if names_sectors lba count then transfer_asked kind lba count else None)))
 
 abbrev pub trusted_asked : Bool → ℕ → ℕ → ℕ → Command
 trusted_asked true protocol sp_specific blocks = Send protocol sp_specific blocks true

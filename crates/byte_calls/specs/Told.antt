@@ -12,7 +12,7 @@ use Rattle.decoded.specs.declared.kind.Kind.TheVariants.{Level0, ComPacket, Fis,
 use Rattle.byte_calls.specs.declared.count.Count.{Count}
 use Rattle.byte_calls.specs.declared.error.CallError.TheVariants.{Number, Malformed}
 use Rattle.byte_calls.specs.Counts.{refused_count}
-use Rattle.byte_calls.specs.Copies.{IsTold}
+use Rattle.byte_calls.specs.Copies.{IsWrittenOut}
 
 -- the item that bytes spell, with names or numbers, or what is wrong with them
 abbrev pub item_said : Bool → Message → List ℕ
@@ -41,7 +41,7 @@ kind_numbered number =
 abbrev pub DecodedOf : Option BytesFault → Kind → List ℕ → List ℕ → List ℕ → Count → Type 0
 DecodedOf (Some fault) kind bytes old new count =
     (count ≡ refused_count Malformed) × (new ≡ old)
-DecodedOf None kind bytes old new count = IsTold (kind_lines kind bytes) old new count
+DecodedOf None kind bytes old new count = IsWrittenOut (kind_lines kind bytes) old new count
 
 abbrev pub DecodedBy : Option Kind → List ℕ → List ℕ → List ℕ → Count → Type 0
 DecodedBy None bytes old new count = (count ≡ refused_count Number) × (new ≡ old)

@@ -1,7 +1,7 @@
 //! Bytes that a caller from outside is given.
 
 ghost use Rattle.std.specs.Prelude.{◌≡◌, ℕ, List, IfOk};
-ghost use Rattle.byte_calls.specs.Copies.{IsCopied, IsTold, short_count};
+ghost use Rattle.byte_calls.specs.Copies.{IsCopied, IsWrittenOut, short_count};
 
 use crate::count::Count;
 use crate::error::CallError;
@@ -22,7 +22,7 @@ pub fn copy_out(bytes: &[u8], into: &mut [u8]) -> Count
 /// [`copy_out`] of a text, if there was memory for it.
 pub fn copy_text(text: Result<Vec<u8>, AllocError>, into: &mut [u8]) -> Count
     ensures { (bytes : List ℕ) → IfOk text (λ said. said.items ≡ bytes)
-        → IsTold bytes into.old into.new result }
+        → IsWrittenOut bytes into.old into.new result }
 {
     match text {
         Ok(text) => copy_out(&text, into),

@@ -1,6 +1,7 @@
 //! The FISes of commands (Serial ATA, "Register Host to Device FIS"; ACS-3).
 
-ghost use Rattle.std.specs.Prelude.{◌≡◌, ◌<◌, ◌≤◌, ◌^◌, IfSome, Some, None};
+ghost use Rattle.std.specs.Prelude.{◌≡◌, ◌<◌, IfSome, Some, None};
+ghost use Rattle.basics.specs.Addresses.{address_limit};
 ghost use Rattle.trusted_cmds.specs.Commands.{IsCounted, lba_of};
 ghost use Rattle.byte_calls.specs.Spelled.{command_asked, trusted_asked, SpelledAs, AskedAs};
 
@@ -24,11 +25,11 @@ const MOST_SECTORS: u32 = 65_536;
 
 impl Transfer {
     ghost use Rattle.std.specs.Prelude.{◌≡◌};
-    ghost use Rattle.byte_calls.specs.Spelled.{is_named};
+    ghost use Rattle.byte_calls.specs.Spelled.{names_sectors};
 
     /// Whether a command can name these sectors.
     fn is_named(&self) -> bool
-        ensures { result ≡ is_named self.now.lba self.now.count }
+        ensures { result ≡ names_sectors self.now.lba self.now.count }
     {
         self.lba < ADDRESS_LIMIT && self.count >= 1 && self.count <= MOST_SECTORS
     }
@@ -37,7 +38,7 @@ impl Transfer {
 /// The command of a number.
 fn command_asked(kind: u32, transfer: &Transfer) -> Option<Command>
     ensures asked { result ≡ command_asked kind transfer.now.lba transfer.now.count }
-    ensures address { IfSome result (λ c. IfSome (lba_of c) (λ lba. lba < 2 ^ 48)) }
+    ensures address { IfSome result (λ c. IfSome (lba_of c) (λ lba. lba < address_limit)) }
     ensures counted { IfSome result IsCounted }
 {
     let Transfer { lba, count } = *transfer;
@@ -61,7 +62,7 @@ fn command_asked(kind: u32, transfer: &Transfer) -> Option<Command>
 
 /// Copies the FIS of a command.
 fn spell(command: &Command, tag: Tag, into: &mut [u8]) -> Count
-    requires address { IfSome (lba_of command.now) (λ lba. lba < 2 ^ 48) }
+    requires address { IfSome (lba_of command.now) (λ lba. lba < address_limit) }
     requires counted { IsCounted command.now }
     ensures { SpelledAs command.now tag into.old into.new result }
 {

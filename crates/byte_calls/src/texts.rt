@@ -1,7 +1,7 @@
 //! Bytes as text.
 
 ghost use Rattle.std.specs.Prelude.{◌≡◌, ◌⊎◌, IfOk, Some, None, string_bytes};
-ghost use Rattle.byte_calls.specs.Copies.{IsTold};
+ghost use Rattle.byte_calls.specs.Copies.{IsWrittenOut};
 ghost use Rattle.tcg_tokens.specs.Message.{message};
 ghost use Rattle.byte_calls.specs.Told.{item_said, tokens_said, kind_numbered, DecodedAs};
 
@@ -39,7 +39,7 @@ fn tokens_said(alloc: Global, by_name: bool, bytes: &[u8]) -> Result<String, All
 /// names that the standards give to objects, methods and columns, or with their numbers. It is what `opalport tokens`
 /// prints, without the end of the line.
 pub fn tokens_out(alloc: Global, by_name: bool, bytes: &[u8], into: &mut [u8]) -> Count
-    ensures { IsTold (tokens_said by_name bytes.now) into.old into.new result }
+    ensures { IsWrittenOut (tokens_said by_name bytes.now) into.old into.new result }
 {
     let text = tokens_said(alloc, by_name, bytes);
     copy_text(text.map(String::into_bytes), into)
