@@ -1,0 +1,15 @@
+-- What a drive answers, as numbers.
+use Rattle.std.specs.Prelude.{ℕ, false}
+use Rattle.byte_calls.specs.declared.error.CallError.{CallError}
+use Rattle.byte_calls.specs.Refusals.{code_of_call}
+use Rattle.in_process.specs.declared.answer.Answer.{Answer}
+
+abbrev pub refused_answer : CallError → Answer
+refused_answer error = record {
+  code = code_of_call error;
+  status = 0;
+  error = 0;
+  held = false;
+  denied = false;
+  length = 0;
+}

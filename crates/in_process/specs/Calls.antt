@@ -1,0 +1,86 @@
+-- What a call by a handle does: nothing where the handle has nothing; else what the call does with the object. The
+-- handle keeps its object.
+use Rattle.std.specs.Prelude.{◌≡◌, ◌≢◌, ◌⊎◌, ℕ, List, map, Option, Some, None}
+use Rattle.byte_calls.specs.declared.error.CallError.{CallError}
+use Rattle.byte_calls.specs.declared.error.CallError.TheVariants.{OutOfMemory, NotOpen, InUse, Limits}
+use Rattle.in_process.specs.declared.answer.Answer.{Answer}
+use Rattle.byte_calls.specs.declared.count.Count.{Count}
+use Rattle.in_process.specs.declared.failed.Failed.{Failed}
+use Rattle.in_process.specs.declared.asked.RangeCells.{RangeCells}
+use Rattle.in_process.specs.declared.asked.Size.{Size}
+use Rattle.in_process.specs.declared.drive_desk.DriveDesk.{DriveDesk}
+use Rattle.in_process.specs.declared.object.Object.{Object}
+use Rattle.in_process.specs.declared.object.Object.TheVariants.{Drive}
+use Rattle.sp_cells.specs.Config.{Config}
+use Rattle.in_process.specs.Answers.{refused_answer}
+use Rattle.byte_calls.specs.Counts.{refused_count}
+use Rattle.in_process.specs.Asked.{ConfigAsked, StartsAs, row_asked}
+use Rattle.byte_calls.specs.Copies.{IsCopied, IsWrittenOut}
+use Rattle.in_process.specs.Denials.{denial_at}
+use Rattle.in_process.specs.Desks.{IsTakenAs, IsFinishedAs, IsResetAs, payload_count, expected_count, last_bytes}
+use Rattle.in_process.specs.Failures.{refused_failure, failure_numbers}
+use Rattle.byte_calls.specs.Refusals.{done_code, code_of_call}
+
+-- what a handle had and has, where a handle with nothing is `refused`
+abbrev pub ByHandle : Option Object → Option Object → Type 0 → (Object → Object → Type 0) → Type 0
+ByHandle None None refused does = refused
+ByHandle None (Some new) refused does = ⊥
+ByHandle (Some old) None refused does = ⊥
+ByHandle (Some old) (Some new) refused does = does old new
+
+-- a drive that was there, and the drive that is there
+abbrev pub OfDrive : Object → Object → (DriveDesk → DriveDesk → Type 0) → Type 0
+OfDrive (Drive old) (Drive new) does = does old new
+
+-- a call of a drive by its handle
+abbrev pub ByDrive : Option Object → Option Object → Type 0 → (DriveDesk → DriveDesk → Type 0)
+    → Type 0
+ByDrive had has refused does = ByHandle had has refused (λ old new. OfDrive old new does)
+
+-- The drive was given a command.
+abbrev pub AcceptsBy : Option Object → Option Object → List ℕ → List ℕ → Answer → Type 0
+AcceptsBy had has fis payload answer = ByDrive had has (answer ≡ refused_answer NotOpen)
+    (λ old new. IsTakenAs old new fis payload answer)
+
+-- The drive was to complete what it holds under a tag.
+abbrev pub FinishesBy : Option Object → Option Object → ℕ → List ℕ → Answer → Type 0
+FinishesBy had has tag payload answer = ByDrive had has (answer ≡ refused_answer NotOpen)
+    (λ old new. IsFinishedAs old new tag payload answer)
+
+-- The drive was to be reset.
+abbrev pub Resets : Option Object → Option Object → ℕ → ℕ → Type 0
+Resets had has kind code = ByDrive had has (code ≡ code_of_call NotOpen)
+    (λ old new. IsResetAs old new kind code)
+
+-- How many bytes a command brings, and a completion; the drive is as before.
+abbrev pub CountsPayload : Option Object → Option Object → List ℕ → Count → Type 0
+CountsPayload had has fis count = ByDrive had has (count ≡ refused_count NotOpen)
+    (λ old new. (count ≡ payload_count old.drive fis) × (new ≡ old))
+
+abbrev pub CountsExpected : Option Object → Option Object → ℕ → Count → Type 0
+CountsExpected had has tag count = ByDrive had has (count ≡ refused_count NotOpen)
+    (λ old new. (count ≡ expected_count old.drive tag) × (new ≡ old))
+
+-- How the queue has failed.
+abbrev pub TellsFailure : Option Object → Option Object → Failed → Type 0
+TellsFailure had has failed = ByDrive had has (failed ≡ refused_failure NotOpen)
+    (λ old new. (failed ≡ failure_numbers old.drive.queue.failure) × (new ≡ old))
+
+-- The data of the last answer, and what denied it.
+abbrev pub CopiesData : Option Object → Option Object → List ℕ → List ℕ → Count → Type 0
+CopiesData had has into out count = ByDrive had has ((count ≡ refused_count NotOpen) × (out ≡ into))
+    (λ old new. IsCopied (last_bytes old) into out count × (new ≡ old))
+
+abbrev pub CopiesDenial : Option Object → Option Object → ℕ → List ℕ → List ℕ → Count → Type 0
+CopiesDenial had has client into out count =
+    ByDrive had has ((count ≡ refused_count NotOpen) × (out ≡ into))
+    (λ old new. IsWrittenOut (denial_at old client) into out count × (new ≡ old))
+
+-- A handle with nothing is given a drive, or nothing was done.
+pub record MakesDrive (had has : Option Object) (size : Size) (msid serial model psid : List ℕ)
+    (cells : List RangeCells) (code : ℕ) : Type 0 where
+  pub in_use : had ≢ None → (code ≡ code_of_call InUse) × (has ≡ had)
+  pub opened : code ≡ done_code → (desk : DriveDesk) × (has ≡ Some (Drive desk))
+      × ((config : Config) × ConfigAsked size msid serial model psid config
+      × StartsAs config (map row_asked cells) desk.drive)
+  pub refused : code ≢ done_code → has ≡ had

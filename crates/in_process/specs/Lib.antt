@@ -1,0 +1,9 @@
+pub mod Answers
+pub mod Asked
+pub mod Calls
+pub mod Denials
+pub mod Desks
+pub mod Failures
+pub mod Marks
+pub mod Owned
+pub mod Refused

@@ -1,0 +1,29 @@
+//! What stands for an error of the crates below.
+
+ghost use Rattle.std.specs.Prelude.{◌≡◌};
+ghost use Rattle.in_process.specs.Refused.{set_refusal, drive_refusal};
+
+use byte_calls::CallError;
+use drive::{DriveError, SetError};
+
+/// Why a row of a range is refused.
+pub(crate) fn of_set(error: SetError) -> CallError
+    ensures { result ≡ set_refusal error }
+{
+    match error {
+        SetError::OutOfMemory => CallError::OutOfMemory,
+        SetError::Overlap => CallError::Overlap,
+        SetError::Beyond => CallError::Beyond,
+        SetError::NoCell | SetError::WrongType | SetError::Expr => CallError::NoRange,
+    }
+}
+
+/// Why a completion is refused.
+pub(crate) fn of_drive(error: DriveError) -> CallError
+    ensures { result ≡ drive_refusal error }
+{
+    match error {
+        DriveError::NotHeld => CallError::NotHeld,
+        DriveError::OutOfMemory => CallError::OutOfMemory,
+    }
+}
