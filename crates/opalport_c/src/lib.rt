@@ -1,0 +1,204 @@
+//! The C library: one export for each call of `in_process`. `include/opalport.h` declares them for C.
+#![tactic(auto)]
+
+ghost use Rattle.std.specs.Prelude.{◌≡◌, None, MatchOption};
+ghost use Rattle.byte_calls.specs.Carries.{FramedAs, IsOpened};
+ghost use Rattle.byte_calls.specs.Copies.{IsWrittenOut};
+ghost use Rattle.byte_calls.specs.Spelled.{AskedAs, SpelledAs, command_asked, trusted_asked};
+ghost use Rattle.byte_calls.specs.Told.{DecodedAs, tokens_said};
+ghost use Rattle.in_process.specs.Calls.{AcceptsBy, FinishesBy, Resets, CountsPayload, CountsExpected, TellsFailure, CopiesData, CopiesDenial, MakesDrive};
+ghost use Rattle.byte_calls.specs.Refusals.{done_code, code_of_call};
+ghost use Rattle.byte_calls.specs.declared.error.CallError.TheVariants.{NotOpen};
+
+use byte_calls::{Carried, Count, Transfer};
+use compacket::Session;
+use in_process::{Answer, Failed, Handle, Names, RangeCells, Size};
+use std::alloc::Global;
+
+/// `opal_drive_new`, with the parts of its configuration one by one: [`in_process::drive_new`].
+#[unsafe(no_mangle)]
+pub extern "C" fn opal_raw_drive_new(
+    handle: &mut Handle,
+    alloc: Global,
+    size: Size,
+    msid: &[u8],
+    serial: &[u8],
+    model: &[u8],
+    psid: &[u8],
+    cells: &[RangeCells],
+) -> u32
+    ensures { MakesDrive handle.old.place.kept handle.new.place.kept size msid.now serial.now
+        model.now psid.now cells.now result }
+{
+    let names = Names {
+        msid,
+        serial,
+        model,
+        psid,
+    };
+    in_process::drive_new(handle, alloc, &size, &names, cells)
+}
+
+/// Frees what a handle has: [`in_process::free`].
+#[unsafe(no_mangle)]
+pub extern "C" fn opal_raw_free(handle: &mut Handle, alloc: Global) -> u32
+    ensures none { handle.new.place.kept ≡ None }
+    ensures code { MatchOption handle.old.place.kept (result ≡ code_of_call NotOpen)
+        (λ object. result ≡ done_code) }
+{
+    in_process::free(handle, alloc)
+}
+
+/// [`in_process::drive_accept`].
+#[unsafe(no_mangle)]
+pub extern "C" fn opal_raw_drive_accept(
+    handle: &mut Handle,
+    alloc: Global,
+    fis: &[u8],
+    payload: &[u8],
+) -> Answer
+    ensures { AcceptsBy handle.old.place.kept handle.new.place.kept fis.now payload.now result }
+{
+    in_process::drive_accept(handle, alloc, fis, payload)
+}
+
+/// [`in_process::drive_complete`].
+#[unsafe(no_mangle)]
+pub extern "C" fn opal_raw_drive_complete(
+    handle: &mut Handle,
+    alloc: Global,
+    tag: u8,
+    payload: &[u8],
+) -> Answer
+    ensures { FinishesBy handle.old.place.kept handle.new.place.kept tag payload.now result }
+{
+    in_process::drive_complete(handle, alloc, tag, payload)
+}
+
+/// [`in_process::drive_reset`].
+#[unsafe(no_mangle)]
+pub extern "C" fn opal_raw_drive_reset(handle: &mut Handle, alloc: Global, kind: u32) -> u32
+    ensures { Resets handle.old.place.kept handle.new.place.kept kind result }
+{
+    in_process::drive_reset(handle, alloc, kind)
+}
+
+/// [`in_process::drive_payload`].
+#[unsafe(no_mangle)]
+pub extern "C" fn opal_raw_drive_payload(handle: &mut Handle, alloc: Global, fis: &[u8]) -> Count
+    ensures { CountsPayload handle.old.place.kept handle.new.place.kept fis.now result }
+{
+    in_process::drive_payload(handle, alloc, fis)
+}
+
+/// [`in_process::drive_expects`].
+#[unsafe(no_mangle)]
+pub extern "C" fn opal_raw_drive_expects(handle: &mut Handle, alloc: Global, tag: u8) -> Count
+    ensures { CountsExpected handle.old.place.kept handle.new.place.kept tag result }
+{
+    in_process::drive_expects(handle, alloc, tag)
+}
+
+/// [`in_process::drive_failure`].
+#[unsafe(no_mangle)]
+pub extern "C" fn opal_raw_drive_failure(handle: &mut Handle, alloc: Global) -> Failed
+    ensures { TellsFailure handle.old.place.kept handle.new.place.kept result }
+{
+    in_process::drive_failure(handle, alloc)
+}
+
+/// [`in_process::drive_data`].
+#[unsafe(no_mangle)]
+pub extern "C" fn opal_raw_drive_data(handle: &mut Handle, alloc: Global, into: &mut [u8]) -> Count
+    ensures { CopiesData handle.old.place.kept handle.new.place.kept into.old into.new result }
+{
+    in_process::drive_data(handle, alloc, into)
+}
+
+/// [`in_process::drive_denial`].
+#[unsafe(no_mangle)]
+pub extern "C" fn opal_raw_drive_denial(
+    handle: &mut Handle,
+    alloc: Global,
+    client: u32,
+    into: &mut [u8],
+) -> Count
+    ensures { CopiesDenial handle.old.place.kept handle.new.place.kept
+        client into.old into.new result }
+{
+    in_process::drive_denial(handle, alloc, client, into)
+}
+
+/// [`byte_calls::tokens_out`].
+#[unsafe(no_mangle)]
+pub extern "C" fn opal_raw_tokens(
+    alloc: Global,
+    by_name: bool,
+    bytes: &[u8],
+    into: &mut [u8],
+) -> Count
+    ensures { IsWrittenOut (tokens_said by_name bytes.now) into.old into.new result }
+{
+    byte_calls::tokens_out(alloc, by_name, bytes, into)
+}
+
+/// [`byte_calls::decoded_out`].
+#[unsafe(no_mangle)]
+pub extern "C" fn opal_raw_decoded(alloc: Global, kind: u32, bytes: &[u8], into: &mut [u8]) -> Count
+    ensures { DecodedAs kind bytes.now into.old into.new result }
+{
+    byte_calls::decoded_out(alloc, kind, bytes, into)
+}
+
+/// [`byte_calls::frame_out`].
+#[unsafe(no_mangle)]
+pub extern "C" fn opal_raw_frame(
+    alloc: Global,
+    com_id: u16,
+    tsn: u32,
+    hsn: u32,
+    payload: &[u8],
+    into: &mut [u8],
+) -> Count
+    ensures { FramedAs com_id (record { tsn = tsn; hsn = hsn }) payload.now into.old
+        into.new result }
+{
+    byte_calls::frame_out(alloc, com_id, Session { tsn, hsn }, payload, into)
+}
+
+/// [`byte_calls::opened`].
+#[unsafe(no_mangle)]
+pub extern "C" fn opal_raw_opened(bytes: &[u8]) -> Carried
+    ensures { IsOpened bytes.now result }
+{
+    byte_calls::opened(bytes)
+}
+
+/// [`byte_calls::transfer_fis`].
+#[unsafe(no_mangle)]
+pub extern "C" fn opal_raw_command_fis(
+    command: u32,
+    lba: u64,
+    count: u32,
+    tag: u8,
+    into: &mut [u8],
+) -> Count
+    ensures { AskedAs (command_asked command lba count) tag into.old into.new result }
+{
+    byte_calls::transfer_fis(command, &Transfer { lba, count }, tag, into)
+}
+
+/// [`byte_calls::trusted_fis`].
+#[unsafe(no_mangle)]
+pub extern "C" fn opal_raw_trusted_fis(
+    is_send: bool,
+    protocol: u8,
+    sp_specific: u16,
+    blocks: u16,
+    into: &mut [u8],
+) -> Count
+    ensures { SpelledAs (trusted_asked is_send protocol sp_specific blocks) 0 into.old into.new
+        result }
+{
+    byte_calls::trusted_fis(is_send, protocol, sp_specific, blocks, into)
+}
