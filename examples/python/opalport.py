@@ -1,0 +1,342 @@
+"""A self-locking drive in this process: Python over the C library (include/opalport.h), by `ctypes`.
+
+The shared object is found by the environment variable OPALPORT_LIBRARY, or stands beside this file as libopalport.so.
+`.ci/library` makes it.
+
+    with Drive(ranges=[Range(1, 100, 10, read_locked=True, read_lock_enabled=True)]) as drive:
+        answer = drive.accept(command_fis(Command.READ_DMA, lba=100, count=1))
+        print(answer.status, answer.error, drive.denial(client=7))
+"""
+import ctypes
+import enum
+import os
+from dataclasses import dataclass
+
+__all__ = [
+    "Answer", "Carried", "Code", "Command", "Drive", "Failure", "Kind", "OpalError", "Range", "command_fis",
+    "decoded_text", "frame", "opened", "tokens_text", "trusted_fis",
+]
+
+FIS_LENGTH = 20
+ANY_SIZE = 2**64 - 1
+MSID = b"OPALMSID"
+
+
+class Code(enum.IntEnum):
+    """Why a call was refused, by the numbers of the header."""
+
+    DONE = 0
+    OUT_OF_MEMORY = 1
+    NOT_OPEN = 2
+    OTHER_KIND = 3
+    NULL = 4
+    LENGTH = 5
+    TAG = 6
+    NUMBER = 7
+    NOT_HELD = 8
+    ROOM = 9
+    IN_USE = 10
+    LIMITS = 11
+    NO_RANGE = 12
+    OVERLAP = 13
+    BEYOND = 14
+    MALFORMED = 15
+
+
+class OpalError(Exception):
+    """A call was refused, and nothing was done."""
+
+    def __init__(self, code):
+        super().__init__(Code(code).name.lower().replace("_", " "))
+        self.code = Code(code)
+
+
+class Command(enum.IntEnum):
+    """A command whose FIS `command_fis` makes."""
+
+    READ_QUEUED = 0
+    WRITE_QUEUED = 1
+    READ_DMA = 2
+    WRITE_DMA = 3
+    IDENTIFY = 4
+    READ_QUEUE_ERROR = 5
+    FLUSH = 6
+
+
+class Kind(enum.IntEnum):
+    """What bytes are, for `decoded_text`."""
+
+    LEVEL0 = 0
+    COM_PACKET = 1
+    FIS = 2
+    IDENTIFY = 3
+    LOG_DIRECTORY = 4
+    QUEUE_ERROR = 5
+    DATA_PAGE = 6
+
+
+@dataclass(frozen=True)
+class Range:
+    """The cells of a locking range; range 0 is the global one."""
+
+    range: int
+    start: int
+    length: int
+    read_lock_enabled: bool = False
+    write_lock_enabled: bool = False
+    read_locked: bool = False
+    write_locked: bool = False
+
+
+@dataclass(frozen=True)
+class Answer:
+    """What a drive answers to a command, or to a completion."""
+
+    status: int
+    error: int
+    held: bool
+    denied: bool
+    data: bytes
+
+    @property
+    def has_failed(self):
+        return self.status != 0x50
+
+
+@dataclass(frozen=True)
+class Failure:
+    """How a queue has failed: what log page 10h tells. The tag of a command that was not queued is None."""
+
+    tag: "int | None"
+    error: int
+    device: int
+    count: int
+    lba: int
+
+
+@dataclass(frozen=True)
+class Carried:
+    """What a frame carries, and for whom."""
+
+    com_id: int
+    tsn: int
+    hsn: int
+    payload: bytes
+
+
+class _Handle(ctypes.Structure):
+    _fields_ = [("mark", ctypes.c_uint64), ("place", ctypes.c_void_p)]
+
+
+class _Size(ctypes.Structure):
+    _fields_ = [("sectors", ctypes.c_uint64), ("shadow", ctypes.c_uint64), ("datastore", ctypes.c_uint64),
+                ("profile", ctypes.c_uint32)]
+
+
+class _Range(ctypes.Structure):
+    _fields_ = [("start", ctypes.c_uint64), ("length", ctypes.c_uint64), ("range", ctypes.c_uint8),
+                ("read_lock_enabled", ctypes.c_uint8), ("write_lock_enabled", ctypes.c_uint8),
+                ("read_locked", ctypes.c_uint8), ("write_locked", ctypes.c_uint8)]
+
+
+class _Answer(ctypes.Structure):
+    _fields_ = [("code", ctypes.c_uint32), ("status", ctypes.c_uint8), ("error", ctypes.c_uint8),
+                ("held", ctypes.c_bool), ("denied", ctypes.c_bool), ("length", ctypes.c_size_t)]
+
+
+class _Count(ctypes.Structure):
+    _fields_ = [("code", ctypes.c_uint32), ("number", ctypes.c_size_t)]
+
+
+class _Failed(ctypes.Structure):
+    _fields_ = [("code", ctypes.c_uint32), ("failed", ctypes.c_bool), ("queued", ctypes.c_bool),
+                ("tag", ctypes.c_uint8), ("error", ctypes.c_uint8), ("device", ctypes.c_uint8),
+                ("count", ctypes.c_uint16), ("lba", ctypes.c_uint64)]
+
+
+class _Carried(ctypes.Structure):
+    _fields_ = [("code", ctypes.c_uint32), ("tsn", ctypes.c_uint32), ("hsn", ctypes.c_uint32),
+                ("com_id", ctypes.c_uint16), ("at", ctypes.c_size_t), ("length", ctypes.c_size_t)]
+
+
+_BYTES = [ctypes.c_char_p, ctypes.c_size_t]
+_HANDLE = [ctypes.POINTER(_Handle)]
+_CALLS = {
+    "drive_new": (ctypes.c_uint32, [*_HANDLE, _Size, *_BYTES, *_BYTES, *_BYTES, *_BYTES, ctypes.POINTER(_Range),
+                                    ctypes.c_size_t]),
+    "free": (ctypes.c_uint32, _HANDLE),
+    "drive_accept": (_Answer, [*_HANDLE, *_BYTES, *_BYTES]),
+    "drive_complete": (_Answer, [*_HANDLE, ctypes.c_uint8, *_BYTES]),
+    "drive_reset": (ctypes.c_uint32, [*_HANDLE, ctypes.c_uint32]),
+    "drive_payload": (_Count, [*_HANDLE, *_BYTES]),
+    "drive_expects": (_Count, [*_HANDLE, ctypes.c_uint8]),
+    "drive_failure": (_Failed, _HANDLE),
+    "drive_data": (_Count, [*_HANDLE, *_BYTES]),
+    "drive_denial": (_Count, [*_HANDLE, ctypes.c_uint32, *_BYTES]),
+    "tokens": (_Count, [ctypes.c_bool, *_BYTES, *_BYTES]),
+    "decoded": (_Count, [ctypes.c_uint32, *_BYTES, *_BYTES]),
+    "frame": (_Count, [ctypes.c_uint16, ctypes.c_uint32, ctypes.c_uint32, *_BYTES, *_BYTES]),
+    "opened": (_Carried, _BYTES),
+    "command_fis": (_Count, [ctypes.c_uint32, ctypes.c_uint64, ctypes.c_uint32, ctypes.c_uint8, *_BYTES]),
+    "trusted_fis": (_Count, [ctypes.c_bool, ctypes.c_uint8, ctypes.c_uint16, ctypes.c_uint16, *_BYTES]),
+}
+
+
+class _Library:
+    """The calls of the shared object, by their names without `opal_raw_`."""
+
+    def __init__(self):
+        beside = os.path.join(os.path.dirname(os.path.abspath(__file__)), "libopalport.so")
+        library = ctypes.CDLL(os.environ.get("OPALPORT_LIBRARY", beside))
+        for name, (result, parameters) in _CALLS.items():
+            call = getattr(library, f"opal_raw_{name}")
+            call.restype, call.argtypes = result, parameters
+            setattr(self, name, call)
+
+
+_LIBRARY = _Library()
+
+
+def _check(code):
+    if code != Code.DONE:
+        raise OpalError(code)
+
+
+def _within(number, most):
+    """A number that its field holds: `ctypes` would take what is left of a larger one."""
+    if not 0 <= number <= most:
+        raise OpalError(Code.NUMBER)
+    return number
+
+
+def _bytes(data):
+    data = bytes(data)
+    return data, len(data)
+
+
+def _written(call, *arguments, room=512):
+    """What a call writes to a buffer: it is called once more where it tells that there is more of it."""
+    while True:
+        buffer = ctypes.create_string_buffer(room)
+        told = call(*arguments, buffer, room)
+        if told.code != Code.ROOM:
+            _check(told.code)
+            return buffer.raw[:told.number]
+        room = told.number
+
+
+def tokens_text(data, by_name=False):
+    """The item that a token stream spells, or `malformed N NAME`."""
+    return _written(_LIBRARY.tokens, by_name, *_bytes(data)).decode("ascii")
+
+
+def decoded_text(kind, data):
+    """The fields of bytes, a line for each."""
+    return _written(_LIBRARY.decoded, _within(kind, 2**32 - 1), *_bytes(data)).decode("utf-8")
+
+
+def frame(com_id, tsn, hsn, payload):
+    """A ComPacket of one packet of a session with one data subpacket."""
+    words = _within(com_id, 2**16 - 1), _within(tsn, 2**32 - 1), _within(hsn, 2**32 - 1)
+    return _written(_LIBRARY.frame, *words, *_bytes(payload), room=len(payload) + 64)
+
+
+def opened(data):
+    """What the frame carries that the bytes begin with."""
+    told = _LIBRARY.opened(*_bytes(data))
+    _check(told.code)
+    return Carried(told.com_id, told.tsn, told.hsn, bytes(data)[told.at:told.at + told.length])
+
+
+def command_fis(command, lba=0, count=1, tag=0):
+    """The FIS of a command. Only a queued one has a tag; a count of 65,536 is the most."""
+    words = _within(command, 2**32 - 1), _within(lba, 2**64 - 1), _within(count, 2**32 - 1), _within(tag, 255)
+    return _written(_LIBRARY.command_fis, *words, room=FIS_LENGTH)
+
+
+def trusted_fis(is_send, protocol, sp_specific, blocks):
+    """The FIS of TRUSTED SEND DMA, or of TRUSTED RECEIVE DMA, of so many blocks of 512 bytes."""
+    words = _within(protocol, 255), _within(sp_specific, 2**16 - 1), _within(blocks, 2**16 - 1)
+    return _written(_LIBRARY.trusted_fis, is_send, *words, room=FIS_LENGTH)
+
+
+class Drive:
+    """A self-locking drive. It is freed by `close`, at the end of a `with`, or with the last reference."""
+
+    def __init__(self, sectors=1000, shadow=8, msid=MSID, ranges=(), field=False, serial="", model="", psid=b"",
+                 datastore=None):
+        self._handle = _Handle()
+        rows = (_Range * len(ranges))(*(_row(it) for it in ranges))
+        store = ANY_SIZE if datastore is None else _within(datastore, ANY_SIZE)
+        size = _Size(_within(sectors, 2**64 - 1), _within(shadow, 2**64 - 1), store, 1 if field else 0)
+        texts = _bytes(serial.encode("utf-8")), _bytes(model.encode("utf-8"))
+        _check(_LIBRARY.drive_new(self._handle, size, *_bytes(msid), *texts[0], *texts[1], *_bytes(psid), rows,
+                                  len(ranges)))
+
+    def close(self):
+        """Frees the drive, if that was not done."""
+        if self._handle.mark:
+            _check(_LIBRARY.free(self._handle))
+
+    def __enter__(self):
+        return self
+
+    def __exit__(self, *_):
+        self.close()
+
+    def __del__(self):
+        if getattr(self, "_handle", None) is not None:
+            self.close()
+
+    def _answer(self, told):
+        _check(told.code)
+        data = _written(_LIBRARY.drive_data, self._handle, room=told.length) if told.length else b""
+        return Answer(told.status, told.error, told.held, told.denied, data)
+
+    def accept(self, fis, payload=b""):
+        """Gives the drive the FIS of a command, with the payload that it brings."""
+        return self._answer(_LIBRARY.drive_accept(self._handle, *_bytes(fis), *_bytes(payload)))
+
+    def complete(self, tag, payload=b""):
+        """Moves the data of the command that is held under a tag, and lets it go."""
+        return self._answer(_LIBRARY.drive_complete(self._handle, _tag(tag), *_bytes(payload)))
+
+    def payload_length(self, fis):
+        """How many bytes of payload a command brings."""
+        told = _LIBRARY.drive_payload(self._handle, *_bytes(fis))
+        _check(told.code)
+        return told.number
+
+    def expects(self, tag):
+        """How many bytes of payload a completion under a tag brings."""
+        told = _LIBRARY.drive_expects(self._handle, _tag(tag))
+        _check(told.code)
+        return told.number
+
+    def reset(self, kind):
+        """Resets the drive: 0 is a power cycle, 1 a hardware reset."""
+        _check(_LIBRARY.drive_reset(self._handle, _within(kind, 2**32 - 1)))
+
+    def failure(self):
+        """How the queue has failed, or None."""
+        told = _LIBRARY.drive_failure(self._handle)
+        _check(told.code)
+        if not told.failed:
+            return None
+        return Failure(told.tag if told.queued else None, told.error, told.device, told.count, told.lba)
+
+    def denial(self, client=0):
+        """The line of the audit log that tells what denied the last command, as
+        `3 7 deny read 95+6 range 1 ReadLocked`; empty where nothing did."""
+        return _written(_LIBRARY.drive_denial, self._handle, _within(client, 2**32 - 1)).decode("ascii")
+
+
+def _tag(tag):
+    """A tag: of a number that no byte holds it is told as of any other above 31."""
+    return tag if 0 <= tag <= 255 else 255
+
+
+def _row(it):
+    flags = it.read_lock_enabled, it.write_lock_enabled, it.read_locked, it.write_locked
+    words = _within(it.start, 2**64 - 1), _within(it.length, 2**64 - 1), _within(it.range, 255)
+    return _Range(*words, *(1 if flag else 0 for flag in flags))

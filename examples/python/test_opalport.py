@@ -1,0 +1,140 @@
+"""A drive whose range 1 is locked, by the library, and by the program behind pipes. The values are worked from ACS-3 and
+TCG Core 2.01. `.ci/library` runs it: OPALPORT_LIBRARY names the shared object, OPALPORT_PROGRAM the program."""
+import gc
+import os
+import threading
+import unittest
+
+from opalport import (Code, Command, Drive, Failure, Kind, OpalError, Range, command_fis, decoded_text, frame, opened,
+                      tokens_text, trusted_fis)
+from opalport_pipe import PipedDrive
+
+LOCKED = Range(1, 100, 10, True, True, True, True)
+SECURITY, COM_ID, SECTOR = 1, 0x1000, 512
+# StartSession on the Locking SP as Admin1 with the MSID; Set of range 1: ReadLocked and WriteLocked are 0.
+START = bytes.fromhex("f8a800000000000000ffa8000000000000ff02f007a8000002050000000201f200a84f50414c4d534944f3f203"
+                      "a80000000900010001f3f1f9f0000000f1")
+UNLOCK = bytes.fromhex("f8a80000080200030001a80000000600000017f0f201f0f20700f3f20800f3f1f3f1f9f0000000f1")
+
+
+def read(lba, count=1):
+    return command_fis(Command.READ_DMA, lba, count)
+
+
+class OnADrive(unittest.TestCase):
+    def setUp(self):
+        self.drive = Drive(ranges=[LOCKED])
+        self.addCleanup(self.drive.close)
+
+    def refuses(self, code, call, *words):
+        with self.assertRaises(OpalError) as it:
+            call(*words)
+        self.assertEqual(it.exception.code, code)
+
+    def call(self, tsn, hsn, tokens):
+        block = frame(COM_ID, tsn, hsn, tokens).ljust(SECTOR, b"\0")
+        self.assertEqual(self.drive.accept(trusted_fis(True, SECURITY, COM_ID, 1), block).status, 0x50)
+        answer = self.drive.accept(trusted_fis(False, SECURITY, COM_ID, 1))
+        return tokens_text(opened(answer.data).payload)
+
+    def test_a_locked_read_is_denied_with_its_reason(self):
+        answer = self.drive.accept(read(95, 6))
+        self.assertEqual((answer.status, answer.error, answer.denied, answer.data), (0x51, 0x04, True, b""))
+        self.assertEqual(self.drive.denial(7), "1 7 deny read 95+6 range 1 ReadLocked")
+        self.assertEqual(self.drive.accept(read(0)).data, bytes(SECTOR))
+        self.assertEqual(self.drive.denial(7), "")
+
+    def test_a_failed_queue_aborts_until_its_page_is_read(self):
+        self.assertFalse(self.drive.accept(command_fis(Command.READ_QUEUED, 100, 1, 3)).held)
+        self.assertEqual(self.drive.failure(), Failure(3, 0x04, 0x40, 3 << 3, 100))
+        self.assertEqual(self.drive.accept(read(0)).status, 0x51)
+        page = self.drive.accept(command_fis(Command.READ_QUEUE_ERROR)).data
+        self.assertEqual((page[0], page[3], sum(page) % 256), (3, 0x04, 0))
+        self.assertIsNone(self.drive.failure())
+        self.assertEqual(self.drive.accept(read(0)).status, 0x50)
+
+    def test_an_unlocked_range_gives_what_was_written(self):
+        self.assertEqual(self.call(0, 0, START), "call 00000000000000ff 000000000000ff03 [7 4096] 0 0 0")
+        self.assertEqual(self.call(0x1000, 7, UNLOCK), "reply [] 0 0 0")
+        self.assertTrue(self.drive.accept(command_fis(Command.WRITE_QUEUED, 100, 2, 9)).held)
+        self.assertEqual(self.drive.expects(9), 2 * SECTOR)
+        self.assertEqual(self.drive.complete(9, b"\xa5" * (2 * SECTOR)).status, 0x50)
+        self.assertEqual(self.drive.accept(read(100, 2)).data, b"\xa5" * (2 * SECTOR))
+
+    def test_a_reset_locks_the_range_again(self):
+        self.call(0, 0, START)
+        self.call(0x1000, 7, UNLOCK)
+        self.assertFalse(self.drive.accept(read(100)).has_failed)
+        self.drive.reset(0)
+        self.assertTrue(self.drive.accept(read(100)).has_failed)
+
+    def test_what_a_caller_gets_wrong_is_an_error(self):
+        self.refuses(Code.LENGTH, self.drive.accept, read(0)[:19])
+        self.refuses(Code.LENGTH, self.drive.accept, read(0), b"\0")
+        self.refuses(Code.TAG, self.drive.complete, 32)
+        self.refuses(Code.TAG, self.drive.complete, 256 + 1)
+        self.refuses(Code.NOT_HELD, self.drive.complete, 1)
+        self.refuses(Code.NUMBER, self.drive.reset, 2)
+        self.refuses(Code.NUMBER, command_fis, Command.READ_DMA, 2**48)
+        self.refuses(Code.NUMBER, command_fis, Command.READ_DMA, 0, 65_537)
+        self.refuses(Code.NUMBER, command_fis, 7)
+        self.refuses(Code.TAG, command_fis, Command.READ_QUEUED, 0, 1, 32)
+        self.refuses(Code.LENGTH, frame, COM_ID, 0, 0, b"")
+        self.refuses(Code.MALFORMED, opened, bytes(56))
+        self.refuses(Code.MALFORMED, decoded_text, Kind.IDENTIFY, b"")
+        self.refuses(Code.NUMBER, decoded_text, 7, b"")
+        self.drive.close()
+        self.refuses(Code.NOT_OPEN, self.drive.accept, read(0))
+        self.refuses(Code.NOT_OPEN, self.drive.denial)
+
+    def test_a_drive_that_cannot_be(self):
+        def make(**options):
+            Drive(**options)
+        for options in ({"sectors": 0}, {"sectors": 2**48 + 1}, {"shadow": 1001}, {"msid": b""}, {"msid": bytes(33)},
+                        {"serial": "1"}, {"field": True, "serial": "x" * 21}, {"datastore": 1}):
+            with self.assertRaises(OpalError) as it:
+                make(**options)
+            self.assertEqual(it.exception.code, Code.LIMITS)
+        for code, ranges in ((Code.NO_RANGE, [Range(17, 0, 1)]), (Code.OVERLAP, [LOCKED, Range(2, 109, 1)]),
+                             (Code.BEYOND, [Range(1, 1000, 1)])):
+            with self.assertRaises(OpalError) as it:
+                make(ranges=ranges)
+            self.assertEqual(it.exception.code, code)
+
+    def test_bytes_as_text(self):
+        self.assertEqual(tokens_text(b""), "malformed 1 Truncated")
+        self.assertIn("Set", tokens_text(UNLOCK, by_name=True))
+        self.assertIn("LBA 100\n", decoded_text(Kind.FIS, read(100)))
+
+    def test_two_drives_in_two_threads(self):
+        told = []
+
+        def work():
+            with Drive() as drive:
+                told.append(all(drive.accept(read(lba)).data == bytes(SECTOR) for lba in range(100)))
+        threads = [threading.Thread(target=work) for _ in range(2)]
+        for it in threads:
+            it.start()
+        for it in threads:
+            it.join()
+        self.assertEqual(told, [True, True])
+
+    def test_a_drive_goes_with_its_last_reference(self):
+        for _ in range(20):
+            Drive(ranges=[LOCKED])
+        gc.collect()
+
+
+@unittest.skipUnless(os.environ.get("OPALPORT_PROGRAM"), "OPALPORT_PROGRAM names no program")
+class OverPipes(unittest.TestCase):
+    def test_the_same_reads_by_the_program(self):
+        with PipedDrive(os.environ["OPALPORT_PROGRAM"], ["range 1 100 10 1 0 1 0"]) as drive:
+            self.assertEqual(drive.ask("read 7 5 95 5"), ["ok" + " 00000000" * 5])
+            self.assertEqual(drive.ask("read 7 5 95 6"), ["fail 51 04", "audit 3 7 deny read 95+6 range 1 ReadLocked"])
+            self.assertEqual(drive.ask("log 7")[0][:12], "data 0500510")
+            with self.assertRaises(EOFError):
+                drive.ask("no line")
+
+
+if __name__ == "__main__":
+    unittest.main()

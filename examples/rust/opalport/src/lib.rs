@@ -1,0 +1,398 @@
+//! A self-locking drive (TCG Opal SSC 2.01) in your process: safe Rust over opalport's C library.
+//!
+//! A drive is a value: it is freed when it is dropped, and a call wants `&mut`, so that no two calls can meet. It may be
+//! moved to another thread. Nothing here panics on what a drive answers.
+
+mod raw;
+
+use std::fmt;
+use std::ptr::null_mut;
+
+/// How many bytes the FIS of a command has.
+pub const FIS_LENGTH: usize = 20;
+
+/// Why a call was refused: the numbers of `opalport.h`. Nothing was done then.
+#[derive(Clone, Copy, Debug, PartialEq, Eq)]
+#[non_exhaustive]
+pub enum Error {
+    OutOfMemory,
+    NotOpen,
+    OtherKind,
+    Null,
+    Length,
+    Tag,
+    Number,
+    NotHeld,
+    Room,
+    InUse,
+    Limits,
+    NoRange,
+    Overlap,
+    Beyond,
+    Malformed,
+    Unknown(u32),
+}
+
+impl Error {
+    fn check(code: u32) -> Result<(), Error> {
+        Err(match code {
+            0 => return Ok(()),
+            1 => Error::OutOfMemory,
+            2 => Error::NotOpen,
+            3 => Error::OtherKind,
+            4 => Error::Null,
+            5 => Error::Length,
+            6 => Error::Tag,
+            7 => Error::Number,
+            8 => Error::NotHeld,
+            9 => Error::Room,
+            10 => Error::InUse,
+            11 => Error::Limits,
+            12 => Error::NoRange,
+            13 => Error::Overlap,
+            14 => Error::Beyond,
+            15 => Error::Malformed,
+            other => Error::Unknown(other),
+        })
+    }
+}
+
+impl fmt::Display for Error {
+    fn fmt(&self, f: &mut fmt::Formatter<'_>) -> fmt::Result {
+        f.write_str(match self {
+            Error::OutOfMemory => "an allocation was refused",
+            Error::NotOpen => "the handle has nothing",
+            Error::OtherKind => "what the handle has is of another kind",
+            Error::Null => "a pointer is null",
+            Error::Length => "a FIS has not 20 bytes, or a payload not as many as its command brings",
+            Error::Tag => "a tag is above 31",
+            Error::Number => "a number is none of those that the call takes",
+            Error::NotHeld => "no command is held under the tag",
+            Error::Room => "the buffer is too short",
+            Error::InUse => "the handle has something already",
+            Error::Limits => "a drive has no such size, PIN or name",
+            Error::NoRange => "there is no such range",
+            Error::Overlap => "two ranges have a sector in common",
+            Error::Beyond => "a range ends beyond the drive, or the global range has a place",
+            Error::Malformed => "bytes are not what they are to be",
+            Error::Unknown(code) => return write!(f, "the code {code}"),
+        })
+    }
+}
+
+impl std::error::Error for Error {}
+
+/// A command whose FIS [`command_fis`] makes.
+#[derive(Clone, Copy, Debug, PartialEq, Eq)]
+pub enum Command {
+    ReadQueued { lba: u64, count: u32, tag: u8 },
+    WriteQueued { lba: u64, count: u32, tag: u8 },
+    ReadDma { lba: u64, count: u32 },
+    WriteDma { lba: u64, count: u32 },
+    Identify,
+    ReadQueueError,
+    Flush,
+}
+
+/// What bytes are, for [`decoded_text`].
+#[derive(Clone, Copy, Debug, PartialEq, Eq)]
+pub enum Kind {
+    Level0 = 0,
+    ComPacket = 1,
+    Fis = 2,
+    Identify = 3,
+    LogDirectory = 4,
+    QueueError = 5,
+    DataPage = 6,
+}
+
+/// The cells of a locking range; range 0 is the global one.
+#[derive(Clone, Copy, Debug, Default, PartialEq, Eq)]
+pub struct Range {
+    pub range: u8,
+    pub start: u64,
+    pub length: u64,
+    pub read_lock_enabled: bool,
+    pub write_lock_enabled: bool,
+    pub read_locked: bool,
+    pub write_locked: bool,
+}
+
+/// The drive that is asked for.
+#[derive(Clone, Copy, Debug)]
+pub struct Config<'a> {
+    /// 1 to 2^48 sectors of 512 bytes.
+    pub sectors: u64,
+    /// How many of them the shadow MBR can have.
+    pub shadow: u64,
+    /// The PIN that SID has at first.
+    pub msid: &'a [u8],
+    /// With some the Locking SP is active; with none the drive is as it leaves the factory.
+    pub ranges: &'a [Range],
+    /// Whether the drive is of the profile `field`, with these names; an empty one is that of a drive that is given none.
+    pub field: Option<Field<'a>>,
+}
+
+/// What only a drive of the profile `field` has.
+#[derive(Clone, Copy, Debug, Default)]
+pub struct Field<'a> {
+    pub serial: &'a str,
+    pub model: &'a str,
+    pub psid: &'a [u8],
+    pub datastore: Option<u64>,
+}
+
+impl Default for Config<'_> {
+    fn default() -> Self {
+        Config { sectors: 1000, shadow: 8, msid: b"OPALMSID", ranges: &[], field: None }
+    }
+}
+
+/// What a drive answers to a command, or to a completion.
+#[derive(Clone, Debug, PartialEq, Eq)]
+pub struct Answer {
+    pub status: u8,
+    pub error: u8,
+    pub held: bool,
+    pub denied: bool,
+    pub data: Vec<u8>,
+}
+
+/// How a queue has failed: what log page 10h tells.
+#[derive(Clone, Copy, Debug, PartialEq, Eq)]
+pub struct Failure {
+    pub tag: Option<u8>,
+    pub error: u8,
+    pub device: u8,
+    pub count: u16,
+    pub lba: u64,
+}
+
+/// What a frame carries, and for whom.
+#[derive(Clone, Copy, Debug, PartialEq, Eq)]
+pub struct Carried<'a> {
+    pub com_id: u16,
+    pub tsn: u32,
+    pub hsn: u32,
+    pub payload: &'a [u8],
+}
+
+/// What a call writes to a buffer: it is called once more where it tells that there is more of it.
+fn written(room: usize, mut call: impl FnMut(*mut u8, usize) -> raw::Count) -> Result<Vec<u8>, Error> {
+    let mut bytes = vec![0; room];
+    loop {
+        let told = call(bytes.as_mut_ptr(), bytes.len());
+        match Error::check(told.code) {
+            Ok(()) => {
+                bytes.truncate(told.number);
+                return Ok(bytes);
+            }
+            Err(Error::Room) => bytes.resize(told.number, 0),
+            Err(error) => return Err(error),
+        }
+    }
+}
+
+fn text(bytes: Vec<u8>) -> String {
+    String::from_utf8_lossy(&bytes).into_owned()
+}
+
+/// The item that a token stream spells, with names or with numbers, or `malformed N NAME`.
+pub fn tokens_text(by_name: bool, bytes: &[u8]) -> Result<String, Error> {
+    // SAFETY: the pointers and lengths are those of slices, which are borrowed for the call.
+    written(512, |into, room| unsafe { raw::opal_raw_tokens(by_name, bytes.as_ptr(), bytes.len(), into, room) }).map(text)
+}
+
+/// The fields of bytes, a line for each.
+pub fn decoded_text(kind: Kind, bytes: &[u8]) -> Result<String, Error> {
+    // SAFETY: as in `tokens_text`.
+    written(4096, |into, room| unsafe { raw::opal_raw_decoded(kind as u32, bytes.as_ptr(), bytes.len(), into, room) })
+        .map(text)
+}
+
+/// A ComPacket of one packet of a session with one data subpacket.
+pub fn frame(com_id: u16, tsn: u32, hsn: u32, payload: &[u8]) -> Result<Vec<u8>, Error> {
+    // SAFETY: as in `tokens_text`.
+    written(payload.len() + 64, |into, room| unsafe {
+        raw::opal_raw_frame(com_id, tsn, hsn, payload.as_ptr(), payload.len(), into, room)
+    })
+}
+
+/// What the frame carries that the bytes begin with.
+pub fn opened(bytes: &[u8]) -> Result<Carried<'_>, Error> {
+    // SAFETY: as in `tokens_text`.
+    let told = unsafe { raw::opal_raw_opened(bytes.as_ptr(), bytes.len()) };
+    Error::check(told.code)?;
+    let payload = bytes.get(told.at..).and_then(|behind| behind.get(..told.length)).ok_or(Error::Malformed)?;
+    Ok(Carried { com_id: told.com_id, tsn: told.tsn, hsn: told.hsn, payload })
+}
+
+/// A FIS that a call writes.
+fn fis(call: impl FnOnce(*mut u8, usize) -> raw::Count) -> Result<[u8; FIS_LENGTH], Error> {
+    let mut bytes = [0; FIS_LENGTH];
+    Error::check(call(bytes.as_mut_ptr(), FIS_LENGTH).code)?;
+    Ok(bytes)
+}
+
+/// The FIS of a command.
+pub fn command_fis(command: Command) -> Result<[u8; FIS_LENGTH], Error> {
+    let (number, lba, count, tag) = match command {
+        Command::ReadQueued { lba, count, tag } => (0, lba, count, tag),
+        Command::WriteQueued { lba, count, tag } => (1, lba, count, tag),
+        Command::ReadDma { lba, count } => (2, lba, count, 0),
+        Command::WriteDma { lba, count } => (3, lba, count, 0),
+        Command::Identify => (4, 0, 0, 0),
+        Command::ReadQueueError => (5, 0, 0, 0),
+        Command::Flush => (6, 0, 0, 0),
+    };
+    // SAFETY: the buffer is there for the call, with its length.
+    fis(|into, room| unsafe { raw::opal_raw_command_fis(number, lba, count, tag, into, room) })
+}
+
+/// The FIS of TRUSTED SEND DMA, of so many blocks of 512 bytes.
+pub fn send_fis(protocol: u8, sp_specific: u16, blocks: u16) -> Result<[u8; FIS_LENGTH], Error> {
+    // SAFETY: as in `command_fis`.
+    fis(|into, room| unsafe { raw::opal_raw_trusted_fis(true, protocol, sp_specific, blocks, into, room) })
+}
+
+/// The FIS of TRUSTED RECEIVE DMA, of so many blocks of 512 bytes.
+pub fn receive_fis(protocol: u8, sp_specific: u16, blocks: u16) -> Result<[u8; FIS_LENGTH], Error> {
+    // SAFETY: as in `command_fis`.
+    fis(|into, room| unsafe { raw::opal_raw_trusted_fis(false, protocol, sp_specific, blocks, into, room) })
+}
+
+/// A self-locking drive.
+pub struct Drive {
+    handle: raw::Handle,
+}
+
+// SAFETY: what a handle leads to is used by one call at a time, since each wants `&mut`, and it is plain data.
+unsafe impl Send for Drive {}
+
+impl Drive {
+    /// The drive that is asked for.
+    pub fn new(config: &Config<'_>) -> Result<Drive, Error> {
+        let field = config.field.unwrap_or_default();
+        let size = raw::Size {
+            sectors: config.sectors,
+            shadow: config.shadow,
+            datastore: field.datastore.unwrap_or(u64::MAX),
+            profile: config.field.is_some().into(),
+        };
+        let cells: Vec<raw::RangeCells> = config.ranges.iter().map(cells_of).collect();
+        let mut drive = Drive { handle: raw::Handle { mark: 0, place: null_mut() } };
+        // SAFETY: the handle begins as one with nothing; the rest are slices, borrowed for the call.
+        let code = unsafe {
+            raw::opal_raw_drive_new(
+                &mut drive.handle,
+                size,
+                config.msid.as_ptr(),
+                config.msid.len(),
+                field.serial.as_ptr(),
+                field.serial.len(),
+                field.model.as_ptr(),
+                field.model.len(),
+                field.psid.as_ptr(),
+                field.psid.len(),
+                cells.as_ptr(),
+                cells.len(),
+            )
+        };
+        Error::check(code)?;
+        Ok(drive)
+    }
+
+    fn answer(&mut self, told: raw::Answer) -> Result<Answer, Error> {
+        Error::check(told.code)?;
+        let data = if told.length == 0 {
+            Vec::new()
+        } else {
+            // SAFETY: the handle is this drive's own, and the buffer is there for the call.
+            written(told.length, |into, room| unsafe { raw::opal_raw_drive_data(&mut self.handle, into, room) })?
+        };
+        Ok(Answer { status: told.status, error: told.error, held: told.held, denied: told.denied, data })
+    }
+
+    /// Gives the drive the FIS of a command, with the payload that it brings.
+    pub fn accept(&mut self, fis: &[u8; FIS_LENGTH], payload: &[u8]) -> Result<Answer, Error> {
+        // SAFETY: the handle is this drive's own; the rest are slices, borrowed for the call.
+        let told = unsafe {
+            raw::opal_raw_drive_accept(&mut self.handle, fis.as_ptr(), FIS_LENGTH, payload.as_ptr(), payload.len())
+        };
+        self.answer(told)
+    }
+
+    /// Moves the data of the command that is held under a tag, and lets it go.
+    pub fn complete(&mut self, tag: u8, payload: &[u8]) -> Result<Answer, Error> {
+        // SAFETY: as in `accept`.
+        let told =
+            unsafe { raw::opal_raw_drive_complete(&mut self.handle, tag, payload.as_ptr(), payload.len()) };
+        self.answer(told)
+    }
+
+    /// How many bytes of payload a command brings.
+    pub fn payload_length(&mut self, fis: &[u8; FIS_LENGTH]) -> Result<usize, Error> {
+        // SAFETY: as in `accept`.
+        let told = unsafe { raw::opal_raw_drive_payload(&mut self.handle, fis.as_ptr(), FIS_LENGTH) };
+        Error::check(told.code).map(|()| told.number)
+    }
+
+    /// How many bytes of payload a completion under a tag brings.
+    pub fn expects(&mut self, tag: u8) -> Result<usize, Error> {
+        // SAFETY: the handle is this drive's own.
+        let told = unsafe { raw::opal_raw_drive_expects(&mut self.handle, tag) };
+        Error::check(told.code).map(|()| told.number)
+    }
+
+    /// A power cycle.
+    pub fn power_cycle(&mut self) -> Result<(), Error> {
+        // SAFETY: the handle is this drive's own.
+        Error::check(unsafe { raw::opal_raw_drive_reset(&mut self.handle, 0) })
+    }
+
+    /// A hardware reset.
+    pub fn hardware_reset(&mut self) -> Result<(), Error> {
+        // SAFETY: the handle is this drive's own.
+        Error::check(unsafe { raw::opal_raw_drive_reset(&mut self.handle, 1) })
+    }
+
+    /// How the queue has failed, if it has.
+    pub fn failure(&mut self) -> Result<Option<Failure>, Error> {
+        // SAFETY: the handle is this drive's own.
+        let told = unsafe { raw::opal_raw_drive_failure(&mut self.handle) };
+        Error::check(told.code)?;
+        Ok(told.failed.then_some(Failure {
+            tag: told.queued.then_some(told.tag),
+            error: told.error,
+            device: told.device,
+            count: told.count,
+            lba: told.lba,
+        }))
+    }
+
+    /// The line of the audit log that tells what denied the last command, as
+    /// `3 7 deny read 95+6 range 1 ReadLocked`; empty where nothing did.
+    pub fn denial(&mut self, client: u32) -> Result<String, Error> {
+        // SAFETY: the handle is this drive's own, and the buffer is there for the call.
+        written(200, |into, room| unsafe { raw::opal_raw_drive_denial(&mut self.handle, client, into, room) }).map(text)
+    }
+}
+
+impl Drop for Drive {
+    fn drop(&mut self) {
+        // SAFETY: the handle is this drive's own, and is used no more. One with nothing is left as it is.
+        unsafe { raw::opal_raw_free(&mut self.handle) };
+    }
+}
+
+fn cells_of(row: &Range) -> raw::RangeCells {
+    raw::RangeCells {
+        start: row.start,
+        length: row.length,
+        range: row.range,
+        read_lock_enabled: row.read_lock_enabled.into(),
+        write_lock_enabled: row.write_lock_enabled.into(),
+        read_locked: row.read_locked.into(),
+        write_locked: row.write_locked.into(),
+    }
+}

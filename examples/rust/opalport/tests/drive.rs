@@ -1,0 +1,101 @@
+//! A drive whose range 1 is locked, by the wrapper. The values are worked from ACS-3 and TCG Core 2.01.
+
+use opalport::{
+    command_fis, decoded_text, frame, opened, receive_fis, send_fis, tokens_text, Answer, Command, Config, Drive, Error,
+    Field, Kind, Range,
+};
+
+const LOCKED: Range = Range {
+    range: 1,
+    start: 100,
+    length: 10,
+    read_lock_enabled: true,
+    write_lock_enabled: true,
+    read_locked: true,
+    write_locked: true,
+};
+
+/// StartSession on the Locking SP as Admin1 with the MSID, and Set of range 1: ReadLocked and WriteLocked are 0.
+const START: &str = "f8a800000000000000ffa8000000000000ff02f007a8000002050000000201f200a84f50414c4d534944f3f203a80000000900010001f3f1f9f0000000f1";
+const UNLOCK: &str = "f8a80000080200030001a80000000600000017f0f201f0f20700f3f20800f3f1f3f1f9f0000000f1";
+
+fn bytes(hex: &str) -> Vec<u8> {
+    (0..hex.len()).step_by(2).map(|at| u8::from_str_radix(&hex[at..at + 2], 16).unwrap()).collect()
+}
+
+fn locked() -> Drive {
+    Drive::new(&Config { ranges: &[LOCKED], ..Config::default() }).unwrap()
+}
+
+fn give(drive: &mut Drive, command: Command, payload: &[u8]) -> Answer {
+    drive.accept(&command_fis(command).unwrap(), payload).unwrap()
+}
+
+fn call(drive: &mut Drive, tsn: u32, hsn: u32, tokens: &str) -> String {
+    let mut block = frame(0x1000, tsn, hsn, &bytes(tokens)).unwrap();
+    block.resize(512, 0);
+    assert_eq!(drive.accept(&send_fis(1, 0x1000, 1).unwrap(), &block).unwrap().status, 0x50);
+    let answer = drive.accept(&receive_fis(1, 0x1000, 1).unwrap(), &[]).unwrap();
+    tokens_text(false, opened(&answer.data).unwrap().payload).unwrap()
+}
+
+#[test]
+fn a_locked_read_is_denied_with_its_reason() {
+    let mut drive = locked();
+    let answer = give(&mut drive, Command::ReadDma { lba: 95, count: 6 }, &[]);
+    assert_eq!((answer.status, answer.error, answer.denied), (0x51, 0x04, true));
+    assert_eq!(drive.denial(7).unwrap(), "1 7 deny read 95+6 range 1 ReadLocked");
+}
+
+#[test]
+fn a_failed_queue_aborts_until_its_page_is_read() {
+    let mut drive = locked();
+    assert!(!give(&mut drive, Command::ReadQueued { lba: 100, count: 1, tag: 3 }, &[]).held);
+    let failure = drive.failure().unwrap().unwrap();
+    assert_eq!((failure.tag, failure.error, failure.lba), (Some(3), 0x04, 100));
+    assert_eq!(give(&mut drive, Command::Flush, &[]).status, 0x51);
+    assert_eq!(give(&mut drive, Command::ReadQueueError, &[]).data[0], 3);
+    assert_eq!(drive.failure().unwrap(), None);
+    assert_eq!(give(&mut drive, Command::Flush, &[]).status, 0x50);
+}
+
+#[test]
+fn an_unlocked_range_gives_what_was_written() {
+    let mut drive = locked();
+    assert_eq!(call(&mut drive, 0, 0, START), "call 00000000000000ff 000000000000ff03 [7 4096] 0 0 0");
+    assert_eq!(call(&mut drive, 0x1000, 7, UNLOCK), "reply [] 0 0 0");
+    assert!(give(&mut drive, Command::WriteQueued { lba: 100, count: 1, tag: 9 }, &[]).held);
+    assert_eq!(drive.expects(9).unwrap(), 512);
+    assert_eq!(drive.complete(9, &[0xa5; 512]).unwrap().status, 0x50);
+    assert_eq!(give(&mut drive, Command::ReadDma { lba: 100, count: 1 }, &[]).data, [0xa5; 512]);
+}
+
+#[test]
+fn what_a_caller_gets_wrong_is_an_error() {
+    let mut drive = locked();
+    let read = command_fis(Command::ReadDma { lba: 0, count: 1 }).unwrap();
+    assert_eq!(drive.payload_length(&read), Ok(0));
+    assert_eq!(drive.accept(&read, &[0]), Err(Error::Length));
+    assert_eq!(drive.complete(32, &[]), Err(Error::Tag));
+    assert_eq!(drive.complete(1, &[]), Err(Error::NotHeld));
+    assert_eq!(command_fis(Command::ReadDma { lba: 1 << 48, count: 1 }), Err(Error::Number));
+    assert_eq!(command_fis(Command::ReadQueued { lba: 0, count: 1, tag: 32 }), Err(Error::Tag));
+    assert_eq!(opened(&[0; 56]), Err(Error::Malformed));
+    assert_eq!(Drive::new(&Config { sectors: 0, ..Config::default() }).err(), Some(Error::Limits));
+    assert_eq!(Drive::new(&Config { ranges: &[LOCKED, Range { range: 2, ..LOCKED }], ..Config::default() }).err(), Some(Error::Overlap));
+}
+
+#[test]
+fn a_field_drive_tells_its_names() {
+    let field = Some(Field { serial: "12345", ..Field::default() });
+    let mut drive = Drive::new(&Config { field, ..Config::default() }).unwrap();
+    let answer = give(&mut drive, Command::Identify, &[]);
+    assert!(decoded_text(Kind::Identify, &answer.data).unwrap().contains("SerialNumber \"12345"));
+}
+
+#[test]
+fn a_drive_may_move_to_another_thread() {
+    let mut drive = locked();
+    let status = std::thread::spawn(move || give(&mut drive, Command::Flush, &[]).status).join().unwrap();
+    assert_eq!(status, 0x50);
+}
