@@ -2,7 +2,7 @@
 use Rattle.port_history.proofs.Acted.{tcg_for_ports}
 use Rattle.std.proofs.Common.{◌≡◌, ℕ, ◌+◌, true, List, ◌∷◌, length, Result, Ok, Err, Option, None, sym, ap, ◌∙◌, subst}
 use Rattle.std.specs.Prelude.{OnOk, IfOk, is_ok, is_none, unwrap_or, Some, ◌<◌}
-use Rattle.core.specs.Result.{result_err}
+use Rattle.std.specs.Result.{result_err}
 use Rattle.port_history.specs.declared.request.Answer.{Answer}
 use Rattle.port.specs.Answers.{outcome_at}
 use Rattle.port_history.specs.Requests.{no_bytes}

@@ -6,7 +6,7 @@ use Rattle.slots.specs.declared.error.FetchError.{FetchError}
 use Rattle.slots.specs.declared.error.FetchError.TheVariants.{BadLength, BadAddress, BadPrdt, BadFis}
 use Rattle.slots.specs.declared.fetched.Fetched.{Fetched}
 use Rattle.slots.specs.Layout.{header_size, command_table_size, buffer_size, memory_with, memory_part, header_place, table_place, buffer_place}
-use Rattle.slots.specs.Header.{command_words, header_bytes, entries_for, fis_words, is_write, entry_count, table_at, has_table}
+use Rattle.slots.specs.Header.{command_fis_words, header_bytes, entries_for, fis_words, is_write, entry_count, table_at, has_table}
 use Rattle.slots.specs.Table.{table_bytes, is_command, is_sound, descriptors, bytes_of}
 
 -- The memory with a command in a slot.
@@ -38,7 +38,7 @@ table_fetched (Some len) fis write = fis_fetched fis write len
 -- What a header names, the first fault first.
 abbrev pub header_fetched : List ℕ → List ℕ → Result Fetched FetchError
 header_fetched memory header =
-    if not (fis_words header == command_words) then Err BadLength
+    if not (fis_words header == command_fis_words) then Err BadLength
     else (if not (has_table header) then Err BadAddress
     else table_fetched (transfer (descriptors memory (table_at header) (entry_count header)))
     (table_fis memory (table_at header)) (is_write header))

@@ -10,8 +10,8 @@ abbrev pub little_endian_at : ℕ → List ℕ → ℕ → ℕ
 little_endian_at size bytes place = little_number size (drop place bytes)
 
 -- how many words of four bytes a command FIS has
-abbrev pub command_words : ℕ
-command_words = h2d_length / 4
+abbrev pub command_fis_words : ℕ
+command_fis_words = h2d_length / 4
 
 -- a table stands at a multiple of this (4.2.2, CTBA)
 abbrev pub table_alignment : ℕ
@@ -25,7 +25,7 @@ write_bit = 64
 -- the place of the command table, and zeros.
 abbrev pub header_bytes : Bool → ℕ → ℕ → List ℕ
 header_bytes write entry_count table =
-    little_bytes 2 (command_words + write_bit * bit write) ++ little_bytes 2 entry_count
+    little_bytes 2 (command_fis_words + write_bit * bit write) ++ little_bytes 2 entry_count
     ++ little_bytes 4 0
     ++ little_bytes 4 table ++ little_bytes 4 0 ++ little_bytes 16 0
 

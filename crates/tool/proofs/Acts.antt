@@ -14,6 +14,7 @@ use Rattle.history.specs.Answers.{payload_of}
 use Rattle.history.specs.Opening.{Origin}
 use Rattle.history.specs.Events.{Event}
 use Rattle.history.specs.Facts.{Facts, facts}
+use Rattle.rules.specs.declared.rule.Rule.TheVariants.{NoCommand}
 use Rattle.history.specs.Decisions.{refuses}
 use Rattle.history.specs.Tcg.{accepted, commanded}
 use Rattle.history.specs.History.{Act, Accept, log, event}
@@ -66,7 +67,7 @@ by-command : (f : Facts) (command : Command) (tag : ℕ) (bytes payload : List �
     → IsH2d bytes (fis_of command tag)
     → accepted f bytes payload ≡ commanded f (fis_of command tag) payload
 by-command f command tag bytes payload is =
-    ap (λ kind. if kind == h2d_type then commanded f (h2d_at bytes) payload else refuses) is.kind
+    ap (λ kind. if kind == h2d_type then commanded f (h2d_at bytes) payload else refuses NoCommand) is.kind
     ∙ ap (λ h. commanded f h payload) (read-back bytes (fis_of command tag) is)
 
 -- the event of a spelling is that of the bytes
