@@ -13,4 +13,4 @@ pub use chronicle::Chronicle;
 pub use condition::{Condition, Flag, conditions_of};
 pub use explained::Explained;
 pub use laws::{laws_of_onsets, laws_of_reasons};
-pub use onset::{Cause, Onset, Source};
+pub use onset::{Cause, Onset, Source, cause_in};

@@ -55,7 +55,7 @@ fn is_end_of_transaction(tokens: &[u8]) -> bool
 }
 
 /// By what a command with this payload can bring something into force.
-pub(crate) fn cause_in(payload: &[u8]) -> Cause
+pub fn cause_in(payload: &[u8]) -> Cause
     ensures { result ≡ cause_in (frame_in payload.now) }
 {
     match open(payload) {

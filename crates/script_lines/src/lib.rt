@@ -22,3 +22,4 @@ pub use number::number_up_to;
 pub use port_line::{PortLine, PutRequest, is_port_line};
 pub use remark::is_remark;
 pub use report::Report;
+pub use words::Words;

@@ -1,0 +1,68 @@
+-- What is told of a refusal behind the lines that it prints: of a denial since when what denied it has been in force, and
+-- what would lift it; of any other the rule.
+use Rattle.std.specs.Prelude.{ℕ, ◌-◌, ◌||◌, Bool, codes, if◌then◌else◌, List, [], ◌∷◌, ◌++◌, map, take, length, Option, None, Some, is_some}
+use Rattle.audit.specs.declared.reason.Why.{Why}
+use Rattle.rules.specs.declared.rule.Rule.{Rule}
+use Rattle.rules.specs.Words.{rule_words}
+use Rattle.history.specs.Opening.{Origin}
+use Rattle.history.specs.Events.{Event}
+use Rattle.history.specs.History.{Act, Accept, Complete, log}
+use Rattle.history.specs.Readers.{in_force}
+use Rattle.explained.specs.declared.onset.Source.{Source}
+use Rattle.explained.specs.Onsets.{Sourced, bare_acts, held_since, holds_after}
+use Rattle.explained.specs.Reasons.{explanation_text}
+
+-- how many acts stand before the earlier ones
+abbrev pub added : List Act → List Sourced → ℕ
+added acts past = length acts - length past
+
+abbrev pub from_source : Source → Act → Sourced
+from_source source act = record { act = act; source = source }
+
+-- the acts of a line come from it, behind those that were before
+abbrev pub attributed : Source → List Act → List Sourced → List Sourced
+attributed source acts past = map (from_source source) (take (added acts past) acts) ++ past
+
+-- why an act was refused: what denied it, or else the rule; neither where it was not
+pub record Objection : Type 0 where
+  pub denied : Option Why
+  pub rule : Option Rule
+
+abbrev pub no_objection : Objection
+no_objection = record { denied = None; rule = None }
+
+abbrev pub objection_of : Event → Objection
+objection_of event = record { denied = event.denied; rule = event.rule }
+
+-- of the first of these events that was refused
+abbrev pub objection_in : List Event → Objection
+objection_in [] = no_objection
+objection_in (event ∷ events) =
+    if is_some event.denied || is_some event.rule then objection_of event else objection_in events
+
+-- a rule, in a line with its line feed
+abbrev pub rule_text : Option Rule → List ℕ
+rule_text None = []
+rule_text (Some rule) = codes "because " ++ rule_words rule ++ 10 ∷ []
+
+-- what is told of a denial, by the locks as they were before its acts, and by the rows in force behind them, or of the
+-- rule: lines, each with its line feed
+abbrev pub denial_text : Origin → List Sourced → List Act → Option Why → Option Rule → List ℕ
+denial_text o past acts None rule = rule_text rule
+denial_text o past acts (Some why) rule =
+    explanation_text (λ c. held_since (holds_after o c) past) o.tables.config.profile
+    (in_force o (log o acts)) why
+
+abbrev pub objection_text : Origin → List Sourced → List Act → Objection → List ℕ
+objection_text o past acts objection =
+    denial_text o past acts objection.denied objection.rule
+
+-- what is told of the acts of a line
+abbrev pub told_reasons : Origin → List Sourced → List Act → List ℕ
+told_reasons o past acts =
+    objection_text o past acts (objection_in (take (added acts past) (log o acts)))
+
+-- the acts of a command: it is accepted, and where it is held it is completed
+abbrev pub once_served : Bool → List ℕ → List ℕ → ℕ → List ℕ → List Act → List Act
+once_served held fis payload tag bytes acts =
+    if held then Complete tag bytes ∷ Accept fis payload ∷ acts else Accept fis payload ∷ acts

@@ -1,0 +1,3 @@
+pub mod Sources
+pub mod Explanations
+pub mod PortReasons
