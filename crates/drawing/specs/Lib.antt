@@ -1,0 +1,4 @@
+pub mod Markup
+pub mod Paints
+pub mod Pictures
+pub mod Svg

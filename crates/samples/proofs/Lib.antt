@@ -1,0 +1,2 @@
+mod Listings
+mod Looks

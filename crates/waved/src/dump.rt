@@ -1,0 +1,123 @@
+//! The dump of frames.
+
+ghost use Rattle.std.specs.Prelude.{◌≡◌, ◌++◌, IfOk, OnOk};
+ghost use Rattle.waved.specs.Waves.{wave_count};
+ghost use Rattle.waved.specs.Dumps.{declared_to, values_to, changes_to, dump_head, first_text, moment_text, moments_text, dump_text};
+
+use crate::wave::{WAVES, wave_at, wave_bits, wave_name, wave_value};
+use samples::{Frame, Sample};
+use std::alloc::{AllocError, Global};
+use waveform::{
+    append_changed, append_declaration, append_definitions_end, append_preamble, append_time,
+    append_value, append_values_begin, append_values_end,
+};
+
+/// Appends the declarations of all signals.
+fn append_declared(alloc: Global, text: &mut Vec<u8>) -> Result<(), AllocError>
+    ensures { OnOk result (text.new.items ≡ text.old.items ++ declared_to wave_count) }
+{
+    for place in 0..WAVES {
+        let wave = wave_at(place);
+        let name = wave_name(alloc, wave)?;
+        append_declaration(alloc, text, usize::from(place), wave_bits(wave), &name)?;
+    }
+    Ok(())
+}
+
+/// Appends the values of all signals.
+fn append_values(text: &mut Vec<u8>, sample: &Sample) -> Result<(), AllocError>
+    ensures { OnOk result (text.new.items ≡ text.old.items ++ values_to sample.now wave_count) }
+{
+    for place in 0..WAVES {
+        let wave = wave_at(place);
+        let value = wave_value(wave, sample);
+        append_value(text, usize::from(place), wave_bits(wave), value)?;
+    }
+    Ok(())
+}
+
+/// Appends the values of the signals that changed.
+fn append_changes(text: &mut Vec<u8>, before: &Sample, sample: &Sample) -> Result<(), AllocError>
+    ensures { OnOk result (text.new.items
+        ≡ text.old.items ++ changes_to before.now sample.now wave_count) }
+{
+    for place in 0..WAVES {
+        let wave = wave_at(place);
+        let old = wave_value(wave, before);
+        let new = wave_value(wave, sample);
+        append_changed(text, usize::from(place), wave_bits(wave), old, new)?;
+    }
+    Ok(())
+}
+
+/// Appends the declarations, with what stands around them.
+#[tactic(auto, unfolding(crate::specs::Dumps::dump_head))]
+fn append_head(alloc: Global, text: &mut Vec<u8>) -> Result<(), AllocError>
+    ensures { OnOk result (text.new.items ≡ text.old.items ++ dump_head) }
+{
+    append_preamble(text)?;
+    append_declared(alloc, text)?;
+    append_definitions_end(text)?;
+    Ok(())
+}
+
+/// Appends the values at time 0.
+#[tactic(auto, unfolding(crate::specs::Dumps::first_text))]
+fn append_first(text: &mut Vec<u8>, sample: &Sample) -> Result<(), AllocError>
+    ensures { OnOk result (text.new.items ≡ text.old.items ++ first_text sample.now) }
+{
+    append_values_begin(text)?;
+    append_values(text, sample)?;
+    append_values_end(text)?;
+    Ok(())
+}
+
+/// Appends a time, and what changed then.
+fn append_moment(
+    alloc: Global,
+    text: &mut Vec<u8>,
+    time: u64,
+    before: &Sample,
+    sample: &Sample,
+) -> Result<(), AllocError>
+    ensures { OnOk result (text.new.items
+        ≡ text.old.items ++ moment_text time before.now sample.now) }
+{
+    append_time(alloc, text, time)?;
+    append_changes(text, before, sample)?;
+    Ok(())
+}
+
+/// Appends what the frames behind the first show.
+fn append_moments(
+    alloc: Global,
+    text: &mut Vec<u8>,
+    first: &Sample,
+    frames: &[Frame],
+) -> Result<(), AllocError>
+    ensures { OnOk result (text.new.items ≡ text.old.items ++ moments_text 1 first.now frames.now) }
+{
+    let mut before = first;
+    for (place, frame) in frames.iter().enumerate() {
+        append_moment(alloc, text, place as u64 + 1, before, &frame.sample)?;
+        before = &frame.sample;
+    }
+    Ok(())
+}
+
+/// The value change dump of frames: at time 0 what the first shows, and one time unit for each behind it.
+///
+/// # Errors
+///
+/// An allocation was refused.
+pub fn dump_of(alloc: Global, frames: &[Frame]) -> Result<Vec<u8>, AllocError>
+    ensures { IfOk result (λ text. text.items ≡ dump_text frames.now) }
+{
+    let mut text = Vec::new(alloc);
+    if let [first, others @ ..] = frames {
+        append_head(alloc, &mut text)?;
+        append_first(&mut text, &first.sample)?;
+        append_moments(alloc, &mut text, &first.sample, others)?;
+    }
+    Ok(text)
+}

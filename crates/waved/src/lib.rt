@@ -1,0 +1,8 @@
+//! The value change dump of a run: what each line left behind, as signals over time.
+#![tactic(auto)]
+
+mod dump;
+mod wave;
+
+pub use dump::dump_of;
+pub use wave::Wave;
