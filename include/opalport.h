@@ -19,6 +19,7 @@
 
    What no C function can see, and you owe:
    - a pointer that is not null leads to as many bytes as its length says, or to a handle;
+   - a buffer that a call writes has no byte in common with another buffer of the call, nor with a handle;
    - a handle begins as OPAL_NONE. It is written by these calls alone, and used where it is: a copy of it is no handle,
      and after a call by one of the two the other one must not be used;
    - one call at a time on a handle. Two handles may be used in two threads at once;
@@ -151,7 +152,7 @@ enum opal_kind {
     OPAL_DATA_PAGE = 6      /* a page of log 30h */
 };
 
-/* The functions of the archive. They look for no null pointer: call those below them. */
+/* The functions of the archive. They look for no null pointer: call those below them. A bool is 0 or 1. */
 typedef struct opal_raw_size {
     uint64_t sectors;
     uint64_t shadow;

@@ -1,4 +1,5 @@
-"""A self-locking drive in this process: Python over the C library (include/opalport.h), by `ctypes`.
+"""A self-locking drive in this process: Python over the C library (include/opalport.h), by `ctypes`. A call of a drive waits
+until a call of it in another thread has ended.
 
 The shared object is found by the environment variable OPALPORT_LIBRARY, or stands beside this file as libopalport.so.
 `.ci/library` makes it.
@@ -10,6 +11,7 @@ The shared object is found by the environment variable OPALPORT_LIBRARY, or stan
 import ctypes
 import enum
 import os
+import threading
 from dataclasses import dataclass
 
 __all__ = [
@@ -260,23 +262,23 @@ def trusted_fis(is_send, protocol, sp_specific, blocks):
     return _written(_LIBRARY.trusted_fis, is_send, *words, room=FIS_LENGTH)
 
 
-class Drive:
-    """A self-locking drive. It is freed by `close`, at the end of a `with`, or with the last reference."""
+class _Object:
+    """What a handle has. It is freed by `close`, at the end of a `with`, or with the last reference."""
 
-    def __init__(self, sectors=1000, shadow=8, msid=MSID, ranges=(), field=False, serial="", model="", psid=b"",
+    def __init__(self, make, sectors=1000, shadow=8, msid=MSID, ranges=(), field=False, serial="", model="", psid=b"",
                  datastore=None):
-        self._handle = _Handle()
+        self._handle, self._lock = _Handle(), threading.RLock()
         rows = (_Range * len(ranges))(*(_row(it) for it in ranges))
         store = ANY_SIZE if datastore is None else _within(datastore, ANY_SIZE)
         size = _Size(_within(sectors, 2**64 - 1), _within(shadow, 2**64 - 1), store, 1 if field else 0)
         texts = _bytes(serial.encode("utf-8")), _bytes(model.encode("utf-8"))
-        _check(_LIBRARY.drive_new(self._handle, size, *_bytes(msid), *texts[0], *texts[1], *_bytes(psid), rows,
-                                  len(ranges)))
+        _check(make(self._handle, size, *_bytes(msid), *texts[0], *texts[1], *_bytes(psid), rows, len(ranges)))
 
     def close(self):
-        """Frees the drive, if that was not done."""
-        if self._handle.mark:
-            _check(_LIBRARY.free(self._handle))
+        """Frees the object, if that was not done."""
+        with self._lock:
+            if self._handle.mark:
+                _check(_LIBRARY.free(self._handle))
 
     def __enter__(self):
         return self
@@ -285,41 +287,54 @@ class Drive:
         self.close()
 
     def __del__(self):
-        if getattr(self, "_handle", None) is not None:
+        if getattr(self, "_lock", None) is not None:
             self.close()
 
-    def _answer(self, told):
+    def _number(self, call, *arguments):
+        with self._lock:
+            told = call(self._handle, *arguments)
         _check(told.code)
-        data = _written(_LIBRARY.drive_data, self._handle, room=told.length) if told.length else b""
+        return told.number
+
+
+class Drive(_Object):
+    """A self-locking drive."""
+
+    def __init__(self, **options):
+        super().__init__(_LIBRARY.drive_new, **options)
+
+    def _answer(self, call, *arguments):
+        with self._lock:
+            told = call(self._handle, *arguments)
+            _check(told.code)
+            data = _written(_LIBRARY.drive_data, self._handle, room=told.length) if told.length else b""
         return Answer(told.status, told.error, told.held, told.denied, data)
 
     def accept(self, fis, payload=b""):
         """Gives the drive the FIS of a command, with the payload that it brings."""
-        return self._answer(_LIBRARY.drive_accept(self._handle, *_bytes(fis), *_bytes(payload)))
+        return self._answer(_LIBRARY.drive_accept, *_bytes(fis), *_bytes(payload))
 
     def complete(self, tag, payload=b""):
         """Moves the data of the command that is held under a tag, and lets it go."""
-        return self._answer(_LIBRARY.drive_complete(self._handle, _tag(tag), *_bytes(payload)))
+        return self._answer(_LIBRARY.drive_complete, _tag(tag), *_bytes(payload))
 
     def payload_length(self, fis):
         """How many bytes of payload a command brings."""
-        told = _LIBRARY.drive_payload(self._handle, *_bytes(fis))
-        _check(told.code)
-        return told.number
+        return self._number(_LIBRARY.drive_payload, *_bytes(fis))
 
     def expects(self, tag):
         """How many bytes of payload a completion under a tag brings."""
-        told = _LIBRARY.drive_expects(self._handle, _tag(tag))
-        _check(told.code)
-        return told.number
+        return self._number(_LIBRARY.drive_expects, _tag(tag))
 
     def reset(self, kind):
         """Resets the drive: 0 is a power cycle, 1 a hardware reset."""
-        _check(_LIBRARY.drive_reset(self._handle, _within(kind, 2**32 - 1)))
+        with self._lock:
+            _check(_LIBRARY.drive_reset(self._handle, _within(kind, 2**32 - 1)))
 
     def failure(self):
         """How the queue has failed, or None."""
-        told = _LIBRARY.drive_failure(self._handle)
+        with self._lock:
+            told = _LIBRARY.drive_failure(self._handle)
         _check(told.code)
         if not told.failed:
             return None
@@ -328,7 +343,8 @@ class Drive:
     def denial(self, client=0):
         """The line of the audit log that tells what denied the last command, as
         `3 7 deny read 95+6 range 1 ReadLocked`; empty where nothing did."""
-        return _written(_LIBRARY.drive_denial, self._handle, _within(client, 2**32 - 1)).decode("ascii")
+        with self._lock:
+            return _written(_LIBRARY.drive_denial, self._handle, _within(client, 2**32 - 1)).decode("ascii")
 
 
 def _tag(tag):

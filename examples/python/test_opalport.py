@@ -119,6 +119,17 @@ class OnADrive(unittest.TestCase):
             it.join()
         self.assertEqual(told, [True, True])
 
+    def test_threads_share_a_drive(self):
+        def work(lba):
+            told.append(all(self.drive.accept(read(lba, count)).data == bytes(SECTOR * count) for count in range(1, 9)))
+        told = []
+        threads = [threading.Thread(target=work, args=(it,)) for it in range(8)]
+        for it in threads:
+            it.start()
+        for it in threads:
+            it.join()
+        self.assertEqual(told, [True] * 8)
+
     def test_a_drive_goes_with_its_last_reference(self):
         for _ in range(20):
             Drive(ranges=[LOCKED])
