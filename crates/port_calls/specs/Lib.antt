@@ -1,0 +1,4 @@
+pub mod Desk
+pub mod Listed
+pub mod Requested
+pub mod Told

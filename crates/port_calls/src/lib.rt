@@ -1,0 +1,13 @@
+//! A port for callers that are no Rattle: its steps in bytes and numbers.
+#![tactic(auto)]
+
+mod asked;
+mod desk;
+mod ready;
+mod refusals;
+mod taken;
+
+pub use asked::Asked;
+pub use desk::PortDesk;
+pub use ready::ReadyStep;
+pub use taken::Taken;
