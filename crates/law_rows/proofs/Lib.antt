@@ -1,0 +1,5 @@
+mod Lists
+mod TransferClauses
+mod AuditClauses
+mod MethodClauses
+mod NoTraceClauses
