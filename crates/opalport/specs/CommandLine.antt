@@ -1,5 +1,5 @@
 -- The command line of the program, as `clap` reads it, and what its words ask for.
-use Rattle.std.specs.Prelude.{List, [], ◌∷◌, map, true, Option, None, Some, codes, unwrap_or, option_and_then, if◌then◌else◌}
+use Rattle.std.specs.Prelude.{Bool, List, [], ◌∷◌, map, true, Option, None, Some, codes, unwrap_or, option_and_then, if◌then◌else◌}
 use Rattle.std.specs.Str.{bytes_eq}
 use Rattle.clap.specs.Words.{App, Row, Rule, Shape, Text, all_of, first_of, new_app, new_rule, subcommand_of, with_rule, with_subcommand}
 use Rattle.clap.specs.Simple.{on_top}
@@ -38,6 +38,14 @@ drive_line name =
     (option_rule (codes "msid") (codes "4f50414c4d534944")))
     (option_rule (codes "profile") (codes "base")))
 
+-- `--name`
+abbrev pub flag_rule : Text → Rule
+flag_rule name = record (new_rule name) { long = Some name; action = Some SetTrue }
+
+-- `run`, with the options of a drive, and with reasons or without
+abbrev pub run_line : App
+run_line = with_rule (drive_line (codes "run")) (flag_rule (codes "explain"))
+
 -- `--range TEXT`, as often as it is wanted
 abbrev pub range_rule : Rule
 range_rule = record (new_rule (codes "range")) {
@@ -59,10 +67,6 @@ threads_line =
 -- an argument that is wanted
 abbrev pub required_rule : Text → Rule
 required_rule name = record (new_rule name) { value_names = 1; required = true }
-
--- `--name`
-abbrev pub flag_rule : Text → Rule
-flag_rule name = record (new_rule name) { long = Some name; action = Some SetTrue }
 
 -- `tokens HEX`, with names or without
 abbrev pub tokens_line : App
@@ -98,12 +102,12 @@ opalport_line =
     (with_subcommand
     (with_subcommand
     (with_subcommand top_line
-    (drive_line (codes "run")).top) (drive_line (codes "level0")).top) threads_line.top)
+    run_line.top) (drive_line (codes "level0")).top) threads_line.top)
     tokens_line.top) decode_line.top) hba_line.top
 
 -- what words ask for, by the texts as they are written
 pub data Wanted : Type 0 where
-  run : DriveText → Wanted
+  run : Bool → DriveText → Wanted
   level0 : DriveText → Wanted
   threads : Text → Text → Wanted
   tokens : Text → Naming → Wanted
@@ -112,7 +116,7 @@ pub data Wanted : Type 0 where
 
 -- what a request asks for
 abbrev pub wanted_by : Request → Wanted
-wanted_by (Run drive) = run (drive_text drive)
+wanted_by (Run texts) = run texts.explains (drive_text texts.drive)
 wanted_by (Level0 drive) = level0 (drive_text drive)
 wanted_by (Threads load) = threads load.clients.now load.rounds.now
 wanted_by (Tokens tokens_asked) = tokens tokens_asked.hex.now tokens_asked.naming
@@ -140,15 +144,18 @@ drive_in rows = record {
 abbrev pub range_texts : List Row → List Text
 range_texts rows = unwrap_or (all_of (codes "range") rows) []
 
+-- whether a flag is set
+abbrev pub has_flag : Text → List Row → Bool
+has_flag name rows = bytes_eq (text_of name rows) (codes "true")
+
 -- names, where the flag is set
 abbrev pub naming_in : List Row → Naming
-naming_in rows =
-    if bytes_eq (text_of (codes "names") rows) (codes "true") then Names else Numbers
+naming_in rows = if has_flag (codes "names") rows then Names else Numbers
 
 -- what a subcommand with these arguments asks for
 abbrev pub asked_of : Text × List Row → Option Wanted
 asked_of (name, rows) =
-    if bytes_eq name (codes "run") then Some (run (drive_in rows))
+    if bytes_eq name (codes "run") then Some (run (has_flag (codes "explain") rows) (drive_in rows))
     else if bytes_eq name (codes "level0") then Some (level0 (drive_in rows))
     else if bytes_eq name (codes "threads")
     then Some (threads (text_of (codes "clients") rows) (text_of (codes "rounds") rows))

@@ -1,5 +1,5 @@
 -- How the program ends, by the words of its command line.
-use Rattle.std.specs.Prelude.{◌≡◌, ◌≢◌, ◌≤◌, ◌⊎◌, ℕ, List, [], ◌∷◌, ◌++◌, Option, None, Some, Ok, Err}
+use Rattle.std.specs.Prelude.{◌≡◌, ◌≢◌, ◌≤◌, ◌⊎◌, ℕ, Bool, List, [], ◌∷◌, ◌++◌, Option, None, Some, Ok, Err}
 use Rattle.std.specs.Io.KnownBytes.{Appends}
 use Rattle.hex.specs.Hex.{decode_of}
 use Rattle.hex.specs.declared.error.FromHexError.{FromHexError}
@@ -8,7 +8,7 @@ use Rattle.port_threads.specs.Loads.{WritesLoad, IsFirstLoadFault}
 use Rattle.port_threads.specs.Works.{Ran}
 use Rattle.port_threads.specs.declared.load.LoadFault.{LoadFault}
 use Rattle.tool.specs.OptionTexts.{DriveText, WritesConfig, IsOfDrive}
-use Rattle.tool.specs.Outcomes.{ScriptYields}
+use Rattle.tool.specs.Outcomes.{YieldsBy}
 use Rattle.tool.specs.Level0.{level0_text}
 use Rattle.tool.specs.TokenLines.{token_text}
 use Rattle.tool.specs.declared.tokens.Naming.{Naming}
@@ -25,12 +25,13 @@ use Rattle.opalport.specs.CommandLine.{Wanted, run, level0, threads, tokens, dec
 abbrev pub WritesLimitedConfig : DriveText → Type 0
 WritesLimitedConfig texts = (config : Config) × WritesConfig texts config × IsOfDrive config
 
--- the script prints what it comes to on the drive of the options; where the options open no
--- drive, the status is 2, and nothing is printed
-abbrev pub RunEnds : DriveText → Option (List ℕ) → ℕ → Option (List ℕ) → Option (List ℕ) → Type 0
-RunEnds texts input status old new =
+-- the script prints what it comes to on the drive of the options, with reasons or without; where the
+-- options open no drive, the status is 2, and nothing is printed
+abbrev pub RunEnds : Bool → DriveText → Option (List ℕ) → ℕ → Option (List ℕ) → Option (List ℕ)
+    → Type 0
+RunEnds explains texts input status old new =
     ((config : Config) × WritesConfig texts config × IsOfDrive config
-    × ScriptYields config input status old new)
+    × YieldsBy explains config input status old new)
     ⊎ ((WritesLimitedConfig texts → ⊥) × (status ≡ 2) × (new ≡ old))
 
 -- the discovery of a new drive is printed with status 0; where the options open no drive, the status is 2, and nothing
@@ -87,8 +88,8 @@ pub record EndsByWords (kind : ErrorKind) (status : ℕ) (old new : Option (List
 abbrev pub Serves : {R W : Type 0} → (R → Option (List ℕ)) → (W → Option (List ℕ)) → Option Wanted
     → Option (List ℕ) → ℕ → Option (List ℕ) → Option (List ℕ) → Type 0
 Serves remaining contents None input status old new = status ≡ 2
-Serves remaining contents (Some (run texts)) input status old new =
-    RunEnds texts input status old new
+Serves remaining contents (Some (run explains texts)) input status old new =
+    RunEnds explains texts input status old new
 Serves remaining contents (Some (level0 texts)) input status old new =
     Level0Ends texts status old new
 Serves remaining contents (Some (threads clients rounds)) input status old new =

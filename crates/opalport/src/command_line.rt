@@ -3,13 +3,21 @@
 ghost use Rattle.std.specs.Prelude.{◌≡◌, IfOk, false, map, option_map, option_and_then, string_bytes, codes};
 ghost use Rattle.clap.specs.Words.{FailsBy, app_of, fault_of, found_of, rows_of, rule_of, subcommand_rows_of};
 ghost use Rattle.tool.specs.OptionTexts.{drive_text};
-ghost use Rattle.opalport.specs.CommandLine.{top_line, option_rule, free_rule, required_rule, flag_rule, drive_line, drive_in, hba_line, range_rule, range_texts, optional_rule, threads_line, tokens_line, decode_line, opalport_line, text_of, naming_in, wanted_by, asked_of, asked_by};
+ghost use Rattle.opalport.specs.CommandLine.{top_line, option_rule, free_rule, required_rule, flag_rule, drive_line, drive_in, hba_line, run_line, has_flag, range_rule, range_texts, optional_rule, threads_line, tokens_line, decode_line, opalport_line, text_of, naming_in, wanted_by, asked_of, asked_by};
 
 use crate::controller_help::LINES as CONTROLLER_LINES;
 use crate::decode_help::KINDS;
 use clap::{Arg, ArgAction, ArgMatches, Command, Error};
 use std::alloc::{AllocError, Global};
 use tool::{DriveTexts, Naming};
+
+/// The options of a run, as they are written.
+#[derive(Clone, Copy)]
+pub struct RunTexts<'a> {
+    pub drive: DriveTexts<'a>,
+    /// Whether each refusal is told with its reason.
+    pub explains: bool,
+}
 
 /// The options that say how many clients make how many rounds, as they are written.
 #[derive(Clone, Copy)]
@@ -46,7 +54,7 @@ pub struct DecodeTexts<'a> {
 #[derive(Drop)]
 pub enum Request<'a> {
     /// To run a script on a drive.
-    Run(DriveTexts<'a>),
+    Run(RunTexts<'a>),
     /// To print the Level 0 discovery of a new drive.
     Level0(DriveTexts<'a>),
     /// To run clients and an engine at one port, each in a thread of its own.
@@ -175,6 +183,18 @@ fn drive_command<'a>(
         .arg(model)?
         .arg(psid)?
         .arg(datastore)
+}
+
+/// The command that runs a script, with the options that say on which drive, and whether it tells reasons.
+fn run_command<'a>(alloc: Global) -> Result<Command<'a>, AllocError>
+    ensures { IfOk result (λ command. app_of command ≡ run_line) }
+{
+    let explain = flag(
+        alloc,
+        "explain",
+        "Tells each refusal with its reason, and what would lift it",
+    );
+    drive_command(alloc, "run", "Runs a script from standard input", LINES)?.arg(explain)
 }
 
 /// The command that runs clients and an engine at one port, with the options that say how many.
@@ -311,7 +331,7 @@ fn command<'a>(alloc: Global) -> Result<Command<'a>, AllocError>
     ensures { IfOk result (λ command. app_of command ≡ opalport_line) }
 {
     top_command(alloc)
-        .subcommand(drive_command(alloc, "run", "Runs a script from standard input", LINES)?)?
+        .subcommand(run_command(alloc)?)?
         .subcommand(drive_command(
             alloc,
             "level0",
@@ -347,6 +367,25 @@ fn drive_texts<'a>(matches: &ArgMatches<'a>) -> DriveTexts<'a>
     }
 }
 
+/// Whether a flag is set.
+fn has_flag(matches: &ArgMatches<'_>, name: &str) -> bool
+    ensures { result ≡ has_flag name.now (rows_of (found_of matches.now)) }
+{
+    text_of(matches, name) == "true"
+}
+
+/// The options of a run.
+fn run_texts<'a>(matches: &ArgMatches<'a>) -> RunTexts<'a>
+    ensures drive { drive_text result.drive ≡ drive_in (rows_of (found_of matches.now)) }
+    ensures explains { result.explains
+        ≡ has_flag (codes "explain") (rows_of (found_of matches.now)) }
+{
+    RunTexts {
+        drive: drive_texts(matches),
+        explains: has_flag(matches, "explain"),
+    }
+}
+
 /// The options that say how many clients make how many rounds.
 fn load_texts<'a>(matches: &ArgMatches<'a>) -> LoadTexts<'a>
     ensures clients { result.clients.now
@@ -364,7 +403,7 @@ fn token_texts<'a>(matches: &ArgMatches<'a>) -> TokenTexts<'a>
     ensures hex { result.hex.now ≡ text_of (codes "hex") (rows_of (found_of matches.now)) }
     ensures naming { result.naming ≡ naming_in (rows_of (found_of matches.now)) }
 {
-    let naming = if text_of(matches, "names") == "true" {
+    let naming = if has_flag(matches, "names") {
         Naming::Names
     } else {
         Naming::Numbers
@@ -410,7 +449,7 @@ fn request_in<'a>(
         return Ok(None);
     };
     match name {
-        "run" => Ok(Some(Request::Run(drive_texts(matches)))),
+        "run" => Ok(Some(Request::Run(run_texts(matches)))),
         "level0" => Ok(Some(Request::Level0(drive_texts(matches)))),
         "threads" => Ok(Some(Request::Threads(load_texts(matches)))),
         "tokens" => Ok(Some(Request::Tokens(token_texts(matches)))),

@@ -5,7 +5,7 @@ ghost use Rattle.clap.specs.Words.{kind_of};
 ghost use Rattle.tool.specs.OptionTexts.{drive_text};
 ghost use Rattle.opalport.specs.Program.{EndsByWords, RunEnds, Level0Ends, ThreadsEnd, TokensEnd, Ends};
 
-use crate::command_line::{LoadTexts, Request, TokenTexts, request_of};
+use crate::command_line::{LoadTexts, Request, RunTexts, TokenTexts, request_of};
 use crate::controller::serve_controller;
 use crate::error::ProgramError;
 use clap::error::ErrorKind;
@@ -16,23 +16,26 @@ use std::io::{Read, Write};
 use std::sync::Wait;
 use std::thread::Threads;
 use tool::{
-    DriveTexts, Options, OptionsFault, RunError, run_level0, run_script_with_faults,
-    run_tokens_with_faults,
+    DriveTexts, Options, OptionsFault, RunError, run_explained_script, run_level0,
+    run_script_with_faults, run_tokens_with_faults,
 };
 
 /// Runs a script on the drive that the options open, and gives the status.
 fn run<R: Read + Drop, W: Write, E: Write>(
     alloc: Global,
-    drive: &DriveTexts<'_>,
+    texts: &RunTexts<'_>,
     input: R,
     output: &mut W,
     faults: &mut E,
 ) -> Result<u8, RunError>
     ensures most { IfOk result (λ status. status ≤ 2) }
-    ensures ends { IfOk result (λ status. RunEnds (drive_text drive.now) (R.remaining input)
-        status (W.contents output.old) (W.contents output.new)) }
+    ensures ends { IfOk result (λ status. RunEnds texts.now.explains (drive_text texts.now.drive)
+        (R.remaining input) status (W.contents output.old) (W.contents output.new)) }
 {
-    match Options::parse(alloc, drive) {
+    match Options::parse(alloc, &texts.drive) {
+        Ok(options) if texts.explains => {
+            run_explained_script(alloc, input, output, faults, &options)
+        }
         Ok(options) => run_script_with_faults(alloc, input, output, faults, &options),
         Err(OptionsFault::OutOfMemory) => Err(RunError::Memory),
         Err(fault) => {
@@ -146,7 +149,7 @@ pub fn ends<T: Threads + Wait + Sync, R: Read + Drop, W: Write, E: Write>(
         (R.remaining input) status (W.contents output.old) (W.contents output.new)) }
 {
     match request_of(alloc, words) {
-        Ok(Some(Request::Run(drive))) => Ok(run(alloc, &drive, input, output, faults)?),
+        Ok(Some(Request::Run(texts))) => Ok(run(alloc, &texts, input, output, faults)?),
         Ok(Some(Request::Level0(drive))) => Ok(level0(alloc, &drive, output, faults)?),
         Ok(Some(Request::Threads(load))) => Ok(threads(rt, alloc, &load, output, faults)?),
         Ok(Some(Request::Tokens(texts))) => Ok(tokens(alloc, &texts, output, faults)?),

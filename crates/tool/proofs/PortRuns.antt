@@ -1,12 +1,19 @@
 -- What a line of a port script leaves of its port.
 use Rattle.std.proofs.Common.{◌≡◌, ℕ, ◌+◌, ◌<◌, List, [], ◌∷◌, ◌++◌, length, reverse, Option, Some, None, Result, Ok, Err, OnOk, OnErr, IfOk, sym, ap, subst, ◌∙◌, append_assoc, inl, inr, arith, ltb-true}
-use Rattle.std.specs.Prelude.{slice_get, unwrap_or}
+use Rattle.std.specs.Prelude.{slice_get, unwrap_or, option_map}
 use Rattle.std.proofs.lemmas.List.{append-nil, reverse-append, length-append}
 use Rattle.std.proofs.lemmas.Option.{slice_get_past, slice_get_read}
 use Rattle.std.proofs.Math.Seq.{get_or-append_seam}
 use Rattle.audit.specs.declared.reason.AuditLine.{AuditLine}
 use Rattle.audit.specs.declared.reason.Why.{Why}
 use Rattle.history.specs.Opening.{Origin}
+use Rattle.history.specs.History.{log}
+use Rattle.history.specs.Readers.{in_force}
+use Rattle.sp_cells.specs.Config.{Config}
+use Rattle.sp_cells.specs.Flat.{LookUp}
+use Rattle.transactions.specs.Sights.{look_up, committed_sight}
+use Rattle.history.proofs.KeptStoreReads.{store_read_law}
+use Rattle.explaining.specs.PortReasons.{acceptance_text, accepted_now, accepted_text, denied_in, line_denial, step_refusal_text}
 use Rattle.port.specs.Agreement.{PortAgrees}
 use Rattle.fis.specs.Tags.{slot_count}
 use Rattle.port.specs.Answers.{stage_at}
@@ -15,7 +22,7 @@ use Rattle.port_history.specs.Refusals.{refusal, IsRefusedBy}
 use Rattle.port_history.specs.Requests.{no_bytes}
 use Rattle.port_history.specs.Stages.{put_at}
 use Rattle.history.specs.Audit.{line_for}
-use Rattle.port_history.specs.Steps.{Effect, moment, trace, stage, answer, audit, line_of, client_of}
+use Rattle.port_history.specs.Steps.{Effect, acts, moment, trace, stage, answer, audit, line_of, client_of}
 use Rattle.port_history.specs.declared.error.PortError.{PortError}
 use Rattle.port_history.specs.declared.request.Answer.{Answer}
 use Rattle.port_history.specs.declared.stages.Put.{Put}
@@ -24,7 +31,7 @@ use Rattle.port_history.specs.declared.step.Step.{Step}
 use Rattle.port_history.specs.declared.step.Step.TheVariants as steps
 use Rattle.script_lines.specs.Texts.{Prints, printed, last_of, done_text, denial_lines}
 use Rattle.script_lines.specs.declared.report.Report.{Report}
-use Rattle.tool.specs.PortEffects.{PortHas, PortRunsOn, PrintsError, PrintsStep, refused_lines, step_lines, stepped, step_effect, audit_lines, accepted_lines, taken_text}
+use Rattle.tool.specs.PortEffects.{PortHas, PortRunsOn, PrintsError, PrintsStep, refused_lines, step_lines, stepped, step_effect, audit_lines, accepted_lines, taken_text, told_behind_step, reasons_by}
 use Rattle.tool.specs.declared.port_phase.PortPhase.{PortPhase}
 
 -- a line, and lines behind it
@@ -211,3 +218,77 @@ take-so (Err error) old new o list client tag at put before after is puts refuse
     answers prints runs =
     step-so (ℕ × Answer) (λ (r : ℕ × Answer). taken_text put r.1) (Err error) old new o list
     (steps.Take client tag) before after refused agrees kept tt prints runs
+
+-- what denied an accepted command, by the line of the audit log that came
+denied-so : (number : ℕ) (served : Option Put) (effect : Option Effect) (past : List AuditLine)
+    → line_denial
+    (slice_get (reverse (line_of number served effect ++ past)) (length (reverse past)))
+    ≡ denied_in effect
+denied-so number served None past =
+    ap line_denial (slice_get_past (reverse past) (length (reverse past)) (omega arith))
+denied-so number served (Some e) past = by_reason e.event.denied
+  where
+    by_reason : (why : Option Why)
+        → line_denial (slice_get
+        (reverse (line_for number (client_of served) why ++ past)) (length (reverse past)))
+        ≡ why
+    by_reason None =
+        ap line_denial (slice_get_past (reverse past) (length (reverse past)) (omega arith))
+    by_reason (Some why) =
+        let x : AuditLine = record { step = number; client = client_of served; why = why } in
+        ap line_denial
+        (ap (λ (log : List AuditLine). slice_get log (length (reverse past)))
+        (reverse-append (x ∷ []) past)
+        ∙ slice_get_read (reverse past ++ x ∷ []) (length (reverse past) + 1)
+        (length (reverse past)) x
+        (sym (length-append (reverse past) (x ∷ []))) (omega arith)
+        (sym (get_or-append_seam (reverse past) x [] x)))
+
+-- what is told of an accepted command is what the steps say
+accepted-so : (old new : PortState) (o : Origin) (list : List Step) (tag : ℕ)
+    → PortAgrees old o list → PortAgrees new o (steps.Accept tag ∷ list)
+    → accepted_now new (length old.audit) ≡ accepted_text o list tag
+accepted-so old new o list tag was now =
+    let later = steps.Accept tag ∷ list in
+    let ms = trace o list in
+    let m = moment o ms (steps.Accept tag) in
+    ap (λ (c : Config). acceptance_text c.profile (look_up (committed_sight new.drive.tper.store))
+    (line_denial (slice_get new.audit (length old.audit))) new.rule) now.drive.tper.store.config
+    ∙ ap (λ (rows : LookUp). acceptance_text o.tables.config.profile rows
+    (line_denial (slice_get new.audit (length old.audit))) new.rule)
+    (store_read_law new.drive.tper.store o (log o (acts o later)) now.drive.tper.store).rows
+    ∙ ap (λ (line : Option AuditLine). acceptance_text o.tables.config.profile
+    (in_force o (log o (acts o later))) (line_denial line) new.rule)
+    (ap (λ (log : List AuditLine). slice_get log (length old.audit)) now.log
+    ∙ ap (λ (log : List AuditLine). slice_get
+    (reverse (line_of (1 + length ms) m.served m.effect ++ audit ms)) (length log)) was.log)
+    ∙ ap (λ (denied : Option Why). acceptance_text o.tables.config.profile
+    (in_force o (log o (acts o later))) denied new.rule)
+    (denied-so (1 + length ms) m.served m.effect (audit ms))
+    ∙ ap (acceptance_text o.tables.config.profile (in_force o (log o (acts o later)))
+    (denied_in m.effect)) now.rule
+
+-- and so is what is told behind any step
+pub behind-so : (refused : Option PortError) (text : Option (List ℕ)) (old new : PortState) (o : Origin)
+    (list : List Step) (step : Step)
+    → text ≡ option_map (step_refusal_text (trace o list) step) refused
+    → PortAgrees old o list
+    → PortAgrees new o (stepped o list step refused).steps
+    → told_behind_step text step new (length old.audit) ≡ reasons_by o list step refused
+behind-so (Some error) text old new o list step is was now =
+    ap (λ (t : Option (List ℕ)). told_behind_step t step new (length old.audit)) is
+behind-so None text old new o list (steps.Accept tag) is was now =
+    ap (λ (t : Option (List ℕ)). told_behind_step t (steps.Accept tag) new (length old.audit)) is
+    ∙ accepted-so old new o list tag was now
+behind-so None text old new o list (steps.Put client tag request) is was now =
+    ap (λ (t : Option (List ℕ)). told_behind_step t (steps.Put client tag request) new (length old.audit)) is
+behind-so None text old new o list (steps.Issue tag) is was now =
+    ap (λ (t : Option (List ℕ)). told_behind_step t (steps.Issue tag) new (length old.audit)) is
+behind-so None text old new o list (steps.Complete tag) is was now =
+    ap (λ (t : Option (List ℕ)). told_behind_step t (steps.Complete tag) new (length old.audit)) is
+behind-so None text old new o list (steps.Reset client kind) is was now =
+    ap (λ (t : Option (List ℕ)). told_behind_step t (steps.Reset client kind) new (length old.audit)) is
+behind-so None text old new o list (steps.Take client tag) is was now =
+    ap (λ (t : Option (List ℕ)). told_behind_step t (steps.Take client tag) new (length old.audit)) is
+behind-so None text old new o list steps.Recover is was now =
+    ap (λ (t : Option (List ℕ)). told_behind_step t steps.Recover new (length old.audit)) is

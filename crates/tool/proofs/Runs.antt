@@ -1,5 +1,5 @@
 -- What a line leaves of a run.
-use Rattle.std.proofs.Common.{◌≡◌, ℕ, Bool, true, List, [], ◌∷◌, refl, OnOk, IfOk, Result, Ok, Err, subst, sym, ap, ◌∙◌, ◌+◌, ◌%◌, ◌^◌}
+use Rattle.std.proofs.Common.{◌≡◌, ℕ, Bool, true, false, List, [], ◌∷◌, refl, OnOk, IfOk, Result, Ok, Err, subst, sym, ap, ◌∙◌, ◌+◌, ◌%◌, ◌^◌}
 use Rattle.std.specs.Prelude.{if◌then◌else◌, ◌==◌, Option, None, Some, unwrap_or}
 use Rattle.history.specs.Opening.{Origin}
 use Rattle.history.specs.History.{Act, Accept, log, event}
@@ -10,6 +10,7 @@ use Rattle.tool.specs.Courses.{start}
 use Rattle.tool.specs.Openings.{origin_of, OpensBy, TurnStands}
 use Rattle.locking.specs.declared.range.RangeRow.{RangeRow}
 use Rattle.history.specs.Events.{Event}
+use Rattle.tool.specs.declared.head.Head.{Head}
 use Rattle.tool.specs.declared.opening.OpeningPhase.{OpeningPhase}
 use Rattle.tool.specs.declared.opening.OpeningTurn.{OpeningTurn}
 use Rattle.tool.specs.declared.opening.OpeningTurn.TheVariants as openings
@@ -19,10 +20,12 @@ use Rattle.fis.specs.H2d.{h2d_at, IsH2dSpelling}
 use Rattle.trusted_cmds.specs.Commands.{fis_of}
 use Rattle.history.specs.Facts.{Facts, facts}
 use Rattle.fis.specs.declared.h2d.RegH2d.{RegH2d}
-use Rattle.script_lines.specs.Texts.{Prints, command_failure_text, denial_lines}
+use Rattle.script_lines.specs.Texts.{Prints, command_failure_text, denial_lines, refusal_lines}
 use Rattle.drive.specs.State.{Agrees}
 use Rattle.drive.specs.Answers.{IsAnswer}
-use Rattle.tool.specs.Effects.{LineEffect, RunsOn, IsReached, Has, Accepts, completion_effect, failure_effect, transferred, served_text, answer_text, told_lines, command_effect, Does}
+use Rattle.explaining.specs.Explanations.{once_served}
+use Rattle.port_history.specs.Requests.{command_fis}
+use Rattle.tool.specs.Effects.{LineEffect, RunsOn, IsReached, Has, Accepts, Answered, completion_effect, failure_effect, transferred, served_text, answer_text, told_lines, command_effect, Does}
 use Rattle.drive.specs.declared.answer.Accepted.{Accepted}
 use Rattle.script_lines.specs.declared.line.Transfer.{Transfer}
 use Rattle.history.specs.Answers.{errored as failed_status, status_of, is_holding}
@@ -81,14 +84,14 @@ stands-after (Ok turn) line text old new before after (o, acts, runs) does =
 stands-after (Err e) line text old new before after stands does = does
 
 -- what a line opens is as its origin leaves it, with nothing done
-pub opened-stands : (on_port : Bool) (phase : OpeningPhase) (row : Option RangeRow)
-    (turn : OpeningTurn) → OpensBy on_port phase row turn → TurnStands turn
-opened-stands on_port phase (Some row) (openings.Goes next) does = tt
-opened-stands on_port phase (Some row) (openings.Runs run) does = absurd does
-opened-stands on_port phase (Some row) (openings.Bad fault) does = tt
-opened-stands on_port phase None (openings.Goes next) does = tt
-opened-stands on_port phase None (openings.Runs run) does = (origin_of phase, start on_port, does)
-opened-stands on_port phase None (openings.Bad fault) does = tt
+pub opened-stands : (head : Head) (phase : OpeningPhase) (row : Option RangeRow)
+    (turn : OpeningTurn) → OpensBy head phase row turn → TurnStands turn
+opened-stands head phase (Some row) (openings.Goes next) does = tt
+opened-stands head phase (Some row) (openings.Runs run) does = absurd does
+opened-stands head phase (Some row) (openings.Bad fault) does = tt
+opened-stands head phase None (openings.Goes next) does = tt
+opened-stands head phase None (openings.Runs run) does = (origin_of phase, start head.explains head.on_port, does)
+opened-stands head phase None (openings.Bad fault) does = tt
 
 -- what holds of what was made holds of what was asked for
 pub of-same : {E A : Type 0} (r : Result Turn E) (P : A → Turn → Type 0) (made asked : A)
@@ -125,6 +128,40 @@ held-then new mid o acts command transfer byte before after accepted payload non
     (λ h. Has new o before after
     (if h then completion_effect o later transfer.tag byte else failure_effect later transfer.client made))
     (sym is_held) (serves o later at.runs)
+
+-- a transfer that is not held has failed
+pub failed-then : (new mid : RunningPhase) (o : Origin) (acts : List Act) (command : Command)
+    (transfer : Transfer) (byte : ℕ) (before after : Report)
+    (accepted : Accepted) (payload : List ℕ) → payload ≡ [] → accepted.held ≡ false
+    → Accepts mid o acts command transfer.tag payload accepted
+    → RunsOn new o (accept_of command transfer.tag payload ∷ acts)
+    → Prints before after
+    (refusal_lines new.acts transfer.client accepted.status accepted.error accepted.denied)
+    → Has new o before after (transferred o acts command transfer byte)
+failed-then new mid o acts command transfer byte before after accepted payload none held accepts runs prints =
+    let at =
+    subst (λ payload. Accepts mid o acts command transfer.tag payload accepted) none accepts in
+    let made = event o (log o acts) (accept_of command transfer.tag []) in
+    let is_held : is_holding made.deed ≡ false = sym at.answer.held ∙ held in
+    let later = accept_of command transfer.tag [] ∷ acts in
+    let now = subst (λ (payload : List ℕ). RunsOn new o (accept_of command transfer.tag payload ∷ acts)) none runs in
+    subst
+    (λ h. Has new o before after
+    (if h then completion_effect o later transfer.tag byte else failure_effect later transfer.client made))
+    (sym is_held) (record {
+      runs = now;
+      prints = subst (λ lines. Prints before after lines)
+          (ap (λ step. refusal_lines step transfer.client accepted.status accepted.error accepted.denied) now.1
+          ∙ ap (λ status. refusal_lines (step_of later) transfer.client status accepted.error accepted.denied)
+          at.answer.status
+          ∙ ap
+          (λ error. refusal_lines (step_of later) transfer.client (status_of made.failed) error accepted.denied)
+          at.answer.error
+          ∙ ap
+          (refusal_lines (step_of later) transfer.client (status_of made.failed) (unwrap_or made.failed 0))
+          at.answer.denied)
+          prints;
+    })
 
 -- a drive that was given the bytes of a command's FIS has accepted the command
 pub accepts-so : (new : RunningPhase) (n : ℕ) (o : Origin) (acts : List Act) (command : Command)
@@ -197,3 +234,75 @@ command-then new o acts client command tag given payload before after answer non
     (subst (λ tag. Accepts new o acts command tag payload answer) none
     (subst (λ (bytes : List ℕ). Accepts new o acts command tag bytes answer) same accepts))
     prints
+
+-- the answer at hand is that of a command, which was held and is completed, or was not
+answered-by : (run : RunningPhase) (o : Origin) (acts : List Act) (command : Command) (tag : ℕ)
+    (payload : List ℕ) (held : Bool) (bytes : List ℕ) (answer : Accepted)
+    → run.payload.items ≡ payload → run.completed ≡ held → run.answer.denied ≡ answer.denied
+    → run.answer.rule ≡ answer.rule
+    → IsAnswer (facts o (log o acts)) (fis_of command tag)
+    (event o (log o acts) (accept_of command tag payload)) answer
+    → Answered run o acts (once_served held (command_fis command tag) payload tag bytes acts)
+answered-by run o acts command tag payload held bytes answer same so denied ruled is =
+    let fis = command_fis command tag in
+    record {
+      fis = fis;
+      tag = tag;
+      bytes = bytes;
+      acts = ap (λ (b : Bool). once_served b fis payload tag bytes acts) (sym so)
+          ∙ ap (λ (p : List ℕ). once_served run.completed fis p tag bytes acts) (sym same);
+      denied = denied ∙ is.denied
+          ∙ ap (λ (p : List ℕ). (event o (log o acts) (Accept fis p)).denied) (sym same);
+      rule = ruled ∙ is.rule
+          ∙ ap (λ (p : List ℕ). (event o (log o acts) (Accept fis p)).rule) (sym same);
+    }
+
+-- of a transfer that is held and completed
+pub answered-held : (run mid : RunningPhase) (o : Origin) (acts : List Act) (command : Command)
+    (transfer : Transfer) (byte : ℕ) (payload : List ℕ) (answer : Accepted) → payload ≡ []
+    → answer.held ≡ true → run.payload.items ≡ payload → run.completed ≡ true → run.answer ≡ answer
+    → Accepts mid o acts command transfer.tag payload answer
+    → Answered run o acts (transferred o acts command transfer byte).acts
+answered-held run mid o acts command transfer byte payload answer none held same done answers accepts =
+    let at =
+    subst (λ payload. Accepts mid o acts command transfer.tag payload answer) none accepts in
+    let made = event o (log o acts) (accept_of command transfer.tag []) in
+    let is_held : is_holding made.deed ≡ true = sym at.answer.held ∙ held in
+    let later = accept_of command transfer.tag [] ∷ acts in
+    subst
+    (λ (h : Bool). Answered run o acts
+    (if h then completion_effect o later transfer.tag byte else failure_effect later transfer.client made).acts)
+    (sym is_held)
+    (answered-by run o acts command transfer.tag [] true _ answer (same ∙ none) done
+    (ap (λ (a : Accepted). a.denied) answers) (ap (λ (a : Accepted). a.rule) answers) at.answer)
+
+-- of one that is not
+pub answered-failed : (run mid : RunningPhase) (o : Origin) (acts : List Act) (command : Command)
+    (transfer : Transfer) (byte : ℕ) (payload : List ℕ) (answer : Accepted) → payload ≡ []
+    → answer.held ≡ false → run.payload.items ≡ payload → run.completed ≡ false → run.answer ≡ answer
+    → Accepts mid o acts command transfer.tag payload answer
+    → Answered run o acts (transferred o acts command transfer byte).acts
+answered-failed run mid o acts command transfer byte payload answer none held same done answers accepts =
+    let at =
+    subst (λ payload. Accepts mid o acts command transfer.tag payload answer) none accepts in
+    let made = event o (log o acts) (accept_of command transfer.tag []) in
+    let is_held : is_holding made.deed ≡ false = sym at.answer.held ∙ held in
+    let later = accept_of command transfer.tag [] ∷ acts in
+    subst
+    (λ (h : Bool). Answered run o acts
+    (if h then completion_effect o later transfer.tag byte else failure_effect later transfer.client made).acts)
+    (sym is_held)
+    (answered-by run o acts command transfer.tag [] false [] answer (same ∙ none) done
+    (ap (λ (a : Accepted). a.denied) answers) (ap (λ (a : Accepted). a.rule) answers) at.answer)
+
+-- of a command that is not queued
+pub answered-command : (run mid : RunningPhase) (o : Origin) (acts : List Act) (client : ℕ) (command : Command)
+    (tag : ℕ) (given payload : List ℕ) (answer : Accepted) → tag ≡ 0 → given ≡ payload
+    → run.payload.items ≡ payload → run.completed ≡ false → run.answer.denied ≡ answer.denied
+    → run.answer.rule ≡ answer.rule → Accepts mid o acts command tag given answer
+    → Answered run o acts (command_effect o acts client command payload).acts
+answered-command run mid o acts client command tag given payload answer none same kept done denied ruled accepts =
+    let at =
+    subst (λ tag. Accepts mid o acts command tag payload answer) none
+    (subst (λ (bytes : List ℕ). Accepts mid o acts command tag bytes answer) same accepts) in
+    answered-by run o acts command 0 payload false [] answer kept done denied ruled at.answer

@@ -10,12 +10,13 @@ use Rattle.compacket.specs.Spelling.{frame_bytes}
 use Rattle.history.specs.Opening.{Origin}
 use Rattle.history.specs.Events.{Event}
 use Rattle.history.specs.Facts.{facts}
-use Rattle.history.specs.History.{Act, log, event}
+use Rattle.history.specs.History.{Act, Accept, log, event}
 use Rattle.history.specs.Readers.{held, failure}
 use Rattle.history.specs.Answers.{errored as failed_status, status_of, is_holding, completed_data}
 use Rattle.history.specs.Tcg.{answer_data}
 use Rattle.history.specs.Decisions.{discovery_com_id}
 use Rattle.drive.specs.State.{Agrees}
+use Rattle.explaining.specs.Explanations.{once_served}
 use Rattle.drive.specs.Answers.{IsAnswer}
 use Rattle.drive.specs.declared.answer.Accepted.{Accepted}
 use Rattle.script_lines.specs.Texts.{Prints, done_text, data_text, hex_text, command_failure_text, denial_lines, refusal_lines}
@@ -176,6 +177,17 @@ effect_of o acts (lines.TperReset client) = command_effect o acts client tper_re
 effect_of o acts lines.Expect = record { acts = acts; lines = [] }
 effect_of o acts (lines.Range row) = record { acts = acts; lines = [] }
 
+-- the answer and the payload at hand are those of the command that these acts do: they are its
+-- acceptance, and where it is held its completion
+pub record Answered (run : RunningPhase) (o : Origin) (before after : List Act) : Type 0 where
+  pub fis : List ℕ
+  pub tag : ℕ
+  pub bytes : List ℕ
+  pub acts : after ≡ once_served run.completed fis run.payload.items tag bytes before
+  pub denied : run.answer.denied
+      ≡ (event o (log o before) (Accept fis run.payload.items)).denied
+  pub rule : run.answer.rule ≡ (event o (log o before) (Accept fis run.payload.items)).rule
+
 -- behind a command a script goes on; that the failed queue aborts it is told only where the queue
 -- has failed
 abbrev pub GoesTruly : Turn → List Event → Type 0
@@ -188,7 +200,7 @@ abbrev pub Makes : (Origin → List Act → LineEffect) → RunningPhase → Run
     → Turn → Type 0
 Makes effect old new before after turn =
     (o : Origin) (acts : List Act) → RunsOn old o acts → Has new o before after (effect o acts)
-    × GoesTruly turn (log o acts)
+    × GoesTruly turn (log o acts) × Answered new o acts (effect o acts).acts
 
 -- an expectation is held against the last printed line, and a range line comes too late; neither
 -- acts or prints
@@ -200,5 +212,14 @@ Does lines.Expect text turn old new o acts before after =
     (if bytes_eq before.last.items (expected_text text) then Goes false else ExpectationFailed))
 Does (lines.Range row) text turn old new o acts before after = (new ≡ old) × (after ≡ before)
     × (turn ≡ Bad LateRange)
+Does (lines.Reset client kind) text turn old new o acts before after =
+    Has new o before after (reset_effect acts kind) × GoesTruly turn (log o acts)
 Does line text turn old new o acts before after = Has new o before after (effect_of o acts line)
-    × GoesTruly turn (log o acts)
+    × GoesTruly turn (log o acts) × Answered new o acts (effect_of o acts line).acts
+
+-- what a line that was done has done: a reset its act, a command what its answer says
+abbrev pub Acted : told.Line → RunningPhase → Origin → List Act → List Act → Type 0
+Acted lines.Expect run o before after = after ≡ before
+Acted (lines.Range row) run o before after = after ≡ before
+Acted (lines.Reset client kind) run o before after = after ≡ act_of_reset kind ∷ before
+Acted line run o before after = Answered run o before after

@@ -13,6 +13,7 @@ use Rattle.locking.specs.declared.range.RangeRow.{RangeRow}
 use Rattle.sp_cells.specs.declared.error.SetError.{SetError}
 use Rattle.tool.specs.Courses.{PhaseRunsOn, PhaseStands, start}
 use Rattle.tool.specs.declared.ending.Fault.TheVariants.{RefusedRow}
+use Rattle.tool.specs.declared.head.Head.{Head}
 use Rattle.tool.specs.declared.opening.OpeningTurn.{OpeningTurn}
 use Rattle.tool.specs.declared.opening.OpeningTurn.TheVariants.{Goes, Runs, Bad}
 use Rattle.tool.specs.declared.opening.OpeningPhase.{OpeningPhase}
@@ -36,10 +37,10 @@ SetsRow o row (Bad fault) = (error : SetError) × (fault ≡ RefusedRow row.rang
     × (row_fault o row ≡ Some error)
 
 -- the drive is opened, and nothing was done on it, or on the port in front of it
-abbrev pub RunsFrom : Bool → Origin → OpeningTurn → Type 0
-RunsFrom on_port o (Goes phase) = ⊥
-RunsFrom on_port o (Runs run) = PhaseRunsOn run o (start on_port)
-RunsFrom on_port o (Bad fault) = ⊥
+abbrev pub RunsFrom : Head → Origin → OpeningTurn → Type 0
+RunsFrom head o (Goes phase) = ⊥
+RunsFrom head o (Runs run) = PhaseRunsOn run o (start head.explains head.on_port)
+RunsFrom head o (Bad fault) = ⊥
 
 -- the row of a range line
 abbrev pub row_of_line : Line → Option RangeRow
@@ -64,9 +65,9 @@ row_said false text = row_or_fault (line_said text)
 row_said true text = said_of_port (port_line_of text)
 
 -- what a line does: a range line sets its row, and any other opens the drive
-abbrev pub OpensBy : Bool → OpeningPhase → Option RangeRow → OpeningTurn → Type 0
-OpensBy on_port phase (Some row) turn = SetsRow (base_of phase) row turn
-OpensBy on_port phase None turn = RunsFrom on_port (origin_of phase) turn
+abbrev pub OpensBy : Head → OpeningPhase → Option RangeRow → OpeningTurn → Type 0
+OpensBy head phase (Some row) turn = SetsRow (base_of phase) row turn
+OpensBy head phase None turn = RunsFrom head (origin_of phase) turn
 
 -- what runs is as an origin and a course leave it
 abbrev pub TurnStands : OpeningTurn → Type 0

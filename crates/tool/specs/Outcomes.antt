@@ -8,37 +8,41 @@ use Rattle.history.specs.Opening.{Origin, row_fault, with_range}
 use Rattle.script_lines.specs.PortLines.{is_port_line}
 use Rattle.script_lines.specs.Texts.{last_of, printed}
 use Rattle.script_lines.specs.declared.fault.LineFault.{LineFault}
-use Rattle.tool.specs.Scripts.{script_lines, effective_lines}
+use Rattle.tool.specs.Scripts.{ScriptLine, script_lines, effective_lines}
 use Rattle.tool.specs.Openings.{origin_of, base_of, row_said}
 use Rattle.tool.specs.Courses.{Course, Advance, course_step, start}
 use Rattle.tool.specs.declared.opening.OpeningPhase.{OpeningPhase}
 use Rattle.tool.specs.declared.opening.OpeningPhase.TheVariants.{Factory, Activated}
 
--- the lines that are printed, and the status behind them
+-- what is printed, and the status behind it
 pub record RunOutcome : Type 0 where
-  pub lines : List (List ℕ)
+  pub text : List ℕ
   pub status : ℕ
 
 -- nothing more is printed
 abbrev pub ends : ℕ → RunOutcome
-ends status = record { lines = []; status = status }
+ends status = record { text = []; status = status }
 
--- these lines are printed first
-abbrev pub printed_first : List (List ℕ) → RunOutcome → RunOutcome
-printed_first earlier later = record { lines = earlier ++ later.lines; status = later.status }
+-- this is printed first
+abbrev pub printed_first : List ℕ → RunOutcome → RunOutcome
+printed_first earlier later = record { text = earlier ++ later.text; status = later.status }
+
+-- the lines that a line prints, and the reasons that are told behind them
+abbrev pub printed_by : Advance → List ℕ
+printed_by made = printed made.lines ++ made.reasons
 
 -- behind what a line does comes what comes then
 abbrev pub onward : (Advance → RunOutcome) → Result Advance ℕ → RunOutcome
-onward then_comes (Ok made) = printed_first made.lines (then_comes made)
+onward then_comes (Ok made) = printed_first (printed_by made) (then_comes made)
 onward then_comes (Err status) = ends status
 
 -- what lines come to on a drive or a port as an origin and a course leave it, where this line was
 -- printed last
-unfoldable pub outcome_on : Origin → Course → List ℕ → List (List ℕ) → RunOutcome
+unfoldable pub outcome_on : Origin → Course → List ℕ → List ScriptLine → RunOutcome
 outcome_on o course last [] = ends 0
-outcome_on o course last (text ∷ texts) =
-    onward (λ made. outcome_on o made.course (last_of last made.lines) texts)
-    (course_step o course last text)
+outcome_on o course last (line ∷ lines) =
+    onward (λ made. outcome_on o made.course (last_of last made.lines) lines)
+    (course_step o course last line)
 
 -- a row without a fault is set, and the opening phase goes on; a refused row ends the run
 abbrev pub set_then : (OpeningPhase → RunOutcome) → Origin → RangeRow → Option SetError → RunOutcome
@@ -58,32 +62,48 @@ abbrev pub opened : (OpeningPhase → RunOutcome) → RunOutcome → OpeningPhas
 opened then_comes runs phase (Ok row) = opened_by then_comes runs phase row
 opened then_comes runs phase (Err fault) = ends 2
 
--- what lines come to behind what range lines made so far, on a drive or on a port
-unfoldable pub outcome_from : Bool → OpeningPhase → List (List ℕ) → RunOutcome
-outcome_from on_port phase [] = ends 0
-outcome_from on_port phase (text ∷ texts) =
-    opened (λ next. outcome_from on_port next texts)
-    (outcome_on (origin_of phase) (start on_port) [] (text ∷ texts)) phase (row_said on_port text)
+-- what lines come to behind what range lines made so far: whether reasons are told, and whether it
+-- is on a port
+unfoldable pub outcome_from : Bool → Bool → OpeningPhase → List ScriptLine → RunOutcome
+outcome_from explains on_port phase [] = ends 0
+outcome_from explains on_port phase (line ∷ lines) =
+    opened (λ next. outcome_from explains on_port next lines)
+    (outcome_on (origin_of phase) (start explains on_port) [] (line ∷ lines)) phase
+    (row_said on_port line.text)
 
 -- what lines come to: behind the line `port` stand those of a port script
-abbrev pub outcome_of_lines : Config → List (List ℕ) → RunOutcome
-outcome_of_lines config [] = ends 0
-outcome_of_lines config (first ∷ texts) =
-    if is_port_line first then outcome_from true (Factory config) texts
-    else outcome_from false (Factory config) (first ∷ texts)
+abbrev pub outcome_of_lines : Bool → Config → List ScriptLine → RunOutcome
+outcome_of_lines explains config [] = ends 0
+outcome_of_lines explains config (first ∷ lines) =
+    if is_port_line first.text then outcome_from explains true (Factory config) lines
+    else outcome_from explains false (Factory config) (first ∷ lines)
 
--- what a script comes to on a drive of this configuration: in a script whose first line begins with
--- `#`, a remark does nothing
+-- what a script comes to on a drive of this configuration, with reasons or without: in a script whose
+-- first line begins with `#`, a remark does nothing
+abbrev pub outcome_by : Bool → Config → List ℕ → RunOutcome
+outcome_by explains config text =
+    outcome_of_lines explains config (effective_lines (script_lines text))
+
 abbrev pub run_outcome_of : Config → List ℕ → RunOutcome
-run_outcome_of config text = outcome_of_lines config (effective_lines (script_lines text))
+run_outcome_of config text = outcome_by false config text
 
--- this is the status, and the lines are written behind what was written before
+-- this is the status, and this is written behind what was written before
 abbrev pub Yields : RunOutcome → ℕ → Option (List ℕ) → Option (List ℕ) → Type 0
 Yields outcome status before after = (status ≡ outcome.status)
-    × Appends before after (printed outcome.lines)
+    × Appends before after outcome.text
 
--- a script of these bytes, where they are known, yields its outcome
+-- a script of these bytes, where they are known, yields its outcome, with reasons or without
+abbrev pub YieldsBy : Bool → Config → Option (List ℕ) → ℕ → Option (List ℕ) → Option (List ℕ)
+    → Type 0
+YieldsBy explains config input status before after =
+    IfSome input (λ text. Yields (outcome_by explains config text) status before after)
+
 abbrev pub ScriptYields : Config → Option (List ℕ) → ℕ → Option (List ℕ) → Option (List ℕ)
     → Type 0
-ScriptYields config input status before after =
-    IfSome input (λ text. Yields (run_outcome_of config text) status before after)
+ScriptYields config input status before after = YieldsBy false config input status before after
+
+-- each refusal is told with its reason
+abbrev pub ExplainedScriptYields : Config → Option (List ℕ) → ℕ → Option (List ℕ)
+    → Option (List ℕ) → Type 0
+ExplainedScriptYields config input status before after =
+    YieldsBy true config input status before after

@@ -21,6 +21,8 @@ use Rattle.port_history.specs.declared.stages.Put.{Put}
 use Rattle.port_history.specs.declared.step.Step.{Step}
 use Rattle.port_history.specs.declared.step.Step.TheVariants as steps
 use Rattle.port.specs.Agreement.{PortAgrees}
+use Rattle.port.specs.State.{PortState}
+use Rattle.explaining.specs.PortReasons.{step_refusal_text, accepted_now, accepted_text}
 use Rattle.script_lines.specs.Texts.{Prints, done_text, data_text, hex_text, command_failure_text, refused_text, reset_text, audit_text, denial_lines}
 use Rattle.script_lines.specs.Lines.{expected_text}
 use Rattle.script_lines.specs.declared.port_line.PortLine as told
@@ -127,6 +129,35 @@ port_effect_of o list (lines.Reset client kind) =
 port_effect_of o list (lines.Take client tag) = step_effect o list (steps.Take client tag)
 port_effect_of o list lines.Expect = record { steps = list; lines = [] }
 port_effect_of o list (lines.Range row) = record { steps = list; lines = [] }
+
+-- The step that a line asks for, if it asks for one.
+abbrev pub step_in : told.PortLine → Option Step
+step_in (lines.Put client tag request) = Some (steps.Put client tag (request_of request))
+step_in (lines.Issue tag) = Some (steps.Issue tag)
+step_in (lines.Accept tag) = Some (steps.Accept tag)
+step_in (lines.Complete tag) = Some (steps.Complete tag)
+step_in lines.Recover = Some steps.Recover
+step_in (lines.Reset client kind) = Some (steps.Reset client (kind_named kind))
+step_in (lines.Take client tag) = Some (steps.Take client tag)
+step_in lines.Expect = None
+step_in (lines.Range row) = None
+
+-- What a run that tells reasons says behind a step: why it was refused, or the command that it accepted.
+abbrev pub reasons_by : Origin → List Step → Step → Option PortError → List ℕ
+reasons_by o list step (Some error) = step_refusal_text (trace o list) step error
+reasons_by o list (steps.Accept tag) None = accepted_text o list tag
+reasons_by o list step None = []
+
+abbrev pub step_reasons : Origin → List Step → Option Step → List ℕ
+step_reasons o list None = []
+step_reasons o list (Some step) = reasons_by o list step (refusal (trace o list) step)
+
+-- The same by the text of a refusal, if the step was refused, and the port behind the step, whose audit log had so many lines
+-- before it.
+abbrev pub told_behind_step : Option (List ℕ) → Step → PortState → ℕ → List ℕ
+told_behind_step (Some text) step port place = text
+told_behind_step None (steps.Accept tag) port place = accepted_now port place
+told_behind_step None step port place = []
 
 -- The port is as its origin and the steps leave it.
 abbrev pub PortRunsOn : PortPhase → Origin → List Step → Type 0

@@ -3,19 +3,18 @@ use Rattle.std.specs.Prelude.{◌≡◌, ℕ, Bool, false, if◌then◌else◌, 
 use Rattle.std.specs.Io.KnownBytes.{Appends}
 use Rattle.sp_cells.specs.Config.{Config}
 use Rattle.history.specs.Opening.{Origin}
-use Rattle.script_lines.specs.Texts.{printed}
 use Rattle.script_lines.specs.declared.report.Report.{Report}
-use Rattle.tool.specs.Scripts.{bare, script_lines, is_skipped, effective_lines, lines_from, without_remarks}
+use Rattle.tool.specs.Scripts.{ScriptLine, bare, script_lines, is_skipped, effective_lines, lines_from, without_remarks}
 use Rattle.tool.specs.Ends.{exit_status}
 use Rattle.tool.specs.Courses.{Course, Advance, Advances, PhaseRunsOn, course_step, start}
-use Rattle.tool.specs.Outcomes.{RunOutcome, ends, printed_first, outcome_on, outcome_from, run_outcome_of}
+use Rattle.tool.specs.Outcomes.{RunOutcome, ends, printed_first, outcome_on, outcome_from, outcome_by}
 use Rattle.tool.specs.declared.ending.End.{End}
 use Rattle.tool.specs.declared.opening.OpeningPhase.{OpeningPhase}
 use Rattle.tool.specs.declared.opening.OpeningPhase.TheVariants.{Factory}
 use Rattle.tool.specs.declared.phase.Phase.{Phase}
 use Rattle.tool.specs.declared.running.Turn.{Turn}
 use Rattle.tool.specs.declared.running.Turn.TheVariants as turns
-use Rattle.tool.specs.declared.script.Head.{Head}
+use Rattle.tool.specs.declared.head.Head.{Head}
 use Rattle.tool.specs.declared.script.Opened.{Opened}
 use Rattle.tool.specs.declared.script.Opened.TheVariants.{Ended, Runs}
 
@@ -28,9 +27,9 @@ HandsOn before after pending left =
 -- behind what was pending before
 pub record LeadsTo (whole rest : RunOutcome) (before after : Option (List ℕ))
     (pending left : List ℕ) : Type 0 where
-  pub earlier : List (List ℕ)
+  pub earlier : List ℕ
   pub comes : whole ≡ printed_first earlier rest
-  pub written : HandsOn before after (pending ++ printed earlier) left
+  pub written : HandsOn before after (pending ++ earlier) left
 
 -- the same, by what two reports have pending
 abbrev pub Leads : RunOutcome → RunOutcome → Option (List ℕ) → Option (List ℕ) → Report → Report
@@ -38,22 +37,23 @@ abbrev pub Leads : RunOutcome → RunOutcome → Option (List ℕ) → Option (L
 Leads whole rest before after old new =
     LeadsTo whole rest before after old.pending.items new.pending.items
 
--- the line at hand and those that are left come to this end, whatever origin and course left the
--- drive or the port so
-abbrev pub RunLeads : Bool → Phase → List ℕ → Option (List ℕ) → End → Report → Report
+-- the line at hand, behind so many others, and those that are left come to this end, whatever origin
+-- and course left the drive or the port so
+abbrev pub RunLeads : Head → Phase → List ℕ → Option (List ℕ) → End → Report → Report
     → Option (List ℕ) → Option (List ℕ) → Type 0
-RunLeads remarks run line left end old new before after =
+RunLeads head run line left end old new before after =
     (o : Origin) (course : Course) → PhaseRunsOn run o course
     → IfSome left
-    (λ text. Leads (outcome_on o course old.last.items (lines_from remarks line text))
+    (λ text. Leads
+    (outcome_on o course old.last.items (lines_from head.remarks head.lines line text))
     (ends (exit_status end)) before after old new)
 
--- a whole script comes to this end
-abbrev pub ScriptLeads : Config → Option (List ℕ) → End → Report → Report → Option (List ℕ)
+-- a whole script comes to this end, with reasons or without
+abbrev pub ScriptLeads : Bool → Config → Option (List ℕ) → End → Report → Report → Option (List ℕ)
     → Option (List ℕ) → Type 0
-ScriptLeads config left end old new before after =
+ScriptLeads explains config left end old new before after =
     IfSome left
-    (λ text. Leads (run_outcome_of config text) (ends (exit_status end)) before after old new)
+    (λ text. Leads (outcome_by explains config text) (ends (exit_status end)) before after old new)
 
 -- a turn is what the line does, or the status that it ends the run with
 abbrev pub Steps : Turn → Result Advance ℕ → Phase → Origin → Report → Report → Type 0
@@ -63,17 +63,19 @@ Steps (turns.Bad fault) (Err status) new o before after = (status ≡ 2) × (aft
 Steps turn result new o before after = ⊥
 
 -- what a line makes of the course of a script: one that is skipped changes nothing
-abbrev pub step_or_skip : Bool → Origin → Course → List ℕ → List ℕ → Result Advance ℕ
-step_or_skip remarks o course last text =
-    if is_skipped remarks text then Ok (record { course = course; lines = [] })
-    else course_step o course last text
+abbrev pub step_or_skip : Bool → Origin → Course → List ℕ → ScriptLine → Result Advance ℕ
+step_or_skip remarks o course last line =
+    if is_skipped remarks line.text then Ok (record { course = course; lines = []; reasons = [] })
+    else course_step o course last line
 
 -- what the range lines in front leave to come
 abbrev pub OpensTo : Head → Opened → RunOutcome → List ℕ → Option (List ℕ) → Type 0
 OpensTo head (Ended end) whole line left = whole ≡ ends (exit_status end)
 OpensTo head (Runs run count) whole line left =
-    (o : Origin) × (text : List ℕ) × PhaseRunsOn run o (start head.on_port) × (left ≡ Some text)
-    × (whole ≡ outcome_on o (start head.on_port) [] (lines_from head.remarks line text))
+    (o : Origin) × (text : List ℕ) × PhaseRunsOn run o (start head.explains head.on_port)
+    × (left ≡ Some text)
+    × (whole
+    ≡ outcome_on o (start head.explains head.on_port) [] (lines_from head.remarks count line text))
 
 -- where the line at hand is in front of this text
 abbrev pub LinesOpenTo : Head → Opened → OpeningPhase → List ℕ → Option (List ℕ) → List ℕ
@@ -81,27 +83,31 @@ abbrev pub LinesOpenTo : Head → Opened → OpeningPhase → List ℕ → Optio
 LinesOpenTo head opened phase first before line left =
     IfSome before
     (λ text. OpensTo head opened
-    (outcome_from head.on_port phase (lines_from head.remarks first text)) line left)
+    (outcome_from head.explains head.on_port phase
+    (lines_from head.remarks head.lines first text)) line left)
 
--- all of these lines are skipped, or the line at hand is the first that is not
-abbrev pub SkipsTo : Bool → Option ℕ → List (List ℕ) → List ℕ → Option (List ℕ) → Type 0
+-- all of these lines are skipped, or the line at hand, behind so many others, is the first that is
+-- not
+abbrev pub SkipsTo : Bool → Option ℕ → List ScriptLine → List ℕ → Option (List ℕ) → Type 0
 SkipsTo remarks None lines line left = without_remarks remarks lines ≡ []
 SkipsTo remarks (Some count) lines line left =
     (text : List ℕ) × (left ≡ Some text) × (is_skipped remarks (bare line) ≡ false)
-    × (without_remarks remarks lines ≡ lines_from remarks line text)
+    × (without_remarks remarks lines ≡ lines_from remarks count line text)
 
 -- a script has no line that is not skipped, or the line at hand is the first of these
-abbrev pub BeginsScript : Option Head → List ℕ → List ℕ → Option (List ℕ) → Type 0
-BeginsScript None text line left = effective_lines (script_lines text) ≡ []
-BeginsScript (Some head) text line left =
+abbrev pub BeginsScript : Bool → Option Head → List ℕ → List ℕ → Option (List ℕ) → Type 0
+BeginsScript explains None text line left = effective_lines (script_lines text) ≡ []
+BeginsScript explains (Some head) text line left =
     (rest : List ℕ) × (left ≡ Some rest) × (is_skipped head.remarks (bare line) ≡ false)
-    × (head.on_port ≡ false)
-    × (effective_lines (script_lines text) ≡ lines_from head.remarks line rest)
+    × (head.on_port ≡ false) × (head.explains ≡ explains)
+    × (effective_lines (script_lines text) ≡ lines_from head.remarks head.lines line rest)
 
 -- there is no line, or the line at hand is the first of a script on a drive or of a port script
-abbrev pub FirstLine : Option Head → List ℕ → List ℕ → Option (List ℕ) → Type 0
-FirstLine None text line left = (config : Config) → run_outcome_of config text ≡ ends 0
-FirstLine (Some head) text line left =
+abbrev pub FirstLine : Bool → Option Head → List ℕ → List ℕ → Option (List ℕ) → Type 0
+FirstLine explains None text line left =
+    (config : Config) → outcome_by explains config text ≡ ends 0
+FirstLine explains (Some head) text line left =
     (rest : List ℕ) × (left ≡ Some rest)
-    × ((config : Config) → run_outcome_of config text
-    ≡ outcome_from head.on_port (Factory config) (lines_from head.remarks line rest))
+    × ((config : Config) → outcome_by explains config text
+    ≡ outcome_from head.explains head.on_port (Factory config)
+    (lines_from head.remarks head.lines line rest))

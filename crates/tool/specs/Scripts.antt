@@ -1,5 +1,5 @@
 -- Scripts: their lines, and how they are read.
-use Rattle.std.specs.Prelude.{◌≤◌, ◌≡◌, ◌<◌, ℕ, ◌==◌, ◌&&◌, Bool, true, false, List, [], ◌∷◌, map, length, Option, Some, is_some, IfSome, if◌then◌else◌}
+use Rattle.std.specs.Prelude.{◌+◌, ◌≤◌, ◌≡◌, ◌<◌, ℕ, ◌==◌, ◌&&◌, Bool, true, false, List, [], ◌∷◌, map, length, Option, Some, is_some, IfSome, if◌then◌else◌}
 use Rattle.std.specs.List.{list_any}
 use Rattle.std.specs.Io.BufRead.{strip_last, take_through, drop_through}
 use Rattle.script_lines.specs.Remarks.{hash_byte, is_remark}
@@ -32,20 +32,34 @@ may_hold_remarks (byte ∷ bytes) = byte == hash_byte
 abbrev pub is_skipped : Bool → List ℕ → Bool
 is_skipped remarks line = remarks && is_remark line
 
-unfoldable pub without_remarks : Bool → List (List ℕ) → List (List ℕ)
+-- a line of a script, with its number
+pub record ScriptLine : Type 0 where
+  pub number : ℕ
+  pub text : List ℕ
+
+-- lines behind so many others; the first line of a script is line 1
+unfoldable pub with_numbers : ℕ → List (List ℕ) → List ScriptLine
+with_numbers before [] = []
+with_numbers before (text ∷ texts) =
+    record { number = before + 1; text = text } ∷ with_numbers (before + 1) texts
+
+unfoldable pub without_remarks : Bool → List ScriptLine → List ScriptLine
 without_remarks remarks [] = []
 without_remarks remarks (line ∷ lines) =
-    if is_skipped remarks line then without_remarks remarks lines
+    if is_skipped remarks line.text then without_remarks remarks lines
     else line ∷ without_remarks remarks lines
 
 -- the lines that a script comes to: in one whose first line begins with `#`, remarks do nothing
-abbrev pub effective_lines : List (List ℕ) → List (List ℕ)
+abbrev pub effective_lines : List (List ℕ) → List ScriptLine
 effective_lines [] = []
-effective_lines (first ∷ lines) = without_remarks (may_hold_remarks first) (first ∷ lines)
+effective_lines (first ∷ texts) =
+    without_remarks (may_hold_remarks first) (with_numbers 0 (first ∷ texts))
 
--- the line at hand and those of a text behind it, without the remarks
-abbrev pub lines_from : Bool → List ℕ → List ℕ → List (List ℕ)
-lines_from remarks line text = without_remarks remarks (bare line ∷ script_lines text)
+-- the line at hand, which stands behind so many others, and those of a text behind it, without the
+-- remarks
+abbrev pub lines_from : Bool → ℕ → List ℕ → List ℕ → List ScriptLine
+lines_from remarks before line text =
+    without_remarks remarks (with_numbers before (bare line ∷ script_lines text))
 
 -- what reading a line takes from a text, if there is one, and leaves of it
 abbrev pub TakesLine : Bool → List ℕ → List ℕ → Option (List ℕ) → Type 0

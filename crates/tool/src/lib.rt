@@ -2,12 +2,15 @@
 #![tactic(auto)]
 
 mod commands;
+mod drive_phase;
 mod ending;
+mod head;
 mod level0;
 mod opening;
 mod options;
 mod payload;
 mod phase;
+mod port_desk;
 mod port_phase;
 mod printing;
 mod reading;
@@ -21,5 +24,5 @@ pub use level0::run_level0;
 pub use options::{DriveTexts, Options, OptionsFault};
 pub use port_phase::request_of;
 pub use remarks::laws_of_remarks;
-pub use script::{laws_of_limits, run_script, run_script_with_faults};
+pub use script::{laws_of_limits, run_explained_script, run_script, run_script_with_faults};
 pub use tokens::{Naming, run_tokens, run_tokens_with_faults};

@@ -3,11 +3,13 @@
 ghost use Rattle.std.specs.Prelude.{◌≡◌};
 ghost use Rattle.tool.specs.Openings.{row_of_line, row_in_port, row_said};
 
+use crate::drive_phase::DrivePhase;
 use crate::ending::Fault;
+use crate::head::Head;
 use crate::phase::Phase;
+use crate::port_desk::PortDesk;
 use crate::port_phase::PortPhase;
 use crate::remarks::is_skipped;
-use crate::running::RunningPhase;
 use drive::{Drive, DriveConfig, Opening, RangeRow, SetError};
 use port::Port;
 use script_lines::{Line, LineFault, PortLine};
@@ -124,15 +126,15 @@ impl OpeningPhase {
     }
 
     /// Does what one line says, where it gives the cells of a range; any other line ends the phase.
-    fn turn(self, alloc: Global, on_port: bool, text: &[u8]) -> Result<OpeningTurn, AllocError>
+    fn turn(self, alloc: Global, head: Head, text: &[u8]) -> Result<OpeningTurn, AllocError>
         ensures stands { IfOk result TurnStands }
-        ensures does { (row : Option RangeRow) → row_said on_port text.now ≡ Ok row
-            → IfOk result (OpensBy on_port self row) }
-        ensures bad_line { (fault : LineFault) → row_said on_port text.now ≡ Err fault
+        ensures does { (row : Option RangeRow) → row_said head.on_port text.now ≡ Ok row
+            → IfOk result (OpensBy head self row) }
+        ensures bad_line { (fault : LineFault) → row_said head.on_port text.now ≡ Err fault
             → result ≡ Ok (OpeningTurn.Bad (Fault.Line fault)) }
     {
-        match row_said(on_port, text) {
-            Ok(row) => self.act(alloc, on_port, row),
+        match row_said(head.on_port, text) {
+            Ok(row) => self.act(alloc, head, row),
             Err(fault) => Ok(OpeningTurn::Bad(Fault::Line(fault))),
         }
     }
@@ -141,34 +143,34 @@ impl OpeningPhase {
     pub fn turn_or_skip(
         self,
         alloc: Global,
-        remarks: bool,
-        on_port: bool,
+        head: Head,
         text: &[u8],
     ) -> Result<OpeningTurn, AllocError>
         ensures stands { IfOk result TurnStands }
-        ensures skips { is_skipped remarks text.now ≡ true → result ≡ Ok (OpeningTurn.Goes self) }
-        ensures does { is_skipped remarks text.now ≡ false → (row : Option RangeRow)
-            → row_said on_port text.now ≡ Ok row → IfOk result (OpensBy on_port self row) }
-        ensures bad_line { is_skipped remarks text.now ≡ false → (fault : LineFault)
-            → row_said on_port text.now ≡ Err fault
+        ensures skips { is_skipped head.remarks text.now ≡ true
+            → result ≡ Ok (OpeningTurn.Goes self) }
+        ensures does { is_skipped head.remarks text.now ≡ false → (row : Option RangeRow)
+            → row_said head.on_port text.now ≡ Ok row → IfOk result (OpensBy head self row) }
+        ensures bad_line { is_skipped head.remarks text.now ≡ false → (fault : LineFault)
+            → row_said head.on_port text.now ≡ Err fault
             → result ≡ Ok (OpeningTurn.Bad (Fault.Line fault)) }
     {
-        if is_skipped(remarks, text) {
+        if is_skipped(head.remarks, text) {
             return Ok(OpeningTurn::Goes(self));
         }
-        self.turn(alloc, on_port, text)
+        self.turn(alloc, head, text)
     }
 
     fn act(
         self,
         alloc: Global,
-        on_port: bool,
+        head: Head,
         row: Option<RangeRow>,
     ) -> Result<OpeningTurn, AllocError>
-        ensures { IfOk result (OpensBy on_port self row) }
+        ensures { IfOk result (OpensBy head self row) }
     {
         let Some(row) = row else {
-            return self.run(alloc, on_port);
+            return self.run(alloc, head);
         };
         match self.set(alloc, &row) {
             Ok(phase) => Ok(OpeningTurn::Goes(phase)),
@@ -181,14 +183,14 @@ impl OpeningPhase {
     }
 
     /// Opens the drive, and the port in front of it.
-    fn run(self, alloc: Global, on_port: bool) -> Result<OpeningTurn, AllocError>
-        ensures { IfOk result (RunsFrom on_port (origin_of self)) }
+    fn run(self, alloc: Global, head: Head) -> Result<OpeningTurn, AllocError>
+        ensures { IfOk result (RunsFrom head (origin_of self)) }
     {
-        if on_port {
-            let phase = self.into_port(alloc)?;
-            return Ok(OpeningTurn::Runs(Phase::Port(phase)));
+        if head.on_port {
+            let desk = PortDesk::new(self.into_port(alloc)?, head.explains);
+            return Ok(OpeningTurn::Runs(Phase::Port(desk)));
         }
-        let drive = self.into_drive(alloc)?;
-        Ok(OpeningTurn::Runs(Phase::Drive(RunningPhase::new(alloc, drive))))
+        let drive = DrivePhase::new(alloc, self.into_drive(alloc)?, head.explains);
+        Ok(OpeningTurn::Runs(Phase::Drive(drive)))
     }
 }

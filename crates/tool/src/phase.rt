@@ -1,16 +1,17 @@
 //! What a script runs on: a drive, or a port.
 
-use crate::port_phase::PortPhase;
+use crate::drive_phase::DrivePhase;
+use crate::port_desk::PortDesk;
 use crate::remarks::is_skipped;
-use crate::running::{RunningPhase, Turn};
+use crate::running::Turn;
 use script_lines::Report;
 use std::alloc::AllocError;
 
 /// What a script runs on.
 #[derive(Drop)]
 pub enum Phase {
-    Drive(RunningPhase),
-    Port(PortPhase),
+    Drive(DrivePhase),
+    Port(PortDesk),
 }
 
 impl Phase {
@@ -19,36 +20,42 @@ impl Phase {
     ghost use Rattle.tool.specs.Courses.{Course, PhaseRunsOn, PhaseStands, course_step};
     ghost use Rattle.tool.specs.Progress.{Steps, step_or_skip};
 
-    /// Does what one line says.
-    fn turn(&mut self, text: &[u8], report: &mut Report) -> Result<Turn, AllocError>
+    /// Does what the line of a number says.
+    fn turn(&mut self, number: u64, text: &[u8], report: &mut Report) -> Result<Turn, AllocError>
         requires { PhaseStands self.old }
         ensures steps { IfOk result (λ turn. (o : Origin) (course : Course)
             → PhaseRunsOn self.old o course
-            → Steps turn (course_step o course report.old.last.items text.now) self.new o report.old
-            report.new) }
+            → Steps turn
+            (course_step o course report.old.last.items
+            (record { number = number; text = text.now }))
+            self.new o report.old report.new) }
     {
         match self {
-            Phase::Drive(run) => run.turn(text, report),
-            Phase::Port(port) => port.turn(text, report),
+            Phase::Drive(drive) => drive.turn(number, text, report),
+            Phase::Port(port) => port.turn(number, text, report),
         }
     }
 
-    /// Does what one line says, and nothing where it is a remark of a script that may hold some.
+    /// Does what the line of a number says, and nothing where it is a remark of a script that may hold
+    /// some.
     pub fn turn_or_skip(
         &mut self,
         remarks: bool,
+        number: u64,
         text: &[u8],
         report: &mut Report,
     ) -> Result<Turn, AllocError>
         requires { PhaseStands self.old }
         ensures steps { IfOk result (λ turn. (o : Origin) (course : Course)
             → PhaseRunsOn self.old o course
-            → Steps turn (step_or_skip remarks o course report.old.last.items text.now) self.new o
-            report.old report.new) }
+            → Steps turn
+            (step_or_skip remarks o course report.old.last.items
+            (record { number = number; text = text.now }))
+            self.new o report.old report.new) }
     {
         if is_skipped(remarks, text) {
             return Ok(Turn::Goes { aborted: false });
         }
-        self.turn(text, report)
+        self.turn(number, text, report)
     }
 }

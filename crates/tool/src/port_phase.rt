@@ -296,6 +296,18 @@ impl PortPhase {
         PortPhase { port, alloc }
     }
 
+    /// The port.
+    pub fn port(&self) -> &Port
+        ensures { result.now ≡ self.now.port }
+    {
+        &self.port
+    }
+
+    /// Where it takes memory from.
+    pub fn allocator(&self) -> Global {
+        self.alloc
+    }
+
     /// Does what one line says. A line that is none, or that gives the cells of a range, changes
     /// nothing.
     pub fn turn(&mut self, text: &[u8], report: &mut Report) -> Result<Turn, AllocError>

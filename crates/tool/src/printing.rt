@@ -5,7 +5,7 @@ ghost use Rattle.compacket.specs.Frames.{com_packet_size};
 ghost use Rattle.script_lines.specs.Texts.{Prints, denial_lines, refusal_lines};
 ghost use Rattle.tool.specs.Effects.{protocol_list_size, discovery_size, shown_bytes, served_text, told_lines};
 
-use audit::AuditLine;
+use audit::{AuditLine, Why};
 use byteorder::{BigEndian, ByteOrder};
 use compacket::{COM_PACKET_HEADER, ComId};
 use drive::Accepted;
@@ -85,24 +85,43 @@ fn print_served(report: &mut Report, command: &Command, bytes: &[u8]) -> Result<
     Ok(())
 }
 
-/// Prints that a command failed, and under the number of its act what denied it to a client, which
-/// the answer does not keep.
+/// Prints under the number of an act what denied it to a client, where something did.
+fn print_denial(
+    report: &mut Report,
+    step: u64,
+    client: u32,
+    denied: &mut Option<Why>,
+) -> Result<(), AllocError>
+    ensures prints { OnOk result
+        (Prints report.old report.new (denial_lines step client denied.old)) }
+    ensures denied { OnOk result (denied.new ≡ denied.old) }
+{
+    if let Some(why) = denied.take() {
+        let line = AuditLine { step, client, why };
+        report.print_audit(&line)?;
+        *denied = Some(line.why);
+    }
+    Ok(())
+}
+
+/// Prints that a command failed, and under the number of its act what denied it to a client.
 pub fn print_failure(
     report: &mut Report,
     step: u64,
     client: u32,
     answer: &mut Accepted,
 ) -> Result<(), AllocError>
-    ensures { OnOk result (Prints report.old report.new
+    ensures prints { OnOk result (Prints report.old report.new
         (refusal_lines step client answer.old.status answer.old.error answer.old.denied)) }
+    ensures answer { OnOk result (answer.new ≡ answer.old) }
 {
-    let denied = answer.denied.take();
-    report.print_refusal(step, client, answer.status, answer.error, denied)?;
+    report.print_failure(answer.status, answer.error)?;
+    print_denial(report, step, client, &mut answer.denied)?;
     Ok(())
 }
 
 /// Prints that a command was served, with its data, and under the number of its act what it denied
-/// to a client, which the answer does not keep.
+/// to a client.
 fn print_success(
     report: &mut Report,
     step: u64,
@@ -110,19 +129,17 @@ fn print_success(
     command: &Command,
     answer: &mut Accepted,
 ) -> Result<(), AllocError>
-    ensures { OnOk result (Prints report.old report.new
+    ensures prints { OnOk result (Prints report.old report.new
         (served_text command.now answer.old.bytes.items
         ∷ denial_lines step client answer.old.denied)) }
+    ensures answer { OnOk result (answer.new ≡ answer.old) }
 {
     print_served(report, command, &answer.bytes)?;
-    if let Some(why) = answer.denied.take() {
-        report.print_audit(&AuditLine { step, client, why })?;
-    }
+    print_denial(report, step, client, &mut answer.denied)?;
     Ok(())
 }
 
-/// Prints what came of a command, and under the number of its act what denied it to a client, which
-/// the answer does not keep.
+/// Prints what came of a command, and under the number of its act what denied it to a client.
 pub fn print_answer(
     report: &mut Report,
     step: u64,
@@ -130,8 +147,9 @@ pub fn print_answer(
     command: &Command,
     answer: &mut Accepted,
 ) -> Result<(), AllocError>
-    ensures { OnOk result (Prints report.old report.new
+    ensures prints { OnOk result (Prints report.old report.new
         (told_lines step client command.now answer.old)) }
+    ensures answer { OnOk result (answer.new ≡ answer.old) }
 {
     if answer.has_failed() {
         print_failure(report, step, client, answer)?;

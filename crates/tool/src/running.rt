@@ -13,6 +13,7 @@ use crate::payload::{fill, pad, put_frame};
 use crate::printing::{print_answer, print_failure};
 use compacket::{ComId, Session};
 use drive::{Accepted, Drive};
+use explaining::{Explainer, Source};
 use fis::Tag;
 use script_lines::{DmaTransfer, Hex, Line, Report, Reset, Transfer, expected_text};
 use std::alloc::{AllocError, Global};
@@ -54,6 +55,8 @@ pub struct RunningPhase {
     tokens: Vec<u8>,
     /// What the drive answered to the last command.
     answer: Accepted,
+    /// Whether the last command was held, and is completed.
+    completed: bool,
 }
 
 impl RunningPhase {
@@ -64,10 +67,12 @@ impl RunningPhase {
     ghost use Rattle.script_lines.specs.declared.line.Line.{Line};
     ghost use Rattle.script_lines.specs.declared.fault.LineFault.{LineFault};
     ghost use Rattle.history.specs.Opening.{Origin};
-    ghost use Rattle.history.specs.History.{Act};
+    ghost use Rattle.history.specs.History.{Act, log};
+    ghost use Rattle.explained.specs.Onsets.{Sourced, bare_acts};
+    ghost use Rattle.explained.specs.Chronicles.{Recounts};
     ghost use Rattle.drive.specs.State.{Agrees};
-    ghost use Rattle.tool.specs.Effects.{RunsOn, IsReached, Accepts, Has, Makes, completion_effect, transferred, command_effect, sends, receives, effect_of, Does};
-    ghost use Rattle.tool.specs.Courses.{line_course, DriveSteps};
+    ghost use Rattle.tool.specs.Effects.{RunsOn, IsReached, Accepts, Has, Makes, completion_effect, transferred, command_effect, sends, receives, effect_of, reset_effect, Does, GoesTruly, Answered, Acted};
+    ghost use Rattle.tool.specs.Courses.{line_course, DriveSteps, Explains};
     ghost use Rattle.tool.specs.declared.ending.Fault.{Fault};
 
     /// A drive on which nothing was done.
@@ -81,6 +86,7 @@ impl RunningPhase {
             payload: Vec::new(alloc),
             tokens: Vec::new(alloc),
             answer: Accepted::none(alloc),
+            completed: false,
         }
     }
 
@@ -163,13 +169,16 @@ impl RunningPhase {
         requires address { IfSome (lba_of command.now) (λ lba. lba < 2 ^ 48) }
         requires counted { IsCounted command.now }
         requires payload { length self.old.payload.items ≡ payload_length (fis_of command.now tag) }
-        ensures { OnOk result ((o : Origin) (acts : List Act) → RunsOn self.old o acts
+        ensures accepts { OnOk result ((o : Origin) (acts : List Act) → RunsOn self.old o acts
             → Accepts self.new o acts command.now tag self.old.payload.items self.new.answer) }
+        ensures payload { self.new.payload ≡ self.old.payload }
+        ensures completed { OnOk result (self.new.completed ≡ false) }
     {
         let fis = to_fis(command, tag).to_bytes();
         self.drive
             .accept_into(&fis, &self.payload, &mut self.answer)?;
         self.acts = self.acts.wrapping_add(1);
+        self.completed = false;
         Ok(())
     }
 
@@ -187,9 +196,12 @@ impl RunningPhase {
 
     /// Completes a held transfer, whose payload has this byte in each place, and prints its data.
     fn serve(&mut self, tag: Tag, byte: u8, report: &mut Report) -> Result<(), AllocError>
-        ensures { OnOk result
+        ensures serves { OnOk result
             ((o : Origin) (acts : List Act) → RunsOn self.old o acts
             → Has self.new o report.old report.new (completion_effect o acts tag byte)) }
+        ensures answer { self.new.answer ≡ self.old.answer }
+        ensures payload { self.new.payload ≡ self.old.payload }
+        ensures completed { OnOk result (self.new.completed ≡ true) }
     {
         // What is held expects as many bytes as the acts say.
         let _ = self.drive.expects(tag);
@@ -198,6 +210,7 @@ impl RunningPhase {
             return Err(AllocError);
         };
         self.acts = self.acts.wrapping_add(1);
+        self.completed = true;
         report.print_heads(&done.bytes)?;
         self.drive.give_back(done.bytes);
         Ok(())
@@ -402,13 +415,55 @@ impl RunningPhase {
     }
 
     fn reset(&mut self, kind: Reset, report: &mut Report) -> Result<Turn, AllocError>
-        ensures { IfOk result (λ turn. (client : ℕ)
-            → Makes (λ o acts. effect_of o acts (Line.Reset client kind))
-            self.old self.new report.old report.new turn) }
+        ensures { IfOk result (λ turn. (o : Origin) (acts : List Act) → RunsOn self.old o acts
+            → Has self.new o report.old report.new (reset_effect acts kind)
+            × GoesTruly turn (log o acts)) }
     {
         self.drive.reset(kind_named(kind));
         self.acts = self.acts.wrapping_add(1);
         report.print_ok()?;
         Ok(Turn::Goes { aborted: false })
+    }
+
+    /// PrintsWithReasons why the command at hand was refused, where it was, and notes what it did.
+    fn explain_command(
+        &self,
+        source: Source,
+        explainer: &mut Explainer,
+        report: &mut Report,
+    ) -> Result<(), AllocError>
+        ensures { OnOk result ((o : Origin) (past : List Sourced) (acts : List Act)
+            → RunsOn self.now o acts → Answered self.now o (bare_acts past) acts
+            → Recounts explainer.old o past
+            → Explains source o past acts explainer.new report.old report.new) }
+    {
+        explainer.explain(&self.drive, &self.answer, report)?;
+        explainer.note_command(&self.drive, &self.payload, self.completed, source);
+        Ok(())
+    }
+
+    /// PrintsWithReasons, behind what a line printed that was done, why its command was refused, where it was, and
+    /// notes what the line did.
+    pub fn explain(
+        &self,
+        source: Source,
+        line: &Line<'_>,
+        explainer: &mut Explainer,
+        report: &mut Report,
+    ) -> Result<(), AllocError>
+        ensures { OnOk result ((o : Origin) (past : List Sourced) (acts : List Act)
+            → RunsOn self.now o acts → Acted line.now self.now o (bare_acts past) acts
+            → Recounts explainer.old o past
+            → Explains source o past acts explainer.new report.old report.new) }
+    {
+        match line {
+            Line::Range(_) => Ok(()),
+            Line::Expect => Ok(()),
+            Line::Reset { kind, .. } => {
+                explainer.note_reset(&self.drive, kind_named(*kind), source);
+                Ok(())
+            }
+            _ => self.explain_command(source, explainer, report),
+        }
     }
 }

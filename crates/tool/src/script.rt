@@ -7,11 +7,12 @@ ghost use Rattle.tool.specs.declared.ending.RunError.{RunError};
 ghost use Rattle.tool.specs.Ends.{OpenedStands, exit_status};
 ghost use Rattle.tool.specs.Courses.{PhaseStands};
 ghost use Rattle.tool.specs.Openings.{opens_with};
-ghost use Rattle.tool.specs.Outcomes.{ScriptYields};
+ghost use Rattle.tool.specs.Outcomes.{ExplainedScriptYields, ScriptYields, YieldsBy};
 ghost use Rattle.tool.specs.Progress.{BeginsScript, FirstLine, LinesOpenTo, RunLeads, ScriptLeads, SkipsTo};
-ghost use Rattle.tool.specs.Scripts.{bare, script_lines};
+ghost use Rattle.tool.specs.Scripts.{bare, with_numbers, script_lines};
 
 use crate::ending::{End, RunError, tell, tell_abort};
+use crate::head::Head;
 use crate::opening::{OpeningPhase, OpeningTurn};
 use crate::options::Options;
 use crate::phase::Phase;
@@ -30,17 +31,6 @@ const READ_LIMIT: u64 = 4_294_967_296;
 pub fn laws_of_limits()
     ensures { READ_LIMIT ≡ 4294967296 }
 {}
-
-/// What the lines in front of a script say of it.
-#[derive(Clone, Copy)]
-pub struct Head {
-    /// Whether remarks may stand in it, which do nothing.
-    pub remarks: bool,
-    /// Whether it runs on a port.
-    pub on_port: bool,
-    /// How many lines stand before the line at hand.
-    pub lines: u64,
-}
 
 /// What the opening phase comes to.
 #[derive(Drop)]
@@ -62,7 +52,7 @@ fn skip_remarks<R: Read + Drop>(
     requires { report.now.pending.items ≡ [] }
     ensures limit { IfOk result (λ found. IfSome found (λ lines. lines < READ_LIMIT)) }
     ensures skips { IfOk result (λ found. IfSome (reader_remaining R.remaining reader.old)
-        (λ text. SkipsTo remarks found (bare line.old.items ∷ script_lines text)
+        (λ text. SkipsTo remarks found (with_numbers 0 (bare line.old.items ∷ script_lines text))
         line.new.items (reader_remaining R.remaining reader.new))) }
 {
     for number in 0..READ_LIMIT {
@@ -79,6 +69,7 @@ fn skip_remarks<R: Read + Drop>(
 /// Reads the first line, which says whether the script may hold remarks, and goes on to the first
 /// that is none; `None` where no line is at hand.
 fn begin<R: Read + Drop>(
+    explains: bool,
     reader: &mut BufReader<R>,
     report: &Report,
     line: &mut Vec<u8>,
@@ -86,7 +77,7 @@ fn begin<R: Read + Drop>(
     requires { report.now.pending.items ≡ [] }
     ensures limit { IfOk result (λ first. IfSome first (λ head. head.lines < READ_LIMIT)) }
     ensures begins { IfOk result (λ first. IfSome (reader_remaining R.remaining reader.old)
-        (λ text. BeginsScript first text line.new.items
+        (λ text. BeginsScript explains first text line.new.items
         (reader_remaining R.remaining reader.new))) }
 {
     if !read_line(reader, line_at_hand(reader), line, report)? {
@@ -98,6 +89,7 @@ fn begin<R: Read + Drop>(
     };
     Ok(Some(Head {
         remarks,
+        explains,
         on_port: false,
         lines,
     }))
@@ -106,15 +98,17 @@ fn begin<R: Read + Drop>(
 /// Reads the first line that is no remark, and, where it says that a port script follows, the one
 /// behind it. It tells what these lines say of the script; `None` where no line is at hand.
 fn first_line<R: Read + Drop>(
+    explains: bool,
     reader: &mut BufReader<R>,
     report: &Report,
     line: &mut Vec<u8>,
 ) -> Result<Option<Head>, RunError>
     requires { report.now.pending.items ≡ [] }
     ensures { IfOk result (λ first. IfSome (reader_remaining R.remaining reader.old)
-        (λ text. FirstLine first text line.new.items (reader_remaining R.remaining reader.new))) }
+        (λ text. FirstLine explains first text line.new.items
+        (reader_remaining R.remaining reader.new))) }
 {
-    let Some(head) = begin(reader, report, line)? else {
+    let Some(head) = begin(explains, reader, report, line)? else {
         return Ok(None);
     };
     if !is_port_line(without_end(line)) {
@@ -124,9 +118,9 @@ fn first_line<R: Read + Drop>(
         return Ok(None);
     }
     Ok(Some(Head {
-        remarks: head.remarks,
         on_port: true,
         lines: head.lines + 1,
+        ..head
     }))
 }
 
@@ -148,7 +142,7 @@ fn opening_lines<R: Read + Drop>(
 {
     let mut phase = OpeningPhase::Factory(options.config());
     for number in head.lines..READ_LIMIT {
-        match phase.turn_or_skip(alloc, head.remarks, head.on_port, without_end(line))? {
+        match phase.turn_or_skip(alloc, head, without_end(line))? {
             OpeningTurn::Goes(next) => phase = next,
             OpeningTurn::Runs(run) => return Ok(Opened::Runs { run, lines: number }),
             OpeningTurn::Bad(fault) => {
@@ -175,11 +169,11 @@ fn running_lines<R: Read + Drop, W: Write, E: Write>(
 ) -> Result<End, RunError>
     requires { PhaseStands run.old }
     ensures { IfOk result (λ end.
-        RunLeads head.remarks run.old line.old.items (reader_remaining R.remaining reader.old) end
+        RunLeads head run.old line.old.items (reader_remaining R.remaining reader.old) end
         report.old report.new (W.contents output.old) (W.contents output.new)) }
 {
     for number in head.lines..READ_LIMIT {
-        match run.turn_or_skip(head.remarks, without_end(line), report)? {
+        match run.turn_or_skip(head.remarks, number + 1, without_end(line), report)? {
             Turn::Goes { aborted } => tell_abort(aborted, number + 1, faults)?,
             Turn::ExpectationFailed => return Ok(End::ExpectationFailed { line: number + 1 }),
             Turn::Bad(fault) => {
@@ -209,7 +203,7 @@ fn remaining_lines<R: Read + Drop, W: Write, E: Write>(
 ) -> Result<End, RunError>
     requires { PhaseStands run }
     ensures { IfOk result (λ end.
-        RunLeads head.remarks run line.old.items (reader_remaining R.remaining reader.old) end
+        RunLeads head run line.old.items (reader_remaining R.remaining reader.old) end
         report.old report.new (W.contents output.old) (W.contents output.new)) }
 {
     running_lines(&mut run, head, reader, report, line, output, faults)
@@ -219,6 +213,7 @@ fn remaining_lines<R: Read + Drop, W: Write, E: Write>(
 fn all_lines<R: Read + Drop, W: Write, E: Write>(
     alloc: Global,
     options: &Options,
+    explains: bool,
     reader: &mut BufReader<R>,
     report: &mut Report,
     line: &mut Vec<u8>,
@@ -228,10 +223,10 @@ fn all_lines<R: Read + Drop, W: Write, E: Write>(
     requires pending { report.old.pending.items ≡ [] }
     requires last { report.old.last.items ≡ [] }
     ensures { IfOk result (λ end.
-        ScriptLeads options.now (reader_remaining R.remaining reader.old) end
+        ScriptLeads explains options.now (reader_remaining R.remaining reader.old) end
         report.old report.new (W.contents output.old) (W.contents output.new)) }
 {
-    let Some(head) = first_line(reader, report, line)? else {
+    let Some(head) = first_line(explains, reader, report, line)? else {
         return Ok(End::Done);
     };
     let opened = opening_lines(alloc, options, head, reader, report, line)?;
@@ -264,6 +259,7 @@ fn hand_on_behind<W: Write>(
 fn all_answers<R: Read + Drop, W: Write, E: Write>(
     alloc: Global,
     options: &Options,
+    explains: bool,
     reader: &mut BufReader<R>,
     report: &mut Report,
     line: &mut Vec<u8>,
@@ -274,11 +270,42 @@ fn all_answers<R: Read + Drop, W: Write, E: Write>(
     requires last { report.old.last.items ≡ [] }
     ensures handed_on { report.new.pending.items ≡ [] }
     ensures yields { IfOk result (λ end.
-        ScriptYields options.now (reader_remaining R.remaining reader.old)
+        YieldsBy explains options.now (reader_remaining R.remaining reader.old)
         (exit_status end) (W.contents output.old) (W.contents output.new)) }
 {
-    let end = all_lines(alloc, options, reader, report, line, output, faults);
+    let end = all_lines(
+        alloc, options, explains, reader, report, line, output, faults,
+    );
     hand_on_behind(end, report, output)
+}
+
+/// Runs a script, with reasons or without.
+fn run_by<R: Read + Drop, W: Write, E: Write>(
+    alloc: Global,
+    options: &Options,
+    explains: bool,
+    input: R,
+    output: &mut W,
+    faults: &mut E,
+) -> Result<u8, RunError>
+    ensures most { IfOk result (λ status. status ≤ 2) }
+    ensures whole { IfOk result (λ status. YieldsBy explains options.now (R.remaining input)
+        status (W.contents output.old) (W.contents output.new)) }
+{
+    let mut reader = lines_of(alloc, input)?;
+    let mut report = Report::new(alloc);
+    let mut line = Vec::new(alloc);
+    let end = all_answers(
+        alloc,
+        options,
+        explains,
+        &mut reader,
+        &mut report,
+        &mut line,
+        output,
+        faults,
+    )?;
+    tell(end, without_end(&line), &report.last, faults)
 }
 
 /// Runs the script that a reader gives, writes what it prints to `output` and the fault that ended
@@ -304,19 +331,27 @@ pub fn run_script_with_faults<R: Read + Drop, W: Write, E: Write>(
     ensures whole { IfOk result (λ status. ScriptYields options.now (R.remaining input)
         status (W.contents output.old) (W.contents output.new)) }
 {
-    let mut reader = lines_of(alloc, input)?;
-    let mut report = Report::new(alloc);
-    let mut line = Vec::new(alloc);
-    let end = all_answers(
-        alloc,
-        options,
-        &mut reader,
-        &mut report,
-        &mut line,
-        output,
-        faults,
-    )?;
-    tell(end, without_end(&line), &report.last, faults)
+    run_by(alloc, options, false, input, output, faults)
+}
+
+/// Runs the script that a reader gives, as `run_script_with_faults` does, and tells each refusal with its reason: behind what a
+/// line prints, lines that begin with `because` and `lifted by`. An `expect` line is not held against these.
+///
+/// # Errors
+///
+/// As `run_script_with_faults`.
+pub fn run_explained_script<R: Read + Drop, W: Write, E: Write>(
+    alloc: Global,
+    input: R,
+    output: &mut W,
+    faults: &mut E,
+    options: &Options,
+) -> Result<u8, RunError>
+    ensures most { IfOk result (λ status. status ≤ 2) }
+    ensures whole { IfOk result (λ status. ExplainedScriptYields options.now (R.remaining input)
+        status (W.contents output.old) (W.contents output.new)) }
+{
+    run_by(alloc, options, true, input, output, faults)
 }
 
 /// Runs the script that a reader gives, as `run_script_with_faults` does, and drops the text of the

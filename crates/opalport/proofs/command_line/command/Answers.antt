@@ -7,10 +7,10 @@ use Rattle.opalport.proofs.command_line.command.Goals as goal
 pub returns : goal.returns
 returns c =
     let top = c.top_command.ensures in
-    let run_line = c.in_ok-drive_command.ensures in
-    let run_plain = plain_fields c.in_ok-drive_command.field-0 (ap (λ (a : App). a.top.is_plain) run_line) in
-    let level0_line = c.in_ok-drive_command-2.ensures in
-    let level0_plain = plain_fields c.in_ok-drive_command-2.field-0 (ap (λ (a : App). a.top.is_plain) level0_line) in
+    let run_line = c.in_ok-run_command.ensures in
+    let run_plain = plain_fields c.in_ok-run_command.field-0 (ap (λ (a : App). a.top.is_plain) run_line) in
+    let level0_line = c.in_ok-drive_command.ensures in
+    let level0_plain = plain_fields c.in_ok-drive_command.field-0 (ap (λ (a : App). a.top.is_plain) level0_line) in
     let threads_line = c.in_ok-threads_command.ensures in
     let threads_plain = plain_fields c.in_ok-threads_command.field-0 (ap (λ (a : App). a.top.is_plain) threads_line) in
     let tokens_line = c.in_ok-tokens_command.ensures in

@@ -2,7 +2,7 @@ use Rattle.std.proofs.Common.{subst}
 use Rattle.std.proofs.lemmas.Result.{IfOk-weaker}
 use Rattle.std.specs.Io.Buffered.{reader_remaining}
 use Rattle.tool.specs.Ends.{OpenedStands}
-use Rattle.tool.specs.Outcomes.{run_outcome_of}
+use Rattle.tool.specs.Outcomes.{outcome_by}
 use Rattle.tool.specs.Progress.{FirstLine, OpensTo}
 use Rattle.tool.proofs.Texts.{weaker}
 use Rattle.tool.proofs.Outcomes.{first-opens, opened-runs}
@@ -22,14 +22,14 @@ returns-in-Runs g c =
     (λ end leads. weaker start _ _
     (λ text said.
     let opens =
-    first-opens head config c.in_ok-opened.opened text c.first_line.new.line.items
+    first-opens c.args.explains head config c.in_ok-opened.opened text c.first_line.new.line.items
     c.opening_lines.new.line.items first left
-    (subst (λ told. FirstLine told text c.first_line.new.line.items first) c.in-Some.is said)
+    (subst (λ told. FirstLine c.args.explains told text c.first_line.new.line.items first) c.in-Some.is said)
     c.in_ok-opened.ensures.leads in
-    opened-runs head (run_outcome_of config text) _ c.in-Runs.run' c.args.report.now.last.items
+    opened-runs head c.in-Runs.lines (outcome_by c.args.explains config text) _ c.in-Runs.run' c.args.report.now.last.items
     c.opening_lines.new.line.items left _ _ _ _
     (subst
-    (λ opened. OpensTo head opened (run_outcome_of config text) c.opening_lines.new.line.items left)
+    (λ opened. OpensTo head opened (outcome_by c.args.explains config text) c.opening_lines.new.line.items left)
     c.in-Runs.is opens)
     c.requires.last leads)
     c.in_ok-head.ensures)

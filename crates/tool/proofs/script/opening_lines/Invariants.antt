@@ -9,7 +9,7 @@ use Rattle.tool.proofs.script.opening_lines.Given as goal
 abbrev pub invariant-loop-number : goal.invariant-loop-number
 invariant-loop-number g l =
     IfSome (reader_remaining g.R.Read.remaining l.initial.reader)
-    (λ text. StillOpens l.head
-    (outcome_from l.head.on_port (opens_with l.options)
-    (lines_from l.head.remarks l.initial.line.items text))
+    (λ text. StillOpens l.head l.number
+    (outcome_from l.head.explains l.head.on_port (opens_with l.options)
+    (lines_from l.head.remarks l.head.lines l.initial.line.items text))
     l.phase l.line.items (reader_remaining g.R.Read.remaining l.reader))

@@ -12,8 +12,9 @@ invariant-loop-number g l =
     PhaseStands l.run
     × ((o : Origin) (course : Course) → PhaseRunsOn l.initial.run o course
     → IfSome (reader_remaining g.R.Read.remaining l.initial.reader)
-    (λ text. AtHand l.head.remarks
-    (outcome_on o course l.initial.report.last.items (lines_from l.head.remarks l.initial.line.items text)) o
+    (λ text. AtHand l.head.remarks l.number
+    (outcome_on o course l.initial.report.last.items
+    (lines_from l.head.remarks l.head.lines l.initial.line.items text)) o
     l.run l.report.last.items l.line.items (reader_remaining g.R.Read.remaining l.reader)
     (g.W.Write.contents l.initial.output) (g.W.Write.contents l.output)
     l.initial.report.pending.items l.report.pending.items))

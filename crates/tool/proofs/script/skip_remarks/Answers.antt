@@ -10,7 +10,7 @@ returns-then-not-is_skipped-clause-skips g c =
     let line = c.loop-number.line.items in
     let shown : c.without_end.result.now ≡ bare line = c.without_end.ensures ∙ ap bare c.deref.ensures.value in
     weaker (reader_remaining g.R.Read.remaining c.args.reader.now) _ _
-    (λ text still. skipped-to c.args.remarks 0 _ line c.without_end.result.now
+    (λ text still. skipped-to c.args.remarks c.loop-number.number _ line c.without_end.result.now
     (reader_remaining g.R.Read.remaining c.loop-number.reader) shown
     (sym c.is_skipped.ensures ∙ c.if-not-is_skipped.true) still)
     c.loop-number.invariant
@@ -24,7 +24,7 @@ returns-then-not-branch-clause-skips g c =
     let takes = subst (λ b. IfSome left (λ text. TakesLine b next text later)) c.if-not-branch.true c.in_ok-read_line.ensures.line in
     let shown : c.without_end.result.now ≡ bare line = c.without_end.ensures ∙ ap bare c.deref.ensures.value in
     weaker (reader_remaining g.R.Read.remaining c.args.reader.now) _ _
-    (λ text still. skips-all c.args.remarks _ line c.without_end.result.now next left later shown
+    (λ text still. skips-all c.args.remarks c.loop-number.number _ line c.without_end.result.now next left later shown
     (sym c.is_skipped.ensures ∙ c.if-not-is_skipped.false) still takes)
     c.loop-number.invariant
 
@@ -37,7 +37,7 @@ loop-number-preserved g c =
     let takes = subst (λ b. IfSome left (λ text. TakesLine b next text later)) c.if-not-branch.false c.in_ok-read_line.ensures.line in
     let shown : c.without_end.result.now ≡ bare line = c.without_end.ensures ∙ ap bare c.deref.ensures.value in
     weaker (reader_remaining g.R.Read.remaining c.args.reader.now) _ _
-    (λ text still. skips-on c.args.remarks _ line c.without_end.result.now next left later shown
+    (λ text still. skips-on c.args.remarks c.loop-number.number _ line c.without_end.result.now next left later shown
     (sym c.is_skipped.ensures ∙ c.if-not-is_skipped.false) still takes)
     c.loop-number.invariant
 

@@ -5,4 +5,4 @@ use Rattle.tool.proofs.opening.OpeningPhase.turn.Goals as goal
 pub returns-in-Ok-clause-stands : goal.returns-in-Ok-clause-stands
 returns-in-Ok-clause-stands c =
     IfOk-weaker c.act.result _ _
-    (λ turn does. opened-stands c.args.on_port c.args.self c.in-Ok.row turn does) c.act.ensures
+    (λ turn does. opened-stands c.args.head c.args.self c.in-Ok.row turn does) c.act.ensures

@@ -3,8 +3,8 @@ use Rattle.fis.specs.H2d.{IsH2dSpelling}
 use Rattle.tool.proofs.Runs.{accepts-so}
 use Rattle.tool.proofs.running.RunningPhase.accept.Goals as goal
 
-pub returns : goal.returns
-returns c = λ o acts runs.
+pub returns-clause-accepts : goal.returns-clause-accepts
+returns-clause-accepts c = λ o acts runs.
     accepts-so _ c.args.self.now.acts o acts c.args.command.now c.args.tag c.to_bytes-fis.result
     c.deref.result.now c.args.self.now.payload.items
     c.accept_into.new.answer c.deref.ensures.value

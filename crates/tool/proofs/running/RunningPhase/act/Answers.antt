@@ -1,4 +1,3 @@
-use Rattle.std.proofs.lemmas.Result.{IfOk-weaker}
 use Rattle.tool.proofs.running.RunningPhase.act.Goals as goal
 
 pub returns-in-Send : goal.returns-in-Send
@@ -17,9 +16,7 @@ pub returns-in-Identify : goal.returns-in-Identify
 returns-in-Identify c = rw c.in-Identify.is c.identify.ensures
 
 pub returns-in-Reset : goal.returns-in-Reset
-returns-in-Reset c =
-    rw c.in-Reset.is
-    (IfOk-weaker c.reset.result _ _ (λ turn makes. makes c.in-Reset.client) c.reset.ensures)
+returns-in-Reset c = rw c.in-Reset.is c.reset.ensures
 
 pub returns-in-Call : goal.returns-in-Call
 returns-in-Call c = rw c.in-Call.is c.call.ensures

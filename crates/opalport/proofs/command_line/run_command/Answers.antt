@@ -1,0 +1,10 @@
+use Rattle.std.proofs.Common.{◌∙◌, ap₂}
+use Rattle.std.proofs.lemmas.Result.{IfOk-weaker}
+use Rattle.clap.specs.Words.{with_rule}
+use Rattle.opalport.proofs.command_line.run_command.Goals as goal
+
+pub returns : goal.returns
+returns c =
+    IfOk-weaker c.arg.result _ _
+    (λ command adds. adds.shape c.flag-explain.ensures.local ∙ ap₂ with_rule c.in_ok-drive_command.ensures c.flag-explain.ensures.rule)
+    c.arg.ensures
