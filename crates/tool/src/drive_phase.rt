@@ -94,6 +94,13 @@ impl DrivePhase {
         }
     }
 
+    /// The drive.
+    pub fn drive(&self) -> &Drive
+        ensures { result.now ≡ self.now.run.drive }
+    {
+        self.run.drive()
+    }
+
     /// Does what the line of a number says.
     pub fn turn(
         &mut self,

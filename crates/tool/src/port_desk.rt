@@ -121,6 +121,13 @@ impl PortDesk {
         PortDesk { phase, explains }
     }
 
+    /// The port.
+    pub fn port(&self) -> &Port
+        ensures { result.now ≡ self.now.phase.port }
+    {
+        self.phase.port()
+    }
+
     /// Does what the line of a number says.
     pub fn turn(
         &mut self,

@@ -7,7 +7,7 @@ ghost use Rattle.tool.specs.Scripts.{is_skipped, may_hold_remarks};
 use script_lines::is_remark;
 
 /// Whether a script with this first line may hold remarks: whether the line begins with `#`.
-pub(crate) fn may_hold_remarks(first: &[u8]) -> bool
+pub fn may_hold_remarks(first: &[u8]) -> bool
     ensures { result ≡ may_hold_remarks first.now }
 {
     match first {
@@ -17,7 +17,7 @@ pub(crate) fn may_hold_remarks(first: &[u8]) -> bool
 }
 
 /// Whether a line is a remark, where remarks may stand.
-pub(crate) fn is_skipped(remarks: bool, line: &[u8]) -> bool
+pub fn is_skipped(remarks: bool, line: &[u8]) -> bool
     ensures { result ≡ is_skipped remarks line.now }
 {
     remarks && is_remark(line)

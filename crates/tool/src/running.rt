@@ -90,6 +90,13 @@ impl RunningPhase {
         }
     }
 
+    /// The drive.
+    pub fn drive(&self) -> &Drive
+        ensures { result.now ≡ self.now.drive }
+    {
+        &self.drive
+    }
+
     /// Does what one line says. A line that is none, or that gives the cells of a range, changes
     /// nothing.
     pub fn turn(&mut self, text: &[u8], report: &mut Report) -> Result<Turn, AllocError>
