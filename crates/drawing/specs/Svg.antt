@@ -140,7 +140,7 @@ legend_item at paint word = legend_square at paint ++ legend_word (at + 16) word
 unfoldable pub endings_legend : List ℕ
 endings_legend =
     legend_item 8 Done (codes "done") ++ legend_item 64 Failed (codes "failed")
-    ++ legend_item 124 Stopped (codes "reset")
+    ++ legend_item 124 Stopped (codes "not done")
 
 unfoldable pub denials_legend : List ℕ
 denials_legend =

@@ -338,7 +338,7 @@ fn append_endings_legend(alloc: Global, text: &mut Vec<u8>) -> Result<(), AllocE
 {
     append_legend_item(alloc, text, 8, Paint::Done, b"done")?;
     append_legend_item(alloc, text, 64, Paint::Failed, b"failed")?;
-    append_legend_item(alloc, text, 124, Paint::Stopped, b"reset")?;
+    append_legend_item(alloc, text, 124, Paint::Stopped, b"not done")?;
     Ok(())
 }
 

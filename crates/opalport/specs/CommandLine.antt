@@ -8,7 +8,7 @@ use Rattle.tool.specs.OptionTexts.{DriveText, drive_text}
 use Rattle.tool.specs.declared.tokens.Naming.{Naming}
 use Rattle.tool.specs.declared.tokens.Naming.TheVariants.{Numbers, Names}
 use Rattle.opalport.specs.declared.command_line.Request.{Request}
-use Rattle.opalport.specs.declared.command_line.Request.TheVariants.{Run, Level0, Threads, Tokens, Decode, Hba}
+use Rattle.opalport.specs.declared.command_line.Request.TheVariants.{Run, Draw, Level0, Threads, Tokens, Decode, Hba}
 
 -- `--name TEXT`, and the text that stands for it where it is left out
 abbrev pub option_rule : Text → Text → Rule
@@ -42,9 +42,11 @@ drive_line name =
 abbrev pub flag_rule : Text → Rule
 flag_rule name = record (new_rule name) { long = Some name; action = Some SetTrue }
 
--- `run`, with the options of a drive, and with reasons or without
+-- `run`, with the options of a drive, with reasons or without, and where its waveforms are written
 abbrev pub run_line : App
-run_line = with_rule (drive_line (codes "run")) (flag_rule (codes "explain"))
+run_line =
+    with_rule (with_rule (drive_line (codes "run")) (flag_rule (codes "explain")))
+    (free_rule (codes "vcd"))
 
 -- `--range TEXT`, as often as it is wanted
 abbrev pub range_rule : Rule
@@ -93,7 +95,7 @@ wants_command s =
 abbrev pub top_line : App
 top_line = on_top wants_command (new_app (codes "opalport"))
 
--- the program takes one of the six, and nothing else
+-- the program takes one of the seven, and nothing else
 abbrev pub opalport_line : App
 opalport_line =
     with_subcommand
@@ -101,13 +103,15 @@ opalport_line =
     (with_subcommand
     (with_subcommand
     (with_subcommand
+    (with_subcommand
     (with_subcommand top_line
     run_line.top) (drive_line (codes "level0")).top) threads_line.top)
-    tokens_line.top) decode_line.top) hba_line.top
+    tokens_line.top) decode_line.top) hba_line.top) (drive_line (codes "draw")).top
 
 -- what words ask for, by the texts as they are written
 pub data Wanted : Type 0 where
-  run : Bool → DriveText → Wanted
+  run : Bool → DriveText → Text → Wanted
+  draw : DriveText → Wanted
   level0 : DriveText → Wanted
   threads : Text → Text → Wanted
   tokens : Text → Naming → Wanted
@@ -116,7 +120,8 @@ pub data Wanted : Type 0 where
 
 -- what a request asks for
 abbrev pub wanted_by : Request → Wanted
-wanted_by (Run texts) = run texts.explains (drive_text texts.drive)
+wanted_by (Run texts) = run texts.explains (drive_text texts.drive) texts.vcd.now
+wanted_by (Draw drive) = draw (drive_text drive)
 wanted_by (Level0 drive) = level0 (drive_text drive)
 wanted_by (Threads load) = threads load.clients.now load.rounds.now
 wanted_by (Tokens tokens_asked) = tokens tokens_asked.hex.now tokens_asked.naming
@@ -155,7 +160,8 @@ naming_in rows = if has_flag (codes "names") rows then Names else Numbers
 -- what a subcommand with these arguments asks for
 abbrev pub asked_of : Text × List Row → Option Wanted
 asked_of (name, rows) =
-    if bytes_eq name (codes "run") then Some (run (has_flag (codes "explain") rows) (drive_in rows))
+    if bytes_eq name (codes "run")
+    then Some (run (has_flag (codes "explain") rows) (drive_in rows) (text_of (codes "vcd") rows))
     else if bytes_eq name (codes "level0") then Some (level0 (drive_in rows))
     else if bytes_eq name (codes "threads")
     then Some (threads (text_of (codes "clients") rows) (text_of (codes "rounds") rows))
@@ -164,6 +170,7 @@ asked_of (name, rows) =
     else if bytes_eq name (codes "decode")
     then Some (decode (text_of (codes "kind") rows) (text_of (codes "hex") rows))
     else if bytes_eq name (codes "hba") then Some (hba (drive_in rows) (range_texts rows))
+    else if bytes_eq name (codes "draw") then Some (draw (drive_in rows))
     else None
 
 -- what the words of a command line ask for, where they are one

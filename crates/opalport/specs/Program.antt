@@ -13,13 +13,14 @@ use Rattle.tool.specs.Level0.{level0_text}
 use Rattle.tool.specs.TokenLines.{token_text}
 use Rattle.tool.specs.declared.tokens.Naming.{Naming}
 use Rattle.decoded.specs.Decodings.{DecodeEnds}
+use Rattle.recorded.specs.Pictures.{Draws}
 use Rattle.hba_tool.specs.Openings.{option_rows, IsFaultOf}
 use Rattle.hba_tool.specs.Steps.{ServesOpened}
 use Rattle.hba_tool.specs.declared.opening.RangeFault.{RangeFault}
 use Rattle.clap.specs.Words.{IsAmong, Kinds, Text, fault_of}
 use Rattle.clap.specs.declared.error.kind.ErrorKind.{ErrorKind}
 use Rattle.clap.specs.declared.error.kind.ErrorKind.TheVariants.{DisplayHelp, DisplayVersion}
-use Rattle.opalport.specs.CommandLine.{Wanted, run, level0, threads, tokens, decode, hba, asked_by, opalport_line}
+use Rattle.opalport.specs.CommandLine.{Wanted, run, draw, level0, threads, tokens, decode, hba, asked_by, opalport_line}
 
 -- the texts write a configuration within the limits
 abbrev pub WritesLimitedConfig : DriveText → Type 0
@@ -32,6 +33,14 @@ abbrev pub RunEnds : Bool → DriveText → Option (List ℕ) → ℕ → Option
 RunEnds explains texts input status old new =
     ((config : Config) × WritesConfig texts config × IsOfDrive config
     × YieldsBy explains config input status old new)
+    ⊎ ((WritesLimitedConfig texts → ⊥) × (status ≡ 2) × (new ≡ old))
+
+-- the picture of the run is printed, with the status of the run; where the options open no drive, the
+-- status is 2, and nothing is printed
+abbrev pub DrawEnds : DriveText → Option (List ℕ) → ℕ → Option (List ℕ) → Option (List ℕ) → Type 0
+DrawEnds texts input status old new =
+    ((config : Config) × WritesConfig texts config × IsOfDrive config
+    × Draws config input status old new)
     ⊎ ((WritesLimitedConfig texts → ⊥) × (status ≡ 2) × (new ≡ old))
 
 -- the discovery of a new drive is printed with status 0; where the options open no drive, the status is 2, and nothing
@@ -88,8 +97,10 @@ pub record EndsByWords (kind : ErrorKind) (status : ℕ) (old new : Option (List
 abbrev pub Serves : {R W : Type 0} → (R → Option (List ℕ)) → (W → Option (List ℕ)) → Option Wanted
     → Option (List ℕ) → ℕ → Option (List ℕ) → Option (List ℕ) → Type 0
 Serves remaining contents None input status old new = status ≡ 2
-Serves remaining contents (Some (run explains texts)) input status old new =
+Serves remaining contents (Some (run explains texts vcd)) input status old new =
     RunEnds explains texts input status old new
+Serves remaining contents (Some (draw texts)) input status old new =
+    DrawEnds texts input status old new
 Serves remaining contents (Some (level0 texts)) input status old new =
     Level0Ends texts status old new
 Serves remaining contents (Some (threads clients rounds)) input status old new =

@@ -17,6 +17,8 @@ pub struct RunTexts<'a> {
     pub drive: DriveTexts<'a>,
     /// Whether each refusal is told with its reason.
     pub explains: bool,
+    /// Where the waveforms of the run are written; empty where none are wanted.
+    pub vcd: &'a str,
 }
 
 /// The options that say how many clients make how many rounds, as they are written.
@@ -55,6 +57,8 @@ pub struct DecodeTexts<'a> {
 pub enum Request<'a> {
     /// To run a script on a drive.
     Run(RunTexts<'a>),
+    /// To draw the run of a script on a drive.
+    Draw(DriveTexts<'a>),
     /// To print the Level 0 discovery of a new drive.
     Level0(DriveTexts<'a>),
     /// To run clients and an engine at one port, each in a thread of its own.
@@ -194,7 +198,15 @@ fn run_command<'a>(alloc: Global) -> Result<Command<'a>, AllocError>
         "explain",
         "Tells each refusal with its reason, and what would lift it",
     );
-    drive_command(alloc, "run", "Runs a script from standard input", LINES)?.arg(explain)
+    let vcd = free_option(
+        alloc,
+        "vcd",
+        "FILE",
+        "Writes the waveforms of the run there, while it runs",
+    );
+    drive_command(alloc, "run", "Runs a script from standard input", LINES)?
+        .arg(explain)?
+        .arg(vcd)
 }
 
 /// The command that runs clients and an engine at one port, with the options that say how many.
@@ -341,7 +353,13 @@ fn command<'a>(alloc: Global) -> Result<Command<'a>, AllocError>
         .subcommand(threads_command(alloc)?)?
         .subcommand(tokens_command(alloc)?)?
         .subcommand(decode_command(alloc)?)?
-        .subcommand(hba_command(alloc)?)
+        .subcommand(hba_command(alloc)?)?
+        .subcommand(drive_command(
+            alloc,
+            "draw",
+            "Draws the run of a script from standard input, as SVG",
+            "",
+        )?)
 }
 
 /// The text of an argument, as it is written.
@@ -379,10 +397,12 @@ fn run_texts<'a>(matches: &ArgMatches<'a>) -> RunTexts<'a>
     ensures drive { drive_text result.drive ≡ drive_in (rows_of (found_of matches.now)) }
     ensures explains { result.explains
         ≡ has_flag (codes "explain") (rows_of (found_of matches.now)) }
+    ensures vcd { result.vcd.now ≡ text_of (codes "vcd") (rows_of (found_of matches.now)) }
 {
     RunTexts {
         drive: drive_texts(matches),
         explains: has_flag(matches, "explain"),
+        vcd: text_of(matches, "vcd"),
     }
 }
 
@@ -458,6 +478,7 @@ fn request_in<'a>(
             let texts = hba_texts(alloc, matches)?;
             Ok(Some(Request::Hba(texts)))
         }
+        "draw" => Ok(Some(Request::Draw(drive_texts(matches)))),
         _ => Ok(None),
     }
 }

@@ -3,6 +3,7 @@
 use decoded::DecodeError;
 use hba_tool::WireError;
 use port_threads::LoadError;
+use recorded::RecordError;
 use thiserror::Error;
 use tool::RunError;
 
@@ -11,6 +12,10 @@ use tool::RunError;
 pub(crate) enum ProgramError {
     #[error(transparent)]
     Run(#[from] RunError),
+    #[error("the file of the dump could not be made")]
+    DumpFile,
+    #[error(transparent)]
+    Record(#[from] RecordError),
     #[error(transparent)]
     Decode(#[from] DecodeError),
     #[error(transparent)]

@@ -10,12 +10,13 @@ mod program;
 
 use crate::program::ends;
 use anyhow::Result;
+use std::fs::Files;
 use std::process::ExitCode;
 use std::sync::Wait;
 use std::thread::Threads;
 
 /// Does what the words of the command line ask for, and gives the status.
-fn status<T: Threads + Wait + Sync>(rt: &HostRuntime, threads: &T) -> Result<u8> {
+fn status<T: Threads + Wait + Sync + Files>(rt: &HostRuntime, threads: &T) -> Result<u8> {
     let words: Vec<String> = std::env::args(rt)?.collect(rt.alloc())?;
     let status = ends(
         threads,

@@ -3,7 +3,8 @@
 ghost use Rattle.std.specs.Prelude.{◌≡◌, ◌≢◌, ◌≤◌, IfOk, map, string_bytes};
 ghost use Rattle.clap.specs.Words.{kind_of};
 ghost use Rattle.tool.specs.OptionTexts.{drive_text};
-ghost use Rattle.opalport.specs.Program.{EndsByWords, RunEnds, Level0Ends, ThreadsEnd, TokensEnd, Ends};
+ghost use Rattle.tool.specs.Outcomes.{YieldsBy};
+ghost use Rattle.opalport.specs.Program.{EndsByWords, DrawEnds, RunEnds, Level0Ends, ThreadsEnd, TokensEnd, Ends};
 
 use crate::command_line::{LoadTexts, Request, RunTexts, TokenTexts, request_of};
 use crate::controller::serve_controller;
@@ -11,7 +12,10 @@ use crate::error::ProgramError;
 use clap::error::ErrorKind;
 use decoded::run_decode;
 use port_threads::{Load, LoadError, run_load};
+use recorded::{RecordError, draw_script, run_script_with_dump};
 use std::alloc::Global;
+use std::fs;
+use std::fs::Files;
 use std::io::{Read, Write};
 use std::sync::Wait;
 use std::thread::Threads;
@@ -20,24 +24,87 @@ use tool::{
     run_script_with_faults, run_tokens_with_faults,
 };
 
-/// Runs a script on the drive that the options open, and gives the status.
-fn run<R: Read + Drop, W: Write, E: Write>(
+/// Runs a script, with reasons or without.
+fn run_plainly<R: Read + Drop, W: Write, E: Write>(
     alloc: Global,
-    texts: &RunTexts<'_>,
+    options: &Options,
+    explains: bool,
     input: R,
     output: &mut W,
     faults: &mut E,
 ) -> Result<u8, RunError>
     ensures most { IfOk result (λ status. status ≤ 2) }
+    ensures ends { IfOk result (λ status. YieldsBy explains options.now (R.remaining input)
+        status (W.contents output.old) (W.contents output.new)) }
+{
+    if explains {
+        return run_explained_script(alloc, input, output, faults, options);
+    }
+    run_script_with_faults(alloc, input, output, faults, options)
+}
+
+/// Runs a script, and writes its waveforms to the file that is named, where one is.
+fn run_on<F: Files, R: Read + Drop, W: Write, E: Write>(
+    files: &F,
+    alloc: Global,
+    options: &Options,
+    texts: &RunTexts<'_>,
+    input: R,
+    output: &mut W,
+    faults: &mut E,
+) -> Result<u8, ProgramError>
+    ensures most { IfOk result (λ status. status ≤ 2) }
+    ensures ends { IfOk result (λ status. YieldsBy texts.now.explains options.now
+        (R.remaining input) status (W.contents output.old) (W.contents output.new)) }
+{
+    let explains = texts.explains;
+    if texts.vcd.is_empty() {
+        let status = run_plainly(alloc, options, explains, input, output, faults)?;
+        return Ok(status);
+    }
+    let file = fs::create(files, texts.vcd).map_err(|_| ProgramError::DumpFile)?;
+    let (status, _) = run_script_with_dump(alloc, input, output, faults, file, options, explains)?;
+    Ok(status)
+}
+
+/// Runs a script on the drive that the options open, and gives the status.
+fn run<F: Files, R: Read + Drop, W: Write, E: Write>(
+    files: &F,
+    alloc: Global,
+    texts: &RunTexts<'_>,
+    input: R,
+    output: &mut W,
+    faults: &mut E,
+) -> Result<u8, ProgramError>
+    ensures most { IfOk result (λ status. status ≤ 2) }
     ensures ends { IfOk result (λ status. RunEnds texts.now.explains (drive_text texts.now.drive)
         (R.remaining input) status (W.contents output.old) (W.contents output.new)) }
 {
     match Options::parse(alloc, &texts.drive) {
-        Ok(options) if texts.explains => {
-            run_explained_script(alloc, input, output, faults, &options)
+        Ok(options) => run_on(files, alloc, &options, texts, input, output, faults),
+        Err(OptionsFault::OutOfMemory) => Err(ProgramError::Run(RunError::Memory)),
+        Err(fault) => {
+            writeln!(faults, "error: {fault}").map_err(|_| RunError::Write)?;
+            Ok(2)
         }
-        Ok(options) => run_script_with_faults(alloc, input, output, faults, &options),
-        Err(OptionsFault::OutOfMemory) => Err(RunError::Memory),
+    }
+}
+
+/// Draws the run of a script on the drive that the options open, and gives the status.
+fn draw<R: Read + Drop, W: Write, E: Write>(
+    alloc: Global,
+    drive: &DriveTexts<'_>,
+    input: R,
+    output: &mut W,
+    faults: &mut E,
+) -> Result<u8, RecordError>
+    ensures most { IfOk result (λ status. status ≤ 2) }
+    ensures ends { IfOk result (λ status. DrawEnds (drive_text drive.now) (R.remaining input)
+        status (W.contents output.old) (W.contents output.new)) }
+{
+    match Options::parse(alloc, drive) {
+        Ok(options) => draw_script(alloc, input, output, faults, &options),
+        Err(OptionsFault::OutOfMemory) => Err(RecordError::Run(RunError::Memory)),
         Err(fault) => {
             writeln!(faults, "error: {fault}").map_err(|_| RunError::Write)?;
             Ok(2)
@@ -136,7 +203,7 @@ fn tell<W: Write, E: Write>(
 /// # Errors
 ///
 /// An allocation was refused, the reader or a writer failed, or no thread could be started.
-pub fn ends<T: Threads + Wait + Sync, R: Read + Drop, W: Write, E: Write>(
+pub fn ends<T: Threads + Wait + Sync + Files, R: Read + Drop, W: Write, E: Write>(
     rt: &T,
     alloc: Global,
     words: &[String],
@@ -149,7 +216,8 @@ pub fn ends<T: Threads + Wait + Sync, R: Read + Drop, W: Write, E: Write>(
         (R.remaining input) status (W.contents output.old) (W.contents output.new)) }
 {
     match request_of(alloc, words) {
-        Ok(Some(Request::Run(texts))) => Ok(run(alloc, &texts, input, output, faults)?),
+        Ok(Some(Request::Run(texts))) => run(rt, alloc, &texts, input, output, faults),
+        Ok(Some(Request::Draw(drive))) => Ok(draw(alloc, &drive, input, output, faults)?),
         Ok(Some(Request::Level0(drive))) => Ok(level0(alloc, &drive, output, faults)?),
         Ok(Some(Request::Threads(load))) => Ok(threads(rt, alloc, &load, output, faults)?),
         Ok(Some(Request::Tokens(texts))) => Ok(tokens(alloc, &texts, output, faults)?),

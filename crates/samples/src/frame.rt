@@ -3,9 +3,11 @@
 use crate::sample::Sample;
 use basics::Bytes;
 
-/// What a line of a script left behind: the line, the last line that was printed then, and what a look showed.
+/// What a line of a script left behind: the line with its number, the last line that was printed then, and what a look
+/// showed. The frame of an opening has the number 0, and no line.
 #[derive(Drop)]
 pub struct Frame {
+    pub number: u64,
     pub line: Bytes,
     pub last: Bytes,
     pub sample: Sample,

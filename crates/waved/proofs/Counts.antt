@@ -1,12 +1,9 @@
--- Signals and frames, one more at a time.
-use Rattle.std.proofs.Common.{◌≡◌, ◌∙◌, ℕ, ◌+◌, ◌<◌, ◌≤◌, List, [], ◌∷◌, ◌++◌, length, drop, get_or, refl, ap, sym, add-one, append_assoc, append-nil, arith}
-use Rattle.std.proofs.lemmas.List.{drop_more}
-use Rattle.std.proofs.Math.ListN.{drop_of_length-le}
+-- Signals, one more at a time.
+use Rattle.std.proofs.Common.{◌≡◌, ◌∙◌, ℕ, ◌+◌, List, ◌++◌, ap, sym, add-one, append_assoc, append-nil}
 use Rattle.samples.specs.Samples.{Sample}
-use Rattle.samples.specs.declared.frame.Frame.{Frame}
 use Rattle.waveform.specs.Dumps.{declaration, wire_value, changed_value}
 use Rattle.waved.specs.Waves.{wave_at, wave_bits, wave_name, wave_value}
-use Rattle.waved.specs.Dumps.{declared_to, values_to, changes_to, moment_text, moments_text}
+use Rattle.waved.specs.Dumps.{declared_to, values_to, changes_to}
 
 -- the text with one piece more
 more : (old before now piece : List ℕ) → before ≡ old ++ now → (new : List ℕ) → new ≡ before ++ piece
@@ -61,34 +58,3 @@ unfolding changes_to
 changes_on old before new a b n so is =
     more old before (changes_to a b n) (changed_value n (wave_bits (wave_at n)) (wave_value (wave_at n) a) (wave_value (wave_at n) b)) so new is
     ∙ ap (λ k. old ++ changes_to a b k) (sym (add-one n))
-
--- frames
-
-at_hand : (frames : List Frame) (place : ℕ) (frame : Frame) → place < length frames
-    → frame ≡ get_or frames place frame → drop place frames ≡ frame ∷ drop (place + 1) frames
-at_hand frames place frame below is =
-    drop_more frames place frame below ∙ ap (λ x. x ∷ drop (place + 1) frames) (sym is)
-
-pub moments_first : (text : List ℕ) (first : Sample) (frames : List Frame)
-    → text ++ moments_text 1 first frames ≡ text ++ moments_text (0 + 1) first (drop 0 frames)
-moments_first text first frames = refl
-
-pub moments_on : (whole before new : List ℕ) (shown : Sample) (frames : List Frame) (place time : ℕ) (frame : Frame)
-    → place < length frames → frame ≡ get_or frames place frame → time ≡ place + 1
-    → whole ≡ before ++ moments_text (place + 1) shown (drop place frames)
-    → new ≡ before ++ moment_text time shown frame.sample
-    → whole ≡ new ++ moments_text ((place + 1) + 1) frame.sample (drop (place + 1) frames)
-unfolding moments_text
-moments_on whole before new shown frames place time frame below is at so made =
-    so
-    ∙ ap (λ fs. before ++ moments_text (place + 1) shown fs) (at_hand frames place frame below is)
-    ∙ sym (append_assoc before (moment_text (place + 1) shown frame.sample)
-    (moments_text ((place + 1) + 1) frame.sample (drop (place + 1) frames)))
-    ∙ ap (λ t. (before ++ moment_text t shown frame.sample) ++ moments_text ((place + 1) + 1) frame.sample (drop (place + 1) frames)) (sym at)
-    ∙ ap (λ t. t ++ moments_text ((place + 1) + 1) frame.sample (drop (place + 1) frames)) (sym made)
-
-pub moments_all : (whole now : List ℕ) (shown : Sample) (frames : List Frame) (place : ℕ) → length frames ≤ place
-    → whole ≡ now ++ moments_text (place + 1) shown (drop place frames) → now ≡ whole
-unfolding moments_text
-moments_all whole now shown frames place all so =
-    sym (so ∙ ap (λ fs. now ++ moments_text (place + 1) shown fs) (drop_of_length-le frames all) ∙ append-nil now)

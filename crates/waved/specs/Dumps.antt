@@ -1,6 +1,6 @@
--- The dump of a run by the frames that its lines left behind: at time 0 what the opening shows, and one time unit for each
--- line behind it.
-use Rattle.std.specs.Prelude.{ℕ, zero, suc, ◌+◌, List, [], ◌∷◌, ◌++◌}
+-- The dump of a run by the frames that its lines left behind: at time 0 what the opening shows, and at the number of each
+-- line what this left behind.
+use Rattle.std.specs.Prelude.{ℕ, zero, suc, List, [], ◌∷◌, ◌++◌, Option, None, Some}
 use Rattle.samples.specs.Samples.{Sample}
 use Rattle.samples.specs.declared.frame.Frame.{Frame}
 use Rattle.waveform.specs.Dumps.{declaration, preamble, definitions_end, values_begin, values_end, wire_value, changed_value, time_text}
@@ -30,18 +30,24 @@ dump_head = preamble ++ declared_to wave_count ++ definitions_end
 unfoldable pub first_text : Sample → List ℕ
 first_text sample = values_begin ++ values_to sample wave_count ++ values_end
 
+-- the declarations, and what the opening shows
+unfoldable pub opening_text : Sample → List ℕ
+opening_text sample = dump_head ++ first_text sample
+
 -- a time, and what changed then
 abbrev pub moment_text : ℕ → Sample → Sample → List ℕ
 moment_text time before sample = time_text time ++ changes_to before sample wave_count
 
--- from a time on, behind what a look showed before
-unfoldable pub moments_text : ℕ → Sample → List Frame → List ℕ
-moments_text time before [] = []
-moments_text time before (frame ∷ frames) =
-    moment_text time before frame.sample ++ moments_text (time + 1) frame.sample frames
+-- what a frame adds behind what a look showed before, if one did: the number of its line is the time
+abbrev pub frame_text : Option Sample → Frame → List ℕ
+frame_text None frame = opening_text frame.sample
+frame_text (Some before) frame = moment_text frame.number before frame.sample
+
+unfoldable pub dump_from : Option Sample → List Frame → List ℕ
+dump_from shown [] = []
+dump_from shown (frame ∷ frames) =
+    frame_text shown frame ++ dump_from (Some frame.sample) frames
 
 -- the whole dump; there is none where nothing was opened
 abbrev pub dump_text : List Frame → List ℕ
-dump_text [] = []
-dump_text (first ∷ others) =
-    dump_head ++ first_text first.sample ++ moments_text 1 first.sample others
+dump_text frames = dump_from None frames

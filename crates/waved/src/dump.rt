@@ -1,8 +1,8 @@
 //! The dump of frames.
 
-ghost use Rattle.std.specs.Prelude.{◌≡◌, ◌++◌, IfOk, OnOk};
+ghost use Rattle.std.specs.Prelude.{◌≡◌, ◌++◌, OnOk, option_copied};
 ghost use Rattle.waved.specs.Waves.{wave_count};
-ghost use Rattle.waved.specs.Dumps.{declared_to, values_to, changes_to, dump_head, first_text, moment_text, moments_text, dump_text};
+ghost use Rattle.waved.specs.Dumps.{declared_to, values_to, changes_to, dump_head, first_text, opening_text, moment_text, frame_text};
 
 use crate::wave::{WAVES, wave_at, wave_bits, wave_name, wave_value};
 use samples::{Frame, Sample};
@@ -88,36 +88,32 @@ fn append_moment(
     Ok(())
 }
 
-/// Appends what the frames behind the first show.
-fn append_moments(
-    alloc: Global,
-    text: &mut Vec<u8>,
-    first: &Sample,
-    frames: &[Frame],
-) -> Result<(), AllocError>
-    ensures { OnOk result (text.new.items ≡ text.old.items ++ moments_text 1 first.now frames.now) }
+/// Appends the declarations, and what the opening shows.
+#[tactic(auto, unfolding(crate::specs::Dumps::opening_text))]
+fn append_opening(alloc: Global, text: &mut Vec<u8>, sample: &Sample) -> Result<(), AllocError>
+    ensures { OnOk result (text.new.items ≡ text.old.items ++ opening_text sample.now) }
 {
-    let mut before = first;
-    for (place, frame) in frames.iter().enumerate() {
-        append_moment(alloc, text, place as u64 + 1, before, &frame.sample)?;
-        before = &frame.sample;
-    }
+    append_head(alloc, text)?;
+    append_first(text, sample)?;
     Ok(())
 }
 
-/// The value change dump of frames: at time 0 what the first shows, and one time unit for each behind it.
+/// Appends what a frame adds to the dump of a run, behind what a look showed before. The first frame shows the opening.
 ///
 /// # Errors
 ///
 /// An allocation was refused.
-pub fn dump_of(alloc: Global, frames: &[Frame]) -> Result<Vec<u8>, AllocError>
-    ensures { IfOk result (λ text. text.items ≡ dump_text frames.now) }
+pub fn append_frame(
+    alloc: Global,
+    text: &mut Vec<u8>,
+    shown: Option<&Sample>,
+    frame: &Frame,
+) -> Result<(), AllocError>
+    ensures { OnOk result (text.new.items
+        ≡ text.old.items ++ frame_text (option_copied shown.entry) frame.now) }
 {
-    let mut text = Vec::new(alloc);
-    if let [first, others @ ..] = frames {
-        append_head(alloc, &mut text)?;
-        append_first(&mut text, &first.sample)?;
-        append_moments(alloc, &mut text, &first.sample, others)?;
+    match shown {
+        None => append_opening(alloc, text, &frame.sample),
+        Some(before) => append_moment(alloc, text, frame.number, before, &frame.sample),
     }
-    Ok(text)
 }

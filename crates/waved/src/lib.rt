@@ -4,5 +4,5 @@
 mod dump;
 mod wave;
 
-pub use dump::dump_of;
+pub use dump::append_frame;
 pub use wave::Wave;

@@ -24,4 +24,7 @@ returns c =
     let decode_plain = plain_fields c.in_ok-decode_command.field-0 (ap (λ (a : App). a.top.is_plain) decode_line) in
     let with_tokens = c.in_ok-subcommand-4.ensures.shape tokens_plain.globals ∙ ap₂ with_subcommand with_threads (ap (λ (a : App). a.top) tokens_line) in
     let with_decode = c.in_ok-subcommand-5.ensures.shape decode_plain.globals ∙ ap₂ with_subcommand with_tokens (ap (λ (a : App). a.top) decode_line) in
-    IfOk-weaker c.subcommand-6.result _ _ (λ command adds. adds.shape hba_plain.globals ∙ ap₂ with_subcommand with_decode (ap (λ (a : App). a.top) hba_line)) c.subcommand-6.ensures
+    let with_hba = c.in_ok-subcommand-6.ensures.shape hba_plain.globals ∙ ap₂ with_subcommand with_decode (ap (λ (a : App). a.top) hba_line) in
+    let draw_line = c.in_ok-drive_command-2.ensures in
+    let draw_plain = plain_fields c.in_ok-drive_command-2.field-0 (ap (λ (a : App). a.top.is_plain) draw_line) in
+    IfOk-weaker c.subcommand-7.result _ _ (λ command adds. adds.shape draw_plain.globals ∙ ap₂ with_subcommand with_hba (ap (λ (a : App). a.top) draw_line)) c.subcommand-7.ensures

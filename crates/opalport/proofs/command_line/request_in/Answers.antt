@@ -32,3 +32,9 @@ returns-in-decode c =
     let entered : subcommand_rows_of c.args.matches.now ≡ Some (c.in-Some.name.now, rows_of (found_of c.in-Some.matches.now)) =
     entered_as _ _ _ _ _ c.in-Some.ensures.name c.in-Some.ensures.rows in
     rw (entered, c.in-decode.is) (cc)
+
+pub returns-in-draw : goal.returns-in-draw
+returns-in-draw c =
+    let entered : subcommand_rows_of c.args.matches.now ≡ Some (c.in-Some.name.now, rows_of (found_of c.in-Some.matches.now)) =
+    entered_as _ _ _ _ _ c.in-Some.ensures.name c.in-Some.ensures.rows in
+    rw (entered, c.in-draw.is) (cc)
