@@ -3,3 +3,10 @@ mod TransferClauses
 mod AuditClauses
 mod MethodClauses
 mod NoTraceClauses
+mod ItemClauses
+mod TransactionClauses
+mod DeedClauses
+mod AttemptClauses
+mod SessionClauses
+mod BoundClauses
+mod PortClauses
