@@ -1,14 +1,16 @@
 //! What the drive decides on a command (ACS-3, NCQ and trusted computing feature sets).
 
-ghost use Rattle.std.specs.Prelude.{◌≡◌, ◌<◌, ◌≤◌, ℕ, List, Some, None, Ok, is_some};
+ghost use Rattle.std.specs.Prelude.{◌≡◌, ◌<◌, ◌≤◌, ℕ, List, Some, None, Ok, is_some, IfSome, true};
 ghost use Rattle.history.specs.Facts.{Facts};
 ghost use Rattle.history.specs.Decisions.{aborted, while_failed, admitted, receive, is_trusted, queued_transfer, unqueued_transfer};
 ghost use Rattle.history.specs.Tcg.{commanded, known, unqueued, send, command_read};
-ghost use Rattle.trusted_cmds.specs.Commands.{IsCounted, most_sectors};
+ghost use Rattle.trusted_cmds.specs.Commands.{IsCounted, most_sectors, read_queued, write_queued, is_queued};
 ghost use Rattle.device_data.specs.ErrorLog.{failure_by};
 ghost use Rattle.drive.specs.declared.decision.Decision.{Decision};
 ghost use Rattle.drive.specs.declared.decision.Cause.{Cause};
 ghost use Rattle.drive.specs.Decision.{untaken};
+ghost use Rattle.drive.specs.Transfer.{by_op, queued_command};
+ghost use Rattle.sp_cells.specs.Config.{Config};
 
 use crate::decision::{ABORTED, Cause, Decision};
 use crate::drive::Drive;
@@ -19,13 +21,49 @@ use fis::{RegH2d, Tag};
 use locking::Op;
 use rules::Rule;
 use tper::is_session_com_id;
-use trusted_cmds::{Command, is_protocol_list, is_queued, of_fis, tag_of};
+use trusted_cmds::{Command, is_protocol_list, is_queued, of_fis, sectors, tag_of};
 
 /// The ComID of Level 0 discovery.
 pub(crate) const DISCOVERY_COM_ID: u16 = 1;
 
 /// The security protocol of the TCG.
 const TCG_PROTOCOL: u8 = 1;
+
+/// The codes of the queued commands, READ and WRITE FPDMA QUEUED.
+const READ_QUEUED: u8 = 0x60;
+
+const WRITE_QUEUED: u8 = 0x61;
+
+/// The bit of Device that a transfer has.
+const LBA_DEVICE: u8 = 0x40;
+
+/// Which way the data of a queued command move.
+fn queued_op(code: u8) -> Option<Op>
+    ensures { IfSome result (λ op. code ≡ by_op op read_queued write_queued) }
+{
+    match code {
+        READ_QUEUED => Some(Op::Read),
+        WRITE_QUEUED => Some(Op::Write),
+        _ => None,
+    }
+}
+
+/// The queued transfer that a FIS carries, with its tag: what `of_fis` reads, of the commands that come most.
+#[tactic(auto, using(crate::proofs::Queued::reads_so))]
+#[inline(always)]
+fn queued_in(h: &RegH2d) -> Option<(Tag, Transfer)>
+    ensures reads { IfSome result (λ r. (config : Config)
+        → command_read config h.now ≡ Ok (queued_command r.1, Some r.0)) }
+    ensures command { IfSome result (λ r. h.now.is_command ≡ true) }
+    ensures queued { IfSome result (λ r. is_queued h.now.command ≡ true) }
+{
+    if !h.is_command || h.device / LBA_DEVICE % 2 != 1 {
+        return None;
+    }
+    let op = queued_op(h.command)?;
+    let transfer = Transfer::by(op, h.lba.number(), sectors(h.feature));
+    Some((tag_of(h), transfer))
+}
 
 /// Security protocol 01h, with one block at least.
 fn is_trusted(protocol: u8, blocks: u16) -> bool
@@ -83,7 +121,7 @@ fn untaken(command: &Command) -> Rule
 }
 
 impl Drive {
-    ghost use Rattle.std.specs.Prelude.{◌≡◌, ◌<◌, ◌&&◌, not, ℕ, List, Some, None, Ok, is_some, true, false};
+    ghost use Rattle.std.specs.Prelude.{◌≡◌, ◌<◌, ◌&&◌, not, ℕ, List, Some, None, Ok, is_some, IfSome, true, false};
     ghost use Rattle.fis.specs.Tags.{slot_count};
     ghost use Rattle.trusted_cmds.specs.Commands.{is_queued};
     ghost use Rattle.trusted_cmds.specs.BlockSid.{is_block_sid};
@@ -93,6 +131,31 @@ impl Drive {
     ghost use Rattle.drive.specs.State.{kept_facts};
     ghost use Rattle.drive.specs.Queue.{held_at};
     ghost use Rattle.drive.specs.Transfer.{queued_command, unqueued_command};
+
+    /// The queued transfer of a FIS that the drive holds, as `decide` says: its tag is free, and it is permitted.
+    #[tactic(auto, using(crate::proofs::Queued::held_so))]
+    #[inline(always)]
+    pub(crate) fn held_at_once(&self, h: &RegH2d) -> Option<(Tag, Held)>
+        ensures event { IfSome result (λ r. (f : Facts) (payload : List ℕ) → decision_event
+            (kept_facts self.now f) payload (Decision.Holds r.0 r.1)
+            ≡ commanded (kept_facts self.now f) h.now payload) }
+        ensures due { IfSome result (λ r. IsDue self.now h.now (Decision.Holds r.0 r.1)) }
+    {
+        let (tag, transfer) = queued_in(h)?;
+        if self.failure().is_some() || self.held(tag).is_some() {
+            return None;
+        }
+        match self.policy(&transfer) {
+            Ok(is_shadowed) => Some((
+                tag,
+                Held {
+                    transfer,
+                    is_shadowed,
+                },
+            )),
+            Err(_) => None,
+        }
+    }
 
     /// What the drive does with the command of a FIS.
     #[inline(always)]

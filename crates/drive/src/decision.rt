@@ -106,6 +106,7 @@ const NOT_FOUND: u8 = 0x10;
 
 /// Whether a transfer reads the shadow, or why it is refused: sectors that are not on the drive, then what the ranges
 /// and the shadow say.
+#[inline(always)]
 pub(crate) fn policy(sectors: u64, ranges: &Ranges, transfer: &Transfer) -> Result<bool, Refusal>
     requires { sectors ≤ 2 ^ 48 }
     ensures { told result ≡ policy sectors ranges.now transfer.now }

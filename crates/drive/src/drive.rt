@@ -7,7 +7,7 @@ ghost use Rattle.locking.specs.Ranges.{ranges_in};
 ghost use Rattle.transactions.specs.Sights.{look_up};
 
 use crate::answer::{Accepted, Completed};
-use crate::decision::{ABORTED, Objection, Refusal, policy};
+use crate::decision::{ABORTED, Decision, Objection, Refusal, policy};
 use crate::error::DriveError;
 use crate::heads::heads;
 use crate::opening::Opening;
@@ -89,7 +89,7 @@ impl Drive {
     ghost use Rattle.history.specs.Agreement.{HasNoTries};
     ghost use Rattle.history.specs.KeptStore.{HasKnownRows};
     ghost use Rattle.history.specs.Answers.{expected, payload_of};
-    ghost use Rattle.history.specs.Tcg.{received_bytes, sent};
+    ghost use Rattle.history.specs.Tcg.{received_bytes, sent, commanded};
     ghost use Rattle.history.specs.Decisions.{any_below, is_session_com_id, resets, received};
     ghost use Rattle.history.specs.Events.{Event, WasReset, BlockedSid, did};
     ghost use Rattle.history.specs.Facts.{Facts, facts};
@@ -180,6 +180,7 @@ impl Drive {
     }
 
     /// Whether a transfer reads the shadow, or why it is refused.
+    #[inline(always)]
     pub(crate) fn policy(&self, transfer: &Transfer) -> Result<bool, Refusal>
         ensures value { told result ≡ policy_on self.now transfer.now }
         ensures fits { IfOk result (FitsPolicy self.now transfer.now) }
@@ -561,7 +562,38 @@ impl Drive {
         ensures err { OnErr result (self.new ≡ self.old) }
         ensures unsaid { OnErr result (answer.new ≡ answer.old) }
     {
+        // Most commands are queued transfers that are held: what is decided on them is small, and not moved.
+        if let Some((tag, held)) = self.held_at_once(h) {
+            return self.carry(fis, h, Decision::Holds { tag, held }, payload, answer);
+        }
         let decision = self.decide(h);
+        self.carry(fis, h, decision, payload, answer)
+    }
+
+    /// Does what was decided on a command.
+    #[inline(always)]
+    fn carry(
+        &mut self,
+        fis: &[u8; H2D_LENGTH],
+        h: &RegH2d,
+        decision: Decision,
+        payload: &[u8],
+        answer: &mut Accepted,
+    ) -> Result<(), AllocError>
+        requires kind { slice_index fis.now 0 ≡ h2d_type }
+        requires read { h.now ≡ h2d_at fis.now }
+        requires payload { length payload.now ≡ payload_of self.old.tper.store.config fis.now }
+        requires event { (f : Facts) (bytes : List ℕ) → decision_event
+            (kept_facts self.old f) bytes decision
+            ≡ commanded (kept_facts self.old f) h.now bytes }
+        requires due { IsDue self.old h.now decision }
+        ensures done { OnOk result ((o : Origin) (acts : List Act) → Agrees self.old o acts
+            → IsDoneAndAnswered (facts o (log o acts)) (h2d_at fis.now)
+            (event o (log o acts) (Accept fis.now payload.now)) self.new o (log o acts)
+            answer.new) }
+        ensures err { OnErr result (self.new ≡ self.old) }
+        ensures unsaid { OnErr result (answer.new ≡ answer.old) }
+    {
         self.act(h, decision, payload, answer)?;
         Ok(())
     }

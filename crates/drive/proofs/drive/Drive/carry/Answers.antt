@@ -11,7 +11,7 @@ use Rattle.history.proofs.Payloads.{payload-of-command}
 use Rattle.drive.specs.Answers.{IsDoneAndAnswered}
 use Rattle.drive.specs.Decision.{decision_event}
 use Rattle.drive.proofs.Acting.{event-is}
-use Rattle.drive.proofs.drive.Drive.take_command.Goals as goal
+use Rattle.drive.proofs.drive.Drive.carry.Goals as goal
 
 pub act-requires-clause-payload : goal.act-requires-clause-payload
 act-requires-clause-payload c =
@@ -25,5 +25,5 @@ returns-clause-done c =
     λ o acts k.
     let f = facts o (log o acts) in
     subst (λ (ev : Event). IsDoneAndAnswered f (h2d_at c.args.fis.now) ev c.act.new.self o (log o acts) c.act.new.answer)
-    (event-is c.args.self.now o (log o acts) c.args.fis.now c.args.payload.now c.args.h.now c.decide-decision.result kind is c.decide-decision.ensures.event k)
-    (subst (λ h. IsDoneAndAnswered f h (decision_event f c.args.payload.now c.decide-decision.result) c.act.new.self o (log o acts) c.act.new.answer) is (c.in_ok-act.ensures.done o acts k))
+    (event-is c.args.self.now o (log o acts) c.args.fis.now c.args.payload.now c.args.h.now c.args.decision kind is c.requires.event k)
+    (subst (λ h. IsDoneAndAnswered f h (decision_event f c.args.payload.now c.args.decision) c.act.new.self o (log o acts) c.act.new.answer) is (c.in_ok-act.ensures.done o acts k))
