@@ -1,11 +1,12 @@
 -- The heads of sectors, printed one after the other.
-use Rattle.std.proofs.Common.{◌≡◌, ℕ, zero, suc, ◌+◌, ◌*◌, ◌-◌, ◌/◌, ◌<◌, ◌≤◌, ◌∷◌, List, ◌++◌, length, take, drop, slice_range, refl, sym, ap, ◌∙◌, append_assoc, arith}
+use Rattle.std.proofs.Common.{◌≡◌, ℕ, zero, suc, ◌+◌, ◌*◌, ◌-◌, ◌/◌, ◌<◌, ◌≤◌, ◌==◌, true, [], ◌∷◌, List, ◌++◌, length, take, drop, slice_range, refl, sym, ap, ◌∙◌, append_assoc, arith}
 use Rattle.std.specs.Prelude.{codes}
 use Rattle.std.proofs.Math.Seq.{drop-append_seam}
+use Rattle.std.proofs.lemmas.Bool.{eqb-true}
 use Rattle.std.proofs.lemmas.List.{length-append, length-take-le, length-drop, take-append-le, take_all, drop-drop, append-nil}
 use Rattle.hex.specs.Hex.{encode_lower}
 use Rattle.shadow_mbr.specs.Stored.{heads_of, heads}
-use Rattle.script_lines.specs.Texts.{first_bytes, sectors_text, data_text, each_head, heads_text, given_text}
+use Rattle.script_lines.specs.Texts.{first_bytes, sectors_text, data_text, done_text, each_head, heads_text, given_text}
 
 pub goes_on : (heads out : List ℕ) (head end : ℕ) (total : List ℕ) → head < end
     → out ++ each_head (end - head) (drop (4 * head) heads) ≡ total
@@ -60,3 +61,9 @@ text_of_heads bytes =
 
 pub given_by_heads : (given bytes : List ℕ) → given ≡ heads bytes → given_text given ≡ data_text bytes
 given_by_heads given bytes is = ap (λ (text : List ℕ). codes "ok" ++ text) (ap (λ (hs : List ℕ). heads_text hs) is ∙ text_of_heads bytes)
+
+-- Where there are no sectors, it was done.
+pub none_given : (heads : List ℕ) → (length heads == 0) ≡ true → done_text ≡ given_text heads
+unfolding each_head
+none_given [] none = refl
+none_given (byte ∷ heads) none = absurd (let no = eqb-true (length (byte ∷ heads)) 0 none in omega (arith, no))

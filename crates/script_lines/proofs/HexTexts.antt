@@ -1,12 +1,12 @@
 -- What hex text decodes to.
-use Rattle.std.proofs.Common.{◌≡◌, ℕ, ◌*◌, ◌/◌, ◌%◌, ◌≤◌, ◌==◌, ◌&&◌, nat_le, true, false, List, [], length, refl, sym, ap, ◌∙◌, arith, Some, None, Result, Ok, Err, inl, inr}
+use Rattle.std.proofs.Common.{◌≡◌, ℕ, ◌*◌, ◌/◌, ◌%◌, ◌≤◌, ◌==◌, ◌&&◌, nat_le, true, false, List, [], ◌∷◌, length, slice_index, refl, sym, ap, ◌∙◌, arith, Some, None, Result, Ok, Err, inl, inr}
 use Rattle.std.specs.Prelude.{IsOk, MatchResult}
 use Rattle.std.specs.Result.{result_unwrap_or}
 use Rattle.std.specs.List.{list_all}
 use Rattle.std.proofs.lemmas.Bool.{and_parts, cases_Bool, eqb-true}
 use Rattle.std.proofs.lemmas.Bool.Decides.{nat_tests}
 use Rattle.std.proofs.lemmas.List.Sums.{AllPass-from_list_all, list_all-from_AllPass}
-use Rattle.hex.specs.Hex.{decode_of, decode_sized, is_hex_digit}
+use Rattle.hex.specs.Hex.{decode_of, decode_sized, decode_pairs, is_hex_digit, pair_value}
 use Rattle.hex.specs.declared.error.FromHexError.{FromHexError}
 use Rattle.hex.proofs.HexLemmas.{decode_of-ok, decode_of-digits, decode_sized-twice}
 use Rattle.script_lines.specs.Hexes.{at_most, bytes_up_to, is_hex_up_to}
@@ -99,3 +99,11 @@ is_written text out n r h ok room =
     let len = twice text ok in
     let same = decode_sized-twice text n (omega (arith, len, room)) in
     written_value (decode_of text) r out (rw same at h) ok
+
+-- Two digits write one byte.
+pub two_digits : (text : List ℕ) (byte : ℕ) → length text ≡ 2 → pair_value (slice_index text 0) (slice_index text 1) 0 ≡ Ok byte → decode_sized text 1 ≡ Ok (byte ∷ [])
+unfolding decode_pairs
+two_digits [] byte two pair = absurd (omega (arith, two))
+two_digits (high ∷ []) byte two pair = absurd (omega (arith, two))
+two_digits (high ∷ low ∷ []) byte two pair = rw pair refl
+two_digits (high ∷ low ∷ more ∷ rest) byte two pair = absurd (omega (arith, two))

@@ -1,8 +1,8 @@
 //! Bytes that a line writes in hex text.
 
-ghost use Rattle.std.specs.Prelude.{◌≡◌, ◌<◌, ◌*◌, ℕ, Some, Ok, IsOk, true, length};
+ghost use Rattle.std.specs.Prelude.{◌≡◌, ◌<◌, ◌*◌, ◌==◌, ◌∷◌, [], ℕ, Some, IfSome, Ok, IsOk, true, false, length};
 ghost use Rattle.std.specs.List.{list_all};
-ghost use Rattle.hex.specs.Hex.{decode_of, hex_digit_value, is_hex_digit, pair_value};
+ghost use Rattle.hex.specs.Hex.{decode_of, decode_sized, hex_digit_value, is_hex_digit, pair_value};
 ghost use Rattle.script_lines.specs.Hexes.{is_hex_up_to};
 
 use std::alloc::AllocError;
@@ -96,6 +96,20 @@ fn byte_of(high: u8, low: u8) -> u8
     ensures { (at : ℕ) → pair_value high low at ≡ Ok result }
 {
     value_of(high) * 16 + value_of(low)
+}
+
+/// The byte that a text of two hex digits writes.
+#[inline(always)]
+pub(crate) fn byte_in(text: &[u8]) -> Option<u8>
+    ensures value { IfSome result (λ byte. decode_sized text.now 1 ≡ Ok (byte ∷ [])) }
+    ensures some { IfSome result (λ byte. (length text.now == 0) ≡ false) }
+{
+    match text {
+        [high, low] if high.is_ascii_hexdigit() && low.is_ascii_hexdigit() => {
+            Some(byte_of(*high, *low))
+        }
+        _ => None,
+    }
 }
 
 /// Writes the bytes of a text of digits to their room. LLVM does many at once.

@@ -5,7 +5,7 @@ ghost use Rattle.script_lines.specs.Lines.{expected_text};
 
 use crate::fault::LineFault;
 use crate::field::Field;
-use crate::hex_text::Hex;
+use crate::hex_text::{Hex, byte_in};
 use crate::number::number_in_front;
 use crate::verb::{Verb, verb_of};
 use crate::words::{Words, skip_blanks};
@@ -141,6 +141,9 @@ impl<'a> Words<'a> {
         ensures rest { self.new.rest.now ≡ after_word self.old.rest.now }
     {
         let word = self.next_word();
+        if let Some(byte) = byte_in(word) {
+            return Ok(byte);
+        }
         if word.is_empty() {
             return Err(LineFault::Missing(field));
         }
@@ -204,6 +207,7 @@ impl<'a> Words<'a> {
         })
     }
 
+    #[inline(always)]
     fn transfer(&mut self) -> Result<Transfer, LineFault>
         ensures value { result ≡ transfer_in self.old.rest.now }
         ensures rest { OnOk result (self.new.rest.now ≡ after_words 4 self.old.rest.now) }
@@ -271,6 +275,7 @@ impl<'a> Words<'a> {
         self.ended(Line::Range(row))
     }
 
+    #[inline(always)]
     fn read_line(&mut self) -> Result<Line<'a>, LineFault>
         ensures exact { result ≡ read_line self.old.rest.now }
         ensures fits { IfOk result HasBytesWithinLimits }
@@ -279,6 +284,7 @@ impl<'a> Words<'a> {
         self.ended(Line::Read(transfer))
     }
 
+    #[inline(always)]
     fn write_line(&mut self) -> Result<Line<'a>, LineFault>
         ensures exact { result ≡ write_line self.old.rest.now }
         ensures fits { IfOk result HasBytesWithinLimits }
@@ -415,6 +421,7 @@ impl<'a> Words<'a> {
     }
 
     /// What stands behind the verb.
+    #[inline(always)]
     fn line(&mut self, verb: Verb) -> Result<Line<'a>, LineFault>
         ensures exact { result ≡ verb_line verb self.old.rest.now }
         ensures fits { IfOk result HasBytesWithinLimits }
@@ -448,6 +455,7 @@ impl<'a> Line<'a> {
     /// # Errors
     ///
     /// The first thing that is wrong with the line.
+    #[inline(always)]
     pub fn parse(text: &'a [u8]) -> Result<Line<'a>, LineFault>
         ensures exact { result ≡ line_said text.now }
         ensures fits { IfOk result HasBytesWithinLimits }

@@ -130,6 +130,7 @@ impl<'a> Words<'a> {
     }
 
     /// Where a transfer begins, and its count.
+    #[inline(always)]
     fn transfer_words(&mut self) -> Result<(Lba, u16), LineFault>
         ensures value { result ≡ transfer_words self.old.rest.now }
         ensures rest { OnOk result (self.new.rest.now ≡ after_words 2 self.old.rest.now) }
@@ -282,6 +283,7 @@ impl<'a> Words<'a> {
         Ok(PortLine::Range(row))
     }
 
+    #[inline(always)]
     fn put_words(&mut self) -> Result<PortLine<'a>, LineFault>
         ensures exact { result ≡ put_words self.old.rest.now }
         ensures fits { IfOk result FitsPort }
@@ -297,6 +299,7 @@ impl<'a> Words<'a> {
         })
     }
 
+    #[inline(always)]
     fn issue_words(&mut self) -> Result<PortLine<'a>, LineFault>
         ensures exact { result ≡ issue_words self.old.rest.now }
         ensures fits { IfOk result FitsPort }
@@ -306,6 +309,7 @@ impl<'a> Words<'a> {
         Ok(PortLine::Issue { tag })
     }
 
+    #[inline(always)]
     fn accept_words(&mut self) -> Result<PortLine<'a>, LineFault>
         ensures exact { result ≡ accept_words self.old.rest.now }
         ensures fits { IfOk result FitsPort }
@@ -315,6 +319,7 @@ impl<'a> Words<'a> {
         Ok(PortLine::Accept { tag })
     }
 
+    #[inline(always)]
     fn complete_words(&mut self) -> Result<PortLine<'a>, LineFault>
         ensures exact { result ≡ complete_words self.old.rest.now }
         ensures fits { IfOk result FitsPort }
@@ -342,6 +347,7 @@ impl<'a> Words<'a> {
         Ok(PortLine::Reset { client, kind })
     }
 
+    #[inline(always)]
     fn take_words(&mut self) -> Result<PortLine<'a>, LineFault>
         ensures exact { result ≡ take_words self.old.rest.now }
         ensures fits { IfOk result FitsPort }
@@ -353,6 +359,7 @@ impl<'a> Words<'a> {
     }
 
     /// What stands behind the verb.
+    #[inline(always)]
     fn port_line(&mut self, verb: PortVerb) -> Result<PortLine<'a>, LineFault>
         ensures exact { result ≡ port_verb_words verb self.old.rest.now }
         ensures fits { IfOk result FitsPort }
@@ -380,6 +387,7 @@ impl<'a> PortLine<'a> {
     /// # Errors
     ///
     /// The first thing that is wrong with the line.
+    #[inline(always)]
     pub fn parse(text: &'a [u8]) -> Result<PortLine<'a>, LineFault>
         ensures exact { result ≡ port_line_of text.now }
         ensures fits { IfOk result FitsPort }

@@ -111,6 +111,9 @@ impl Report {
     fn print_each(&mut self, heads: &[u8]) -> Result<(), AllocError>
         ensures { OnOk result (Prints self.old self.new (given_text heads.now ∷ [])) }
     {
+        if heads.is_empty() {
+            return self.print_ok();
+        }
         self.last.clear();
         self.last.extend_from_slice(b"ok")?;
         append_heads(&mut self.last, heads)?;
@@ -289,6 +292,7 @@ fn append_byte(line: &mut Vec<u8>, byte: u8) -> Result<(), AllocError>
 }
 
 /// Appends a blank and four bytes in hex.
+#[inline(always)]
 fn append_four(line: &mut Vec<u8>, bytes: &[u8]) -> Result<(), AllocError>
     requires { length bytes.now ≡ 4 }
     ensures { OnOk result (line.new.items ≡ line.old.items ++ 32 ∷ encode_lower bytes.now) }

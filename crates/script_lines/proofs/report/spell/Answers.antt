@@ -1,4 +1,4 @@
-use Rattle.std.proofs.Common.{ℕ, ◌+◌, ◌*◌, arith, slice_index, slice_set, refl, sym, ap, ◌∙◌}
+use Rattle.std.proofs.Common.{arith, ◌∙◌}
 use Rattle.std.proofs.lemmas.List.{length-set}
 use Rattle.hex.specs.Hex.{lower_digits}
 use Rattle.hex.proofs.Pairs.{encode_step, encode_done}
