@@ -1,6 +1,6 @@
 -- What the denial of a transfer rests on: a lock that is enabled and set (Opal SSC 2.01, section 4.3.5.2), or the shadow
 -- MBR, which is enabled and not done (section 4.3.5.3).
-use Rattle.std.specs.Prelude.{◌≡◌, ◌==◌, ℕ, Bool, true, nat_le, List, [], ◌∷◌}
+use Rattle.std.specs.Prelude.{◌≡◌, ◌==◌, Bool, true, nat_le, List, [], ◌∷◌}
 use Rattle.sp_cells.specs.declared.names.TheConstants.{RANGES}
 use Rattle.sp_cells.specs.declared.names.Column.{Column}
 use Rattle.sp_cells.specs.ColumnNames.{read_lock_enabled_column, write_lock_enabled_column, read_locked_column, write_locked_column}

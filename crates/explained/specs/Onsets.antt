@@ -23,13 +23,17 @@ abbrev pub bare_acts : List Sourced → List Act
 bare_acts [] = []
 bare_acts (s ∷ before) = s.act ∷ bare_acts before
 
--- the token that ends a transaction (Core 2.01, section 3.2.2.4)
+-- the token that ends a transaction, and the empty one, which may stand before it (Core 2.01, section 3.2.2.4)
 abbrev pub end_token : ℕ
 end_token = 0xfc
 
+abbrev pub empty_token : ℕ
+empty_token = 0xff
+
 abbrev pub is_end_of_transaction : List ℕ → Bool
 is_end_of_transaction [] = false
-is_end_of_transaction (byte ∷ bytes) = byte == end_token
+is_end_of_transaction (byte ∷ bytes) =
+    if byte == empty_token then is_end_of_transaction bytes else byte == end_token
 
 -- by what an act can bring something into force: tokens in a frame set it, or end the transaction that did; a command
 -- without a frame can only be the one that resets

@@ -9,6 +9,9 @@ use compacket::open;
 /// The token that ends a transaction (TCG Core 2.01, 3.2.2.4).
 const END_OF_TRANSACTION: u8 = 0xfc;
 
+/// The empty token, which may stand before any other.
+const EMPTY: u8 = 0xff;
+
 /// The number of the reset by a command (TCG Core 2.01, 5.1.3, reset_types).
 const PROGRAMMATIC: u8 = 3;
 
@@ -48,10 +51,12 @@ pub enum Onset {
 fn is_end_of_transaction(tokens: &[u8]) -> bool
     ensures { result ≡ is_end_of_transaction tokens.now }
 {
-    match tokens {
-        [byte, ..] => *byte == END_OF_TRANSACTION,
-        [] => false,
+    for byte in tokens {
+        if *byte != EMPTY {
+            return *byte == END_OF_TRANSACTION;
+        }
     }
+    false
 }
 
 /// By what a command with this payload can bring something into force.
