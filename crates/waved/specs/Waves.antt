@@ -98,7 +98,7 @@ abbrev pub held_value : Option Bool → ℕ
 held_value None = 0
 held_value (Some holds) = flag_value holds
 
--- The registers of a port. The port interrupts where an enabled bit of PxIS is set (AHCI 1.3.1, section 5.6.2). A drive
+-- The registers of a port. The port interrupts where an enabled bit of PxIS is set (AHCI 1.3.1, section 10.7). A drive
 -- alone has none.
 abbrev pub register_value : Wave → Registers → ℕ
 register_value Issued r = r.issued
