@@ -8,7 +8,6 @@ use Rattle.std.proofs.lemmas.Bool.{cases_Bool, and_parts}
 use Rattle.std.proofs.lemmas.Bool.Decides.{nat_tests}
 use Rattle.std.proofs.lemmas.List.{drop_more, take_all}
 use Rattle.std.proofs.Math.ListN.{get_or}
-use Rattle.std.proofs.Math.Nat.{pow-le-pow_right, pow-suc}
 use Rattle.script_lines.specs.Words.{is_space, word_length, before_blank}
 use Rattle.script_lines.specs.Numbers.{number_up_to}
 
@@ -140,31 +139,3 @@ ends_early most text p some other =
       | inl all ↦ absurd (other (mapped (word_length text) p (number_up_to most (before_blank text)) some ∙ digits_only text all))
       | inr not_all ↦ no_digits most text not_all
     ]
-
--- Nineteen digits write a number of 64 bits, so that each of them has room.
-low_digit : (c : ℕ) → is_ascii_digit c ≡ true → c - 48 ≤ 9
-low_digit c digit = grind (arith, nat_tests, digit)
-
-room_for : (i number digit : ℕ) → i + 1 ≤ 19 → number < 10 ^ i → digit ≤ 9
-    → (number * 10 + digit < 10 ^ (i + 1)) × (number * 10 + digit < 2 ^ 64)
-room_for i number digit few small low =
-    let one : i + 1 ≡ suc i = omega arith in
-    let next : 10 ^ (i + 1) ≡ 10 ^ i * 10 = ap (λ k. 10 ^ k) one ∙ pow-suc 10 i in
-    let grown : number * 10 + digit < 10 ^ (i + 1) = omega (arith, next, small, low) in
-    let most : 10 ^ (i + 1) ≤ 10 ^ 19 = pow-le-pow_right (omega arith) few in
-    let top : 10 ^ 19 ≡ 10000000000000000000 = refl in
-    (grown, omega (arith, grown, most, top))
-
-pub goes_on : (most i number after : ℕ) (text : List ℕ) → i < length text → is_ascii_digit (get_or text i 0) ≡ true
-    → (number * 10 + (get_or text i 0 - 48) < 2 ^ 64 → after ≡ number * 10 + (get_or text i 0 - 48))
-    → (i ≤ 19 → (number < 10 ^ i) × (read_on most i number (drop i text) ≡ read_on most 0 0 text))
-    → i + 1 ≤ 19 → (after < 10 ^ (i + 1)) × (read_on most (i + 1) after (drop (i + 1) text) ≡ read_on most 0 0 text)
-goes_on most i number after text within digit added so_far few =
-    let c : ℕ = get_or text i 0 in
-    let cs : List ℕ = drop (i + 1) text in
-    let before = so_far (omega (arith, few)) in
-    let room = room_for i number (c - 48) few before.0 (low_digit c digit) in
-    let value : after ≡ number * 10 + (c - 48) = added room.1 in (
-      rw value room.0,
-      ap (λ n. read_on most (i + 1) n cs) value ∙ sym (step most i number c cs digit) ∙ ap (read_on most i number) (sym (drop_more text i 0 within)) ∙ before.1,
-    )

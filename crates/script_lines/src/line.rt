@@ -275,7 +275,6 @@ impl<'a> Words<'a> {
         self.ended(Line::Range(row))
     }
 
-    #[inline(always)]
     fn read_line(&mut self) -> Result<Line<'a>, LineFault>
         ensures exact { result ≡ read_line self.old.rest.now }
         ensures fits { IfOk result HasBytesWithinLimits }
@@ -284,7 +283,6 @@ impl<'a> Words<'a> {
         self.ended(Line::Read(transfer))
     }
 
-    #[inline(always)]
     fn write_line(&mut self) -> Result<Line<'a>, LineFault>
         ensures exact { result ≡ write_line self.old.rest.now }
         ensures fits { IfOk result HasBytesWithinLimits }

@@ -283,7 +283,6 @@ impl<'a> Words<'a> {
         Ok(PortLine::Range(row))
     }
 
-    #[inline(always)]
     fn put_words(&mut self) -> Result<PortLine<'a>, LineFault>
         ensures exact { result ≡ put_words self.old.rest.now }
         ensures fits { IfOk result FitsPort }
@@ -299,7 +298,6 @@ impl<'a> Words<'a> {
         })
     }
 
-    #[inline(always)]
     fn issue_words(&mut self) -> Result<PortLine<'a>, LineFault>
         ensures exact { result ≡ issue_words self.old.rest.now }
         ensures fits { IfOk result FitsPort }
@@ -309,7 +307,6 @@ impl<'a> Words<'a> {
         Ok(PortLine::Issue { tag })
     }
 
-    #[inline(always)]
     fn accept_words(&mut self) -> Result<PortLine<'a>, LineFault>
         ensures exact { result ≡ accept_words self.old.rest.now }
         ensures fits { IfOk result FitsPort }
@@ -319,7 +316,6 @@ impl<'a> Words<'a> {
         Ok(PortLine::Accept { tag })
     }
 
-    #[inline(always)]
     fn complete_words(&mut self) -> Result<PortLine<'a>, LineFault>
         ensures exact { result ≡ complete_words self.old.rest.now }
         ensures fits { IfOk result FitsPort }
@@ -347,7 +343,6 @@ impl<'a> Words<'a> {
         Ok(PortLine::Reset { client, kind })
     }
 
-    #[inline(always)]
     fn take_words(&mut self) -> Result<PortLine<'a>, LineFault>
         ensures exact { result ≡ take_words self.old.rest.now }
         ensures fits { IfOk result FitsPort }

@@ -102,6 +102,7 @@ impl DrivePhase {
     }
 
     /// Does what the line of a number says.
+    #[inline(always)]
     pub fn turn(
         &mut self,
         number: u64,

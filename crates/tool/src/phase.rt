@@ -21,6 +21,7 @@ impl Phase {
     ghost use Rattle.tool.specs.Progress.{Steps, step_or_skip};
 
     /// Does what the line of a number says.
+    #[inline(always)]
     fn turn(&mut self, number: u64, text: &[u8], report: &mut Report) -> Result<Turn, AllocError>
         requires { PhaseStands self.old }
         ensures steps { IfOk result (λ turn. (o : Origin) (course : Course)
@@ -38,6 +39,7 @@ impl Phase {
 
     /// Does what the line of a number says, and nothing where it is a remark of a script that may hold
     /// some.
+    #[inline(always)]
     pub fn turn_or_skip(
         &mut self,
         remarks: bool,

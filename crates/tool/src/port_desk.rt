@@ -129,6 +129,7 @@ impl PortDesk {
     }
 
     /// Does what the line of a number says.
+    #[inline(always)]
     pub fn turn(
         &mut self,
         number: u64,

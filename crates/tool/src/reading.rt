@@ -51,6 +51,7 @@ fn line_in(at_hand: &[u8]) -> Option<usize>
 
 /// How many bytes the next line has with its line feed, where it stands whole in the reader's buffer, so that
 /// reading it does not wait.
+#[inline(always)]
 pub fn line_at_hand<R: Read + Drop>(reader: &BufReader<R>) -> Option<usize>
     ensures { IsAtHand (reader_buffer reader.now) result }
 {
@@ -105,6 +106,7 @@ fn take_line<R: Read + Drop>(
 /// # Errors
 ///
 /// `Memory`, `Read`.
+#[inline(always)]
 pub fn read_line<R: Read + Drop>(
     reader: &mut BufReader<R>,
     at_hand: Option<usize>,

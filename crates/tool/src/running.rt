@@ -181,9 +181,10 @@ impl RunningPhase {
         ensures payload { self.new.payload ≡ self.old.payload }
         ensures completed { OnOk result (self.new.completed ≡ false) }
     {
-        let fis = to_fis(command, tag).to_bytes();
+        let h = to_fis(command, tag);
+        let fis = h.to_bytes();
         self.drive
-            .accept_into(&fis, &self.payload, &mut self.answer)?;
+            .accept_command(&fis, &h, &self.payload, &mut self.answer)?;
         self.acts = self.acts.wrapping_add(1);
         self.completed = false;
         Ok(())
