@@ -8,7 +8,7 @@ use Rattle.tool.specs.OptionTexts.{DriveText, drive_text}
 use Rattle.tool.specs.declared.tokens.Naming.{Naming}
 use Rattle.tool.specs.declared.tokens.Naming.TheVariants.{Numbers, Names}
 use Rattle.opalport.specs.declared.command_line.Request.{Request}
-use Rattle.opalport.specs.declared.command_line.Request.TheVariants.{Run, Draw, Level0, Threads, Tokens, Decode, Hba}
+use Rattle.opalport.specs.declared.command_line.Request.TheVariants.{Run, Draw, Level0, Threads, Tokens, Decode, Hba, Explore}
 
 -- `--name TEXT`, and the text that stands for it where it is left out
 abbrev pub option_rule : Text → Text → Rule
@@ -86,6 +86,15 @@ decode_line =
     with_rule (with_rule (new_app (codes "decode")) (required_rule (codes "kind")))
     (optional_rule (codes "hex"))
 
+-- `explore`, with the options of a drive, and those that say how far it goes and what is looked for
+abbrev pub explore_line : App
+explore_line =
+    with_rule
+    (with_rule
+    (with_rule (drive_line (codes "explore")) (option_rule (codes "steps") (codes "4")))
+    (option_rule (codes "limit") (codes "100000")))
+    (free_rule (codes "find"))
+
 -- settings of a program that has a version, and wants one of its commands
 abbrev pub wants_command : Shape → Shape
 wants_command s =
@@ -95,7 +104,7 @@ wants_command s =
 abbrev pub top_line : App
 top_line = on_top wants_command (new_app (codes "opalport"))
 
--- the program takes one of the seven, and nothing else
+-- the program takes one of the eight, and nothing else
 abbrev pub opalport_line : App
 opalport_line =
     with_subcommand
@@ -104,9 +113,11 @@ opalport_line =
     (with_subcommand
     (with_subcommand
     (with_subcommand
+    (with_subcommand
     (with_subcommand top_line
     run_line.top) (drive_line (codes "level0")).top) threads_line.top)
-    tokens_line.top) decode_line.top) hba_line.top) (drive_line (codes "draw")).top
+    tokens_line.top) decode_line.top) hba_line.top) (drive_line (codes "draw")).top)
+    explore_line.top
 
 -- what words ask for, by the texts as they are written
 pub data Wanted : Type 0 where
@@ -117,6 +128,7 @@ pub data Wanted : Type 0 where
   tokens : Text → Naming → Wanted
   decode : Text → Text → Wanted
   hba : DriveText → List Text → Wanted
+  explore : DriveText → Text → Text → Text → Wanted
 
 -- what a request asks for
 abbrev pub wanted_by : Request → Wanted
@@ -127,6 +139,8 @@ wanted_by (Threads load) = threads load.clients.now load.rounds.now
 wanted_by (Tokens tokens_asked) = tokens tokens_asked.hex.now tokens_asked.naming
 wanted_by (Decode texts) = decode texts.kind.now texts.hex.now
 wanted_by (Hba texts) = hba (drive_text texts.drive) (map (λ s. s.now) texts.ranges.items)
+wanted_by (Explore texts) =
+    explore (drive_text texts.drive) texts.steps.now texts.limit.now texts.find.now
 
 -- the text of an argument; one that is required or has a default has one, and any other may be empty
 abbrev pub text_of : Text → List Row → Text
@@ -171,6 +185,9 @@ asked_of (name, rows) =
     then Some (decode (text_of (codes "kind") rows) (text_of (codes "hex") rows))
     else if bytes_eq name (codes "hba") then Some (hba (drive_in rows) (range_texts rows))
     else if bytes_eq name (codes "draw") then Some (draw (drive_in rows))
+    else if bytes_eq name (codes "explore")
+    then Some (explore (drive_in rows) (text_of (codes "steps") rows) (text_of (codes "limit") rows)
+    (text_of (codes "find") rows))
     else None
 
 -- what the words of a command line ask for, where they are one

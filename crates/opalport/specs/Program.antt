@@ -14,13 +14,16 @@ use Rattle.tool.specs.TokenLines.{token_text}
 use Rattle.tool.specs.declared.tokens.Naming.{Naming}
 use Rattle.decoded.specs.Decodings.{DecodeEnds}
 use Rattle.recorded.specs.Pictures.{Draws}
+use Rattle.explored.specs.Plans.{WritesPlan, WritesSomePlan}
+use Rattle.explored.specs.Tellings.{Explores}
+use Rattle.explored.specs.declared.plan.Plan.{Plan}
 use Rattle.hba_tool.specs.Openings.{option_rows, IsFaultOf}
 use Rattle.hba_tool.specs.Steps.{ServesOpened}
 use Rattle.hba_tool.specs.declared.opening.RangeFault.{RangeFault}
 use Rattle.clap.specs.Words.{IsAmong, Kinds, Text, fault_of}
 use Rattle.clap.specs.declared.error.kind.ErrorKind.{ErrorKind}
 use Rattle.clap.specs.declared.error.kind.ErrorKind.TheVariants.{DisplayHelp, DisplayVersion}
-use Rattle.opalport.specs.CommandLine.{Wanted, run, draw, level0, threads, tokens, decode, hba, asked_by, opalport_line}
+use Rattle.opalport.specs.CommandLine.{Wanted, run, draw, level0, threads, tokens, decode, hba, explore, asked_by, opalport_line}
 
 -- the texts write a configuration within the limits
 abbrev pub WritesLimitedConfig : DriveText → Type 0
@@ -41,6 +44,22 @@ abbrev pub DrawEnds : DriveText → Option (List ℕ) → ℕ → Option (List �
 DrawEnds texts input status old new =
     ((config : Config) × WritesConfig texts config × IsOfDrive config
     × Draws config input status old new)
+    ⊎ ((WritesLimitedConfig texts → ⊥) × (status ≡ 2) × (new ≡ old))
+
+-- what short lists of the script's lines lead to is printed
+abbrev pub ExploresOn : Config → Text → Text → Text → Option (List ℕ) → ℕ → Option (List ℕ)
+    → Option (List ℕ) → Type 0
+ExploresOn config steps limit find input status old new =
+    ((plan : Plan) × WritesPlan steps limit find plan × Explores config plan input status old new)
+    ⊎ ((WritesSomePlan steps limit → ⊥) × (status ≡ 2) × (new ≡ old))
+
+-- the same on the drive of the options; where they open no drive, or write no plan, the status is 2, and nothing is
+-- printed
+abbrev pub ExploreEnds : DriveText → Text → Text → Text → Option (List ℕ) → ℕ → Option (List ℕ)
+    → Option (List ℕ) → Type 0
+ExploreEnds texts steps limit find input status old new =
+    ((config : Config) × WritesConfig texts config × IsOfDrive config
+    × ExploresOn config steps limit find input status old new)
     ⊎ ((WritesLimitedConfig texts → ⊥) × (status ≡ 2) × (new ≡ old))
 
 -- the discovery of a new drive is printed with status 0; where the options open no drive, the status is 2, and nothing
@@ -111,6 +130,8 @@ Serves remaining contents (Some (decode kind hex)) input status old new =
     DecodeEnds kind hex input status old new
 Serves remaining contents (Some (hba texts ranges)) input status old new =
     HbaEnds remaining contents texts ranges input status old new
+Serves remaining contents (Some (explore texts steps limit find)) input status old new =
+    ExploreEnds texts steps limit find input status old new
 
 -- the words are no command line, and one of their faults is told
 abbrev pub Refuses : Kinds → ℕ → Option (List ℕ) → Option (List ℕ) → Type 0

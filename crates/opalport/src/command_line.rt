@@ -3,7 +3,7 @@
 ghost use Rattle.std.specs.Prelude.{◌≡◌, IfOk, false, map, option_map, option_and_then, string_bytes, codes};
 ghost use Rattle.clap.specs.Words.{FailsBy, app_of, fault_of, found_of, rows_of, rule_of, subcommand_rows_of};
 ghost use Rattle.tool.specs.OptionTexts.{drive_text};
-ghost use Rattle.opalport.specs.CommandLine.{top_line, option_rule, free_rule, required_rule, flag_rule, drive_line, drive_in, hba_line, run_line, has_flag, range_rule, range_texts, optional_rule, threads_line, tokens_line, decode_line, opalport_line, text_of, naming_in, wanted_by, asked_of, asked_by};
+ghost use Rattle.opalport.specs.CommandLine.{top_line, option_rule, free_rule, required_rule, flag_rule, drive_line, drive_in, hba_line, explore_line, run_line, has_flag, range_rule, range_texts, optional_rule, threads_line, tokens_line, decode_line, opalport_line, text_of, naming_in, wanted_by, asked_of, asked_by};
 
 use crate::controller_help::LINES as CONTROLLER_LINES;
 use crate::decode_help::KINDS;
@@ -33,6 +33,18 @@ pub struct LoadTexts<'a> {
 pub struct HbaTexts<'a> {
     pub drive: DriveTexts<'a>,
     pub ranges: Vec<&'a str>,
+}
+
+/// The options of an exploration, as they are written.
+#[derive(Clone, Copy)]
+pub struct ExploreTexts<'a> {
+    pub drive: DriveTexts<'a>,
+    /// How long a list is at most.
+    pub steps: &'a str,
+    /// How many lists of one length are gone on from.
+    pub limit: &'a str,
+    /// A text that is looked for; empty where failures are.
+    pub find: &'a str,
 }
 
 /// A token stream that is to be told as text.
@@ -69,6 +81,8 @@ pub enum Request<'a> {
     Decode(DecodeTexts<'a>),
     /// To serve a host as a controller.
     Hba(HbaTexts<'a>),
+    /// To run all short lists of the lines of a script.
+    Explore(ExploreTexts<'a>),
 }
 
 /// An option that takes a value, with the one that stands where it is left out.
@@ -327,6 +341,42 @@ fn hba_command<'a>(alloc: Global) -> Result<Command<'a>, AllocError>
     .arg(range)
 }
 
+/// The command that runs all short lists of the lines of a script, with the options that say on which drive, how long a
+/// list is, and what is looked for.
+fn explore_command<'a>(alloc: Global) -> Result<Command<'a>, AllocError>
+    ensures { IfOk result (λ command. app_of command ≡ explore_line) }
+{
+    let steps = option(
+        alloc,
+        "steps",
+        "N",
+        "4",
+        "How many lines a list has at most",
+    );
+    let limit = option(
+        alloc,
+        "limit",
+        "N",
+        "100000",
+        "How many lists of one length are gone on from, at most",
+    );
+    let find = free_option(
+        alloc,
+        "find",
+        "TEXT",
+        "A text of a printed line; without it failures are looked for",
+    );
+    drive_command(
+        alloc,
+        "explore",
+        "Runs all short lists of the lines of a script, and tells what they lead to",
+        "",
+    )?
+    .arg(steps)?
+    .arg(limit)?
+    .arg(find)
+}
+
 /// The program, before its commands are there.
 fn top_command<'a>(alloc: Global) -> Command<'a>
     ensures { app_of result ≡ top_line }
@@ -359,7 +409,8 @@ fn command<'a>(alloc: Global) -> Result<Command<'a>, AllocError>
             "draw",
             "Draws the run of a script from standard input, as SVG",
             "",
-        )?)
+        )?)?
+        .subcommand(explore_command(alloc)?)
 }
 
 /// The text of an argument, as it is written.
@@ -403,6 +454,21 @@ fn run_texts<'a>(matches: &ArgMatches<'a>) -> RunTexts<'a>
         drive: drive_texts(matches),
         explains: has_flag(matches, "explain"),
         vcd: text_of(matches, "vcd"),
+    }
+}
+
+/// The options of an exploration.
+fn explore_texts<'a>(matches: &ArgMatches<'a>) -> ExploreTexts<'a>
+    ensures drive { drive_text result.drive ≡ drive_in (rows_of (found_of matches.now)) }
+    ensures steps { result.steps.now ≡ text_of (codes "steps") (rows_of (found_of matches.now)) }
+    ensures limit { result.limit.now ≡ text_of (codes "limit") (rows_of (found_of matches.now)) }
+    ensures find { result.find.now ≡ text_of (codes "find") (rows_of (found_of matches.now)) }
+{
+    ExploreTexts {
+        drive: drive_texts(matches),
+        steps: text_of(matches, "steps"),
+        limit: text_of(matches, "limit"),
+        find: text_of(matches, "find"),
     }
 }
 
@@ -479,6 +545,7 @@ fn request_in<'a>(
             Ok(Some(Request::Hba(texts)))
         }
         "draw" => Ok(Some(Request::Draw(drive_texts(matches)))),
+        "explore" => Ok(Some(Request::Explore(explore_texts(matches)))),
         _ => Ok(None),
     }
 }

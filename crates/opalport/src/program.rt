@@ -4,13 +4,14 @@ ghost use Rattle.std.specs.Prelude.{◌≡◌, ◌≢◌, ◌≤◌, IfOk, map, 
 ghost use Rattle.clap.specs.Words.{kind_of};
 ghost use Rattle.tool.specs.OptionTexts.{drive_text};
 ghost use Rattle.tool.specs.Outcomes.{YieldsBy};
-ghost use Rattle.opalport.specs.Program.{EndsByWords, DrawEnds, RunEnds, Level0Ends, ThreadsEnd, TokensEnd, Ends};
+ghost use Rattle.opalport.specs.Program.{EndsByWords, DrawEnds, ExploreEnds, ExploresOn, RunEnds, Level0Ends, ThreadsEnd, TokensEnd, Ends};
 
-use crate::command_line::{LoadTexts, Request, RunTexts, TokenTexts, request_of};
+use crate::command_line::{ExploreTexts, LoadTexts, Request, RunTexts, TokenTexts, request_of};
 use crate::controller::serve_controller;
 use crate::error::ProgramError;
 use clap::error::ErrorKind;
 use decoded::run_decode;
+use explored::{Plan, PlanFault, explore_script};
 use port_threads::{Load, LoadError, run_load};
 use recorded::{RecordError, draw_script, run_script_with_dump};
 use std::alloc::Global;
@@ -105,6 +106,54 @@ fn draw<R: Read + Drop, W: Write, E: Write>(
     match Options::parse(alloc, drive) {
         Ok(options) => draw_script(alloc, input, output, faults, &options),
         Err(OptionsFault::OutOfMemory) => Err(RecordError::Run(RunError::Memory)),
+        Err(fault) => {
+            writeln!(faults, "error: {fault}").map_err(|_| RunError::Write)?;
+            Ok(2)
+        }
+    }
+}
+
+/// Runs all short lists of the lines of a script on a drive, as far as the options say, and gives the status.
+fn explore_on<R: Read + Drop, W: Write, E: Write>(
+    alloc: Global,
+    options: &Options,
+    texts: &ExploreTexts<'_>,
+    input: R,
+    output: &mut W,
+    faults: &mut E,
+) -> Result<u8, RunError>
+    ensures most { IfOk result (λ status. status ≤ 2) }
+    ensures ends { IfOk result (λ status. ExploresOn options.now texts.now.steps.now
+        texts.now.limit.now texts.now.find.now (R.remaining input) status
+        (W.contents output.old) (W.contents output.new)) }
+{
+    let find = texts.find.as_bytes();
+    match Plan::parse(alloc, texts.steps.as_bytes(), texts.limit.as_bytes(), find) {
+        Ok(plan) => explore_script(alloc, input, output, faults, options, &plan),
+        Err(PlanFault::OutOfMemory) => Err(RunError::Memory),
+        Err(fault) => {
+            writeln!(faults, "error: {fault}").map_err(|_| RunError::Write)?;
+            Ok(2)
+        }
+    }
+}
+
+/// Runs all short lists of the lines of a script on the drive that the options open, and gives the status.
+fn explore<R: Read + Drop, W: Write, E: Write>(
+    alloc: Global,
+    texts: &ExploreTexts<'_>,
+    input: R,
+    output: &mut W,
+    faults: &mut E,
+) -> Result<u8, RunError>
+    ensures most { IfOk result (λ status. status ≤ 2) }
+    ensures ends { IfOk result (λ status. ExploreEnds (drive_text texts.now.drive)
+        texts.now.steps.now texts.now.limit.now texts.now.find.now (R.remaining input) status
+        (W.contents output.old) (W.contents output.new)) }
+{
+    match Options::parse(alloc, &texts.drive) {
+        Ok(options) => explore_on(alloc, &options, texts, input, output, faults),
+        Err(OptionsFault::OutOfMemory) => Err(RunError::Memory),
         Err(fault) => {
             writeln!(faults, "error: {fault}").map_err(|_| RunError::Write)?;
             Ok(2)
@@ -226,6 +275,7 @@ pub fn ends<T: Threads + Wait + Sync + Files, R: Read + Drop, W: Write, E: Write
             Ok(status)
         }
         Ok(Some(Request::Hba(texts))) => { serve_controller(alloc, &texts, input, output, faults) },
+        Ok(Some(Request::Explore(texts))) => Ok(explore(alloc, &texts, input, output, faults)?),
         Ok(None) => Ok(2),
         Err(error) => Ok(tell(&error, output, faults)?),
     }

@@ -164,6 +164,33 @@ fn running_lines<R: Read + Drop, W: Write, E: Write, K: Recorder>(
     Err(RecordError::Run(RunError::ReadLimit))
 }
 
+/// Records the opening, and does the line at hand and those behind it.
+fn opened_lines<R: Read + Drop, W: Write, E: Write, K: Recorder>(
+    alloc: Global,
+    run: &mut Phase,
+    remarks: bool,
+    lines: u64,
+    reader: &mut BufReader<R>,
+    report: &mut Report,
+    line: &mut Vec<u8>,
+    output: &mut W,
+    faults: &mut E,
+    recorder: &mut K,
+) -> Result<End, RecordError>
+    requires stands { PhaseStands run.old }
+    requires last { report.old.last.items ≡ [] }
+    ensures { IfOk result (λ end.
+        OpenedEnds remarks lines run.old line.old.items (reader_remaining R.remaining reader.old)
+        end report.old report.new (W.contents output.old) (W.contents output.new)
+        (λ base came. K.holds base recorder.old came)
+        (λ base came. K.holds base recorder.new came)) }
+{
+    record_opening(alloc, run, recorder)?;
+    running_lines(
+        alloc, run, remarks, lines, reader, report, line, output, faults, recorder,
+    )
+}
+
 /// Records the opening, does the line at hand and those behind it, and then lets the drive, or the port, go.
 fn remaining_lines<R: Read + Drop, W: Write, E: Write, K: Recorder>(
     alloc: Global,
@@ -185,8 +212,7 @@ fn remaining_lines<R: Read + Drop, W: Write, E: Write, K: Recorder>(
         (λ base came. K.holds base recorder.old came)
         (λ base came. K.holds base recorder.new came)) }
 {
-    record_opening(alloc, &run, recorder)?;
-    running_lines(
+    opened_lines(
         alloc, &mut run, remarks, lines, reader, report, line, output, faults, recorder,
     )
 }

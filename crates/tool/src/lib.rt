@@ -31,5 +31,7 @@ pub use port_phase::request_of;
 pub use reading::{answer, line_at_hand, lines_of, read_line, without_end};
 pub use remarks::{is_skipped, laws_of_remarks, may_hold_remarks};
 pub use running::Turn;
-pub use script::{laws_of_limits, run_explained_script, run_script, run_script_with_faults};
+pub use script::{
+    laws_of_limits, run_explained_script, run_script, run_script_with_faults, run_text,
+};
 pub use tokens::{Naming, run_tokens, run_tokens_with_faults};

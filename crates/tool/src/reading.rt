@@ -1,6 +1,6 @@
 //! Reading the lines of a script, and answering before a read that could wait.
 
-ghost use Rattle.std.specs.Prelude.{◌≡◌, ◌≤◌, ◌++◌, ◌⊎◌, length, Some, is_some, OnOk, IfOk, IfErr, IfSome};
+ghost use Rattle.std.specs.Prelude.{◌≡◌, ◌≤◌, ◌<◌, ◌++◌, ◌⊎◌, length, Some, is_some, OnOk, IfOk, IfErr, IfSome};
 ghost use Rattle.std.specs.Io.Buffered.{reader_buffer, reader_remaining};
 ghost use Rattle.std.specs.Io.BufRead.{take_through, drop_through};
 ghost use Rattle.tool.specs.Scripts.{bare, has_line, IsAtHand, LeavesNobodyWaiting, TakesLine};
@@ -16,12 +16,33 @@ use std::io::{BufRead, BufReader, Read, Write};
 /// How many bytes of answers wait at most while whole lines stand in the reader's buffer.
 const MOST_PENDING: usize = 65_536;
 
+/// How many bytes of an input are read at once.
+pub(crate) const READ_AT_ONCE: usize = 65_536;
+
 /// A line without its line feed, and without one carriage return before it.
 pub fn without_end(line: &[u8]) -> &[u8]
     ensures { result.now ≡ bare line.now }
 {
     let line = line.strip_suffix(b"\n").unwrap_or(line);
     line.strip_suffix(b"\r").unwrap_or(line)
+}
+
+/// A reader of lines, with all that the input gives, and room for so many bytes of it, of which there is one at least.
+///
+/// # Errors
+///
+/// `Memory`.
+pub(crate) fn lines_within<R: Read + Drop>(
+    alloc: Global,
+    room: usize,
+    input: R,
+) -> Result<BufReader<R>, RunError>
+    requires { 0 < room }
+    ensures reader { IfOk result (λ reader. reader_remaining R.remaining reader
+        ≡ R.remaining input) }
+    ensures memory { IfErr result (λ error. error ≡ RunError.Memory) }
+{
+    BufReader::with_capacity(alloc, room, input).map_err(|_| RunError::Memory)
 }
 
 /// A reader of lines, with all that the input gives.
@@ -34,7 +55,7 @@ pub fn lines_of<R: Read + Drop>(alloc: Global, input: R) -> Result<BufReader<R>,
         ≡ R.remaining input) }
     ensures memory { IfErr result (λ error. error ≡ RunError.Memory) }
 {
-    BufReader::with_capacity(alloc, 65_536, input).map_err(|_| RunError::Memory)
+    lines_within(alloc, READ_AT_ONCE, input)
 }
 
 /// How many bytes the first line has with its line feed, where it stands whole in what is at hand.

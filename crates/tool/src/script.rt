@@ -1,6 +1,6 @@
 //! A whole script, from a reader to a writer.
 
-ghost use Rattle.std.specs.Prelude.{◌≡◌, ◌≤◌, ◌<◌, ◌⊎◌, ◌∷◌, [], ℕ, Err, IfOk, IfSome};
+ghost use Rattle.std.specs.Prelude.{◌≡◌, ◌≤◌, ◌<◌, ◌⊎◌, ◌∷◌, [], ℕ, Err, Some, IfOk, IfSome};
 ghost use Rattle.std.specs.Io.Buffered.{reader_remaining};
 ghost use Rattle.std.specs.Io.KnownBytes.{Appends};
 ghost use Rattle.tool.specs.declared.ending.RunError.{RunError};
@@ -16,7 +16,7 @@ use crate::head::Head;
 use crate::opening::{OpeningPhase, OpeningTurn};
 use crate::options::Options;
 use crate::phase::Phase;
-use crate::reading::{answer, line_at_hand, lines_of, read_line, without_end};
+use crate::reading::{READ_AT_ONCE, answer, line_at_hand, lines_within, read_line, without_end};
 use crate::remarks::{is_skipped, may_hold_remarks};
 use crate::running::Turn;
 use script_lines::{Report, is_port_line};
@@ -279,20 +279,22 @@ fn all_answers<R: Read + Drop, W: Write, E: Write>(
     hand_on_behind(end, report, output)
 }
 
-/// Runs a script, with reasons or without.
+/// Runs a script, with reasons or without, of which so many bytes are read at once.
 fn run_by<R: Read + Drop, W: Write, E: Write>(
     alloc: Global,
     options: &Options,
     explains: bool,
+    room: usize,
     input: R,
     output: &mut W,
     faults: &mut E,
 ) -> Result<u8, RunError>
+    requires { 0 < room }
     ensures most { IfOk result (λ status. status ≤ 2) }
     ensures whole { IfOk result (λ status. YieldsBy explains options.now (R.remaining input)
         status (W.contents output.old) (W.contents output.new)) }
 {
-    let mut reader = lines_of(alloc, input)?;
+    let mut reader = lines_within(alloc, room, input)?;
     let mut report = Report::new(alloc);
     let mut line = Vec::new(alloc);
     let end = all_answers(
@@ -331,7 +333,7 @@ pub fn run_script_with_faults<R: Read + Drop, W: Write, E: Write>(
     ensures whole { IfOk result (λ status. ScriptYields options.now (R.remaining input)
         status (W.contents output.old) (W.contents output.new)) }
 {
-    run_by(alloc, options, false, input, output, faults)
+    run_by(alloc, options, false, READ_AT_ONCE, input, output, faults)
 }
 
 /// Runs the script that a reader gives, as `run_script_with_faults` does, and tells each refusal with its reason: behind what a
@@ -351,7 +353,7 @@ pub fn run_explained_script<R: Read + Drop, W: Write, E: Write>(
     ensures whole { IfOk result (λ status. ExplainedScriptYields options.now (R.remaining input)
         status (W.contents output.old) (W.contents output.new)) }
 {
-    run_by(alloc, options, true, input, output, faults)
+    run_by(alloc, options, true, READ_AT_ONCE, input, output, faults)
 }
 
 /// Runs the script that a reader gives, as `run_script_with_faults` does, and drops the text of the
@@ -367,4 +369,23 @@ pub fn run_script<R: Read + Drop, W: Write>(
         status (W.contents output.old) (W.contents output.new)) }
 {
     run_script_with_faults(alloc, input, output, &mut io::sink(), options)
+}
+
+/// Runs the script that is given, as `run_script` does. It takes no more room to read than the script has bytes.
+///
+/// # Errors
+///
+/// As `run_script`.
+pub fn run_text<W: Write>(
+    alloc: Global,
+    text: &[u8],
+    output: &mut W,
+    options: &Options,
+) -> Result<u8, RunError>
+    ensures most { IfOk result (λ status. status ≤ 2) }
+    ensures whole { IfOk result (λ status. ScriptYields options.now (Some text.now)
+        status (W.contents output.old) (W.contents output.new)) }
+{
+    let room = text.len().clamp(1, READ_AT_ONCE);
+    run_by(alloc, options, false, room, text, output, &mut io::sink())
 }

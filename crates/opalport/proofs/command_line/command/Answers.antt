@@ -27,4 +27,7 @@ returns c =
     let with_hba = c.in_ok-subcommand-6.ensures.shape hba_plain.globals ∙ ap₂ with_subcommand with_decode (ap (λ (a : App). a.top) hba_line) in
     let draw_line = c.in_ok-drive_command-2.ensures in
     let draw_plain = plain_fields c.in_ok-drive_command-2.field-0 (ap (λ (a : App). a.top.is_plain) draw_line) in
-    IfOk-weaker c.subcommand-7.result _ _ (λ command adds. adds.shape draw_plain.globals ∙ ap₂ with_subcommand with_hba (ap (λ (a : App). a.top) draw_line)) c.subcommand-7.ensures
+    let with_draw = c.in_ok-subcommand-7.ensures.shape draw_plain.globals ∙ ap₂ with_subcommand with_hba (ap (λ (a : App). a.top) draw_line) in
+    let explore_line = c.in_ok-explore_command.ensures in
+    let explore_plain = plain_fields c.in_ok-explore_command.field-0 (ap (λ (a : App). a.top.is_plain) explore_line) in
+    IfOk-weaker c.subcommand-8.result _ _ (λ command adds. adds.shape explore_plain.globals ∙ ap₂ with_subcommand with_draw (ap (λ (a : App). a.top) explore_line)) c.subcommand-8.ensures

@@ -2,7 +2,7 @@ use Rattle.std.proofs.lemmas.Result.{IfOk-weaker}
 use Rattle.std.specs.Io.Buffered.{reader_remaining}
 use Rattle.tool.proofs.Texts.{weaker}
 use Rattle.recorded.proofs.Whole.{opened-so}
-use Rattle.recorded.proofs.script.remaining_lines.Goals as goal
+use Rattle.recorded.proofs.script.opened_lines.Goals as goal
 
 pub returns : goal.returns
 returns g c =

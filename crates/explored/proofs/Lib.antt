@@ -1,0 +1,4 @@
+mod FirstLines
+mod SeenKinds
+mod FoundTexts
+mod Stopped
