@@ -1,4 +1,5 @@
 pub mod Desk
 pub mod Listed
 pub mod Requested
+pub mod Shown
 pub mod Told

@@ -6,8 +6,10 @@ ghost use Rattle.port_calls.specs.Desk.{kind_asked};
 use crate::asked::{Asked, request_asked};
 use crate::ready::{ReadyStep, list_out};
 use crate::refusals::{code_of, told, told_turn};
+use crate::shown::Shown;
 use crate::taken::Taken;
-use byte_calls::{CallError, Count, copy_out};
+use audit::line_bytes;
+use byte_calls::{CallError, Count, copy_out, copy_text};
 use drive::ResetKind;
 use fis::Tag;
 use port::{Answer, Port};
@@ -33,14 +35,15 @@ fn kind_asked(number: u32) -> Option<ResetKind>
 }
 
 impl PortDesk {
-    ghost use Rattle.std.specs.Prelude.{◌≡◌, ℕ, List};
-    ghost use Rattle.byte_calls.specs.Copies.{IsCopied};
+    ghost use Rattle.std.specs.Prelude.{◌≡◌, ℕ, List, slice_get};
+    ghost use Rattle.byte_calls.specs.Copies.{IsCopied, IsWrittenOut};
     ghost use Rattle.history.specs.Opening.{Origin};
     ghost use Rattle.port.specs.Agreement.{PortAgrees};
     ghost use Rattle.port_history.specs.declared.step.Step.{Step};
     ghost use Rattle.port_history.specs.declared.step.Step.TheVariants as steps;
     ghost use Rattle.port_history.specs.Requests.{no_bytes};
     ghost use Rattle.port_calls.specs.Desk.{PutsBy, StepsUnder, TakesStep, ResetsBy, TakesUnder, TakesTurn, ListsReady};
+    ghost use Rattle.port_calls.specs.Shown.{shown_numbers, logged_text};
     ghost use Rattle.port_calls.specs.Told.{answer_bytes};
 
     /// A port of which nothing was taken yet.
@@ -158,6 +161,24 @@ impl PortDesk {
     {
         match self.last.bytes() {
             Some(bytes) => copy_out(bytes, into),
+            None => copy_out(&[], into),
+        }
+    }
+
+    /// What the port shows.
+    pub fn shown(&self) -> Shown
+        ensures { result ≡ shown_numbers self.now.port }
+    {
+        Shown::of(&self.port)
+    }
+
+    /// Copies the line of the audit log at a place, 0 the oldest, into a buffer: no bytes where it has none there.
+    pub fn copy_logged(&self, alloc: Global, place: usize, into: &mut [u8]) -> Count
+        ensures { IsWrittenOut (logged_text (slice_get self.now.port.audit place))
+            into.old into.new result }
+    {
+        match self.port.audit().get(place) {
+            Some(line) => copy_text(line_bytes(alloc, line), into),
             None => copy_out(&[], into),
         }
     }
