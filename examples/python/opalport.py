@@ -1,5 +1,5 @@
-"""A self-locking drive in this process: Python over the C library (include/opalport.h), by `ctypes`. A call of a drive waits
-until a call of it in another thread has ended.
+"""A self-locking drive in this process, or a port with a drive behind it: Python over the C library (include/opalport.h), by
+`ctypes`. A call of a drive waits until a call of it in another thread has ended.
 
 The shared object is found by the environment variable OPALPORT_LIBRARY, or stands beside this file as libopalport.so.
 `.ci/library` makes it.
@@ -15,8 +15,8 @@ import threading
 from dataclasses import dataclass
 
 __all__ = [
-    "Answer", "Carried", "Code", "Command", "Drive", "Failure", "Kind", "OpalError", "Range", "command_fis",
-    "decoded_text", "frame", "opened", "tokens_text", "trusted_fis",
+    "Answer", "Carried", "Code", "Command", "Drive", "EngineStep", "Failure", "Kind", "OpalError", "Port", "Range",
+    "Shown", "Taken", "command_fis", "decoded_text", "frame", "opened", "tokens_text", "trusted_fis",
 ]
 
 FIS_LENGTH = 20
@@ -43,6 +43,17 @@ class Code(enum.IntEnum):
     OVERLAP = 13
     BEYOND = 14
     MALFORMED = 15
+    PORT_SLOT_BUSY = 101
+    PORT_NOT_PREPARED = 102
+    PORT_QUEUE = 103
+    PORT_NOT_ISSUED = 104
+    PORT_NOT_ACCEPTED = 105
+    PORT_NOT_FAILED = 106
+    PORT_FAILED = 107
+    PORT_NOT_ANSWERED = 108
+    PORT_NOT_YOURS = 109
+    PORT_SIZE = 110
+    PORT_HISTORY_FULL = 111
 
 
 class OpalError(Exception):
@@ -54,7 +65,7 @@ class OpalError(Exception):
 
 
 class Command(enum.IntEnum):
-    """A command whose FIS `command_fis` makes."""
+    """A command. `command_fis` makes the FIS of the first seven; `Port.put` takes all but READ_QUEUE_ERROR."""
 
     READ_QUEUED = 0
     WRITE_QUEUED = 1
@@ -63,6 +74,17 @@ class Command(enum.IntEnum):
     IDENTIFY = 4
     READ_QUEUE_ERROR = 5
     FLUSH = 6
+    TRUSTED_SEND = 7
+    TRUSTED_RECEIVE = 8
+
+
+class EngineStep(enum.IntEnum):
+    """A step that the engine of a port may do."""
+
+    ISSUE = 0
+    ACCEPT = 1
+    COMPLETE = 2
+    RECOVER = 3
 
 
 class Kind(enum.IntEnum):
@@ -126,6 +148,33 @@ class Carried:
     payload: bytes
 
 
+@dataclass(frozen=True)
+class Taken:
+    """What a client of a port takes: `done`, or failed with status and error, or stopped by a reset."""
+
+    number: int
+    done: bool
+    reset: bool
+    status: int
+    error: int
+    data: bytes
+
+    @property
+    def has_failed(self):
+        return not self.done and not self.reset
+
+
+@dataclass(frozen=True)
+class Shown:
+    """What a port shows: PxIS, PxTFD, PxSACT and PxCI, and how many lines its audit log has."""
+
+    interrupts: int
+    task: int
+    active: int
+    issued: int
+    denials: int
+
+
 class _Handle(ctypes.Structure):
     _fields_ = [("mark", ctypes.c_uint64), ("place", ctypes.c_void_p)]
 
@@ -161,11 +210,30 @@ class _Carried(ctypes.Structure):
                 ("com_id", ctypes.c_uint16), ("at", ctypes.c_size_t), ("length", ctypes.c_size_t)]
 
 
+class _Asked(ctypes.Structure):
+    _fields_ = [("lba", ctypes.c_uint64), ("command", ctypes.c_uint32), ("count", ctypes.c_uint32),
+                ("com_id", ctypes.c_uint16), ("protocol", ctypes.c_uint8)]
+
+
+class _Taken(ctypes.Structure):
+    _fields_ = [("code", ctypes.c_uint32), ("ending", ctypes.c_uint8), ("status", ctypes.c_uint8),
+                ("error", ctypes.c_uint8), ("number", ctypes.c_size_t), ("length", ctypes.c_size_t)]
+
+
+class _Ready(ctypes.Structure):
+    _fields_ = [("step", ctypes.c_uint8), ("tag", ctypes.c_uint8)]
+
+
+class _Shown(ctypes.Structure):
+    _fields_ = [("code", ctypes.c_uint32), ("interrupts", ctypes.c_uint32), ("task", ctypes.c_uint32),
+                ("active", ctypes.c_uint32), ("issued", ctypes.c_uint32), ("denials", ctypes.c_size_t)]
+
+
 _BYTES = [ctypes.c_char_p, ctypes.c_size_t]
 _HANDLE = [ctypes.POINTER(_Handle)]
+_MAKE = [*_HANDLE, _Size, *_BYTES, *_BYTES, *_BYTES, *_BYTES, ctypes.POINTER(_Range), ctypes.c_size_t]
 _CALLS = {
-    "drive_new": (ctypes.c_uint32, [*_HANDLE, _Size, *_BYTES, *_BYTES, *_BYTES, *_BYTES, ctypes.POINTER(_Range),
-                                    ctypes.c_size_t]),
+    "drive_new": (ctypes.c_uint32, _MAKE),
     "free": (ctypes.c_uint32, _HANDLE),
     "drive_accept": (_Answer, [*_HANDLE, *_BYTES, *_BYTES]),
     "drive_complete": (_Answer, [*_HANDLE, ctypes.c_uint8, *_BYTES]),
@@ -175,6 +243,19 @@ _CALLS = {
     "drive_failure": (_Failed, _HANDLE),
     "drive_data": (_Count, [*_HANDLE, *_BYTES]),
     "drive_denial": (_Count, [*_HANDLE, ctypes.c_uint32, *_BYTES]),
+    "port_new": (ctypes.c_uint32, _MAKE),
+    "port_put": (_Count, [*_HANDLE, ctypes.c_uint32, ctypes.c_uint8, _Asked, *_BYTES]),
+    "port_issue": (_Count, [*_HANDLE, ctypes.c_uint8]),
+    "port_accept": (_Count, [*_HANDLE, ctypes.c_uint8]),
+    "port_complete": (_Count, [*_HANDLE, ctypes.c_uint8]),
+    "port_recover": (_Count, _HANDLE),
+    "port_reset": (_Count, [*_HANDLE, ctypes.c_uint32, ctypes.c_uint32]),
+    "port_take": (_Taken, [*_HANDLE, ctypes.c_uint32, ctypes.c_uint8]),
+    "port_turn": (_Count, [*_HANDLE, ctypes.c_size_t]),
+    "port_ready": (_Count, [*_HANDLE, ctypes.POINTER(_Ready), ctypes.c_size_t]),
+    "port_data": (_Count, [*_HANDLE, *_BYTES]),
+    "port_shown": (_Shown, _HANDLE),
+    "port_denial": (_Count, [*_HANDLE, ctypes.c_size_t, *_BYTES]),
     "tokens": (_Count, [ctypes.c_bool, *_BYTES, *_BYTES]),
     "decoded": (_Count, [ctypes.c_uint32, *_BYTES, *_BYTES]),
     "frame": (_Count, [ctypes.c_uint16, ctypes.c_uint32, ctypes.c_uint32, *_BYTES, *_BYTES]),
@@ -345,6 +426,73 @@ class Drive(_Object):
         `3 7 deny read 95+6 range 1 ReadLocked`; empty where nothing did."""
         with self._lock:
             return _written(_LIBRARY.drive_denial, self._handle, _within(client, 2**32 - 1)).decode("ascii")
+
+
+class Port(_Object):
+    """One AHCI port with 32 command slots, the drive behind it, and the clients that share it. Each step that is done gives
+    its number, from 1."""
+
+    def __init__(self, **options):
+        super().__init__(_LIBRARY.port_new, **options)
+
+    def put(self, client, tag, command, lba=0, count=1, payload=b"", protocol=0, com_id=0):
+        """A client puts a request in the slot of a tag. A write and a send move their payload, a read and a receive as many
+        blocks of 512 bytes as `count` says."""
+        asked = _Asked(_within(lba, 2**64 - 1), _within(command, 2**32 - 1), _within(count, 2**32 - 1),
+                       _within(com_id, 2**16 - 1), _within(protocol, 255))
+        return self._number(_LIBRARY.port_put, _within(client, 2**32 - 1), _tag(tag), asked, *_bytes(payload))
+
+    def issue(self, tag):
+        """The port issues a prepared command."""
+        return self._number(_LIBRARY.port_issue, _tag(tag))
+
+    def accept(self, tag):
+        """The drive takes an issued command."""
+        return self._number(_LIBRARY.port_accept, _tag(tag))
+
+    def complete(self, tag):
+        """The drive moves the data of a command that it holds, and ends it."""
+        return self._number(_LIBRARY.port_complete, _tag(tag))
+
+    def recover(self):
+        """The port recovers from a command that failed."""
+        return self._number(_LIBRARY.port_recover)
+
+    def reset(self, client, kind):
+        """A client resets the port and the drive: 0 is a power cycle, 1 a hardware reset."""
+        return self._number(_LIBRARY.port_reset, _within(client, 2**32 - 1), _within(kind, 2**32 - 1))
+
+    def take(self, client, tag):
+        """A client takes its answer, and the slot is free."""
+        with self._lock:
+            told = _LIBRARY.port_take(self._handle, _within(client, 2**32 - 1), _tag(tag))
+            _check(told.code)
+            data = _written(_LIBRARY.port_data, self._handle, room=told.length) if told.length else b""
+        return Taken(told.number, told.ending == 0, told.ending == 2, told.status, told.error, data)
+
+    def turn(self, choice=0):
+        """The engine does the step at `choice`, modulo their number, of those that are ready. It gives 0 where there is
+        none."""
+        return self._number(_LIBRARY.port_turn, _within(choice, 2**64 - 1))
+
+    def ready(self):
+        """The steps that the engine may do, each with its tag, by their kind, then by their tag."""
+        steps = (_Ready * 32)()
+        number = self._number(_LIBRARY.port_ready, steps, 32)
+        return [(EngineStep(it.step), it.tag) for it in steps[:number]]
+
+    def shown(self):
+        """What the port shows."""
+        with self._lock:
+            told = _LIBRARY.port_shown(self._handle)
+        _check(told.code)
+        return Shown(told.interrupts, told.task, told.active, told.issued, told.denials)
+
+    def denial(self, place):
+        """The line of the audit log at a place, 0 the oldest, as `6 1 deny read 100+1 range 1 ReadLocked`; empty where it has
+        none there."""
+        with self._lock:
+            return _written(_LIBRARY.port_denial, self._handle, _within(place, 2**64 - 1)).decode("ascii")
 
 
 def _tag(tag):

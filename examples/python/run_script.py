@@ -1,12 +1,12 @@
-"""What `opalport` prints, by the library: a script on standard input (`run`), a token stream (`tokens`), Level 0 discovery of
-a new drive (`level0`). Port scripts are not for it: they end with status 3.
+"""What `opalport` prints, by the library: a script on standard input (`run`), on a drive or on a port; a token stream
+(`tokens`), Level 0 discovery of a new drive (`level0`).
 
     python3 examples/python/run_script.py run --sectors 1000 < examples/first.txt
 """
 import re
 import sys
 
-from opalport import MSID, Code, Command, Drive, OpalError, Range, command_fis, frame, tokens_text, trusted_fis
+from opalport import MSID, Code, Command, Drive, OpalError, Port, Range, command_fis, frame, tokens_text, trusted_fis
 
 SECTOR = 512
 MOST_CALL = 65_480
@@ -31,6 +31,28 @@ LINES = {
     b"reset": ["client", "flag"],
     b"tper": ["client"],
 }
+PORT_LINES = {
+    b"range": LINES[b"range"],
+    b"put": ["client", "tag"],
+    b"issue": ["tag"],
+    b"accept": ["tag"],
+    b"complete": ["tag"],
+    b"recover": [],
+    b"reset": ["client", "flag"],
+    b"take": ["client", "tag"],
+}
+REQUESTS = {
+    b"read": ["lba", "count"],
+    b"write": ["lba", "count", "byte"],
+    b"dread": ["lba", "count"],
+    b"dwrite": ["lba", "count", "byte"],
+    b"call": ["com_id", "session", "session", "tokens"],
+    b"send": ["com_id", "bytes"],
+    b"recv": ["com_id", "blocks"],
+    b"secin": ["protocol", "com_id", "blocks"],
+    b"secout": ["protocol", "com_id", "bytes"],
+    b"identify": [],
+}
 
 
 class BadLine(Exception):
@@ -51,14 +73,22 @@ def field(kind, word):
     return data
 
 
-def parsed(line):
-    """The verb of a line and its fields."""
+def fields(lines, words):
+    """The verb of words and their fields."""
+    if not words or words[0] not in lines or len(words) - 1 != len(lines[words[0]]):
+        raise BadLine
+    return words[0], [field(*it) for it in zip(lines[words[0]], words[1:])]
+
+
+def parsed(lines, line):
+    """The verb of a line and its fields; of a request, its own verb and fields behind those of the line."""
     words = [it for it in re.split(rb"[ \t]+", line) if it]
     if words[:1] == [b"expect"]:
         return b"expect", [re.match(rb"[ \t]*expect.?(.*)", line, re.S)[1]]
-    if not words or words[0] not in LINES or len(words) - 1 != len(LINES[words[0]]):
-        raise BadLine
-    return words[0], [field(*it) for it in zip(LINES[words[0]], words[1:])]
+    if lines is PORT_LINES and words[:1] == [b"put"]:
+        verb, found = fields(lines, words[:3])
+        return verb, [*found, *fields(REQUESTS, words[3:])]
+    return fields(lines, words)
 
 
 def is_remark(line):
@@ -83,15 +113,25 @@ def shown(protocol, com_id, data):
     return counted(data, 4, 0, 4) if com_id == DISCOVERY_COM_ID else counted(data, 20, 16, 4)
 
 
-class Script:
-    """A drive, and the lines that a script prints on it."""
+class Lines:
+    """The lines that a script prints."""
 
-    def __init__(self, drive, out):
-        self.drive, self.out, self.last = drive, out, b""
+    def __init__(self, out):
+        self.out, self.last = out, b""
 
     def prints(self, text):
         self.last = text.encode("latin-1")
         self.out.write(self.last + b"\n")
+
+
+class Script(Lines):
+    """A drive, and the lines that a script prints on it."""
+
+    lines = LINES
+
+    def __init__(self, rows, options, out):
+        super().__init__(out)
+        self.drive = Drive(ranges=rows, **options)
 
     def told(self, client, answer, text):
         """Prints what came of a command, and what denied it."""
@@ -154,6 +194,80 @@ class Script:
             self.prints("ok")
 
 
+def blocks_of(data):
+    return data + bytes(-len(data) % SECTOR)
+
+
+def request_of(verb, words):
+    """What a `put` line asks, as `Port.put` takes it."""
+    if verb in (b"read", b"dread"):
+        return {"command": Command.READ_QUEUED if verb == b"read" else Command.READ_DMA, "lba": words[0], "count": words[1]}
+    if verb in (b"write", b"dwrite"):
+        return {"command": Command.WRITE_QUEUED if verb == b"write" else Command.WRITE_DMA, "lba": words[0],
+                "payload": words[2] * (words[1] * SECTOR)}
+    if verb == b"identify":
+        return {"command": Command.IDENTIFY}
+    if verb in (b"recv", b"secin"):
+        protocol, com_id, blocks = words if verb == b"secin" else [SECURITY, *words]
+        return {"command": Command.TRUSTED_RECEIVE, "protocol": protocol, "com_id": com_id, "count": blocks}
+    if verb == b"call":
+        protocol, com_id, data = SECURITY, words[0], frame(*words)
+    else:
+        protocol, com_id, data = words if verb == b"secout" else [SECURITY, *words]
+    return {"command": Command.TRUSTED_SEND, "protocol": protocol, "com_id": com_id, "payload": blocks_of(data)}
+
+
+class PortScript(Lines):
+    """A port, and the lines that a script prints on it."""
+
+    lines = PORT_LINES
+
+    def __init__(self, rows, options, out):
+        super().__init__(out)
+        self.port, self.asked, self.denials = Port(ranges=rows, **options), {}, 0
+
+    def data_text(self, tag, data):
+        """What is printed of the data of a command that is done."""
+        verb, words = self.asked[tag]
+        if verb in (b"read", b"dread"):
+            return "ok" + heads(data)
+        if verb == b"identify":
+            return "data " + data.hex()
+        if verb in (b"recv", b"secin"):
+            return "data " + shown(*(words[:2] if verb == b"secin" else [SECURITY, words[0]]), data).hex()
+        return "ok"
+
+    def take(self, client, tag):
+        taken = self.port.take(client, tag)
+        if taken.has_failed:
+            return f"fail {taken.status:02x} {taken.error:02x}"
+        return "reset" if taken.reset else self.data_text(tag, taken.data)
+
+    def step(self, verb, words):
+        """Does a step, and gives what is printed of it."""
+        if verb == b"take":
+            return self.take(*words)
+        if verb == b"put":
+            client, tag, *asked = words
+            self.port.put(client, tag, **request_of(*asked))
+            self.asked[tag] = asked
+        else:
+            getattr(self.port, verb.decode())(*words)
+        return "ok"
+
+    def do(self, verb, words):
+        """Does what a line says."""
+        try:
+            self.prints(self.step(verb, words))
+        except OpalError as error:
+            if not Code.PORT_SLOT_BUSY <= error.code <= Code.PORT_HISTORY_FULL:
+                raise
+            self.prints(f"refused {error.code - Code.PORT_SLOT_BUSY + 1}")
+        if verb == b"accept" and self.port.shown().denials > self.denials:
+            self.prints(f"audit {self.port.denial(self.denials)}")
+            self.denials += 1
+
+
 def run(options, given, out):
     """A script; the status that it ends with."""
     lines = [it[:-1] if it.endswith(b"\r") else it for it in given.split(b"\n")]
@@ -161,19 +275,20 @@ def run(options, given, out):
         lines.pop()
     if lines and lines[0].startswith(b"#"):
         lines = [it for it in lines if not is_remark(it)]
+    kind = Script
     if lines and [it for it in re.split(rb"[ \t]+", lines[0]) if it] == [b"port"]:
-        return 3
+        kind, lines = PortScript, lines[1:]
     rows, script = [], None
     for line in [*lines, None]:
         try:
-            verb, words = parsed(line) if line is not None else (None, None)
+            verb, words = parsed(kind.lines, line) if line is not None else (None, None)
         except BadLine:
             return 2
         if verb == b"range" and script is None:
             rows.append(Range(words[0], words[1], words[2], *(bool(it) for it in words[3:])))
             continue
         if script is None:
-            script = Script(Drive(ranges=rows, **options), out)
+            script = kind(rows, options, out)
         if verb == b"range":
             return 2
         if verb == b"expect" and script.last != words[0]:

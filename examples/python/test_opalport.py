@@ -5,8 +5,8 @@ import os
 import threading
 import unittest
 
-from opalport import (Code, Command, Drive, Failure, Kind, OpalError, Range, command_fis, decoded_text, frame, opened,
-                      tokens_text, trusted_fis)
+from opalport import (Code, Command, Drive, EngineStep, Failure, Kind, OpalError, Port, Range, Taken, command_fis,
+                      decoded_text, frame, opened, tokens_text, trusted_fis)
 from opalport_pipe import PipedDrive
 
 LOCKED = Range(1, 100, 10, True, True, True, True)
@@ -134,6 +134,96 @@ class OnADrive(unittest.TestCase):
         for _ in range(20):
             Drive(ranges=[LOCKED])
         gc.collect()
+
+
+class OnAPort(unittest.TestCase):
+    def setUp(self):
+        self.port = Port(ranges=[LOCKED])
+        self.addCleanup(self.port.close)
+
+    def refuses(self, code, call, *words, **named):
+        with self.assertRaises(OpalError) as it:
+            call(*words, **named)
+        self.assertEqual(it.exception.code, code)
+
+    def finish(self):
+        """Has the engine do what it may, and gives how many steps that were."""
+        steps = 0
+        while self.port.turn():
+            steps += 1
+        return steps
+
+    def test_a_denied_read_stops_the_queue_until_the_port_recovers(self):
+        self.assertEqual(self.port.put(1, 3, Command.READ_QUEUED, lba=100), 1)
+        self.assertEqual(self.port.put(2, 5, Command.WRITE_QUEUED, lba=200, payload=b"\x5a" * SECTOR), 2)
+        self.assertEqual(self.port.ready(), [(EngineStep.ISSUE, 3), (EngineStep.ISSUE, 5)])
+        steps = self.port.issue(5), self.port.issue(3), self.port.accept(5), self.port.accept(3)
+        self.assertEqual(steps, (3, 4, 5, 6))
+        shown = self.port.shown()
+        self.assertEqual((shown.task, shown.issued, shown.active, shown.denials), (0x0451, 0x08, 0x28, 1))
+        self.assertEqual(self.port.denial(0), "6 1 deny read 100+1 range 1 ReadLocked")
+        self.assertEqual(self.port.denial(1), "")
+        self.refuses(Code.PORT_FAILED, self.port.complete, 5)
+        self.assertEqual(self.port.ready(), [(EngineStep.RECOVER, 0)])
+        self.assertEqual(self.port.recover(), 7)
+        self.refuses(Code.PORT_NOT_YOURS, self.port.take, 2, 3)
+        self.assertEqual(self.port.take(1, 3), Taken(8, False, False, 0x51, 0x04, b""))
+        self.assertEqual(self.finish(), 3)
+        self.assertEqual(self.port.take(2, 5), Taken(12, True, False, 0, 0, b""))
+
+    def test_a_port_gives_what_was_written(self):
+        data = bytes(range(256)) * 4
+        self.port.put(1, 0, Command.WRITE_DMA, lba=7, payload=data)
+        self.assertEqual(self.finish(), 2)
+        self.assertTrue(self.port.take(1, 0).done)
+        self.port.put(1, 31, Command.READ_QUEUED, lba=7, count=2)
+        self.assertEqual(self.finish(), 3)
+        self.assertEqual(self.port.take(1, 31).data, data)
+
+    def test_a_call_and_its_answer(self):
+        self.port.put(1, 0, Command.TRUSTED_SEND, protocol=SECURITY, com_id=COM_ID,
+                      payload=frame(COM_ID, 0, 0, START).ljust(SECTOR, b"\0"))
+        self.assertEqual(self.finish(), 2)
+        self.assertTrue(self.port.take(1, 0).done)
+        self.port.put(1, 0, Command.TRUSTED_RECEIVE, protocol=SECURITY, com_id=COM_ID)
+        self.assertEqual(self.finish(), 2)
+        self.assertEqual(tokens_text(opened(self.port.take(1, 0).data).payload),
+                         "call 00000000000000ff 000000000000ff03 [7 4096] 0 0 0")
+
+    def test_a_reset_stops_what_waits(self):
+        self.port.put(1, 2, Command.FLUSH)
+        self.assertEqual(self.port.reset(2, 1), 2)
+        self.assertEqual(self.port.take(1, 2), Taken(3, False, True, 0, 0, b""))
+
+    def test_what_a_caller_gets_wrong_is_an_error(self):
+        port = self.port
+        self.refuses(Code.TAG, port.issue, 32)
+        self.refuses(Code.TAG, port.take, 1, 256)
+        self.refuses(Code.PORT_NOT_PREPARED, port.issue, 0)
+        self.refuses(Code.PORT_NOT_ISSUED, port.accept, 0)
+        self.refuses(Code.PORT_NOT_ACCEPTED, port.complete, 0)
+        self.refuses(Code.PORT_NOT_FAILED, port.recover)
+        self.refuses(Code.PORT_NOT_ANSWERED, port.take, 1, 0)
+        self.refuses(Code.PORT_SIZE, port.put, 1, 0, Command.READ_DMA, lba=0, count=257)
+        self.refuses(Code.PORT_SIZE, port.put, 1, 0, Command.READ_DMA, lba=2**48, count=1)
+        self.refuses(Code.LENGTH, port.put, 1, 0, Command.IDENTIFY, payload=b"\0")
+        self.refuses(Code.NUMBER, port.put, 1, 0, Command.READ_QUEUE_ERROR)
+        self.refuses(Code.NUMBER, port.put, 1, 0, 9)
+        self.refuses(Code.NUMBER, port.reset, 1, 2)
+        port.put(1, 0, Command.IDENTIFY)
+        self.refuses(Code.PORT_SLOT_BUSY, port.put, 1, 0, Command.IDENTIFY)
+        port.put(1, 1, Command.READ_QUEUED)
+        port.issue(0)
+        self.refuses(Code.PORT_QUEUE, port.issue, 1)
+        port.close()
+        self.refuses(Code.NOT_OPEN, port.recover)
+        self.refuses(Code.NOT_OPEN, port.shown)
+
+    def test_a_port_that_cannot_be(self):
+        for code, options in ((Code.LIMITS, {"sectors": 0}), (Code.NO_RANGE, {"ranges": [Range(17, 0, 1)]})):
+            with self.assertRaises(OpalError) as it:
+                Port(**options)
+            self.assertEqual(it.exception.code, code)
 
 
 @unittest.skipUnless(os.environ.get("OPALPORT_PROGRAM"), "OPALPORT_PROGRAM names no program")

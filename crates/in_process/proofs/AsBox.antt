@@ -4,7 +4,7 @@ use mathlib.Core.List.{[]}
 use denote.Signature.{Slot, plain}
 use mathlib.Core.Path.{◌≡◌, refl, sym}
 use mathlib.Core.Bool.{true≢false}
-use Rattle.std.specs.Prelude.{Option, Some, None, is_some, true, false}
+use Rattle.std.specs.Prelude.{Option, Some, None, is_some, true}
 use Rattle.std.proofs.BoxSteps.Form.{Bx}
 use Rattle.std.specs.contracts.alloc.Global as Heap
 use Rattle.std.specs.contracts.impls.GlobalAllocator.TheImpl.{ghosts, dict}

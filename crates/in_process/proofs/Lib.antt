@@ -1,2 +1,3 @@
 pub mod AsBox
 mod Handed
+mod Starts

@@ -1,5 +1,5 @@
 -- What a drive answers, as numbers.
-use Rattle.std.specs.Prelude.{ℕ, false}
+use Rattle.std.specs.Prelude.{false}
 use Rattle.byte_calls.specs.declared.error.CallError.{CallError}
 use Rattle.byte_calls.specs.Refusals.{code_of_call}
 use Rattle.in_process.specs.declared.answer.Answer.{Answer}

@@ -1,8 +1,8 @@
 -- What a call by a handle does: nothing where the handle has nothing; else what the call does with the object. The
 -- handle keeps its object.
-use Rattle.std.specs.Prelude.{◌≡◌, ◌≢◌, ◌⊎◌, ℕ, List, map, Option, Some, None}
+use Rattle.std.specs.Prelude.{◌≡◌, ◌≢◌, ℕ, List, map, Option, Some, None}
 use Rattle.byte_calls.specs.declared.error.CallError.{CallError}
-use Rattle.byte_calls.specs.declared.error.CallError.TheVariants.{OutOfMemory, NotOpen, InUse, Limits}
+use Rattle.byte_calls.specs.declared.error.CallError.TheVariants.{NotOpen, OtherKind, InUse}
 use Rattle.in_process.specs.declared.answer.Answer.{Answer}
 use Rattle.byte_calls.specs.declared.count.Count.{Count}
 use Rattle.in_process.specs.declared.failed.Failed.{Failed}
@@ -28,52 +28,59 @@ ByHandle None (Some new) refused does = ⊥
 ByHandle (Some old) None refused does = ⊥
 ByHandle (Some old) (Some new) refused does = does old new
 
--- a drive that was there, and the drive that is there
-abbrev pub OfDrive : Object → Object → (DriveDesk → DriveDesk → Type 0) → Type 0
-OfDrive (Drive old) (Drive new) does = does old new
+-- a drive that was there, and the drive that is there; what is none is refused, and stays
+abbrev pub OfDrive : Object → Object → (CallError → Type 0) → (DriveDesk → DriveDesk → Type 0)
+    → Type 0
+OfDrive (Drive old) (Drive new) refused does = does old new
+OfDrive (Drive old) _ refused does = ⊥
+OfDrive old new refused does = refused OtherKind × (new ≡ old)
 
 -- a call of a drive by its handle
-abbrev pub ByDrive : Option Object → Option Object → Type 0 → (DriveDesk → DriveDesk → Type 0)
-    → Type 0
-ByDrive had has refused does = ByHandle had has refused (λ old new. OfDrive old new does)
+abbrev pub ByDrive : Option Object → Option Object → (CallError → Type 0)
+    → (DriveDesk → DriveDesk → Type 0) → Type 0
+ByDrive had has refused does =
+    ByHandle had has (refused NotOpen) (λ old new. OfDrive old new refused does)
 
 -- The drive was given a command.
 abbrev pub AcceptsBy : Option Object → Option Object → List ℕ → List ℕ → Answer → Type 0
-AcceptsBy had has fis payload answer = ByDrive had has (answer ≡ refused_answer NotOpen)
+AcceptsBy had has fis payload answer = ByDrive had has (λ e. answer ≡ refused_answer e)
     (λ old new. IsTakenAs old new fis payload answer)
 
 -- The drive was to complete what it holds under a tag.
 abbrev pub FinishesBy : Option Object → Option Object → ℕ → List ℕ → Answer → Type 0
-FinishesBy had has tag payload answer = ByDrive had has (answer ≡ refused_answer NotOpen)
+FinishesBy had has tag payload answer = ByDrive had has (λ e. answer ≡ refused_answer e)
     (λ old new. IsFinishedAs old new tag payload answer)
 
 -- The drive was to be reset.
 abbrev pub Resets : Option Object → Option Object → ℕ → ℕ → Type 0
-Resets had has kind code = ByDrive had has (code ≡ code_of_call NotOpen)
+Resets had has kind code = ByDrive had has (λ e. code ≡ code_of_call e)
     (λ old new. IsResetAs old new kind code)
 
 -- How many bytes a command brings, and a completion; the drive is as before.
 abbrev pub CountsPayload : Option Object → Option Object → List ℕ → Count → Type 0
-CountsPayload had has fis count = ByDrive had has (count ≡ refused_count NotOpen)
+CountsPayload had has fis count = ByDrive had has (λ e. count ≡ refused_count e)
     (λ old new. (count ≡ payload_count old.drive fis) × (new ≡ old))
 
 abbrev pub CountsExpected : Option Object → Option Object → ℕ → Count → Type 0
-CountsExpected had has tag count = ByDrive had has (count ≡ refused_count NotOpen)
+CountsExpected had has tag count = ByDrive had has (λ e. count ≡ refused_count e)
     (λ old new. (count ≡ expected_count old.drive tag) × (new ≡ old))
 
 -- How the queue has failed.
 abbrev pub TellsFailure : Option Object → Option Object → Failed → Type 0
-TellsFailure had has failed = ByDrive had has (failed ≡ refused_failure NotOpen)
+TellsFailure had has failed = ByDrive had has (λ e. failed ≡ refused_failure e)
     (λ old new. (failed ≡ failure_numbers old.drive.queue.failure) × (new ≡ old))
+
+-- a refused call leaves the buffer as it was
+abbrev pub WritesNone : {A : Type 0} → List A → List A → Count → CallError → Type 0
+WritesNone into out count error = (count ≡ refused_count error) × (out ≡ into)
 
 -- The data of the last answer, and what denied it.
 abbrev pub CopiesData : Option Object → Option Object → List ℕ → List ℕ → Count → Type 0
-CopiesData had has into out count = ByDrive had has ((count ≡ refused_count NotOpen) × (out ≡ into))
+CopiesData had has into out count = ByDrive had has (WritesNone into out count)
     (λ old new. IsCopied (last_bytes old) into out count × (new ≡ old))
 
 abbrev pub CopiesDenial : Option Object → Option Object → ℕ → List ℕ → List ℕ → Count → Type 0
-CopiesDenial had has client into out count =
-    ByDrive had has ((count ≡ refused_count NotOpen) × (out ≡ into))
+CopiesDenial had has client into out count = ByDrive had has (WritesNone into out count)
     (λ old new. IsWrittenOut (denial_at old client) into out count × (new ≡ old))
 
 -- A handle with nothing is given a drive, or nothing was done.

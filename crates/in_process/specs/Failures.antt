@@ -1,5 +1,5 @@
 -- How a queue has failed, as numbers (ACS-3, NCQ Command Error log).
-use Rattle.std.specs.Prelude.{ℕ, true, false, is_some, unwrap_or, Option, Some, None}
+use Rattle.std.specs.Prelude.{true, false, is_some, unwrap_or, Option, Some, None}
 use Rattle.device_data.specs.declared.log_page.Failure.{Failure}
 use Rattle.byte_calls.specs.declared.error.CallError.{CallError}
 use Rattle.in_process.specs.declared.failed.Failed.{Failed}

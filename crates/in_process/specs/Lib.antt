@@ -4,6 +4,8 @@ pub mod Calls
 pub mod Denials
 pub mod Desks
 pub mod Failures
+pub mod HbaCalls
 pub mod Marks
 pub mod Owned
+pub mod PortCalls
 pub mod Refused

@@ -8,9 +8,13 @@ mod drive_desk;
 mod drives;
 mod failed;
 mod handle;
+mod hba_object;
+mod hbas;
 mod object;
 mod parts;
 mod place;
+mod port_object;
+mod ports;
 mod refusals;
 
 pub use answer::Answer;
@@ -22,5 +26,10 @@ pub use drives::{
 };
 pub use failed::Failed;
 pub use handle::Handle;
+pub use hbas::{hba_denial, hba_interrupt, hba_new, hba_read, hba_turn, hba_write};
 pub use object::Object;
 pub use place::Place;
+pub use ports::{
+    port_accept, port_complete, port_data, port_denial, port_issue, port_new, port_put, port_ready,
+    port_recover, port_reset, port_shown, port_take, port_turn,
+};

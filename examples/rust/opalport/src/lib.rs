@@ -1,9 +1,12 @@
 //! A self-locking drive (TCG Opal SSC 2.01) in your process: safe Rust over opalport's C library.
 //!
-//! A drive is a value: it is freed when it is dropped, and a call wants `&mut`, so that no two calls can meet. It may be
-//! moved to another thread. Nothing here panics on what a drive answers.
+//! A drive is a value, and so is a port: it is freed when it is dropped, and a call wants `&mut`, so that no two calls can
+//! meet. It may be moved to another thread. Nothing here panics on what a drive answers.
 
+mod port;
 mod raw;
+
+pub use port::{EngineStep, Port, Request, Shown, Taken};
 
 use std::fmt;
 use std::ptr::null_mut;
@@ -30,6 +33,17 @@ pub enum Error {
     Overlap,
     Beyond,
     Malformed,
+    PortSlotBusy,
+    PortNotPrepared,
+    PortQueue,
+    PortNotIssued,
+    PortNotAccepted,
+    PortNotFailed,
+    PortFailed,
+    PortNotAnswered,
+    PortNotYours,
+    PortSize,
+    PortHistoryFull,
     Unknown(u32),
 }
 
@@ -52,6 +66,17 @@ impl Error {
             13 => Error::Overlap,
             14 => Error::Beyond,
             15 => Error::Malformed,
+            101 => Error::PortSlotBusy,
+            102 => Error::PortNotPrepared,
+            103 => Error::PortQueue,
+            104 => Error::PortNotIssued,
+            105 => Error::PortNotAccepted,
+            106 => Error::PortNotFailed,
+            107 => Error::PortFailed,
+            108 => Error::PortNotAnswered,
+            109 => Error::PortNotYours,
+            110 => Error::PortSize,
+            111 => Error::PortHistoryFull,
             other => Error::Unknown(other),
         })
     }
@@ -75,6 +100,17 @@ impl fmt::Display for Error {
             Error::Overlap => "two ranges have a sector in common",
             Error::Beyond => "a range ends beyond the drive, or the global range has a place",
             Error::Malformed => "bytes are not what they are to be",
+            Error::PortSlotBusy => "the slot is not free",
+            Error::PortNotPrepared => "the slot has no prepared command",
+            Error::PortQueue => "queued and other commands would mix",
+            Error::PortNotIssued => "the slot has no issued command",
+            Error::PortNotAccepted => "the slot has no accepted command",
+            Error::PortNotFailed => "the port has not failed",
+            Error::PortFailed => "the port has failed",
+            Error::PortNotAnswered => "the slot has no answer",
+            Error::PortNotYours => "the answer is another client's",
+            Error::PortSize => "a transfer has no size that the port takes",
+            Error::PortHistoryFull => "the history of the port is full",
             Error::Unknown(code) => return write!(f, "the code {code}"),
         })
     }
@@ -261,17 +297,32 @@ pub fn receive_fis(protocol: u8, sp_specific: u16, blocks: u16) -> Result<[u8; F
     fis(|into, room| unsafe { raw::opal_raw_trusted_fis(false, protocol, sp_specific, blocks, into, room) })
 }
 
-/// A self-locking drive.
-pub struct Drive {
+/// What a handle has. It is freed when it is dropped.
+struct Object {
     handle: raw::Handle,
 }
 
 // SAFETY: what a handle leads to is used by one call at a time, since each wants `&mut`, and it is plain data.
-unsafe impl Send for Drive {}
+unsafe impl Send for Object {}
 
-impl Drive {
-    /// The drive that is asked for.
-    pub fn new(config: &Config<'_>) -> Result<Drive, Error> {
+/// How the library makes a drive or a port: both are asked for by the same parts.
+type Make = unsafe extern "C" fn(
+    *mut raw::Handle,
+    raw::Size,
+    *const u8,
+    usize,
+    *const u8,
+    usize,
+    *const u8,
+    usize,
+    *const u8,
+    usize,
+    *const raw::RangeCells,
+    usize,
+) -> u32;
+
+impl Object {
+    fn new(make: Make, config: &Config<'_>) -> Result<Object, Error> {
         let field = config.field.unwrap_or_default();
         let size = raw::Size {
             sectors: config.sectors,
@@ -280,11 +331,11 @@ impl Drive {
             profile: config.field.is_some().into(),
         };
         let cells: Vec<raw::RangeCells> = config.ranges.iter().map(cells_of).collect();
-        let mut drive = Drive { handle: raw::Handle { mark: 0, place: null_mut() } };
+        let mut object = Object { handle: raw::Handle { mark: 0, place: null_mut() } };
         // SAFETY: the handle begins as one with nothing; the rest are slices, borrowed for the call.
         let code = unsafe {
-            raw::opal_raw_drive_new(
-                &mut drive.handle,
+            make(
+                &mut object.handle,
                 size,
                 config.msid.as_ptr(),
                 config.msid.len(),
@@ -299,7 +350,26 @@ impl Drive {
             )
         };
         Error::check(code)?;
-        Ok(drive)
+        Ok(object)
+    }
+}
+
+impl Drop for Object {
+    fn drop(&mut self) {
+        // SAFETY: the handle is this object's own, and is used no more. One with nothing is left as it is.
+        unsafe { raw::opal_raw_free(&mut self.handle) };
+    }
+}
+
+/// A self-locking drive.
+pub struct Drive {
+    object: Object,
+}
+
+impl Drive {
+    /// The drive that is asked for.
+    pub fn new(config: &Config<'_>) -> Result<Drive, Error> {
+        Object::new(raw::opal_raw_drive_new, config).map(|object| Drive { object })
     }
 
     fn answer(&mut self, told: raw::Answer) -> Result<Answer, Error> {
@@ -308,7 +378,7 @@ impl Drive {
             Vec::new()
         } else {
             // SAFETY: the handle is this drive's own, and the buffer is there for the call.
-            written(told.length, |into, room| unsafe { raw::opal_raw_drive_data(&mut self.handle, into, room) })?
+            written(told.length, |into, room| unsafe { raw::opal_raw_drive_data(&mut self.object.handle, into, room) })?
         };
         Ok(Answer { status: told.status, error: told.error, held: told.held, denied: told.denied, data })
     }
@@ -317,7 +387,7 @@ impl Drive {
     pub fn accept(&mut self, fis: &[u8; FIS_LENGTH], payload: &[u8]) -> Result<Answer, Error> {
         // SAFETY: the handle is this drive's own; the rest are slices, borrowed for the call.
         let told = unsafe {
-            raw::opal_raw_drive_accept(&mut self.handle, fis.as_ptr(), FIS_LENGTH, payload.as_ptr(), payload.len())
+            raw::opal_raw_drive_accept(&mut self.object.handle, fis.as_ptr(), FIS_LENGTH, payload.as_ptr(), payload.len())
         };
         self.answer(told)
     }
@@ -326,40 +396,40 @@ impl Drive {
     pub fn complete(&mut self, tag: u8, payload: &[u8]) -> Result<Answer, Error> {
         // SAFETY: as in `accept`.
         let told =
-            unsafe { raw::opal_raw_drive_complete(&mut self.handle, tag, payload.as_ptr(), payload.len()) };
+            unsafe { raw::opal_raw_drive_complete(&mut self.object.handle, tag, payload.as_ptr(), payload.len()) };
         self.answer(told)
     }
 
     /// How many bytes of payload a command brings.
     pub fn payload_length(&mut self, fis: &[u8; FIS_LENGTH]) -> Result<usize, Error> {
         // SAFETY: as in `accept`.
-        let told = unsafe { raw::opal_raw_drive_payload(&mut self.handle, fis.as_ptr(), FIS_LENGTH) };
+        let told = unsafe { raw::opal_raw_drive_payload(&mut self.object.handle, fis.as_ptr(), FIS_LENGTH) };
         Error::check(told.code).map(|()| told.number)
     }
 
     /// How many bytes of payload a completion under a tag brings.
     pub fn expects(&mut self, tag: u8) -> Result<usize, Error> {
         // SAFETY: the handle is this drive's own.
-        let told = unsafe { raw::opal_raw_drive_expects(&mut self.handle, tag) };
+        let told = unsafe { raw::opal_raw_drive_expects(&mut self.object.handle, tag) };
         Error::check(told.code).map(|()| told.number)
     }
 
     /// A power cycle.
     pub fn power_cycle(&mut self) -> Result<(), Error> {
         // SAFETY: the handle is this drive's own.
-        Error::check(unsafe { raw::opal_raw_drive_reset(&mut self.handle, 0) })
+        Error::check(unsafe { raw::opal_raw_drive_reset(&mut self.object.handle, 0) })
     }
 
     /// A hardware reset.
     pub fn hardware_reset(&mut self) -> Result<(), Error> {
         // SAFETY: the handle is this drive's own.
-        Error::check(unsafe { raw::opal_raw_drive_reset(&mut self.handle, 1) })
+        Error::check(unsafe { raw::opal_raw_drive_reset(&mut self.object.handle, 1) })
     }
 
     /// How the queue has failed, if it has.
     pub fn failure(&mut self) -> Result<Option<Failure>, Error> {
         // SAFETY: the handle is this drive's own.
-        let told = unsafe { raw::opal_raw_drive_failure(&mut self.handle) };
+        let told = unsafe { raw::opal_raw_drive_failure(&mut self.object.handle) };
         Error::check(told.code)?;
         Ok(told.failed.then_some(Failure {
             tag: told.queued.then_some(told.tag),
@@ -374,14 +444,7 @@ impl Drive {
     /// `3 7 deny read 95+6 range 1 ReadLocked`; empty where nothing did.
     pub fn denial(&mut self, client: u32) -> Result<String, Error> {
         // SAFETY: the handle is this drive's own, and the buffer is there for the call.
-        written(200, |into, room| unsafe { raw::opal_raw_drive_denial(&mut self.handle, client, into, room) }).map(text)
-    }
-}
-
-impl Drop for Drive {
-    fn drop(&mut self) {
-        // SAFETY: the handle is this drive's own, and is used no more. One with nothing is left as it is.
-        unsafe { raw::opal_raw_free(&mut self.handle) };
+        written(200, |into, room| unsafe { raw::opal_raw_drive_denial(&mut self.object.handle, client, into, room) }).map(text)
     }
 }
 

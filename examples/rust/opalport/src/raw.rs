@@ -54,6 +54,42 @@ pub struct Failed {
 }
 
 #[repr(C)]
+pub struct Asked {
+    pub lba: u64,
+    pub command: u32,
+    pub count: u32,
+    pub com_id: u16,
+    pub protocol: u8,
+}
+
+#[repr(C)]
+pub struct Taken {
+    pub code: u32,
+    pub ending: u8,
+    pub status: u8,
+    pub error: u8,
+    pub number: usize,
+    pub length: usize,
+}
+
+#[repr(C)]
+#[derive(Clone, Copy)]
+pub struct Ready {
+    pub step: u8,
+    pub tag: u8,
+}
+
+#[repr(C)]
+pub struct Shown {
+    pub code: u32,
+    pub interrupts: u32,
+    pub task: u32,
+    pub active: u32,
+    pub issued: u32,
+    pub denials: usize,
+}
+
+#[repr(C)]
 pub struct Carried {
     pub code: u32,
     pub tsn: u32,
@@ -93,6 +129,39 @@ extern "C" {
     pub fn opal_raw_drive_failure(handle: *mut Handle) -> Failed;
     pub fn opal_raw_drive_data(handle: *mut Handle, into: *mut u8, length: usize) -> Count;
     pub fn opal_raw_drive_denial(handle: *mut Handle, client: u32, into: *mut u8, length: usize) -> Count;
+    pub fn opal_raw_port_new(
+        handle: *mut Handle,
+        size: Size,
+        msid: *const u8,
+        msid_length: usize,
+        serial: *const u8,
+        serial_length: usize,
+        model: *const u8,
+        model_length: usize,
+        psid: *const u8,
+        psid_length: usize,
+        ranges: *const RangeCells,
+        range_count: usize,
+    ) -> u32;
+    pub fn opal_raw_port_put(
+        handle: *mut Handle,
+        client: u32,
+        tag: u8,
+        request: Asked,
+        payload: *const u8,
+        payload_length: usize,
+    ) -> Count;
+    pub fn opal_raw_port_issue(handle: *mut Handle, tag: u8) -> Count;
+    pub fn opal_raw_port_accept(handle: *mut Handle, tag: u8) -> Count;
+    pub fn opal_raw_port_complete(handle: *mut Handle, tag: u8) -> Count;
+    pub fn opal_raw_port_recover(handle: *mut Handle) -> Count;
+    pub fn opal_raw_port_reset(handle: *mut Handle, client: u32, kind: u32) -> Count;
+    pub fn opal_raw_port_take(handle: *mut Handle, client: u32, tag: u8) -> Taken;
+    pub fn opal_raw_port_turn(handle: *mut Handle, choice: usize) -> Count;
+    pub fn opal_raw_port_ready(handle: *mut Handle, into: *mut Ready, length: usize) -> Count;
+    pub fn opal_raw_port_data(handle: *mut Handle, into: *mut u8, length: usize) -> Count;
+    pub fn opal_raw_port_shown(handle: *mut Handle) -> Shown;
+    pub fn opal_raw_port_denial(handle: *mut Handle, place: usize, into: *mut u8, length: usize) -> Count;
     pub fn opal_raw_tokens(by_name: bool, bytes: *const u8, bytes_length: usize, into: *mut u8, length: usize) -> Count;
     pub fn opal_raw_decoded(kind: u32, bytes: *const u8, bytes_length: usize, into: *mut u8, length: usize) -> Count;
     pub fn opal_raw_frame(

@@ -1,7 +1,6 @@
-use Rattle.std.proofs.Common.{◌≡◌, List, map, sym, subst, ap, ◌∙◌}
+use Rattle.std.proofs.Common.{map, sym, subst}
 use Rattle.drive.specs.State.{DriveState}
 use Rattle.in_process.specs.Asked.{StartsAs, row_asked}
-use Rattle.in_process.specs.declared.object.Object.TheVariants.{Drive}
 use Rattle.in_process.proofs.drives.desk_asked.Goals as goal
 
 pub returns-in-Ok : goal.returns-in-Ok

@@ -1,4 +1,4 @@
-use Rattle.std.proofs.Common.{◌≡◌, Some, refl, sym, ap, ◌∙◌}
+use Rattle.std.proofs.Common.{Some, refl, sym, ap, ◌∙◌}
 use Rattle.in_process.proofs.Handed.{none_of}
 use Rattle.in_process.proofs.drives.drive_new.Goals as goal
 

@@ -1,4 +1,4 @@
-use Rattle.std.proofs.Common.{rules, ℕ, ◌+◌, ◌%◌, ◌^◌, ap}
+use Rattle.std.proofs.Common.{ℕ, ◌+◌, ◌%◌, ◌^◌, ap}
 use Rattle.in_process.proofs.Handed.{took}
 use Rattle.in_process.proofs.drive_desk.DriveDesk.accept.Goals as goal
 

@@ -1,4 +1,4 @@
-use Rattle.std.proofs.Common.{rules, ℕ, ◌+◌, ◌%◌, ◌^◌, refl, ap}
+use Rattle.std.proofs.Common.{ℕ, ◌+◌, ◌%◌, ◌^◌, refl, ap}
 use Rattle.in_process.proofs.Handed.{completed}
 use Rattle.in_process.proofs.drive_desk.DriveDesk.complete.Goals as goal
 

@@ -1,0 +1,15 @@
+use Rattle.std.proofs.Common.{Some, refl, sym, ap, ◌∙◌}
+use Rattle.in_process.proofs.Handed.{none_of}
+use Rattle.in_process.proofs.hbas.hba_new.Goals as goal
+
+pub returns-in-Ok : goal.returns-in-Ok
+returns-in-Ok c = record {
+  in_use = λ some. absurd (some (none_of _ (sym c.is_open.ensures ∙ c.if-is_open.false)));
+  opened = λ _. (
+    c.in-Ok.ensures.0,
+    c.put.ensures ∙ ap (λ o. Some o) c.in-Ok.ensures.1,
+    c.in-Ok.ensures.2,
+    c.in-Ok.ensures.3,
+  );
+  refused = λ done. absurd (done refl);
+}

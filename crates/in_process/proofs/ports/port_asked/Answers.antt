@@ -1,0 +1,13 @@
+use Rattle.std.proofs.lemmas.Result.{IfOk-weaker}
+use Rattle.in_process.proofs.ports.port_asked.Goals as goal
+
+pub returns : goal.returns
+returns c =
+    IfOk-weaker c.boxed.result _ _
+    (λ object is. (
+      c.in_ok-desk.desk,
+      is,
+      c.in_ok-desk.ensures.0,
+      (c.in-Some.config, c.in-Some.ensures, c.in_ok-desk.ensures.1),
+    ))
+    c.boxed.ensures

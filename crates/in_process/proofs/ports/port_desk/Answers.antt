@@ -1,0 +1,13 @@
+use Rattle.std.proofs.Common.{map, sym, subst}
+use Rattle.in_process.specs.Asked.{row_asked}
+use Rattle.in_process.specs.PortCalls.{PortStartsAs}
+use Rattle.port.specs.State.{PortState}
+use Rattle.in_process.proofs.Starts.{port_starts}
+use Rattle.in_process.proofs.ports.port_desk.Goals as goal
+
+pub returns-in-Ok : goal.returns-in-Ok
+returns-in-Ok c = (
+  c.new-in-Ok.ensures.last,
+  subst (λ (p : PortState). PortStartsAs c.args.config (map row_asked c.args.cells.now) p) (sym c.new-in-Ok.ensures.port)
+      (port_starts c.args.config (map row_asked c.args.cells.now) c.in_ok-drive.drive c.in-Ok.port c.in-Ok.ensures.agrees c.in_ok-drive.ensures),
+)

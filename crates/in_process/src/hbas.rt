@@ -1,0 +1,138 @@
+//! Calls of a controller by its handle.
+
+ghost use Rattle.std.specs.Prelude.{◌≡◌, None, map, IfOk};
+ghost use Rattle.sp_cells.specs.Config.{Config};
+ghost use Rattle.hba_calls.specs.declared.desk.HbaDesk.{HbaDesk};
+ghost use Rattle.in_process.specs.Asked.{ConfigAsked, row_asked};
+ghost use Rattle.in_process.specs.HbaCalls.{MakesHba, HbaStartsAs, ReadsWord, TellsInterrupt, WritesByHandle, WorksByHandle, CopiesDenied};
+ghost use Rattle.in_process.specs.declared.object.Object.TheVariants as objects;
+
+use crate::asked::{Names, RangeCells, Size, config_asked, drive_asked};
+use crate::handle::Handle;
+use crate::object::Object;
+use byte_calls::{CallError, Count, DONE};
+use drive::DriveConfig;
+use hba::Hba;
+use hba_calls::{HbaDesk, Worked};
+use std::alloc::Global;
+
+/// The controller of this configuration and these cells.
+fn hba_desk(alloc: Global, config: DriveConfig, cells: &[RangeCells]) -> Result<HbaDesk, CallError>
+    ensures { IfOk result (λ desk. (desk.denied ≡ None)
+        × HbaStartsAs config (map row_asked cells.now) desk.hba) }
+{
+    let drive = drive_asked(alloc, config, cells)?;
+    Ok(HbaDesk::new(Hba::new(alloc, drive)))
+}
+
+/// The controller that is asked for.
+fn hba_asked(
+    alloc: Global,
+    size: &Size,
+    names: &Names<'_>,
+    cells: &[RangeCells],
+) -> Result<Box<Object>, CallError>
+    ensures { IfOk result (λ object. (desk : HbaDesk) × (object.value ≡ objects.Hba desk)
+        × (desk.denied ≡ None) × ((config : Config)
+        × ConfigAsked size.now names.now.msid.now names.now.serial.now
+        names.now.model.now names.now.psid.now config
+        × HbaStartsAs config (map row_asked cells.now) desk.hba)) }
+{
+    let Some(config) = config_asked(size, names) else {
+        return Err(CallError::Limits);
+    };
+    let desk = hba_desk(alloc, config, cells)?;
+    Object::Hba(desk).boxed(alloc)
+}
+
+/// Makes a controller over the drive that is asked for, at a handle with nothing. It tells 0, or the number of the refusal,
+/// as [`crate::drive_new`] does. Then nothing was made.
+pub fn hba_new(
+    handle: &mut Handle,
+    alloc: Global,
+    size: &Size,
+    names: &Names<'_>,
+    cells: &[RangeCells],
+) -> u32
+    ensures { MakesHba handle.old.place.kept handle.new.place.kept size.now names.now.msid.now
+        names.now.serial.now names.now.model.now names.now.psid.now cells.now result }
+{
+    if handle.is_open() {
+        return CallError::InUse.code();
+    }
+    match hba_asked(alloc, size, names, cells) {
+        Ok(object) => {
+            handle.put(object);
+            DONE
+        }
+        Err(error) => error.code(),
+    }
+}
+
+/// The word that the host reads at an offset of the register space: 0 where no register stands.
+pub fn hba_read(handle: &mut Handle, alloc: Global, offset: u32) -> Count
+    ensures { ReadsWord handle.old.place.kept handle.new.place.kept offset result }
+{
+    let Some(mut object) = handle.take(alloc) else {
+        return Count::refused(CallError::NotOpen);
+    };
+    let told = object.read(offset);
+    handle.put(object);
+    told
+}
+
+/// The host's write of a word at an offset of the register space.
+pub fn hba_write(handle: &mut Handle, alloc: Global, offset: u32, value: u32) -> u32
+    ensures { WritesByHandle handle.old.place.kept handle.new.place.kept offset value result }
+{
+    let Some(mut object) = handle.take(alloc) else {
+        return CallError::NotOpen.code();
+    };
+    let told = object.write(offset, value);
+    handle.put(object);
+    told
+}
+
+/// The interrupt line, as 0 or 1.
+pub fn hba_interrupt(handle: &mut Handle, alloc: Global) -> Count
+    ensures { TellsInterrupt handle.old.place.kept handle.new.place.kept result }
+{
+    let Some(mut object) = handle.take(alloc) else {
+        return Count::refused(CallError::NotOpen);
+    };
+    let told = object.interrupt();
+    handle.put(object);
+    told
+}
+
+/// The controller does the work of the number `choice`, modulo how many are ready, over the memory whose bytes these are,
+/// from the address `base` on.
+pub fn hba_turn(
+    handle: &mut Handle,
+    alloc: Global,
+    choice: usize,
+    base: u32,
+    bytes: &mut [u8],
+) -> Worked
+    ensures { WorksByHandle handle.old.place.kept handle.new.place.kept choice base
+        bytes.old bytes.new result }
+{
+    let Some(mut object) = handle.take(alloc) else {
+        return Worked::refused(CallError::NotOpen);
+    };
+    let told = object.work(choice, base, bytes);
+    handle.put(object);
+    told
+}
+
+/// Copies the line of the audit log that tells what denied the command of the last turn.
+pub fn hba_denial(handle: &mut Handle, alloc: Global, into: &mut [u8]) -> Count
+    ensures { CopiesDenied handle.old.place.kept handle.new.place.kept into.old into.new result }
+{
+    let Some(mut object) = handle.take(alloc) else {
+        return Count::refused(CallError::NotOpen);
+    };
+    let told = object.copy_denied(alloc, into);
+    handle.put(object);
+    told
+}
