@@ -44,6 +44,15 @@ class OnADrive(unittest.TestCase):
         self.assertEqual(self.drive.accept(read(0)).data, bytes(SECTOR))
         self.assertEqual(self.drive.denial(7), "")
 
+    def test_a_denial_keeps_its_number_until_the_next_command(self):
+        self.drive.accept(read(95, 6))
+        self.drive.reset(1)
+        self.assertEqual(self.drive.denial(7), "1 7 deny read 95+6 range 1 ReadLocked")
+        self.refuses(Code.LENGTH, self.drive.accept, bytes(19))
+        self.assertEqual(self.drive.denial(7), "1 7 deny read 95+6 range 1 ReadLocked")
+        self.drive.accept(read(95, 6))
+        self.assertEqual(self.drive.denial(7), "3 7 deny read 95+6 range 1 ReadLocked")
+
     def test_a_failed_queue_aborts_until_its_page_is_read(self):
         self.assertFalse(self.drive.accept(command_fis(Command.READ_QUEUED, 100, 1, 3)).held)
         self.assertEqual(self.drive.failure(), Failure(3, 0x04, 0x40, 3 << 3, 100))

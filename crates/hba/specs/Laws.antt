@@ -72,7 +72,7 @@ HostDenialLaw =
     → FailsSo o before tag fis payload aborted
 
 -- PxSACT after a completion: as before, or the tag's bit is cleared, and the Set Device Bits FIS of
--- the tag told it (Serial ATA, Set Device Bits FIS; AHCI 1.3.1, 5.5.2).
+-- the tag told it (Serial ATA, Set Device Bits FIS; AHCI 1.3.1, 3.3.13).
 abbrev pub ToldByDeviceBits : ℕ → List Fis → ℕ → ℕ → Type 0
 ToldByDeviceBits tag fises before after =
     (after ≡ before)

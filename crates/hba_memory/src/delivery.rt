@@ -1,4 +1,4 @@
-//! What the engine puts into the host's memory: data, their count, and received FISes (AHCI 1.3.1, 4.2 and 5.5.2).
+//! What the engine puts into the host's memory: data, their count, and received FISes (AHCI 1.3.1, 4.2 and 5.4.1).
 
 ghost use Rattle.std.specs.Prelude.{◌≡◌, ◌≤◌, ◌<◌, ◌+◌, ◌^◌, ℕ, List, Some, None, length};
 ghost use Rattle.std.specs.Result.{result_err};

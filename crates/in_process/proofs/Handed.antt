@@ -15,7 +15,7 @@ use Rattle.drive.specs.State.{DriveState, Agrees}
 use Rattle.drive.specs.Answers.{IsAnswer, IsCompletion}
 use Rattle.drive.specs.declared.answer.Completed.{Completed}
 use Rattle.in_process.specs.Answers.{refused_answer}
-use Rattle.in_process.specs.Desks.{TakesCommand, CompletesHeld, IsFirstFault, IsCalled}
+use Rattle.in_process.specs.Desks.{TakesCommand, CompletesHeld, IsFirstFault, IsRefusedAs, IsCalled}
 use Rattle.in_process.specs.declared.answer.Answer.{Answer}
 use Rattle.in_process.specs.declared.drive_desk.DriveDesk.{DriveDesk}
 
@@ -23,14 +23,16 @@ pub took : (old new : DriveDesk) (mid : DriveState) (given fis payload : List �
     → ((o : Origin) (acts : List Act) → Agrees mid o acts → Agrees new.drive o (Accept given payload ∷ acts))
     → ((o : Origin) (acts : List Act) → Agrees mid o acts
     → IsAnswer (facts o (log o acts)) (h2d_at given) (event o (log o acts) (Accept given payload)) new.answer)
-    → new.done ≡ None → new.acts ≡ (old.acts + 1) % 2 ^ 64 → TakesCommand old new fis payload
-took old new mid given fis payload e d agrees answer last acts = record {
+    → new.done ≡ None → new.acts ≡ (old.acts + 1) % 2 ^ 64 → new.answered ≡ (old.acts + 1) % 2 ^ 64
+    → TakesCommand old new fis payload
+took old new mid given fis payload e d agrees answer last acts answered = record {
   agrees = λ o list a. subst (λ (f : List ℕ). Agrees new.drive o (Accept f payload ∷ list)) e
       (agrees o list (subst (λ (x : DriveState). Agrees x o list) (sym d) a));
   answer = λ o list a. subst (λ (f : List ℕ). IsAnswer (facts o (log o list)) (h2d_at f) (event o (log o list) (Accept f payload)) new.answer) e
       (answer o list (subst (λ (x : DriveState). Agrees x o list) (sym d) a));
   last = last;
   acts = acts;
+  answered = answered;
 }
 
 pub completed : (old new : DriveDesk) (mid : DriveState) (given tag : ℕ) (payload : List ℕ) (done : Completed) → given ≡ tag → mid ≡ old.drive
@@ -74,25 +76,27 @@ some_is : {A : Type 0} (x : A) → Some x ≡ None → ⊥
 some_is {A} x e = true≢false (ap (λ (o : Option A). is_some o) e)
 
 -- A call that was refused.
-refused_as : (fault : Option CallError) (old new : DriveDesk) (error : CallError) (does : Type 0) → new.drive ≡ old.drive → IsFirstFault fault error
-    → IsCalled fault old new (refused_answer error) does
+refused_as : (fault : Option CallError) (old new : DriveDesk) (error : CallError) (does : Type 0) → IsRefusedAs fault old new
+    → IsFirstFault fault error → IsCalled fault old new (refused_answer error) does
 refused_as None old new error does same first = record {
   done = λ e. absurd (not_done error e);
   told = λ e. absurd (not_done error e);
-  refused = λ _. same;
+  refused = λ _. same.drive;
+  undone = λ _. same;
   first = tt;
   memory = λ _ _. ap refused_answer first;
 }
 refused_as (Some fault) old new error does same first = record {
   done = λ e. absurd (not_done error e);
   told = λ e. absurd (not_done error e);
-  refused = λ _. same;
+  refused = λ _. ap (λ (desk : DriveDesk). desk.drive) same;
+  undone = λ _. same;
   first = ap refused_answer first;
   memory = λ none _. absurd (some_is fault none);
 }
 
 pub refused_call : (fault : Option CallError) (old new : DriveDesk) (answer : Answer) (error : CallError) (does : Type 0) → answer ≡ refused_answer error
-    → new.drive ≡ old.drive → IsFirstFault fault error → IsCalled fault old new answer does
+    → IsRefusedAs fault old new → IsFirstFault fault error → IsCalled fault old new answer does
 refused_call fault old new answer error does is same first =
     subst (λ (a : Answer). IsCalled fault old new a does) (sym is) (refused_as fault old new error does same first)
 

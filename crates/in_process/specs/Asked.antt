@@ -1,15 +1,17 @@
 -- A drive, as a caller from outside asks for it.
-use Rattle.std.specs.Prelude.{◌≡◌, ℕ, ◌-◌, ◌^◌, Bool, true, not, ◌==◌, ◌&&◌, List, [], ◌∷◌, length, if◌then◌else◌, Option, Some, None, Ok, Err}
+use Rattle.std.specs.Prelude.{◌≡◌, ◌⊎◌, ◌≤◌, ℕ, ◌-◌, ◌^◌, Bool, true, not, ◌==◌, ◌&&◌, List, [], ◌∷◌, length, if◌then◌else◌, Option, Some, None, Ok, Err}
 use Rattle.basics.specs.declared.profile.Profile.{Profile}
 use Rattle.basics.specs.declared.profile.Profile.TheVariants.{Base, Field}
 use Rattle.locking.specs.declared.range.RangeRow.{RangeRow}
-use Rattle.sp_cells.specs.Config.{Config, config_in, named_config, labelled_config, stored_config, new_serial, new_model, new_psid, new_datastore}
+use Rattle.sp_cells.specs.Config.{Config, IsWithinLimits, AreNames, IsLabel, config_in, named_config, labelled_config, stored_config, new_serial, new_model, new_psid, new_datastore}
+use Rattle.sp_cells.specs.Limits.{most_datastore_bytes}
 use Rattle.sp_cells.specs.declared.error.SetError.{SetError}
 use Rattle.history.specs.Opening.{Origin, factory_origin, origin_with}
 use Rattle.drive.specs.State.{DriveState, Agrees}
 use Rattle.in_process.specs.declared.asked.RangeCells.{RangeCells}
 use Rattle.in_process.specs.declared.asked.Size.{Size}
 use Rattle.byte_calls.specs.declared.error.CallError.{CallError}
+use Rattle.byte_calls.specs.declared.error.CallError.TheVariants.{OutOfMemory, Limits}
 use Rattle.in_process.specs.Refused.{set_refusal}
 
 -- a number as a truth value: 0 is false
@@ -59,6 +61,29 @@ abbrev pub ConfigAsked : Size → List ℕ → List ℕ → List ℕ → List �
 ConfigAsked size msid serial model psid config = (profile_asked size.profile ≡ Some config.profile)
     × NamesAsked config.profile size msid serial model psid config
 
+-- There is a drive of `Base` with these numbers: within the limits of a drive, with no names and the DataStore that it has.
+pub record FitsBase (size : Size) (msid serial model psid : List ℕ) : Type 0 where
+  pub limits : IsWithinLimits size.sectors size.shadow msid
+  pub bare : is_bare serial model psid ≡ true
+  pub datastore : size.datastore ≡ any_size
+
+-- There is one of `Field`: within the limits, with names, a PIN on its label and a DataStore that fit.
+pub record FitsField (size : Size) (msid serial model psid : List ℕ) : Type 0 where
+  pub limits : IsWithinLimits size.sectors size.shadow msid
+  pub names : AreNames (bytes_or serial new_serial) (bytes_or model new_model)
+  pub label : IsLabel (bytes_or psid new_psid)
+  pub datastore : store_or Field size.datastore ≤ most_datastore_bytes
+
+abbrev pub FitsProfile : Option Profile → Size → List ℕ → List ℕ → List ℕ → List ℕ → Type 0
+FitsProfile None size msid serial model psid = ⊥
+FitsProfile (Some Base) size msid serial model psid = FitsBase size msid serial model psid
+FitsProfile (Some Field) size msid serial model psid = FitsField size msid serial model psid
+
+-- There is the drive that is asked for.
+abbrev pub CanBe : Size → List ℕ → List ℕ → List ℕ → List ℕ → Type 0
+CanBe size msid serial model psid =
+    FitsProfile (profile_asked size.profile) size msid serial model psid
+
 -- What a drive with these rows starts from: with none it is as it leaves the factory.
 abbrev pub StartsAs : Config → List RangeRow → DriveState → Type 0
 StartsAs config [] drive = Agrees drive (factory_origin config) []
@@ -69,3 +94,15 @@ StartsAs config (row ∷ rows) drive = (o : Origin) × (origin_with config (row 
 abbrev pub IsOpeningFault : Config → List RangeRow → CallError → Type 0
 IsOpeningFault config rows e =
     (error : SetError) × (origin_with config rows ≡ Err error) × (e ≡ set_refusal error)
+
+-- Why the drive of this configuration is not made: its rows, or want of memory.
+abbrev pub IsStartFault : Config → List RangeRow → CallError → Type 0
+IsStartFault config rows e = (e ≡ OutOfMemory) ⊎ IsOpeningFault config rows e
+
+-- Why the drive that is asked for is not made: there is none, or it is not made.
+abbrev pub IsMakingFault : Size → List ℕ → List ℕ → List ℕ → List ℕ → List RangeRow → CallError
+    → Type 0
+IsMakingFault size msid serial model psid rows e =
+    ((CanBe size msid serial model psid → ⊥) × (e ≡ Limits))
+    ⊎ (CanBe size msid serial model psid × ((config : Config)
+    × ConfigAsked size msid serial model psid config × IsStartFault config rows e))

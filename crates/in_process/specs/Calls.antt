@@ -14,10 +14,10 @@ use Rattle.in_process.specs.declared.object.Object.TheVariants.{Drive}
 use Rattle.sp_cells.specs.Config.{Config}
 use Rattle.in_process.specs.Answers.{refused_answer}
 use Rattle.byte_calls.specs.Counts.{refused_count}
-use Rattle.in_process.specs.Asked.{ConfigAsked, StartsAs, row_asked}
+use Rattle.in_process.specs.Asked.{CanBe, ConfigAsked, IsMakingFault, StartsAs, row_asked}
 use Rattle.byte_calls.specs.Copies.{IsCopied, IsWrittenOut}
 use Rattle.in_process.specs.Denials.{denial_at}
-use Rattle.in_process.specs.Desks.{IsTakenAs, IsFinishedAs, IsResetAs, payload_count, expected_count, last_bytes}
+use Rattle.in_process.specs.Desks.{IsTakenAs, IsFinishedAs, IsResetAs, IsNewDesk, payload_count, expected_count, last_bytes}
 use Rattle.in_process.specs.Failures.{refused_failure, failure_numbers}
 use Rattle.byte_calls.specs.Refusals.{done_code, code_of_call}
 
@@ -83,11 +83,14 @@ abbrev pub CopiesDenial : Option Object → Option Object → ℕ → List ℕ �
 CopiesDenial had has client into out count = ByDrive had has (WritesNone into out count)
     (λ old new. IsWrittenOut (denial_at old client) into out count × (new ≡ old))
 
--- A handle with nothing is given a drive, or nothing was done.
+-- A handle with nothing is given a drive that has answered nothing, or nothing was done.
 pub record MakesDrive (had has : Option Object) (size : Size) (msid serial model psid : List ℕ)
     (cells : List RangeCells) (code : ℕ) : Type 0 where
   pub in_use : had ≢ None → (code ≡ code_of_call InUse) × (has ≡ had)
   pub opened : code ≡ done_code → (desk : DriveDesk) × (has ≡ Some (Drive desk))
-      × ((config : Config) × ConfigAsked size msid serial model psid config
+      × IsNewDesk desk × ((config : Config) × ConfigAsked size msid serial model psid config
       × StartsAs config (map row_asked cells) desk.drive)
   pub refused : code ≢ done_code → has ≡ had
+  pub can : code ≡ done_code → CanBe size msid serial model psid
+  pub why : had ≡ None → code ≢ done_code → (error : CallError) × (code ≡ code_of_call error)
+      × IsMakingFault size msid serial model psid (map row_asked cells) error

@@ -1,5 +1,5 @@
 -- A drive that a caller from outside works on.
-use Rattle.std.specs.Prelude.{◌≡◌, ◌≢◌, ◌<◌, ◌==◌, ◌&&◌, ◌+◌, ◌%◌, ◌^◌, ℕ, IfSome, List, ◌∷◌, length, nat_lt, is_some, false, if◌then◌else◌, Option, Some, None}
+use Rattle.std.specs.Prelude.{◌≡◌, ◌≢◌, ◌<◌, ◌==◌, ◌&&◌, ◌+◌, ◌%◌, ◌^◌, ℕ, IfSome, List, [], ◌∷◌, length, nat_lt, is_some, false, if◌then◌else◌, Option, Some, None}
 use Rattle.fis.specs.Types.{h2d_length}
 use Rattle.fis.specs.Tags.{slot_count}
 use Rattle.fis.specs.H2d.{h2d_at}
@@ -35,6 +35,7 @@ pub record TakesCommand (old new : DriveDesk) (fis payload : List ℕ) : Type 0 
       new.answer
   pub last : new.done ≡ None
   pub acts : new.acts ≡ (old.acts + 1) % 2 ^ 64
+  pub answered : new.answered ≡ (old.acts + 1) % 2 ^ 64
 
 -- What is wrong with a completion from outside: there is no such tag, nothing is held under it, or the payload has
 -- another length than what is held expects.
@@ -97,6 +98,26 @@ abbrev pub IsFirstFault : Option CallError → CallError → Type 0
 IsFirstFault None error = error ≡ OutOfMemory
 IsFirstFault (Some fault) error = error ≡ fault
 
+-- A drive that has answered nothing.
+pub record IsNewDesk (desk : DriveDesk) : Type 0 where
+  pub done : desk.done ≡ None
+  pub bytes : desk.answer.bytes.items ≡ []
+  pub denied : desk.answer.denied ≡ None
+  pub acts : desk.acts ≡ 0
+
+-- Nothing was done: where something is wrong all is as before, and where memory was refused all but the data of the last
+-- answer, which have made room.
+pub record IsUndone (old new : DriveDesk) : Type 0 where
+  pub drive : new.drive ≡ old.drive
+  pub denied : new.answer.denied ≡ old.answer.denied
+  pub bytes : last_bytes new ≡ []
+  pub acts : new.acts ≡ old.acts
+  pub answered : new.answered ≡ old.answered
+
+abbrev pub IsRefusedAs : Option CallError → DriveDesk → DriveDesk → Type 0
+IsRefusedAs None old new = IsUndone old new
+IsRefusedAs (Some error) old new = new ≡ old
+
 -- A call of the drive was answered in numbers: what was done where nothing is wrong, or the first thing that is wrong,
 -- or want of memory; the drive is then as before.
 pub record IsCalled (fault : Option CallError) (old new : DriveDesk) (answer : Answer)
@@ -104,6 +125,7 @@ pub record IsCalled (fault : Option CallError) (old new : DriveDesk) (answer : A
   pub done : answer.code ≡ done_code → does
   pub told : answer.code ≡ done_code → answer ≡ numbers_at new
   pub refused : answer.code ≢ done_code → new.drive ≡ old.drive
+  pub undone : answer.code ≢ done_code → IsRefusedAs fault old new
   pub first : IfSome fault (λ error. answer ≡ refused_answer error)
   pub memory : fault ≡ None → answer.code ≢ done_code → answer ≡ refused_answer OutOfMemory
 
@@ -132,4 +154,6 @@ pub record IsResetAs (old new : DriveDesk) (kind code : ℕ) : Type 0 where
       → Agrees new.drive o (Reset kind ∷ acts)
   pub done : kind < 2 → code ≡ done_code
   pub acts : kind < 2 → new.acts ≡ (old.acts + 1) % 2 ^ 64
+  pub last : kind < 2 → (new.done ≡ old.done) × (new.answer ≡ old.answer)
+      × (new.answered ≡ old.answered)
   pub refused : ¬ (kind < 2) → (code ≡ code_of_call Number) × (new ≡ old)

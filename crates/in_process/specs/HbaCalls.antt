@@ -20,7 +20,7 @@ use Rattle.in_process.specs.declared.asked.RangeCells.{RangeCells}
 use Rattle.in_process.specs.declared.asked.Size.{Size}
 use Rattle.in_process.specs.declared.object.Object.{Object}
 use Rattle.in_process.specs.declared.object.Object.TheVariants.{Hba}
-use Rattle.in_process.specs.Asked.{ConfigAsked, row_asked}
+use Rattle.in_process.specs.Asked.{CanBe, ConfigAsked, IsMakingFault, row_asked}
 use Rattle.in_process.specs.Calls.{ByHandle, WritesNone}
 
 -- a controller that was there, and the controller that is there; what is none is refused, and stays
@@ -77,3 +77,6 @@ pub record MakesHba (had has : Option Object) (size : Size) (msid serial model p
       × ConfigAsked size msid serial model psid config
       × HbaStartsAs config (map row_asked cells) desk.hba)
   pub refused : code ≢ done_code → has ≡ had
+  pub can : code ≡ done_code → CanBe size msid serial model psid
+  pub why : had ≡ None → code ≢ done_code → (error : CallError) × (code ≡ code_of_call error)
+      × IsMakingFault size msid serial model psid (map row_asked cells) error

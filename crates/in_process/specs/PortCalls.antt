@@ -26,7 +26,7 @@ use Rattle.in_process.specs.declared.asked.RangeCells.{RangeCells}
 use Rattle.in_process.specs.declared.asked.Size.{Size}
 use Rattle.in_process.specs.declared.object.Object.{Object}
 use Rattle.in_process.specs.declared.object.Object.TheVariants.{Port}
-use Rattle.in_process.specs.Asked.{ConfigAsked, row_asked}
+use Rattle.in_process.specs.Asked.{CanBe, ConfigAsked, IsMakingFault, row_asked}
 use Rattle.in_process.specs.Calls.{ByHandle, WritesNone}
 
 -- a port that was there, and the port that is there; what is none is refused, and stays
@@ -111,3 +111,6 @@ pub record MakesPort (had has : Option Object) (size : Size) (msid serial model 
       × ConfigAsked size msid serial model psid config
       × PortStartsAs config (map row_asked cells) desk.port)
   pub refused : code ≢ done_code → has ≡ had
+  pub can : code ≡ done_code → CanBe size msid serial model psid
+  pub why : had ≡ None → code ≢ done_code → (error : CallError) × (code ≡ code_of_call error)
+      × IsMakingFault size msid serial model psid (map row_asked cells) error

@@ -1,8 +1,8 @@
 //! A drive, as a caller from outside asks for it.
 
-ghost use Rattle.std.specs.Prelude.{◌≡◌, ◌⊎◌, [], None, Some, ◌==◌, map, IfOk, IfErr, IfSome, OnOk, MatchResult};
+ghost use Rattle.std.specs.Prelude.{◌≡◌, ◌⊎◌, [], None, Some, ◌==◌, map, IfOk, IfErr, IfSome, OnOk, MatchOption, MatchResult};
 ghost use Rattle.drive.specs.State.{Agrees};
-ghost use Rattle.in_process.specs.Asked.{row_asked, profile_asked, bytes_or, is_bare, store_or, ConfigAsked, StartsAs, IsOpeningFault};
+ghost use Rattle.in_process.specs.Asked.{row_asked, profile_asked, bytes_or, is_bare, store_or, CanBe, ConfigAsked, StartsAs, IsStartFault};
 ghost use Rattle.byte_calls.specs.declared.error.CallError.TheVariants.{OutOfMemory, Limits};
 
 use crate::refusals::of_set;
@@ -118,8 +118,13 @@ fn store_or(profile: Profile, datastore: u64) -> u64
 
 /// The configuration that is asked for, if there is such a drive.
 pub fn config_asked(size: &Size, names: &Names<'_>) -> Option<DriveConfig>
-    ensures { IfSome result (ConfigAsked size.now names.now.msid.now names.now.serial.now
+    ensures value { IfSome result (ConfigAsked size.now names.now.msid.now names.now.serial.now
         names.now.model.now names.now.psid.now) }
+    ensures limits { MatchOption result
+        (CanBe size.now names.now.msid.now names.now.serial.now names.now.model.now
+        names.now.psid.now → ⊥)
+        (λ config. CanBe size.now names.now.msid.now names.now.serial.now names.now.model.now
+        names.now.psid.now) }
 {
     let profile = profile_asked(size.profile)?;
     let config = DriveConfig::of_profile(profile, size.sectors, size.shadow, names.msid)?;
@@ -159,7 +164,7 @@ pub fn drive_asked(
     cells: &[RangeCells],
 ) -> Result<Drive, CallError>
     ensures { MatchResult result (StartsAs config (map row_asked cells.now))
-        (λ e. (e ≡ OutOfMemory) ⊎ IsOpeningFault config (map row_asked cells.now) e) }
+        (IsStartFault config (map row_asked cells.now)) }
 {
     if cells.is_empty() {
         return Ok(Drive::new(alloc, config)?);

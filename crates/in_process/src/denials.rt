@@ -25,7 +25,7 @@ impl DriveDesk {
             return copy_out(&[], into);
         };
         let line = AuditLine {
-            step: self.acts,
+            step: self.answered,
             client,
             why,
         };

@@ -24,11 +24,13 @@ pub struct DriveDesk {
     pub done: Option<Completed>,
     /// How many acts the drive has done, modulo 2^64: commands, completions and resets.
     pub acts: u64,
+    /// The number of the act that the last command was.
+    pub answered: u64,
 }
 
 impl DriveDesk {
-    ghost use Rattle.std.specs.Prelude.{◌≡◌, OnOk, OnErr, IfOk, Some, None, MatchResult};
-    ghost use Rattle.in_process.specs.Desks.{numbers_at, last_bytes, command_fault, completion_fault, payload_count, expected_count, TakesCommand, CompletesHeld, IsFirstFault, IsTakenAs, IsFinishedAs, IsResetAs};
+    ghost use Rattle.std.specs.Prelude.{◌≡◌, List, [], OnOk, OnErr, IfOk, Some, None, MatchResult};
+    ghost use Rattle.in_process.specs.Desks.{numbers_at, last_bytes, command_fault, completion_fault, payload_count, expected_count, TakesCommand, CompletesHeld, IsFirstFault, IsRefusedAs, IsTakenAs, IsFinishedAs, IsResetAs, IsNewDesk};
     ghost use Rattle.byte_calls.specs.Copies.{IsCopied};
     ghost use Rattle.in_process.specs.Failures.{failure_numbers};
     ghost use Rattle.byte_calls.specs.declared.error.CallError.TheVariants.{OutOfMemory};
@@ -36,14 +38,14 @@ impl DriveDesk {
     /// A drive that has answered nothing yet.
     pub fn new(alloc: Global, drive: Drive) -> DriveDesk
         ensures drive { result.drive ≡ drive }
-        ensures done { result.done ≡ None }
-        ensures acts { result.acts ≡ 0 }
+        ensures new { IsNewDesk result }
     {
         DriveDesk {
             drive,
             answer: Accepted::none(alloc),
             done: None,
             acts: 0,
+            answered: 0,
         }
     }
 
@@ -51,12 +53,16 @@ impl DriveDesk {
     fn forget(&mut self)
         ensures drive { self.new.drive ≡ self.old.drive }
         ensures done { self.new.done ≡ None }
+        ensures bytes { self.new.answer.bytes.items ≡ [] }
+        ensures denied { self.new.answer.denied ≡ self.old.answer.denied }
         ensures acts { self.new.acts ≡ self.old.acts }
+        ensures answered { self.new.answered ≡ self.old.answered }
     {
         if let Some(done) = self.done.take() {
             self.drive.give_back(done.bytes);
         }
         self.drive.give_back_from(&mut self.answer.bytes);
+        self.answer.bytes.clear();
     }
 
     /// Gives the drive the FIS of a command, with the payload that the command brings.
@@ -64,13 +70,14 @@ impl DriveDesk {
     /// # Errors
     ///
     /// `Length`: the FIS has not its 20 bytes, or the payload not as many as [`Drive::payload_len`] says. Want of
-    /// memory. The drive is then as before.
+    /// memory. The drive is then as before, and without want of memory the last answer too.
     pub fn accept(&mut self, fis: &[u8], payload: &[u8]) -> Result<(), CallError>
         ensures done { OnOk result (TakesCommand self.old self.new fis.now payload.now) }
         ensures fault { MatchResult result
             (λ _. command_fault self.old.drive fis.now payload.now ≡ None)
             (λ e. IsFirstFault (command_fault self.old.drive fis.now payload.now) e) }
-        ensures err { OnErr result (self.new.drive ≡ self.old.drive) }
+        ensures err { OnErr result (IsRefusedAs (command_fault self.old.drive fis.now payload.now)
+            self.old self.new) }
     {
         let Some(fis) = fis.as_array::<H2D_LENGTH>() else {
             return Err(CallError::Length);
@@ -81,6 +88,7 @@ impl DriveDesk {
         self.forget();
         self.drive.accept_into(fis, payload, &mut self.answer)?;
         self.acts = self.acts.wrapping_add(1);
+        self.answered = self.acts;
         Ok(())
     }
 
@@ -89,13 +97,14 @@ impl DriveDesk {
     /// # Errors
     ///
     /// `Tag` above 31; `NotHeld`; `Length`: the payload has not as many bytes as [`Drive::expects`] says. Want of
-    /// memory. The drive is then as before.
+    /// memory. The drive is then as before, and without want of memory the last answer too.
     pub fn complete(&mut self, tag: u8, payload: &[u8]) -> Result<(), CallError>
         ensures done { OnOk result (CompletesHeld self.old self.new tag payload.now) }
         ensures fault { MatchResult result
             (λ _. completion_fault self.old.drive tag payload.now ≡ None)
             (λ e. IsFirstFault (completion_fault self.old.drive tag payload.now) e) }
-        ensures err { OnErr result (self.new.drive ≡ self.old.drive) }
+        ensures err { OnErr result (IsRefusedAs (completion_fault self.old.drive tag payload.now)
+            self.old self.new) }
     {
         let Some(tag) = Tag::new(tag) else {
             return Err(CallError::Tag);

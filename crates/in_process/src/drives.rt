@@ -1,8 +1,9 @@
 //! Calls of a drive by its handle.
 
-ghost use Rattle.std.specs.Prelude.{◌≡◌, None, map, IfOk, MatchOption};
+ghost use Rattle.std.specs.Prelude.{◌≡◌, None, map, IfOk, IfErr, OnOk, MatchOption};
 ghost use Rattle.sp_cells.specs.Config.{Config};
-ghost use Rattle.in_process.specs.Asked.{ConfigAsked, StartsAs, row_asked};
+ghost use Rattle.in_process.specs.Asked.{CanBe, ConfigAsked, IsMakingFault, StartsAs, row_asked};
+ghost use Rattle.in_process.specs.Desks.{IsNewDesk};
 ghost use Rattle.in_process.specs.declared.drive_desk.DriveDesk.{DriveDesk};
 ghost use Rattle.in_process.specs.declared.object.Object.TheVariants.{Drive};
 ghost use Rattle.in_process.specs.Calls.{AcceptsBy, FinishesBy, Resets, CountsPayload, CountsExpected, TellsFailure, CopiesData, CopiesDenial, MakesDrive};
@@ -25,19 +26,21 @@ fn desk_asked(
     names: &Names<'_>,
     cells: &[RangeCells],
 ) -> Result<Box<Object>, CallError>
-    ensures { IfOk result (λ object. (desk : DriveDesk) × (object.value ≡ Drive desk)
-        × ((config : Config) × ConfigAsked size.now names.now.msid.now names.now.serial.now
+    ensures made { IfOk result (λ object. (desk : DriveDesk) × (object.value ≡ Drive desk)
+        × IsNewDesk desk × ((config : Config)
+        × ConfigAsked size.now names.now.msid.now names.now.serial.now
         names.now.model.now names.now.psid.now config
         × StartsAs config (map row_asked cells.now) desk.drive)) }
+    ensures can { OnOk result (CanBe size.now names.now.msid.now names.now.serial.now
+        names.now.model.now names.now.psid.now) }
+    ensures why { IfErr result (IsMakingFault size.now names.now.msid.now names.now.serial.now
+        names.now.model.now names.now.psid.now (map row_asked cells.now)) }
 {
     let Some(config) = config_asked(size, names) else {
         return Err(CallError::Limits);
     };
     let drive = drive_asked(alloc, config, cells)?;
-    match Box::new(alloc, Object::Drive(DriveDesk::new(alloc, drive))) {
-        Ok(object) => Ok(object),
-        Err(_) => Err(CallError::OutOfMemory),
-    }
+    Object::Drive(DriveDesk::new(alloc, drive)).boxed(alloc)
 }
 
 /// Makes the drive that is asked for, at a handle with nothing. It tells 0, or the number of the refusal: `InUse`,

@@ -1,9 +1,9 @@
 //! Calls of a controller by its handle.
 
-ghost use Rattle.std.specs.Prelude.{◌≡◌, None, map, IfOk};
+ghost use Rattle.std.specs.Prelude.{◌≡◌, None, map, IfOk, IfErr, OnOk};
 ghost use Rattle.sp_cells.specs.Config.{Config};
 ghost use Rattle.hba_calls.specs.declared.desk.HbaDesk.{HbaDesk};
-ghost use Rattle.in_process.specs.Asked.{ConfigAsked, row_asked};
+ghost use Rattle.in_process.specs.Asked.{CanBe, ConfigAsked, IsMakingFault, IsStartFault, row_asked};
 ghost use Rattle.in_process.specs.HbaCalls.{MakesHba, HbaStartsAs, ReadsWord, TellsInterrupt, WritesByHandle, WorksByHandle, CopiesDenied};
 ghost use Rattle.in_process.specs.declared.object.Object.TheVariants as objects;
 
@@ -18,8 +18,9 @@ use std::alloc::Global;
 
 /// The controller of this configuration and these cells.
 fn hba_desk(alloc: Global, config: DriveConfig, cells: &[RangeCells]) -> Result<HbaDesk, CallError>
-    ensures { IfOk result (λ desk. (desk.denied ≡ None)
+    ensures made { IfOk result (λ desk. (desk.denied ≡ None)
         × HbaStartsAs config (map row_asked cells.now) desk.hba) }
+    ensures why { IfErr result (IsStartFault config (map row_asked cells.now)) }
 {
     let drive = drive_asked(alloc, config, cells)?;
     Ok(HbaDesk::new(Hba::new(alloc, drive)))
@@ -32,11 +33,15 @@ fn hba_asked(
     names: &Names<'_>,
     cells: &[RangeCells],
 ) -> Result<Box<Object>, CallError>
-    ensures { IfOk result (λ object. (desk : HbaDesk) × (object.value ≡ objects.Hba desk)
+    ensures made { IfOk result (λ object. (desk : HbaDesk) × (object.value ≡ objects.Hba desk)
         × (desk.denied ≡ None) × ((config : Config)
         × ConfigAsked size.now names.now.msid.now names.now.serial.now
         names.now.model.now names.now.psid.now config
         × HbaStartsAs config (map row_asked cells.now) desk.hba)) }
+    ensures can { OnOk result (CanBe size.now names.now.msid.now names.now.serial.now
+        names.now.model.now names.now.psid.now) }
+    ensures why { IfErr result (IsMakingFault size.now names.now.msid.now names.now.serial.now
+        names.now.model.now names.now.psid.now (map row_asked cells.now)) }
 {
     let Some(config) = config_asked(size, names) else {
         return Err(CallError::Limits);

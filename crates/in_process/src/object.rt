@@ -1,10 +1,11 @@
 //! What a handle has.
 
-ghost use Rattle.std.specs.Prelude.{◌≡◌, IfOk};
+ghost use Rattle.std.specs.Prelude.{◌≡◌, IfOk, IfErr};
 ghost use Rattle.in_process.specs.Calls.{OfDrive, WritesNone};
 ghost use Rattle.byte_calls.specs.Copies.{IsCopied, IsWrittenOut};
 ghost use Rattle.byte_calls.specs.Counts.{refused_count};
 ghost use Rattle.byte_calls.specs.Refusals.{code_of_call};
+ghost use Rattle.byte_calls.specs.declared.error.CallError.TheVariants.{OutOfMemory};
 ghost use Rattle.in_process.specs.Answers.{refused_answer};
 ghost use Rattle.in_process.specs.Denials.{denial_at};
 ghost use Rattle.in_process.specs.Desks.{IsTakenAs, IsFinishedAs, IsResetAs, payload_count, expected_count, last_bytes};
@@ -29,7 +30,8 @@ pub enum Object {
 impl Object {
     /// In a box of its own.
     pub(crate) fn boxed(self, alloc: Global) -> Result<Box<Object>, CallError>
-        ensures { IfOk result (λ object. object.value ≡ self) }
+        ensures value { IfOk result (λ object. object.value ≡ self) }
+        ensures memory { IfErr result (λ e. e ≡ OutOfMemory) }
     {
         match Box::new(alloc, self) {
             Ok(object) => Ok(object),

@@ -1,11 +1,11 @@
 //! Calls of a port by its handle.
 
-ghost use Rattle.std.specs.Prelude.{◌≡◌, map, IfOk};
+ghost use Rattle.std.specs.Prelude.{◌≡◌, map, IfOk, IfErr, OnOk};
 ghost use Rattle.sp_cells.specs.Config.{Config};
 ghost use Rattle.port_history.specs.Requests.{no_bytes};
 ghost use Rattle.port_history.specs.declared.step.Step.TheVariants as steps;
 ghost use Rattle.port_calls.specs.declared.desk.PortDesk.{PortDesk};
-ghost use Rattle.in_process.specs.Asked.{ConfigAsked, row_asked};
+ghost use Rattle.in_process.specs.Asked.{CanBe, ConfigAsked, IsMakingFault, IsStartFault, row_asked};
 ghost use Rattle.in_process.specs.PortCalls.{MakesPort, PortStartsAs, PutsByHandle, StepsByHandle, RecoversByHandle, ResetsByHandle, TakesByHandle, TurnsByHandle, ListsByHandle, CopiesTaken, CopiesLogged, ShowsByHandle};
 ghost use Rattle.in_process.specs.declared.object.Object.TheVariants as objects;
 
@@ -24,8 +24,9 @@ fn port_desk(
     config: DriveConfig,
     cells: &[RangeCells],
 ) -> Result<PortDesk, CallError>
-    ensures { IfOk result (λ desk. (desk.last ≡ no_bytes)
+    ensures made { IfOk result (λ desk. (desk.last ≡ no_bytes)
         × PortStartsAs config (map row_asked cells.now) desk.port) }
+    ensures why { IfErr result (IsStartFault config (map row_asked cells.now)) }
 {
     let drive = drive_asked(alloc, config, cells)?;
     match Port::new(alloc, drive) {
@@ -41,11 +42,15 @@ fn port_asked(
     names: &Names<'_>,
     cells: &[RangeCells],
 ) -> Result<Box<Object>, CallError>
-    ensures { IfOk result (λ object. (desk : PortDesk) × (object.value ≡ objects.Port desk)
+    ensures made { IfOk result (λ object. (desk : PortDesk) × (object.value ≡ objects.Port desk)
         × (desk.last ≡ no_bytes) × ((config : Config)
         × ConfigAsked size.now names.now.msid.now names.now.serial.now
         names.now.model.now names.now.psid.now config
         × PortStartsAs config (map row_asked cells.now) desk.port)) }
+    ensures can { OnOk result (CanBe size.now names.now.msid.now names.now.serial.now
+        names.now.model.now names.now.psid.now) }
+    ensures why { IfErr result (IsMakingFault size.now names.now.msid.now names.now.serial.now
+        names.now.model.now names.now.psid.now (map row_asked cells.now)) }
 {
     let Some(config) = config_asked(size, names) else {
         return Err(CallError::Limits);

@@ -1,4 +1,4 @@
-//! The registers, as the FISes of the drive leave them (AHCI 1.3.1, 3.3 and 5.5.2).
+//! The registers, as the FISes of the drive leave them (AHCI 1.3.1, 3.3 and 5.3).
 
 ghost use Rattle.std.specs.Prelude.{◌≡◌, ◌&&◌, not};
 ghost use Rattle.drive.specs.Answers.{fises_in};

@@ -1,5 +1,5 @@
 -- The registers of a port, as its steps and the FISes of the drive leave them (AHCI 1.3.1, 3.3 and
--- 5.5.2; Serial ATA, FISes to the host).
+-- 5.3; Serial ATA, FISes to the host).
 use Rattle.std.specs.Prelude.{ℕ, ◌^◌, ◌%◌, ◌==◌, ◌&&◌, not, Bool, List, [], ◌∷◌, bit_and, bit_or, Option, if◌then◌else◌}
 use Rattle.fis.specs.declared.any.Fis.{Fis}
 use Rattle.fis.specs.declared.any.Fis.TheVariants as fises

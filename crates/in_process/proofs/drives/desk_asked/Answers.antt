@@ -7,6 +7,7 @@ pub returns-in-Ok : goal.returns-in-Ok
 returns-in-Ok c = (
   c.new.result,
   c.in-Ok.ensures.ok,
+  c.new.ensures.new,
   (
     c.in-Some.config,
     c.in-Some.ensures,
