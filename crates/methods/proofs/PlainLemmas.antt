@@ -1,6 +1,6 @@
 -- A Get of columns as most are written is read as what it says, and asks for its columns.
-use Rattle.std.proofs.Common.{◌≡◌, ℕ, ◌<◌, ◌≤◌, Bool, true, false, List, [], ◌∷◌, ◌++◌, length, Option, Some, Result, Ok, refl, sym, subst, ap, ◌∙◌, arith, rules}
-use Rattle.std.specs.Prelude.{◌≢◌, ◌==◌, ◌||◌, ◌^◌, nat_le, nat_lt, if◌then◌else◌}
+use Rattle.std.proofs.Common.{◌≡◌, ℕ, ◌<◌, ◌≤◌, Bool, true, false, List, [], ◌∷◌, ◌++◌, length, Some, Ok, refl, sym, subst, ap, ◌∙◌, arith, rules}
+use Rattle.std.specs.Prelude.{◌≢◌, ◌^◌, nat_le, nat_lt}
 use Rattle.std.proofs.lemmas.Bool.{le-leb, lt-ltb}
 use Rattle.std.proofs.lemmas.List.{append-nil}
 use Rattle.basics.specs.declared.profile.Profile.{Profile}
@@ -13,16 +13,13 @@ use Rattle.tcg_tokens.specs.Grammar.{nothing}
 use Rattle.tcg_tokens.specs.Spelling.{number_spelling, bytes_spelling, item_spelling_of}
 use Rattle.tcg_tokens.specs.Writable.{is_writable}
 use Rattle.tcg_tokens.proofs.Writings.{spelled_with_fill}
-use Rattle.tcg_tokens.specs.Tree.{Tree, Trees, number, list, named, empty, more}
 use Rattle.tcg_tokens.specs.Message.{Message, call}
 use Rattle.tcg_tokens.specs.Reading.{reading}
 use Rattle.tcg_tokens.proofs.Items.{all_again}
 use Rattle.call_shapes.specs.Asks.{uid_of, is_byte_table, get_of, ask_of}
 use Rattle.call_shapes.specs.Named.{values_of}
-use Rattle.call_shapes.specs.declared.ask.Ask.{Ask}
 use Rattle.call_shapes.specs.declared.ask.Ask.TheVariants.{GetCells}
-use Rattle.methods.specs.declared.plain.PlainGet.{PlainGet}
-use Rattle.methods.specs.PlainGets.{columns_named, plain_get, IsPlainGet}
+use Rattle.methods.specs.PlainGets.{columns_named, IsPlainGet}
 
 -- ---- it is read so
 
