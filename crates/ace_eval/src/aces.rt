@@ -54,11 +54,11 @@ fn find<R: Rows>(
             need: ArrayVec::new(),
         });
     };
-    let need = named(rows, sp, column, &row);
-    match first(rows, sp, need.as_slice(), held) {
-        Some(ace) => Ok(ace),
-        None => Err(Missing { row: true, need }),
+    if let Some(ace) = first(rows, sp, column, row.as_slice(), held) {
+        return Ok(ace);
     }
+    let need = named(rows, sp, column, &row);
+    Err(Missing { row: true, need })
 }
 
 /// Those of the ACEs that name the column.
@@ -99,12 +99,19 @@ fn has(columns: &[Column], column: Column) -> bool
     columns.is_empty() || columns.contains(&column)
 }
 
-/// The first of these ACEs whose expression holds.
-fn first<R: Rows>(rows: &R, sp: Sp, aces: &[Uid], held: &Authorities) -> Option<Uid>
-    ensures { result ≡ first_holding (R.look_up rows.now) sp held.now aces.now }
+/// The first of these ACEs that names the column, and whose expression holds.
+fn first<R: Rows>(
+    rows: &R,
+    sp: Sp,
+    column: Option<Column>,
+    aces: &[Uid],
+    held: &Authorities,
+) -> Option<Uid>
+    ensures { result ≡ first_holding (R.look_up rows.now) sp held.now
+        (filter (names (R.look_up rows.now) sp column) aces.now) }
 {
     for ace in aces {
-        if ace_holds(rows, sp, *ace, held) {
+        if names_column(rows, sp, column, *ace) && ace_holds(rows, sp, *ace, held) {
             return Some(*ace);
         }
     }

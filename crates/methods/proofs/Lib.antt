@@ -6,6 +6,7 @@ pub mod EffectLemmas
 pub mod FitLemmas
 pub mod AttemptLemmas
 pub mod CallLemmas
+pub mod PlainLemmas
 pub mod ListLemmas
 pub mod ObjectLemmas
 pub mod GrantLaws

@@ -121,7 +121,7 @@ fn denied_in(
 }
 
 /// A call that has its shape.
-fn call_asked(
+pub(crate) fn call_asked(
     alloc: Global,
     store: &mut Store,
     sessions: &mut Sessions,

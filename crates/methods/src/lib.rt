@@ -11,6 +11,7 @@ mod kinds;
 mod laws;
 mod lists;
 mod outcome;
+mod plain;
 mod settings;
 
 pub use calls::invoke;
@@ -20,4 +21,5 @@ pub use kinds::{Kind, kind_of};
 pub use laws::{laws_of_cases, laws_of_grants, laws_of_lists, laws_of_sets};
 pub use lists::list_columns;
 pub use outcome::{MethodFault, Outcome};
+pub use plain::{PlainGet, get_plainly, read_plain_get};
 pub use settings::check_set;

@@ -25,6 +25,11 @@ use Rattle.sessions.specs.Answers.{rows_in_force}
 use Rattle.sessions.specs.Live.{Live, AreNumbered, session_at}
 use Rattle.sessions.specs.Starts.{start_rule, start_reply, start_denied, start_stored, start_at, start_next}
 use Rattle.methods.specs.declared.outcome.Outcome.{Outcome as Answered}
+use Rattle.methods.specs.Judgement.{judged}
+use Rattle.methods.specs.PlainGets.{columns_named, plain_get, IsPlainGet}
+use Rattle.methods.specs.declared.plain.PlainGet.{PlainGet}
+use Rattle.call_shapes.specs.declared.ask.Ask.{Ask}
+use Rattle.call_shapes.specs.declared.ask.Ask.TheVariants.{GetCells}
 use Rattle.methods.specs.Calls.{standing_in, judged_with, judged_call, outcome_of, outcome_in, Fulfils}
 use Rattle.history.specs.Opening.{Origin}
 use Rattle.history.specs.Events.{Event}
@@ -137,6 +142,30 @@ unended tokens session said s t l m is g =
 
 pub read-by : (read r : Result Message TokenError) (com_id : ℕ) (said : Answered) (s t : Stored) (l m : Live) → read ≡ r → OfManager (λ f. to_manager f com_id r) said s t l m → OfManager (λ f. to_manager f com_id read) said s t l m
 read-by read r com_id said s t l m h g = subst (λ (x : Result Message TokenError). OfManager (λ f. to_manager f com_id x) said s t l m) (sym h) g
+
+-- ---- a Get of columns, as most are written
+
+pub get-met : (s t : Stored) (l m : Live) (session : SessionId) (tokens : List ℕ) (get : PlainGet) (said : Answered)
+    → IsPlainGet tokens get
+    → Fulfils (outcome_in s session (judged (standing_in s l session) (uid_of get.object) (uid_of get.method) (Some (GetCells get.first get.last)))) said s t l m
+    → OfSession (λ f its. in_session f its (message_in tokens)) session said s t l m
+get-met s t l m session tokens get said is fulfils =
+    let asked : Fulfils (outcome_in s session (judged_with s l session (uid_of get.object) (uid_of get.method) (values_of (columns_named get.first get.last)))) said s t l m =
+    subst (λ (ask : Option Ask). Fulfils (outcome_in s session (judged (standing_in s l session) (uid_of get.object) (uid_of get.method) ask)) said s t l m) (sym (is.asks s.config.profile session.sp)) fulfils in
+    read-in (message_in tokens) (Ok (plain_get get)) session said s t l m is.read
+    (λ o acts its ks kl block lives same.
+    let here : Fulfils (outcome_in s (id_of its) (judged_with s l (id_of its) (uid_of get.object) (uid_of get.method) (values_of (columns_named get.first get.last)))) said s t l m =
+    subst (λ (id : SessionId). Fulfils (outcome_in s id (judged_with s l id (uid_of get.object) (uid_of get.method) (values_of (columns_named get.first get.last)))) said s t l m) same asked in
+    subst (λ (x : Outcome). AnswersAs x said s t l m)
+    (kept_call_law o acts s l its (uid_of get.object) (uid_of get.method) (columns_named get.first get.last) ks kl block lives)
+    here.met)
+
+pub get-carried : (s t : Stored) (l m : Live) (session : SessionId) (get : PlainGet) (said : Answered)
+    → Fulfils (outcome_in s session (judged (standing_in s l session) (uid_of get.object) (uid_of get.method) (Some (GetCells get.first get.last)))) said s t l m
+    → is_carried (message said.reply) ≡ true
+get-carried s t l m session get said h =
+    carried-as (message said.reply) _ h.met.answer
+    (call_carried (rows_in_force s) session.sp (standing_in s l session) (uid_of get.object) (uid_of get.method) (Some (GetCells get.first get.last)))
 
 -- an answer that changes nothing
 pub unchanged : (x : Message) (said : Answered) (s : Stored) (l : Live) → message said.reply ≡ x → said.denied ≡ None → said.rule ≡ None → said.erases ≡ no_sectors → AnswersAs (says Unchanged x) said s s l l

@@ -16,6 +16,7 @@ ghost use Rattle.sessions.specs.Live.{Live};
 ghost use Rattle.sessions.specs.Deeds.{Ended, says};
 ghost use Rattle.history.specs.Tcg.{to_manager, called_manager, item_in, ends_session, in_session, judgement_on, begins_on, ends_on};
 ghost use Rattle.methods.specs.Calls.{outcome_of};
+ghost use Rattle.methods.specs.PlainGets.{IsPlainGet};
 ghost use Rattle.methods.specs.Said.{refusal_of};
 ghost use Rattle.history.specs.Facts.{has_open};
 ghost use Rattle.tper.specs.Items.{OfManager, OfSession};
@@ -23,7 +24,7 @@ ghost use Rattle.tper.specs.Items.{OfManager, OfSession};
 use basics::Profile;
 use call_shapes::{status, uid_of};
 use compacket::ComId;
-use methods::{MethodFault, Outcome, invoke};
+use methods::{MethodFault, Outcome, PlainGet, get_plainly, invoke, read_plain_get};
 use rules::Rule;
 use sessions::Sessions;
 use shadow_mbr::Erased;
@@ -167,6 +168,33 @@ fn call_in_session(
     }
 }
 
+/// A Get of columns, as most are written, of a live session.
+fn get_in_session(
+    alloc: Global,
+    store: &mut Store,
+    sessions: &mut Sessions,
+    session: SessionId,
+    tokens: &[u8],
+    get: &PlainGet,
+) -> Result<Outcome, AllocError>
+    requires lives { live_holder sessions.old session ≢ None }
+    requires plain { IsPlainGet tokens.now get.now }
+    ensures met { IfOk result (λ said. OfSession
+        (λ f its. in_session f its (message_in tokens.now)) session said
+        store.old store.new sessions.old sessions.new) }
+    ensures carried { IfOk result (λ said. is_carried (message said.reply) ≡ true) }
+    ensures unchanged { IfOk result (λ said. said.changes ≡ false → store.new ≡ store.old) }
+    ensures err_store { OnErr result (store.new ≡ store.old) }
+    ensures err_sessions { OnErr result (sessions.new ≡ sessions.old) }
+    ensures config { store.new.config ≡ store.old.config }
+{
+    match get_plainly(alloc, store, sessions, session, get) {
+        Ok(outcome) => Ok(outcome),
+        Err(MethodFault::OutOfMemory) => Err(AllocError),
+        Err(MethodFault::NoSession) => unreachable!(),
+    }
+}
+
 /// A transaction opens, where none is open on the session's SP; else it fails.
 #[tactic(auto, using(crate::proofs::Configs::part_config))]
 fn begin(store: &mut Store, session: SessionId) -> Outcome
@@ -249,6 +277,10 @@ fn read_in_session(
     ensures err_sessions { OnErr result (sessions.new ≡ sessions.old) }
     ensures config { store.new.config ≡ store.old.config }
 {
+    // Most calls are a Get: its columns are known with no value in memory.
+    if let Some(get) = read_plain_get(tokens) {
+        return get_in_session(alloc, store, sessions, session, tokens, &get);
+    }
     match read_item(alloc, tokens) {
         Ok(Item::Call(call)) => call_in_session(alloc, store, sessions, session, &call),
         Ok(Item::Begin(_)) => Ok(begin(store, session)),
