@@ -5,8 +5,8 @@ use Rattle.port.specs.State.{PortState}
 use Rattle.in_process.proofs.Starts.{port_starts}
 use Rattle.in_process.proofs.ports.port_desk.Goals as goal
 
-pub returns-in-Ok : goal.returns-in-Ok
-returns-in-Ok c = (
+pub returns-in-Ok-clause-made : goal.returns-in-Ok-clause-made
+returns-in-Ok-clause-made c = (
   c.new-in-Ok.ensures.last,
   subst (λ (p : PortState). PortStartsAs c.args.config (map row_asked c.args.cells.now) p) (sym c.new-in-Ok.ensures.port)
       (port_starts c.args.config (map row_asked c.args.cells.now) c.in_ok-drive.drive c.in-Ok.port c.in-Ok.ensures.agrees c.in_ok-drive.ensures),
