@@ -135,6 +135,7 @@ impl Groups {
     }
 
     /// The group of a number.
+    #[inline(never)]
     #[tactic(auto, using(crate::proofs::Grouped::sorted_groups))]
     pub(crate) fn get(&self, number: u64) -> Option<&Group>
         ensures value { option_copied result ≡ group_in self.now number }
