@@ -1,5 +1,5 @@
 -- What the policy says of a transfer, and what the history does with it then.
-use Rattle.std.proofs.Common.{◌≡◌, ℕ, ◌+◌, ◌-◌, ◌<◌, ◌≤◌, Bool, true, false, List, Option, Some, None, Result, Ok, Err, IfOk, refl, sym, subst, ap, ◌∙◌, if◌then◌else◌, arith}
+use Rattle.std.proofs.Common.{◌≡◌, ℕ, ◌+◌, ◌-◌, ◌<◌, ◌≤◌, Bool, true, false, List, Option, Some, None, Result, Ok, Err, IfOk, IfSome, refl, sym, subst, ap, ◌∙◌, if◌then◌else◌, arith}
 use Rattle.std.proofs.lemmas.Bool.{le-leb, ltb-true}
 use Rattle.fis.specs.declared.h2d.RegH2d.{RegH2d}
 use Rattle.locking.specs.declared.ranges.Verdict.{Verdict}
@@ -140,3 +140,12 @@ pub told-fits : (sectors mbr : ℕ) (look : LookUp) (t : Transfer) (r : Result B
     → IfOk r (λ s. StandsOnDrive sectors mbr (record { transfer = t; is_shadowed = s }))
 told-fits sectors mbr look t (Ok s) h = policy-fits sectors mbr look t (Ok s) h
 told-fits sectors mbr look t (Err x) h = tt
+
+pub permitted-fits : (sectors mbr : ℕ) (look : LookUp) (t : Transfer) (r : Option Bool) → IfSome r (λ s. policy sectors (ranges_in mbr look) t ≡ Ok s)
+    → IfSome r (λ s. StandsOnDrive sectors mbr (record { transfer = t; is_shadowed = s }))
+permitted-fits sectors mbr look t (Some s) h = policy-fits sectors mbr look t (Ok s) (sym h)
+permitted-fits sectors mbr look t None h = tt
+
+-- What some rows say of a transfer that is permitted, the same rows say.
+pub permitted-so : (a b : ℕ) (rows its : RangeRows) (t : Transfer) (r : Option Bool) → a ≡ b → rows ≡ its → IfSome r (λ s. policy a rows t ≡ Ok s) → IfSome r (λ s. policy b its t ≡ Ok s)
+permitted-so a b rows its t r sectors ranges h = subst (λ (n : ℕ). IfSome r (λ s. policy n its t ≡ Ok s)) sectors (subst (λ (x : RangeRows). IfSome r (λ s. policy a x t ≡ Ok s)) ranges h)

@@ -145,16 +145,12 @@ impl Drive {
         if self.failure().is_some() || self.held(tag).is_some() {
             return None;
         }
-        match self.policy(&transfer) {
-            Ok(is_shadowed) => Some((
-                tag,
-                Held {
-                    transfer,
-                    is_shadowed,
-                },
-            )),
-            Err(_) => None,
-        }
+        let is_shadowed = self.permission(&transfer)?;
+        let held = Held {
+            transfer,
+            is_shadowed,
+        };
+        Some((tag, held))
     }
 
     /// What the drive does with the command of a FIS.

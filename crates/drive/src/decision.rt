@@ -1,6 +1,6 @@
 //! What the drive decides on a command, before it does it.
 
-ghost use Rattle.std.specs.Prelude.{◌≡◌, ◌≤◌, ◌^◌, None, Some};
+ghost use Rattle.std.specs.Prelude.{◌≡◌, ◌≤◌, ◌^◌, None, Some, Ok, IfSome};
 ghost use Rattle.drive.specs.Decision.{policy, told, reason, ruling};
 
 use crate::transfer::{Held, Transfer};
@@ -103,6 +103,24 @@ pub(crate) const ABORTED: u8 = 0x04;
 
 /// The error of a command whose sectors are not all on the drive (ACS-3, IDNF).
 const NOT_FOUND: u8 = 0x10;
+
+/// Whether a transfer that is permitted reads the shadow, as [`policy`] says; none where it is refused. A refusal is
+/// large, and most transfers are permitted.
+#[inline(always)]
+pub(crate) fn permission(sectors: u64, ranges: &Ranges, transfer: &Transfer) -> Option<bool>
+    requires { sectors ≤ 2 ^ 48 }
+    ensures { IfSome result (λ s. policy sectors ranges.now transfer.now ≡ Ok s) }
+{
+    if !transfer.fits(sectors) {
+        return None;
+    }
+    let count = transfer.count.number();
+    match ranges.judge(transfer.op, transfer.lba, count) {
+        Judgement::Serves => Some(false),
+        Judgement::GivesShadow => Some(true),
+        Judgement::Denies(_) => None,
+    }
+}
 
 /// Whether a transfer reads the shadow, or why it is refused: sectors that are not on the drive, then what the ranges
 /// and the shadow say.

@@ -7,7 +7,7 @@ ghost use Rattle.locking.specs.Ranges.{ranges_in};
 ghost use Rattle.transactions.specs.Sights.{look_up};
 
 use crate::answer::{Accepted, Completed};
-use crate::decision::{ABORTED, Decision, Objection, Refusal, policy};
+use crate::decision::{ABORTED, Decision, Objection, Refusal, permission, policy};
 use crate::error::DriveError;
 use crate::heads::heads;
 use crate::opening::Opening;
@@ -73,7 +73,7 @@ impl Model for Drive {
 }
 
 impl Drive {
-    ghost use Rattle.std.specs.Prelude.{replicate, slice_index, ◌⊎◌, ◌||◌, [], ◌∷◌, ◌++◌, ℕ, List, Option, ◌<◌, ◌↔◌, ◌*◌, IfErr, IsErrOf, IsOk, None, Some, Ok, Err, is_some, true, false};
+    ghost use Rattle.std.specs.Prelude.{replicate, slice_index, ◌⊎◌, ◌||◌, [], ◌∷◌, ◌++◌, ℕ, List, Option, ◌<◌, ◌↔◌, ◌*◌, IfErr, IfSome, IsErrOf, IsOk, None, Some, Ok, Err, is_some, true, false};
     ghost use Rattle.fis.specs.H2d.{h2d_at};
     ghost use Rattle.fis.specs.Types.{h2d_type};
     ghost use Rattle.fis.specs.declared.h2d.RegH2d.{RegH2d};
@@ -186,6 +186,15 @@ impl Drive {
         ensures fits { IfOk result (FitsPolicy self.now transfer.now) }
     {
         policy(self.sectors, &self.ranges, transfer)
+    }
+
+    /// Whether a transfer that is permitted reads the shadow; none where it is refused.
+    #[inline(always)]
+    pub(crate) fn permission(&self, transfer: &Transfer) -> Option<bool>
+        ensures value { IfSome result (λ s. policy_on self.now transfer.now ≡ Ok s) }
+        ensures fits { IfSome result (FitsPolicy self.now transfer.now) }
+    {
+        permission(self.sectors, &self.ranges, transfer)
     }
 
     /// Whether a response waits on a ComID.
@@ -562,9 +571,10 @@ impl Drive {
         ensures err { OnErr result (self.new ≡ self.old) }
         ensures unsaid { OnErr result (answer.new ≡ answer.old) }
     {
-        // Most commands are queued transfers that are held: what is decided on them is small, and not moved.
+        // Most commands are queued transfers that are held: no decision is put together for them.
         if let Some((tag, held)) = self.held_at_once(h) {
-            return self.carry(fis, h, Decision::Holds { tag, held }, payload, answer);
+            self.hold_so(fis, h, tag, held, payload, answer);
+            return Ok(());
         }
         let decision = self.decide(h);
         self.carry(fis, h, decision, payload, answer)

@@ -7,8 +7,9 @@ use crate::deciding::DISCOVERY_COM_ID;
 use crate::decision::{Decision, Objection, objection_to};
 use crate::drive::Drive;
 use crate::reset::PROGRAMMATIC;
+use crate::transfer::Held;
 use device_data::device_page;
-use fis::RegH2d;
+use fis::{H2D_LENGTH, RegH2d, Tag};
 use shadow_mbr::SECTOR_SIZE;
 use std::alloc::AllocError;
 use trusted_cmds::{Command, SidBlock, is_protocol_list};
@@ -16,17 +17,45 @@ use trusted_cmds::{Command, SidBlock, is_protocol_list};
 impl Drive {
     ghost use Rattle.trusted_cmds.specs.Profiles.{payload_length_in};
     ghost use Rattle.history.specs.Opening.{Origin};
-    ghost use Rattle.std.specs.Prelude.{◌==◌, ◌||◌, ◌*◌, ℕ, true};
+    ghost use Rattle.std.specs.Prelude.{◌==◌, ◌||◌, ◌*◌, ℕ, true, slice_index};
+    ghost use Rattle.fis.specs.H2d.{h2d_at};
+    ghost use Rattle.fis.specs.Types.{h2d_type};
     ghost use Rattle.shadow_mbr.specs.Stored.{sector_size};
-    ghost use Rattle.history.specs.Tcg.{data_of, receive_data};
+    ghost use Rattle.history.specs.Tcg.{data_of, receive_data, commanded};
     ghost use Rattle.history.specs.Decisions.{is_session_com_id, discovery_com_id, received};
     ghost use Rattle.history.specs.Events.{Event};
     ghost use Rattle.history.specs.Readers.{waiting};
-    ghost use Rattle.history.specs.Facts.{facts};
-    ghost use Rattle.history.specs.History.{Act, log};
+    ghost use Rattle.history.specs.Facts.{Facts, facts};
+    ghost use Rattle.history.specs.History.{Act, Accept, log, event};
     ghost use Rattle.drive.specs.Decision.{decision_event, executed, CanExecute, IsDue};
-    ghost use Rattle.drive.specs.State.{KeepsDrive, Agrees};
+    ghost use Rattle.drive.specs.State.{kept_facts, KeepsDrive, Agrees};
     ghost use Rattle.drive.specs.Answers.{IsDoneAndAnswered};
+
+    /// Holds the queued transfer of a command.
+    #[inline(always)]
+    pub(crate) fn hold_so(
+        &mut self,
+        fis: &[u8; H2D_LENGTH],
+        h: &RegH2d,
+        tag: Tag,
+        held: Held,
+        payload: &[u8],
+        answer: &mut Accepted,
+    )
+        requires kind { slice_index fis.now 0 ≡ h2d_type }
+        requires read { h.now ≡ h2d_at fis.now }
+        requires event { (f : Facts) (bytes : List ℕ) → decision_event
+            (kept_facts self.old f) bytes (Decision.Holds tag held)
+            ≡ commanded (kept_facts self.old f) h.now bytes }
+        requires due { IsDue self.old h.now (Decision.Holds tag held) }
+        ensures { (o : Origin) (acts : List Act) → Agrees self.old o acts
+            → IsDoneAndAnswered (facts o (log o acts)) (h2d_at fis.now)
+            (event o (log o acts) (Accept fis.now payload.now)) self.new o (log o acts)
+            answer.new }
+    {
+        self.hold(tag, held);
+        answer.set_held();
+    }
 
     /// Does what was decided on the command of a FIS, and answers. Where memory is refused nothing is said.
     #[inline(always)]

@@ -102,3 +102,15 @@ filled_among lba count s = grind (arith, nat_tests)
 pub among_kept : (first end s : ℕ) (had : Bool) → first ≤ s → s < end → (had || is_among first end s) ≡ true
 among_kept first end s true from below = refl
 among_kept first end s false from below = is_between first end s from below
+
+or_nothing : (had : Bool) → had ≡ (had || false)
+or_nothing true = refl
+or_nothing false = refl
+
+-- A run of sectors that are all kept brings none.
+pub none_kept : (has : ℕ → Bool) (first end : ℕ) → ((s : ℕ) → first ≤ s → s < end → has s ≡ true) → (s : ℕ) → has s ≡ (has s || is_among first end s)
+none_kept has first end all s =
+    elim (cases_Bool (is_among first end s)) [
+      | inl is ↦ let it = between first end s is in rw (all s it.0 it.1) refl
+      | inr not ↦ rw not (or_nothing (has s))
+    ]

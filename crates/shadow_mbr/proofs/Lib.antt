@@ -12,3 +12,4 @@ pub mod Runs
 pub mod Cleared
 pub mod Heads
 pub mod Fills
+pub mod Indexed

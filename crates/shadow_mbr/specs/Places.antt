@@ -49,6 +49,13 @@ abbrev pub in_group : Option (List (Option ℕ)) → ℕ → Option ℕ
 in_group None i = None
 in_group (Some places) i = slice_index_or places i None
 
+-- how many numbers stand beside the tree of all, each in the one place that it can have
+abbrev pub recent_size : ℕ
+recent_size = 64
+
+unfoldable pub no_recent : List (Option (ℕ × ℕ))
+no_recent = replicate recent_size None
+
 -- where a sector stands
 abbrev pub place_at : List (ℕ × ℕ) → ℕ → Option ℕ
 place_at places sector = lookup (is_at (nat_cmp sector)) places
@@ -88,3 +95,9 @@ pub record AreGrouped (indexes : List (ℕ × ℕ)) (groups : List (List (Option
   pub below : (number index : ℕ) → place_at indexes number ≡ Some index → index < length groups
   pub apart : (n m index : ℕ) → place_at indexes n ≡ Some index → place_at indexes m ≡ Some index
       → n ≡ m
+
+-- What stands beside the tree is what the tree says.
+abbrev pub AreIndexed : List (ℕ × ℕ) → List (Option (ℕ × ℕ)) → Type 0
+AreIndexed indexes recent =
+    (i number index : ℕ) → slice_index_or recent i None ≡ Some (number, index)
+    → place_at indexes number ≡ Some index

@@ -6,6 +6,7 @@ ghost use Rattle.shadow_mbr.specs.Erasure.{is_erased, blocks_erased};
 
 use crate::erasing::erase_group;
 use crate::erasure::Erasure;
+use crate::indexes::Indexes;
 use crate::kept::Block;
 use std::alloc::{AllocError, Global};
 use std::collections::BTreeMap;
@@ -23,7 +24,7 @@ pub(crate) type Group = [Option<u32>; GROUP_SIZE];
 /// one in little time, and whoever chooses the numbers cannot make it slow.
 #[derive(Drop)]
 pub(crate) struct Groups {
-    indexes: BTreeMap<u64, u32>,
+    indexes: Indexes,
     groups: Vec<Group>,
 }
 
@@ -33,9 +34,9 @@ impl Model for Groups {
 
     ghost Value = { List (ℕ × List (Option ℕ)) };
 
-    ghost view = { λ a. groups_of a.indexes.entries a.groups.items };
+    ghost view = { λ a. groups_of a.indexes a.groups.items };
 
-    ghost invariant = { λ a. AreGrouped a.indexes.entries a.groups.items };
+    ghost invariant = { λ a. AreGrouped a.indexes a.groups.items };
 }
 
 /// Puts a place, or none, into a group.
@@ -129,19 +130,20 @@ impl Groups {
         ensures { result ≡ [] }
     {
         Groups {
-            indexes: BTreeMap::new(alloc),
+            indexes: Indexes::new(alloc),
             groups: Vec::new(alloc),
         }
     }
 
     /// The group of a number.
+    #[inline(never)]
     #[tactic(auto, using(crate::proofs::Grouped::sorted_groups))]
     pub(crate) fn get(&self, number: u64) -> Option<&Group>
         ensures value { option_copied result ≡ group_in self.now number }
         ensures sorted { IsStrictlySortedBy nat_cmp (keys_of self.now) }
     {
-        match self.indexes.get(&number) {
-            Some(at) => Some(group_of(&self.groups, *at as usize)),
+        match self.indexes.get(number) {
+            Some(at) => Some(group_of(&self.groups, at as usize)),
             None => None,
         }
     }
@@ -158,8 +160,8 @@ impl Groups {
         ensures err { OnErr result (self.new ≡ self.old) }
         ensures sorted { IsStrictlySortedBy nat_cmp (keys_of self.new) }
     {
-        if let Some(at) = self.indexes.get(&number) {
-            put_at(&mut self.groups, *at as usize, index, Some(place));
+        if let Some(at) = self.indexes.get(number) {
+            put_at(&mut self.groups, at as usize, index, Some(place));
             return Ok(());
         }
         let at = index_of(self.groups.len())?;
@@ -179,8 +181,8 @@ impl Groups {
         ensures long { IfSome (group_in self.old number) (λ group. length group ≡ group_size) }
         ensures sorted { IsStrictlySortedBy nat_cmp (keys_of self.new) }
     {
-        if let Some(at) = self.indexes.get(&number) {
-            put_at(&mut self.groups, *at as usize, index, None);
+        if let Some(at) = self.indexes.get(number) {
+            put_at(&mut self.groups, at as usize, index, None);
         }
     }
 
@@ -189,6 +191,6 @@ impl Groups {
         ensures { blocks.new.items
             ≡ blocks_erased (is_erased erasure.now) (placed_in self.now) blocks.old.items }
     {
-        erase_groups(erasure, &self.indexes, &self.groups, blocks);
+        erase_groups(erasure, self.indexes.tree(), &self.groups, blocks);
     }
 }

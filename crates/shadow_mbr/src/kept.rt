@@ -334,6 +334,27 @@ impl Kept {
         all
     }
 
+    /// Fills the sectors of a run with a byte if each is kept, and else changes nothing.
+    #[tactic(auto, using(crate::proofs::Blocks::sorted_blocks))]
+    pub(crate) fn fills(&mut self, first: u64, end: u64, byte: u8) -> bool
+        requires { first ≤ end }
+        ensures all { result ≡ true
+            → (s : ℕ) → first ≤ s → s < end → is_some (block_in self.old s) ≡ true }
+        ensures kept { (s : ℕ) → is_some (block_in self.new s) ≡ is_some (block_in self.old s) }
+        ensures sectors { result ≡ true → (s : ℕ) → kept_sector self.new s
+            ≡ sector_filled first end byte (kept_sector self.old s) s }
+        ensures misses { result ≡ false → self.new ≡ self.old }
+        ensures whole { (s : ℕ) → length (kept_sector self.new s) ≡ sector_size }
+        ensures sorted { IsStrictlySortedBy nat_cmp (keys_of self.new) }
+    {
+        let mut finder = self.places.finder(first);
+        let all = finder.has_all(first, end);
+        if all {
+            fill_blocks(&mut finder, &mut self.blocks, first, end, byte);
+        }
+        all
+    }
+
     /// Fills the sectors of a run, which are kept, with a byte.
     #[tactic(auto, using(crate::proofs::Blocks::sorted_blocks))]
     pub(crate) fn fill(&mut self, first: u64, end: u64, byte: u8)

@@ -8,6 +8,7 @@ mod erased;
 mod erasing;
 mod erasure;
 mod group_map;
+mod indexes;
 mod kept;
 mod mbr;
 mod media;

@@ -68,7 +68,8 @@ impl<'a> Finder<'a> {
     ghost use Rattle.std.specs.Prelude.{◌≡◌, ◌≤◌, ◌<◌, ◌↔◌, ℕ, IsTrue, is_some, true};
     ghost use Rattle.shadow_mbr.specs.Places.{place_at};
 
-    /// Where the sector stands.
+    /// Where the sector stands. The search is left to a call, so that the rest fits into a loop.
+    #[inline(always)]
     pub(crate) fn at(&mut self, sector: u64) -> Option<usize>
         ensures value { result ≡ place_at self.old sector }
         ensures same { self.new ≡ self.old }

@@ -175,8 +175,10 @@ impl Sectors {
     {
         self.is_sound();
         let end = first + u64::from(count);
-        self.keep(first, end)?;
-        self.kept.fill(first, end, byte);
+        if !self.kept.fills(first, end, byte) {
+            self.keep(first, end)?;
+            self.kept.fill(first, end, byte);
+        }
         Ok(())
     }
 
