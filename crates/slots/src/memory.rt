@@ -235,7 +235,14 @@ impl PortMemory {
         ensures memory_len { length self.old ≡ memory_size }
     {
         self.is_whole();
-        self.lay(received_place(fis), &fis.to_bytes());
+        let at = received_place(fis);
+        match fis {
+            Fis::H2d(f) => self.lay(at, &f.to_bytes()),
+            Fis::D2h(f) => self.lay(at, &f.to_bytes()),
+            Fis::SetDeviceBits(f) => self.lay(at, &f.to_bytes()),
+            Fis::DmaSetup(f) => self.lay(at, &f.to_bytes()),
+            Fis::PioSetup(f) => self.lay(at, &f.to_bytes()),
+        }
     }
 
     /// The data of a slot.
