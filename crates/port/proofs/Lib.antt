@@ -1,4 +1,5 @@
 pub mod Tests
+pub mod Kept
 pub mod Slots
 pub mod Memory
 pub mod Words

@@ -1,10 +1,11 @@
 -- What a tag is answered, by its outcome and its buffer.
-use Rattle.std.specs.Prelude.{ℕ, Bool, List, take, slice_index_or, Option, Some, None, unwrap_or, if◌then◌else◌}
+use Rattle.std.specs.Prelude.{ℕ, Bool, false, not, List, take, slice_index_or, Option, Some, None, unwrap_or, if◌then◌else◌}
 use Rattle.slots.specs.Layout.{memory_part, buffer_place, buffer_size}
 use Rattle.port_history.specs.declared.request.Answer.{Answer}
 use Rattle.port_history.specs.declared.request.Answer.TheVariants as answers
 use Rattle.port_history.specs.declared.stages.Stage.{Stage}
-use Rattle.port_history.specs.declared.stages.Stage.TheVariants.{Free}
+use Rattle.port_history.specs.declared.stages.Stage.TheVariants.{Free, Prepared, Issued}
+use Rattle.port_history.specs.Stages.{is_queued_command}
 use Rattle.port.specs.declared.outcome.Outcome.{Outcome}
 use Rattle.port.specs.declared.outcome.Outcome.TheVariants.{Done, Failed, Reset}
 
@@ -14,6 +15,12 @@ stage_at slots tag = slice_index_or slots tag Free
 
 abbrev pub outcome_at : List (Option Outcome) → ℕ → Option Outcome
 outcome_at outcomes tag = slice_index_or outcomes tag None
+
+-- A command that is not queued, and waits or is issued, keeps back queued ones, whatever their numbers may be.
+abbrev pub may_keep_back : Stage → Bool
+may_keep_back (Prepared put) = not (is_queued_command put.command)
+may_keep_back (Issued put) = not (is_queued_command put.command)
+may_keep_back _ = false
 
 -- The first bytes of a slot's buffer.
 abbrev pub buffer_front : List ℕ → ℕ → ℕ → List ℕ

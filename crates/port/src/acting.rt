@@ -81,7 +81,7 @@ impl Port {
             number,
             command,
         };
-        self.slots[usize::from(tag.number())] = Stage::Prepared(put);
+        self.slots.set(tag, Stage::Prepared(put));
         self.outcomes[usize::from(tag.number())] = None;
         self.history.push_put(client, tag, request);
         Ok(number)
@@ -111,7 +111,7 @@ impl Port {
         let put = self.prepared(tag)?;
         let number = self.next_number();
         self.history.reserve()?;
-        self.slots[usize::from(tag.number())] = Stage::Issued(put);
+        self.slots.set(tag, Stage::Issued(put));
         self.regs.set_issue(tag, is_queued(put.command));
         self.history.push_engine(EngineStep::Issue { tag });
         Ok(number)
@@ -155,20 +155,30 @@ impl Port {
         self.history.reserve()?;
         self.audit.reserve(1)?;
         let payload = host::front(&self.memory, tag, len);
-        let Ok(answer) = self.drive.accept(&command.fis, payload) else {
+        let Ok(()) = self
+            .drive
+            .accept_into(&command.fis, payload, &mut self.answer)
+        else {
             return Err(PortError::OutOfMemory);
         };
         let queued = is_queued(put.command);
-        let told = answer.fises();
+        let has_failed = self.answer.has_failed();
+        let told = self.answer.fises();
         let fises = told.as_slice();
-        let len = host::take_in(&mut self.memory, tag, queued, fises, &answer.bytes);
-        show_answer(&mut self.regs, tag, queued, &answer);
+        let bytes = &self.answer.bytes;
+        let len = host::take_in(&mut self.memory, tag, queued, fises, bytes);
+        show_answer(&mut self.regs, tag, queued, has_failed, fises);
         let slot = usize::from(tag.number());
-        self.slots[slot] = accepted_stage(put);
-        self.outcomes[slot] = outcome_then(queued, &answer, len, self.outcomes[slot]);
-        self.failed = failed_then(queued, answer.has_failed(), tag, self.failed);
-        self.rule = answer.rule;
-        note(&mut self.audit, number, put.client, answer.denied);
+        self.slots.set(tag, accepted_stage(put));
+        self.outcomes[slot] = outcome_then(queued, &self.answer, len, self.outcomes[slot]);
+        self.failed = failed_then(queued, has_failed, tag, self.failed);
+        self.rule = self.answer.rule;
+        note(
+            &mut self.audit,
+            number,
+            put.client,
+            self.answer.denied.take(),
+        );
         self.history.push_engine(EngineStep::Accept { tag });
         Ok(number)
     }
@@ -214,7 +224,7 @@ impl Port {
         let len = host::take_in(&mut self.memory, tag, false, fises, &done.bytes);
         show_all(&mut self.regs, tag, fises);
         let slot = usize::from(tag.number());
-        self.slots[slot] = Stage::Answered(put);
+        self.slots.set(tag, Stage::Answered(put));
         self.outcomes[slot] = Some(Outcome::Done(len));
         self.drive.give_back(done.bytes);
         self.history.push_engine(EngineStep::Complete { tag });
@@ -259,7 +269,7 @@ impl Port {
         let reply = answer.share()?;
         let number = self.next_number();
         self.history.reserve_take()?;
-        self.slots[slot] = Stage::Free;
+        self.slots.set(tag, Stage::Free);
         self.outcomes[slot] = None;
         self.history.push_take(client, tag, reply);
         Ok((number, answer))

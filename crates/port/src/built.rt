@@ -108,7 +108,7 @@ impl Port {
             number,
             command,
         };
-        self.slots[usize::from(tag.number())] = Stage::Prepared(put);
+        self.slots.set(tag, Stage::Prepared(put));
         self.outcomes[usize::from(tag.number())] = None;
         self.history.push_put(client, tag, request);
         Ok(number)

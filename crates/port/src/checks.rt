@@ -4,7 +4,6 @@ ghost use Rattle.std.specs.Prelude.{◌≡◌, true};
 ghost use Rattle.port_history.specs.Refusals.{has_slot};
 
 use crate::port::Port;
-use crate::stages::mixes;
 use fis::{SLOT_COUNT, Tag};
 use port_history::{PortError, Put, Request, Stage, Step};
 
@@ -136,7 +135,7 @@ impl Port {
         self.running()?;
         match self.stage(tag) {
             Stage::Prepared(put) => {
-                if mixes(&self.slots, put) {
+                if self.slots.mixes(put) {
                     return Err(PortError::Queue);
                 }
                 Ok(put)

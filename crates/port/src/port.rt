@@ -1,9 +1,9 @@
 //! A port, and what it shows.
 
 use crate::outcome::Outcome;
-use crate::stages::{free_slots, no_outcomes};
+use crate::stages::{Stages, no_outcomes};
 use audit::AuditLine;
-use drive::Drive;
+use drive::{Accepted, Drive};
 use fis::{SLOT_COUNT, Tag};
 use hba_regs::PortRegs;
 use port_history::{Entries, PortError, Stage};
@@ -17,7 +17,7 @@ use std::marker::Model;
 pub struct Port {
     pub(crate) alloc: Global,
     pub(crate) drive: Drive,
-    pub(crate) slots: [Stage; SLOT_COUNT],
+    pub(crate) slots: Stages,
     pub(crate) outcomes: [Option<Outcome>; SLOT_COUNT],
     /// The tag whose queued command failed, while the port is failed.
     pub(crate) failed: Option<Tag>,
@@ -26,6 +26,8 @@ pub struct Port {
     pub(crate) history: Entries,
     pub(crate) audit: Vec<AuditLine>,
     pub(crate) rule: Option<Rule>,
+    /// The room of the drive's next answer: an answer is large, and so it is not moved.
+    pub(crate) answer: Accepted,
 }
 
 impl Model for Port {
@@ -83,7 +85,7 @@ impl Port {
         Ok(Port {
             alloc,
             drive,
-            slots: free_slots(),
+            slots: Stages::new(),
             outcomes: no_outcomes(),
             failed: None,
             memory: PortMemory::new(alloc)?,
@@ -91,6 +93,7 @@ impl Port {
             history: Entries::new(alloc),
             audit: Vec::new(alloc),
             rule: None,
+            answer: Accepted::none(alloc),
         })
     }
 
@@ -155,6 +158,6 @@ impl Port {
     pub fn stage(&self, tag: Tag) -> Stage
         ensures { result ≡ stage_at self.now.slots tag }
     {
-        self.slots[usize::from(tag.number())]
+        self.slots.at(tag)
     }
 }

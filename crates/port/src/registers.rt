@@ -1,11 +1,8 @@
 //! The registers, as the FISes of the drive leave them (AHCI 1.3.1, 3.3 and 5.3).
 
 ghost use Rattle.std.specs.Prelude.{◌≡◌, ◌&&◌, not};
-ghost use Rattle.drive.specs.Answers.{fises_in};
-ghost use Rattle.port.specs.State.{has_error_status};
 ghost use Rattle.port_history.specs.Registers.{is_finished, carried, with_task, shown, all_shown, restarted, restarted_if, reset_regs, no_more_issued, raised};
 
-use drive::Accepted;
 use fis::{Fis, Tag};
 use hba_regs::{PortRegs, PxIs};
 
@@ -108,12 +105,18 @@ pub(crate) fn restart(regs: &mut PortRegs)
 }
 
 /// Shows the FISes that answer a command; the port stops and starts after one that is not queued has failed.
-pub(crate) fn show_answer(regs: &mut PortRegs, tag: Tag, queued: bool, answer: &Accepted)
-    ensures { regs.new ≡ restarted_if (not queued && has_error_status answer.now)
-        (all_shown tag regs.old (fises_in answer.now)) }
+pub(crate) fn show_answer(
+    regs: &mut PortRegs,
+    tag: Tag,
+    queued: bool,
+    has_failed: bool,
+    fises: &[Fis],
+)
+    ensures { regs.new ≡ restarted_if (not queued && has_failed)
+        (all_shown tag regs.old fises.now) }
 {
-    show_all(regs, tag, answer.fises().as_slice());
-    if !queued && answer.has_failed() {
+    show_all(regs, tag, fises);
+    if !queued && has_failed {
         restart(regs);
     }
 }

@@ -2,7 +2,7 @@
 
 use crate::port::Port;
 use crate::registers::{restart, show_all};
-use crate::stages::{LogEntry, recover_slots, reset_slots};
+use crate::stages::LogEntry;
 use crate::{host, registers};
 use drive::ResetKind;
 use fis::Tag;
@@ -50,7 +50,7 @@ impl Port {
         show_all(&mut self.regs, Tag::low_bits(0), fises.as_slice());
         host::receive(&mut self.memory, fises.as_slice());
         let log = LogEntry::read(&answer.bytes);
-        recover_slots(&mut self.slots, &mut self.outcomes, &log);
+        self.slots.recover(&mut self.outcomes, &log);
         self.failed = None;
         self.history.push_engine(EngineStep::Recover);
         Ok(number)
@@ -81,7 +81,7 @@ impl Port {
         self.history.reserve()?;
         self.drive.reset(kind);
         registers::reset(&mut self.regs);
-        reset_slots(&mut self.slots, &mut self.outcomes);
+        self.slots.reset(&mut self.outcomes);
         self.failed = None;
         self.history.push_reset(client, kind);
         Ok(number)

@@ -1,19 +1,42 @@
 //! The slots: how far each command has come.
 
-ghost use Rattle.std.specs.Prelude.{◌≡◌, ◌<◌, ◌==◌, ℕ, List, length, slice_index, Option, Some, None};
+ghost use Rattle.std.specs.Prelude.{◌≡◌, ◌<◌, ◌==◌, ℕ, List, length, slice_index, Option, Some, None, true, false};
 ghost use Rattle.fis.specs.Tags.{slot_count};
 ghost use Rattle.history.specs.Decisions.{any_below};
 ghost use Rattle.port_history.specs.Stages.{keeps_back, is_out, mixes_put, recovered, stage_after_reset, is_pending, accepted_stage};
 ghost use Rattle.port_history.specs.Steps.{is_tag};
-ghost use Rattle.port.specs.Answers.{stage_at, outcome_at, outcome_after_reset, outcome_recovered};
+ghost use Rattle.port.specs.Answers.{stage_at, outcome_at, outcome_after_reset, outcome_recovered, may_keep_back};
 ghost use Rattle.port.specs.State.{failed_then, named_in};
 
 use crate::outcome::{Outcome, outcome_after_reset, outcome_recovered};
 use fis::{SLOT_COUNT, Tag};
 use port_history::{Put, Stage, is_queued};
+use std::marker::Model;
+
+/// The stages of the slots, seen as their list.
+#[derive(Drop)]
+pub(crate) struct Stages {
+    stages: [Stage; SLOT_COUNT],
+    /// Whether it is known that none of them can keep back a queued command: then they are not looked through.
+    all_queued: bool,
+}
+
+impl Model for Stages {
+    ghost use Rattle.std.specs.Prelude.{◌≡◌, ◌<◌, ℕ, List, true, false};
+    ghost use Rattle.fis.specs.Tags.{slot_count};
+    ghost use Rattle.port.specs.Answers.{stage_at, may_keep_back};
+    ghost use Rattle.port_history.specs.declared.stages.Stage.{Stage};
+
+    ghost Value = { List Stage };
+
+    ghost view = { λ s. s.stages };
+
+    ghost invariant = { λ s. s.all_queued ≡ true
+        → (tag : ℕ) → tag < slot_count → may_keep_back (stage_at s.stages tag) ≡ false };
+}
 
 /// The slots of a port that did nothing.
-pub(crate) fn free_slots() -> [Stage; SLOT_COUNT]
+fn free_slots() -> [Stage; SLOT_COUNT]
     ensures { (tag : ℕ) → stage_at result tag ≡ Stage.Free }
 {
     [Stage::Free; SLOT_COUNT]
@@ -72,14 +95,110 @@ fn is_any_out(slots: &[Stage; SLOT_COUNT]) -> bool
     false
 }
 
-/// Whether a command must not be issued beside those in the slots.
-pub(crate) fn mixes(slots: &[Stage; SLOT_COUNT], put: Put) -> bool
-    ensures { result ≡ mixes_put (stage_at slots.now) (Some put) }
+/// Whether the command of a stage can keep back a queued one.
+fn may_keep_back(stage: Stage) -> bool
+    ensures { result ≡ may_keep_back stage }
 {
-    if is_queued(put.command) {
-        is_kept_back(slots, put.number)
-    } else {
-        is_any_out(slots)
+    match stage {
+        Stage::Prepared(put) | Stage::Issued(put) => !is_queued(put.command),
+        Stage::Free | Stage::Accepted(_) | Stage::Answered(_) => false,
+    }
+}
+
+/// Whether no slot can keep back a queued command.
+fn are_all_queued(slots: &[Stage; SLOT_COUNT]) -> bool
+    ensures { result ≡ true
+        → (tag : ℕ) → tag < slot_count → may_keep_back (stage_at slots.now tag) ≡ false }
+{
+    for tag in 0..SLOT_COUNT {
+        if may_keep_back(slots[tag]) {
+            return false;
+        }
+    }
+    true
+}
+
+impl Stages {
+    ghost use Rattle.std.specs.Prelude.{◌≡◌, ◌<◌, ℕ, length, slice_set, Some};
+    ghost use Rattle.fis.specs.Tags.{slot_count};
+    ghost use Rattle.history.specs.Decisions.{any_below};
+    ghost use Rattle.port_history.specs.Stages.{keeps_back, mixes_put, recovered, stage_after_reset, is_pending};
+    ghost use Rattle.port_history.specs.Steps.{is_tag};
+    ghost use Rattle.port.specs.Answers.{stage_at, outcome_at, outcome_after_reset, outcome_recovered};
+
+    /// The slots of a port that did nothing.
+    pub(crate) fn new() -> Stages
+        ensures stages { (tag : ℕ) → stage_at result tag ≡ Stage.Free }
+        ensures len { length result ≡ slot_count }
+    {
+        Stages {
+            stages: free_slots(),
+            all_queued: true,
+        }
+    }
+
+    /// The stage of a slot.
+    pub(crate) fn at(&self, tag: Tag) -> Stage
+        ensures { result ≡ stage_at self.now tag }
+    {
+        self.stages[usize::from(tag.number())]
+    }
+
+    /// Sets the stage of a slot.
+    pub(crate) fn set(&mut self, tag: Tag, stage: Stage)
+        ensures value { self.new ≡ slice_set self.old tag stage }
+        ensures slot { tag < slot_count }
+    {
+        self.stages[usize::from(tag.number())] = stage;
+        self.all_queued = !may_keep_back(stage)
+            && (self.all_queued || are_all_queued(&self.stages));
+    }
+
+    /// Whether a slot keeps back a queued command that was put at this number.
+    fn keeps_back(&self, number: u64) -> bool
+        ensures { result ≡ any_below (λ tag. keeps_back number (stage_at self.now tag)) slot_count }
+    {
+        if self.all_queued {
+            return false;
+        }
+        is_kept_back(&self.stages, number)
+    }
+
+    /// Whether a command must not be issued beside those in the slots.
+    pub(crate) fn mixes(&self, put: Put) -> bool
+        ensures { result ≡ mixes_put (stage_at self.now) (Some put) }
+    {
+        if is_queued(put.command) {
+            self.keeps_back(put.number)
+        } else {
+            is_any_out(&self.stages)
+        }
+    }
+
+    /// Answers the slot that a log page names, and gives the others that are out back to the port.
+    pub(crate) fn recover(&mut self, outcomes: &mut [Option<Outcome>; SLOT_COUNT], log: &LogEntry)
+        ensures stages { (tag : ℕ) → tag < slot_count → stage_at self.new tag
+            ≡ recovered (is_tag tag log.now.tag) (stage_at self.old tag) }
+        ensures len { (length self.new ≡ slot_count) × (length outcomes.new ≡ slot_count) }
+        ensures outcomes { (tag : ℕ) → tag < slot_count → outcome_at outcomes.new tag
+            ≡ outcome_recovered (is_tag tag log.now.tag) log.now.status log.now.error
+            (outcome_at outcomes.old tag) }
+    {
+        recover_slots(&mut self.stages, outcomes, log);
+        self.all_queued = are_all_queued(&self.stages);
+    }
+
+    /// Answers every slot that waits.
+    pub(crate) fn reset(&mut self, outcomes: &mut [Option<Outcome>; SLOT_COUNT])
+        ensures stages { (tag : ℕ) → tag < slot_count → stage_at self.new tag
+            ≡ stage_after_reset (stage_at self.old tag) }
+        ensures len { (length self.new ≡ slot_count) × (length outcomes.new ≡ slot_count) }
+        ensures outcomes { (tag : ℕ) → tag < slot_count → outcome_at outcomes.new tag
+            ≡ outcome_after_reset (is_pending (stage_at self.old tag))
+            (outcome_at outcomes.old tag) }
+    {
+        reset_slots(&mut self.stages, outcomes);
+        self.all_queued = are_all_queued(&self.stages);
     }
 }
 
@@ -182,7 +301,7 @@ fn is_pending(stage: Stage) -> bool
 }
 
 /// Answers the slot that a log page names, and gives the others that are out back to the port.
-pub(crate) fn recover_slots(
+fn recover_slots(
     slots: &mut [Stage; SLOT_COUNT],
     outcomes: &mut [Option<Outcome>; SLOT_COUNT],
     log: &LogEntry,
@@ -203,10 +322,7 @@ pub(crate) fn recover_slots(
 }
 
 /// Answers every slot that waits.
-pub(crate) fn reset_slots(
-    slots: &mut [Stage; SLOT_COUNT],
-    outcomes: &mut [Option<Outcome>; SLOT_COUNT],
-)
+fn reset_slots(slots: &mut [Stage; SLOT_COUNT], outcomes: &mut [Option<Outcome>; SLOT_COUNT])
     ensures stages { (tag : ℕ) → tag < slot_count → stage_at slots.new tag
         ≡ stage_after_reset (stage_at slots.old tag) }
     ensures len { (length slots.new ≡ slot_count) × (length outcomes.new ≡ slot_count) }

@@ -1,4 +1,5 @@
-use Rattle.std.proofs.Common.{◌≡◌, ℕ, Bool, ◌++◌, ◌∷◌, List, [], refl, sym, ap, ◌∙◌, subst, rules}
+use Rattle.audit.specs.declared.reason.Why.{Why}
+use Rattle.std.proofs.Common.{◌≡◌, Option, ℕ, Bool, ◌++◌, ◌∷◌, List, [], refl, sym, ap, ◌∙◌, subst, rules}
 use Rattle.std.specs.Prelude.{length, ◌+◌}
 use Rattle.audit.specs.declared.reason.AuditLine.{AuditLine}
 use Rattle.fis.specs.H2d.{h2d_at}
@@ -19,7 +20,7 @@ pub returns-clause-state : goal.returns-clause-state
 returns-clause-state c = rw (← c.self.view_is) (λ f e.
     let memory = c.self.inside.memory in
     let tag = c.args.tag in
-    let answer = c.in-Ok-accept.answer in
+    let answer = c.accept_into.new.answer in
     let filled = c.take_in-len.ensures.filled in
     let same : c.in-Ok.command ≡ f = ok_same c.in-Ok.command f (c.in-Ok.ensures.exact ∙ e) in
     let payload : c.front-payload.result.now ≡ buffer_front memory tag (payload_of c.self.inside.drive.tper.store.config c.in-Ok.command.fis) =
@@ -32,11 +33,11 @@ returns-clause-state c = rw (← c.self.view_is) (λ f e.
       bytes = filled.0;
       took = record {
         drive = λ o acts h.
-            subst (λ (g : Fetched). DriveAgrees c.accept.new.self o (AcceptFis g.fis (buffer_front memory tag (payload_of c.self.inside.drive.tper.store.config g.fis)) ∷ acts)) same
-            (subst (λ (xs : List ℕ). DriveAgrees c.accept.new.self o (AcceptFis c.in-Ok.command.fis xs ∷ acts)) payload (c.in-Ok-accept.ensures.agrees o acts h));
+            subst (λ (g : Fetched). DriveAgrees c.accept_into.new.self o (AcceptFis g.fis (buffer_front memory tag (payload_of c.self.inside.drive.tper.store.config g.fis)) ∷ acts)) same
+            (subst (λ (xs : List ℕ). DriveAgrees c.accept_into.new.self o (AcceptFis c.in-Ok.command.fis xs ∷ acts)) payload (c.in-Ok-accept_into.ensures.agrees o acts h));
         answers = λ o acts h.
             subst (λ (g : Fetched). IsAnswer (facts o (log o acts)) (h2d_at g.fis) (event o (log o acts) (AcceptFis g.fis (buffer_front memory tag (payload_of c.self.inside.drive.tper.store.config g.fis)))) answer) same
-            (subst (λ (xs : List ℕ). IsAnswer (facts o (log o acts)) (h2d_at c.in-Ok.command.fis) (event o (log o acts) (AcceptFis c.in-Ok.command.fis xs)) answer) payload (c.in-Ok-accept.ensures.answer o acts h));
+            (subst (λ (xs : List ℕ). IsAnswer (facts o (log o acts)) (h2d_at c.in-Ok.command.fis) (event o (log o acts) (AcceptFis c.in-Ok.command.fis xs)) answer) payload (c.in-Ok-accept_into.ensures.answer o acts h));
       };
       memory =
           subst (λ (xs : List ℕ). IsFilled memory c.take_in-len.new.memory tag (is_queued_command c.in_ok-put.put.command) xs filled.0) c.deref.ensures.value
@@ -50,6 +51,7 @@ returns-clause-state c = rw (← c.self.view_is) (λ f e.
       rule = refl;
       audit =
           c.note.ensures
+          ∙ ap (λ (d : Option Why). c.reserve-2.new.self.items ++ line_for c.next_number-number.result c.in_ok-put.put.client d) c.take.ensures.value
           ∙ ap (λ (xs : List AuditLine). xs ++ line_for c.next_number-number.result c.in_ok-put.put.client answer.denied) c.reserve-2.ensures.items
           ∙ ap (λ (n : ℕ). c.self.inside.audit.items ++ line_for n c.in_ok-put.put.client answer.denied) (c.next_number-number.ensures ∙ ap (λ (s : PortState). 1 + length s.history) (sym c.self.view_is));
     })

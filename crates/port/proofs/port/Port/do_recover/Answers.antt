@@ -18,10 +18,10 @@ returns-clause-state c =
         drive = λ o acts h. subst (λ (xs : List ℕ). DriveAgrees c.accept.new.self o (AcceptFis xs [] ∷ acts)) c.log_fis.ensures (c.in-Ok.ensures.agrees o acts h);
         answers = λ o acts h. subst (λ (xs : List ℕ). IsAnswer (facts o (log o acts)) (h2d_at xs) (event o (log o acts) (AcceptFis xs [])) c.in-Ok.answer) c.log_fis.ensures (c.in-Ok.ensures.answer o acts h);
       };
-      count = c.recover_slots.ensures.len.0;
-      count_outcomes = c.recover_slots.ensures.len.1;
-      slots = rw (← page, ← c.read-log.ensures.tag) c.recover_slots.ensures.stages;
-      outcomes = rw (← page, ← c.read-log.ensures.tag, ← c.read-log.ensures.status, ← c.read-log.ensures.error) c.recover_slots.ensures.outcomes;
+      count = c.recover.ensures.len.0;
+      count_outcomes = c.recover.ensures.len.1;
+      slots = rw (← page, ← c.read-log.ensures.tag) c.recover.ensures.stages;
+      outcomes = rw (← page, ← c.read-log.ensures.tag, ← c.read-log.ensures.status, ← c.read-log.ensures.error) c.recover.ensures.outcomes;
       failed = refl;
       elsewhere = c.receive.ensures.elsewhere;
       received = subst (Receives c.self.inside.memory c.receive.new.memory) (c.as_slice-2.ensures.value ∙ c.fises-fises.ensures) c.receive.ensures.received;

@@ -7,10 +7,10 @@ returns-in_err-may_reset-clause-refused c = let h = c.in_err-may_reset.ensures c
 pub returns-clause-state : goal.returns-clause-state
 returns-clause-state c = rw (← c.self.view_is) (record {
   drive = search rules;
-  count = c.reset_slots.ensures.len.0;
-  count_outcomes = c.reset_slots.ensures.len.1;
-  slots = c.reset_slots.ensures.stages;
-  outcomes = c.reset_slots.ensures.outcomes;
+  count = c.reset-3.ensures.len.0;
+  count_outcomes = c.reset-3.ensures.len.1;
+  slots = c.reset-3.ensures.stages;
+  outcomes = c.reset-3.ensures.outcomes;
   failed = refl;
   memory = refl;
   regs = c.reset-2.ensures;
