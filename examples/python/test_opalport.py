@@ -96,6 +96,23 @@ class OnADrive(unittest.TestCase):
         self.refuses(Code.NOT_OPEN, self.drive.accept, read(0))
         self.refuses(Code.NOT_OPEN, self.drive.denial)
 
+    def test_a_field_drive_has_commands_of_28_bits(self):
+        def short(command, device=0x40, count=1):
+            return bytes([0x27, 0x80, command, 0, 5, 0, 0, device, 0, 0, 0, 0, count, 0, 0, 0, 0, 0, 0, 0])
+        with Drive(field=True) as drive:
+            self.assertEqual(drive.payload_length(short(0xCA, count=0)), 256 * SECTOR)
+            self.assertEqual(drive.accept(short(0xCA), b"\x5a" * SECTOR).status, 0x50)
+            self.assertEqual(drive.accept(short(0xC8)).data, b"\x5a" * SECTOR)
+            self.assertEqual(drive.accept(read(5)).data, b"\x5a" * SECTOR)
+            for fis in (short(0xC8, device=0), short(0xCA, device=0)):
+                answer = drive.accept(fis, bytes(drive.payload_length(fis)))
+                self.assertEqual((answer.status, answer.error, answer.denied), (0x51, 0x04, False))
+            for command in (0xE7, 0xEF):
+                self.assertEqual(drive.accept(short(command)).status, 0x50)
+        for command in (0xC8, 0xCA, 0xE7, 0xEF):
+            answer = self.drive.accept(short(command), bytes(self.drive.payload_length(short(command))))
+            self.assertEqual((answer.status, answer.error, answer.denied), (0x51, 0x04, False))
+
     def test_a_drive_that_cannot_be(self):
         def make(**options):
             Drive(**options)
