@@ -1,5 +1,5 @@
 -- A history in little memory: a mark for each step, and the requests and answers that marks name.
-use Rattle.std.specs.Prelude.{◌≡◌, ℕ, ◌<◌, ◌&&◌, Bool, nat_lt, List, length, map, slice_index_or}
+use Rattle.std.specs.Prelude.{◌≡◌, ℕ, ◌<◌, ◌-◌, ◌++◌, ◌&&◌, Bool, nat_lt, List, length, map, slice_index_or}
 use Rattle.port_history.specs.declared.entries.EntryRef.{EntryRef}
 use Rattle.port_history.specs.declared.entries.Mark.{Mark}
 use Rattle.port_history.specs.declared.entries.Mark.TheVariants as marks
@@ -64,6 +64,17 @@ HasAnswer many (marks.Complete tag) = Unit {0}
 HasAnswer many marks.Recover = Unit {0}
 HasAnswer many (marks.Reset kind client) = Unit {0}
 HasAnswer many (marks.Take tag client place) = place < many
+
+-- An answer stands last.
+abbrev pub IsLast : List Answer → Answer → Type 0
+IsLast answers answer =
+    (0 < length answers) × (slice_index_or answers (length answers - 1) no_bytes ≡ answer)
+
+-- An answer stands at a place of the answers, behind which none was taken away.
+abbrev pub IsKept : List Answer → List Answer → Answer → ℕ → Type 0
+IsKept before now answer place =
+    ((more : List Answer) × (now ≡ before ++ more))
+    × (place < length now) × (slice_index_or now place no_bytes ≡ answer)
 
 -- A place has 32 bits.
 abbrev pub has_room : ℕ → ℕ → Bool

@@ -2,7 +2,7 @@
 
 ghost use Rattle.std.specs.Prelude.{◌≡◌, ◌↔◌, ℕ, List, length, vec_len, vec_capacity, true, IsTrue, OnOk};
 ghost use Rattle.port_history.specs.declared.step.Step.TheVariants as steps;
-ghost use Rattle.port_history.specs.Entries.{entry_marked, step_marked, reply_marked, HasRequest, HasAnswer, step_lent, has_room};
+ghost use Rattle.port_history.specs.Entries.{entry_marked, step_marked, reply_marked, HasRequest, HasAnswer, IsKept, IsLast, step_lent, has_room};
 ghost use Rattle.port_history.specs.Ready.{as_step};
 ghost use Rattle.port_history.specs.Requests.{no_bytes};
 
@@ -157,7 +157,7 @@ impl EntryRef<'_> {
 }
 
 /// The entries of a history, the oldest first, seen as their list. A step has twelve bytes; the requests of Puts and the
-/// answers of Takes stand beside them, each once.
+/// answers of Takes stand beside them, each once, and an answer of zeros that comes again and again but once in all.
 #[derive(Drop)]
 pub struct Entries {
     marks: Vec<Mark>,
@@ -254,6 +254,33 @@ fn place_behind<T>(items: &Vec<T>) -> u32
     ensures { result ≡ length items.now.items }
 {
     items.len() as u32
+}
+
+/// Whether an answer is the last one once more, which is seen without a look at bytes. False says nothing.
+fn is_last_again(answers: &[Answer], answer: &Answer) -> bool
+    ensures { result ≡ true → IsLast answers.now answer.now }
+{
+    let [.., last] = answers else {
+        return false;
+    };
+    match (last, answer) {
+        (Answer::Done(bytes), Answer::Done(more)) => bytes.are_the_same_zeros(more),
+        _ => false,
+    }
+}
+
+/// Keeps an answer, for which there is room, and tells its place. Where it is the last one once more it has that one's, as many
+/// reads in a row of sectors that were never written.
+fn keep_answer(answers: &mut Vec<Answer>, answer: Answer) -> u32
+    requires { has_room (vec_len answers.old) (vec_capacity answers.old) ≡ true }
+    ensures { IsKept answers.old.items answers.new.items answer result }
+{
+    if is_last_again(answers.as_slice(), &answer) {
+        return (answers.len() - 1) as u32;
+    }
+    let place = place_behind(answers);
+    answers.push_reserved(answer);
+    place
 }
 
 impl Entries {
@@ -374,8 +401,7 @@ impl Entries {
         ensures { self.new.items ≡ self.old.items
             ++ record { step = steps.Take client tag; reply = reply } ∷ [] }
     {
-        let place = place_behind(&self.answers);
-        self.answers.push_reserved(reply);
+        let place = keep_answer(&mut self.answers, reply);
         self.marks.push_reserved(Mark::Take { tag, client, place });
     }
 }

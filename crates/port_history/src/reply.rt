@@ -107,7 +107,7 @@ fn are_zero(bytes: &[u8]) -> bool
 }
 
 impl ReplyBytes {
-    ghost use Rattle.std.specs.Prelude.{◌≡◌, [], IfOk};
+    ghost use Rattle.std.specs.Prelude.{◌≡◌, [], IfOk, true};
 
     /// No bytes.
     pub fn none() -> ReplyBytes
@@ -158,6 +158,16 @@ impl ReplyBytes {
         match &self.kept {
             Kept::Zeros(count) => zeros(*count),
             Kept::Own(bytes) => bytes.as_slice(),
+        }
+    }
+
+    /// Whether both are as many zeros as each other and take no memory, so that no byte is looked at. False says nothing.
+    pub(crate) fn are_the_same_zeros(&self, other: &ReplyBytes) -> bool
+        ensures { result ≡ true → self.now ≡ other.now }
+    {
+        match (&self.kept, &other.kept) {
+            (Kept::Zeros(count), Kept::Zeros(others)) => count == others,
+            _ => false,
         }
     }
 
