@@ -105,10 +105,30 @@ pub enum Line<'a> {
 
 impl<'a> Words<'a> {
     ghost use Rattle.std.specs.Prelude.{◌≡◌, ◌<◌, ◌≤◌, length, IfOk, OnOk};
+    ghost use Rattle.script_lines.specs.Verbs.{verb_of};
     ghost use Rattle.script_lines.specs.Words.{first_word, after_word, after_words};
     ghost use Rattle.script_lines.specs.Fields.{most_of, number_of_field, flag_in, byte_of_field, hex_in};
     ghost use Rattle.script_lines.specs.Groups.{range_in, transfer_in, dma_transfer_in, session_in, reset_in};
     ghost use Rattle.script_lines.specs.Lines.{HasBytesWithinLimits, ended, verb_line, range_line, read_line, write_line, read_dma_line, write_dma_line, call_line, send_line, receive_line, security_in_line, security_out_line, identify_line, log_line, reset_line, tper_reset_line};
+
+    /// The next word as a verb. Of the most usual ones the length is known, and no blank is searched.
+    #[inline(always)]
+    fn verb(&mut self) -> Option<Verb>
+        ensures verb { result ≡ verb_of (first_word self.old.rest.now) }
+        ensures rest { self.new.rest.now ≡ after_word self.old.rest.now }
+    {
+        match self.rest {
+            [b'r', b'e', b'a', b'd', b' ', ..] => {
+                self.rest = &self.rest[4..];
+                Some(Verb::Read)
+            }
+            [b'w', b'r', b'i', b't', b'e', b' ', ..] => {
+                self.rest = &self.rest[5..];
+                Some(Verb::Write)
+            }
+            _ => verb_of(self.next_word()),
+        }
+    }
 
     /// The next word as the number of a field.
     pub(crate) fn number(&mut self, field: Field) -> Result<u64, LineFault>
@@ -260,7 +280,7 @@ impl<'a> Words<'a> {
         ensures exact { result ≡ ended self.old.rest.now line.entry }
         ensures fits { IfOk result HasBytesWithinLimits }
     {
-        if self.next_word().is_empty() {
+        if self.rest.is_empty() || self.next_word().is_empty() {
             Ok(line)
         } else {
             Err(LineFault::Extra)
@@ -459,7 +479,7 @@ impl<'a> Line<'a> {
         ensures fits { IfOk result HasBytesWithinLimits }
     {
         let mut words = Words::new(text);
-        let verb = verb_of(words.next_word()).ok_or(LineFault::UnknownWord)?;
+        let verb = words.verb().ok_or(LineFault::UnknownWord)?;
         words.line(verb)
     }
 }

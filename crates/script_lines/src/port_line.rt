@@ -107,13 +107,44 @@ pub enum PortLine<'a> {
 impl<'a> Words<'a> {
     ghost use Rattle.std.specs.Prelude.{◌≡◌, IfOk, OnOk};
     ghost use Rattle.script_lines.specs.Words.{first_word, after_word, after_words};
-    ghost use Rattle.script_lines.specs.PortLines.{none_left, slot_in, transfer_words, FitsPut, FitsPort, read_words, write_words, read_dma_words, write_dma_words, call_words, send_words, receive_words, security_in_words, security_out_words, identify_words, request_words, range_words, put_words, issue_words, accept_words, complete_words, recover_words, reset_words, take_words, port_verb_words};
+    ghost use Rattle.script_lines.specs.PortLines.{port_verb_of, none_left, slot_in, transfer_words, FitsPut, FitsPort, read_words, write_words, read_dma_words, write_dma_words, call_words, send_words, receive_words, security_in_words, security_out_words, identify_words, request_words, range_words, put_words, issue_words, accept_words, complete_words, recover_words, reset_words, take_words, port_verb_words};
+
+    /// The next word as a verb. Of the most usual ones the length is known, and no blank is searched.
+    #[inline(always)]
+    fn port_verb(&mut self) -> Option<PortVerb>
+        ensures verb { result ≡ port_verb_of (first_word self.old.rest.now) }
+        ensures rest { self.new.rest.now ≡ after_word self.old.rest.now }
+    {
+        match self.rest {
+            [b'p', b'u', b't', b' ', ..] => {
+                self.rest = &self.rest[3..];
+                Some(PortVerb::Put)
+            }
+            [b'i', b's', b's', b'u', b'e', b' ', ..] => {
+                self.rest = &self.rest[5..];
+                Some(PortVerb::Issue)
+            }
+            [b'a', b'c', b'c', b'e', b'p', b't', b' ', ..] => {
+                self.rest = &self.rest[6..];
+                Some(PortVerb::Accept)
+            }
+            [b'c', b'o', b'm', b'p', b'l', b'e', b't', b'e', b' ', ..] => {
+                self.rest = &self.rest[8..];
+                Some(PortVerb::Complete)
+            }
+            [b't', b'a', b'k', b'e', b' ', ..] => {
+                self.rest = &self.rest[4..];
+                Some(PortVerb::Take)
+            }
+            _ => port_verb_of(self.next_word()),
+        }
+    }
 
     /// No word is left.
     fn end(&mut self) -> Result<(), LineFault>
         ensures { result ≡ none_left self.old.rest.now }
     {
-        if self.next_word().is_empty() {
+        if self.rest.is_empty() || self.next_word().is_empty() {
             Ok(())
         } else {
             Err(LineFault::Extra)
@@ -388,7 +419,7 @@ impl<'a> PortLine<'a> {
         ensures fits { IfOk result FitsPort }
     {
         let mut words = Words::new(text);
-        let verb = port_verb_of(words.next_word()).ok_or(LineFault::UnknownStep)?;
+        let verb = words.port_verb().ok_or(LineFault::UnknownStep)?;
         words.port_line(verb)
     }
 }

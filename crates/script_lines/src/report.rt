@@ -57,8 +57,10 @@ impl Report {
     pub fn print_ok(&mut self) -> Result<(), AllocError>
         ensures { OnOk result (Prints self.old self.new (done_text ∷ [])) }
     {
-        self.last.clear();
-        self.last.extend_from_slice(b"ok")?;
+        if self.last.as_slice() != b"ok".as_slice() {
+            self.last.clear();
+            self.last.extend_from_slice(b"ok")?;
+        }
         self.pending.extend_from_slice(b"ok\n")?;
         Ok(())
     }
