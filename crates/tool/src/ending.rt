@@ -119,6 +119,19 @@ fn tell_difference<E: Write>(
     writeln!(faults, "\"")
 }
 
+/// Writes that a line's command is the first one that the failed queue aborts. It happens once behind a failure, and is kept out
+/// of the way of lines to which it does not.
+#[inline(never)]
+fn write_abort<E: Write>(line: u64, faults: &mut E) -> Result<(), RunError>
+    ensures errors { IfErr result (λ error. error ≡ RunError.Write) }
+{
+    writeln!(
+        faults,
+        "line {line}: aborted: an earlier command failed, and a failed queue serves nothing"
+    )
+    .map_err(|_| RunError::Write)
+}
+
 /// Writes that a line's command is the first one that the failed queue aborts, where it is.
 ///
 /// # Errors
@@ -128,14 +141,10 @@ pub fn tell_abort<E: Write>(aborted: bool, line: u64, faults: &mut E) -> Result<
     ensures quiet { aborted ≡ false → IsOk result × (faults.new ≡ faults.old) }
     ensures errors { IfErr result (λ error. error ≡ RunError.Write) }
 {
-    if !aborted {
-        return Ok(());
+    if aborted {
+        return write_abort(line, faults);
     }
-    writeln!(
-        faults,
-        "line {line}: aborted: an earlier command failed, and a failed queue serves nothing"
-    )
-    .map_err(|_| RunError::Write)
+    Ok(())
 }
 
 /// The status that a run ends with; writes why, where it is not 0. The line that ended the run is

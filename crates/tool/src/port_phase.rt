@@ -321,9 +321,9 @@ impl PortPhase {
             (λ turn. (o : Origin) (list : List Step) → PortRunsOn self.old o list
             → PortDoes line text.now turn self.old self.new o list report.old report.new) }
     {
-        match PortLine::parse(text) {
-            Ok(line) => self.act(&line, text, report),
-            Err(fault) => Ok(Turn::Bad(Fault::Line(fault))),
+        match &PortLine::parse(text) {
+            Ok(line) => self.act(line, text, report),
+            Err(fault) => Ok(Turn::Bad(Fault::Line(*fault))),
         }
     }
 
