@@ -157,7 +157,7 @@ impl EntryRef<'_> {
 }
 
 /// The entries of a history, the oldest first, seen as their list. A step has twelve bytes; the requests of Puts and the
-/// answers of Takes stand beside them, each once, and an answer of zeros that comes again and again but once in all.
+/// answers of Takes stand beside them, each once. Of answers of zeros in a row, all of one length, the first stands for all.
 #[derive(Drop)]
 pub struct Entries {
     marks: Vec<Mark>,
@@ -269,8 +269,8 @@ fn is_last_again(answers: &[Answer], answer: &Answer) -> bool
     }
 }
 
-/// Keeps an answer, for which there is room, and tells its place. Where it is the last one once more it has that one's, as many
-/// reads in a row of sectors that were never written.
+/// Keeps an answer, for which there is room, and tells its place. Where it is the last one once more, it has that one's place:
+/// reads in a row, of one length, of sectors that were never written.
 fn keep_answer(answers: &mut Vec<Answer>, answer: Answer) -> u32
     requires { has_room (vec_len answers.old) (vec_capacity answers.old) ≡ true }
     ensures { IsKept answers.old.items answers.new.items answer result }

@@ -119,8 +119,8 @@ fn tell_difference<E: Write>(
     writeln!(faults, "\"")
 }
 
-/// Writes that a line's command is the first one that the failed queue aborts. It happens once behind a failure, and is kept out
-/// of the way of lines to which it does not.
+/// Writes that a line's command is the first one that the failed queue aborts. It is not inlined,
+/// since its places would be cleared on each line.
 #[inline(never)]
 fn write_abort<E: Write>(line: u64, faults: &mut E) -> Result<(), RunError>
     ensures errors { IfErr result (λ error. error ≡ RunError.Write) }
