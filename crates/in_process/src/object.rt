@@ -35,7 +35,11 @@ impl Object {
     {
         match Box::new(alloc, self) {
             Ok(object) => Ok(object),
-            Err(_) => Err(CallError::OutOfMemory),
+            // Named, it is dropped by a call; behind `_` the prover looks at each field of each kind.
+            Err(refused) => {
+                drop(refused.value);
+                Err(CallError::OutOfMemory)
+            }
         }
     }
 
