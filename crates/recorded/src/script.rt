@@ -212,9 +212,11 @@ fn remaining_lines<R: Read + Drop, W: Write, E: Write, K: Recorder>(
         (λ base came. K.holds base recorder.old came)
         (λ base came. K.holds base recorder.new came)) }
 {
-    opened_lines(
+    let end = opened_lines(
         alloc, &mut run, remarks, lines, reader, report, line, output, faults, recorder,
-    )
+    );
+    drop(run);
+    end
 }
 
 /// Does the lines of a script, and hands on most of what they print and leave behind.
