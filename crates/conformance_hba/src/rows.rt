@@ -202,16 +202,27 @@ fn is_right(
     }
 }
 
-/// The first row of a list of which something else came.
-fn wrong_row(alloc: Global, script: Script) -> Result<Option<usize>, Fail> {
-    let mut hba = Hba::new(alloc, drive(alloc)?);
-    let mut memory = vec![in alloc; 0; SIZE]?;
+/// The first row of a list of which something else came on this controller.
+fn wrong_row_on(
+    hba: &mut Hba,
+    memory: &mut [u8],
+    script: Script,
+) -> Result<Option<usize>, AllocError> {
     for (place, row) in script.rows.iter().enumerate() {
-        if !is_right(&mut hba, &mut memory, script, *row)? {
+        if !is_right(hba, memory, script, *row)? {
             return Ok(Some(place));
         }
     }
     Ok(None)
+}
+
+/// The first row of a list of which something else came on a new controller.
+fn wrong_row(alloc: Global, script: Script) -> Result<Option<usize>, Fail> {
+    let mut memory = vec![in alloc; 0; SIZE]?;
+    let mut hba = Hba::new(alloc, drive(alloc)?);
+    let wrong = wrong_row_on(&mut hba, &mut memory, script);
+    drop(hba);
+    Ok(wrong?)
 }
 
 /// The first of the lists, and of its rows, of which something else came.
