@@ -12,9 +12,6 @@ use std::sync::Wait;
 use std::sync::atomic::{AtomicBool, Ordering};
 use std::thread::{Threads, join};
 
-/// How many bytes a sector has.
-const BLOCK: usize = 512;
-
 /// The turns of an engine.
 const TURNS: u64 = 10_000;
 
@@ -64,7 +61,7 @@ fn request_of(alloc: Global, ask: Ask) -> Result<Request, AllocError> {
     match ask {
         Ask::Read(lba, count) => Ok(Request::Read { lba, count }),
         Ask::Write(lba, byte) => {
-            let bytes = Bytes::from_vec(Vec::from_elem(alloc, byte, BLOCK)?);
+            let bytes = Bytes::from_vec([byte; 512].to_vec(alloc)?);
             Ok(Request::Write { lba, bytes })
         }
     }
@@ -319,18 +316,11 @@ fn have_crossed(history: &Entries, logs: &Logs) -> bool {
     }
 }
 
-/// Whether these are the bytes of one sector, all of them this one.
-fn is_sector_of(bytes: &[u8], byte: u8) -> bool {
-    bytes.len() == BLOCK && bytes.iter().all(|it| *it == byte)
-}
-
 /// Whether an answer is this one.
 fn is_reply(answer: &Answer, reply: Reply) -> bool {
     match reply {
         Reply::Nothing => answer.bytes() == Some(&[]),
-        Reply::Sector(byte) => answer
-            .bytes()
-            .is_some_and(|bytes| is_sector_of(bytes, byte)),
+        Reply::Sector(byte) => answer.bytes() == Some(&[byte; 512][..]),
         Reply::Denied => matches!(
             answer,
             Answer::Failed {
