@@ -94,10 +94,14 @@ pub fn serve<R: Read + Drop, W: Write>(
     ensures served { IfOk result (λ status. ServesHost R.remaining W.contents drive
         (R.remaining input) status (W.contents output.old) (W.contents output.new)) }
 {
-    let mut wire = Wire::new(alloc, input, output)?;
     let mut session = Session::new(alloc, drive);
-    let status = host_served(&mut session, &mut wire)?;
+    let Ok(mut wire) = Wire::new(alloc, input, output) else {
+        session.end();
+        return Err(WireError::Memory);
+    };
+    let served = host_served(&mut session, &mut wire);
     session.end();
     let _ = wire.into_output();
+    let status = served?;
     Ok(status)
 }

@@ -1,6 +1,7 @@
 //! The lock, and the calls of clients and of the engine.
 
 ghost use Rattle.std.specs.Prelude.{◌≡◌, ◌+◌, true, IfOk, IsOkUnless};
+ghost use Rattle.locked_port.specs.Hands.{hands};
 ghost use Rattle.port_history.specs.Requests.{is_sized};
 ghost use Rattle.locked_port.specs.Counts.{client_steps};
 
@@ -12,7 +13,7 @@ use crate::ticket::{Receipt, Ticket};
 use fis::Tag;
 use port::{Built, Entries, Port, PortError, Request, fits};
 use std::alloc::Global;
-use std::sync::ledger::Blank;
+use std::sync::ledger::{Blank, Share};
 use std::sync::{Condvar, Mutex, Wait};
 use tag_board::TagBoard;
 
@@ -62,17 +63,22 @@ impl<L: PortName> LockedPort<L> {
         ensures memory { IsOkUnless result PortError.OutOfMemory }
     {
         let (book, whole) = blank.open::<L>();
-        let (_board, seat) = TagBoard::new(alloc)?;
-        let passes = Pass::deal(alloc, whole, seat, clients as u32 + 1)?;
-        Ok((
-            LockedPort {
-                alloc,
-                desk: Mutex::new(Desk::new(port, book)),
-                moved: Condvar::new(),
-                clients,
-            },
-            passes,
-        ))
+        let desk = Desk::new(port, book);
+        match deal(alloc, whole, clients as u32 + 1) {
+            Ok(passes) => Ok((
+                LockedPort {
+                    alloc,
+                    desk: Mutex::new(desk),
+                    moved: Condvar::new(),
+                    clients,
+                },
+                passes,
+            )),
+            Err(error) => {
+                drop(desk);
+                Err(error)
+            }
+        }
     }
 
     /// A client puts a request. It claims a tag on the board and builds the command first, and takes the lock then.
@@ -263,6 +269,16 @@ impl<L: PortName> LockedPort<L> {
         let client_steps = count_client_steps(port.history());
         Ok(Closed { port, client_steps })
     }
+}
+
+/// The passes of clients and engine, so many, with seats at a board of their own.
+fn deal<L: PortName>(alloc: Global, whole: Share<L>, many: u32) -> Result<Vec<Pass<L>>, PortError>
+    requires { (whole.parts ≡ many) × (whole.amount ≡ 0) }
+    ensures passes { IfOk result (λ passes. passes.items ≡ hands many) }
+    ensures memory { IsOkUnless result PortError.OutOfMemory }
+{
+    let (_board, seat) = TagBoard::new(alloc)?;
+    Pass::deal(alloc, whole, seat, many)
 }
 
 /// Builds the command of a copy of a request. Nothing but memory is refused.

@@ -12,6 +12,9 @@ use std::sync::Wait;
 use std::sync::atomic::{AtomicBool, Ordering};
 use std::thread::{Threads, join};
 
+/// How many bytes a sector has.
+const BLOCK: usize = 512;
+
 /// The turns of an engine.
 const TURNS: u64 = 10_000;
 
@@ -61,7 +64,7 @@ fn request_of(alloc: Global, ask: Ask) -> Result<Request, AllocError> {
     match ask {
         Ask::Read(lba, count) => Ok(Request::Read { lba, count }),
         Ask::Write(lba, byte) => {
-            let bytes = Bytes::from_vec([byte; 512].to_vec(alloc)?);
+            let bytes = Bytes::from_vec(Vec::from_elem(alloc, byte, BLOCK)?);
             Ok(Request::Write { lba, bytes })
         }
     }
@@ -316,11 +319,18 @@ fn have_crossed(history: &Entries, logs: &Logs) -> bool {
     }
 }
 
+/// Whether these are the bytes of one sector, all of them this one.
+fn is_sector_of(bytes: &[u8], byte: u8) -> bool {
+    bytes.len() == BLOCK && bytes.iter().all(|it| *it == byte)
+}
+
 /// Whether an answer is this one.
 fn is_reply(answer: &Answer, reply: Reply) -> bool {
     match reply {
         Reply::Nothing => answer.bytes() == Some(&[]),
-        Reply::Sector(byte) => answer.bytes() == Some(&[byte; 512][..]),
+        Reply::Sector(byte) => answer
+            .bytes()
+            .is_some_and(|bytes| is_sector_of(bytes, byte)),
         Reply::Denied => matches!(
             answer,
             Answer::Failed {
@@ -371,7 +381,11 @@ fn has_replayed(alloc: Global, was: &Port, again: &mut Port) -> Result<bool, Por
 /// Whether a new port does.
 fn is_same_again(alloc: Global, was: &Port) -> bool {
     match port_with(alloc, &LOCKED) {
-        Ok(mut again) => has_replayed(alloc, was, &mut again) == Ok(true),
+        Ok(mut again) => {
+            let is_same = has_replayed(alloc, was, &mut again) == Ok(true);
+            drop(again);
+            is_same
+        }
         Err(_) => false,
     }
 }

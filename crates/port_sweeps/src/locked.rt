@@ -7,7 +7,7 @@ use crate::full::{ends_all, refuses_all};
 use crate::ports::port_with;
 use crate::refusals::is_refusing;
 use drive::RangeRow;
-use locked_port::{Closed, Gate, LockedPort, Pass, Pick, PortName, Receipt};
+use locked_port::{Gate, LockedPort, Pass, Pick, PortName, Receipt};
 use port::{EngineStep, Port, PortError};
 use std::alloc::Global;
 use std::marker::Brand;
@@ -97,13 +97,15 @@ fn closes<L: PortName>(
     requires { L.passes ≡ L.parts }
 {
     match port.close(passes) {
-        Ok(
-            Closed {
-                mut port,
-                client_steps,
-            },
-        ) => trial.is_right_then(alloc, &mut port, client_steps, logs),
-        Err(_) => false,
+        Ok(mut closed) => {
+            let is_right = trial.is_right_then(alloc, &mut closed.port, closed.client_steps, logs);
+            drop(closed);
+            is_right
+        }
+        Err(back) => {
+            drop(back);
+            false
+        }
     }
 }
 

@@ -33,7 +33,7 @@ fn new_drive(alloc: Global) -> Result<Drive, PortError> {
     let Some(config) = DriveConfig::new(SECTORS, SHADOW, MSID) else {
         return Err(PortError::OutOfMemory);
     };
-    Ok(Drive::new(alloc, config)?)
+    Drive::new(alloc, config).map_err(PortError::from)
 }
 
 /// A port over it.
@@ -56,7 +56,10 @@ pub fn port_of(alloc: Global, rows: &[RangeRow]) -> Result<Port, PortError> {
 fn have_same_entries(one: &Entries, two: &Entries) -> bool {
     let mut are_same = one.len() == two.len();
     for at in 0..one.len() {
-        are_same &= one.get(at) == two.get(at);
+        are_same &= match (one.get(at), two.get(at)) {
+            (Some(one), Some(two)) => one == two,
+            _ => false,
+        };
     }
     are_same
 }

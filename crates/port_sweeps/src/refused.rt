@@ -65,7 +65,11 @@ fn played_again(
     times: u64,
 ) -> Result<Outcome, PortError> {
     match port_of(alloc, &script.rows) {
-        Ok(mut two) => compared(one, &mut two, &script.steps, times),
+        Ok(mut two) => {
+            let outcome = compared(one, &mut two, &script.steps, times);
+            drop(two);
+            outcome
+        }
         Err(error) => Err(error),
     }
 }
@@ -79,7 +83,11 @@ fn played_on(alloc: Global, script: &Script, one: &mut Port) -> Result<Outcome, 
 /// Plays a script on two new ports.
 pub fn played(alloc: Global, script: &Script) -> Result<Outcome, PortError> {
     match port_of(alloc, &script.rows) {
-        Ok(mut one) => played_on(alloc, script, &mut one),
+        Ok(mut one) => {
+            let outcome = played_on(alloc, script, &mut one);
+            drop(one);
+            outcome
+        }
         Err(error) => Err(error),
     }
 }

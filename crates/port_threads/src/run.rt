@@ -2,6 +2,7 @@
 
 ghost use Rattle.std.specs.Prelude.{◌≡◌, ◌+◌, ◌*◌, ◌≤◌, ◌<◌, ℕ, map, vec_len, slice_index_or, OnOk, IfOk, IfErr, ◌⊎◌};
 ghost use Rattle.locked_port.specs.Counts.{Stands};
+ghost use Rattle.locked_port.specs.Hands.{hands};
 ghost use Rattle.port_threads.specs.declared.error.LoadError.{LoadError};
 ghost use Rattle.port_threads.specs.Loads.{default_clients, default_rounds};
 ghost use Rattle.port_threads.specs.Rounds.{steps_of_round, Made, AreOf, rounds_of, receipts_of};
@@ -239,6 +240,46 @@ fn run_all<L: PortName + Send + Sync, R: Threads + Wait + Sync>(
     Ok(works)
 }
 
+/// What the clients of a load tell of a port, which is let go then.
+fn facts_at<L: PortName + Send + Sync, R: Threads + Wait + Sync>(
+    rt: &R,
+    alloc: Global,
+    shared: LockedPort<L>,
+    passes: Vec<Pass<L>>,
+    load: &Load,
+) -> Result<Facts, LoadError>
+    requires parts { L.passes ≡ L.parts }
+    requires whole { passes.items ≡ hands (load.now.clients + 1) }
+    ensures told { IfOk result (λ facts. AreFactsOf load.now.clients load.now.rounds facts) }
+    ensures errors { IfErr result
+        (λ error. (error ≡ LoadError.Memory) ⊎ (error ≡ LoadError.Thread)) }
+{
+    let works = run_all(rt, alloc, &shared, passes, load);
+    let Works {
+        passes,
+        receipts,
+        rounds,
+    } = match works {
+        Ok(works) => works,
+        Err(error) => {
+            drop(shared);
+            return Err(error);
+        }
+    };
+    // no pass is missing
+    match shared.close(passes) {
+        Ok(closed) => {
+            let facts = Facts::of(&closed, rounds, &receipts);
+            drop(closed);
+            Ok(facts)
+        }
+        Err(back) => {
+            drop(back);
+            Err(LoadError::Memory)
+        }
+    }
+}
+
 /// What the clients of a load tell of a new port.
 fn facts_of<L: PortName + Send + Sync, R: Threads + Wait + Sync>(
     rt: &R,
@@ -258,16 +299,7 @@ fn facts_of<L: PortName + Send + Sync, R: Threads + Wait + Sync>(
     let Ok((shared, passes)) = LockedPort::<L>::new(alloc, blank, port, load.clients) else {
         return Err(LoadError::Memory);
     };
-    let Works {
-        passes,
-        receipts,
-        rounds,
-    } = run_all(rt, alloc, &shared, passes, load)?;
-    // no pass is missing
-    let Ok(closed) = shared.close(passes) else {
-        return Err(LoadError::Memory);
-    };
-    Ok(Facts::of(&closed, rounds, &receipts))
+    facts_at(rt, alloc, shared, passes, load)
 }
 
 /// Whether all rounds were made, no client step is beside them, and the receipts are those of the history.

@@ -206,7 +206,9 @@ fn remaining_lines<R: Read + Drop, W: Write, E: Write>(
         RunLeads head run line.old.items (reader_remaining R.remaining reader.old) end
         report.old report.new (W.contents output.old) (W.contents output.new)) }
 {
-    running_lines(&mut run, head, reader, report, line, output, faults)
+    let end = running_lines(&mut run, head, reader, report, line, output, faults);
+    drop(run);
+    end
 }
 
 /// Does the lines of a script, and hands on most of the answers.
