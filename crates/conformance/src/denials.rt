@@ -236,17 +236,28 @@ fn is_right(
     }
 }
 
-/// The first row of a list of which something else came.
-fn wrong_row(alloc: Global, rows: &[Row]) -> Result<Option<usize>, Fail> {
-    let mut drive = drive(alloc)?;
+/// The first row of a list of which something else came on this drive.
+fn wrong_row_on(
+    alloc: Global,
+    drive: &mut Explained,
+    rows: &[Row],
+) -> Result<Option<usize>, AllocError> {
     for (place, row) in rows.iter().enumerate() {
         let line = (place as u64).saturating_add(1);
         let source = Source { line, client: 7 };
-        if !is_right(alloc, &mut drive, *row, source)? {
+        if !is_right(alloc, drive, *row, source)? {
             return Ok(Some(place));
         }
     }
     Ok(None)
+}
+
+/// The same on a new drive.
+fn wrong_row(alloc: Global, rows: &[Row]) -> Result<Option<usize>, Fail> {
+    let mut drive = drive(alloc)?;
+    let wrong = wrong_row_on(alloc, &mut drive, rows);
+    drop(drive);
+    Ok(wrong?)
 }
 
 /// The lists, each on a drive of its own.
