@@ -10,7 +10,7 @@ use Rattle.sp_cells.specs.declared.cells.Cell.TheVariants.{Expr, Columns}
 use Rattle.sp_cells.specs.ColumnNames.{boolean_expr_column, columns_column}
 use Rattle.sp_cells.specs.Flat.{LookUp}
 use Rattle.ace_eval.specs.declared.aces.Missing.{Missing}
-use Rattle.access_list.specs.Access.{access_list, acl_in}
+use Rattle.ace_eval.specs.Access.{access_list, acl_in}
 use Rattle.ace_eval.specs.Truth.{has, Holds}
 use Rattle.ace_eval.specs.Evaluation.{is_satisfied}
 

@@ -1,3 +1,4 @@
 pub mod Truth
 pub mod Evaluation
 pub mod Aces
+pub mod Access

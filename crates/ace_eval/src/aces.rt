@@ -3,9 +3,9 @@
 ghost use Rattle.std.specs.Prelude.{◌≡◌, ◌≤◌, ◌<◌, ◌↔◌, ◌+◌, [], ◌∷◌, ◌++◌, length, filter, IsOk, MatchResult, Some, None, is_some, unwrap_or};
 ghost use Rattle.ace_eval.specs.Aces.{has_column, names, names_in, holds_in, holds_at, naming, first_holding, acl_at, ace_of, Answers, HasAce};
 
+use crate::access_list::access_row;
 use crate::authorities::Authorities;
 use crate::expressions::holds;
-use access_list::access_row;
 use arrayvec::ArrayVec;
 use sp_cells::{Cell, Column, Rows, Sp, Uid};
 

@@ -1,6 +1,7 @@
 //! Who may do what: expressions over authorities, and the access control element (ACE) that allows a method.
 #![tactic(auto)]
 
+pub mod access_list;
 pub mod aces;
 pub mod authorities;
 pub mod expressions;

@@ -4,6 +4,7 @@
 mod line;
 mod names;
 mod reason;
+pub mod rules;
 
 pub use line::line_bytes;
 pub use reason::{AttemptFailure, AuditLine, Why};

@@ -6,8 +6,8 @@ ghost use Rattle.trusted_cmds.specs.Commands.{lba_of, IsCounted};
 
 use compacket::{Session, frame};
 use drive::{Accepted, Drive, DriveConfig, RangeRow, ResetKind};
-use explained::{Explained, Source};
 use fis::Tag;
+use reasons::explained::{Explained, Source};
 use std::alloc::{AllocError, Global};
 use std::test::Fail;
 use trusted_cmds::{Command, to_fis};

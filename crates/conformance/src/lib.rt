@@ -3,6 +3,7 @@
 #![tactic(auto)]
 
 #[cfg(test)]
+pub mod conformance_hba;
 mod denials;
 #[cfg(test)]
 mod port_steps;

@@ -7,7 +7,7 @@ use Rattle.compacket.specs.declared.error.FrameError.TheVariants.{Short}
 use Rattle.tcg_tokens.specs.Message.{Message}
 use Rattle.tcg_tokens.specs.Reading as tokens
 use Rattle.tcg_tokens.specs.declared.error.TokenError.{TokenError}
-use Rattle.named_tokens.specs.NamedText.{or_text, named_item_text_of}
+use Rattle.tcg_calls.specs.NamedText.{or_text, named_item_text_of}
 use Rattle.decoded.specs.declared.field.Form.TheVariants.{Decimal, Hex}
 use Rattle.decoded.specs.Fields.{FieldRow, field, big_endian, prefixed_hex, field_line, row_lines, cut_field}
 use Rattle.decoded.specs.Faults.{BytesFault, cut_in, no_frame, earlier, fields_fault}

@@ -2,7 +2,7 @@
 
 ghost use Rattle.std.specs.Prelude.{◌≡◌, ◌==◌, ◌++◌, OnOk, length, codes};
 ghost use Rattle.compacket.specs.Frames.{reading, fault_of, com_packet_length};
-ghost use Rattle.named_tokens.specs.NamedText.{or_text};
+ghost use Rattle.tcg_calls.specs.NamedText.{or_text};
 ghost use Rattle.decoded.specs.Fields.{rows_of, cut_field};
 ghost use Rattle.decoded.specs.Faults.{Checks};
 ghost use Rattle.decoded.specs.Carried.{com_packet_fields, packet_fields, payload_line, carried_lines, com_packet_lines, frame_fault_said, com_packet_wrong};
@@ -14,8 +14,8 @@ use crate::field::{
 };
 use byteorder::{BigEndian, ByteOrder};
 use compacket::{FrameError, open};
-use named_tokens::named_item_text;
 use std::alloc::{AllocError, Global};
+use tcg_calls::named_tokens::named_item_text;
 use tcg_tokens::{TokenError, read_item};
 
 const COM_PACKET: [Field; 5] = [

@@ -6,6 +6,7 @@ mod paint;
 mod picture;
 mod svg;
 mod text;
+pub mod waveform;
 
 pub use paint::Paint;
 pub use picture::{Bar, Mark, Picture};

@@ -59,8 +59,8 @@ use Rattle.drive.specs.Answers.{fises_in, IsAnswer, IsDoneAndAnswered}
 use Rattle.shadow_mbr.specs.declared.erasure.Erasure.{Erasure}
 use Rattle.shadow_mbr.specs.Erasure.{is_erased}
 use Rattle.drive.proofs.Keeping.{seen-is, nothing-keeps, failed-keeps, holds-keeps, moved-keeps, mended-keeps, tper-keeps, sends-of-tper, sends-erase, sent-deed, IsOfTper}
-use Rattle.rules.specs.declared.rule.Rule.TheVariants.{NoCommand, NoFrame}
-use Rattle.rules.specs.declared.rule.Rule.{Rule}
+use Rattle.audit.specs.declared.rules.rule.Rule.TheVariants.{NoCommand, NoFrame}
+use Rattle.audit.specs.declared.rules.rule.Rule.{Rule}
 
 -- what is sent and received
 

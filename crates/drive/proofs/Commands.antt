@@ -24,7 +24,7 @@ use Rattle.drive.specs.Transfer.{transfer_by, queued_command, held_command}
 use Rattle.drive.specs.Queue.{slot_at, held_at}
 use Rattle.drive.specs.Decision.{transfer_deed}
 use Rattle.drive.specs.State.{DriveState, kept_facts}
-use Rattle.rules.specs.declared.rule.Rule.TheVariants.{NoCommand, SidKept}
+use Rattle.audit.specs.declared.rules.rule.Rule.TheVariants.{NoCommand, SidKept}
 
 -- what is in a slot is held
 pub held-some : (x : Option Held) → is_some (option_map held_command x) ≡ is_some x

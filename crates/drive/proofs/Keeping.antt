@@ -33,7 +33,7 @@ use Rattle.drive.specs.Decision.{transfer_deed}
 use Rattle.drive.specs.Queue.{slot_at, held_at, with_slot, failed_queue, mended_queue, empty_queue}
 use Rattle.drive.specs.State.{DriveState, kept_facts, KeepsDrive}
 use Rattle.drive.proofs.Slots.{no_slot, none_length, slot_set}
-use Rattle.rules.specs.declared.rule.Rule.TheVariants.{NoFrame}
+use Rattle.audit.specs.declared.rules.rule.Rule.TheVariants.{NoFrame}
 
 -- what is kept shows the facts of the past
 pub seen-is : (d : DriveState) (o : Origin) (past : List Event) → KeepsDrive d o past → kept_facts d (facts o past) ≡ facts o past

@@ -20,7 +20,7 @@ use Rattle.drive.specs.declared.transfer.Transfer.{Transfer}
 use Rattle.drive.specs.Decision.{ranges_of, Refused, told, by_verdict, policy, policy_on}
 use Rattle.drive.specs.Transfer.{is_on_drive, StandsOnDrive}
 use Rattle.drive.specs.State.{DriveState, kept_facts}
-use Rattle.rules.specs.declared.rule.Rule.TheVariants.{BeyondDrive}
+use Rattle.audit.specs.declared.rules.rule.Rule.TheVariants.{BeyondDrive}
 
 -- a verdict that permits
 abbrev permitting : Bool → Verdict

@@ -15,11 +15,11 @@ ghost use Rattle.sp_cells.specs.Config.{Config};
 use crate::decision::{ABORTED, Cause, Decision};
 use crate::drive::Drive;
 use crate::transfer::{Held, Transfer};
+use audit::rules::Rule;
 use basics::Profile;
 use device_data::Failure;
 use fis::{RegH2d, Tag};
 use locking::Op;
-use rules::Rule;
 use tper::is_session_com_id;
 use trusted_cmds::{Command, is_protocol_list, is_queued, of_fis, sectors, tag_of};
 

@@ -5,10 +5,10 @@ ghost use Rattle.drive.specs.Decision.{policy, told, reason, ruling};
 
 use crate::transfer::{Held, Transfer};
 use audit::Why;
+use audit::rules::Rule;
 use device_data::Failure;
 use fis::Tag;
 use locking::{Denier, Judgement, Ranges};
-use rules::Rule;
 use trusted_cmds::Command;
 
 /// A transfer that is denied, and what denies it.

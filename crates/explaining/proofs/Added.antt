@@ -1,6 +1,6 @@
 -- The acts of a line, and what they denied.
 use Rattle.std.proofs.Common.{◌≡◌, ◌∙◌, ℕ, ◌-◌, Bool, true, false, List, [], ◌∷◌, ◌++◌, take, map, length, refl, sym, ap, subst, codes, inl, inr, arith, Option, Some, None}
-use Rattle.rules.specs.declared.rule.Rule.{Rule}
+use Rattle.audit.specs.declared.rules.rule.Rule.{Rule}
 use Rattle.std.specs.Prelude.{◌⊎◌, suc, is_some, ◌||◌, if◌then◌else◌}
 use Rattle.audit.specs.declared.reason.Why.{Why}
 use Rattle.trusted_cmds.specs.declared.command.Command.{Command}
@@ -10,12 +10,12 @@ use Rattle.history.specs.Events.{Event, HeldCommand}
 use Rattle.history.specs.Decisions.{completed, completed_by}
 use Rattle.history.specs.History.{Act, Accept, Complete, Reset, log, event}
 use Rattle.history.specs.Readers.{in_force, held}
-use Rattle.explained.specs.declared.onset.Source.{Source}
-use Rattle.remedies.specs.Remedies.{remedy_text}
-use Rattle.explained.specs.Conditions.{conditions_of}
-use Rattle.explained.specs.Onsets.{Sourced, bare_acts, held_since, holds_after}
-use Rattle.explained.specs.Reasons.{reasons_text}
-use Rattle.rules.specs.Words.{rule_words}
+use Rattle.reasons.specs.declared.explained.onset.Source.{Source}
+use Rattle.reasons.specs.Remedies.{remedy_text}
+use Rattle.reasons.specs.Conditions.{conditions_of}
+use Rattle.reasons.specs.Onsets.{Sourced, bare_acts, held_since, holds_after}
+use Rattle.reasons.specs.Reasons.{reasons_text}
+use Rattle.audit.specs.Words.{rule_words}
 use Rattle.explaining.specs.Explanations.{added, from_source, attributed, no_objection, objection_of, objection_in, denial_text, objection_text, told_reasons, once_served}
 
 -- the first items of a list, by how many stand behind them

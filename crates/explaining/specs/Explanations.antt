@@ -2,15 +2,15 @@
 -- what would lift it; of any other the rule.
 use Rattle.std.specs.Prelude.{ℕ, ◌-◌, ◌||◌, Bool, codes, if◌then◌else◌, List, [], ◌∷◌, ◌++◌, map, take, length, Option, None, Some, is_some}
 use Rattle.audit.specs.declared.reason.Why.{Why}
-use Rattle.rules.specs.declared.rule.Rule.{Rule}
-use Rattle.rules.specs.Words.{rule_words}
+use Rattle.audit.specs.declared.rules.rule.Rule.{Rule}
+use Rattle.audit.specs.Words.{rule_words}
 use Rattle.history.specs.Opening.{Origin}
 use Rattle.history.specs.Events.{Event}
 use Rattle.history.specs.History.{Act, Accept, Complete, log}
 use Rattle.history.specs.Readers.{in_force}
-use Rattle.explained.specs.declared.onset.Source.{Source}
-use Rattle.explained.specs.Onsets.{Sourced, bare_acts, held_since, holds_after}
-use Rattle.explained.specs.Reasons.{explanation_text}
+use Rattle.reasons.specs.declared.explained.onset.Source.{Source}
+use Rattle.reasons.specs.Onsets.{Sourced, bare_acts, held_since, holds_after}
+use Rattle.reasons.specs.Reasons.{explanation_text}
 
 -- how many acts stand before the earlier ones
 abbrev pub added : List Act → List Sourced → ℕ

@@ -15,8 +15,8 @@ use Rattle.port.specs.State.{PortState}
 use Rattle.port_history.specs.Steps.{Effect as ActEffect, Moment, moment, trace, acts, stage, accepted_rule}
 use Rattle.port_history.specs.declared.step.Step.{Step}
 use Rattle.port_history.specs.declared.step.Step.TheVariants as steps
-use Rattle.rules.specs.declared.rule.Rule.{Rule}
-use Rattle.remedies.specs.Remedies.{remedy_text}
+use Rattle.audit.specs.declared.rules.rule.Rule.{Rule}
+use Rattle.reasons.specs.Remedies.{remedy_text}
 use Rattle.port_history.specs.Stages.{put_at}
 use Rattle.port_history.specs.declared.error.PortError.{PortError}
 use Rattle.port_history.specs.declared.error.PortError.TheVariants as errors

@@ -2,7 +2,7 @@
 use Rattle.std.specs.Prelude.{ℕ}
 use Rattle.script_lines.specs.declared.line.Line as told
 use Rattle.script_lines.specs.declared.line.Line.TheVariants as lines
-use Rattle.explained.specs.declared.onset.Source.{Source}
+use Rattle.reasons.specs.declared.explained.onset.Source.{Source}
 
 -- the client of a line; 0 where it asks for nothing
 abbrev pub asking_client : told.Line → ℕ

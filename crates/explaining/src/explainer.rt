@@ -3,9 +3,9 @@
 ghost use Rattle.std.specs.Prelude.{◌≡◌, IfOk};
 ghost use Rattle.explaining.specs.Explanations.{rule_text};
 
+use audit::rules::{Rule, rule_words};
 use drive::{Accepted, Drive, ResetKind};
-use explained::{Cause, Chronicle, Source, cause_in};
-use rules::{Rule, rule_words};
+use reasons::explained::{Cause, Chronicle, Source, cause_in};
 use script_lines::Report;
 use std::alloc::{AllocError, Global};
 use std::marker::Model;
@@ -18,7 +18,7 @@ pub struct Explainer {
 }
 
 impl Model for Explainer {
-    ghost use Rattle.explained.specs.Chronicles.{KeptOnsets};
+    ghost use Rattle.reasons.specs.Chronicles.{KeptOnsets};
 
     ghost Value = { KeptOnsets };
 
@@ -45,8 +45,8 @@ impl Explainer {
     ghost use Rattle.history.specs.Readers.{in_force};
     ghost use Rattle.history.specs.Resets.{reset_kind_number};
     ghost use Rattle.drive.specs.State.{Agrees};
-    ghost use Rattle.explained.specs.Onsets.{Sourced, bare_acts, cause_of};
-    ghost use Rattle.explained.specs.Chronicles.{Recounts};
+    ghost use Rattle.reasons.specs.Onsets.{Sourced, bare_acts, cause_of};
+    ghost use Rattle.reasons.specs.Chronicles.{Recounts};
     ghost use Rattle.explaining.specs.Explanations.{from_source, attributed, once_served, denial_text};
 
     /// Of a drive that has done no act.

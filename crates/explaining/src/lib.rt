@@ -5,7 +5,7 @@ mod explainer;
 mod port_reasons;
 mod source;
 
-pub use explained::Source;
 pub use explainer::Explainer;
 pub use port_reasons::{acceptance, acceptance_of, port_refusal, refusal_of, slot_refusal};
+pub use reasons::explained::Source;
 pub use source::source_of;

@@ -12,11 +12,11 @@ ghost use Rattle.explaining.specs.PortReasons.{slot_of, step_refusal_text, accep
 
 use crate::explainer::ruling;
 use audit::Why;
+use audit::rules::Rule;
 use fis::{SLOT_COUNT, Tag};
 use port::Port;
 use port_history::{PortError, Put, Stage, Step};
-use remedies::remedy_bytes;
-use rules::Rule;
+use reasons::remedies::remedy_bytes;
 use sp_cells::Rows;
 use std::alloc::{AllocError, Global};
 

@@ -3,7 +3,7 @@
 ghost use Rattle.std.specs.Prelude.{◌≡◌};
 ghost use Rattle.explaining.specs.Sources.{asking_client, source_of};
 
-use explained::Source;
+use reasons::explained::Source;
 use script_lines::Line;
 
 /// The client of a line; 0 where it asks for nothing.

@@ -10,8 +10,8 @@ use Rattle.history.specs.Answers.{errored, ready, answer_fis, served_fises, fise
 use Rattle.history.specs.Events.{HeldCommand}
 use Rattle.port_history.specs.Registers.{raised, with_task, task_error_bit, carried, all_shown}
 use Rattle.hba.specs.declared.registers.Registers.{Registers}
-use Rattle.hba_memory.specs.declared.miss.Miss.{Miss}
-use Rattle.hba_memory.specs.declared.miss.Miss.TheVariants as misses
+use Rattle.host_memory.specs.declared.hba_memory.miss.Miss.{Miss}
+use Rattle.host_memory.specs.declared.hba_memory.miss.Miss.TheVariants as misses
 use Rattle.hba.specs.Showing.{served, fetching}
 use Rattle.hba.specs.Laws.{ToldByDeviceBits}
 

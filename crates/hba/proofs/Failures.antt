@@ -8,10 +8,10 @@ use Rattle.history.specs.Tcg.{answer_data, answer_fises}
 use Rattle.history.specs.Events.{Event}
 use Rattle.history.specs.Facts.{Facts}
 use Rattle.hba.specs.declared.registers.Registers.{Registers}
-use Rattle.hba_memory.specs.declared.miss.Miss.{Miss}
-use Rattle.hba_memory.specs.declared.miss.Miss.TheVariants as misses
-use Rattle.hba_memory.specs.declared.delivery.Place.{Place}
-use Rattle.hba_memory.specs.Memory.{descriptors_of, Scatters, Counts, PostsTo, After, Then, Delivers}
+use Rattle.host_memory.specs.declared.hba_memory.miss.Miss.{Miss}
+use Rattle.host_memory.specs.declared.hba_memory.miss.Miss.TheVariants as misses
+use Rattle.host_memory.specs.declared.hba_memory.delivery.Place.{Place}
+use Rattle.host_memory.specs.Memory.{descriptors_of, Scatters, Counts, PostsTo, After, Then, Delivers}
 use Rattle.hba.specs.Showing.{served, fetching}
 use Rattle.hba.specs.Laws.{TellsError, Halts, GivesNothing}
 

@@ -14,10 +14,10 @@ use Rattle.drive.specs.Queue.{held_at}
 use Rattle.slots.specs.Layout.{header_size, descriptor_size}
 use Rattle.host_memory.specs.Access.{Access, Asked, IsAccess, Accessed, OnlyReads, AreReads}
 use Rattle.host_memory.proofs.Accesses.{accessed_append}
-use Rattle.hba_memory.specs.declared.miss.Miss.{Miss}
-use Rattle.hba_memory.specs.declared.reading.Header.{Header}
-use Rattle.hba_memory.specs.declared.delivery.Place.{Place}
-use Rattle.hba_memory.specs.Memory.{header_by, carries_command, descriptors_of, data_len, Gathers, BringsNext, BringsEntry, BringsBlock, PostsTo, Delivers}
+use Rattle.host_memory.specs.declared.hba_memory.miss.Miss.{Miss}
+use Rattle.host_memory.specs.declared.hba_memory.reading.Header.{Header}
+use Rattle.host_memory.specs.declared.hba_memory.delivery.Place.{Place}
+use Rattle.host_memory.specs.Memory.{header_by, carries_command, descriptors_of, data_len, Gathers, BringsNext, BringsEntry, BringsBlock, PostsTo, Delivers}
 use Rattle.hba.specs.declared.registers.Registers.{Registers}
 use Rattle.hba.specs.declared.work.Work.{Work}
 use Rattle.hba.specs.declared.work.Work.TheVariants as works

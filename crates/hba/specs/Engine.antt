@@ -19,11 +19,11 @@ use Rattle.hba.specs.declared.work.Done.{Done}
 use Rattle.hba.specs.declared.work.Done.TheVariants as dones
 use Rattle.hba.specs.declared.work.Turned.{Turned}
 use Rattle.hba.specs.declared.registers.Registers.{Registers}
-use Rattle.hba_memory.specs.declared.miss.Miss.{Miss}
-use Rattle.hba_memory.specs.declared.miss.Miss.TheVariants as misses
-use Rattle.hba_memory.specs.declared.reading.Header.{Header}
-use Rattle.hba_memory.specs.declared.delivery.Place.{Place}
-use Rattle.hba_memory.specs.Memory.{header_by, carries_command, descriptors_of, Gathers, PostsTo, Delivers}
+use Rattle.host_memory.specs.declared.hba_memory.miss.Miss.{Miss}
+use Rattle.host_memory.specs.declared.hba_memory.miss.Miss.TheVariants as misses
+use Rattle.host_memory.specs.declared.hba_memory.reading.Header.{Header}
+use Rattle.host_memory.specs.declared.hba_memory.delivery.Place.{Place}
+use Rattle.host_memory.specs.Memory.{header_by, carries_command, descriptors_of, Gathers, PostsTo, Delivers}
 use Rattle.hba.specs.Showing.{fault_of}
 use Rattle.hba.specs.History.{Operation, Wrote, Powered, Signed, Missed, Controlled, Fetched, Completed, Account, State, AgreesHba, account, effect_after, operation_denied}
 use Rattle.hba.specs.Ready.{picked, ready_after}

@@ -10,7 +10,7 @@ use Rattle.drive.specs.State.{DriveState, Agrees}
 use Rattle.audit.specs.declared.reason.Why.{Why}
 use Rattle.port_history.specs.Steps.{Effect, effect_by}
 use Rattle.hba.specs.declared.registers.Registers.{Registers}
-use Rattle.hba_memory.specs.declared.miss.Miss.{Miss}
+use Rattle.host_memory.specs.declared.hba_memory.miss.Miss.{Miss}
 use Rattle.hba.specs.Registers.{reset_registers, written_at, write_resets}
 use Rattle.hba.specs.Showing.{signed, faulted, controlled, fetching, served}
 

@@ -16,9 +16,9 @@ use Rattle.history.specs.TransferLaws.{IsPermitted}
 use Rattle.port_history.specs.Registers.{register_bit, task_error_bit}
 use Rattle.hba.specs.declared.registers.Registers.{Registers}
 use Rattle.host_memory.specs.Access.{Access}
-use Rattle.hba_memory.specs.declared.miss.Miss.{Miss}
-use Rattle.hba_memory.specs.declared.delivery.Place.{Place}
-use Rattle.hba_memory.specs.Memory.{Delivers, PostsTo}
+use Rattle.host_memory.specs.declared.hba_memory.miss.Miss.{Miss}
+use Rattle.host_memory.specs.declared.hba_memory.delivery.Place.{Place}
+use Rattle.host_memory.specs.Memory.{Delivers, PostsTo}
 use Rattle.hba.specs.History.{Operation, Wrote, Powered, Fetched, Completed, account, acts_of, regs_of, effect_after}
 
 -- The registers tell the error: PxTFD has it, and PxIS has TFES.

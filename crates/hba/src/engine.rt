@@ -10,7 +10,9 @@ use crate::hba::{Hba, one_more};
 use crate::work::{Done, Outcome, Work, fault_of};
 use drive::{Accepted, Completed, DriveError};
 use fis::{Fis, H2D_LENGTH, Lba, RegD2h, RegH2d, Tag};
-use hba_memory::{Header, Miss, Place, deliver, gather, header_by, is_command, post_all};
+use host_memory::hba_memory::{
+    Header, Miss, Place, deliver, gather, header_by, is_command, post_all,
+};
 use host_memory::{HostMemory, read_array};
 use std::alloc::AllocError;
 use std::mem::replace;

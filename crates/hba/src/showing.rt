@@ -6,8 +6,8 @@ ghost use Rattle.port_history.specs.Registers.{is_finished, carried, with_task, 
 
 use crate::registers::Registers;
 use fis::{Fis, Tag};
-use hba_memory::Miss;
 use hba_regs::{PortRegs, PxIs};
+use host_memory::hba_memory::Miss;
 
 /// BSY, DRQ and ERR of a status (ACS-3, Status field).
 const UNFINISHED: u8 = 0x89;

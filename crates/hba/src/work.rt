@@ -10,7 +10,7 @@ use crate::hba::Hba;
 use arrayvec::ArrayVec;
 use drive::Why;
 use fis::Tag;
-use hba_memory::Miss;
+use host_memory::hba_memory::Miss;
 use thiserror::Error;
 
 /// A piece of work of the engine.

@@ -21,8 +21,8 @@ use Rattle.port_history.specs.declared.request.Answer.TheVariants as answers
 use Rattle.port_history.specs.Stages.{is_queued_command}
 use Rattle.port_history.specs.Steps.{answered_with}
 use Rattle.headline.specs.Transfers.{Transfer, transfer_of}
-use Rattle.rules.specs.declared.rule.Rule.TheVariants.{BeyondDrive}
-use Rattle.rules.specs.declared.rule.Rule.{Rule}
+use Rattle.audit.specs.declared.rules.rule.Rule.TheVariants.{BeyondDrive}
+use Rattle.audit.specs.declared.rules.rule.Rule.{Rule}
 
 -- The answer to a transfer, by the facts at its acceptance, and those at the act that moves its data.
 abbrev pub moved_by : Facts → Op → ℕ → ℕ → Verdict → List ℕ

@@ -37,7 +37,7 @@ use Rattle.headline.specs.Steps.{past_of, facts_after, through_move}
 use Rattle.headline.specs.Transfers.{Transfer, transfer_of, HaveData}
 use Rattle.headline.proofs.Came.{executed}
 use Rattle.headline.proofs.KeptTransfers.{this_if, other_if, skips, takes, itself, unqueued_event, executed_now}
-use Rattle.rules.specs.declared.rule.Rule.TheVariants.{BeyondDrive}
+use Rattle.audit.specs.declared.rules.rule.Rule.TheVariants.{BeyondDrive}
 
 -- A write that is done has its data in media after those events.
 abbrev pub Lands : List Event → Transfer → List ℕ → Option Answer → Type 0

@@ -12,11 +12,11 @@ use Rattle.tcg_tokens.specs.Tree.{Tree, Trees}
 use Rattle.trusted_cmds.specs.declared.command.Command.{Command}
 use Rattle.trusted_cmds.specs.declared.command.Command.TheVariants.{Send}
 use Rattle.trusted_cmds.specs.Commands.{fis_of, tag_with, is_queued as is_queued_code}
-use Rattle.call_shapes.specs.Asks.{uid_of}
-use Rattle.call_shapes.specs.Statuses.{fail, invalid_parameter, response_overflow, not_authorized}
-use Rattle.call_shapes.specs.declared.ask.Ask.{Ask}
-use Rattle.call_shapes.specs.declared.ask.Ask.TheVariants.{GetCells, GetBytes, SetCells, SetBytes, Authenticate, Activate, Revert, GenKey, RevertSp, Other}
-use Rattle.call_shapes.specs.Limits.{most_response}
+use Rattle.tcg_calls.specs.Asks.{uid_of}
+use Rattle.tcg_calls.specs.Statuses.{fail, invalid_parameter, response_overflow, not_authorized}
+use Rattle.tcg_calls.specs.declared.call_shapes.ask.Ask.{Ask}
+use Rattle.tcg_calls.specs.declared.call_shapes.ask.Ask.TheVariants.{GetCells, GetBytes, SetCells, SetBytes, Authenticate, Activate, Revert, GenKey, RevertSp, Other}
+use Rattle.tcg_calls.specs.Limits.{most_response}
 use Rattle.sessions.specs.Starts.{is_in_use}
 use Rattle.shadow_mbr.specs.Erasure.{no_sectors, all_sectors}
 use Rattle.methods.specs.Effects.{has_ask}
@@ -60,8 +60,8 @@ use Rattle.headline.specs.Steps.{facts_after, event_after}
 use Rattle.headline.proofs.AuditLaws.{lawful_before}
 use Rattle.headline.proofs.Rising.{listed_rises}
 use Rattle.headline.specs.Methods.{IsCallStep, IsGrantedAt, comes_to, EffectIs, refused_with, DoesSo, Lists, IsJudged, MethodLaw}
-use Rattle.rules.specs.declared.rule.Rule.TheVariants.{OutsideTable, TooLong, GlobalLocked}
-use Rattle.rules.specs.declared.rule.Rule.{Rule}
+use Rattle.audit.specs.declared.rules.rule.Rule.TheVariants.{OutsideTable, TooLong, GlobalLocked}
+use Rattle.audit.specs.declared.rules.rule.Rule.{Rule}
 
 -- a ComID of sessions has 16 bits
 com_id_fits : (com_id : ℕ) → is_session_com_id com_id ≡ true → com_id % 65536 ≡ com_id

@@ -9,7 +9,7 @@ use Rattle.sp_cells.specs.declared.cells.Cell.TheVariants.{Number}
 use Rattle.sp_cells.specs.declared.names.Sp.TheVariants.{Locking}
 use Rattle.sp_cells.specs.ColumnNames.{read_locked_column}
 use Rattle.sp_cells.specs.Names.{range_uid}
-use Rattle.sp_rows.specs.Factory.{admin_sps, admin_authorities, locking_authorities, admin_pins, locking_pins, locking_ranges, locking_mbr_controls, admin_aces, authority_aces, pin_aces, range_get_aces, range_aces, mbr_aces}
+use Rattle.sp_tables.specs.Factory.{admin_sps, admin_authorities, locking_authorities, admin_pins, locking_pins, locking_ranges, locking_mbr_controls, admin_aces, authority_aces, pin_aces, range_get_aces, range_aces, mbr_aces}
 use Rattle.locking.specs.Ranges.{ranges_in}
 use Rattle.locking.specs.Verdict.{verdict_of}
 use Rattle.locking.specs.declared.range.Op.{Op}
@@ -38,7 +38,7 @@ use Rattle.headline.specs.Transfers.{IsAnswered, IsAllowed}
 use Rattle.headline.proofs.NoTraceLaws.{open_law_of_steps, abort_law_of_steps}
 use Rattle.headline.proofs.Scenes.{are_lawful, are_lawful_by, lawful_by, lays, brings}
 use Rattle.headline.proofs.TransferLaws.{transfer_law}
-use Rattle.rules.specs.declared.rule.Rule.TheVariants.{Protocol}
+use Rattle.audit.specs.declared.rules.rule.Rule.TheVariants.{Protocol}
 
 -- A command set of one byte, without sessions: 1 locks range 1 against reads, 2 begins a transaction,
 -- 3 aborts it.

@@ -14,8 +14,8 @@ use Rattle.compacket.specs.Frames.{Frame}
 use Rattle.tcg_tokens.specs.Spelling.{item_spelling_of, number_spelling, bytes_spelling}
 use Rattle.tcg_tokens.specs.Tree.{Trees, trees_of}
 use Rattle.trusted_cmds.specs.declared.command.Command.TheVariants.{Send}
-use Rattle.call_shapes.specs.Asks.{uid_of}
-use Rattle.call_shapes.specs.declared.ask.Ask.TheVariants.{SetCells, Revert}
+use Rattle.tcg_calls.specs.Asks.{uid_of}
+use Rattle.tcg_calls.specs.declared.call_shapes.ask.Ask.TheVariants.{SetCells, Revert}
 use Rattle.shadow_mbr.specs.Erasure.{no_sectors, all_sectors}
 use Rattle.basics.specs.declared.profile.Profile.TheVariants.{Base}
 use Rattle.methods.specs.Laws.{are_rising, takes_effect}
@@ -25,8 +25,8 @@ use Rattle.sessions.specs.Deeds.{Begun, cells_set, Sets, SessionDeed, Unchanged,
 use Rattle.headline.specs.Methods.{IsCallStep, EffectIs, standing_at, comes_to}
 use Rattle.sp_cells.specs.Authorities.{authorities_of_locking}
 use Rattle.sp_tables.specs.Faults.{any_to}
-use Rattle.sp_rows.specs.Factory.{admin_sps, admin_authorities, locking_authorities, admin_pins, locking_pins, locking_ranges, locking_mbr_controls, admin_aces, authority_aces, pin_aces, range_get_aces, range_aces, mbr_aces}
-use Rattle.access_list.specs.Access.{this_sp_grants, owner_grants, authority_grants, fixed_ace_gets, user_ace_grants, read_locked_ace_grants, write_locked_ace_grants, done_ace_grants, pin_grants, range_get_ace_grants, range_get_grants, range_set_grants, mbr_grants}
+use Rattle.sp_tables.specs.Factory.{admin_sps, admin_authorities, locking_authorities, admin_pins, locking_pins, locking_ranges, locking_mbr_controls, admin_aces, authority_aces, pin_aces, range_get_aces, range_aces, mbr_aces}
+use Rattle.ace_eval.specs.Access.{this_sp_grants, owner_grants, authority_grants, fixed_ace_gets, user_ace_grants, read_locked_ace_grants, write_locked_ace_grants, done_ace_grants, pin_grants, range_get_ace_grants, range_get_grants, range_set_grants, mbr_grants}
 use Rattle.locking.specs.Ranges.{ranges_in}
 use Rattle.locking.specs.Verdict.{verdict_of}
 use Rattle.shadow_mbr.specs.Stored.{zeros, sectors_from}

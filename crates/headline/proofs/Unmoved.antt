@@ -36,7 +36,7 @@ use Rattle.headline.specs.Transfers.{Transfer, transfer_of, MoveNothing}
 use Rattle.headline.proofs.Came.{executed, IsTaken, TakenHeld, TakenFailed}
 use Rattle.headline.proofs.KeptTransfers.{ComesAt, this_if, other_if, skips, takes, itself, queued_event, unqueued_event, executed_now, comes}
 use Rattle.headline.proofs.Waits.{Comes}
-use Rattle.rules.specs.declared.rule.Rule.TheVariants.{BeyondDrive}
+use Rattle.audit.specs.declared.rules.rule.Rule.TheVariants.{BeyondDrive}
 
 -- A write, and answered with Done.
 abbrev pub IsWritten : Transfer → Option Answer → Type 0

@@ -3,7 +3,7 @@
 use Rattle.std.specs.Prelude.{◌≡◌, ℕ, ◌+◌, ◌<◌, ◌==◌, ◌⊎◌, List, [], ◌∷◌, ◌++◌, length, Some, if◌then◌else◌}
 use Rattle.audit.specs.declared.reason.AuditLine.{AuditLine}
 use Rattle.audit.specs.declared.reason.Why.{Why}
-use Rattle.call_shapes.specs.Asks.{uid_of}
+use Rattle.tcg_calls.specs.Asks.{uid_of}
 use Rattle.methods.specs.Laws.{IsAmong, IsDeniedBy}
 use Rattle.history.specs.Decisions.{ranges_in_force}
 use Rattle.history.specs.DenialLaws.{TransferDenied, MethodDenied, AttemptDenied, StartDenied}

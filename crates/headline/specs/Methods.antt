@@ -13,10 +13,10 @@ use Rattle.compacket.specs.Frames.{Frame, reading as frame_in}
 use Rattle.tcg_tokens.specs.Message.{call}
 use Rattle.tcg_tokens.specs.Tree.{Trees, list, trees_of}
 use Rattle.trusted_cmds.specs.declared.command.Command.TheVariants.{Send}
-use Rattle.call_shapes.specs.Asks.{uid_of}
-use Rattle.call_shapes.specs.Statuses.{success, not_authorized}
-use Rattle.call_shapes.specs.declared.ask.Ask.{Ask}
-use Rattle.call_shapes.specs.declared.ask.Ask.TheVariants.{GetCells, GetBytes, SetCells, SetBytes, Authenticate, Activate, Revert, GenKey, RevertSp, Other}
+use Rattle.tcg_calls.specs.Asks.{uid_of}
+use Rattle.tcg_calls.specs.Statuses.{success, not_authorized}
+use Rattle.tcg_calls.specs.declared.call_shapes.ask.Ask.{Ask}
+use Rattle.tcg_calls.specs.declared.call_shapes.ask.Ask.TheVariants.{GetCells, GetBytes, SetCells, SetBytes, Authenticate, Activate, Revert, GenKey, RevertSp, Other}
 use Rattle.shadow_mbr.specs.Erasure.{no_sectors, all_sectors}
 use Rattle.sp_cells.specs.Numbers.{key_number}
 use Rattle.methods.specs.Erasures.{erased_by_key, erased_by_revert_sp, is_wholly_locked}

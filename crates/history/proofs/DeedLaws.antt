@@ -24,10 +24,10 @@ use Rattle.history.specs.Opening.{Origin}
 use Rattle.sessions.specs.Deeds.{Sets, Begun, Setting, cells_set, bytes_set, SessionDeed, Unchanged, Started, Tried, Changed, Began, Committed, Aborted, Ended, Activated, Reverted, Erased, Outcome, says, refuses as refuses_item}
 use Rattle.sp_cells.specs.ColumnNames.{pin_column}
 use Rattle.sessions.specs.Attempts.{attempt_failure as failure_of}
-use Rattle.call_shapes.specs.Asks.{uid_of}
-use Rattle.call_shapes.specs.Statuses.{fail, success}
+use Rattle.tcg_calls.specs.Asks.{uid_of}
+use Rattle.tcg_calls.specs.Statuses.{fail, success}
 use Rattle.sessions.specs.Properties.{properties_message}
-use Rattle.call_shapes.specs.Carried.{is_carried}
+use Rattle.tcg_calls.specs.Carried.{is_carried}
 use Rattle.methods.specs.declared.kinds.Kind.{Kind}
 use Rattle.methods.specs.declared.kinds.Kind.TheVariants as kinds
 use Rattle.basics.specs.declared.profile.Profile.{Profile}
@@ -39,7 +39,7 @@ use Rattle.methods.specs.Columns.{set_types_of}
 use Rattle.methods.specs.Settings.{cells_for, setting_of_cells, cells_of_ask, bytes_of_ask, setting}
 use Rattle.sessions.specs.Made.{is_within}
 use Rattle.methods.specs.Said.{reply_of, refusal_of}
-use Rattle.call_shapes.specs.Limits.{most_response}
+use Rattle.tcg_calls.specs.Limits.{most_response}
 use Rattle.methods.specs.Effects.{has_ask, last_row, unless_fault, sp_of_row}
 use Rattle.sp_cells.specs.declared.values.ColumnType.{ColumnType}
 use Rattle.methods.specs.Judgement.{asked, Standing, Judgement, Refuses, Gives, Makes, Attempts, Activates, Reverts, Erases, RevertsSp, erases, reverts_sp, denial, gives, listing, bytes_between, rows_given, fault_by, valid, to_set, makes, unless_open, does_ask, does, unless_denied, judged, Denies}
@@ -48,10 +48,10 @@ use Rattle.sessions.specs.declared.opening.StartVerdict.{StartVerdict}
 use Rattle.sessions.specs.declared.opening.StartVerdict.TheVariants.{Refused, Attempted}
 use Rattle.sessions.specs.Live.{Live, lives_on}
 use Rattle.sessions.specs.Starts.{opening_of, is_in_use, sp_named, is_full, opening_verdict_on}
-use Rattle.call_shapes.specs.Named.{values_of}
+use Rattle.tcg_calls.specs.Named.{values_of}
 use Rattle.sp_cells.specs.Flat.{LookUp, sp_eq}
-use Rattle.call_shapes.specs.declared.ask.Ask.{Ask}
-use Rattle.call_shapes.specs.declared.ask.Ask.TheVariants.{GetCells, GetBytes, SetCells, SetBytes, Authenticate, Activate, Revert, GenKey, RevertSp, Other}
+use Rattle.tcg_calls.specs.declared.call_shapes.ask.Ask.{Ask}
+use Rattle.tcg_calls.specs.declared.call_shapes.ask.Ask.TheVariants.{GetCells, GetBytes, SetCells, SetBytes, Authenticate, Activate, Revert, GenKey, RevertSp, Other}
 use Rattle.history.specs.Events.{Deed, Nothing, InSession, OfQueue, Wrote, Took, BlockedSid, WasReset, Event}
 use Rattle.sp_tables.specs.Looks.{RowLook}
 use Rattle.history.specs.Changes.{with_tries}
@@ -64,8 +64,8 @@ use Rattle.history.proofs.Words.{latest-here, latest-skip, sp-is, sp-same}
 use Rattle.history.proofs.Items.{item-from}
 use Rattle.history.proofs.MethodProofs.{denial-none, granted-row}
 use Rattle.history.proofs.Asked.{is_own, own-of-field, gen-key-locking, revert-sp-locking, asked-own, activate-admin, revert-admin, set-in-admin}
-use Rattle.rules.specs.declared.rule.Rule.TheVariants.{NoMethod, NotInUse, SpBusy, NoNumber, OutsideTable, TooLong, GlobalLocked}
-use Rattle.rules.specs.declared.rule.Rule.{Rule}
+use Rattle.audit.specs.declared.rules.rule.Rule.TheVariants.{NoMethod, NotInUse, SpBusy, NoNumber, OutsideTable, TooLong, GlobalLocked}
+use Rattle.audit.specs.declared.rules.rule.Rule.{Rule}
 
 -- the kinds of judgements, a refusal being 0, and of asks
 abbrev kind : Judgement → ℕ

@@ -24,27 +24,27 @@ use Rattle.trusted_cmds.specs.declared.command.CommandError.{CommandError}
 use Rattle.locking.specs.declared.ranges.Verdict.{Verdict}
 use Rattle.locking.specs.declared.ranges.Verdict.TheVariants.{Serve, Shadow, Denied}
 use Rattle.sessions.specs.Attempts.{attempt_failure as failure_of}
-use Rattle.call_shapes.specs.Asks.{uid_of}
+use Rattle.tcg_calls.specs.Asks.{uid_of}
 use Rattle.sp_cells.specs.Names.{properties, start_session}
 use Rattle.sessions.specs.Deeds.{Begun, Setting, Unchanged, says, refuses as refuses_item}
-use Rattle.call_shapes.specs.Statuses.{success, fail}
+use Rattle.tcg_calls.specs.Statuses.{success, fail}
 use Rattle.sessions.specs.Properties.{properties_message}
 use Rattle.sessions.specs.declared.opening.Opening.{Opening}
 use Rattle.sessions.specs.declared.opening.StartVerdict.{StartVerdict}
 use Rattle.sessions.specs.declared.opening.StartVerdict.TheVariants.{Refused, Attempted}
 use Rattle.sessions.specs.Starts.{opening_of, host_of, denied_with}
-use Rattle.call_shapes.specs.Named.{values_of}
-use Rattle.call_shapes.specs.Carried.{is_carried}
+use Rattle.tcg_calls.specs.Named.{values_of}
+use Rattle.tcg_calls.specs.Carried.{is_carried}
 use Rattle.methods.specs.Said.{reply_of, refusal_of}
-use Rattle.call_shapes.specs.Limits.{most_response}
+use Rattle.tcg_calls.specs.Limits.{most_response}
 use Rattle.sp_cells.specs.ByteTables.{bytes_of_table, table_begin}
 use Rattle.methods.specs.Kinds.{kind_of, byte_table_of}
 use Rattle.methods.specs.Effects.{ask_at, last_row, sp_of_row}
 use Rattle.sp_cells.specs.Numbers.{key_number}
 use Rattle.methods.specs.Erasures.{is_wholly_locked}
 use Rattle.methods.specs.Judgement.{asked, Standing, Judgement, Refuses, Gives, Makes, Attempts, Activates, Reverts, Erases, RevertsSp, erases, reverts_sp, denial, gives, listing, bytes_between, rows_given, to_set, makes, unless_open, does_ask, does, unless_denied, judged, Denies}
-use Rattle.call_shapes.specs.declared.ask.Ask.{Ask}
-use Rattle.call_shapes.specs.declared.ask.Ask.TheVariants.{GetCells, GetBytes, SetCells, SetBytes, Authenticate, Activate, Revert, GenKey, RevertSp, Other}
+use Rattle.tcg_calls.specs.declared.call_shapes.ask.Ask.{Ask}
+use Rattle.tcg_calls.specs.declared.call_shapes.ask.Ask.TheVariants.{GetCells, GetBytes, SetCells, SetBytes, Authenticate, Activate, Revert, GenKey, RevertSp, Other}
 use Rattle.trusted_cmds.specs.BlockSid.{is_block_sid, block_asked, is_blocked}
 use Rattle.device_data.specs.Discovery.{has_owner}
 use Rattle.history.specs.Events.{Nothing, Wrote, Took, HeldCommand, Event, did, WasReset, BlockedSid, ignores}
@@ -57,8 +57,8 @@ use Rattle.history.specs.MethodLaws.{IsLookedAt, IsSent, IsCall}
 use Rattle.history.specs.DenialLaws.{Moves, read_queued, write_queued, read_dma, write_dma, IsFree, TransferDenied, MethodDenied, AttemptDenied, StartDenied, IsDenied, DenialLaw}
 use Rattle.history.proofs.MethodProofs.{looked_event, looked_law, sent_law, call_law}
 use Rattle.sp_cells.specs.Resets.{programmatic}
-use Rattle.rules.specs.declared.rule.Rule.TheVariants.{NoCommand, Unreadable, Mixed, BeyondDrive, SidKept, NoMethod, OutsideTable, TooLong, GlobalLocked, NoFrame}
-use Rattle.rules.specs.declared.rule.Rule.{Rule}
+use Rattle.audit.specs.declared.rules.rule.Rule.TheVariants.{NoCommand, Unreadable, Mixed, BeyondDrive, SidKept, NoMethod, OutsideTable, TooLong, GlobalLocked, NoFrame}
+use Rattle.audit.specs.declared.rules.rule.Rule.{Rule}
 
 -- forward: each of the four is denied for its reason
 

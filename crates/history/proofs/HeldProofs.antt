@@ -32,7 +32,7 @@ use Rattle.history.proofs.Words.{latest-here, latest-skip}
 use Rattle.history.proofs.QuietProofs.{quiet-none}
 use Rattle.history.proofs.TransferProofs.{verdict_law}
 use Rattle.sp_cells.specs.Resets.{programmatic}
-use Rattle.rules.specs.declared.rule.Rule.TheVariants.{NoCommand, Unreadable, Mixed, BeyondDrive}
+use Rattle.audit.specs.declared.rules.rule.Rule.TheVariants.{NoCommand, Unreadable, Mixed, BeyondDrive}
 
 clash : {b : Bool} → b ≡ true → b ≡ false → ⊥
 clash h g = absurd (true-false (sym h ∙ g))

@@ -29,7 +29,7 @@ use Rattle.history.specs.Decisions.{aborted, not_found, fails, refuses, fails_qu
 use Rattle.history.specs.Tcg.{answers, to_manager, in_session, is_manager, to_session, framed, sent, unqueued, known, commanded, command_read, item_in, blocks_sid, unsent}
 use Rattle.history.specs.History.{Act, Accept, Complete, Reset, event_by}
 use Rattle.sp_cells.specs.Resets.{programmatic}
-use Rattle.rules.specs.declared.rule.Rule.TheVariants.{NoCommand, Unreadable, Mixed, BeyondDrive, SidKept}
+use Rattle.audit.specs.declared.rules.rule.Rule.TheVariants.{NoCommand, Unreadable, Mixed, BeyondDrive, SidKept}
 
 pub record OfManager (f : Facts) (deed : SessionDeed) : Type 0 where
   pub com_id : ℕ

@@ -2,7 +2,7 @@
 use Rattle.std.proofs.Common.{◌≡◌, Option, sym, ◌∙◌, ap}
 use Rattle.sp_cells.specs.Config.{Config}
 use Rattle.sp_cells.specs.Flat.{LookUp}
-use Rattle.call_shapes.specs.declared.ask.Ask.{Ask}
+use Rattle.tcg_calls.specs.declared.call_shapes.ask.Ask.{Ask}
 use Rattle.methods.specs.Judgement.{Standing, asked, judged}
 use Rattle.methods.specs.Calls.{standing_in, outcome_of, outcome_in}
 use Rattle.history.specs.Readers.{authorities}

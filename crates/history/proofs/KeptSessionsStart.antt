@@ -14,7 +14,7 @@ use Rattle.audit.specs.declared.reason.AttemptFailure.{AttemptFailure}
 use Rattle.audit.specs.declared.reason.AttemptFailure.TheVariants.{WrongPin, LockedOut, Disabled, Blocked, Unknown}
 use Rattle.trusted_cmds.specs.declared.block.SidBlock.{SidBlock}
 use Rattle.sessions.specs.Block.{block_after}
-use Rattle.call_shapes.specs.Statuses.{invalid_parameter, sp_busy, no_sessions_available}
+use Rattle.tcg_calls.specs.Statuses.{invalid_parameter, sp_busy, no_sessions_available}
 use Rattle.transactions.specs.Stored.{Stored}
 use Rattle.sessions.specs.declared.opening.Opening.{Opening}
 use Rattle.sessions.specs.declared.opening.StartVerdict.{StartVerdict}
@@ -37,7 +37,7 @@ use Rattle.history.specs.KeptCalls.{StartLaw}
 use Rattle.history.proofs.Words.{sp-same}
 use Rattle.history.proofs.KeptStoreReads.{store_read_law}
 use Rattle.history.proofs.KeptSessionsNumbers.{Hits, split, numbered-miss, numbered-hit, none-apart, kept-none, Kept, kept-some}
-use Rattle.rules.specs.declared.rule.Rule.TheVariants.{NotInUse, SpBusy, NoNumber}
+use Rattle.audit.specs.declared.rules.rule.Rule.TheVariants.{NotInUse, SpBusy, NoNumber}
 
 -- Whether a session of an SP lives.
 

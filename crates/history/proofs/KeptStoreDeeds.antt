@@ -14,7 +14,7 @@ use Rattle.sp_cells.specs.Names.{admin_pin_uid, locking_sp}
 use Rattle.sp_cells.specs.ColumnNames.{life_cycle_state_column, pin_column, tries_column}
 use Rattle.sp_cells.specs.Limits.{manufactured, manufactured_inactive}
 use Rattle.sp_cells.specs.Ranges.{number}
-use Rattle.sp_rows.specs.Items.{item_at, with_item}
+use Rattle.sp_tables.specs.Items.{item_at, with_item}
 use Rattle.sp_tables.specs.Contents.{new_admin, new_locking, Contents, items_of, factory_contents, cells_look_up}
 use Rattle.sp_tables.specs.Looks.{put_in}
 use Rattle.sp_tables.specs.AtReset.{locking_tries_after}
@@ -43,7 +43,7 @@ use Rattle.history.proofs.KeptStoreParts.{Spares, closed-part, was-closed, was-o
 use Rattle.history.proofs.KeptStoreBytes.{closed-bytes, spared-bytes, shut-bytes, begun-bytes, set-bytes, committed-bytes, blank-length, blank-at, FitsIn}
 use Rattle.history.proofs.KeptStoreOpenings.{restored-part, no-tries-in}
 use Rattle.history.proofs.KeptStoreTries.{unknown-none, one_more-up, counted-number, tries-after, reset-tries, admin-reset}
-use Rattle.rules.specs.declared.rule.Rule.{Rule}
+use Rattle.audit.specs.declared.rules.rule.Rule.{Rule}
 
 abbrev other : Sp → Sp
 other Admin = Locking

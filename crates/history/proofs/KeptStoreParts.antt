@@ -4,7 +4,7 @@ use Rattle.std.specs.Prelude.{is_some, option_map}
 use Rattle.std.proofs.lemmas.Bool.{eq-eqb}
 use Rattle.sp_cells.specs.declared.names.Uid.{Uid}
 use Rattle.sp_cells.specs.declared.names.Sp.{Sp}
-use Rattle.sp_rows.specs.Items.{Item, item_at}
+use Rattle.sp_tables.specs.Items.{Item, item_at}
 use Rattle.sp_tables.specs.Looks.{RowLook}
 use Rattle.transactions.specs.Stored.{Transaction, Part, rows_of_part, part_begin, part_commit}
 use Rattle.sessions.specs.Deeds.{Setting, Sets, Changed, Began, Committed}

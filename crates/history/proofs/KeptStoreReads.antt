@@ -9,7 +9,7 @@ use Rattle.sp_cells.specs.declared.names.Sp.TheVariants.{Admin, Locking}
 use Rattle.sp_cells.specs.declared.names.Column.{Column}
 use Rattle.sp_cells.specs.declared.cells.Cell.{Cell}
 use Rattle.sp_cells.specs.declared.cells.Cell.TheVariants.{Number}
-use Rattle.sp_rows.specs.Items.{item_at}
+use Rattle.sp_tables.specs.Items.{item_at}
 use Rattle.sp_tables.specs.Looks.{RowLook}
 use Rattle.sp_tables.specs.Tries.{is_tries}
 use Rattle.transactions.specs.Stored.{Transaction, Part, Stored, part, bytes_seen}

@@ -9,7 +9,7 @@ use Rattle.sp_cells.specs.declared.cells.Cell.{Cell}
 use Rattle.sp_cells.specs.declared.cells.Cell.TheVariants.{Number}
 use Rattle.sp_cells.specs.Names.{mbr_control}
 use Rattle.sp_cells.specs.ColumnNames.{lock_on_reset_column, mbr_done_column, mbr_done_on_reset_column, tries_column}
-use Rattle.sp_rows.specs.Items.{Item, item_at, with_item, with_items}
+use Rattle.sp_tables.specs.Items.{Item, item_at, with_item, with_items}
 use Rattle.sp_tables.specs.AtReset.{has_kind, locking_after}
 use Rattle.sp_tables.specs.Looks.{RowLook, put_in, puts_in}
 use Rattle.sp_tables.specs.Tries.{is_pin_row, is_tries, without_tries, tries_among}

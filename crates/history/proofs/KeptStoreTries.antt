@@ -14,7 +14,7 @@ use Rattle.sp_cells.specs.Flat.{LookUp}
 use Rattle.sp_cells.specs.Names.{uid, c_pin_sid, c_pin_msid, c_pin_psid, admin_pin_uid, user_pin_uid, mbr_control}
 use Rattle.sp_cells.specs.ColumnNames.{tries_column, lock_on_reset_column, mbr_done_column, mbr_done_on_reset_column}
 use Rattle.sp_cells.specs.Ranges.{number, cell_number}
-use Rattle.sp_rows.specs.Items.{Item, item_at, with_item}
+use Rattle.sp_tables.specs.Items.{Item, item_at, with_item}
 use Rattle.sp_tables.specs.Contents.{Contents, factory_contents, cells_look_up}
 use Rattle.sp_tables.specs.AtReset.{has_kind, admin_tries_after, locking_tries_after}
 use Rattle.sp_tables.specs.Looks.{RowLook}

@@ -12,9 +12,9 @@ use Rattle.tcg_tokens.specs.declared.error.TokenError.{TokenError}
 use Rattle.tcg_tokens.specs.Message.{Message, call, reply, end_session, begin, end}
 use Rattle.sp_cells.specs.ColumnNames.{pin_column, try_limit_column, tries_column, is_class_column, enabled_column}
 use Rattle.sessions.specs.Attempts.{attempt_failure as failure_of, is_there, credential, is_pin, is_used_up}
-use Rattle.call_shapes.specs.Asks.{uid_of}
+use Rattle.tcg_calls.specs.Asks.{uid_of}
 use Rattle.sessions.specs.Deeds.{Begun, SessionDeed, Unchanged, Tried, Activated, Outcome, says, refuses as refuses_item}
-use Rattle.call_shapes.specs.Statuses.{fail}
+use Rattle.tcg_calls.specs.Statuses.{fail}
 use Rattle.sessions.specs.Properties.{properties_message}
 use Rattle.methods.specs.Judgement.{Judgement, Refuses, Gives, Makes, Attempts, Activates, Reverts, Erases, RevertsSp, Denies}
 use Rattle.sessions.specs.declared.opening.Opening.{Opening}
@@ -22,7 +22,7 @@ use Rattle.sessions.specs.declared.opening.StartVerdict.{StartVerdict}
 use Rattle.sessions.specs.declared.opening.StartVerdict.TheVariants.{Refused, Attempted}
 use Rattle.sessions.specs.Live.{Live, lives_on}
 use Rattle.sessions.specs.Starts.{opening_of, is_in_use, sp_named, is_full, opening_verdict_on}
-use Rattle.call_shapes.specs.Named.{values_of}
+use Rattle.tcg_calls.specs.Named.{values_of}
 use Rattle.sp_cells.specs.Flat.{LookUp}
 use Rattle.history.specs.Facts.{live, has_open, Facts}
 use Rattle.history.specs.Tcg.{start_verdict, deed_of_start, start_deed, started, is_method_of_manager, to_manager, judgement_on, begins_on, ends_on, in_session}
@@ -32,7 +32,7 @@ use Rattle.history.proofs.Items.{item-from}
 use Rattle.sp_cells.specs.Ranges.{number}
 use Rattle.audit.specs.declared.reason.AttemptFailure.TheVariants.{WrongPin, LockedOut, Disabled, Blocked, Unknown}
 use Rattle.history.specs.TriesLaw.{is_below_limit, LimitLaw}
-use Rattle.rules.specs.declared.rule.Rule.TheVariants.{NoMethod, NotInUse, SpBusy, NoNumber}
+use Rattle.audit.specs.declared.rules.rule.Rule.TheVariants.{NoMethod, NotInUse, SpBusy, NoNumber}
 
 -- the tests of an attempt
 by-tests : (a b d c u p : Bool) → cond a (Some Unknown) (cond b (Some Disabled) (cond d (Some Blocked) (cond c None (cond u (Some LockedOut) (cond p None (Some WrongPin)))))) ≡ Some WrongPin → not u ≡ true

@@ -15,7 +15,7 @@ use Rattle.audit.specs.declared.reason.AttemptFailure.TheVariants.{WrongPin, Loc
 use Rattle.audit.specs.declared.reason.Why.{Why}
 use Rattle.audit.specs.declared.reason.Why.TheVariants.{NoEntryHolds, NoAccessRow}
 use Rattle.sessions.specs.Attempts.{attempt_failure as failure_of}
-use Rattle.call_shapes.specs.Asks.{uid_of}
+use Rattle.tcg_calls.specs.Asks.{uid_of}
 use Rattle.sessions.specs.Deeds.{Begun}
 use Rattle.sp_cells.specs.declared.names.Sp.{Sp}
 use Rattle.trusted_cmds.specs.Commands.{is_queued}
@@ -24,8 +24,8 @@ use Rattle.tcg_tokens.specs.Reading.{reading as message_in}
 use Rattle.tcg_tokens.specs.Tree.{Tree}
 use Rattle.trusted_cmds.specs.declared.command.Command.{Command}
 use Rattle.trusted_cmds.specs.declared.command.Command.TheVariants.{Send}
-use Rattle.call_shapes.specs.declared.ask.Ask.{Ask}
-use Rattle.call_shapes.specs.declared.ask.Ask.TheVariants.{GetCells, GetBytes, SetCells, SetBytes, Authenticate, Activate, Revert, GenKey, RevertSp, Other}
+use Rattle.tcg_calls.specs.declared.call_shapes.ask.Ask.{Ask}
+use Rattle.tcg_calls.specs.declared.call_shapes.ask.Ask.TheVariants.{GetCells, GetBytes, SetCells, SetBytes, Authenticate, Activate, Revert, GenKey, RevertSp, Other}
 use Rattle.std.specs.Option.{option_or}
 use Rattle.methods.specs.Grants.{why_denied, unless_allowed, denial as denial_of, wanted, first_some}
 use Rattle.methods.specs.Laws.{EachHasAce, IsGranted, takes_effect}
@@ -43,7 +43,7 @@ use Rattle.history.specs.History.{Act, event_by, event_in}
 use Rattle.history.specs.MethodLaws.{ActEffectLaw, IsSent, CallLaw}
 use Rattle.history.specs.Looked.{IsLookedAtBy}
 use Rattle.sp_cells.specs.Resets.{programmatic}
-use Rattle.rules.specs.declared.rule.Rule.TheVariants.{NoCommand, Mixed, NoFrame}
+use Rattle.audit.specs.declared.rules.rule.Rule.TheVariants.{NoCommand, Mixed, NoFrame}
 
 none-some : {A : Type 0} {x : A} → None ≡ Some x → ⊥
 none-some h = cc

@@ -15,7 +15,7 @@ use Rattle.history.specs.Facts.{Facts, session_named}
 use Rattle.history.specs.Decisions.{refuses, is_trusted, is_session_com_id}
 use Rattle.history.specs.Tcg.{answers, to_manager, is_manager, to_session, framed, sent, tcg, blocks_sid, send_item, unsent}
 use Rattle.history.specs.Quiet.{is_quiet, IsQuiet}
-use Rattle.rules.specs.declared.rule.Rule.TheVariants.{SidKept, NoFrame}
+use Rattle.audit.specs.declared.rules.rule.Rule.TheVariants.{SidKept, NoFrame}
 
 either : (b : Bool) (x y : Event) → is_quiet x.deed ≡ true → is_quiet y.deed ≡ true → is_quiet (cond b x y).deed ≡ true
 either true x y h g = h

@@ -27,7 +27,7 @@ use Rattle.history.specs.History.{Act, Accept, Complete, Reset, event_by, event,
 use Rattle.history.specs.Readers.{waits, waiting}
 use Rattle.history.specs.Bounds.{ResponseLaw}
 use Rattle.sp_cells.specs.Resets.{programmatic}
-use Rattle.rules.specs.declared.rule.Rule.TheVariants.{NoCommand, Unreadable, Mixed, BeyondDrive, SidKept, NoFrame}
+use Rattle.audit.specs.declared.rules.rule.Rule.TheVariants.{NoCommand, Unreadable, Mixed, BeyondDrive, SidKept, NoFrame}
 
 abbrev on_session : Deed → Bool
 on_session (InSession deed response) = is_session_com_id response.com_id

@@ -10,8 +10,8 @@ use Rattle.sp_cells.specs.ColumnNames.{active_data_removal_mechanism_column}
 use Rattle.sp_cells.specs.Names.{this_sp, locking_sp, admin_uid, mbr_table, datastore_table, data_removal, get, set, revert_sp}
 use Rattle.tcg_tokens.specs.Message.{Message, begin, end}
 use Rattle.tcg_tokens.specs.Tree.{Tree, trees_of}
-use Rattle.call_shapes.specs.declared.ask.Ask.{Ask}
-use Rattle.call_shapes.specs.declared.ask.Ask.TheVariants.{GetCells, GetBytes, SetCells, SetBytes}
+use Rattle.tcg_calls.specs.declared.call_shapes.ask.Ask.{Ask}
+use Rattle.tcg_calls.specs.declared.call_shapes.ask.Ask.TheVariants.{GetCells, GetBytes, SetCells, SetBytes}
 use Rattle.methods.specs.Judgement.{Judgement, Refuses, Gives, Makes, asked, does}
 use Rattle.sessions.specs.Deeds.{Begun, cells_set, bytes_set}
 use Rattle.history.specs.Opening.{Origin, activated_origin}
@@ -20,8 +20,8 @@ use Rattle.history.specs.History.{Act, log}
 use Rattle.history.proofs.Scripts.{msid, start_as, tell, in_it, call_of}
 use Rattle.sp_cells.specs.Authorities.{authorities_of_locking}
 use Rattle.sp_tables.specs.Faults.{any_to}
-use Rattle.sp_rows.specs.Factory.{label_authorities, label_pins, label_aces, removal_aces, data_removals, datastore_aces, gen_key_aces, range_keys, locking_infos, byte_tables, admin_sps, admin_authorities, locking_authorities, admin_pins, locking_pins, locking_ranges, locking_mbr_controls, admin_aces, authority_aces, pin_aces, range_get_aces, range_aces, mbr_aces}
-use Rattle.access_list.specs.Access.{label_grants, removal_grants, datastore_grants, gen_key_ace_grants, info_grants, key_grants, this_sp_grants, owner_grants, authority_grants, fixed_ace_gets, user_ace_grants, read_locked_ace_grants, write_locked_ace_grants, done_ace_grants, pin_grants, range_get_ace_grants, range_get_grants, range_set_grants, mbr_grants}
+use Rattle.sp_tables.specs.Factory.{label_authorities, label_pins, label_aces, removal_aces, data_removals, datastore_aces, gen_key_aces, range_keys, locking_infos, byte_tables, admin_sps, admin_authorities, locking_authorities, admin_pins, locking_pins, locking_ranges, locking_mbr_controls, admin_aces, authority_aces, pin_aces, range_get_aces, range_aces, mbr_aces}
+use Rattle.ace_eval.specs.Access.{label_grants, removal_grants, datastore_grants, gen_key_ace_grants, info_grants, key_grants, this_sp_grants, owner_grants, authority_grants, fixed_ace_gets, user_ace_grants, read_locked_ace_grants, write_locked_ace_grants, done_ace_grants, pin_grants, range_get_ace_grants, range_get_grants, range_set_grants, mbr_grants}
 use Rattle.locking.specs.Ranges.{ranges_in}
 use Rattle.locking.specs.Verdict.{verdict_of}
 use Rattle.shadow_mbr.specs.Stored.{zeros, sectors_from}
@@ -33,7 +33,7 @@ use Rattle.transactions.specs.Resets.{is_range}
 use Rattle.methods.specs.Listed.{listed_among}
 use Rattle.methods.specs.Settings.{cells_for}
 use Rattle.history.specs.Decisions.{any_below}
-use Rattle.rules.specs.declared.rule.Rule.TheVariants.{OutsideTable, WrongValue}
+use Rattle.audit.specs.declared.rules.rule.Rule.TheVariants.{OutsideTable, WrongValue}
 use Rattle.sp_cells.specs.declared.error.SetError.TheVariants.{WrongType}
 
 -- A drive with a shadow of 8 sectors, and so many bytes of DataStore.

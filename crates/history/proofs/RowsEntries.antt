@@ -6,8 +6,8 @@ use Rattle.sp_cells.specs.Authorities.{authorities_of_locking}
 use Rattle.sp_cells.specs.Names.{locking_sp, admin_uid, user_uid, range_uid, ace_range_set_read_locked, ace_locking_admins_set, set}
 use Rattle.sp_cells.specs.ColumnNames.{read_locked_column}
 use Rattle.sp_tables.specs.Faults.{any_to}
-use Rattle.sp_rows.specs.Factory.{admin_sps, admin_authorities, locking_authorities, admin_pins, locking_pins, locking_ranges, locking_mbr_controls, admin_aces, authority_aces, pin_aces, range_get_aces, range_aces, mbr_aces}
-use Rattle.access_list.specs.Access.{this_sp_grants, owner_grants, authority_grants, fixed_ace_gets, user_ace_grants, read_locked_ace_grants, write_locked_ace_grants, done_ace_grants, pin_grants, range_get_ace_grants, range_get_grants, range_set_grants, mbr_grants}
+use Rattle.sp_tables.specs.Factory.{admin_sps, admin_authorities, locking_authorities, admin_pins, locking_pins, locking_ranges, locking_mbr_controls, admin_aces, authority_aces, pin_aces, range_get_aces, range_aces, mbr_aces}
+use Rattle.ace_eval.specs.Access.{this_sp_grants, owner_grants, authority_grants, fixed_ace_gets, user_ace_grants, read_locked_ace_grants, write_locked_ace_grants, done_ace_grants, pin_grants, range_get_ace_grants, range_get_grants, range_set_grants, mbr_grants}
 use Rattle.locking.specs.Ranges.{ranges_in}
 use Rattle.locking.specs.Verdict.{verdict_of}
 use Rattle.audit.specs.declared.reason.Why.TheVariants.{NoEntryHolds}
@@ -23,7 +23,7 @@ use Rattle.sessions.specs.Starts.{sync_message}
 use Rattle.methods.specs.Listed.{listed_among}
 use Rattle.methods.specs.Settings.{cells_for}
 use Rattle.methods.specs.Said.{refusal_of, reply_of}
-use Rattle.call_shapes.specs.CellValues.{element_tree}
+use Rattle.tcg_calls.specs.CellValues.{element_tree}
 use Rattle.history.specs.Decisions.{any_below}
 use Rattle.history.specs.History.{Act}
 use Rattle.history.proofs.Scripts.{msid, activated, tell, start_as, in_it, set_cells, try_pin, replies, whys, said}

@@ -8,8 +8,8 @@ use Rattle.sp_cells.specs.declared.names.Sp.TheVariants.{Locking}
 use Rattle.sp_cells.specs.Names.{this_sp, locking_sp, range_uid, key_uid, admin_uid, gen_key, revert_sp}
 use Rattle.sp_cells.specs.Authorities.{authorities_of_locking}
 use Rattle.sp_tables.specs.Faults.{any_to}
-use Rattle.sp_rows.specs.Factory.{label_authorities, label_pins, label_aces, removal_aces, data_removals, datastore_aces, gen_key_aces, range_keys, locking_infos, byte_tables, admin_sps, admin_authorities, locking_authorities, admin_pins, locking_pins, locking_ranges, locking_mbr_controls, admin_aces, authority_aces, pin_aces, range_get_aces, range_aces, mbr_aces}
-use Rattle.access_list.specs.Access.{label_grants, removal_grants, datastore_grants, gen_key_ace_grants, info_grants, key_grants, this_sp_grants, owner_grants, authority_grants, fixed_ace_gets, user_ace_grants, read_locked_ace_grants, write_locked_ace_grants, done_ace_grants, pin_grants, range_get_ace_grants, range_get_grants, range_set_grants, mbr_grants}
+use Rattle.sp_tables.specs.Factory.{label_authorities, label_pins, label_aces, removal_aces, data_removals, datastore_aces, gen_key_aces, range_keys, locking_infos, byte_tables, admin_sps, admin_authorities, locking_authorities, admin_pins, locking_pins, locking_ranges, locking_mbr_controls, admin_aces, authority_aces, pin_aces, range_get_aces, range_aces, mbr_aces}
+use Rattle.ace_eval.specs.Access.{label_grants, removal_grants, datastore_grants, gen_key_ace_grants, info_grants, key_grants, this_sp_grants, owner_grants, authority_grants, fixed_ace_gets, user_ace_grants, read_locked_ace_grants, write_locked_ace_grants, done_ace_grants, pin_grants, range_get_ace_grants, range_get_grants, range_set_grants, mbr_grants}
 use Rattle.locking.specs.Ranges.{ranges_in}
 use Rattle.locking.specs.Verdict.{verdict_of}
 use Rattle.shadow_mbr.specs.Stored.{zeros, sectors_from}
@@ -20,8 +20,8 @@ use Rattle.tcg_tokens.specs.Message.{Message, begin}
 use Rattle.tcg_tokens.specs.Tree.{Tree, trees_of}
 use Rattle.tcg_tokens.specs.Tree as tree
 use Rattle.transactions.specs.Resets.{is_range}
-use Rattle.call_shapes.specs.declared.ask.Ask.{Ask}
-use Rattle.call_shapes.specs.declared.ask.Ask.TheVariants.{GenKey, RevertSp, Other}
+use Rattle.tcg_calls.specs.declared.call_shapes.ask.Ask.{Ask}
+use Rattle.tcg_calls.specs.declared.call_shapes.ask.Ask.TheVariants.{GenKey, RevertSp, Other}
 use Rattle.methods.specs.Listed.{listed_among}
 use Rattle.methods.specs.Settings.{cells_for}
 use Rattle.methods.specs.Erasures.{numbered_runs}
@@ -37,7 +37,7 @@ use Rattle.history.specs.Decisions.{any_below}
 use Rattle.history.specs.Tcg.{answers}
 use Rattle.history.specs.History.{Act, log}
 use Rattle.history.proofs.Scripts.{msid, config, range_row, dwrite, start_as, tell, in_it, set_cells}
-use Rattle.rules.specs.declared.rule.Rule.TheVariants.{InTransaction, GlobalLocked}
+use Rattle.audit.specs.declared.rules.rule.Rule.TheVariants.{InTransaction, GlobalLocked}
 
 field : Origin
 field = activated_origin (record config { profile = Field })

@@ -8,7 +8,7 @@ use Rattle.history.specs.Items.{Items}
 use Rattle.history.specs.NoTrace.{IsByOwnView}
 use Rattle.history.specs.Quiet.{is_quiet, IsQuiet}
 use Rattle.history.proofs.Scripts.{new_drive}
-use Rattle.rules.specs.declared.rule.Rule.TheVariants.{Protocol}
+use Rattle.audit.specs.declared.rules.rule.Rule.TheVariants.{Protocol}
 
 false_true : false ≡ true → ⊥
 false_true h = cc

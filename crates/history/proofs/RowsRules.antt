@@ -9,8 +9,8 @@ use Rattle.sp_cells.specs.Authorities.{authorities_of_locking}
 use Rattle.sp_cells.specs.Names.{locking_sp, admin_uid, user_uid, admin_pin_uid, global_range, range_uid, mbr_table, ace_range_set_read_locked, get, set, admins_class, session_manager, start_session, properties}
 use Rattle.sp_cells.specs.ColumnNames.{range_start_column}
 use Rattle.sp_tables.specs.Faults.{any_to}
-use Rattle.sp_rows.specs.Factory.{admin_sps, admin_authorities, locking_authorities, admin_pins, locking_pins, locking_ranges, locking_mbr_controls, admin_aces, authority_aces, pin_aces, range_get_aces, range_aces, mbr_aces}
-use Rattle.access_list.specs.Access.{this_sp_grants, owner_grants, authority_grants, fixed_ace_gets, user_ace_grants, read_locked_ace_grants, write_locked_ace_grants, done_ace_grants, pin_grants, range_get_ace_grants, range_get_grants, range_set_grants, mbr_grants}
+use Rattle.sp_tables.specs.Factory.{admin_sps, admin_authorities, locking_authorities, admin_pins, locking_pins, locking_ranges, locking_mbr_controls, admin_aces, authority_aces, pin_aces, range_get_aces, range_aces, mbr_aces}
+use Rattle.ace_eval.specs.Access.{this_sp_grants, owner_grants, authority_grants, fixed_ace_gets, user_ace_grants, read_locked_ace_grants, write_locked_ace_grants, done_ace_grants, pin_grants, range_get_ace_grants, range_get_grants, range_set_grants, mbr_grants}
 use Rattle.locking.specs.Ranges.{ranges_in}
 use Rattle.locking.specs.Verdict.{verdict_of}
 use Rattle.audit.specs.declared.reason.AttemptFailure.TheVariants.{Disabled}
@@ -28,14 +28,14 @@ use Rattle.methods.specs.Settings.{cells_for}
 use Rattle.sessions.specs.Starts.{sync_message}
 use Rattle.sessions.specs.Properties.{properties_call}
 use Rattle.methods.specs.Said.{refusal_of}
-use Rattle.call_shapes.specs.CellValues.{element_tree}
+use Rattle.tcg_calls.specs.CellValues.{element_tree}
 use Rattle.history.specs.Decisions.{any_below}
 use Rattle.history.specs.History.{Act}
 use Rattle.history.proofs.Scripts.{unknown_uid, msid, range_row, new_drive, activated, opened, fis, dread, read_queued, write_queued, send, receive, tell, call_of, start_as, start_anybody, in_it, set_cells, rules_met}
 use Rattle.sp_cells.specs.Names.{admin_sp}
 use Rattle.sp_cells.specs.declared.error.SetError.TheVariants.{Overlap, Beyond, Expr}
 use Rattle.trusted_cmds.specs.declared.command.CommandError.TheVariants.{Unknown}
-use Rattle.rules.specs.declared.rule.Rule.TheVariants.{Shape, WrongValue, NotSet, NotInUse, UnknownSp, SpBusy, NoMethod, AlreadyOpen, NoneOpen, NoSession, NoFrame, Protocol, ComId, ResponseWaits, TagHeld, QueueFailed, Mixed, BeyondDrive, Unreadable}
+use Rattle.audit.specs.declared.rules.rule.Rule.TheVariants.{Shape, WrongValue, NotSet, NotInUse, UnknownSp, SpBusy, NoMethod, AlreadyOpen, NoneOpen, NoSession, NoFrame, Protocol, ComId, ResponseWaits, TagHeld, QueueFailed, Mixed, BeyondDrive, Unreadable}
 use Rattle.compacket.specs.Spelling.{frame_bytes}
 use Rattle.tcg_tokens.specs.Spelling.{item_spelling_of}
 use Rattle.tcg_tokens.specs.Message.{begin, end, end_session}

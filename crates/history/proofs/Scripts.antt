@@ -18,7 +18,7 @@ use Rattle.sp_cells.specs.Names.{session_manager, start_session}
 use Rattle.history.specs.Events.{Event, Deed, InSession}
 use Rattle.device_data.specs.ErrorLog.{sized}
 use Rattle.history.specs.History.{Act, Accept, log}
-use Rattle.rules.specs.declared.rule.Rule.{Rule}
+use Rattle.audit.specs.declared.rules.rule.Rule.{Rule}
 
 abbrev pub msid : List ℕ
 msid = 0x4f ∷ 0x50 ∷ 0x41 ∷ 0x4c ∷ 0x4d ∷ 0x53 ∷ 0x49 ∷ 0x44 ∷ []

@@ -43,7 +43,7 @@ use Rattle.history.proofs.HeldProofs.{held_law}
 use Rattle.history.proofs.WriteProofs.{write_law}
 use Rattle.history.proofs.Payloads.{payload-of-command}
 use Rattle.sp_cells.specs.Resets.{programmatic}
-use Rattle.rules.specs.declared.rule.Rule.TheVariants.{NoCommand, Unreadable, Mixed, BeyondDrive, SidKept, NoFrame}
+use Rattle.audit.specs.declared.rules.rule.Rule.TheVariants.{NoCommand, Unreadable, Mixed, BeyondDrive, SidKept, NoFrame}
 
 -- no accepted command completes a write
 abbrev quiet : Deed → Bool

@@ -21,7 +21,7 @@ use Rattle.history.specs.History.{event_in}
 use Rattle.history.specs.DenialLaws.{Moves, read_queued, write_queued, read_dma, write_dma, IsFree}
 use Rattle.history.specs.TransferLaws.{is_denied, IsPermitted, IsReason, VerdictLaw, ServiceLaw}
 use Rattle.history.proofs.MethodProofs.{looked_event, looked_law}
-use Rattle.rules.specs.declared.rule.Rule.TheVariants.{BeyondDrive}
+use Rattle.audit.specs.declared.rules.rule.Rule.TheVariants.{BeyondDrive}
 
 clash : true ≡ false → ⊥
 clash h = cc

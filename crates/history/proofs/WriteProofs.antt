@@ -22,7 +22,7 @@ use Rattle.history.specs.Looked.{IsLookedAtBy}
 use Rattle.history.specs.TransferLaws.{IsPermitted, is_denied, Writes, WriteLaw}
 use Rattle.history.proofs.TransferProofs.{verdict_law}
 use Rattle.sp_cells.specs.Resets.{programmatic}
-use Rattle.rules.specs.declared.rule.Rule.TheVariants.{NoCommand, Unreadable, Mixed, BeyondDrive}
+use Rattle.audit.specs.declared.rules.rule.Rule.TheVariants.{NoCommand, Unreadable, Mixed, BeyondDrive}
 
 abbrev is_write : Deed → Bool
 is_write (Wrote lba bytes) = true

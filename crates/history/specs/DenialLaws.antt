@@ -15,12 +15,12 @@ use Rattle.trusted_cmds.specs.declared.command.Command.{Command}
 use Rattle.trusted_cmds.specs.declared.command.Command.TheVariants.{ReadQueued, WriteQueued, ReadDma, WriteDma}
 use Rattle.locking.specs.declared.ranges.Verdict.TheVariants.{Denied}
 use Rattle.sessions.specs.Attempts.{attempt_failure as failure_of}
-use Rattle.call_shapes.specs.Asks.{uid_of}
+use Rattle.tcg_calls.specs.Asks.{uid_of}
 use Rattle.sp_cells.specs.Names.{properties, start_session}
 use Rattle.sessions.specs.Deeds.{Begun}
-use Rattle.call_shapes.specs.declared.ask.Ask.{Ask}
+use Rattle.tcg_calls.specs.declared.call_shapes.ask.Ask.{Ask}
 use Rattle.methods.specs.Judgement.{asked, Attempts, denial}
-use Rattle.call_shapes.specs.Named.{values_of}
+use Rattle.tcg_calls.specs.Named.{values_of}
 use Rattle.sessions.specs.declared.opening.Opening.{Opening}
 use Rattle.sessions.specs.declared.opening.StartVerdict.TheVariants.{Attempted}
 use Rattle.sessions.specs.Starts.{opening_of}

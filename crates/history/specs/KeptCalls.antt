@@ -3,7 +3,7 @@
 use Rattle.std.specs.Prelude.{◌≡◌, ℕ, List, Some}
 use Rattle.sp_cells.specs.declared.names.Uid.{Uid}
 use Rattle.tcg_tokens.specs.Tree.{Tree, Trees}
-use Rattle.call_shapes.specs.Named.{values_of}
+use Rattle.tcg_calls.specs.Named.{values_of}
 use Rattle.transactions.specs.Stored.{Stored}
 use Rattle.shadow_mbr.specs.Erasure.{no_sectors}
 use Rattle.sessions.specs.Live.{Live, session_at, AreNumbered}

@@ -8,7 +8,7 @@ use Rattle.sp_cells.specs.declared.cells.Cell.TheVariants.{Number}
 use Rattle.sp_cells.specs.declared.names.TheConstants.{USERS, ADMINS, RANGES}
 use Rattle.sp_cells.specs.Config.{Config, table_sectors}
 use Rattle.sp_cells.specs.Names.{c_pin_sid, c_pin_msid, c_pin_psid, admin_pin_uid, user_pin_uid, mbr_control}
-use Rattle.sp_rows.specs.Items.{item_at}
+use Rattle.sp_tables.specs.Items.{item_at}
 use Rattle.sp_tables.specs.Contents.{Contents, factory_contents, cells_look_up as cells_of}
 use Rattle.sp_tables.specs.Looks.{RowLook}
 use Rattle.sp_tables.specs.Tries.{is_tries}

@@ -5,9 +5,9 @@ use Rattle.tcg_tokens.specs.Message.{call}
 use Rattle.tcg_tokens.specs.Tree.{Trees}
 use Rattle.trusted_cmds.specs.declared.command.Command.{Command}
 use Rattle.trusted_cmds.specs.declared.command.Command.TheVariants.{Send}
-use Rattle.call_shapes.specs.Asks.{uid_of}
+use Rattle.tcg_calls.specs.Asks.{uid_of}
 use Rattle.sessions.specs.Deeds.{Begun}
-use Rattle.call_shapes.specs.declared.ask.Ask.{Ask}
+use Rattle.tcg_calls.specs.declared.call_shapes.ask.Ask.{Ask}
 use Rattle.methods.specs.Laws.{IsGranted, takes_effect}
 use Rattle.methods.specs.Judgement.{asked, does}
 use Rattle.history.specs.Facts.{Facts, session_named, standing}

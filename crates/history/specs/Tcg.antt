@@ -23,22 +23,22 @@ use Rattle.tcg_tokens.specs.Message.{Message, call, reply, end_session, begin, e
 use Rattle.tcg_tokens.specs.Reading.{reading as message_in}
 use Rattle.tcg_tokens.specs.Spelling.{item_spelling_of}
 use Rattle.tcg_tokens.specs.Tree.{Tree, Trees}
-use Rattle.call_shapes.specs.Named.{values_of}
+use Rattle.tcg_calls.specs.Named.{values_of}
 use Rattle.trusted_cmds.specs.declared.command.Command.{Command}
 use Rattle.trusted_cmds.specs.declared.command.Command.TheVariants.{Send, Receive, Identify, ReadLog}
 use Rattle.trusted_cmds.specs.declared.command.CommandError.{CommandError}
 use Rattle.trusted_cmds.specs.Profiles.{reading_in}
 use Rattle.sessions.specs.Attempts.{credential}
-use Rattle.call_shapes.specs.Asks.{uid_of}
+use Rattle.tcg_calls.specs.Asks.{uid_of}
 use Rattle.sessions.specs.Deeds.{Begun, SessionDeed, Unchanged, Started, Began, Committed, Aborted, Ended, Outcome, says, refuses as refuses_item, tried}
-use Rattle.call_shapes.specs.Statuses.{transaction_failure, fail}
+use Rattle.tcg_calls.specs.Statuses.{transaction_failure, fail}
 use Rattle.sessions.specs.declared.opening.Opening.{Opening}
 use Rattle.sessions.specs.declared.opening.StartVerdict.{StartVerdict}
 use Rattle.sessions.specs.declared.opening.StartVerdict.TheVariants.{Refused, Attempted}
 use Rattle.sessions.specs.Gains.{first_held}
 use Rattle.sessions.specs.Starts.{opening_of, verdict, host_of, reply_to, denied_with, rule_of}
-use Rattle.rules.specs.declared.rule.Rule.{Rule}
-use Rattle.rules.specs.declared.rule.Rule.TheVariants.{NoMethod, NoItem, AlreadyOpen, NoneOpen, NoSession, NoFrame, SidKept, Protocol, ComId, ResponseWaits}
+use Rattle.audit.specs.declared.rules.rule.Rule.{Rule}
+use Rattle.audit.specs.declared.rules.rule.Rule.TheVariants.{NoMethod, NoItem, AlreadyOpen, NoneOpen, NoSession, NoFrame, SidKept, Protocol, ComId, ResponseWaits}
 use Rattle.sessions.specs.Properties.{properties_message}
 use Rattle.methods.specs.Said.{refusal_of}
 use Rattle.methods.specs.Judgement.{Judgement, asked, judged}

@@ -1,3 +1,4 @@
 pub mod Access
 pub mod Window
 pub mod WindowLaws
+pub mod Memory

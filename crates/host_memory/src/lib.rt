@@ -1,6 +1,7 @@
 //! The host's memory, as a controller reaches it.
 #![tactic(auto)]
 
+pub mod hba_memory;
 mod host;
 mod laws;
 mod reach;

@@ -3,9 +3,9 @@
 use mathlib.Core.Bool.{true≢false}
 use Rattle.std.specs.Prelude.{is_some}
 use Rattle.std.proofs.Common.{◌≡◌, ◌==◌, ℕ, ◌+◌, ◌%◌, ◌^◌, false, List, ◌∷◌, Option, None, Some, refl, sym, ap, subst, ◌∙◌}
-use Rattle.byte_calls.specs.Refusals.{code_of_call}
-use Rattle.byte_calls.specs.declared.error.CallError.{CallError}
-use Rattle.byte_calls.specs.declared.error.CallError.TheVariants.{OutOfMemory, NotOpen, OtherKind, Null, Length, Tag, Number, NotHeld, Room, InUse, Limits, NoRange, Overlap, Beyond, Malformed}
+use Rattle.library_calls.specs.Refusals.{code_of_call}
+use Rattle.library_calls.specs.declared.byte_calls.error.CallError.{CallError}
+use Rattle.library_calls.specs.declared.byte_calls.error.CallError.TheVariants.{OutOfMemory, NotOpen, OtherKind, Null, Length, Tag, Number, NotHeld, Room, InUse, Limits, NoRange, Overlap, Beyond, Malformed}
 use Rattle.fis.specs.H2d.{h2d_at}
 use Rattle.history.specs.Opening.{Origin}
 use Rattle.history.specs.Facts.{facts}

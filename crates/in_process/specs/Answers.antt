@@ -1,7 +1,7 @@
 -- What a drive answers, as numbers.
 use Rattle.std.specs.Prelude.{false}
-use Rattle.byte_calls.specs.declared.error.CallError.{CallError}
-use Rattle.byte_calls.specs.Refusals.{code_of_call}
+use Rattle.library_calls.specs.declared.byte_calls.error.CallError.{CallError}
+use Rattle.library_calls.specs.Refusals.{code_of_call}
 use Rattle.in_process.specs.declared.answer.Answer.{Answer}
 
 abbrev pub refused_answer : CallError → Answer

@@ -10,8 +10,8 @@ use Rattle.history.specs.Opening.{Origin, factory_origin, origin_with}
 use Rattle.drive.specs.State.{DriveState, Agrees}
 use Rattle.in_process.specs.declared.asked.RangeCells.{RangeCells}
 use Rattle.in_process.specs.declared.asked.Size.{Size}
-use Rattle.byte_calls.specs.declared.error.CallError.{CallError}
-use Rattle.byte_calls.specs.declared.error.CallError.TheVariants.{OutOfMemory, Limits}
+use Rattle.library_calls.specs.declared.byte_calls.error.CallError.{CallError}
+use Rattle.library_calls.specs.declared.byte_calls.error.CallError.TheVariants.{OutOfMemory, Limits}
 use Rattle.in_process.specs.Refused.{set_refusal}
 
 -- a number as a truth value: 0 is false

@@ -1,10 +1,10 @@
 -- What a call by a handle does: nothing where the handle has nothing; else what the call does with the object. The
 -- handle keeps its object.
 use Rattle.std.specs.Prelude.{◌≡◌, ◌≢◌, ℕ, List, map, Option, Some, None}
-use Rattle.byte_calls.specs.declared.error.CallError.{CallError}
-use Rattle.byte_calls.specs.declared.error.CallError.TheVariants.{NotOpen, OtherKind, InUse}
+use Rattle.library_calls.specs.declared.byte_calls.error.CallError.{CallError}
+use Rattle.library_calls.specs.declared.byte_calls.error.CallError.TheVariants.{NotOpen, OtherKind, InUse}
 use Rattle.in_process.specs.declared.answer.Answer.{Answer}
-use Rattle.byte_calls.specs.declared.count.Count.{Count}
+use Rattle.library_calls.specs.declared.byte_calls.count.Count.{Count}
 use Rattle.in_process.specs.declared.failed.Failed.{Failed}
 use Rattle.in_process.specs.declared.asked.RangeCells.{RangeCells}
 use Rattle.in_process.specs.declared.asked.Size.{Size}
@@ -13,13 +13,13 @@ use Rattle.in_process.specs.declared.object.Object.{Object}
 use Rattle.in_process.specs.declared.object.Object.TheVariants.{Drive}
 use Rattle.sp_cells.specs.Config.{Config}
 use Rattle.in_process.specs.Answers.{refused_answer}
-use Rattle.byte_calls.specs.Counts.{refused_count}
+use Rattle.library_calls.specs.Counts.{refused_count}
 use Rattle.in_process.specs.Asked.{CanBe, ConfigAsked, IsMakingFault, StartsAs, row_asked}
-use Rattle.byte_calls.specs.Copies.{IsCopied, IsWrittenOut}
+use Rattle.library_calls.specs.Copies.{IsCopied, IsWrittenOut}
 use Rattle.in_process.specs.Denials.{denial_at}
 use Rattle.in_process.specs.Desks.{IsTakenAs, IsFinishedAs, IsResetAs, IsNewDesk, payload_count, expected_count, last_bytes}
 use Rattle.in_process.specs.Failures.{refused_failure, failure_numbers}
-use Rattle.byte_calls.specs.Refusals.{done_code, code_of_call}
+use Rattle.library_calls.specs.Refusals.{done_code, code_of_call}
 
 -- what a handle had and has, where a handle with nothing is `refused`
 abbrev pub ByHandle : Option Object → Option Object → Type 0 → (Object → Object → Type 0) → Type 0

@@ -12,14 +12,14 @@ use Rattle.drive.specs.State.{DriveState, Agrees}
 use Rattle.drive.specs.Queue.{held_at}
 use Rattle.drive.specs.Answers.{IsAnswer, IsCompletion}
 use Rattle.drive.specs.declared.answer.Completed.{Completed}
-use Rattle.byte_calls.specs.declared.error.CallError.{CallError}
-use Rattle.byte_calls.specs.declared.error.CallError.TheVariants.{OutOfMemory, Length, Tag, Number, NotHeld}
+use Rattle.library_calls.specs.declared.byte_calls.error.CallError.{CallError}
+use Rattle.library_calls.specs.declared.byte_calls.error.CallError.TheVariants.{OutOfMemory, Length, Tag, Number, NotHeld}
 use Rattle.in_process.specs.declared.answer.Answer.{Answer}
-use Rattle.byte_calls.specs.declared.count.Count.{Count}
+use Rattle.library_calls.specs.declared.byte_calls.count.Count.{Count}
 use Rattle.in_process.specs.declared.drive_desk.DriveDesk.{DriveDesk}
-use Rattle.byte_calls.specs.Refusals.{done_code, code_of_call}
+use Rattle.library_calls.specs.Refusals.{done_code, code_of_call}
 use Rattle.in_process.specs.Answers.{refused_answer}
-use Rattle.byte_calls.specs.Counts.{refused_count, given_count}
+use Rattle.library_calls.specs.Counts.{refused_count, given_count}
 
 -- What is wrong with a command from outside: its FIS, or its payload, has another length than it is to have.
 abbrev pub command_fault : DriveState → List ℕ → List ℕ → Option CallError

@@ -1,9 +1,9 @@
 -- How a queue has failed, as numbers (ACS-3, NCQ Command Error log).
 use Rattle.std.specs.Prelude.{true, false, is_some, unwrap_or, Option, Some, None}
 use Rattle.device_data.specs.declared.log_page.Failure.{Failure}
-use Rattle.byte_calls.specs.declared.error.CallError.{CallError}
+use Rattle.library_calls.specs.declared.byte_calls.error.CallError.{CallError}
 use Rattle.in_process.specs.declared.failed.Failed.{Failed}
-use Rattle.byte_calls.specs.Refusals.{code_of_call, done_code}
+use Rattle.library_calls.specs.Refusals.{code_of_call, done_code}
 
 abbrev pub no_failure : Failed
 no_failure = record {

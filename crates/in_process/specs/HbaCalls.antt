@@ -1,21 +1,21 @@
 -- What a call of a controller by its handle does: nothing where the handle has none; else what the call does with it.
 use Rattle.std.specs.Prelude.{◌≡◌, ◌≢◌, ℕ, List, [], ◌∷◌, map, Option, Some, None, Ok}
-use Rattle.byte_calls.specs.declared.count.Count.{Count}
-use Rattle.byte_calls.specs.declared.error.CallError.{CallError}
-use Rattle.byte_calls.specs.declared.error.CallError.TheVariants.{NotOpen, OtherKind, InUse}
-use Rattle.byte_calls.specs.Copies.{IsWrittenOut}
-use Rattle.byte_calls.specs.Counts.{refused_count, given_count}
-use Rattle.byte_calls.specs.Refusals.{done_code, code_of_call}
+use Rattle.library_calls.specs.declared.byte_calls.count.Count.{Count}
+use Rattle.library_calls.specs.declared.byte_calls.error.CallError.{CallError}
+use Rattle.library_calls.specs.declared.byte_calls.error.CallError.TheVariants.{NotOpen, OtherKind, InUse}
+use Rattle.library_calls.specs.Copies.{IsWrittenOut}
+use Rattle.library_calls.specs.Counts.{refused_count, given_count}
+use Rattle.library_calls.specs.Refusals.{done_code, code_of_call}
 use Rattle.fis.specs.Bytes.{bit}
 use Rattle.locking.specs.declared.range.RangeRow.{RangeRow}
 use Rattle.sp_cells.specs.Config.{Config}
 use Rattle.history.specs.Opening.{Origin, factory_origin, origin_with}
 use Rattle.hba.specs.History.{State, AgreesHba}
 use Rattle.hba.specs.Registers.{word_at, line}
-use Rattle.hba_calls.specs.Desk.{WritesHba, TurnsDesk, denied_text}
-use Rattle.hba_calls.specs.Worked.{refused_worked}
-use Rattle.hba_calls.specs.declared.desk.HbaDesk.{HbaDesk}
-use Rattle.hba_calls.specs.declared.worked.Worked.{Worked}
+use Rattle.library_calls.specs.HbaCallsDesk.{WritesHba, TurnsDesk, denied_text}
+use Rattle.library_calls.specs.Worked.{refused_worked}
+use Rattle.library_calls.specs.declared.hba_calls.desk.HbaDesk.{HbaDesk}
+use Rattle.library_calls.specs.declared.hba_calls.worked.Worked.{Worked}
 use Rattle.in_process.specs.declared.asked.RangeCells.{RangeCells}
 use Rattle.in_process.specs.declared.asked.Size.{Size}
 use Rattle.in_process.specs.declared.object.Object.{Object}

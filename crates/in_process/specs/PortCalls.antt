@@ -1,11 +1,11 @@
 -- What a call of a port by its handle does: nothing where the handle has no port; else what the call does with the port.
 use Rattle.std.specs.Prelude.{◌≡◌, ◌≢◌, ℕ, List, [], ◌∷◌, map, slice_get, Option, Some, None, Ok}
-use Rattle.byte_calls.specs.declared.count.Count.{Count}
-use Rattle.byte_calls.specs.declared.error.CallError.{CallError}
-use Rattle.byte_calls.specs.declared.error.CallError.TheVariants.{NotOpen, OtherKind, InUse}
-use Rattle.byte_calls.specs.Copies.{IsCopied, IsWrittenOut}
-use Rattle.byte_calls.specs.Counts.{refused_count}
-use Rattle.byte_calls.specs.Refusals.{done_code, code_of_call}
+use Rattle.library_calls.specs.declared.byte_calls.count.Count.{Count}
+use Rattle.library_calls.specs.declared.byte_calls.error.CallError.{CallError}
+use Rattle.library_calls.specs.declared.byte_calls.error.CallError.TheVariants.{NotOpen, OtherKind, InUse}
+use Rattle.library_calls.specs.Copies.{IsCopied, IsWrittenOut}
+use Rattle.library_calls.specs.Counts.{refused_count}
+use Rattle.library_calls.specs.Refusals.{done_code, code_of_call}
 use Rattle.locking.specs.declared.range.RangeRow.{RangeRow}
 use Rattle.sp_cells.specs.Config.{Config}
 use Rattle.history.specs.Opening.{Origin, factory_origin, origin_with}
@@ -14,14 +14,14 @@ use Rattle.port_history.specs.declared.step.Step.{Step}
 use Rattle.port_history.specs.declared.step.Step.TheVariants.{Recover}
 use Rattle.port.specs.Agreement.{PortAgrees}
 use Rattle.port.specs.State.{PortState}
-use Rattle.port_calls.specs.Desk.{TakesStep, StepsUnder, PutsBy, ResetsBy, TakesUnder, TakesTurn, ListsReady}
-use Rattle.port_calls.specs.Shown.{shown_numbers, refused_shown, logged_text}
-use Rattle.port_calls.specs.Told.{refused_take, answer_bytes}
-use Rattle.port_calls.specs.declared.asked.Asked.{Asked}
-use Rattle.port_calls.specs.declared.desk.PortDesk.{PortDesk}
-use Rattle.port_calls.specs.declared.ready.ReadyStep.{ReadyStep}
-use Rattle.port_calls.specs.declared.shown.Shown.{Shown}
-use Rattle.port_calls.specs.declared.taken.Taken.{Taken}
+use Rattle.library_calls.specs.Desk.{TakesStep, StepsUnder, PutsBy, ResetsBy, TakesUnder, TakesTurn, ListsReady}
+use Rattle.library_calls.specs.Shown.{shown_numbers, refused_shown, logged_text}
+use Rattle.library_calls.specs.PortCallsTold.{refused_take, answer_bytes}
+use Rattle.library_calls.specs.declared.port_calls.asked.Asked.{Asked}
+use Rattle.library_calls.specs.declared.port_calls.desk.PortDesk.{PortDesk}
+use Rattle.library_calls.specs.declared.port_calls.ready.ReadyStep.{ReadyStep}
+use Rattle.library_calls.specs.declared.port_calls.shown.Shown.{Shown}
+use Rattle.library_calls.specs.declared.port_calls.taken.Taken.{Taken}
 use Rattle.in_process.specs.declared.asked.RangeCells.{RangeCells}
 use Rattle.in_process.specs.declared.asked.Size.{Size}
 use Rattle.in_process.specs.declared.object.Object.{Object}

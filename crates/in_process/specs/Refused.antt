@@ -3,8 +3,8 @@ use Rattle.sp_cells.specs.declared.error.SetError.{SetError}
 use Rattle.sp_cells.specs.declared.error.SetError.TheVariants as sets
 use Rattle.drive.specs.declared.error.DriveError.{DriveError}
 use Rattle.drive.specs.declared.error.DriveError.TheVariants as drives
-use Rattle.byte_calls.specs.declared.error.CallError.{CallError}
-use Rattle.byte_calls.specs.declared.error.CallError.TheVariants.{OutOfMemory, NotHeld, NoRange, Overlap, Beyond}
+use Rattle.library_calls.specs.declared.byte_calls.error.CallError.{CallError}
+use Rattle.library_calls.specs.declared.byte_calls.error.CallError.TheVariants.{OutOfMemory, NotHeld, NoRange, Overlap, Beyond}
 
 abbrev pub set_refusal : SetError → CallError
 set_refusal sets.OutOfMemory = OutOfMemory

@@ -3,7 +3,7 @@
 ghost use Rattle.std.specs.Prelude.{◌≡◌};
 ghost use Rattle.in_process.specs.Answers.{refused_answer};
 
-use byte_calls::CallError;
+use library_calls::byte_calls::CallError;
 
 /// What a drive answers to a command or to a completion.
 #[repr(C)]

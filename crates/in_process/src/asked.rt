@@ -3,12 +3,12 @@
 ghost use Rattle.std.specs.Prelude.{◌≡◌, ◌⊎◌, [], None, Some, ◌==◌, map, IfOk, IfErr, IfSome, OnOk, MatchOption, MatchResult};
 ghost use Rattle.drive.specs.State.{Agrees};
 ghost use Rattle.in_process.specs.Asked.{row_asked, profile_asked, bytes_or, is_bare, store_or, CanBe, ConfigAsked, StartsAs, IsStartFault};
-ghost use Rattle.byte_calls.specs.declared.error.CallError.TheVariants.{OutOfMemory, Limits};
+ghost use Rattle.library_calls.specs.declared.byte_calls.error.CallError.TheVariants.{OutOfMemory, Limits};
 
 use crate::refusals::of_set;
 use basics::Profile;
-use byte_calls::CallError;
 use drive::{Drive, DriveConfig, RangeRow};
+use library_calls::byte_calls::CallError;
 use sp_cells::config::{NEW_MODEL, NEW_PSID, NEW_SERIAL, new_datastore_of};
 use std::alloc::{AllocError, Global};
 

@@ -2,11 +2,11 @@
 
 ghost use Rattle.std.specs.Prelude.{◌≡◌, ◌++◌, IfOk, OnOk, None, Some};
 ghost use Rattle.audit.specs.AuditText.{line_text};
-ghost use Rattle.byte_calls.specs.Copies.{IsWrittenOut};
+ghost use Rattle.library_calls.specs.Copies.{IsWrittenOut};
 
 use crate::drive_desk::DriveDesk;
 use audit::{AuditLine, line_bytes};
-use byte_calls::{Count, copy_out, copy_text};
+use library_calls::byte_calls::{Count, copy_out, copy_text};
 use std::alloc::Global;
 
 impl DriveDesk {

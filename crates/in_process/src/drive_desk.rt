@@ -1,14 +1,14 @@
 //! A drive, with what it answered last.
 
 ghost use Rattle.std.specs.Prelude.{◌≡◌, None, Some};
-ghost use Rattle.byte_calls.specs.declared.error.CallError.{CallError};
+ghost use Rattle.library_calls.specs.declared.byte_calls.error.CallError.{CallError};
 
 use crate::answer::Answer;
 use crate::failed::Failed;
 use crate::refusals::of_drive;
-use byte_calls::{CallError, Count, DONE, copy_out};
 use drive::{Accepted, Completed, Drive, ResetKind};
 use fis::{H2D_LENGTH, Tag};
+use library_calls::byte_calls::{CallError, Count, DONE, copy_out};
 use std::alloc::Global;
 
 /// The Status register of a device that completed a command (ACS-3, Status field).
@@ -31,9 +31,9 @@ pub struct DriveDesk {
 impl DriveDesk {
     ghost use Rattle.std.specs.Prelude.{◌≡◌, List, [], OnOk, OnErr, IfOk, Some, None, MatchResult};
     ghost use Rattle.in_process.specs.Desks.{numbers_at, last_bytes, command_fault, completion_fault, payload_count, expected_count, TakesCommand, CompletesHeld, IsFirstFault, IsRefusedAs, IsTakenAs, IsFinishedAs, IsResetAs, IsNewDesk};
-    ghost use Rattle.byte_calls.specs.Copies.{IsCopied};
+    ghost use Rattle.library_calls.specs.Copies.{IsCopied};
     ghost use Rattle.in_process.specs.Failures.{failure_numbers};
-    ghost use Rattle.byte_calls.specs.declared.error.CallError.TheVariants.{OutOfMemory};
+    ghost use Rattle.library_calls.specs.declared.byte_calls.error.CallError.TheVariants.{OutOfMemory};
 
     /// A drive that has answered nothing yet.
     pub fn new(alloc: Global, drive: Drive) -> DriveDesk

@@ -7,8 +7,8 @@ ghost use Rattle.in_process.specs.Desks.{IsNewDesk};
 ghost use Rattle.in_process.specs.declared.drive_desk.DriveDesk.{DriveDesk};
 ghost use Rattle.in_process.specs.declared.object.Object.TheVariants.{Drive};
 ghost use Rattle.in_process.specs.Calls.{AcceptsBy, FinishesBy, Resets, CountsPayload, CountsExpected, TellsFailure, CopiesData, CopiesDenial, MakesDrive};
-ghost use Rattle.byte_calls.specs.Refusals.{done_code, code_of_call};
-ghost use Rattle.byte_calls.specs.declared.error.CallError.TheVariants.{NotOpen};
+ghost use Rattle.library_calls.specs.Refusals.{done_code, code_of_call};
+ghost use Rattle.library_calls.specs.declared.byte_calls.error.CallError.TheVariants.{NotOpen};
 
 use crate::answer::Answer;
 use crate::asked::{Names, RangeCells, Size, config_asked, drive_asked};
@@ -16,7 +16,7 @@ use crate::drive_desk::DriveDesk;
 use crate::failed::Failed;
 use crate::handle::Handle;
 use crate::object::Object;
-use byte_calls::{CallError, Count, DONE};
+use library_calls::byte_calls::{CallError, Count, DONE};
 use std::alloc::Global;
 
 /// The drive that is asked for.

@@ -3,8 +3,8 @@
 ghost use Rattle.std.specs.Prelude.{◌≡◌, Option};
 ghost use Rattle.in_process.specs.Failures.{failure_numbers, no_failure, refused_failure};
 
-use byte_calls::{CallError, DONE};
 use drive::Failure;
+use library_calls::byte_calls::{CallError, DONE};
 
 /// How the queue of a drive has failed, if it has: what log page 10h tells.
 #[repr(C)]

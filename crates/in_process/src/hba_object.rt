@@ -1,19 +1,19 @@
 //! What a handle has, where it is a controller.
 
 ghost use Rattle.std.specs.Prelude.{◌≡◌};
-ghost use Rattle.byte_calls.specs.Copies.{IsWrittenOut};
-ghost use Rattle.byte_calls.specs.Counts.{refused_count, given_count};
-ghost use Rattle.byte_calls.specs.Refusals.{code_of_call};
+ghost use Rattle.library_calls.specs.Copies.{IsWrittenOut};
+ghost use Rattle.library_calls.specs.Counts.{refused_count, given_count};
+ghost use Rattle.library_calls.specs.Refusals.{code_of_call};
 ghost use Rattle.fis.specs.Bytes.{bit};
 ghost use Rattle.hba.specs.Registers.{word_at, line};
-ghost use Rattle.hba_calls.specs.Desk.{WritesHba, TurnsDesk, denied_text};
-ghost use Rattle.hba_calls.specs.Worked.{refused_worked};
+ghost use Rattle.library_calls.specs.HbaCallsDesk.{WritesHba, TurnsDesk, denied_text};
+ghost use Rattle.library_calls.specs.Worked.{refused_worked};
 ghost use Rattle.in_process.specs.Calls.{WritesNone};
 ghost use Rattle.in_process.specs.HbaCalls.{OfHba};
 
 use crate::object::Object;
-use byte_calls::{CallError, Count};
-use hba_calls::Worked;
+use library_calls::byte_calls::{CallError, Count};
+use library_calls::hba_calls::Worked;
 use std::alloc::Global;
 
 impl Object {

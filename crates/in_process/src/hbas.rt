@@ -2,7 +2,7 @@
 
 ghost use Rattle.std.specs.Prelude.{◌≡◌, None, map, IfOk, IfErr, OnOk};
 ghost use Rattle.sp_cells.specs.Config.{Config};
-ghost use Rattle.hba_calls.specs.declared.desk.HbaDesk.{HbaDesk};
+ghost use Rattle.library_calls.specs.declared.hba_calls.desk.HbaDesk.{HbaDesk};
 ghost use Rattle.in_process.specs.Asked.{CanBe, ConfigAsked, IsMakingFault, IsStartFault, row_asked};
 ghost use Rattle.in_process.specs.HbaCalls.{MakesHba, HbaStartsAs, ReadsWord, TellsInterrupt, WritesByHandle, WorksByHandle, CopiesDenied};
 ghost use Rattle.in_process.specs.declared.object.Object.TheVariants as objects;
@@ -10,10 +10,10 @@ ghost use Rattle.in_process.specs.declared.object.Object.TheVariants as objects;
 use crate::asked::{Names, RangeCells, Size, config_asked, drive_asked};
 use crate::handle::Handle;
 use crate::object::Object;
-use byte_calls::{CallError, Count, DONE};
 use drive::DriveConfig;
 use hba::Hba;
-use hba_calls::{HbaDesk, Worked};
+use library_calls::byte_calls::{CallError, Count, DONE};
+use library_calls::hba_calls::{HbaDesk, Worked};
 use std::alloc::Global;
 
 /// The controller of this configuration and these cells.

@@ -2,10 +2,10 @@
 
 ghost use Rattle.std.specs.Prelude.{◌≡◌, IfOk, IfErr};
 ghost use Rattle.in_process.specs.Calls.{OfDrive, WritesNone};
-ghost use Rattle.byte_calls.specs.Copies.{IsCopied, IsWrittenOut};
-ghost use Rattle.byte_calls.specs.Counts.{refused_count};
-ghost use Rattle.byte_calls.specs.Refusals.{code_of_call};
-ghost use Rattle.byte_calls.specs.declared.error.CallError.TheVariants.{OutOfMemory};
+ghost use Rattle.library_calls.specs.Copies.{IsCopied, IsWrittenOut};
+ghost use Rattle.library_calls.specs.Counts.{refused_count};
+ghost use Rattle.library_calls.specs.Refusals.{code_of_call};
+ghost use Rattle.library_calls.specs.declared.byte_calls.error.CallError.TheVariants.{OutOfMemory};
 ghost use Rattle.in_process.specs.Answers.{refused_answer};
 ghost use Rattle.in_process.specs.Denials.{denial_at};
 ghost use Rattle.in_process.specs.Desks.{IsTakenAs, IsFinishedAs, IsResetAs, payload_count, expected_count, last_bytes};
@@ -14,9 +14,9 @@ ghost use Rattle.in_process.specs.Failures.{failure_numbers, refused_failure};
 use crate::answer::Answer;
 use crate::drive_desk::DriveDesk;
 use crate::failed::Failed;
-use byte_calls::{CallError, Count};
-use hba_calls::HbaDesk;
-use port_calls::PortDesk;
+use library_calls::byte_calls::{CallError, Count};
+use library_calls::hba_calls::HbaDesk;
+use library_calls::port_calls::PortDesk;
 use std::alloc::Global;
 
 /// What a handle has.

@@ -1,19 +1,19 @@
 //! What a handle has, where it is a port.
 
 ghost use Rattle.std.specs.Prelude.{◌≡◌, slice_get};
-ghost use Rattle.byte_calls.specs.Copies.{IsCopied, IsWrittenOut};
-ghost use Rattle.byte_calls.specs.Counts.{refused_count};
-ghost use Rattle.byte_calls.specs.Refusals.{code_of_call};
+ghost use Rattle.library_calls.specs.Copies.{IsCopied, IsWrittenOut};
+ghost use Rattle.library_calls.specs.Counts.{refused_count};
+ghost use Rattle.library_calls.specs.Refusals.{code_of_call};
 ghost use Rattle.in_process.specs.Calls.{WritesNone};
 ghost use Rattle.in_process.specs.PortCalls.{OfPort};
-ghost use Rattle.port_calls.specs.Desk.{TakesStep, StepsUnder, PutsBy, ResetsBy, TakesUnder, TakesTurn, ListsReady};
-ghost use Rattle.port_calls.specs.Shown.{shown_numbers, refused_shown, logged_text};
-ghost use Rattle.port_calls.specs.Told.{refused_take, answer_bytes};
+ghost use Rattle.library_calls.specs.Desk.{TakesStep, StepsUnder, PutsBy, ResetsBy, TakesUnder, TakesTurn, ListsReady};
+ghost use Rattle.library_calls.specs.Shown.{shown_numbers, refused_shown, logged_text};
+ghost use Rattle.library_calls.specs.PortCallsTold.{refused_take, answer_bytes};
 ghost use Rattle.port_history.specs.declared.step.Step.TheVariants as steps;
 
 use crate::object::Object;
-use byte_calls::{CallError, Count};
-use port_calls::{Asked, ReadyStep, Shown, Taken};
+use library_calls::byte_calls::{CallError, Count};
+use library_calls::port_calls::{Asked, ReadyStep, Shown, Taken};
 use std::alloc::Global;
 
 impl Object {

@@ -4,7 +4,7 @@ ghost use Rattle.std.specs.Prelude.{◌≡◌, map, IfOk, IfErr, OnOk};
 ghost use Rattle.sp_cells.specs.Config.{Config};
 ghost use Rattle.port_history.specs.Requests.{no_bytes};
 ghost use Rattle.port_history.specs.declared.step.Step.TheVariants as steps;
-ghost use Rattle.port_calls.specs.declared.desk.PortDesk.{PortDesk};
+ghost use Rattle.library_calls.specs.declared.port_calls.desk.PortDesk.{PortDesk};
 ghost use Rattle.in_process.specs.Asked.{CanBe, ConfigAsked, IsMakingFault, IsStartFault, row_asked};
 ghost use Rattle.in_process.specs.PortCalls.{MakesPort, PortStartsAs, PutsByHandle, StepsByHandle, RecoversByHandle, ResetsByHandle, TakesByHandle, TurnsByHandle, ListsByHandle, CopiesTaken, CopiesLogged, ShowsByHandle};
 ghost use Rattle.in_process.specs.declared.object.Object.TheVariants as objects;
@@ -12,10 +12,10 @@ ghost use Rattle.in_process.specs.declared.object.Object.TheVariants as objects;
 use crate::asked::{Names, RangeCells, Size, config_asked, drive_asked};
 use crate::handle::Handle;
 use crate::object::Object;
-use byte_calls::{CallError, Count, DONE};
 use drive::DriveConfig;
+use library_calls::byte_calls::{CallError, Count, DONE};
+use library_calls::port_calls::{Asked, PortDesk, ReadyStep, Shown, Taken};
 use port::Port;
-use port_calls::{Asked, PortDesk, ReadyStep, Shown, Taken};
 use std::alloc::Global;
 
 /// The port of this configuration and these cells.

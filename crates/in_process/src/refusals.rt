@@ -3,8 +3,8 @@
 ghost use Rattle.std.specs.Prelude.{◌≡◌};
 ghost use Rattle.in_process.specs.Refused.{set_refusal, drive_refusal};
 
-use byte_calls::CallError;
 use drive::{DriveError, SetError};
+use library_calls::byte_calls::CallError;
 
 /// Why a row of a range is refused.
 pub(crate) fn of_set(error: SetError) -> CallError

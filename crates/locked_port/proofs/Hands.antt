@@ -5,7 +5,7 @@ use Rattle.std.specs.Int.{bit_at}
 use mathlib.Core.Logic.{dite}
 use native.Mathlib.Decide.{ℕ_discrete}
 use Rattle.std.proofs.lemmas.Nat.Bits.{same_from_bits}
-use Rattle.tag_board.proofs.Bits.{or_other, bit_cases}
+use Rattle.locked_port.proofs.tag_board.Bits.{or_other, bit_cases}
 use Rattle.locked_port.specs.Hands.{Hand, hand, claimed, Frees}
 
 same_bits : (tag : ℕ) (h k : Hand) → bit_at h.tags tag ≡ 0 → Frees tag (claimed tag h) k → (j : ℕ) → bit_at k.tags j ≡ bit_at h.tags j

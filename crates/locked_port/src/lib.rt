@@ -6,6 +6,7 @@ mod gate;
 mod locked;
 mod pass;
 mod receipts;
+pub mod tag_board;
 mod ticket;
 
 pub use gate::{Gate, Pick};

@@ -9,13 +9,13 @@ use crate::desk::Desk;
 use crate::gate::{Gate, Pick};
 use crate::pass::{Pass, PortName, gather};
 use crate::receipts::is_client_at;
+use crate::tag_board::TagBoard;
 use crate::ticket::{Receipt, Ticket};
 use fis::Tag;
 use port::{Built, Entries, Port, PortError, Request, fits};
 use std::alloc::Global;
 use std::sync::ledger::{Blank, Share};
 use std::sync::{Condvar, Mutex, Wait};
-use tag_board::TagBoard;
 
 /// A port under one lock.
 #[derive(Drop)]

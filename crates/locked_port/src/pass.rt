@@ -4,13 +4,13 @@ ghost use Rattle.std.specs.Prelude.{◌≡◌, ◌<◌, vec_len, sum_by};
 ghost use Rattle.locked_port.specs.Hands.{hand_count};
 
 use crate::desk::Desk;
+use crate::tag_board::TagSeat;
 use crate::ticket::{Receipt, Ticket};
 use fis::Tag;
 use port::{Built, PortError};
 use std::alloc::Global;
 use std::marker::{Brand, Model};
 use std::sync::ledger::{Ledger, Share};
-use tag_board::TagSeat;
 
 /// Names one locked port.
 pub trait PortName: Ledger {

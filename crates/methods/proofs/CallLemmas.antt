@@ -4,12 +4,12 @@ use Rattle.std.proofs.Common.{◌≡◌, ℕ, ◌+◌, ◌==◌, true, false, �
 use Rattle.std.specs.Prelude.{Result, Ok, IfOk, ◌-◌, nat_le, nat_lt}
 use Rattle.sp_cells.specs.declared.names.Uid.{Uid}
 use Rattle.audit.specs.declared.reason.AttemptFailure.{AttemptFailure}
-use Rattle.rules.specs.declared.rule.Rule.{Rule}
-use Rattle.rules.specs.declared.rule.Rule.TheVariants.{OutsideTable, TooLong}
-use Rattle.call_shapes.specs.Limits.{most_response}
-use Rattle.call_shapes.specs.Statuses.{invalid_parameter, response_overflow}
-use Rattle.call_shapes.specs.declared.ask.Ask.{Ask}
-use Rattle.call_shapes.specs.declared.ask.Ask.TheVariants.{GetCells, GetBytes, SetCells, SetBytes, Authenticate, Activate, Revert, GenKey, RevertSp, Other}
+use Rattle.audit.specs.declared.rules.rule.Rule.{Rule}
+use Rattle.audit.specs.declared.rules.rule.Rule.TheVariants.{OutsideTable, TooLong}
+use Rattle.tcg_calls.specs.Limits.{most_response}
+use Rattle.tcg_calls.specs.Statuses.{invalid_parameter, response_overflow}
+use Rattle.tcg_calls.specs.declared.call_shapes.ask.Ask.{Ask}
+use Rattle.tcg_calls.specs.declared.call_shapes.ask.Ask.TheVariants.{GetCells, GetBytes, SetCells, SetBytes, Authenticate, Activate, Revert, GenKey, RevertSp, Other}
 use Rattle.tcg_tokens.specs.Tree.{Tree}
 use Rattle.tcg_tokens.specs.Message.{message}
 use Rattle.transactions.specs.declared.change.SessionId.{SessionId}

@@ -1,7 +1,7 @@
 -- Changes of the store, and what they set.
 use Rattle.std.proofs.Common.{◌≡◌, ◌<◌, ◌+◌, ℕ, zero, suc, Bool, true, false, List, length, Option, None, Some, refl, ap, ◌∙◌, sym, arith, is_some, [], ◌∷◌, option_map, if◌then◌else◌}
 use Rattle.std.specs.Prelude.{slice_index, Ok, Err}
-use Rattle.rules.specs.declared.rule.Rule.TheVariants.{NotSet}
+use Rattle.audit.specs.declared.rules.rule.Rule.TheVariants.{NotSet}
 use Rattle.sp_cells.specs.declared.names.Uid.{Uid}
 use Rattle.sp_cells.specs.declared.names.Sp.{Sp}
 use Rattle.sp_cells.specs.declared.names.Sp.TheVariants.{Admin, Locking}
@@ -21,7 +21,7 @@ use Rattle.methods.specs.Judgement.{fault_by, valid, to_set}
 use Rattle.trusted_cmds.specs.declared.block.SidBlock.TheVariants.{Free}
 use Rattle.methods.specs.Calls.{standing_on}
 use Rattle.methods.proofs.FaultLemmas.{fault-alike}
-use Rattle.call_shapes.specs.Statuses.{success}
+use Rattle.tcg_calls.specs.Statuses.{success}
 use Rattle.methods.specs.Said.{reply_of, attempt_reply, attempt_denied}
 use Rattle.tcg_tokens.specs.Tree.{number}
 use Rattle.audit.specs.declared.reason.Why.{Why}
@@ -33,7 +33,7 @@ use Rattle.sessions.specs.declared.answers.AuthAnswer.TheVariants.{Right, Wrong,
 use Rattle.sessions.specs.Answers.{answer_to}
 use Rattle.transactions.specs.Sights.{Sight, sight_on, sight_of, latest_look}
 use Rattle.methods.specs.Kinds.{kind_of}
-use Rattle.call_shapes.specs.declared.ask.Ask.{Ask}
+use Rattle.tcg_calls.specs.declared.call_shapes.ask.Ask.{Ask}
 use Rattle.sessions.specs.Live.{Holder}
 use Rattle.transactions.specs.declared.change.SessionId.{SessionId}
 use Rattle.sp_cells.specs.declared.error.SetError.TheVariants as faults

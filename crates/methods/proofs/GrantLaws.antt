@@ -8,7 +8,7 @@ use Rattle.sp_cells.specs.Flat.{LookUp}
 use Rattle.ace_eval.specs.Aces.{HasAce, acl_at, ace_of}
 use Rattle.ace_eval.proofs.AceLemmas.{some_ace, no_ace}
 use Rattle.audit.specs.declared.reason.Why.{Why}
-use Rattle.call_shapes.specs.declared.ask.Ask.{Ask}
+use Rattle.tcg_calls.specs.declared.call_shapes.ask.Ask.{Ask}
 use Rattle.methods.specs.Grants.{denial as denial_of, wanted, unless_allowed, why_denied, first_some}
 use Rattle.methods.specs.Judgement.{Standing, Denies, denial, does, unless_denied, judged}
 use Rattle.methods.specs.Laws.{EachHasAce, IsGranted, GrantLaw, DenyLaw, takes_effect, EffectLaw}

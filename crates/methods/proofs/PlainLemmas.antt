@@ -16,9 +16,9 @@ use Rattle.tcg_tokens.proofs.Writings.{spelled_with_fill}
 use Rattle.tcg_tokens.specs.Message.{Message, call}
 use Rattle.tcg_tokens.specs.Reading.{reading}
 use Rattle.tcg_tokens.proofs.Items.{all_again}
-use Rattle.call_shapes.specs.Asks.{uid_of, is_byte_table, get_of, ask_of}
-use Rattle.call_shapes.specs.Named.{values_of}
-use Rattle.call_shapes.specs.declared.ask.Ask.TheVariants.{GetCells}
+use Rattle.tcg_calls.specs.Asks.{uid_of, is_byte_table, get_of, ask_of}
+use Rattle.tcg_calls.specs.Named.{values_of}
+use Rattle.tcg_calls.specs.declared.call_shapes.ask.Ask.TheVariants.{GetCells}
 use Rattle.methods.specs.PlainGets.{columns_named, IsPlainGet}
 
 -- ---- it is read so

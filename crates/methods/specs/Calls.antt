@@ -15,8 +15,8 @@ use Rattle.audit.specs.declared.reason.AttemptFailure.{AttemptFailure}
 use Rattle.transactions.specs.declared.change.SessionId.{SessionId}
 use Rattle.transactions.specs.Stored.{Stored}
 use Rattle.transactions.specs.Sights.{sight_of, latest_look}
-use Rattle.call_shapes.specs.Asks.{ask_of, uid_of}
-use Rattle.call_shapes.specs.Statuses.{success, not_authorized}
+use Rattle.tcg_calls.specs.Asks.{ask_of, uid_of}
+use Rattle.tcg_calls.specs.Statuses.{success, not_authorized}
 use Rattle.sessions.specs.Answers.{rows_in_force}
 use Rattle.sessions.specs.Attempts.{attempt_failure as failure_of}
 use Rattle.sessions.specs.Deeds.{Unchanged, Changed, Sets, Activated, Reverted, Erased, Outcome, says, refuses, gains_of, tried}

@@ -6,12 +6,12 @@ use Rattle.sp_cells.specs.declared.names.Sp.{Sp}
 use Rattle.sp_cells.specs.declared.names.Column.{Column}
 use Rattle.sp_cells.specs.ColumnNames.{uid_column}
 use Rattle.sp_cells.specs.Config.{Config}
-use Rattle.sp_rows.specs.Items.{Item, item_at}
+use Rattle.sp_tables.specs.Items.{Item, item_at}
 use Rattle.sp_tables.specs.Contents.{items_of, factory_contents}
 use Rattle.tcg_tokens.specs.Tree.{Tree}
 use Rattle.ace_eval.specs.Aces.{acl_at}
-use Rattle.call_shapes.specs.declared.ask.Ask.{Ask}
-use Rattle.call_shapes.specs.Asks.{ask_of}
+use Rattle.tcg_calls.specs.declared.call_shapes.ask.Ask.{Ask}
+use Rattle.tcg_calls.specs.Asks.{ask_of}
 use Rattle.methods.specs.Kinds.{kind_of}
 use Rattle.methods.specs.declared.kinds.Kind.{Kind}
 use Rattle.methods.specs.declared.kinds.Kind.TheVariants as kinds

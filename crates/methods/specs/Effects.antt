@@ -7,15 +7,15 @@ use Rattle.sp_cells.specs.declared.error.SetError.{SetError}
 use Rattle.sp_cells.specs.declared.error.SetError.TheVariants as faults
 use Rattle.sp_cells.specs.Names.{admin_sp}
 use Rattle.sp_cells.specs.Flat.{LookUp}
-use Rattle.rules.specs.declared.rule.Rule.{Rule}
-use Rattle.rules.specs.declared.rule.Rule.TheVariants.{NotSet}
+use Rattle.audit.specs.declared.rules.rule.Rule.{Rule}
+use Rattle.audit.specs.declared.rules.rule.Rule.TheVariants.{NotSet}
 use Rattle.transactions.specs.declared.change.SessionId.{SessionId}
 use Rattle.transactions.specs.declared.change.Change.{Change}
 use Rattle.transactions.specs.Stored.{Stored, part, at_part, part_set, is_open}
 use Rattle.transactions.specs.Changes.{fault_of_change}
 use Rattle.transactions.specs.Sights.{look_up, sight_of}
-use Rattle.call_shapes.specs.declared.ask.Ask.{Ask}
-use Rattle.call_shapes.specs.declared.ask.Ask.TheVariants.{GetCells, GetBytes, SetCells, SetBytes, Authenticate, Activate, Revert, GenKey, RevertSp, Other}
+use Rattle.tcg_calls.specs.declared.call_shapes.ask.Ask.{Ask}
+use Rattle.tcg_calls.specs.declared.call_shapes.ask.Ask.TheVariants.{GetCells, GetBytes, SetCells, SetBytes, Authenticate, Activate, Revert, GenKey, RevertSp, Other}
 use Rattle.sessions.specs.Live.{Live, Holder, session_at, holder_on}
 use Rattle.methods.specs.declared.kinds.Kind.{Kind}
 use Rattle.methods.specs.declared.kinds.Kind.TheVariants as kinds

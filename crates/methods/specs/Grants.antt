@@ -10,8 +10,8 @@ use Rattle.sp_cells.specs.Flat.{LookUp}
 use Rattle.ace_eval.specs.Aces.{acl_at, naming, ace_of}
 use Rattle.audit.specs.declared.reason.Why.{Why}
 use Rattle.audit.specs.declared.reason.Why.TheVariants.{NoEntryHolds, NoAccessRow}
-use Rattle.call_shapes.specs.declared.ask.Ask.{Ask}
-use Rattle.call_shapes.specs.declared.ask.Ask.TheVariants.{SetCells}
+use Rattle.tcg_calls.specs.declared.call_shapes.ask.Ask.{Ask}
+use Rattle.tcg_calls.specs.declared.call_shapes.ask.Ask.TheVariants.{SetCells}
 
 -- why no ACE allows a method: it is not offered, or none of the ACEs that name the column holds
 abbrev pub why_denied : LookUp → Sp → Uid → Uid → Option Column → Option (List Uid) → Why

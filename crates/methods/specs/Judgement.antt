@@ -14,16 +14,16 @@ use Rattle.sp_tables.specs.Looks.{RowLook, fault_seen}
 use Rattle.sp_tables.specs.Tries.{names_tries}
 use Rattle.transactions.specs.Bytes.{bytes_from}
 use Rattle.audit.specs.declared.reason.Why.{Why}
-use Rattle.rules.specs.declared.rule.Rule.{Rule}
-use Rattle.rules.specs.declared.rule.Rule.TheVariants.{NoMethod, Shape, OutsideTable, TooLong, WrongValue, InTransaction, NoKey, GlobalLocked}
-use Rattle.call_shapes.specs.Carried.{is_carried}
+use Rattle.audit.specs.declared.rules.rule.Rule.{Rule}
+use Rattle.audit.specs.declared.rules.rule.Rule.TheVariants.{NoMethod, Shape, OutsideTable, TooLong, WrongValue, InTransaction, NoKey, GlobalLocked}
+use Rattle.tcg_calls.specs.Carried.{is_carried}
 use Rattle.tcg_tokens.specs.Tree.{Tree, Trees, bytes, list, trees_of}
-use Rattle.call_shapes.specs.declared.ask.Ask.{Ask}
-use Rattle.call_shapes.specs.declared.ask.Ask.TheVariants.{GetCells, GetBytes, SetCells, SetBytes, Authenticate, Activate, Revert, GenKey, RevertSp, Other}
-use Rattle.call_shapes.specs.Named.{values_of}
-use Rattle.call_shapes.specs.Asks.{ask_of}
-use Rattle.call_shapes.specs.Limits.{most_response}
-use Rattle.call_shapes.specs.Statuses.{success, invalid_parameter, response_overflow, fail}
+use Rattle.tcg_calls.specs.declared.call_shapes.ask.Ask.{Ask}
+use Rattle.tcg_calls.specs.declared.call_shapes.ask.Ask.TheVariants.{GetCells, GetBytes, SetCells, SetBytes, Authenticate, Activate, Revert, GenKey, RevertSp, Other}
+use Rattle.tcg_calls.specs.Named.{values_of}
+use Rattle.tcg_calls.specs.Asks.{ask_of}
+use Rattle.tcg_calls.specs.Limits.{most_response}
+use Rattle.tcg_calls.specs.Statuses.{success, invalid_parameter, response_overflow, fail}
 use Rattle.trusted_cmds.specs.declared.block.SidBlock.{SidBlock}
 use Rattle.methods.specs.Kinds.{kind_of, byte_table_of}
 use Rattle.methods.specs.Grants.{denied}

@@ -5,7 +5,7 @@ use Rattle.sp_cells.specs.declared.names.Sp.{Sp}
 use Rattle.sp_cells.specs.Names.{this_sp, table_of, ace_table, authority_table, c_pin_table, sp_table, locking_info_table, table_table, locking_table, mbr_control_table, tper_info_table, key_table, data_removal_table}
 use Rattle.sp_cells.specs.declared.byte_tables.ByteTable.{ByteTable}
 use Rattle.sp_cells.specs.declared.byte_tables.ByteTable.TheVariants as byte_tables
-use Rattle.call_shapes.specs.Asks.{is_mbr_table, is_datastore}
+use Rattle.tcg_calls.specs.Asks.{is_mbr_table, is_datastore}
 use Rattle.methods.specs.declared.kinds.Kind.{Kind}
 use Rattle.methods.specs.declared.kinds.Kind.TheVariants as kinds
 

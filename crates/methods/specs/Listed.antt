@@ -10,7 +10,7 @@ use Rattle.sp_cells.specs.Names.{get}
 use Rattle.sp_cells.specs.Flat.{LookUp}
 use Rattle.tcg_tokens.specs.Tree.{Tree, number, named}
 use Rattle.ace_eval.specs.Aces.{ace_of}
-use Rattle.call_shapes.specs.CellValues.{cell_tree}
+use Rattle.tcg_calls.specs.CellValues.{cell_tree}
 use Rattle.methods.specs.Kinds.{kind_of}
 use Rattle.methods.specs.Columns.{columns_of}
 

@@ -5,10 +5,10 @@ use Rattle.sp_cells.specs.declared.names.Sp.{Sp}
 use Rattle.tcg_tokens.specs.Tree.{Trees, number, list, named, empty, more}
 use Rattle.tcg_tokens.specs.Message.{Message, call}
 use Rattle.tcg_tokens.specs.Reading.{reading}
-use Rattle.call_shapes.specs.Asks.{ask_of, uid_of}
-use Rattle.call_shapes.specs.Named.{values_of}
-use Rattle.call_shapes.specs.Parameters.{start_column_parameter, end_column_parameter}
-use Rattle.call_shapes.specs.declared.ask.Ask.TheVariants.{GetCells}
+use Rattle.tcg_calls.specs.Asks.{ask_of, uid_of}
+use Rattle.tcg_calls.specs.Named.{values_of}
+use Rattle.tcg_calls.specs.Parameters.{start_column_parameter, end_column_parameter}
+use Rattle.tcg_calls.specs.declared.call_shapes.ask.Ask.TheVariants.{GetCells}
 use Rattle.methods.specs.declared.plain.PlainGet.{PlainGet}
 
 -- the arguments: one list, which names the first column and the last

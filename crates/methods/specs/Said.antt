@@ -8,7 +8,7 @@ use Rattle.audit.specs.declared.reason.AttemptFailure.{AttemptFailure}
 use Rattle.audit.specs.declared.reason.AttemptFailure.TheVariants.{WrongPin, LockedOut, Disabled, Blocked, Unknown}
 use Rattle.audit.specs.declared.reason.Why.{Why}
 use Rattle.audit.specs.declared.reason.Why.TheVariants.{AttemptFailed}
-use Rattle.call_shapes.specs.Statuses.{success, authority_locked_out}
+use Rattle.tcg_calls.specs.Statuses.{success, authority_locked_out}
 
 abbrev pub reply_of : List Tree → ℕ → Message
 reply_of results status = reply (trees_of results) (status ∷ 0 ∷ 0 ∷ [])

@@ -14,9 +14,9 @@ use Rattle.sp_cells.specs.ByteTables.{table_begin, fits_table}
 use Rattle.sp_cells.specs.Names.{col}
 use Rattle.sp_cells.specs.Values.{type_at}
 use Rattle.tcg_tokens.specs.Tree.{Tree}
-use Rattle.call_shapes.specs.CellValues.{cell_in}
-use Rattle.call_shapes.specs.declared.ask.Ask.{Ask}
-use Rattle.call_shapes.specs.declared.ask.Ask.TheVariants.{SetCells, SetBytes}
+use Rattle.tcg_calls.specs.CellValues.{cell_in}
+use Rattle.tcg_calls.specs.declared.call_shapes.ask.Ask.{Ask}
+use Rattle.tcg_calls.specs.declared.call_shapes.ask.Ask.TheVariants.{SetCells, SetBytes}
 use Rattle.methods.specs.declared.kinds.Kind.{Kind}
 use Rattle.methods.specs.declared.kinds.Kind.TheVariants as kinds
 use Rattle.sessions.specs.Deeds.{Setting, cells_set, bytes_set}

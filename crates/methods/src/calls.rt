@@ -15,11 +15,11 @@ use crate::kinds::{Handler, Kind, byte_table_of, kind_of};
 use crate::outcome::{self, MethodFault, Outcome, refused};
 use ace_eval::Authorities;
 use audit::Why;
-use call_shapes::{Ask, read_ask, status, uid_of};
-use rules::Rule;
+use audit::rules::Rule;
 use sessions::Sessions;
 use sp_cells::{Sp, Uid};
 use std::alloc::Global;
+use tcg_calls::call_shapes::{Ask, read_ask, status, uid_of};
 use tcg_tokens::{Call, Value};
 use transactions::{SessionId, Store};
 

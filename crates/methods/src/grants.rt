@@ -6,8 +6,8 @@ ghost use Rattle.sp_cells.specs.Names.{col};
 
 use ace_eval::{Authorities, entry};
 use audit::Why;
-use call_shapes::{Ask, Assignments};
 use sp_cells::{Column, Rows, Sp, Uid};
+use tcg_calls::call_shapes::{Ask, Assignments};
 
 /// Why a method is denied for a column, or for no column in particular; None where an ACE allows it.
 pub fn denial<R: Rows>(

@@ -3,7 +3,7 @@
 ghost use Rattle.std.specs.Prelude.{◌≡◌, ◌≤◌, ◌/◌, ◌<◌, ◌==◌, ◌&&◌, ◌++◌, ◌∷◌, [], List, map, filter, nat_le, is_some, IfOk, OnOk, None, Some, option_copied};
 ghost use Rattle.std.specs.List.{flat_map};
 ghost use Rattle.tcg_tokens.specs.Tree.{tree, number, named};
-ghost use Rattle.call_shapes.specs.CellValues.{cell_tree};
+ghost use Rattle.tcg_calls.specs.CellValues.{cell_tree};
 ghost use Rattle.methods.specs.Columns.{columns_in};
 ghost use Rattle.methods.specs.Listed.{is_listed as is_listed_by, shown_column, listed_among, listed, cell_value};
 
@@ -11,10 +11,10 @@ use crate::cases::method_cases;
 use crate::grants::denial;
 use crate::kinds::{Kind, kind_of};
 use ace_eval::{Authorities, entry};
-use call_shapes::{named_value, value_of};
 use sp_cells::values::ColumnType;
 use sp_cells::{Cell, Column, Rows, Sp, Uid};
 use std::alloc::{AllocError, Global};
+use tcg_calls::call_shapes::{named_value, value_of};
 use tcg_tokens::Value;
 
 /// The columns of the row for Get among the rows of a kind, with the types of their values.

@@ -3,18 +3,18 @@
 ghost use Rattle.std.specs.Prelude.{◌≡◌, true, false, [], ◌∷◌, map, None, Some, nat_lt, IfOk};
 ghost use Rattle.tcg_tokens.specs.Tree.{tree, number};
 ghost use Rattle.tcg_tokens.specs.Message.{message};
-ghost use Rattle.call_shapes.specs.Statuses.{success, not_authorized};
+ghost use Rattle.tcg_calls.specs.Statuses.{success, not_authorized};
 ghost use Rattle.shadow_mbr.specs.Erasure.{no_sectors};
 ghost use Rattle.methods.specs.Said.{reply_of, refusal_of};
 ghost use Rattle.methods.specs.Judgement.{Denies, Refuses, gives};
 ghost use Rattle.methods.specs.Calls.{Tells};
 
 use audit::Why;
-use call_shapes::limits::MOST_RESPONSE;
-use call_shapes::status;
-use rules::Rule;
+use audit::rules::Rule;
 use shadow_mbr::Erased;
 use std::alloc::{AllocError, AllocFailed, Global};
+use tcg_calls::call_shapes::limits::MOST_RESPONSE;
+use tcg_calls::call_shapes::status;
 use tcg_tokens::{Item, Value, item_len, writable};
 use thiserror::Error;
 

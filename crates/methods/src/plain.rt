@@ -1,8 +1,8 @@
 //! A Get of columns as most are written, from its bytes and in a session.
 
 ghost use Rattle.std.specs.Prelude.{◌≡◌, ◌≢◌, ◌<◌, ◌≤◌, ◌++◌, ◌∷◌, [], length, Err, None, Some, IfOk, IfSome, IsTrue, OnErr, Ok};
-ghost use Rattle.call_shapes.specs.Asks.{uid_of as uid_in};
-ghost use Rattle.call_shapes.specs.declared.ask.Ask.TheVariants.{GetCells};
+ghost use Rattle.tcg_calls.specs.Asks.{uid_of as uid_in};
+ghost use Rattle.tcg_calls.specs.declared.call_shapes.ask.Ask.TheVariants.{GetCells};
 ghost use Rattle.methods.specs.Calls.{standing_in, outcome_in, Fulfils};
 ghost use Rattle.methods.specs.Effects.{live_holder};
 ghost use Rattle.methods.specs.Judgement.{judged};
@@ -12,10 +12,10 @@ ghost use Rattle.sp_cells.specs.Names.{get, mbr_table, datastore_table};
 
 use crate::calls::call_asked;
 use crate::outcome::{MethodFault, Outcome};
-use call_shapes::{Ask, parameter, uid_of};
 use sessions::Sessions;
 use sp_cells::Uid;
 use std::alloc::Global;
+use tcg_calls::call_shapes::{Ask, parameter, uid_of};
 use transactions::{SessionId, Store};
 
 /// The bytes of the marks that a Get has, and that of a short atom of eight bytes.

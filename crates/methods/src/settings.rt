@@ -9,10 +9,10 @@ ghost use Rattle.methods.specs.Kinds.{kind_of as kind_of_object};
 
 use crate::cases::method_cases;
 use crate::kinds::{Kind, byte_table_of, kind_of};
-use call_shapes::{Ask, Assignments, cell_of};
 use sp_cells::values::ColumnType;
 use sp_cells::{ByteTable, Cell, Column, Rows, Sp, Uid};
 use std::alloc::{AllocError, Global};
+use tcg_calls::call_shapes::{Ask, Assignments, cell_of};
 use tcg_tokens::Value;
 use transactions::Change;
 

@@ -13,13 +13,13 @@ use Rattle.tool.specs.Level0.{level0_text}
 use Rattle.tool.specs.TokenLines.{token_text}
 use Rattle.tool.specs.declared.tokens.Naming.{Naming}
 use Rattle.decoded.specs.Decodings.{DecodeEnds}
-use Rattle.recorded.specs.Pictures.{Draws}
-use Rattle.explored.specs.Plans.{WritesPlan, WritesSomePlan}
-use Rattle.explored.specs.Tellings.{Explores}
-use Rattle.explored.specs.declared.plan.Plan.{Plan}
-use Rattle.hba_tool.specs.Openings.{option_rows, IsFaultOf}
-use Rattle.hba_tool.specs.Steps.{ServesOpened}
-use Rattle.hba_tool.specs.declared.opening.RangeFault.{RangeFault}
+use Rattle.runs.specs.Pictures.{Draws}
+use Rattle.runs.specs.Plans.{WritesPlan, WritesSomePlan}
+use Rattle.runs.specs.Tellings.{Explores}
+use Rattle.runs.specs.declared.explored.plan.Plan.{Plan}
+use Rattle.hba_program.specs.Openings.{option_rows, IsFaultOf}
+use Rattle.hba_program.specs.Steps.{ServesOpened}
+use Rattle.hba_program.specs.declared.hba_tool.opening.RangeFault.{RangeFault}
 use Rattle.clap.specs.Words.{IsAmong, Kinds, Text, fault_of}
 use Rattle.clap.specs.declared.error.kind.ErrorKind.{ErrorKind}
 use Rattle.clap.specs.declared.error.kind.ErrorKind.TheVariants.{DisplayHelp, DisplayVersion}

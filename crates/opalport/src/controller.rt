@@ -6,7 +6,7 @@ ghost use Rattle.opalport.specs.Program.{ControllerEnds, HbaEnds};
 
 use crate::command_line::HbaTexts;
 use crate::error::ProgramError;
-use hba_tool::{RangeFault, drive_with_ranges, serve};
+use hba_program::hba_tool::{RangeFault, drive_with_ranges, serve};
 use std::alloc::Global;
 use std::io::{Read, Write};
 use tool::{Options, OptionsFault, RunError};

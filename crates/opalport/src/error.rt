@@ -1,9 +1,9 @@
 //! Why the program comes to no status of its own.
 
 use decoded::DecodeError;
-use hba_tool::WireError;
+use hba_program::hba_tool::WireError;
 use port_threads::LoadError;
-use recorded::RecordError;
+use runs::recorded::RecordError;
 use thiserror::Error;
 use tool::RunError;
 

@@ -2,22 +2,22 @@
 #![tactic(auto)]
 
 ghost use Rattle.std.specs.Prelude.{◌≡◌, None, MatchOption};
-ghost use Rattle.byte_calls.specs.Carries.{FramedAs, IsOpened};
-ghost use Rattle.byte_calls.specs.Copies.{IsWrittenOut};
-ghost use Rattle.byte_calls.specs.Spelled.{AskedAs, SpelledAs, command_asked, trusted_asked};
-ghost use Rattle.byte_calls.specs.Told.{DecodedAs, tokens_said};
+ghost use Rattle.library_calls.specs.Carries.{FramedAs, IsOpened};
+ghost use Rattle.library_calls.specs.Copies.{IsWrittenOut};
+ghost use Rattle.library_calls.specs.Spelled.{AskedAs, SpelledAs, command_asked, trusted_asked};
+ghost use Rattle.library_calls.specs.Told.{DecodedAs, tokens_said};
 ghost use Rattle.in_process.specs.Calls.{AcceptsBy, FinishesBy, Resets, CountsPayload, CountsExpected, TellsFailure, CopiesData, CopiesDenial, MakesDrive};
-ghost use Rattle.byte_calls.specs.Refusals.{done_code, code_of_call};
-ghost use Rattle.byte_calls.specs.declared.error.CallError.TheVariants.{NotOpen};
+ghost use Rattle.library_calls.specs.Refusals.{done_code, code_of_call};
+ghost use Rattle.library_calls.specs.declared.byte_calls.error.CallError.TheVariants.{NotOpen};
 ghost use Rattle.in_process.specs.HbaCalls.{MakesHba, ReadsWord, TellsInterrupt, WritesByHandle, WorksByHandle, CopiesDenied};
 ghost use Rattle.in_process.specs.PortCalls.{MakesPort, PutsByHandle, StepsByHandle, RecoversByHandle, ResetsByHandle, TakesByHandle, TurnsByHandle, ListsByHandle, CopiesTaken, CopiesLogged, ShowsByHandle};
 ghost use Rattle.port_history.specs.declared.step.Step.TheVariants as steps;
 
-use byte_calls::{Carried, Count, Transfer};
 use compacket::Session;
-use hba_calls::Worked;
 use in_process::{Answer, Failed, Handle, Names, RangeCells, Size};
-use port_calls::{Asked, ReadyStep, Shown, Taken};
+use library_calls::byte_calls::{Carried, Count, Transfer};
+use library_calls::hba_calls::Worked;
+use library_calls::port_calls::{Asked, ReadyStep, Shown, Taken};
 use std::alloc::Global;
 
 /// `opal_drive_new`, with the parts of its configuration one by one: [`in_process::drive_new`].
@@ -358,7 +358,7 @@ pub extern "C" fn opal_raw_hba_denial(handle: &mut Handle, alloc: Global, into: 
     in_process::hba_denial(handle, alloc, into)
 }
 
-/// [`byte_calls::tokens_out`].
+/// [`library_calls::byte_calls::tokens_out`].
 #[unsafe(no_mangle)]
 pub extern "C" fn opal_raw_tokens(
     alloc: Global,
@@ -368,18 +368,18 @@ pub extern "C" fn opal_raw_tokens(
 ) -> Count
     ensures { IsWrittenOut (tokens_said by_name bytes.now) into.old into.new result }
 {
-    byte_calls::tokens_out(alloc, by_name, bytes, into)
+    library_calls::byte_calls::tokens_out(alloc, by_name, bytes, into)
 }
 
-/// [`byte_calls::decoded_out`].
+/// [`library_calls::byte_calls::decoded_out`].
 #[unsafe(no_mangle)]
 pub extern "C" fn opal_raw_decoded(alloc: Global, kind: u32, bytes: &[u8], into: &mut [u8]) -> Count
     ensures { DecodedAs kind bytes.now into.old into.new result }
 {
-    byte_calls::decoded_out(alloc, kind, bytes, into)
+    library_calls::byte_calls::decoded_out(alloc, kind, bytes, into)
 }
 
-/// [`byte_calls::frame_out`].
+/// [`library_calls::byte_calls::frame_out`].
 #[unsafe(no_mangle)]
 pub extern "C" fn opal_raw_frame(
     alloc: Global,
@@ -392,18 +392,18 @@ pub extern "C" fn opal_raw_frame(
     ensures { FramedAs com_id (record { tsn = tsn; hsn = hsn }) payload.now into.old
         into.new result }
 {
-    byte_calls::frame_out(alloc, com_id, Session { tsn, hsn }, payload, into)
+    library_calls::byte_calls::frame_out(alloc, com_id, Session { tsn, hsn }, payload, into)
 }
 
-/// [`byte_calls::opened`].
+/// [`library_calls::byte_calls::opened`].
 #[unsafe(no_mangle)]
 pub extern "C" fn opal_raw_opened(bytes: &[u8]) -> Carried
     ensures { IsOpened bytes.now result }
 {
-    byte_calls::opened(bytes)
+    library_calls::byte_calls::opened(bytes)
 }
 
-/// [`byte_calls::transfer_fis`].
+/// [`library_calls::byte_calls::transfer_fis`].
 #[unsafe(no_mangle)]
 pub extern "C" fn opal_raw_command_fis(
     command: u32,
@@ -414,10 +414,10 @@ pub extern "C" fn opal_raw_command_fis(
 ) -> Count
     ensures { AskedAs (command_asked command lba count) tag into.old into.new result }
 {
-    byte_calls::transfer_fis(command, &Transfer { lba, count }, tag, into)
+    library_calls::byte_calls::transfer_fis(command, &Transfer { lba, count }, tag, into)
 }
 
-/// [`byte_calls::trusted_fis`].
+/// [`library_calls::byte_calls::trusted_fis`].
 #[unsafe(no_mangle)]
 pub extern "C" fn opal_raw_trusted_fis(
     is_send: bool,
@@ -429,5 +429,5 @@ pub extern "C" fn opal_raw_trusted_fis(
     ensures { SpelledAs (trusted_asked is_send protocol sp_specific blocks) 0 into.old into.new
         result }
 {
-    byte_calls::trusted_fis(is_send, protocol, sp_specific, blocks, into)
+    library_calls::byte_calls::trusted_fis(is_send, protocol, sp_specific, blocks, into)
 }

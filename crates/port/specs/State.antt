@@ -1,7 +1,7 @@
 -- What contracts see of a port, and what each step makes of it.
 use Rattle.std.specs.Prelude.{◌≡◌, ℕ, ◌+◌, ◌++◌, ◌∷◌, ◌≤◌, ◌<◌, ◌==◌, ◌&&◌, ◌%◌, Bool, true, false, not, nat_lt, List, [], length, reverse, slice_index, slice_set, is_some, Option, Some, None, if◌then◌else◌}
 use Rattle.audit.specs.declared.reason.AuditLine.{AuditLine}
-use Rattle.rules.specs.declared.rule.Rule.{Rule}
+use Rattle.audit.specs.declared.rules.rule.Rule.{Rule}
 use Rattle.fis.specs.H2d.{h2d_at}
 use Rattle.fis.specs.Tags.{slot_count}
 use Rattle.fis.specs.declared.any.Fis.{Fis}

@@ -3,11 +3,11 @@
 use crate::outcome::Outcome;
 use crate::stages::{Stages, no_outcomes};
 use audit::AuditLine;
+use audit::rules::Rule;
 use drive::{Accepted, Drive};
 use fis::{SLOT_COUNT, Tag};
 use hba_regs::PortRegs;
 use port_history::{Entries, PortError, Stage};
-use rules::Rule;
 use slots::PortMemory;
 use std::alloc::{AllocError, Global};
 use std::marker::Model;

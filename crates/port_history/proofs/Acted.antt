@@ -35,8 +35,8 @@ use Rattle.sp_cells.specs.Config.{Config}
 use Rattle.trusted_cmds.proofs.Spellings.{ok-reads}
 use Rattle.port_history.proofs.Sizes.{sector_length, data-fits}
 use Rattle.sp_cells.specs.Resets.{programmatic}
-use Rattle.rules.specs.declared.rule.Rule.TheVariants.{NoCommand, Mixed, BeyondDrive}
-use Rattle.rules.specs.declared.rule.Rule.{Rule}
+use Rattle.audit.specs.declared.rules.rule.Rule.TheVariants.{NoCommand, Mixed, BeyondDrive}
+use Rattle.audit.specs.declared.rules.rule.Rule.{Rule}
 
 -- the FISes
 pub commands_of : (command : Command) (tag : ℕ) → (fis_of command tag).is_command ≡ true

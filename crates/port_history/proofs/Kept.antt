@@ -29,7 +29,7 @@ use Rattle.port_history.proofs.Fises.{brought}
 use Rattle.port_history.specs.Laws.{IsSized}
 use Rattle.port_history.proofs.Acted.{IsExecuted, held_effect, failed_effect, mended_effect}
 use Rattle.port_history.proofs.Tests.{none_passes}
-use Rattle.rules.specs.declared.rule.Rule.{Rule}
+use Rattle.audit.specs.declared.rules.rule.Rule.{Rule}
 
 -- What is held under a tag, by its stage, while the port has not failed.
 abbrev pub held_by : Option ℕ → Stage → Option Command

@@ -28,7 +28,7 @@ use Rattle.port_history.proofs.Bits.{or_same, or_other, without_same, without_ot
 use Rattle.port_history.proofs.Tests.{none_is, some_is, was_true, none_holds, tests_of, free_is, prepared_is, issued_is, accepted_is, answered_is}
 use Rattle.port_history.proofs.Kept.{Kept, accept_moment, complete_moment, moves, accepted_moves, executed_moves, recovered_in, reset_in, is_single, failed_held, failed_failed, failed_executed}
 use Rattle.port_history.proofs.KeptLaw.{kept, accept_is, complete_is, recover_is, accepted_effect, completed_effect, queued_comes, unqueued_comes, accepted_moves as completion_is, fit_accepted, found}
-use Rattle.rules.specs.declared.rule.Rule.{Rule}
+use Rattle.audit.specs.declared.rules.rule.Rule.{Rule}
 
 -- The bits of a tag, by its stage and the tag that failed.
 pub record AreBits (active issued tag : ℕ) (s : Stage) (f : Option ℕ) : Type 0 where

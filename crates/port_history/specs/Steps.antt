@@ -2,7 +2,7 @@
 -- what is read off them.
 use Rattle.std.specs.Prelude.{ℕ, ◌+◌, ◌&&◌, ◌==◌, Bool, false, ◌∷◌, ◌++◌, List, [], length, reverse, is_some, option_map, unwrap_or, Option, Some, None, if◌then◌else◌}
 use Rattle.audit.specs.declared.reason.AuditLine.{AuditLine}
-use Rattle.rules.specs.declared.rule.Rule.{Rule}
+use Rattle.audit.specs.declared.rules.rule.Rule.{Rule}
 use Rattle.device_data.specs.declared.log_page.Failure.{Failure}
 use Rattle.fis.specs.declared.any.Fis.{Fis}
 use Rattle.history.specs.Resets.{reset_kind_number}

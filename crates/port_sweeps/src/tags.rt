@@ -3,10 +3,10 @@
 ghost use Rattle.std.specs.Prelude.{◌≡◌};
 
 use fis::Tag;
+use locked_port::tag_board::{TagBoard, TagSeat};
 use std::alloc::{AllocError, Global};
 use std::thread;
 use std::thread::Threads;
-use tag_board::{TagBoard, TagSeat};
 
 /// Whether the next claim of a seat gets this tag.
 fn claims(seat: &mut TagSeat, number: u8) -> bool {

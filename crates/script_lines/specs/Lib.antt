@@ -13,3 +13,6 @@ pub mod Says
 pub mod PortSays
 pub mod Faults
 pub mod Laws
+pub mod Phrases
+pub mod Calls
+pub mod Said

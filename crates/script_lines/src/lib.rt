@@ -6,6 +6,7 @@ mod field;
 mod hex_text;
 mod laws;
 mod line;
+pub mod named_lines;
 mod number;
 mod port_line;
 mod remark;

@@ -10,7 +10,7 @@ use Rattle.shadow_mbr.specs.declared.erasure.Erasure.{Erasure}
 use Rattle.shadow_mbr.specs.Erasure.{no_sectors}
 use Rattle.audit.specs.declared.reason.AttemptFailure.{AttemptFailure}
 use Rattle.audit.specs.declared.reason.Why.{Why}
-use Rattle.rules.specs.declared.rule.Rule.{Rule}
+use Rattle.audit.specs.declared.rules.rule.Rule.{Rule}
 use Rattle.tcg_tokens.specs.Message.{Message}
 use Rattle.sessions.specs.Attempts.{credential}
 use Rattle.sessions.specs.Gains.{gained as gained_by}

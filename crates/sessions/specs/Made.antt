@@ -7,7 +7,7 @@ use Rattle.sp_cells.specs.declared.names.Sp.TheVariants.{Admin, Locking}
 use Rattle.sp_cells.specs.ColumnNames.{tries_column}
 use Rattle.sp_cells.specs.Flat.{sp_eq}
 use Rattle.sp_cells.specs.Ranges.{number}
-use Rattle.sp_rows.specs.Items.{Item, with_items}
+use Rattle.sp_tables.specs.Items.{Item, with_items}
 use Rattle.sp_tables.specs.Tries.{names_tries}
 use Rattle.shadow_mbr.specs.Stored.{sector_size}
 use Rattle.shadow_mbr.specs.declared.erasure.Erasure.{Erasure}
@@ -15,7 +15,7 @@ use Rattle.ace_eval.specs.Truth.{has}
 use Rattle.audit.specs.declared.reason.AttemptFailure.{AttemptFailure}
 use Rattle.audit.specs.declared.reason.AttemptFailure.TheVariants.{WrongPin, LockedOut, Disabled, Blocked, Unknown}
 use Rattle.audit.specs.declared.reason.Why.{Why}
-use Rattle.rules.specs.declared.rule.Rule.{Rule}
+use Rattle.audit.specs.declared.rules.rule.Rule.{Rule}
 use Rattle.tcg_tokens.specs.Message.{Message}
 use Rattle.transactions.specs.Bytes.{written}
 use Rattle.transactions.specs.Stored.{Transaction, Part, Stored, part, at_part, part_begin, part_commit, part_close, part_tries, reverted}

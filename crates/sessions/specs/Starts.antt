@@ -15,12 +15,12 @@ use Rattle.audit.specs.declared.reason.AttemptFailure.{AttemptFailure}
 use Rattle.audit.specs.declared.reason.AttemptFailure.TheVariants.{WrongPin, LockedOut, Disabled, Blocked, Unknown}
 use Rattle.audit.specs.declared.reason.Why.{Why}
 use Rattle.audit.specs.declared.reason.Why.TheVariants.{AttemptFailed}
-use Rattle.rules.specs.declared.rule.Rule.{Rule}
-use Rattle.rules.specs.declared.rule.Rule.TheVariants.{Shape, UnknownSp, NotInUse, SpBusy, NoNumber}
-use Rattle.call_shapes.specs.Parameters.{host_challenge_parameter, host_signing_authority_parameter}
-use Rattle.call_shapes.specs.Named.{options, value_of, bytes_or_empty}
-use Rattle.call_shapes.specs.CellValues.{number_in, uid_in}
-use Rattle.call_shapes.specs.Statuses.{success, not_authorized, sp_busy, no_sessions_available, invalid_parameter, authority_locked_out}
+use Rattle.audit.specs.declared.rules.rule.Rule.{Rule}
+use Rattle.audit.specs.declared.rules.rule.Rule.TheVariants.{Shape, UnknownSp, NotInUse, SpBusy, NoNumber}
+use Rattle.tcg_calls.specs.Parameters.{host_challenge_parameter, host_signing_authority_parameter}
+use Rattle.tcg_calls.specs.Named.{options, value_of, bytes_or_empty}
+use Rattle.tcg_calls.specs.CellValues.{number_in, uid_in}
+use Rattle.tcg_calls.specs.Statuses.{success, not_authorized, sp_busy, no_sessions_available, invalid_parameter, authority_locked_out}
 use Rattle.sessions.specs.declared.opening.Opening.{Opening}
 use Rattle.sessions.specs.declared.opening.StartVerdict.{StartVerdict}
 use Rattle.sessions.specs.declared.opening.StartVerdict.TheVariants.{Refused, Attempted}

@@ -9,7 +9,7 @@ use Rattle.sp_cells.specs.declared.cells.Cell.{Cell}
 use Rattle.sp_cells.specs.declared.error.SetError.TheVariants as faults
 use Rattle.sp_cells.specs.Flat.{LookUp, has_each}
 use Rattle.sp_cells.specs.Values.{takes_each}
-use Rattle.sp_rows.specs.Items.{Item, item_at, with_item, with_items}
+use Rattle.sp_tables.specs.Items.{Item, item_at, with_item, with_items}
 use Rattle.sp_tables.specs.Contents.{Contents, items_of, cells_look_up, with_row}
 use Rattle.sp_tables.specs.Faults.{range_row_number, is_overlap, is_beyond, are_fit, first_of, set_fault}
 use Rattle.sp_tables.specs.Looks.{put_in, puts_in, changed, fault_seen}

@@ -8,7 +8,7 @@ use Rattle.sp_cells.specs.declared.cells.Cell.{Cell}
 use Rattle.sp_cells.specs.declared.cells.Cell.TheVariants.{Number}
 use Rattle.sp_cells.specs.Names.{table_of, c_pin_table, c_pin_sid, c_pin_msid, c_pin_psid, admin_pin_uid, user_pin_uid}
 use Rattle.sp_cells.specs.ColumnNames.{tries_column}
-use Rattle.sp_rows.specs.Items.{Item, with_item}
+use Rattle.sp_tables.specs.Items.{Item, with_item}
 
 -- the object is a C_PIN row
 abbrev pub is_pin_row : Uid → Bool

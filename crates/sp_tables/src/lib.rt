@@ -5,6 +5,7 @@
 mod checks;
 mod halves;
 mod resets;
+pub mod sp_rows;
 mod undo;
 pub mod whole;
 

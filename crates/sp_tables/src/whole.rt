@@ -2,15 +2,15 @@
 
 ghost use Rattle.std.specs.Prelude.{◌≡◌, [], ◌∷◌, IfOk, OnOk, OnErr, Some, option_copied, unwrap_or};
 ghost use Rattle.sp_cells.specs.Flat.{with_cells};
-ghost use Rattle.sp_rows.specs.Items.{replaced};
+ghost use Rattle.sp_tables.specs.Items.{replaced};
 ghost use Rattle.sp_tables.specs.Contents.{Contents, items_of, flat as flat_list, cells_look_up as look_up_in, with_row, factory_contents};
 ghost use Rattle.sp_tables.specs.Faults.{set_fault, TellsFault};
 ghost use Rattle.sp_cells.specs.Config.{sizes_in};
 ghost use Rattle.sp_cells.specs.Ranges.{AreApart};
 
+use crate::sp_rows::{SpTables, exchange_all, new_admin_sp, new_cells, new_locking_sp};
 use basics::Profile;
 use sp_cells::{Cell, Column, DriveConfig, Rows, SetError, Sp, TableSizes, Uid};
-use sp_rows::{SpTables, exchange_all, new_admin_sp, new_cells, new_locking_sp};
 use std::alloc::{AllocError, Global};
 use std::marker::Model;
 
@@ -30,7 +30,7 @@ impl Model for Tables {
 
     ghost Value = { Contents };
 
-    ghost use Rattle.sp_rows.specs.Halves.{half_items};
+    ghost use Rattle.sp_tables.specs.Halves.{half_items};
 
     ghost view = { λ t. record {
       admin = half_items t.admin;

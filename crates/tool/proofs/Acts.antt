@@ -14,7 +14,7 @@ use Rattle.history.specs.Answers.{payload_of}
 use Rattle.history.specs.Opening.{Origin}
 use Rattle.history.specs.Events.{Event}
 use Rattle.history.specs.Facts.{Facts, facts}
-use Rattle.rules.specs.declared.rule.Rule.TheVariants.{NoCommand}
+use Rattle.audit.specs.declared.rules.rule.Rule.TheVariants.{NoCommand}
 use Rattle.history.specs.Decisions.{refuses}
 use Rattle.history.specs.Tcg.{accepted, commanded}
 use Rattle.history.specs.History.{Act, Accept, log, event}

@@ -2,9 +2,9 @@
 use Rattle.std.proofs.Common.{◌≡◌, ◌∙◌, ℕ, List, [], ◌∷◌, ◌++◌, refl, sym, ap, subst, append-nil}
 use Rattle.history.specs.Opening.{Origin}
 use Rattle.history.specs.History.{Act, Reset}
-use Rattle.explained.specs.declared.onset.Source.{Source}
-use Rattle.explained.specs.Chronicles.{KeptOnsets, Recounts}
-use Rattle.explained.specs.Onsets.{Sourced, bare_acts}
+use Rattle.reasons.specs.declared.explained.onset.Source.{Source}
+use Rattle.reasons.specs.Chronicles.{KeptOnsets, Recounts}
+use Rattle.reasons.specs.Onsets.{Sourced, bare_acts}
 use Rattle.explaining.specs.Explanations.{attributed}
 use Rattle.explaining.proofs.Added.{attributed_none, bare_none, bare_one, reasons_of_none, reasons_of_reset}
 use Rattle.script_lines.specs.declared.report.Report.{Report}

@@ -15,9 +15,9 @@ use Rattle.script_lines.specs.declared.port_line.PortLine as told_of_port
 use Rattle.script_lines.specs.declared.port_line.PortLine.TheVariants as port_lines
 use Rattle.script_lines.specs.declared.report.Report.{Report}
 use Rattle.script_lines.specs.Texts.{Prints, printed}
-use Rattle.explained.specs.declared.onset.Source.{Source}
-use Rattle.explained.specs.Chronicles.{KeptOnsets, Recounts}
-use Rattle.explained.specs.Onsets.{Sourced, bare_acts}
+use Rattle.reasons.specs.declared.explained.onset.Source.{Source}
+use Rattle.reasons.specs.Chronicles.{KeptOnsets, Recounts}
+use Rattle.reasons.specs.Onsets.{Sourced, bare_acts}
 use Rattle.explaining.specs.Explanations.{told_reasons}
 use Rattle.explaining.specs.Sources.{source_of}
 use Rattle.tool.specs.Courses.{Course, OnDrive, OnPort, ExplainedDrive, ExplainedPort, DriveSteps, DriveRunsOn, DriveStands, DeskRunsOn, Explains, ExplainedHas, ExplainedSteps, PhaseRunsOn, PortSteps, PrintsWithReasons, course_step, explained_drive, explained_port, goes_on_drive, on_port, line_course, step_by, port_step, port_step_by, source_said, start, step_said}

@@ -4,9 +4,9 @@ use Rattle.std.specs.Str.{bytes_eq}
 use Rattle.history.specs.Opening.{Origin}
 use Rattle.history.specs.History.{Act}
 use Rattle.port_history.specs.declared.step.Step.{Step}
-use Rattle.explained.specs.declared.onset.Source.{Source}
-use Rattle.explained.specs.Chronicles.{KeptOnsets, Recounts}
-use Rattle.explained.specs.Onsets.{Sourced, bare_acts}
+use Rattle.reasons.specs.declared.explained.onset.Source.{Source}
+use Rattle.reasons.specs.Chronicles.{KeptOnsets, Recounts}
+use Rattle.reasons.specs.Onsets.{Sourced, bare_acts}
 use Rattle.explaining.specs.Explanations.{attributed, told_reasons}
 use Rattle.explaining.specs.Sources.{source_of}
 use Rattle.script_lines.specs.Lines.{line_said, expected_text}

@@ -4,7 +4,7 @@ use Rattle.tcg_tokens.specs.Message.{Message}
 use Rattle.tcg_tokens.specs.Reading.{reading}
 use Rattle.tcg_tokens.specs.Text.{item_text_of, fault_text_of}
 use Rattle.tcg_tokens.specs.declared.error.TokenError.{TokenError}
-use Rattle.named_tokens.specs.NamedText.{named_item_text_of}
+use Rattle.tcg_calls.specs.NamedText.{named_item_text_of}
 use Rattle.tool.specs.declared.tokens.Naming.{Naming}
 use Rattle.tool.specs.declared.tokens.Naming.TheVariants.{Numbers, Names}
 

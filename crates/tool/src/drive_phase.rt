@@ -3,8 +3,8 @@
 ghost use Rattle.std.specs.Prelude.{◌≡◌, List, IfOk, OnOk, Ok};
 ghost use Rattle.history.specs.History.{Act};
 ghost use Rattle.history.specs.Opening.{Origin};
-ghost use Rattle.explained.specs.Onsets.{Sourced, bare_acts};
-ghost use Rattle.explained.specs.Chronicles.{Recounts};
+ghost use Rattle.reasons.specs.Onsets.{Sourced, bare_acts};
+ghost use Rattle.reasons.specs.Chronicles.{Recounts};
 ghost use Rattle.explaining.specs.Sources.{source_of};
 ghost use Rattle.script_lines.specs.Lines.{line_said};
 ghost use Rattle.script_lines.specs.declared.line.Line.{Line as LineOf};

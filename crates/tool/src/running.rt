@@ -68,8 +68,8 @@ impl RunningPhase {
     ghost use Rattle.script_lines.specs.declared.fault.LineFault.{LineFault};
     ghost use Rattle.history.specs.Opening.{Origin};
     ghost use Rattle.history.specs.History.{Act, log};
-    ghost use Rattle.explained.specs.Onsets.{Sourced, bare_acts};
-    ghost use Rattle.explained.specs.Chronicles.{Recounts};
+    ghost use Rattle.reasons.specs.Onsets.{Sourced, bare_acts};
+    ghost use Rattle.reasons.specs.Chronicles.{Recounts};
     ghost use Rattle.drive.specs.State.{Agrees};
     ghost use Rattle.tool.specs.Effects.{RunsOn, IsReached, Accepts, Has, Makes, completion_effect, transferred, command_effect, sends, receives, effect_of, reset_effect, Does, GoesTruly, Answered, Acted};
     ghost use Rattle.tool.specs.Courses.{line_course, DriveSteps, Explains};

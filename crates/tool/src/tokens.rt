@@ -10,10 +10,10 @@ ghost use Rattle.tool.specs.declared.ending.RunError.{RunError};
 
 use crate::ending::RunError;
 use hex::FromHexError;
-use named_tokens::named_item_text;
 use std::alloc::{AllocError, Global};
 use std::io;
 use std::io::Write;
+use tcg_calls::named_tokens::named_item_text;
 use tcg_tokens::{Item, TokenError, fault_text, item_text, read_item};
 
 /// How objects, methods and columns are told.

@@ -13,10 +13,10 @@ use Rattle.tcg_tokens.specs.Tree.{Tree, tree, trees}
 use Rattle.tcg_tokens.specs.Message.{Message, message, end, end_session}
 use Rattle.tcg_tokens.specs.Gives.{Fails}
 use Rattle.audit.specs.declared.reason.Why.{Why}
-use Rattle.call_shapes.specs.Asks.{ask_of, uid_of}
-use Rattle.call_shapes.specs.Carried.{is_carried}
-use Rattle.call_shapes.specs.Named.{values_of}
-use Rattle.call_shapes.proofs.NamedLemmas.{values_trees}
+use Rattle.tcg_calls.specs.Asks.{ask_of, uid_of}
+use Rattle.tcg_calls.specs.Carried.{is_carried}
+use Rattle.tcg_calls.specs.Named.{values_of}
+use Rattle.tcg_calls.proofs.call_shapes.NamedLemmas.{values_trees}
 use Rattle.transactions.specs.declared.change.SessionId.{SessionId}
 use Rattle.transactions.specs.Stored.{Transaction, Stored, part, at_part, is_open, part_commit}
 use Rattle.shadow_mbr.specs.declared.erasure.Erasure.{Erasure}
@@ -28,13 +28,13 @@ use Rattle.methods.specs.declared.outcome.Outcome.{Outcome as Answered}
 use Rattle.methods.specs.Judgement.{judged}
 use Rattle.methods.specs.PlainGets.{columns_named, plain_get, IsPlainGet}
 use Rattle.methods.specs.declared.plain.PlainGet.{PlainGet}
-use Rattle.call_shapes.specs.declared.ask.Ask.{Ask}
-use Rattle.call_shapes.specs.declared.ask.Ask.TheVariants.{GetCells}
+use Rattle.tcg_calls.specs.declared.call_shapes.ask.Ask.{Ask}
+use Rattle.tcg_calls.specs.declared.call_shapes.ask.Ask.TheVariants.{GetCells}
 use Rattle.methods.specs.Calls.{standing_in, judged_with, judged_call, outcome_of, outcome_in, Fulfils}
 use Rattle.history.specs.Opening.{Origin}
 use Rattle.history.specs.Events.{Event}
 use Rattle.history.specs.Readers.{sid_block, is_of, open_on}
-use Rattle.call_shapes.specs.Statuses.{transaction_failure}
+use Rattle.tcg_calls.specs.Statuses.{transaction_failure}
 use Rattle.sessions.specs.Deeds.{Begun, Unchanged, Outcome, says, Ended, refuses as refuses_item}
 use Rattle.history.specs.Facts.{Facts, facts, has_open}
 use Rattle.history.specs.Tcg.{called_manager, to_manager, in_session, judgement_on, started, item_in, ends_session, ends_on}
@@ -45,8 +45,8 @@ use Rattle.history.proofs.KeptCallsProofs.{kept_call_law}
 use Rattle.history.proofs.KeptSessionsStart.{start_law}
 use Rattle.tper.specs.Items.{AnswersAs, OfManager, OfSession}
 use Rattle.tper.proofs.Carried.{call_carried}
-use Rattle.rules.specs.declared.rule.Rule.{Rule}
-use Rattle.rules.specs.declared.rule.Rule.TheVariants.{NoneOpen}
+use Rattle.audit.specs.declared.rules.rule.Rule.{Rule}
+use Rattle.audit.specs.declared.rules.rule.Rule.TheVariants.{NoneOpen}
 
 -- an answer that is this message can be carried, as the message can
 pub carried-as : (said : Message) (m : Message) → said ≡ m → is_carried m ≡ true → is_carried said ≡ true

@@ -26,8 +26,8 @@ use Rattle.tper.specs.Items.{OfManager, OfSession}
 use Rattle.tper.specs.Tper.{Tper, Keeps, IsToldOfSend, Handles}
 use Rattle.tper.proofs.KeptBeside.{spares, kept_beside}
 use Rattle.tper.proofs.Keeping.{answer-kept, answer-sent}
-use Rattle.rules.specs.declared.rule.Rule.TheVariants.{NoFrame, NoSession}
-use Rattle.rules.specs.declared.rule.Rule.{Rule}
+use Rattle.audit.specs.declared.rules.rule.Rule.TheVariants.{NoFrame, NoSession}
+use Rattle.audit.specs.declared.rules.rule.Rule.{Rule}
 
 pub on-ok : {A E : Type 0} (r : Result A E) (P : A → Type 0) (Q : Type 0) → IfOk r P → ((x : A) → P x → Q) → OnOk r Q
 on-ok (Ok x) P Q h f = f x h

@@ -1,16 +1,16 @@
 //! What an item does, sent to the session manager or to a live session (TCG Core 2.01, sections 3.3.7 to 3.3.9).
 
 ghost use Rattle.std.specs.Prelude.{◌≡◌, ◌≢◌, None, Some, true, false, IfOk, OnErr, OnOk};
-ghost use Rattle.call_shapes.specs.Asks.{uid_of as uid_in};
-ghost use Rattle.call_shapes.specs.Carried.{is_carried};
-ghost use Rattle.call_shapes.specs.Named.{values_of};
-ghost use Rattle.call_shapes.specs.Statuses.{fail};
+ghost use Rattle.tcg_calls.specs.Asks.{uid_of as uid_in};
+ghost use Rattle.tcg_calls.specs.Carried.{is_carried};
+ghost use Rattle.tcg_calls.specs.Named.{values_of};
+ghost use Rattle.tcg_calls.specs.Statuses.{fail};
 ghost use Rattle.tcg_tokens.specs.declared.error.TokenError.TheVariants.{OutOfMemory};
 ghost use Rattle.tcg_tokens.specs.Message.{message, end_session};
 ghost use Rattle.tcg_tokens.specs.Reading.{reading as message_in};
 ghost use Rattle.tcg_tokens.specs.Tree.{trees};
 ghost use Rattle.methods.specs.Effects.{live_holder};
-ghost use Rattle.rules.specs.declared.rule.Rule.TheVariants.{NoItem};
+ghost use Rattle.audit.specs.declared.rules.rule.Rule.TheVariants.{NoItem};
 ghost use Rattle.shadow_mbr.specs.Erasure.{no_sectors};
 ghost use Rattle.sessions.specs.Live.{Live};
 ghost use Rattle.sessions.specs.Deeds.{Ended, says};
@@ -21,15 +21,15 @@ ghost use Rattle.methods.specs.Said.{refusal_of};
 ghost use Rattle.history.specs.Facts.{has_open};
 ghost use Rattle.tper.specs.Items.{OfManager, OfSession};
 
+use audit::rules::Rule;
 use basics::Profile;
-use call_shapes::{status, uid_of};
 use compacket::ComId;
 use methods::{MethodFault, Outcome, PlainGet, get_plainly, invoke, read_plain_get};
-use rules::Rule;
 use sessions::Sessions;
 use shadow_mbr::Erased;
 use sp_cells::Uid;
 use std::alloc::{AllocError, Global};
+use tcg_calls::call_shapes::{status, uid_of};
 use tcg_tokens::{Call, Item, TokenError, begins_with_end, read_item};
 use transactions::{SessionId, Store};
 

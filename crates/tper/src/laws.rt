@@ -2,7 +2,7 @@
 
 ghost use Rattle.std.specs.Prelude.{◌≡◌, ◌+◌, true, List, Option};
 ghost use Rattle.tcg_tokens.specs.Tree.{Tree};
-ghost use Rattle.call_shapes.specs.Carried.{is_carried};
+ghost use Rattle.tcg_calls.specs.Carried.{is_carried};
 ghost use Rattle.transactions.specs.Stored.{Stored};
 ghost use Rattle.sessions.specs.Live.{Live};
 ghost use Rattle.sessions.specs.Properties.{properties_message, max_com_packet_size, max_packet_size};
@@ -10,7 +10,7 @@ ghost use Rattle.compacket.specs.declared.headers.TheConstants.{COM_PACKET_HEADE
 ghost use Rattle.sessions.specs.Starts.{start_reply};
 ghost use Rattle.sp_cells.specs.declared.names.Uid.{Uid};
 ghost use Rattle.sp_cells.specs.declared.names.Sp.{Sp};
-ghost use Rattle.call_shapes.specs.declared.ask.Ask.{Ask};
+ghost use Rattle.tcg_calls.specs.declared.call_shapes.ask.Ask.{Ask};
 ghost use Rattle.methods.specs.Judgement.{Standing, judged};
 ghost use Rattle.methods.specs.Calls.{outcome_of};
 ghost use Rattle.sp_cells.specs.Flat.{LookUp};

@@ -214,7 +214,7 @@ impl Room {
     ghost use Rattle.std.specs.Prelude.{◌≡◌, true};
     ghost use Rattle.tcg_tokens.specs.Message.{message};
     ghost use Rattle.tcg_tokens.specs.Spelling.{item_spelling_of};
-    ghost use Rattle.call_shapes.specs.Carried.{is_carried};
+    ghost use Rattle.tcg_calls.specs.Carried.{is_carried};
     ghost use Rattle.compacket.specs.Spelling.{frame_bytes};
 
     /// All memory that an answer can want: that of a vector at hand, where it is enough.

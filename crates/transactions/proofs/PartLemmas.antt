@@ -9,8 +9,8 @@ use Rattle.sp_cells.specs.declared.cells.Cell.{Cell}
 use Rattle.sp_cells.specs.declared.cells.Cell.TheVariants.{Number}
 use Rattle.sp_cells.specs.Names.{range_uid, mbr_control, c_pin_sid, c_pin_msid, c_pin_psid, admin_pin_uid, user_pin_uid}
 use Rattle.sp_cells.specs.ColumnNames.{lock_on_reset_column, mbr_done_column, mbr_done_on_reset_column, read_locked_column, tries_column, write_locked_column}
-use Rattle.sp_rows.specs.Items.{Item, item_at, with_item, with_items}
-use Rattle.sp_rows.proofs.ItemLemmas.{with_item-absent}
+use Rattle.sp_tables.specs.Items.{Item, item_at, with_item, with_items}
+use Rattle.sp_tables.proofs.sp_rows.ItemLemmas.{with_item-absent}
 use Rattle.sp_tables.specs.Tries.{is_pin_row, is_tries, names_tries, without_tries, tries_among, tries_put, family_cleared, admin_cleared, locking_cleared}
 use Rattle.sp_tables.specs.AtReset.{has_kind, range_after, locks_after_reset, shadow_after, locking_after, is_power_cycle, admin_tries_after, locking_tries_after}
 use Rattle.sp_tables.specs.Undo.{put_back, exchanged}

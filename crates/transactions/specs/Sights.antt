@@ -13,7 +13,7 @@ use Rattle.sp_cells.specs.Names.{locking_sp, c_pin_sid, admin_pin_uid}
 use Rattle.sp_cells.specs.ColumnNames.{life_cycle_state_column, pin_column}
 use Rattle.sp_cells.specs.Ranges.{number}
 use Rattle.sp_cells.specs.Flat.{LookUp}
-use Rattle.sp_rows.specs.Items.{Item, item_at}
+use Rattle.sp_tables.specs.Items.{Item, item_at}
 use Rattle.transactions.specs.declared.change.SessionId.{SessionId}
 use Rattle.transactions.specs.Stored.{Transaction, Part, Stored, rows_of_part, bytes_seen, part_close, part_put}
 

@@ -5,7 +5,7 @@ ghost use Rattle.sp_cells.specs.declared.names.Sp.TheVariants.{Admin, Locking};
 ghost use Rattle.sp_cells.specs.Config.{table_sectors};
 ghost use Rattle.sp_cells.specs.Names.{c_pin_sid};
 ghost use Rattle.sp_cells.specs.ColumnNames.{pin_column};
-ghost use Rattle.sp_rows.specs.Items.{with_items};
+ghost use Rattle.sp_tables.specs.Items.{with_items};
 ghost use Rattle.sp_tables.specs.Faults.{TellsFault};
 ghost use Rattle.sp_tables.specs.Undo.{IsNoBound};
 ghost use Rattle.sp_tables.specs.Tries.{is_tries as is_tries_of, names_tries as names_tries_of};

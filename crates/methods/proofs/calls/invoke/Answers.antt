@@ -2,7 +2,7 @@ use Rattle.std.proofs.Common.{List, map, ◌∙◌, ap}
 use Rattle.sp_cells.specs.declared.names.Uid.{Uid}
 use Rattle.tcg_tokens.specs.Tree.{tree}
 use Rattle.tcg_tokens.specs.declared.value.Value.{Value}
-use Rattle.call_shapes.specs.Asks.{uid_of}
+use Rattle.tcg_calls.specs.Asks.{uid_of}
 use Rattle.methods.specs.Calls.{judged_with}
 use Rattle.methods.proofs.CallLemmas.{judged-as}
 use Rattle.methods.proofs.calls.invoke.Goals as goal

@@ -1,5 +1,5 @@
 use Rattle.std.proofs.Common.{◌≡◌, true, ◌||◌, ◌∙◌, refl, sym, ap, rules}
-use Rattle.call_shapes.specs.declared.ask.Ask.TheVariants.{GetCells, GetBytes, Activate, GenKey}
+use Rattle.tcg_calls.specs.declared.call_shapes.ask.Ask.TheVariants.{GetCells, GetBytes, Activate, GenKey}
 use Rattle.std.specs.Prelude.{slice_index}
 use Rattle.sp_cells.specs.declared.byte_tables.ByteTable.{ByteTable}
 use Rattle.sp_cells.specs.Config.{sizes_in}

@@ -3,7 +3,7 @@ use Rattle.std.proofs.lemmas.Bool.Decides.{nat_tests}
 use Rattle.std.specs.Prelude.{◌-◌, nat_le, nat_lt, slice_index}
 use Rattle.sp_cells.specs.Config.{sizes_in, table_sectors}
 use Rattle.sp_cells.specs.ByteTables.{bytes_of_table, table_begin, sectors_of}
-use Rattle.call_shapes.specs.Limits.{most_response}
+use Rattle.tcg_calls.specs.Limits.{most_response}
 use Rattle.tcg_tokens.specs.Tree.{tree, bytes}
 use Rattle.tcg_tokens.specs.declared.value.Value.{Bytes}
 use Rattle.transactions.specs.Bytes.{bytes_from}

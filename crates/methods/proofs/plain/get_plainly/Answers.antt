@@ -1,7 +1,7 @@
 use Rattle.std.proofs.Common.{◌∙◌, ap, Some}
 use Rattle.sp_cells.specs.declared.names.Uid.{Uid}
-use Rattle.call_shapes.specs.Asks.{uid_of}
-use Rattle.call_shapes.specs.declared.ask.Ask.TheVariants.{GetCells}
+use Rattle.tcg_calls.specs.Asks.{uid_of}
+use Rattle.tcg_calls.specs.declared.call_shapes.ask.Ask.TheVariants.{GetCells}
 use Rattle.methods.specs.Calls.{standing_in}
 use Rattle.methods.specs.Judgement.{judged}
 use Rattle.methods.proofs.CallLemmas.{judged-as}

@@ -1,7 +1,7 @@
 use Rattle.std.proofs.Common.{◌≡◌, ◌<◌, ◌≤◌, ℕ, List, ◌∷◌, ◌++◌, length, rules}
 use Rattle.std.specs.Prelude.{◌≢◌}
 use Rattle.sp_cells.specs.Names.{get, mbr_table, datastore_table}
-use Rattle.call_shapes.specs.Asks.{uid_of}
+use Rattle.tcg_calls.specs.Asks.{uid_of}
 use Rattle.methods.proofs.PlainLemmas.{plain_as}
 use Rattle.methods.proofs.plain.read_plain_get.Goals as goal
 

@@ -1,7 +1,7 @@
 -- A drive is opened, and serves.
 use Rattle.std.proofs.Common.{map, inl, subst}
 use Rattle.sp_cells.specs.Config.{Config}
-use Rattle.hba_tool.specs.Openings.{option_rows, OpensAs}
+use Rattle.hba_program.specs.Openings.{option_rows, OpensAs}
 use Rattle.opalport.proofs.controller.on_drive.Goals as goal
 
 pub returns-in-Ok-clause-ends : goal.returns-in-Ok-clause-ends

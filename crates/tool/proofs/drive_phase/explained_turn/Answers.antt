@@ -1,5 +1,5 @@
 use Rattle.std.proofs.Common.{refl}
-use Rattle.explained.specs.Onsets.{bare_acts}
+use Rattle.reasons.specs.Onsets.{bare_acts}
 use Rattle.script_lines.specs.Lines.{line_said}
 use Rattle.tool.proofs.Turns.{explained-gone, explained-ends}
 use Rattle.tool.proofs.drive_phase.explained_turn.Goals as goal

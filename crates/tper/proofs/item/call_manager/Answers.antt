@@ -1,7 +1,7 @@
 use Rattle.std.proofs.Common.{◌≡◌, ◌∙◌, ap, map, rules}
 use Rattle.sp_cells.specs.Names.{session_manager, start_session}
 use Rattle.tcg_tokens.specs.Tree.{tree}
-use Rattle.call_shapes.specs.Asks.{uid_of}
+use Rattle.tcg_calls.specs.Asks.{uid_of}
 use Rattle.tper.proofs.Carried.{start_carried, properties_carried}
 use Rattle.transactions.specs.Stored.{Stored}
 use Rattle.tper.proofs.Configs.{start_config}

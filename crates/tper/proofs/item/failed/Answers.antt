@@ -1,6 +1,6 @@
 use Rattle.std.proofs.Common.{rules}
 use Rattle.tcg_tokens.specs.Message.{message}
-use Rattle.call_shapes.specs.Statuses.{fail}
+use Rattle.tcg_calls.specs.Statuses.{fail}
 use Rattle.methods.specs.Said.{refusal_of}
 use Rattle.tper.proofs.Carried.{bare_fail}
 use Rattle.tper.proofs.Items.{carried-as}

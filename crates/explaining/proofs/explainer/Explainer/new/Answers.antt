@@ -1,5 +1,5 @@
 use Rattle.std.proofs.Common.{[], subst}
-use Rattle.explained.specs.Chronicles.{KeptOnsets, Recounts}
+use Rattle.reasons.specs.Chronicles.{KeptOnsets, Recounts}
 use Rattle.explaining.proofs.explainer.Explainer.new.Goals as goal
 
 pub returns : goal.returns

@@ -1,5 +1,5 @@
 use Rattle.std.proofs.Common.{◌∙◌, refl, subst, sym}
-use Rattle.explained.specs.Chronicles.{KeptOnsets, Recounts}
+use Rattle.reasons.specs.Chronicles.{KeptOnsets, Recounts}
 use Rattle.explaining.specs.Explanations.{from_source}
 use Rattle.explaining.proofs.explainer.Explainer.note.Goals as goal
 

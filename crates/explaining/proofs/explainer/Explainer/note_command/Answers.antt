@@ -2,8 +2,8 @@ use Rattle.std.proofs.Common.{◌≡◌, ◌∙◌, ◌∷◌, List, refl, subst
 use Rattle.history.specs.History.{Act, Accept, Complete, log}
 use Rattle.history.specs.Readers.{in_force}
 use Rattle.drive.specs.State.{Agrees}
-use Rattle.explained.specs.Onsets.{bare_acts}
-use Rattle.explained.specs.Chronicles.{Recounts}
+use Rattle.reasons.specs.Onsets.{bare_acts}
+use Rattle.reasons.specs.Chronicles.{Recounts}
 use Rattle.explaining.specs.Explanations.{from_source, attributed, once_served}
 use Rattle.explaining.proofs.Added.{attributed_one, attributed_two, rows_stay}
 use Rattle.explaining.proofs.explainer.Explainer.note_command.Goals as goal

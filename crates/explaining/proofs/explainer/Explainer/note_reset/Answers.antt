@@ -1,9 +1,9 @@
 use Rattle.std.proofs.Common.{◌∙◌, ◌∷◌, refl, subst, sym, ap}
 use Rattle.history.specs.History.{Reset}
 use Rattle.history.specs.Resets.{reset_kind_number}
-use Rattle.explained.specs.declared.onset.Cause.TheVariants.{ResetBy}
-use Rattle.explained.specs.Onsets.{bare_acts}
-use Rattle.explained.specs.Chronicles.{Recounts}
+use Rattle.reasons.specs.declared.explained.onset.Cause.TheVariants.{ResetBy}
+use Rattle.reasons.specs.Onsets.{bare_acts}
+use Rattle.reasons.specs.Chronicles.{Recounts}
 use Rattle.explaining.proofs.Added.{attributed_one}
 use Rattle.explaining.proofs.explainer.Explainer.note_reset.Goals as goal
 

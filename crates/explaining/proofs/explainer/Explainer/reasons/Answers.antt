@@ -3,10 +3,10 @@ use Rattle.basics.specs.declared.profile.Profile.{Profile}
 use Rattle.sp_cells.specs.Config.{Config}
 use Rattle.sp_cells.specs.Flat.{LookUp}
 use Rattle.transactions.specs.Sights.{Sight, look_up}
-use Rattle.explained.specs.declared.condition.Condition.{Condition}
-use Rattle.explained.specs.Onsets.{held_since, holds_after}
-use Rattle.explained.specs.Chronicles.{KeptOnsets, Recounts}
-use Rattle.explained.specs.Reasons.{explanation_text}
+use Rattle.reasons.specs.declared.explained.condition.Condition.{Condition}
+use Rattle.reasons.specs.Onsets.{held_since, holds_after}
+use Rattle.reasons.specs.Chronicles.{KeptOnsets, Recounts}
+use Rattle.reasons.specs.Reasons.{explanation_text}
 use Rattle.explaining.specs.Explanations.{denial_text}
 use Rattle.explaining.proofs.explainer.Explainer.reasons.Goals as goal
 

@@ -2,7 +2,7 @@
 use Rattle.std.proofs.Common.{[], refl, ◌∙◌}
 use Rattle.std.proofs.lemmas.Result.{on_err_weaker}
 use Rattle.history.specs.History.{Complete}
-use Rattle.hba_memory.proofs.Talks.{on_err}
+use Rattle.host_memory.proofs.hba_memory.Talks.{on_err}
 use Rattle.hba.specs.History.{Completed}
 use Rattle.hba.specs.Engine.{ServesSo}
 use Rattle.hba.proofs.Turns.{turn_between}

@@ -2,7 +2,7 @@
 use Rattle.std.proofs.Common.{Some, None, Ok, ap, sym, refl}
 use Rattle.std.specs.Result.{result_err}
 use Rattle.history.specs.History.{Complete}
-use Rattle.hba_memory.proofs.Talks.{on_err}
+use Rattle.host_memory.proofs.hba_memory.Talks.{on_err}
 use Rattle.hba.specs.declared.work.Done.{Done}
 use Rattle.hba.specs.declared.work.Done.TheVariants as dones
 use Rattle.hba.specs.Showing.{fault_of}

@@ -1,7 +1,7 @@
 -- The room is taken, and put back.
 use Rattle.std.proofs.Common.{[], refl, ◌∙◌}
 use Rattle.std.proofs.lemmas.Result.{on_err_weaker}
-use Rattle.hba_memory.proofs.Talks.{on_err}
+use Rattle.host_memory.proofs.hba_memory.Talks.{on_err}
 use Rattle.hba.specs.Engine.{Executes}
 use Rattle.hba.proofs.Turns.{turn_between}
 use Rattle.hba.proofs.hba.Hba.execute.Goals as goal

@@ -6,7 +6,7 @@ use Rattle.hba.specs.Showing.{fault_of}
 use Rattle.hba.specs.Engine.{Executes, Fetches, FetchesFrom, FetchesFis, place_of}
 use Rattle.std.proofs.lemmas.Result.{on_err_weaker}
 use Rattle.hba.proofs.Turns.{told_as, turn_missed, fetch_header, fetch_fis, fetch_control, fetch_executes, if_turned, read_first}
-use Rattle.hba_memory.specs.declared.miss.Miss.TheVariants as misses
+use Rattle.host_memory.specs.declared.hba_memory.miss.Miss.TheVariants as misses
 use Rattle.hba.proofs.hba.Hba.fetch.Goals as goal
 
 pub returns-in-Err-clause-done : goal.returns-in-Err-clause-done

@@ -2,9 +2,9 @@ use Rattle.std.proofs.Common.{subst, sym, ap, ◌∙◌, ◌∷◌}
 use Rattle.history.specs.History.{Reset}
 use Rattle.history.specs.Resets.{reset_kind_number}
 use Rattle.drive.specs.State.{Agrees}
-use Rattle.explained.specs.Chronicles.{Recounts}
+use Rattle.reasons.specs.Chronicles.{Recounts}
 use Rattle.explaining.specs.Explanations.{attributed}
-use Rattle.explained.specs.Onsets.{bare_acts}
+use Rattle.reasons.specs.Onsets.{bare_acts}
 use Rattle.tool.specs.Effects.{Acted}
 use Rattle.tool.proofs.Reasons.{explains-none, explains-reset}
 use Rattle.tool.proofs.running.RunningPhase.explain.Goals as goal

@@ -1,5 +1,5 @@
 use Rattle.std.proofs.Common.{ap, sym, ◌∙◌, ◌++◌}
-use Rattle.explained.specs.Onsets.{bare_acts}
+use Rattle.reasons.specs.Onsets.{bare_acts}
 use Rattle.explaining.specs.Explanations.{once_served}
 use Rattle.explaining.proofs.Added.{bare_command, reasons_of_command}
 use Rattle.tool.proofs.running.RunningPhase.explain_command.Goals as goal

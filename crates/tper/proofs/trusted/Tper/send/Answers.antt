@@ -8,7 +8,7 @@ use Rattle.tper.specs.Tper.{Tper}
 use Rattle.tper.proofs.Sends.{IsFor, ByManager, BySession, found_at, on-ok, if-ok, nothing-kept, nothing-sent, no-frame, other-frame, nobody-named, manager-is, no-manager, manager-kept, manager-sent, session-kept, session-sent, found-lives}
 use Rattle.tper.proofs.trusted.Tper.send.Goals as goal
 use Rattle.tper.proofs.trusted.Tper.send.Goals.{else-session-eq0-via-then-session-eq0+else-session-eq0-2, else-session-eq0-via-else-session-eq0}
-use Rattle.rules.specs.declared.rule.Rule.TheVariants.{NoFrame, NoSession}
+use Rattle.audit.specs.declared.rules.rule.Rule.TheVariants.{NoFrame, NoSession}
 
 abbrev frame_of : Opened → Frame
 frame_of o = record { com_id = o.com_id; session = o.session; payload = o.payload.now }

@@ -1,9 +1,0 @@
-//! Tests of the controller against the standards: what no clause says, and values that come from outside.
-#![tactic(auto)]
-
-#[cfg(test)]
-mod faults;
-#[cfg(test)]
-mod registers;
-#[cfg(test)]
-mod rows;

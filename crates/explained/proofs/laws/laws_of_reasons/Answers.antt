@@ -1,8 +1,0 @@
-use Rattle.explained.proofs.RestLaws.{rests, reasons}
-use Rattle.explained.proofs.laws.laws_of_reasons.Goals as goal
-
-pub returns-clause-rest : goal.returns-clause-rest
-returns-clause-rest c = rests
-
-pub returns-clause-reasons : goal.returns-clause-reasons
-returns-clause-reasons c = reasons

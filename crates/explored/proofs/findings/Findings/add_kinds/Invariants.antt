@@ -1,9 +1,0 @@
-use Rattle.std.proofs.Common.{◌≡◌, drop}
-use Rattle.std.specs.List.{fold}
-use Rattle.explored.specs.Findings.{noting_try}
-use Rattle.explored.proofs.findings.Findings.add_kinds.Given as goal
-
-abbrev pub invariant-loop-item : goal.invariant-loop-item
-invariant-loop-item l =
-    (fold (noting_try l.find) l.self.kinds (drop l.item-index l.tries) ≡ fold (noting_try l.find) l.fn.self.kinds l.tries)
-    × (l.self.lists ≡ l.fn.self.lists) × (l.self.states ≡ l.fn.self.states)

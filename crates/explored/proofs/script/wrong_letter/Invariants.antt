@@ -1,8 +1,0 @@
-use Rattle.std.proofs.Common.{◌≡◌, drop}
-use Rattle.std.specs.List.{list_any}
-use Rattle.explored.specs.Tellings.{is_wrong_letter}
-use Rattle.explored.proofs.script.wrong_letter.Given as goal
-
-abbrev pub invariant-loop-i : goal.invariant-loop-i
-invariant-loop-i l =
-    list_any (is_wrong_letter l.on_port) (drop l.i l.lines) ≡ list_any (is_wrong_letter l.on_port) (drop l.size l.lines)

@@ -1,8 +1,0 @@
-use Rattle.std.proofs.Common.{◌≡◌, drop}
-use Rattle.std.specs.List.{fold}
-use Rattle.explored.specs.Lists.{with_list}
-use Rattle.explored.proofs.search.add_lists.Given as goal
-
-abbrev pub invariant-loop-item : goal.invariant-loop-item
-invariant-loop-item l =
-    fold (with_list l.limit) l.lists (drop l.item-index l.tries) ≡ fold (with_list l.limit) l.fn.lists l.tries

@@ -1,9 +1,0 @@
-//! A controller for callers that are no Rattle: its registers and its turns over a window of their memory, in numbers.
-#![tactic(auto)]
-
-mod desk;
-mod over;
-mod worked;
-
-pub use desk::HbaDesk;
-pub use worked::Worked;

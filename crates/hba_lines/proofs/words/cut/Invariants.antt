@@ -1,7 +1,0 @@
-use Rattle.std.proofs.Common.{◌≡◌, ◌++◌, drop, take}
-use Rattle.hba_lines.specs.Words.{front_word, behind_word}
-use Rattle.hba_lines.proofs.words.cut.Given as goal
-
-abbrev pub invariant-loop-i : goal.invariant-loop-i
-invariant-loop-i l =
-    (take l.i l.text ++ front_word (drop l.i l.text) ≡ front_word l.text) × (behind_word (drop l.i l.text) ≡ behind_word l.text)

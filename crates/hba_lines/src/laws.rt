@@ -1,9 +1,0 @@
-//! Laws over the definitions.
-
-ghost use Rattle.hba_lines.specs.Laws.{NumberLaw};
-
-/// A number that is printed in hex reads back.
-#[tactic(auto, using(crate::proofs::Numbers::numbers))]
-pub fn laws_of_numbers()
-    ensures { NumberLaw }
-{}

@@ -1,7 +1,0 @@
-use Rattle.std.proofs.Common.{drop}
-use Rattle.hba_memory.proofs.Talks.{PostsOn}
-use Rattle.hba_memory.proofs.delivery.post.Given as goal
-
-abbrev pub invariant-loop-fis : goal.invariant-loop-fis
-invariant-loop-fis g l =
-    PostsOn g.M.HostMemory.does l.initial.memory l.memory l.at l.fises (drop l.fis-index l.fises)

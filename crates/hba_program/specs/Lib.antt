@@ -1,0 +1,11 @@
+pub mod Digits
+pub mod Words
+pub mod Requests
+pub mod Replies
+pub mod MemoryLines
+pub mod Laws
+pub mod Pipes
+pub mod Wires
+pub mod Openings
+pub mod Sayings
+pub mod Steps

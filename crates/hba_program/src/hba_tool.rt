@@ -1,0 +1,9 @@
+//! A controller over standard streams: it does what a host asks for, line by line.
+
+mod opening;
+mod serving;
+mod session;
+
+pub use crate::hba_wire::WireError;
+pub use opening::{RangeFault, drive_with_ranges};
+pub use serving::serve;

@@ -1,0 +1,107 @@
+//! The lines of a host, to their end.
+
+ghost use Rattle.std.specs.Prelude.{◌≡◌, ◌≤◌, false, OnOk, IfOk, List};
+ghost use Rattle.hba_program.specs.Wires.{SameWriter};
+ghost use Rattle.hba_program.specs.Steps.{stand, DoesHere, DoesAll, ServesHost, lines_status};
+
+use crate::hba_lines::Request;
+use crate::hba_tool::session::Session;
+use crate::hba_wire::{Wire, WireError};
+use drive::Drive;
+use std::alloc::Global;
+use std::io::{Read, Write};
+
+/// Does what the line at hand asks for, or tells the host that it is none.
+fn turn<R: Read + Drop, W: Write>(
+    session: &mut Session,
+    wire: &mut Wire<'_, R, W>,
+) -> Result<(), WireError>
+    requires { wire.old.is_cut_off ≡ false }
+    ensures { OnOk result (DoesHere R.remaining W.contents
+        (stand session.old wire.old) (stand session.new wire.new)) }
+{
+    match Request::parse(wire.line()) {
+        Ok(request) => session.answer(request, wire)?,
+        Err(fault) => wire.complain(fault.text())?,
+    }
+    Ok(())
+}
+
+/// The status of the lines that were done.
+fn lines_status<R: Read + Drop, W: Write>(wire: &Wire<'_, R, W>) -> u8
+    ensures status { result ≡ lines_status wire.now }
+    ensures most { result ≤ 2 }
+{
+    if wire.is_cut_off || wire.has_complained {
+        2
+    } else {
+        0
+    }
+}
+
+/// Does all lines, and gives the status.
+fn all_lines<R: Read + Drop, W: Write>(
+    session: &mut Session,
+    wire: &mut Wire<'_, R, W>,
+) -> Result<u8, WireError>
+    requires { wire.old.is_cut_off ≡ false }
+    ensures most { IfOk result (λ status. status ≤ 2) }
+    ensures done { IfOk result (λ status. DoesAll R.remaining W.contents status
+        (stand session.old wire.old) (stand session.new wire.new)) }
+{
+    for _ in 0..u64::MAX {
+        if !wire.next_line()? {
+            return Ok(lines_status(wire));
+        }
+        turn(session, wire)?;
+        if wire.is_cut_off {
+            return Ok(lines_status(wire));
+        }
+    }
+    Ok(lines_status(wire))
+}
+
+/// Does all lines; the writer stays the caller's.
+fn host_served<R: Read + Drop, W: Write>(
+    session: &mut Session,
+    wire: &mut Wire<'_, R, W>,
+) -> Result<u8, WireError>
+    requires { wire.old.is_cut_off ≡ false }
+    ensures most { IfOk result (λ status. status ≤ 2) }
+    ensures done { IfOk result (λ status. DoesAll R.remaining W.contents status
+        (stand session.old wire.old) (stand session.new wire.new)) }
+    ensures same { OnOk result (SameWriter wire.old wire.new) }
+{
+    let status = all_lines(session, wire)?;
+    Ok(status)
+}
+
+/// A controller over a drive that has done no act, for the host that a reader and a writer lead to: it does what
+/// each line asks for, and writes the answer before it reads on. The host's memory stays with the host,
+/// and is asked for by lines. It gives the status: 0, or 2 where a line was none or the input ended where an
+/// answer was due.
+///
+/// # Errors
+///
+/// Want of memory, and the first call of the reader or of the writer that fails.
+pub fn serve<R: Read + Drop, W: Write>(
+    alloc: Global,
+    input: R,
+    output: &mut W,
+    drive: Drive,
+) -> Result<u8, WireError>
+    ensures most { IfOk result (λ status. status ≤ 2) }
+    ensures served { IfOk result (λ status. ServesHost R.remaining W.contents drive
+        (R.remaining input) status (W.contents output.old) (W.contents output.new)) }
+{
+    let mut session = Session::new(alloc, drive);
+    let Ok(mut wire) = Wire::new(alloc, input, output) else {
+        session.end();
+        return Err(WireError::Memory);
+    };
+    let served = host_served(&mut session, &mut wire);
+    session.end();
+    let _ = wire.into_output();
+    let status = served?;
+    Ok(status)
+}

@@ -1,7 +1,0 @@
-use Rattle.std.proofs.Common.{◌≡◌, ◌++◌, drop, map}
-use Rattle.hba_tool.specs.Openings.{option_rows, rows_behind}
-use Rattle.hba_tool.proofs.opening.rows_of.Given as goal
-
-abbrev pub invariant-loop-i : goal.invariant-loop-i
-invariant-loop-i l =
-    rows_behind l.rows.items (option_rows (map (λ text. text.now) (drop l.i l.texts))) ≡ option_rows (map (λ text. text.now) l.texts)

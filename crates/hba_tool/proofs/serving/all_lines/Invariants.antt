@@ -1,8 +1,0 @@
-use Rattle.std.proofs.Common.{◌≡◌, false}
-use Rattle.hba_tool.specs.Steps.{stand, DoesLines}
-use Rattle.hba_tool.proofs.serving.all_lines.Given as goal
-
-abbrev pub invariant-loop : goal.invariant-loop
-invariant-loop g l =
-    DoesLines g.R.Read.remaining g.W.Write.contents l.counter (stand l.initial.session l.initial.wire) (stand l.session l.wire)
-    × (l.wire.is_cut_off ≡ false)

@@ -1,5 +1,0 @@
-use Rattle.std.proofs.Common.{length}
-use Rattle.hba_wire.proofs.wire.Wire.+read_pieces.Given as goal
-
-abbrev pub decreases-read_pieces : goal.decreases-read_pieces
-decreases-read_pieces g l = length l.room.now

@@ -1,2 +1,0 @@
-pub mod Pipes
-pub mod Wires

@@ -1,0 +1,174 @@
+-- What each clause of the laws of items and of transfers of `history` says: of the items of this drive, of a transfer that
+-- comes to the policy, and of what is held.
+use Rattle.std.proofs.Common.{◌≡◌, ℕ, ◌+◌, true, false, List, [], ◌∷◌, ◌++◌, Option, Some, None, Ok, refl, sym, inl, inr, arith, ap, ◌∙◌}
+use Rattle.sp_cells.specs.Config.{Config}
+use Rattle.sp_cells.specs.Flat.{LookUp}
+use Rattle.audit.specs.declared.reason.Why.{Why}
+use Rattle.fis.specs.declared.h2d.RegH2d.{RegH2d}
+use Rattle.compacket.specs.Frames.{reading as frame_in}
+use Rattle.trusted_cmds.specs.declared.command.Command.{Command}
+use Rattle.locking.specs.Range.{RangeRows, row_at, is_shadowed}
+use Rattle.locking.specs.Verdict.{AreOpen, ArePermitted, AreShadowed, IsLeastDenied, is_permitted, verdict_of, why_of, shadow_why}
+use Rattle.locking.specs.declared.range.Op.{Op}
+use Rattle.locking.specs.declared.range.Op.TheVariants.{Read, Write}
+use Rattle.locking.specs.declared.ranges.Verdict.TheVariants.{Denied}
+use Rattle.history.specs.Decisions.{on_drive, ranges_in_force, verdict_on}
+use Rattle.history.specs.DenialLaws.{Moves, IsFree}
+use Rattle.history.specs.Events.{HeldCommand, QueueDeed, OfQueue, Wrote, Took}
+use Rattle.history.specs.Facts.{Facts, facts}
+use Rattle.history.specs.History.{Act, Accept, event_in, log_of}
+use Rattle.history.specs.Items.{Items}
+use Rattle.history.specs.Looked.{IsLookedAtBy}
+use Rattle.history.specs.NoTrace.{IsByOwnView, AreSameBut, with_views, is_framed_for}
+use Rattle.history.specs.Opening.{Origin}
+use Rattle.history.specs.Quiet.{IsQuiet, ReadsTags, is_quiet}
+use Rattle.history.specs.Readers.{held}
+use Rattle.history.specs.Tcg.{tcg}
+use Rattle.history.specs.TransferLaws.{VerdictLaw, HeldLaw, TagLaw, ServiceLaw, WriteLaw, IsPermitted, IsReason, is_denied}
+use Rattle.headline.proofs.law_rows.Lists.{not_both}
+
+-- `quiet`: no send writes sectors, takes a response or changes the queue.
+no_send_writes : IsQuiet tcg → (f : Facts) (protocol com_id blocks : ℕ) (payload : List ℕ) (lba : ℕ)
+    (bytes : List ℕ) → (tcg.sends f protocol com_id blocks payload).deed ≡ Wrote lba bytes → ⊥
+no_send_writes law f protocol com_id blocks payload lba bytes is =
+    not_both (law f protocol com_id blocks payload) (ap is_quiet is)
+
+no_send_takes : IsQuiet tcg → (f : Facts) (protocol com_id blocks : ℕ) (payload : List ℕ) (taken : ℕ)
+    → (tcg.sends f protocol com_id blocks payload).deed ≡ Took taken → ⊥
+no_send_takes law f protocol com_id blocks payload taken is =
+    not_both (law f protocol com_id blocks payload) (ap is_quiet is)
+
+no_send_queues : IsQuiet tcg → (f : Facts) (protocol com_id blocks : ℕ) (payload : List ℕ)
+    (deed : QueueDeed) → (tcg.sends f protocol com_id blocks payload).deed ≡ OfQueue deed → ⊥
+no_send_queues law f protocol com_id blocks payload deed is =
+    not_both (law f protocol com_id blocks payload) (ap is_quiet is)
+
+-- `tags`: no FIS is read with tag 32.
+no_tag_32 : ReadsTags tcg → (config : Config) (h : RegH2d) (command : Command)
+    → tcg.reads config h ≡ Ok (command, Some 32) → ⊥
+no_tag_32 law config h command reads = omega (arith, law config h command 32 reads)
+
+-- `views`: a send that names no frame of a session does the same, whatever that session sees.
+others_do_the_same : IsByOwnView tcg → (f : Facts) (rows : ℕ → LookUp) (bytes : ℕ → ℕ → ℕ) (number : ℕ)
+    → AreSameBut f rows bytes number → (protocol com_id blocks : ℕ) (payload : List ℕ)
+    → is_framed_for f number com_id (frame_in payload) ≡ false
+    → tcg.sends (with_views f rows bytes) protocol com_id blocks payload
+    ≡ tcg.sends f protocol com_id blocks payload
+others_do_the_same law f rows bytes number same protocol com_id blocks payload other =
+    law f rows bytes number same protocol com_id blocks payload other
+
+-- `verdict`: a read of two sectors whose first is locked, and not shadowed, is denied; one sector that is open and
+-- permitted is served, and so are sectors of the shadow.
+locked_is_denied : VerdictLaw → (ranges : RangeRows) → is_permitted ranges Read 109 ≡ false
+    → is_shadowed ranges 109 ≡ false → is_denied (verdict_of ranges Read 109 2) ≡ false → ⊥
+locked_is_denied law ranges locked clear served = refuted ((law ranges Read 109 2).served.0 served)
+  where
+    refuted : IsPermitted ranges Read 109 2 → ⊥
+    refuted (inl p) = not_both (p.1 109 (omega arith) (omega arith)) locked
+    refuted (inr p) = not_both (p.1 109 (omega arith) (omega arith)) clear
+
+open_is_served : VerdictLaw → (ranges : RangeRows) → AreOpen ranges 110 (110 + 1)
+    → ArePermitted ranges Write 110 (110 + 1) → is_denied (verdict_of ranges Write 110 1) ≡ false
+open_is_served law ranges opened permitted = (law ranges Write 110 1).served.1 (inl (opened, permitted))
+
+shadow_is_read : VerdictLaw → (ranges : RangeRows) → AreShadowed ranges 0 (0 + 8)
+    → is_denied (verdict_of ranges Read 0 8) ≡ false
+shadow_is_read law ranges shadowed = (law ranges Read 0 8).served.1 (inr (refl, shadowed))
+
+-- A denial names the range of the least denied sector where no sector is shadowed, and else the shadow.
+range_is_named : VerdictLaw → (ranges : RangeRows) (why : Why) → AreOpen ranges 109 (109 + 2)
+    → verdict_of ranges Read 109 2 ≡ Denied why
+    → (sector : ℕ) × IsLeastDenied ranges Read 109 2 sector
+    × (why ≡ why_of Read 109 2 (row_at ranges sector).range)
+range_is_named law ranges why opened denied = told ((law ranges Read 109 2).reason why denied)
+  where
+    told : IsReason ranges Read 109 2 why → (sector : ℕ) × IsLeastDenied ranges Read 109 2 sector
+        × (why ≡ why_of Read 109 2 (row_at ranges sector).range)
+    told (inl names) = not_both names.shadowed (opened names.sector names.from names.below)
+    told (inr names) = (names.sector, names.least, names.names)
+
+shadow_is_named : VerdictLaw → (ranges : RangeRows) (why : Why) → is_shadowed ranges 7 ≡ true
+    → verdict_of ranges Read 7 2 ≡ Denied why → why ≡ shadow_why Read 7 2
+shadow_is_named law ranges why shadowed denied = told ((law ranges Read 7 2).reason why denied)
+  where
+    told : IsReason ranges Read 7 2 why → why ≡ shadow_why Read 7 2
+    told (inl names) = names.names
+    told (inr names) = not_both shadowed (names.opened 7 (omega arith) (omega arith))
+
+-- `held`: without acts nothing is held; what is held was accepted, on the drive, by that verdict, and permitted.
+nothing_is_held : HeldLaw → (items : Items) → IsQuiet items → (o : Origin) (tag : ℕ) (h : HeldCommand)
+    → held (log_of items o []) tag ≡ Some h → ⊥
+nothing_is_held law items quiet o tag h is =
+    let was = law items quiet o [] tag h is in
+    no_act (Accept was.fis was.payload) was.before was.later was.place
+  where
+    no_act : (act : Act) (before later : List Act) → [] ≡ later ++ act ∷ before → ⊥
+    no_act act before [] e = cc
+    no_act act before (x ∷ later) e = cc
+
+held_says : HeldLaw → (items : Items) → IsQuiet items → (o : Origin) (acts : List Act) (tag : ℕ)
+    (h : HeldCommand) → held (log_of items o acts) tag ≡ Some h
+    → (before later : List Act) × (fis payload : List ℕ) × (op : Op) × (lba count : ℕ)
+    × (acts ≡ later ++ Accept fis payload ∷ before)
+    × IsLookedAtBy items (facts o (log_of items o before)) (Accept fis payload) h.command (Some tag)
+    × Moves h.command (Some tag) op lba count
+    × (on_drive (facts o (log_of items o before)) lba count ≡ true)
+    × (verdict_on (facts o (log_of items o before)) op lba count ≡ h.verdict)
+    × IsPermitted (ranges_in_force (facts o (log_of items o before))) op lba count
+held_says law items quiet o acts tag h is =
+    let was = law items quiet o acts tag h is in (
+      was.before,
+      was.later,
+      was.fis,
+      was.payload,
+      was.op,
+      was.lba,
+      was.count,
+      was.place,
+      was.looked,
+      was.moves,
+      was.on_drive,
+      was.verdict,
+      was.permitted,
+    )
+
+-- `tags`: nothing is held under tag 32.
+none_under_32 : TagLaw → (items : Items) → IsQuiet items → ReadsTags items → (o : Origin)
+    (acts : List Act) (h : HeldCommand) → held (log_of items o acts) 32 ≡ Some h → ⊥
+none_under_32 law items quiet reads o acts h is = omega (arith, law items quiet reads o acts 32 h is)
+
+-- `served`: what is permitted does not fail, what does not fail is permitted, and all else is aborted.
+permitted_is_served : ServiceLaw → (items : Items) (f : Facts) (act : Act) (command : Command)
+    (tag : Option ℕ) (op : Op) (lba count : ℕ) → IsLookedAtBy items f act command tag
+    → Moves command tag op lba count → IsFree f tag → on_drive f lba count ≡ true
+    → IsPermitted (ranges_in_force f) op lba count → (event_in items f act).failed ≡ None
+permitted_is_served law items f act command tag op lba count looked moves free on permitted =
+    (law items f act command tag op lba count looked moves free on).served.1 permitted
+
+served_is_permitted : ServiceLaw → (items : Items) (f : Facts) (act : Act) (command : Command)
+    (tag : Option ℕ) (op : Op) (lba count : ℕ) → IsLookedAtBy items f act command tag
+    → Moves command tag op lba count → IsFree f tag → on_drive f lba count ≡ true
+    → (event_in items f act).failed ≡ None → IsPermitted (ranges_in_force f) op lba count
+served_is_permitted law items f act command tag op lba count looked moves free on served =
+    (law items f act command tag op lba count looked moves free on).served.0 served
+
+else_aborted : ServiceLaw → (items : Items) (f : Facts) (act : Act) (command : Command)
+    (tag : Option ℕ) (op : Op) (lba count : ℕ) → IsLookedAtBy items f act command tag
+    → Moves command tag op lba count → IsFree f tag → on_drive f lba count ≡ true
+    → (IsPermitted (ranges_in_force f) op lba count → ⊥) → (event_in items f act).failed ≡ Some 0x04
+else_aborted law items f act command tag op lba count looked moves free on missing =
+    (law items f act command tag op lba count looked moves free on).denied missing
+
+-- `written`: a write that moved its data was of sectors on the drive, permitted, and of the bytes that came with it.
+write_says : WriteLaw → (items : Items) → IsQuiet items → (f : Facts) (act : Act) (lba : ℕ)
+    (bytes : List ℕ) → (event_in items f act).deed ≡ Wrote lba bytes
+    → (count : ℕ) × (fis : List ℕ) × (act ≡ Accept fis bytes) × (on_drive f lba count ≡ true)
+    × IsPermitted (ranges_in_force f) Write lba count
+write_says law items quiet f act lba bytes wrote =
+    let its = law items quiet f act lba bytes wrote in (
+      its.count,
+      its.looked.fis,
+      its.looked.accepts ∙ ap (λ b. Accept its.looked.fis b) (sym its.payload),
+      its.on_drive,
+      its.permitted,
+    )

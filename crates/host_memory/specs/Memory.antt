@@ -1,0 +1,192 @@
+-- What the engine asks of the host's memory, and what comes of the answers (AHCI 1.3.1, section 4).
+-- An access that is refused ends it: the engine asks for nothing more.
+use Rattle.std.specs.Prelude.{◌≡◌, ℕ, ◌+◌, ◌-◌, ◌*◌, ◌%◌, ◌/◌, ◌^◌, min, ◌==◌, ◌&&◌, zero, suc, nat_le, Bool, true, false, List, [], ◌∷◌, ◌++◌, length, take, drop, slice_index, Option, Some, None, Result, Ok, Err, if◌then◌else◌}
+use Rattle.byteorder.specs.Endian.{little_bytes}
+use Rattle.fis.specs.Fis.{IsSpelling}
+use Rattle.fis.specs.Types.{h2d_type}
+use Rattle.fis.specs.declared.any.Fis.{Fis}
+use Rattle.fis.specs.declared.any.Fis.TheVariants as kinds
+use Rattle.slots.specs.Layout.{descriptor_size, descriptors_at, received_at, received_place}
+use Rattle.slots.specs.Header.{fis_words, entry_count, table_at, table_upper, table_alignment, little_endian_at}
+use Rattle.slots.specs.Table.{byte_count_field}
+use Rattle.host_memory.specs.Access.{Access, Asked, Laid}
+use Rattle.host_memory.specs.declared.hba_memory.miss.Miss.{Miss}
+use Rattle.host_memory.specs.declared.hba_memory.miss.Miss.TheVariants as misses
+use Rattle.host_memory.specs.declared.hba_memory.reading.Header.{Header}
+use Rattle.host_memory.specs.declared.hba_memory.delivery.Place.{Place}
+
+-- CFL is 2 to 16 (4.2.2), and CTBAU is 0, as CAP.S64A is.
+abbrev pub is_sound_header : List ℕ → Bool
+is_sound_header header =
+    nat_le 2 (fis_words header) && nat_le (fis_words header) 16 && table_upper header == 0
+
+-- CTBA is a multiple of 128 (4.2.2).
+abbrev pub command_table_of : List ℕ → ℕ
+command_table_of header = table_at header - table_at header % table_alignment
+
+-- What the bytes of a header name.
+abbrev pub header_of : List ℕ → Result Header Miss
+header_of bytes =
+    if is_sound_header bytes
+    then Ok (record { table = command_table_of bytes; entries = entry_count bytes })
+    else Err misses.Table
+
+-- And what the answer of memory names.
+abbrev pub header_by : Option (List ℕ) → Result Header Miss
+header_by None = Err misses.List
+header_by (Some bytes) = header_of bytes
+
+-- A FIS of the type of a command, whose C bit is set (Serial ATA, Register FIS to the device).
+abbrev pub carries_command : List ℕ → Bool
+carries_command fis = slice_index fis 0 == h2d_type && nat_le 0x80 (slice_index fis 1)
+
+-- Where the descriptors stand.
+abbrev pub descriptors_of : Header → ℕ
+descriptors_of header = header.table + descriptors_at
+
+-- DBA and DBAU; the address is even, and DBC names an even count (4.2.3.3).
+abbrev pub data_at : List ℕ → ℕ
+data_at entry = little_endian_at 8 entry 0 - little_endian_at 8 entry 0 % 2
+
+abbrev pub data_len : List ℕ → ℕ
+data_len entry = 2 * (byte_count_field entry / 2) + 2 * (byte_count_field entry % 2)
+
+-- What is brought, as bytes.
+abbrev pub brought_as : {V : Type 0} → (V → List ℕ) → Result V Miss → Result (List ℕ) Miss
+brought_as bytes (Ok v) = Ok (bytes v)
+brought_as bytes (Err miss) = Err miss
+
+-- Bytes, and then what comes behind them.
+abbrev pub then_bytes : List ℕ → Result (List ℕ) Miss → Result (List ℕ) Miss
+then_bytes bytes (Ok more) = Ok (bytes ++ more)
+then_bytes bytes (Err miss) = Err miss
+
+-- The bytes of a block are brought, and those of the blocks behind it.
+abbrev pub BringsBlock : Option (List ℕ) → (List Access → Result (List ℕ) Miss → Type 0)
+    → List Access → Result (List ℕ) Miss → Type 0
+BringsBlock None Rest talk brought = (talk ≡ []) × (brought ≡ Err misses.Block)
+BringsBlock (Some bytes) Rest talk brought =
+    (more : Result (List ℕ) Miss) × Rest talk more × (brought ≡ then_bytes bytes more)
+
+abbrev pub BringsEntry : Option (List ℕ) → ℕ
+    → (ℕ → List Access → Result (List ℕ) Miss → Type 0)
+    → List Access → Result (List ℕ) Miss → Type 0
+BringsEntry None left Rest talk brought = (talk ≡ []) × (brought ≡ Err misses.Table)
+BringsEntry (Some entry) left Rest talk brought =
+    (block : Option (List ℕ)) × (later : List Access)
+    × (talk ≡ Asked (data_at entry) (min left (data_len entry)) block ∷ later)
+    × BringsBlock block (Rest (left - data_len entry)) later brought
+
+abbrev pub BringsNext : Bool → ℕ → ℕ → (ℕ → List Access → Result (List ℕ) Miss → Type 0)
+    → List Access → Result (List ℕ) Miss → Type 0
+BringsNext true at left Rest talk brought = (talk ≡ []) × (brought ≡ Ok [])
+BringsNext false at left Rest talk brought =
+    (entry : Option (List ℕ)) × (later : List Access)
+    × (talk ≡ Asked at descriptor_size entry ∷ later) × BringsEntry entry left Rest later brought
+
+-- So many bytes are brought of the blocks that so many descriptors from an address on name. A
+-- descriptor is read where bytes are wanted of its block alone.
+abbrev pub Gathers : ℕ → ℕ → ℕ → List Access → Result (List ℕ) Miss → Type 0
+Gathers at zero left talk brought =
+    (talk ≡ []) × (brought ≡ (if left == 0 then Ok [] else Err misses.Overflow))
+Gathers at (suc n) left talk brought =
+    BringsNext (left == 0) at left (Gathers (at + descriptor_size) n) talk brought
+
+-- Bytes of a block are written, and those of the blocks behind it.
+abbrev pub TakesBlock : Bool → (List Access → Option Miss → Type 0)
+    → List Access → Option Miss → Type 0
+TakesBlock false Rest talk missed = (talk ≡ []) × (missed ≡ Some misses.Block)
+TakesBlock true Rest talk missed = Rest talk missed
+
+abbrev pub TakesEntry : Option (List ℕ) → List ℕ → (List ℕ → List Access → Option Miss → Type 0)
+    → List Access → Option Miss → Type 0
+TakesEntry None bytes Rest talk missed = (talk ≡ []) × (missed ≡ Some misses.Table)
+TakesEntry (Some entry) bytes Rest talk missed =
+    (is_done : Bool) × (later : List Access)
+    × (talk ≡ Laid (data_at entry) (take (data_len entry) bytes) is_done ∷ later)
+    × TakesBlock is_done (Rest (drop (data_len entry) bytes)) later missed
+
+abbrev pub TakesNext : Bool → ℕ → List ℕ → (List ℕ → List Access → Option Miss → Type 0)
+    → List Access → Option Miss → Type 0
+TakesNext true at bytes Rest talk missed = (talk ≡ []) × (missed ≡ None)
+TakesNext false at bytes Rest talk missed =
+    (entry : Option (List ℕ)) × (later : List Access)
+    × (talk ≡ Asked at descriptor_size entry ∷ later) × TakesEntry entry bytes Rest later missed
+
+-- Bytes are laid over the blocks that so many descriptors from an address on name. A descriptor is
+-- read where bytes go to its block alone.
+abbrev pub Scatters : ℕ → ℕ → List ℕ → List Access → Option Miss → Type 0
+Scatters at zero bytes talk missed =
+    (talk ≡ []) × (missed ≡ (if length bytes == 0 then None else Some misses.Overflow))
+Scatters at (suc n) bytes talk missed =
+    TakesNext (length bytes == 0) at bytes (Scatters (at + descriptor_size) n) talk missed
+
+-- A write, and what is missed where it is refused.
+abbrev pub missed_unless : Bool → Miss → Option Miss
+missed_unless is_done miss = if is_done then None else Some miss
+
+-- PRDBC, in the header at an address, counts the bytes that moved, where some did (4.2.2).
+abbrev pub CountsIf : Bool → ℕ → ℕ → List Access → Option Miss → Type 0
+CountsIf true header n talk missed = (talk ≡ []) × (missed ≡ None)
+CountsIf false header n talk missed =
+    (is_done : Bool) × (talk ≡ Laid (header + 4) (little_bytes 4 (n % 2 ^ 32)) is_done ∷ [])
+    × (missed ≡ missed_unless is_done misses.List)
+
+abbrev pub Counts : ℕ → ℕ → List Access → Option Miss → Type 0
+Counts header n talk missed = CountsIf (n == 0) header n talk missed
+
+-- A register FIS with ERR in its status (ACS-3, Status field).
+abbrev pub tells_error : Fis → Bool
+tells_error (kinds.D2h f) = f.status % 2 == 1
+tells_error (kinds.H2d f) = false
+tells_error (kinds.PioSetup f) = false
+tells_error (kinds.DmaSetup f) = false
+tells_error (kinds.SetDeviceBits f) = false
+
+-- How many of the bytes that were brought the device took: it fails a command by such a FIS before it
+-- asks for data, by DMA Activate or PIO Setup (Serial ATA, device command layer).
+abbrev pub data_taken : List Fis → ℕ → ℕ
+data_taken [] n = n
+data_taken (fis ∷ more) n = if tells_error fis then 0 else n
+
+-- Where a FIS stands among those received (4.2.1).
+abbrev pub offset_of : Fis → ℕ
+offset_of fis = received_place fis - received_at
+
+abbrev pub PostsOne : Bool → (List Access → Option Miss → Type 0) → List Access → Option Miss
+    → Type 0
+PostsOne false Rest talk missed = (talk ≡ []) × (missed ≡ Some misses.Fis)
+PostsOne true Rest talk missed = Rest talk missed
+
+-- FISes are received at an address, in their order.
+abbrev pub Posts : ℕ → List Fis → List Access → Option Miss → Type 0
+Posts at [] talk missed = (talk ≡ []) × (missed ≡ None)
+Posts at (fis ∷ more) talk missed =
+    (bytes : List ℕ) × (is_done : Bool) × (later : List Access) × IsSpelling bytes fis
+    × (talk ≡ Laid (at + offset_of fis) bytes is_done ∷ later)
+    × PostsOne is_done (Posts at more) later missed
+
+-- They are received where they have a place.
+abbrev pub PostsTo : Option ℕ → List Fis → List Access → Option Miss → Type 0
+PostsTo None fises talk missed = (talk ≡ []) × (missed ≡ None)
+PostsTo (Some at) fises talk missed = Posts at fises talk missed
+
+-- One thing, and then another unless something was missed.
+abbrev pub After : Option Miss → (List Access → Option Miss → Type 0) → List Access → Option Miss
+    → Type 0
+After (Some miss) Next talk missed = (talk ≡ []) × (missed ≡ Some miss)
+After None Next talk missed = Next talk missed
+
+abbrev pub Then : (List Access → Option Miss → Type 0) → (List Access → Option Miss → Type 0)
+    → List Access → Option Miss → Type 0
+Then First Next talk missed =
+    (before later : List Access) × (first : Option Miss) × (talk ≡ before ++ later)
+    × First before first × After first Next later missed
+
+-- What an act gives reaches the memory: its data, the count of the bytes that moved, where so many
+-- were brought, and its FISes.
+abbrev pub Delivers : Place → ℕ → List Fis → List ℕ → List Access → Option Miss → Type 0
+Delivers place brought fises bytes talk missed =
+    Then (Scatters (descriptors_of place.header) place.header.entries bytes)
+    (Then (Counts place.at (data_taken fises brought + length bytes)) (PostsTo place.to fises))
+    talk missed

@@ -1,0 +1,10 @@
+//! What an HBA asks of the host's memory for a command: its header, its data, and the places of FISes (AHCI 1.3.1,
+//! section 4).
+
+mod delivery;
+mod miss;
+mod reading;
+
+pub use delivery::{Place, deliver, post_all};
+pub use miss::Miss;
+pub use reading::{HEADER, Header, gather, header_by, is_command};

@@ -1,0 +1,187 @@
+//! What the engine puts into the host's memory: data, their count, and received FISes (AHCI 1.3.1, 4.2 and 5.4.1).
+
+ghost use Rattle.std.specs.Prelude.{◌≡◌, ◌≤◌, ◌<◌, ◌+◌, ◌^◌, ℕ, List, Some, None, length};
+ghost use Rattle.std.specs.Result.{result_err};
+ghost use Rattle.fis.specs.Fis.{IsSpelling};
+ghost use Rattle.host_memory.specs.Access.{Access, Accessed, IsAccess, Laid};
+ghost use Rattle.host_memory.specs.Memory.{offset_of, tells_error, data_taken, Scatters, Counts, Posts, PostsTo, Delivers};
+
+use crate::hba_memory::miss::Miss;
+use crate::hba_memory::reading::{DESCRIPTOR, Header, data_at, data_len};
+use crate::{HostMemory, read_array, write_at};
+use byteorder::{ByteOrder, LittleEndian};
+use fis::Fis;
+
+/// Where PRDBC stands in a command header (AHCI 1.3.1, 4.2.2).
+const BYTE_COUNT: u64 = 4;
+
+/// Where a FIS of this type stands among those received. One that no device sends is stored as unknown.
+fn offset_of(fis: &Fis) -> u64
+    ensures value { result ≡ offset_of fis.now }
+    ensures small { result < 256 }
+{
+    match fis {
+        Fis::DmaSetup(_) => 0,
+        Fis::PioSetup(_) => 0x20,
+        Fis::D2h(_) => 0x40,
+        Fis::SetDeviceBits(_) => 0x58,
+        Fis::H2d(_) => 0x60,
+    }
+}
+
+/// Lays data over the blocks that so many descriptors from an address on name, one after the other. A descriptor is read
+/// where bytes go to its block alone.
+///
+/// # Errors
+///
+/// Where memory failed. Blocks before it have their bytes.
+fn scatter<M: HostMemory>(memory: &mut M, at: u64, entries: u16, bytes: &[u8]) -> Result<(), Miss>
+    requires { at < 2 ^ 33 }
+    ensures { (talk : List Access) × Accessed M.does memory.old talk memory.new
+        × Scatters at entries bytes.now talk (result_err result) }
+{
+    let mut done = 0;
+    for k in 0..entries {
+        if done == bytes.len() {
+            return Ok(());
+        }
+        let Some(entry) = read_array(memory, at + DESCRIPTOR as u64 * u64::from(k)) else {
+            return Err(Miss::Table);
+        };
+        let end = done + data_len(&entry).min(bytes.len() - done);
+        if !write_at(memory, data_at(&entry), &bytes[done..end]) {
+            return Err(Miss::Block);
+        }
+        done = end;
+    }
+    if done == bytes.len() {
+        Ok(())
+    } else {
+        Err(Miss::Overflow)
+    }
+}
+
+/// Stores PRDBC in the header at an address, where bytes moved.
+///
+/// # Errors
+///
+/// Where memory failed.
+fn count<M: HostMemory>(memory: &mut M, header: u64, moved: usize) -> Result<(), Miss>
+    requires { header < 2 ^ 40 }
+    ensures { (talk : List Access) × Accessed M.does memory.old talk memory.new
+        × Counts header moved talk (result_err result) }
+{
+    if moved == 0 {
+        return Ok(());
+    }
+    let mut bytes = [0; 4];
+    LittleEndian::write_u32(&mut bytes, (moved % 0x1_0000_0000) as u32);
+    if write_at(memory, header + BYTE_COUNT, &bytes) {
+        Ok(())
+    } else {
+        Err(Miss::List)
+    }
+}
+
+/// Whether a FIS tells that the device fails its command.
+fn tells_error(fis: &Fis) -> bool
+    ensures { result ≡ tells_error fis.now }
+{
+    match fis {
+        Fis::D2h(f) => f.status % 2 == 1,
+        Fis::H2d(_) | Fis::PioSetup(_) | Fis::DmaSetup(_) | Fis::SetDeviceBits(_) => false,
+    }
+}
+
+/// How many of the bytes that were brought the device took: none where it fails the command.
+fn data_taken(fises: &[Fis], brought: usize) -> usize
+    ensures value { result ≡ data_taken fises.now brought }
+    ensures most { result ≤ brought }
+{
+    match fises {
+        [fis, ..] if tells_error(fis) => 0,
+        _ => brought,
+    }
+}
+
+/// Stores a FIS at an address; false where memory failed.
+fn store<M: HostMemory>(memory: &mut M, at: u64, fis: &Fis) -> bool
+    ensures { (bytes : List ℕ) × IsSpelling bytes fis.now
+        × IsAccess M.does memory.old (Laid at bytes result) memory.new }
+{
+    match fis {
+        Fis::H2d(f) => write_at(memory, at, &f.to_bytes()),
+        Fis::D2h(f) => write_at(memory, at, &f.to_bytes()),
+        Fis::SetDeviceBits(f) => write_at(memory, at, &f.to_bytes()),
+        Fis::DmaSetup(f) => write_at(memory, at, &f.to_bytes()),
+        Fis::PioSetup(f) => write_at(memory, at, &f.to_bytes()),
+    }
+}
+
+/// Stores received FISes at a place, in their order.
+///
+/// # Errors
+///
+/// Where memory failed. FISes before it are stored.
+fn post<M: HostMemory>(memory: &mut M, at: u32, fises: &[Fis]) -> Result<(), Miss>
+    ensures { (talk : List Access) × Accessed M.does memory.old talk memory.new
+        × Posts at fises.now talk (result_err result) }
+{
+    for fis in fises {
+        if !store(memory, u64::from(at) + offset_of(fis), fis) {
+            return Err(Miss::Fis);
+        }
+    }
+    Ok(())
+}
+
+/// Stores received FISes, where there is a place for them.
+///
+/// # Errors
+///
+/// Where memory failed. FISes before it are stored.
+pub fn post_all<M: HostMemory>(memory: &mut M, to: Option<u32>, fises: &[Fis]) -> Result<(), Miss>
+    ensures { (talk : List Access) × Accessed M.does memory.old talk memory.new
+        × PostsTo to fises.now talk (result_err result) }
+{
+    match to {
+        Some(at) => post(memory, at, fises),
+        None => Ok(()),
+    }
+}
+
+/// Where a command's header stands, what it names, and where received FISes go.
+#[derive(Clone, Copy, Debug, PartialEq, Eq)]
+pub struct Place {
+    pub at: u64,
+    pub header: Header,
+    pub to: Option<u32>,
+}
+
+/// What an act gives reaches the memory: its data over their blocks, the count of the bytes that moved, those that it
+/// took of what was brought among them, and its FISes.
+///
+/// # Errors
+///
+/// Where memory failed; what comes before has reached it.
+pub fn deliver<M: HostMemory>(
+    memory: &mut M,
+    place: Place,
+    brought: usize,
+    fises: &[Fis],
+    bytes: &[u8],
+) -> Result<(), Miss>
+    requires near { place.at < 2 ^ 40 }
+    requires short { brought < 2 ^ 63 }
+    ensures { (talk : List Access) × Accessed M.does memory.old talk memory.new
+        × Delivers place brought fises.now bytes.now talk (result_err result) }
+{
+    scatter(
+        memory,
+        place.header.descriptors(),
+        place.header.entries,
+        bytes,
+    )?;
+    count(memory, place.at, data_taken(fises, brought) + bytes.len())?;
+    post_all(memory, place.to, fises)
+}

@@ -1,0 +1,124 @@
+//! What the engine reads of the host's memory: command headers, FISes, and data (AHCI 1.3.1, section 4).
+
+ghost use Rattle.std.specs.Prelude.{◌≡◌, ◌≤◌, ◌<◌, ◌+◌, ◌*◌, ◌-◌, ◌^◌, List, length, true};
+ghost use Rattle.host_memory.specs.Access.{Access, Accessed};
+ghost use Rattle.host_memory.specs.Memory.{command_table_of, header_of, header_by, carries_command, data_at, data_len, descriptors_of, Gathers, brought_as};
+
+use crate::hba_memory::miss::Miss;
+use crate::{HostMemory, read_array, read_at};
+use byteorder::{ByteOrder, LittleEndian};
+use fis::{H2D_LENGTH, H2D_TYPE};
+
+/// How many bytes a command header has (AHCI 1.3.1, 4.2.2).
+pub const HEADER: usize = 32;
+
+/// How many bytes a descriptor has (AHCI 1.3.1, 4.2.3.3).
+pub(crate) const DESCRIPTOR: usize = 16;
+
+/// Where the descriptors stand in a command table (AHCI 1.3.1, 4.2.3).
+const DESCRIPTORS: u64 = 0x80;
+
+/// What a command header names: where the command table stands, and how many descriptors it has.
+#[derive(Clone, Copy, Debug, PartialEq, Eq)]
+pub struct Header {
+    pub table: u32,
+    pub entries: u16,
+}
+
+impl Header {
+    /// Where the descriptors stand.
+    pub fn descriptors(self) -> u64
+        ensures value { result ≡ descriptors_of self }
+        ensures near { result < 2 ^ 33 }
+    {
+        u64::from(self.table) + DESCRIPTORS
+    }
+}
+
+/// Whether the bytes of a FIS are a command.
+pub fn is_command(fis: &[u8; H2D_LENGTH]) -> bool
+    ensures { result ≡ carries_command fis.now }
+{
+    fis[0] == H2D_TYPE && fis[1] >= 0x80
+}
+
+/// What the bytes of a header name.
+fn header_of(bytes: &[u8; HEADER]) -> Result<Header, Miss>
+    ensures { result ≡ header_of bytes.now }
+{
+    let words = bytes[0] % 32;
+    let upper = LittleEndian::read_u32(&bytes[12..]);
+    if words < 2 || 16 < words || upper != 0 {
+        return Err(Miss::Table);
+    }
+    let table = LittleEndian::read_u32(&bytes[8..]);
+    let entries = LittleEndian::read_u16(&bytes[2..]);
+    Ok(Header {
+        table: table - table % 128,
+        entries,
+    })
+}
+
+/// What a header names, by the answer of memory.
+pub fn header_by(answer: Option<[u8; HEADER]>) -> Result<Header, Miss>
+    ensures { result ≡ header_by answer }
+{
+    match answer {
+        None => Err(Miss::List),
+        Some(bytes) => header_of(&bytes),
+    }
+}
+
+/// DBA and DBAU.
+pub(crate) fn data_at(entry: &[u8; DESCRIPTOR]) -> u64
+    ensures { result ≡ data_at entry.now }
+{
+    let at = LittleEndian::read_u64(entry);
+    at - at % 2
+}
+
+/// How many bytes DBC names.
+pub(crate) fn data_len(entry: &[u8; DESCRIPTOR]) -> usize
+    ensures value { result ≡ data_len entry.now }
+    ensures small { result ≤ 2 ^ 22 }
+{
+    let count = (LittleEndian::read_u32(&entry[12..]) % 0x40_0000) as usize + 1;
+    2 * (count / 2) + 2 * (count % 2)
+}
+
+/// Fills `into` with the first bytes of the blocks that so many descriptors from an address on name. A descriptor is read
+/// where bytes are wanted of its block alone.
+///
+/// # Errors
+///
+/// Where memory failed. What stands in `into` then is not said.
+pub fn gather<M: HostMemory>(
+    memory: &mut M,
+    at: u64,
+    entries: u16,
+    into: &mut [u8],
+) -> Result<(), Miss>
+    requires { at < 2 ^ 33 }
+    ensures { (talk : List Access) × Accessed M.does memory.old talk memory.new
+        × Gathers at entries (length into.old) talk (brought_as (λ done. into.new) result) }
+{
+    let mut done = 0;
+    for k in 0..entries {
+        if done == into.len() {
+            return Ok(());
+        }
+        let Some(entry) = read_array(memory, at + DESCRIPTOR as u64 * u64::from(k)) else {
+            return Err(Miss::Table);
+        };
+        let end = done + data_len(&entry).min(into.len() - done);
+        if !read_at(memory, data_at(&entry), &mut into[done..end]) {
+            return Err(Miss::Block);
+        }
+        done = end;
+    }
+    if done == into.len() {
+        Ok(())
+    } else {
+        Err(Miss::Overflow)
+    }
+}

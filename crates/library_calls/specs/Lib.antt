@@ -1,0 +1,14 @@
+pub mod Carries
+pub mod Copies
+pub mod Counts
+pub mod Refusals
+pub mod Spelled
+pub mod Told
+pub mod Desk
+pub mod Listed
+pub mod Requested
+pub mod Shown
+pub mod PortCallsTold
+pub mod HbaCallsDesk
+pub mod Over
+pub mod Worked

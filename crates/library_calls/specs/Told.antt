@@ -1,0 +1,52 @@
+-- Bytes as text.
+use Rattle.std.specs.Prelude.{◌≡◌, ℕ, Bool, true, false, ◌==◌, List, if◌then◌else◌, Option, Some, None, Result, Ok, Err}
+use Rattle.tcg_tokens.specs.Message.{Message}
+use Rattle.tcg_tokens.specs.Reading.{reading}
+use Rattle.tcg_tokens.specs.Text.{item_text_of, fault_text_of}
+use Rattle.tcg_tokens.specs.declared.error.TokenError.{TokenError}
+use Rattle.tcg_calls.specs.NamedText.{named_item_text_of}
+use Rattle.decoded.specs.Faults.{BytesFault}
+use Rattle.decoded.specs.Decodings.{kind_fault, kind_lines}
+use Rattle.decoded.specs.declared.kind.Kind.{Kind}
+use Rattle.decoded.specs.declared.kind.Kind.TheVariants.{Level0, ComPacket, Fis, Identify, LogDirectory, QueuedError, DataPage}
+use Rattle.library_calls.specs.declared.byte_calls.count.Count.{Count}
+use Rattle.library_calls.specs.declared.byte_calls.error.CallError.TheVariants.{Number, Malformed}
+use Rattle.library_calls.specs.Counts.{refused_count}
+use Rattle.library_calls.specs.Copies.{IsWrittenOut}
+
+-- the item that bytes spell, with names or numbers, or what is wrong with them
+abbrev pub item_said : Bool → Message → List ℕ
+item_said true message = named_item_text_of message
+item_said false message = item_text_of message
+
+abbrev pub reading_said : Bool → Result Message TokenError → List ℕ
+reading_said by_name (Ok message) = item_said by_name message
+reading_said by_name (Err fault) = fault_text_of fault
+
+abbrev pub tokens_said : Bool → List ℕ → List ℕ
+tokens_said by_name bytes = reading_said by_name (reading bytes)
+
+-- what bytes are, by its number
+abbrev pub kind_numbered : ℕ → Option Kind
+kind_numbered number =
+    if number == 0 then Some Level0
+    else (if number == 1 then Some ComPacket
+    else (if number == 2 then Some Fis
+    else (if number == 3 then Some Identify
+    else (if number == 4 then Some LogDirectory
+    else (if number == 5 then Some QueuedError
+    else (if number == 6 then Some DataPage else None))))))
+
+-- The lines of the bytes are told, where they are bytes of this kind.
+abbrev pub DecodedOf : Option BytesFault → Kind → List ℕ → List ℕ → List ℕ → Count → Type 0
+DecodedOf (Some fault) kind bytes old new count =
+    (count ≡ refused_count Malformed) × (new ≡ old)
+DecodedOf None kind bytes old new count = IsWrittenOut (kind_lines kind bytes) old new count
+
+abbrev pub DecodedBy : Option Kind → List ℕ → List ℕ → List ℕ → Count → Type 0
+DecodedBy None bytes old new count = (count ≡ refused_count Number) × (new ≡ old)
+DecodedBy (Some kind) bytes old new count =
+    DecodedOf (kind_fault kind bytes) kind bytes old new count
+
+abbrev pub DecodedAs : ℕ → List ℕ → List ℕ → List ℕ → Count → Type 0
+DecodedAs kind bytes old new count = DecodedBy (kind_numbered kind) bytes old new count

@@ -1,0 +1,77 @@
+//! Bytes as text.
+
+ghost use Rattle.std.specs.Prelude.{◌≡◌, ◌⊎◌, IfOk, Some, None, string_bytes};
+ghost use Rattle.library_calls.specs.Copies.{IsWrittenOut};
+ghost use Rattle.tcg_tokens.specs.Message.{message};
+ghost use Rattle.library_calls.specs.Told.{item_said, tokens_said, kind_numbered, DecodedAs};
+
+use crate::byte_calls::copied::copy_text;
+use crate::byte_calls::count::Count;
+use crate::byte_calls::error::CallError;
+use decoded::{Kind, check, lines};
+use std::alloc::{AllocError, Global};
+use tcg_calls::named_tokens::named_item_text;
+use tcg_tokens::{Item, TokenError, fault_text, item_text, read_item};
+
+/// The text of an item, with the names of objects, methods and columns or with their numbers.
+fn item_said(alloc: Global, by_name: bool, item: &Item) -> Result<String, AllocError>
+    ensures { IfOk result (λ text. string_bytes text ≡ item_said by_name (message item.now)) }
+{
+    if by_name {
+        named_item_text(alloc, item)
+    } else {
+        item_text(alloc, item)
+    }
+}
+
+/// The text of the item that bytes spell, or `malformed N NAME`.
+fn tokens_said(alloc: Global, by_name: bool, bytes: &[u8]) -> Result<String, AllocError>
+    ensures { IfOk result (λ text. string_bytes text ≡ tokens_said by_name bytes.now) }
+{
+    match read_item(alloc, bytes) {
+        Ok(item) => item_said(alloc, by_name, &item),
+        Err(TokenError::OutOfMemory) => Err(AllocError),
+        Err(fault) => fault_text(alloc, fault),
+    }
+}
+
+/// Copies the text of the item that a token stream spells, or of what is wrong with it, `malformed N NAME`: with the
+/// names that the standards give to objects, methods and columns, or with their numbers. It is what `opalport tokens`
+/// prints, without the end of the line.
+pub fn tokens_out(alloc: Global, by_name: bool, bytes: &[u8], into: &mut [u8]) -> Count
+    ensures { IsWrittenOut (tokens_said by_name bytes.now) into.old into.new result }
+{
+    let text = tokens_said(alloc, by_name, bytes);
+    copy_text(text.map(String::into_bytes), into)
+}
+
+/// What bytes are, by a number, in the order of the kinds.
+fn kind_numbered(number: u32) -> Option<Kind>
+    ensures { result ≡ kind_numbered number }
+{
+    match number {
+        0 => Some(Kind::Level0),
+        1 => Some(Kind::ComPacket),
+        2 => Some(Kind::Fis),
+        3 => Some(Kind::Identify),
+        4 => Some(Kind::LogDirectory),
+        5 => Some(Kind::QueuedError),
+        6 => Some(Kind::DataPage),
+        _ => None,
+    }
+}
+
+/// Copies the lines that tell the fields of bytes, as `opalport decode` prints them: 0 is Level 0 discovery, 1 a
+/// ComPacket, 2 a FIS, 3 IDENTIFY DEVICE, 4 log 00h, 5 log 10h, 6 log 30h. Refused with `Number` for another kind, and
+/// with `Malformed` for bytes that are none of the kind.
+pub fn decoded_out(alloc: Global, kind: u32, bytes: &[u8], into: &mut [u8]) -> Count
+    ensures { DecodedAs kind bytes.now into.old into.new result }
+{
+    let Some(kind) = kind_numbered(kind) else {
+        return Count::refused(CallError::Number);
+    };
+    if check(kind, bytes).is_err() {
+        return Count::refused(CallError::Malformed);
+    }
+    copy_text(lines(alloc, kind, bytes), into)
+}

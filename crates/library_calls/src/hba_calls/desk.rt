@@ -1,0 +1,93 @@
+//! A controller, with what denied the command of its last turn.
+
+use crate::byte_calls::{Count, DONE, copy_out, copy_text};
+use crate::hba_calls::over::turn_over;
+use crate::hba_calls::worked::{Worked, worked_tag};
+use audit::{AuditLine, line_bytes};
+use hba::{Hba, Turned};
+use std::alloc::{AllocError, Global};
+
+/// A controller that a caller from outside works on, with what denied the command of its last turn.
+#[derive(Drop)]
+pub struct HbaDesk {
+    pub hba: Hba,
+    /// The number of the drive's act, the tag, and the reason.
+    pub denied: Option<AuditLine>,
+}
+
+impl HbaDesk {
+    ghost use Rattle.std.specs.Prelude.{◌≡◌, None};
+    ghost use Rattle.library_calls.specs.Copies.{IsWrittenOut};
+    ghost use Rattle.library_calls.specs.Counts.{given_count};
+    ghost use Rattle.fis.specs.Bytes.{bit};
+    ghost use Rattle.hba.specs.Registers.{word_at, line};
+    ghost use Rattle.library_calls.specs.HbaCallsDesk.{WritesHba, TurnsDesk, denied_line, denied_after, denied_text};
+
+    /// A controller that did no turn.
+    pub fn new(hba: Hba) -> HbaDesk
+        ensures hba { result.hba ≡ hba }
+        ensures denied { result.denied ≡ None }
+    {
+        HbaDesk { hba, denied: None }
+    }
+
+    /// The word that the host reads at an offset: 0 where no register stands.
+    pub fn read(&self, offset: u32) -> Count
+        ensures { result ≡ given_count (word_at self.now.hba.registers offset) }
+    {
+        Count::of(self.hba.read(offset) as usize)
+    }
+
+    /// The host's write of a word at an offset. It tells 0.
+    pub fn write(&mut self, offset: u32, value: u32) -> u32
+        ensures { WritesHba self.old self.new offset value result }
+    {
+        self.hba.write(offset, value);
+        DONE
+    }
+
+    /// The interrupt line, as 0 or 1.
+    pub fn interrupt(&self) -> Count
+        ensures { result ≡ given_count (bit (line self.now.hba.registers)) }
+    {
+        Count::of(usize::from(self.hba.interrupt()))
+    }
+
+    /// Keeps what denied the command of a turn that was done.
+    fn keep(&mut self, outcome: Result<Option<Turned>, AllocError>)
+        ensures hba { self.new.hba ≡ self.old.hba }
+        ensures denied { self.new.denied ≡ denied_after self.old.hba.acts self.old.denied outcome }
+    {
+        let Ok(Some(turned)) = outcome else {
+            return;
+        };
+        let Turned { work, denied, .. } = turned;
+        let step = self.hba.acts();
+        let client = u32::from(worked_tag(work));
+        self.denied = match denied {
+            Some(why) => Some(AuditLine { step, client, why }),
+            None => None,
+        };
+    }
+
+    /// The controller does the work of this number, modulo how many there are, over the bytes that stand at a base address.
+    pub fn turn(&mut self, choice: usize, base: u32, bytes: &mut [u8]) -> Worked
+        ensures { TurnsDesk self.old self.new choice base bytes.old bytes.new result }
+    {
+        let outcome = turn_over(&mut self.hba, choice, base, bytes);
+        let told = Worked::told(&outcome);
+        self.keep(outcome);
+        told
+    }
+
+    /// Copies the line of the audit log that tells what denied the command of the last turn, into a buffer: no bytes, where
+    /// nothing did.
+    pub fn copy_denied(&self, alloc: Global, into: &mut [u8]) -> Count
+        ensures { IsWrittenOut (denied_text self.now.denied) into.old into.new result }
+    {
+        match &self.denied {
+            Some(line) => copy_text(line_bytes(alloc, line), into),
+            None => copy_out(&[], into),
+        }
+    }
+}

@@ -1,6 +1,0 @@
-use Rattle.std.proofs.Common.{◌≡◌, ◌+◌, drop}
-use Rattle.named_lines.specs.Phrases.{sign_place}
-use Rattle.named_lines.proofs.words.sign_place.Given as goal
-
-abbrev pub invariant-loop-i : goal.invariant-loop-i
-invariant-loop-i l = l.i + sign_place (drop l.i l.word) ≡ sign_place l.word

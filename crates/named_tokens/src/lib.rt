@@ -1,7 +1,0 @@
-//! Items of token streams as text, with the names of objects, methods and columns in place of their numbers.
-#![tactic(auto)]
-
-mod place;
-mod text;
-
-pub use text::named_item_text;

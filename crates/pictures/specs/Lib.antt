@@ -1,0 +1,6 @@
+pub mod Lists
+pub mod Samples
+pub mod Waves
+pub mod Dumps
+pub mod Looks
+pub mod Bars

@@ -1,0 +1,9 @@
+pub mod Called
+pub mod Trees
+pub mod Phrases
+pub mod Remedies
+pub mod Conditions
+pub mod Onsets
+pub mod Chronicles
+pub mod Reasons
+pub mod Rests

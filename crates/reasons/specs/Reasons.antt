@@ -1,0 +1,95 @@
+-- The lines that say why a transfer was denied: since when each condition of the denial has been in force, and what would
+-- lift it. The texts are this drive's own, with the names that the standards give to objects and columns:
+--   because the opening: Locking_Range1 ReadLocked = 1
+--   because act 12: Set of Locking_Range1 ReadLocked = 1 by client 3 in session 4097, line 14
+--   because act 15: commit of Locking_Range1 ReadLocked = 1 by client 3 in session 4097, line 17
+--   because act 20: a power cycle, LockOnReset: Locking_Range1 ReadLocked = 1, line 22
+--   because act 20: a power cycle, DoneOnReset: MBRControl Enable = 1 and Done = 0, line 22
+--   lifted by: Set of Locking_Range1 ReadLocked = 0 by Admins (ACE_Locking_Range1_Set_RdLocked)
+use Rattle.std.specs.Prelude.{ℕ, zero, suc, List, [], ◌∷◌, ◌++◌, Option, None, Some, codes, decimal, if◌then◌else◌}
+use Rattle.basics.specs.declared.profile.Profile.{Profile}
+use Rattle.sp_cells.specs.declared.names.Uid.{Uid}
+use Rattle.sp_cells.specs.declared.names.Column.{Column}
+use Rattle.sp_cells.specs.Names.{range_uid, mbr_control}
+use Rattle.sp_cells.specs.ColumnNames.{lock_on_reset_column, mbr_enable_column, mbr_done_column, mbr_done_on_reset_column}
+use Rattle.sp_cells.specs.Flat.{LookUp}
+use Rattle.audit.specs.declared.reason.Why.{Why}
+use Rattle.reasons.specs.Called.{called_object, called_column}
+use Rattle.reasons.specs.Remedies.{remedy_text}
+use Rattle.reasons.specs.declared.explained.condition.Condition.{Condition}
+use Rattle.reasons.specs.declared.explained.condition.Condition.TheVariants.{Lock, Shadow}
+use Rattle.reasons.specs.declared.explained.onset.Source.{Source}
+use Rattle.reasons.specs.declared.explained.onset.Cause.{Cause}
+use Rattle.reasons.specs.declared.explained.onset.Cause.TheVariants.{SetIn, CommittedIn, ResetBy, NoCause}
+use Rattle.reasons.specs.declared.explained.onset.Onset.{Onset}
+use Rattle.reasons.specs.declared.explained.onset.Onset.TheVariants.{AtOpening, AtAct}
+use Rattle.reasons.specs.Conditions.{flag_column, has_range, conditions_of}
+
+-- words, and a number behind them
+unfoldable pub worded_number : List ℕ → ℕ → List ℕ
+worded_number words number = words ++ decimal number
+
+-- a cell by its names that is 1, as `Locking_Range1 ReadLocked = 1`
+unfoldable pub set_cell_text : Uid → Column → List ℕ
+set_cell_text object column =
+    called_object object ++ codes " " ++ called_column object column ++ codes " = 1"
+
+-- `Done = 0`
+unfoldable pub not_done_text : List ℕ
+not_done_text = called_column mbr_control mbr_done_column ++ codes " = 0"
+
+-- a condition that holds
+unfoldable pub condition_text : Condition → List ℕ
+condition_text (Lock range flag) = set_cell_text (range_uid range) (flag_column flag)
+condition_text Shadow =
+    set_cell_text mbr_control mbr_enable_column ++ codes " and " ++ not_done_text
+
+-- the column by which a reset brings it into force
+unfoldable pub reset_column_text : Condition → List ℕ
+reset_column_text (Lock range flag) = called_column (range_uid range) lock_on_reset_column
+reset_column_text Shadow = called_column mbr_control mbr_done_on_reset_column
+
+abbrev pub reset_kind_text : ℕ → List ℕ
+reset_kind_text zero = codes "a power cycle"
+reset_kind_text (suc zero) = codes "a hardware reset"
+reset_kind_text _ = codes "TPER_RESET"
+
+-- who did it
+unfoldable pub client_text : Source → ℕ → List ℕ
+client_text source session =
+    worded_number (codes " by client ") source.client
+    ++ worded_number (codes " in session ") session
+
+unfoldable pub cause_text : Condition → Source → Cause → List ℕ
+cause_text condition source (SetIn session) =
+    codes "Set of " ++ condition_text condition ++ client_text source session
+cause_text condition source (CommittedIn session) =
+    codes "commit of " ++ condition_text condition ++ client_text source session
+cause_text condition source (ResetBy kind) =
+    reset_kind_text kind ++ codes ", " ++ reset_column_text condition ++ codes ": "
+    ++ condition_text condition
+cause_text condition source NoCause = condition_text condition
+
+unfoldable pub onset_text : Condition → Onset → List ℕ
+onset_text condition AtOpening = codes "the opening: " ++ condition_text condition
+onset_text condition (AtAct number source cause) =
+    worded_number (codes "act ") number ++ codes ": " ++ cause_text condition source cause
+    ++ worded_number (codes ", line ") source.line
+
+-- the line of a condition, with its line feed; none where it does not hold
+abbrev pub line_since : Condition → Option Onset → List ℕ
+line_since condition None = []
+line_since condition (Some onset) = codes "because " ++ onset_text condition onset ++ 10 ∷ []
+
+abbrev pub reason_text : Condition → Option Onset → List ℕ
+reason_text condition onset = if has_range condition then line_since condition onset else []
+
+abbrev pub reasons_text : (Condition → Option Onset) → List Condition → List ℕ
+reasons_text onset [] = []
+reasons_text onset (condition ∷ conditions) =
+    reason_text condition (onset condition) ++ reasons_text onset conditions
+
+-- all that is told of a denial
+abbrev pub explanation_text : (Condition → Option Onset) → Profile → LookUp → Why → List ℕ
+explanation_text onset profile rows why =
+    reasons_text onset (conditions_of why) ++ remedy_text profile rows why ++ 10 ∷ []

@@ -1,0 +1,112 @@
+-- What lifts a denial, by the rows in force. The texts are this project's:
+--   lifted by: Set of OBJECT COLUMN = N by EXPRESSION (ACE), or by EXPRESSION (ACE)
+--   lifted by: EXPRESSION (ACE), or EXPRESSION (ACE)
+--   lifted by: the PIN of AUTHORITY
+--   lifted by: a power cycle
+--   lifted by: a power cycle, or Revert of SP by EXPRESSION (ACE), or by EXPRESSION (ACE)
+--   lifted by: nothing
+use Rattle.std.specs.Prelude.{ℕ, List, [], ◌∷◌, ◌++◌, Option, None, Some, codes, decimal}
+use Rattle.std.specs.List.{flat_map}
+use Rattle.basics.specs.declared.profile.Profile.{Profile}
+use Rattle.sp_cells.specs.declared.names.Uid.{Uid}
+use Rattle.sp_cells.specs.declared.names.Sp.{Sp}
+use Rattle.sp_cells.specs.declared.names.Sp.TheVariants.{Admin, Locking}
+use Rattle.sp_cells.specs.declared.names.Column.{Column}
+use Rattle.sp_cells.specs.declared.cells.Cell.{Cell}
+use Rattle.sp_cells.specs.declared.cells.Cell.TheVariants.{Expr}
+use Rattle.sp_cells.specs.Names.{set, revert, admin_sp, locking_sp, range_uid, mbr_control}
+use Rattle.sp_cells.specs.ColumnNames.{boolean_expr_column, enabled_column, read_locked_column, write_locked_column, mbr_done_column}
+use Rattle.sp_cells.specs.Flat.{LookUp}
+use Rattle.ace_eval.specs.Aces.{acl_at, naming}
+use Rattle.audit.specs.declared.reason.AttemptFailure.{AttemptFailure}
+use Rattle.audit.specs.declared.reason.AttemptFailure.TheVariants.{WrongPin, LockedOut, Disabled, Blocked, Unknown}
+use Rattle.audit.specs.declared.reason.Why.{Why}
+use Rattle.audit.specs.declared.reason.Why.TheVariants.{ReadLocked, WriteLocked, ReadShadow, WriteShadow, NoEntryHolds, NoAccessRow, AttemptFailed}
+use Rattle.reasons.specs.Called.{called_object, called_column}
+use Rattle.reasons.specs.Phrases.{expression_text}
+
+-- who fulfils an ACE, by its BooleanExpr cell
+abbrev pub fulfilling_text : Option Cell → List ℕ
+fulfilling_text (Some (Expr elements)) = expression_text elements
+fulfilling_text _ = codes "nobody"
+
+-- `EXPRESSION (ACE)`
+abbrev pub way_text : LookUp → Sp → Uid → List ℕ
+way_text look sp ace = fulfilling_text (look sp ace boolean_expr_column)
+    ++ codes " (" ++ called_object ace ++ codes ")"
+
+-- each of these, with what stands before it
+abbrev pub more_ways_text : LookUp → Sp → (before : List ℕ) → List Uid → List ℕ
+more_ways_text look sp before aces = flat_map (λ ace. before ++ way_text look sp ace) aces
+
+-- the ACEs of which one would do; `nothing` where there are none
+abbrev pub ways_text : LookUp → Sp → (first later : List ℕ) → List Uid → List ℕ
+ways_text look sp first later [] = codes "nothing"
+ways_text look sp first later (ace ∷ aces) =
+    first ++ way_text look sp ace ++ more_ways_text look sp later aces
+
+-- the ACEs of a method of an object that name a column, or all of them where no column is named
+abbrev pub aces_for : Profile → LookUp → Sp → Uid → Uid → Option Column → List Uid
+aces_for profile look sp object method column =
+    naming look sp column (acl_at profile sp object method)
+
+-- a number that is set: `Set of OBJECT COLUMN = N by `, and who may
+abbrev pub set_words : Uid → Column → ℕ → List ℕ
+set_words object column n =
+    codes "Set of " ++ called_object object ++ codes " " ++ called_column object column
+    ++ codes " = " ++ decimal n ++ codes " by "
+
+abbrev pub set_text : Profile → LookUp → Sp → Uid → Column → ℕ → List ℕ
+set_text profile look sp object column n =
+    ways_text look sp (set_words object column n) (codes ", or by ")
+    (aces_for profile look sp object set (Some column))
+
+-- a Revert of an SP, which the Admin SP does (Opal SSC 2.01, section 5.1.2): `Revert of SP by `, and who may
+abbrev pub sp_object : Sp → Uid
+sp_object Admin = admin_sp
+sp_object Locking = locking_sp
+
+abbrev pub revert_words : Uid → List ℕ
+revert_words object = codes "Revert of " ++ called_object object ++ codes " by "
+
+abbrev pub revert_text : Profile → LookUp → Sp → List ℕ
+revert_text profile look sp =
+    ways_text look Admin (revert_words (sp_object sp)) (codes ", or by ")
+    (aces_for profile look Admin (sp_object sp) revert None)
+
+-- A lock of a range is lifted by its flag (Core 2.01, section 5.7, table Locking), and the shadow by Done (table
+-- MBRControl).
+abbrev pub unlocking_text : Profile → LookUp → (range : ℕ) → Column → List ℕ
+unlocking_text profile look range column =
+    set_text profile look Locking (range_uid range) column 0
+
+abbrev pub unshadowing_text : Profile → LookUp → List ℕ
+unshadowing_text profile look = set_text profile look Locking mbr_control mbr_done_column 1
+
+-- Tries that are used up are given back by a power cycle, and by a Revert of the SP (Core 2.01, section 5.3, table
+-- C_PIN); SID that is blocked is freed by a power cycle (Block SID Authentication feature set 1.00).
+abbrev pub attempt_remedy : Profile → LookUp → Sp → Uid → AttemptFailure → List ℕ
+attempt_remedy profile look sp authority WrongPin = codes "the PIN of " ++ called_object authority
+attempt_remedy profile look sp authority LockedOut =
+    codes "a power cycle, or " ++ revert_text profile look sp
+attempt_remedy profile look sp authority Disabled =
+    set_text profile look sp authority enabled_column 1
+attempt_remedy profile look sp authority Blocked = codes "a power cycle"
+attempt_remedy profile look sp authority Unknown = codes "nothing"
+
+-- what stands behind `lifted by: `
+abbrev pub lifting_text : Profile → LookUp → Why → List ℕ
+lifting_text profile look (ReadLocked lba count range) =
+    unlocking_text profile look range read_locked_column
+lifting_text profile look (WriteLocked lba count range) =
+    unlocking_text profile look range write_locked_column
+lifting_text profile look (ReadShadow lba count) = unshadowing_text profile look
+lifting_text profile look (WriteShadow lba count) = unshadowing_text profile look
+lifting_text profile look (NoEntryHolds sp object method column need) =
+    ways_text look sp [] (codes ", or ") need.items
+lifting_text profile look (NoAccessRow sp object method) = codes "nothing"
+lifting_text profile look (AttemptFailed sp authority failure) =
+    attempt_remedy profile look sp authority failure
+
+abbrev pub remedy_text : Profile → LookUp → Why → List ℕ
+remedy_text profile look why = codes "lifted by: " ++ lifting_text profile look why

@@ -1,0 +1,15 @@
+//! Why a drive denies a transfer: since which act each lock has been in force.
+
+mod chronicle;
+mod condition;
+mod explained;
+mod laws;
+mod onset;
+mod onsets;
+mod reason;
+
+pub use chronicle::Chronicle;
+pub use condition::{Condition, Flag, conditions_of};
+pub use explained::Explained;
+pub use laws::{laws_of_onsets, laws_of_reasons};
+pub use onset::{Cause, Onset, Source, cause_in};

@@ -1,0 +1,195 @@
+//! Since which act each lock, and the shadow MBR, has been in force.
+
+ghost use Rattle.std.specs.Prelude.{◌≡◌, ◌≤◌, ℕ, List, []};
+ghost use Rattle.std.specs.Prelude.{◌∷◌, ◌++◌, slice_index_or, IfOk, OnOk};
+ghost use Rattle.sp_cells.specs.declared.names.TheConstants.{RANGES};
+ghost use Rattle.reasons.specs.Chronicles.{no_onsets, range_onsets_after};
+
+use crate::explained::condition::{Condition, conditions_of};
+use crate::explained::onset::{Cause, Onset, Source, onset_after};
+use crate::explained::onsets::RangeOnsets;
+use crate::explained::reason::append_line;
+use crate::remedies::remedy_bytes;
+use audit::Why;
+use sp_cells::{RANGES, Rows};
+use std::alloc::{AllocError, Global};
+use std::marker::Model;
+
+/// The global range and the numbered ones.
+const RANGE_COUNT: usize = RANGES as usize + 1;
+
+/// Since which act each lock, and the shadow MBR, has been in force without a break.
+#[derive(Drop)]
+pub struct Chronicle {
+    acts: u64,
+    ranges: [RangeOnsets; RANGE_COUNT],
+    shadow: Option<Onset>,
+}
+
+impl Model for Chronicle {
+    ghost use Rattle.reasons.specs.Chronicles.{KeptOnsets};
+
+    ghost Value = { KeptOnsets };
+
+    ghost view = { λ c. record { acts = c.acts; ranges = c.ranges; shadow = c.shadow } };
+}
+
+/// Notes of each range which flags are set now.
+fn note_ranges<R: Rows>(ranges: &mut [RangeOnsets; RANGE_COUNT], rows: &R, now: Onset)
+    ensures { (k : ℕ) → k ≤ RANGES → slice_index_or ranges.new k no_onsets
+        ≡ range_onsets_after (R.look_up rows.now) k now (slice_index_or ranges.old k no_onsets) }
+{
+    for range in 0..RANGES + 1 {
+        let k = usize::from(range);
+        ranges[k] = ranges[k].after(rows, range, now);
+    }
+}
+
+impl Chronicle {
+    ghost use Rattle.sp_cells.specs.Flat.{LookUp};
+    ghost use Rattle.history.specs.Opening.{Origin};
+    ghost use Rattle.history.specs.Readers.{in_force};
+    ghost use Rattle.history.specs.History.{log};
+    ghost use Rattle.reasons.specs.declared.explained.onset.Onset.TheVariants.{AtOpening};
+    ghost use Rattle.reasons.specs.Conditions.{HasRange, is_in_force, conditions_of};
+    ghost use Rattle.reasons.specs.Onsets.{Sourced, bare_acts, cause_of, onset_after, held_since, holds_after};
+    ghost use Rattle.reasons.specs.Chronicles.{KeptOnsets, kept_onset, Recounts};
+    ghost use Rattle.reasons.specs.Reasons.{reason_text, reasons_text, explanation_text};
+
+    /// Nothing holds yet.
+    fn empty() -> Chronicle
+        ensures acts { result.acts ≡ 0 }
+        ensures onsets { (condition : Condition) → HasRange condition
+            → kept_onset result condition ≡ None }
+    {
+        Chronicle {
+            acts: 0,
+            ranges: [RangeOnsets::none(); RANGE_COUNT],
+            shadow: None,
+        }
+    }
+
+    /// Notes what holds now, by the rows.
+    fn note<R: Rows>(&mut self, rows: &R, now: Onset)
+        ensures acts { self.new.acts ≡ self.old.acts }
+        ensures onsets { (condition : Condition) → HasRange condition
+            → kept_onset self.new condition
+            ≡ onset_after (kept_onset self.old condition)
+            (is_in_force (R.look_up rows.now) condition) now }
+    {
+        note_ranges(&mut self.ranges, rows, now);
+        self.shadow = onset_after(self.shadow, Condition::Shadow.holds(rows), now);
+    }
+
+    /// What holds at the opening, by the rows then.
+    pub fn opened<R: Rows>(rows: &R) -> Chronicle
+        ensures { (o : Origin) → R.look_up rows.now ≡ in_force o [] → Recounts result o [] }
+    {
+        let mut chronicle = Chronicle::empty();
+        chronicle.note(rows, Onset::AtOpening);
+        chronicle
+    }
+
+    /// Notes what holds after an act of this source and cause, by the rows in force then.
+    pub fn note_act<R: Rows>(&mut self, rows: &R, source: Source, cause: Cause)
+        ensures { (o : Origin) (s : Sourced) (past : List Sourced) → s.source ≡ source
+            → cause_of s.act ≡ cause
+            → R.look_up rows.now ≡ in_force o (log o (bare_acts (s ∷ past)))
+            → Recounts self.old o past → Recounts self.new o (s ∷ past) }
+    {
+        self.acts = self.acts.wrapping_add(1);
+        let number = self.acts;
+        let now = Onset::AtAct {
+            number,
+            source,
+            cause,
+        };
+        self.note(rows, now);
+    }
+
+    /// Since when a condition holds without a break; `None` where it does not hold.
+    pub fn since(&self, condition: Condition) -> Option<Onset>
+        requires { HasRange condition }
+        ensures stands { result ≡ kept_onset self.now condition }
+        ensures told { (o : Origin) (past : List Sourced) → Recounts self.now o past
+            → result ≡ held_since (holds_after o condition) past }
+    {
+        match condition {
+            Condition::Lock { range, flag } => self.ranges[usize::from(range)].of(flag),
+            Condition::Shadow => self.shadow,
+        }
+    }
+
+    /// Appends the line of a condition, with its line feed: since when it has been in force. Nothing where it does not
+    /// hold, or where there is no such range.
+    fn append_reason(
+        &self,
+        alloc: Global,
+        text: &mut Vec<u8>,
+        condition: Condition,
+    ) -> Result<(), AllocError>
+        ensures { OnOk result (text.new.items
+            ≡ text.old.items ++ reason_text condition (kept_onset self.now condition)) }
+    {
+        if condition.has_range() {
+            append_line(alloc, text, condition, self.since(condition))?;
+        }
+        Ok(())
+    }
+
+    /// Appends the lines of these conditions.
+    fn append_reasons(
+        &self,
+        alloc: Global,
+        text: &mut Vec<u8>,
+        conditions: &[Condition],
+    ) -> Result<(), AllocError>
+        ensures { OnOk result (text.new.items
+            ≡ text.old.items ++ reasons_text (kept_onset self.now) conditions.now) }
+    {
+        for condition in conditions {
+            self.append_reason(alloc, text, *condition)?;
+        }
+        Ok(())
+    }
+
+    fn explanation<R: Rows>(
+        &self,
+        alloc: Global,
+        rows: &R,
+        why: &Why,
+    ) -> Result<Vec<u8>, AllocError>
+        ensures { IfOk result (λ text. text.items
+            ≡ explanation_text (kept_onset self.now) (R.profile_of rows.now)
+            (R.look_up rows.now) why.now) }
+    {
+        let mut text = Vec::new(alloc);
+        self.append_reasons(alloc, &mut text, conditions_of(why).as_slice())?;
+        let remedy = remedy_bytes(alloc, rows, why)?;
+        text.extend_from_slice(&remedy)?;
+        text.extend_from_slice(b"\n")?;
+        Ok(text)
+    }
+
+    /// The lines that say of a denial since when each condition that it rests on has been in force, and what would lift
+    /// it by the rows in force, each with its line feed.
+    ///
+    /// # Errors
+    ///
+    /// An allocation was refused.
+    #[tactic(auto, using(crate::proofs::explained::Keeping::same_explanation))]
+    pub fn explain<R: Rows>(
+        &self,
+        alloc: Global,
+        rows: &R,
+        why: &Why,
+    ) -> Result<Vec<u8>, AllocError>
+        ensures { IfOk result (λ text. (o : Origin) (past : List Sourced)
+            → Recounts self.now o past → text.items
+            ≡ explanation_text (λ c. held_since (holds_after o c) past)
+            (R.profile_of rows.now) (R.look_up rows.now) why.now) }
+    {
+        let text = self.explanation(alloc, rows, why)?;
+        Ok(text)
+    }
+}

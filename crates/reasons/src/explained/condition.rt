@@ -1,0 +1,103 @@
+//! What the denial of a transfer rests on (Opal SSC 2.01, 4.3.5.2 and 4.3.5.3).
+
+ghost use Rattle.std.specs.Prelude.{◌≡◌};
+ghost use Rattle.locking.specs.Ranges.{is_shadow_up};
+ghost use Rattle.reasons.specs.Conditions.{conditions_of};
+
+use arrayvec::ArrayVec;
+use audit::Why;
+use sp_cells::{Column, RANGES, Rows, Sp, Uid, number_at};
+
+/// A column of a locking range that says what is locked.
+#[derive(Clone, Copy, Debug, PartialEq, Eq)]
+pub enum Flag {
+    ReadLockEnabled,
+    WriteLockEnabled,
+    ReadLocked,
+    WriteLocked,
+}
+
+/// What is in force at a time, or is not.
+#[derive(Clone, Copy, Debug, Default, PartialEq, Eq)]
+pub enum Condition {
+    /// The column of the range of this number is 1; 0 is the global range.
+    Lock { range: u8, flag: Flag },
+    /// The shadow MBR is enabled, and not done.
+    #[default]
+    Shadow,
+}
+
+impl Flag {
+    ghost use Rattle.reasons.specs.Conditions.{flag_column};
+
+    /// The column of the Locking table.
+    pub fn column(self) -> Column
+        ensures { result ≡ flag_column self }
+    {
+        match self {
+            Flag::ReadLockEnabled => Column::READ_LOCK_ENABLED,
+            Flag::WriteLockEnabled => Column::WRITE_LOCK_ENABLED,
+            Flag::ReadLocked => Column::READ_LOCKED,
+            Flag::WriteLocked => Column::WRITE_LOCKED,
+        }
+    }
+}
+
+/// Whether the shadow MBR is up.
+fn is_shadow_up<R: Rows>(rows: &R) -> bool
+    ensures { result ≡ is_shadow_up (R.look_up rows.now) }
+{
+    let enabled = number_at(rows, Sp::Locking, Uid::MBR_CONTROL, Column::MBR_ENABLE);
+    let done = number_at(rows, Sp::Locking, Uid::MBR_CONTROL, Column::MBR_DONE);
+    enabled == 1 && done == 0
+}
+
+impl Condition {
+    ghost use Rattle.reasons.specs.Conditions.{is_in_force, has_range};
+
+    /// Whether it holds by these rows.
+    pub fn holds<R: Rows>(self, rows: &R) -> bool
+        ensures { result ≡ is_in_force (R.look_up rows.now) self }
+    {
+        match self {
+            Condition::Lock { range, flag } => {
+                number_at(rows, Sp::Locking, Uid::range(range), flag.column()) == 1
+            }
+            Condition::Shadow => is_shadow_up(rows),
+        }
+    }
+
+    /// Whether there is a range of its number.
+    pub fn has_range(self) -> bool
+        ensures { result ≡ has_range self }
+    {
+        match self {
+            Condition::Lock { range, .. } => range <= RANGES,
+            Condition::Shadow => true,
+        }
+    }
+}
+
+/// What a denial rests on: the lock and what enables it, or the shadow MBR; nothing where no transfer was denied.
+pub fn conditions_of(why: &Why) -> ArrayVec<Condition, 2>
+    ensures { result.items ≡ conditions_of why.now }
+{
+    let mut conditions = ArrayVec::new();
+    match *why {
+        Why::ReadLocked { range, .. } => {
+            let flag = Flag::ReadLocked;
+            conditions.push(Condition::Lock { range, flag });
+            let flag = Flag::ReadLockEnabled;
+            conditions.push(Condition::Lock { range, flag });
+        }
+        Why::WriteLocked { range, .. } => {
+            let flag = Flag::WriteLocked;
+            conditions.push(Condition::Lock { range, flag });
+            let flag = Flag::WriteLockEnabled;
+            conditions.push(Condition::Lock { range, flag });
+        }
+        Why::ReadShadow { .. } | Why::WriteShadow { .. } => conditions.push(Condition::Shadow),
+        Why::NoEntryHolds { .. } | Why::NoAccessRow { .. } | Why::AttemptFailed { .. } => {}
+    }
+    conditions
+}

@@ -1,0 +1,5 @@
+//! The modules `remedies` and `explained`.
+#![tactic(auto)]
+
+pub mod explained;
+pub mod remedies;

@@ -1,0 +1,12 @@
+//! What lifts a denial, in words: who may, by which access control element (ACE), by the rows in force.
+
+mod called;
+mod expression;
+mod laws;
+mod phrase;
+mod remedy;
+mod ways;
+
+pub use called::{append_column_name, append_object_name};
+pub use laws::laws_of_expressions;
+pub use remedy::remedy_bytes;

@@ -1,0 +1,198 @@
+//! What lifts a denial, as its bytes.
+
+ghost use Rattle.std.specs.Prelude.{◌≡◌, ◌++◌, OnOk, IfOk};
+ghost use Rattle.reasons.specs.Remedies.{set_words, set_text, sp_object, revert_words, revert_text, unlocking_text, unshadowing_text, attempt_remedy, lifting_text, remedy_text};
+
+use crate::remedies::called::{append_column_name, append_decimal, append_object_name};
+use crate::remedies::ways::{aces_for, append_ways};
+use audit::{AttemptFailure, Why};
+use sp_cells::{Column, Rows, Sp, Uid};
+use std::alloc::{AllocError, Global};
+
+/// What lifts a denial, by the rows in force, as one line without a line end:
+/// `lifted by: Set of Locking_Range1 ReadLocked = 0 by Admins or User1 (ACE_Locking_Range1_Set_RdLocked)`.
+///
+/// # Errors
+///
+/// An allocation was refused.
+pub fn remedy_bytes<R: Rows>(alloc: Global, rows: &R, why: &Why) -> Result<Vec<u8>, AllocError>
+    ensures { IfOk result (λ text. text.items
+        ≡ remedy_text (R.profile_of rows.now) (R.look_up rows.now) why.now) }
+{
+    let mut text = Vec::new(alloc);
+    text.extend_from_slice(b"lifted by: ")?;
+    append_lifting(alloc, &mut text, rows, why)?;
+    Ok(text)
+}
+
+/// Appends what stands behind `lifted by: `.
+fn append_lifting<R: Rows>(
+    alloc: Global,
+    text: &mut Vec<u8>,
+    rows: &R,
+    why: &Why,
+) -> Result<(), AllocError>
+    ensures { OnOk result (text.new.items ≡ text.old.items
+        ++ lifting_text (R.profile_of rows.now) (R.look_up rows.now) why.now) }
+{
+    match why {
+        Why::ReadLocked { range, .. } => {
+            append_unlocking(alloc, text, rows, *range, Column::READ_LOCKED)
+        }
+        Why::WriteLocked { range, .. } => {
+            append_unlocking(alloc, text, rows, *range, Column::WRITE_LOCKED)
+        }
+        Why::ReadShadow { .. } | Why::WriteShadow { .. } => append_unshadowing(alloc, text, rows),
+        Why::NoEntryHolds { sp, need, .. } => {
+            append_ways(alloc, text, rows, *sp, b"", b", or ", need.as_slice())
+        }
+        Why::NoAccessRow { .. } => text.extend_from_slice(b"nothing"),
+        Why::AttemptFailed {
+            sp,
+            authority,
+            failure,
+        } => append_attempt_remedy(alloc, text, rows, *sp, *authority, *failure),
+    }
+}
+
+/// Appends who may lift a lock of a range; range 0 is the global one.
+fn append_unlocking<R: Rows>(
+    alloc: Global,
+    text: &mut Vec<u8>,
+    rows: &R,
+    range: u8,
+    flag: Column,
+) -> Result<(), AllocError>
+    ensures { OnOk result (text.new.items ≡ text.old.items
+        ++ unlocking_text (R.profile_of rows.now) (R.look_up rows.now) range flag) }
+{
+    append_set(alloc, text, rows, Sp::Locking, Uid::range(range), flag, 0)
+}
+
+/// Appends who may lift the shadow MBR.
+fn append_unshadowing<R: Rows>(
+    alloc: Global,
+    text: &mut Vec<u8>,
+    rows: &R,
+) -> Result<(), AllocError>
+    ensures { OnOk result (text.new.items ≡ text.old.items
+        ++ unshadowing_text (R.profile_of rows.now) (R.look_up rows.now)) }
+{
+    append_set(
+        alloc,
+        text,
+        rows,
+        Sp::Locking,
+        Uid::MBR_CONTROL,
+        Column::MBR_DONE,
+        1,
+    )
+}
+
+/// Appends what makes an attempt to authenticate succeed, or possible again.
+fn append_attempt_remedy<R: Rows>(
+    alloc: Global,
+    text: &mut Vec<u8>,
+    rows: &R,
+    sp: Sp,
+    authority: Uid,
+    failure: AttemptFailure,
+) -> Result<(), AllocError>
+    ensures { OnOk result (text.new.items ≡ text.old.items
+        ++ attempt_remedy (R.profile_of rows.now) (R.look_up rows.now) sp authority failure) }
+{
+    match failure {
+        AttemptFailure::WrongPin => {
+            text.extend_from_slice(b"the PIN of ")?;
+            append_object_name(alloc, text, authority)
+        }
+        AttemptFailure::LockedOut => {
+            text.extend_from_slice(b"a power cycle, or ")?;
+            append_revert(alloc, text, rows, sp)
+        }
+        AttemptFailure::Disabled => {
+            append_set(alloc, text, rows, sp, authority, Column::ENABLED, 1)
+        }
+        AttemptFailure::Blocked => text.extend_from_slice(b"a power cycle"),
+        AttemptFailure::Unknown => text.extend_from_slice(b"nothing"),
+    }
+}
+
+/// Appends a Set that puts a number into a cell, and who may do it, as
+/// `Set of MBRControl Done = 1 by Admins (ACE_MBRControl_Admins_Set)`.
+fn append_set<R: Rows>(
+    alloc: Global,
+    text: &mut Vec<u8>,
+    rows: &R,
+    sp: Sp,
+    object: Uid,
+    column: Column,
+    number: u64,
+) -> Result<(), AllocError>
+    ensures { OnOk result (text.new.items ≡ text.old.items
+        ++ set_text (R.profile_of rows.now) (R.look_up rows.now) sp object column number) }
+{
+    let words = set_words(alloc, object, column, number)?;
+    let aces = aces_for(rows, sp, object, Uid::SET, Some(column));
+    append_ways(alloc, text, rows, sp, &words, b", or by ", aces.as_slice())
+}
+
+/// What stands before who may set a cell.
+fn set_words(alloc: Global, object: Uid, column: Column, number: u64) -> Result<Vec<u8>, AllocError>
+    ensures { IfOk result (λ words. words.items ≡ set_words object column number) }
+{
+    let mut words = Vec::new(alloc);
+    words.extend_from_slice(b"Set of ")?;
+    append_object_name(alloc, &mut words, object)?;
+    words.extend_from_slice(b" ")?;
+    append_column_name(alloc, &mut words, object, column)?;
+    words.extend_from_slice(b" = ")?;
+    append_decimal(alloc, &mut words, number)?;
+    words.extend_from_slice(b" by ")?;
+    Ok(words)
+}
+
+/// Appends a Revert of an SP, and who may do it, as `Revert of LockingSP by SID (ACE_SP_SID)`.
+fn append_revert<R: Rows>(
+    alloc: Global,
+    text: &mut Vec<u8>,
+    rows: &R,
+    sp: Sp,
+) -> Result<(), AllocError>
+    ensures { OnOk result (text.new.items ≡ text.old.items
+        ++ revert_text (R.profile_of rows.now) (R.look_up rows.now) sp) }
+{
+    let object = sp_object(sp);
+    let words = revert_words(alloc, object)?;
+    let aces = aces_for(rows, Sp::Admin, object, Uid::REVERT, None);
+    append_ways(
+        alloc,
+        text,
+        rows,
+        Sp::Admin,
+        &words,
+        b", or by ",
+        aces.as_slice(),
+    )
+}
+
+/// The row of an SP in the SP table.
+fn sp_object(sp: Sp) -> Uid
+    ensures { result ≡ sp_object sp }
+{
+    match sp {
+        Sp::Admin => Uid::ADMIN_SP,
+        Sp::Locking => Uid::LOCKING_SP,
+    }
+}
+
+/// What stands before who may revert an SP.
+fn revert_words(alloc: Global, object: Uid) -> Result<Vec<u8>, AllocError>
+    ensures { IfOk result (λ words. words.items ≡ revert_words object) }
+{
+    let mut words = Vec::new(alloc);
+    words.extend_from_slice(b"Revert of ")?;
+    append_object_name(alloc, &mut words, object)?;
+    words.extend_from_slice(b" by ")?;
+    Ok(words)
+}

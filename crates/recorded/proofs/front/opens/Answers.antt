@@ -1,9 +1,0 @@
-use Rattle.std.proofs.Common.{false, refl}
-use Rattle.tool.specs.declared.head.Head.{Head}
-use Rattle.recorded.proofs.Fronts.{opens-so}
-use Rattle.recorded.proofs.front.opens.Goals as goal
-
-pub returns : goal.returns
-returns c =
-    opens-so (record { remarks = false; explains = c.args.explains; on_port = c.args.on_port; lines = 0 })
-    c.args.phase c.args.text.now c.in_ok-turn.turn (c.in_ok-turn.ensures.does refl) (c.in_ok-turn.ensures.bad_line refl)

@@ -1,5 +1,0 @@
-pub mod Frames
-pub mod Recordings
-pub mod Dumped
-pub mod Progress
-pub mod Pictures

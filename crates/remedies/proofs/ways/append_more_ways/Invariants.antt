@@ -1,6 +1,0 @@
-use Rattle.std.proofs.Common.{◌≡◌, ◌++◌, take}
-use Rattle.remedies.specs.Remedies.{more_ways_text}
-use Rattle.remedies.proofs.ways.append_more_ways.Given as goal
-
-abbrev pub invariant-loop-ace : goal.invariant-loop-ace
-invariant-loop-ace g l = l.text.items ≡ l.fn.text.items ++ more_ways_text (g.R.Rows.look_up l.rows) l.sp l.before (take l.ace-index l.aces)

@@ -1,4 +1,0 @@
-pub mod Called
-pub mod Trees
-pub mod Phrases
-pub mod Remedies

@@ -1,0 +1,11 @@
+pub mod Alphabets
+pub mod Answers
+pub mod Findings
+pub mod Lists
+pub mod Tellings
+pub mod Plans
+pub mod Frames
+pub mod Recordings
+pub mod Dumped
+pub mod Progress
+pub mod Pictures

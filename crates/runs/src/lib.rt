@@ -1,0 +1,5 @@
+//! The modules `explored` and `recorded`.
+#![tactic(auto)]
+
+pub mod explored;
+pub mod recorded;

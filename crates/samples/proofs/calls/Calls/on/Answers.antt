@@ -1,9 +1,0 @@
-use Rattle.history.specs.Facts.{facts}
-use Rattle.history.specs.History.{log}
-use Rattle.samples.proofs.Looks.{calls_so}
-use Rattle.samples.proofs.calls.Calls.on.Goals as goal
-
-pub returns : goal.returns
-returns c = λ o acts k.
-    calls_so _ _ (facts o (log o acts)) c.args.sp (c.has_session.ensures.told o acts k)
-    (c.has_transaction.ensures.told o acts k)

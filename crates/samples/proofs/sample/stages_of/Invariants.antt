@@ -1,7 +1,0 @@
-use Rattle.std.proofs.Common.{◌≡◌}
-use Rattle.port.specs.Answers.{stage_at}
-use Rattle.samples.specs.Lists.{values_below}
-use Rattle.samples.proofs.sample.stages_of.Given as goal
-
-abbrev pub invariant-loop-tag : goal.invariant-loop-tag
-invariant-loop-tag l = l.stages.items ≡ values_below (stage_at l.port.slots) l.tag

@@ -1,5 +1,0 @@
-use Rattle.sp_rows.proofs.ExchangeLemmas.{exchanged_value}
-use Rattle.sp_rows.proofs.exchange.exchange_one.Goals as goal
-
-pub returns-clause-old : goal.returns-clause-old
-returns-clause-old c = rw (← c.requires) (exchanged_value _ _ _ _ c.swap.ensures.found c.swap.ensures.old c.swap.ensures.unchanged)

@@ -1,5 +1,0 @@
-pub mod Items
-pub mod Columns
-pub mod Runs
-pub mod Halves
-pub mod Factory

@@ -1,0 +1,13 @@
+use Rattle.std.proofs.Common.{append_assoc}
+use Rattle.sp_tables.specs.Factory.{range_aces}
+use Rattle.sp_tables.proofs.sp_rows.factory.push_range_aces.Goals as goal
+
+pub returns : goal.returns
+unfolding range_aces
+returns c =
+    let e0 = c.in_ok-push_range_get_aces.ensures in
+    let e1 = c.in_ok-push_read_locked_aces.ensures in
+    let e2 = c.in_ok-push_write_locked_aces.ensures in
+    let e3 = c.in_ok-push_ace.ensures in
+    let e4 = c.in_ok-push_ace-2.ensures in
+    rw (e4, e3, e2, e1, e0) (simp append_assoc)

@@ -1,0 +1,410 @@
+-- The cells of a new drive (Opal SSC 2.01, sections 4.2 and 4.3).
+use Rattle.std.specs.Prelude.{◌≡◌, ◌≤◌, ◌+◌, ◌==◌, ℕ, true, false, List, [], ◌∷◌, ◌++◌, zero, suc, codes, if◌then◌else◌}
+use Rattle.std.specs.Fmt.{decimal}
+use Rattle.std.specs.List.{flat_map}
+use Rattle.basics.specs.declared.profile.Profile.{Profile}
+use Rattle.basics.specs.declared.profile.Profile.TheVariants.{Base, Field}
+use Rattle.sp_cells.specs.declared.names.TheConstants.{RANGES, USERS, ADMINS}
+use Rattle.sp_cells.specs.declared.names.Uid.{Uid}
+use Rattle.sp_cells.specs.declared.names.Column.{Column}
+use Rattle.sp_cells.specs.declared.cells.Cell.{Cell}
+use Rattle.sp_cells.specs.declared.cells.Cell.TheVariants.{Number, Bytes, Uid as Object, Numbers, Expr, Columns}
+use Rattle.sp_cells.specs.declared.cells.Element.{Element}
+use Rattle.sp_cells.specs.declared.cells.Element.TheVariants.{Authority, Or}
+use Rattle.sp_cells.specs.Limits.{new_try_limit, no_try_limit, cryptographic_erase, manufactured, manufactured_inactive}
+use Rattle.sp_cells.specs.Names.{uid, none, admin_sp, locking_sp, anybody, sid, admins_class, admin_base, admin_uid, users_class, user_base, user_uid, c_pin_sid, c_pin_msid, admin_pin_base, admin_pin_uid, user_pin_base, user_pin_uid, global_range, range_base, range_uid, mbr_control, tper_info, psid as psid_authority, c_pin_psid, locking_info, key_uid, mbr_table_row, datastore_table_row, data_removal}
+use Rattle.sp_cells.specs.Names.{ace_anybody, ace_admins, ace_anybody_get_common_name, ace_c_pin_sid_get_nopin, ace_c_pin_sid_set_pin, ace_c_pin_msid_get_pin, ace_c_pin_get_psid_nopin, ace_sp_psid, ace_sp_sid, ace_tper_info_set_programmatic_reset_enable, ace_ace_set_boolean_expression, ace_authority_set_enabled, ace_c_pin_admins_get_all_nopin, ace_c_pin_admins_set_pin, user_ace_base, ace_c_pin_user_set_pin, ace_locking_get_all, range_get_ace_base, ace_range_get, gen_key_ace_base, ace_key_gen_key, read_locked_ace_base, ace_range_set_read_locked, write_locked_ace_base, ace_range_set_write_locked, ace_locking_global_range_admins_set, ace_locking_admins_set, ace_mbr_control_admins_set, ace_mbr_control_set_done_to_dor, ace_datastore_get_all, ace_datastore_set_all, ace_data_removal_set_active}
+use Rattle.sp_cells.specs.ColumnNames.{uid_column, name_column, common_name_column, life_cycle_state_column, programmatic_reset_enable_column, pin_column, char_set_column, try_limit_column, tries_column, persistence_column}
+use Rattle.sp_cells.specs.ColumnNames.{is_class_column, class_column, enabled_column, operation_column, credential_column, boolean_expr_column, columns_column}
+use Rattle.sp_cells.specs.ColumnNames.{range_start_column, range_length_column, read_lock_enabled_column, write_lock_enabled_column, read_locked_column, write_locked_column, lock_on_reset_column, mbr_enable_column, mbr_done_column, mbr_done_on_reset_column}
+use Rattle.sp_cells.specs.ColumnNames.{active_key_column, version_column, encrypt_support_column, max_ranges_column, max_re_encryptions_column, keys_available_cfg_column, alignment_required_column, logical_block_size_column, alignment_granularity_column, lowest_aligned_lba_column, kind_column, rows_column, mandatory_write_granularity_column, recommended_access_granularity_column, active_data_removal_mechanism_column}
+use Rattle.shadow_mbr.specs.Stored.{sector_size}
+use Rattle.sp_cells.specs.declared.byte_tables.TableSizes.{TableSizes}
+use Rattle.sp_cells.specs.declared.byte_tables.ByteTable.TheVariants.{ShadowMbr, DataStore}
+use Rattle.sp_cells.specs.ByteTables.{bytes_of_table}
+use Rattle.sp_tables.specs.declared.sp_rows.runs.Run.{Run}
+use Rattle.sp_tables.specs.Items.{Item, row_items, rows_from}
+use Rattle.sp_tables.specs.Runs.{run_items}
+
+-- the columns of a new row of each table
+
+abbrev pub new_sp : Uid → List ℕ → ℕ → List (Column × Cell)
+new_sp object name state =
+    (uid_column, Object object)
+    ∷ (name_column, Bytes name)
+    ∷ (life_cycle_state_column, Number state)
+    ∷ []
+
+abbrev pub new_authority : Uid → List ℕ → ℕ → Uid → ℕ → ℕ → Uid → List (Column × Cell)
+new_authority object name is_class class enabled operation credential =
+    (uid_column, Object object)
+    ∷ (name_column, Bytes name)
+    ∷ (common_name_column, Bytes [])
+    ∷ (is_class_column, Number is_class)
+    ∷ (class_column, Object class)
+    ∷ (enabled_column, Number enabled)
+    ∷ (operation_column, Number operation)
+    ∷ (credential_column, Object credential)
+    ∷ []
+
+-- Anybody and the classes have no PIN
+abbrev pub new_group : Uid → List ℕ → ℕ → List (Column × Cell)
+new_group object name is_class = new_authority object name is_class none 1 0 none
+
+-- who has one signs in with it
+abbrev pub new_member : Uid → List ℕ → Uid → ℕ → Uid → List (Column × Cell)
+new_member object name class enabled credential =
+    new_authority object name 0 class enabled 1 credential
+
+abbrev pub new_pin : Uid → List ℕ → List ℕ → ℕ → List (Column × Cell)
+new_pin object name secret limit =
+    (uid_column, Object object)
+    ∷ (name_column, Bytes name)
+    ∷ (common_name_column, Bytes [])
+    ∷ (pin_column, Bytes secret)
+    ∷ (char_set_column, Object none)
+    ∷ (try_limit_column, Number limit)
+    ∷ (tries_column, Number 0)
+    ∷ (persistence_column, Number 0)
+    ∷ []
+
+-- the set that has the power cycle alone
+abbrev pub power_cycle_alone : Cell
+power_cycle_alone = Numbers (record { power_cycle = true; hardware = false; programmatic = false })
+
+abbrev pub new_range : Uid → List ℕ → List (Column × Cell)
+new_range object name =
+    (uid_column, Object object)
+    ∷ (name_column, Bytes name)
+    ∷ (common_name_column, Bytes [])
+    ∷ (range_start_column, Number 0)
+    ∷ (range_length_column, Number 0)
+    ∷ (read_lock_enabled_column, Number 0)
+    ∷ (write_lock_enabled_column, Number 0)
+    ∷ (read_locked_column, Number 0)
+    ∷ (write_locked_column, Number 0)
+    ∷ (lock_on_reset_column, power_cycle_alone)
+    ∷ []
+
+abbrev pub new_mbr_control : Uid → List (Column × Cell)
+new_mbr_control object =
+    (uid_column, Object object)
+    ∷ (mbr_enable_column, Number 0)
+    ∷ (mbr_done_column, Number 0)
+    ∷ (mbr_done_on_reset_column, power_cycle_alone)
+    ∷ []
+
+abbrev pub new_tper_info : Uid → List (Column × Cell)
+new_tper_info object =
+    (uid_column, Object object)
+    ∷ (programmatic_reset_enable_column, Number 0)
+    ∷ []
+
+abbrev pub new_ace : Uid → List ℕ → List Element → List Column → List (Column × Cell)
+new_ace object name expr columns =
+    (uid_column, Object object)
+    ∷ (name_column, Bytes name)
+    ∷ (common_name_column, Bytes [])
+    ∷ (boolean_expr_column, Expr expr)
+    ∷ (columns_column, Columns columns)
+    ∷ []
+
+abbrev pub new_range_key : Uid → List (Column × Cell)
+new_range_key key = (active_key_column, Object key) ∷ []
+
+-- the drive encrypts, has so many ranges, and they need not be aligned
+abbrev pub new_locking_info : Uid → List ℕ → List (Column × Cell)
+new_locking_info object name =
+    (uid_column, Object object)
+    ∷ (name_column, Bytes name)
+    ∷ (version_column, Number 1)
+    ∷ (encrypt_support_column, Number 1)
+    ∷ (max_ranges_column, Number RANGES)
+    ∷ (max_re_encryptions_column, Number 0)
+    ∷ (keys_available_cfg_column, Number 0)
+    ∷ (alignment_required_column, Number 0)
+    ∷ (logical_block_size_column, Number sector_size)
+    ∷ (alignment_granularity_column, Number 1)
+    ∷ (lowest_aligned_lba_column, Number 0)
+    ∷ []
+
+-- a table of so many bytes, any of which can be written alone
+abbrev pub new_byte_table : Uid → List ℕ → ℕ → List (Column × Cell)
+new_byte_table object name size =
+    (uid_column, Object object)
+    ∷ (name_column, Bytes name)
+    ∷ (common_name_column, Bytes [])
+    ∷ (kind_column, Number 2)
+    ∷ (rows_column, Number size)
+    ∷ (mandatory_write_granularity_column, Number 1)
+    ∷ (recommended_access_granularity_column, Number 1)
+    ∷ []
+
+-- data are removed in the one way that the drive has
+abbrev pub new_data_removal : Uid → List (Column × Cell)
+new_data_removal object =
+    (uid_column, Object object)
+    ∷ (active_data_removal_mechanism_column, Number cryptographic_erase)
+    ∷ []
+
+-- an ACE that one authority, or one class, fulfils
+abbrev pub ace_row : Uid → List ℕ → Uid → List Column → List Item
+ace_row ace name authority columns =
+    row_items ace (new_ace ace name (Authority authority ∷ []) columns)
+
+-- the columns of a C_PIN row but for its names and the PIN
+abbrev pub but_pin : List Column
+but_pin = uid_column ∷ char_set_column ∷ try_limit_column ∷ tries_column ∷ persistence_column ∷ []
+
+-- the columns that place a range, and those that lock it
+abbrev pub bounds : List Column
+bounds = range_start_column ∷ range_length_column ∷ []
+
+abbrev pub locks : List Column
+locks = read_lock_enabled_column ∷ write_lock_enabled_column ∷ read_locked_column
+    ∷ write_locked_column ∷ lock_on_reset_column ∷ []
+
+-- rows that a drive of the profile `Field` alone has
+abbrev pub in_field : Profile → List Item → List Item
+in_field Base items = []
+in_field Field items = items
+
+-- these runs of rows have these cells
+abbrev pub HasRows : {R : Type 0} → (R → List (Column × Cell)) → List (Run R) → List Item → Type 0
+HasRows columns runs items = flat_map (run_items columns) runs ≡ items
+
+-- these cells are added behind those of the runs
+abbrev pub AddsRows : {R : Type 0} → (R → List (Column × Cell)) → (old new : List (Run R))
+    → List Item → Type 0
+AddsRows columns old new items = HasRows columns new (flat_map (run_items columns) old ++ items)
+
+-- the rows of the numbers 1 to n, each named by its base and its number
+abbrev pub family : ℕ → (ℕ → List (Column × Cell)) → ℕ → List Item
+family base values zero = []
+family base values (suc n) = family base values n ++ row_items (uid (base + suc n)) (values (suc n))
+
+-- these rows are a family wherever P says what the row of each number is
+abbrev pub IsFamilyOf : {R : Type 0} → (R → List (Column × Cell)) → (ℕ → R → Type 0) → ℕ → List R
+    → Type 0
+IsFamilyOf columns P count rows =
+    (base : ℕ) (values : ℕ → List (Column × Cell))
+    → ((n : ℕ) (r : _) → n ≤ count → P n r → columns r ≡ values n)
+    → rows_from columns (base + 1) rows ≡ family base values count
+
+-- these rows are those of the numbers 1 to n
+abbrev pub IsFamily : {R : Type 0} → (R → List (Column × Cell)) → ℕ → (ℕ → List (Column × Cell)) → ℕ
+    → List R → Type 0
+IsFamily columns base values count rows =
+    rows_from columns (base + 1) rows ≡ family base values count
+
+-- SPs: the Admin SP is Manufactured, the Locking SP Manufactured-Inactive
+unfoldable pub admin_sps : List Item
+admin_sps = row_items admin_sp (new_sp admin_sp (codes "Admin") manufactured)
+    ++ row_items locking_sp (new_sp locking_sp (codes "Locking") manufactured_inactive)
+
+-- authorities
+unfoldable pub admin_authorities : List Item
+admin_authorities = row_items anybody (new_group anybody (codes "Anybody") 0)
+    ++ row_items sid (new_member sid (codes "SID") none 1 c_pin_sid)
+
+-- the label's is Field's
+unfoldable pub label_authorities : List Item
+label_authorities =
+    row_items psid_authority (new_member psid_authority (codes "PSID") none 1 c_pin_psid)
+
+abbrev pub admin_authority : ℕ → List (Column × Cell)
+admin_authority n = new_member (admin_uid n) (codes "Admin" ++ decimal n) admins_class
+    (if n == 1 then 1 else 0) (admin_pin_uid n)
+
+abbrev pub user_authority : ℕ → List (Column × Cell)
+user_authority n = new_member (user_uid n) (codes "User" ++ decimal n) users_class 0
+    (user_pin_uid n)
+
+unfoldable pub locking_authorities : List Item
+locking_authorities =
+    row_items anybody (new_group anybody (codes "Anybody") 0)
+    ++ row_items admins_class (new_group admins_class (codes "Admins") 1)
+    ++ family admin_base admin_authority ADMINS
+    ++ row_items users_class (new_group users_class (codes "Users") 1)
+    ++ family user_base user_authority USERS
+
+-- C_PIN rows
+unfoldable pub admin_pins : List ℕ → List Item
+admin_pins msid = row_items c_pin_sid (new_pin c_pin_sid (codes "C_PIN_SID") msid new_try_limit)
+    ++ row_items c_pin_msid (new_pin c_pin_msid (codes "C_PIN_MSID") msid no_try_limit)
+
+unfoldable pub label_pins : List ℕ → List Item
+label_pins psid = row_items c_pin_psid (new_pin c_pin_psid (codes "C_PIN_PSID") psid new_try_limit)
+
+abbrev pub admin_pin : ℕ → List (Column × Cell)
+admin_pin n = new_pin (admin_pin_uid n) (codes "C_PIN_Admin" ++ decimal n) [] new_try_limit
+
+abbrev pub user_pin : ℕ → List (Column × Cell)
+user_pin n = new_pin (user_pin_uid n) (codes "C_PIN_User" ++ decimal n) [] new_try_limit
+
+unfoldable pub locking_pins : List Item
+locking_pins = family admin_pin_base admin_pin ADMINS ++ family user_pin_base user_pin USERS
+
+-- ranges
+abbrev pub numbered_range : ℕ → List (Column × Cell)
+numbered_range n = new_range (range_uid n) (codes "Locking_Range" ++ decimal n)
+
+unfoldable pub locking_ranges : List Item
+locking_ranges = row_items global_range (new_range global_range (codes "Locking_GlobalRange"))
+    ++ family range_base numbered_range RANGES
+
+-- under Field each has a key
+abbrev pub range_key : ℕ → List (Column × Cell)
+range_key n = new_range_key (key_uid n)
+
+unfoldable pub range_keys : List Item
+range_keys = row_items global_range (range_key 0) ++ family range_base range_key RANGES
+
+-- and the drive says what it can, and how large its byte tables are
+unfoldable pub locking_infos : List Item
+locking_infos = row_items locking_info (new_locking_info locking_info (codes "LockingInfo"))
+
+unfoldable pub byte_tables : TableSizes → List Item
+byte_tables sizes =
+    row_items mbr_table_row
+    (new_byte_table mbr_table_row (codes "MBR") (bytes_of_table sizes ShadowMbr))
+    ++ row_items datastore_table_row
+    (new_byte_table datastore_table_row (codes "DataStore") (bytes_of_table sizes DataStore))
+
+-- and how it removes data
+unfoldable pub data_removals : List Item
+data_removals = row_items data_removal (new_data_removal data_removal)
+
+-- the shadow MBR
+unfoldable pub locking_mbr_controls : List Item
+locking_mbr_controls = row_items mbr_control (new_mbr_control mbr_control)
+
+-- what the drive says of itself: no command resets it
+abbrev pub admin_tper_infos : List Item
+admin_tper_infos = row_items tper_info (new_tper_info tper_info)
+
+-- ACEs
+unfoldable pub admin_aces : List Item
+admin_aces =
+    ace_row ace_anybody (codes "Anybody") anybody []
+    ++ ace_row ace_c_pin_sid_get_nopin (codes "C_PIN_SID_Get_NOPIN") sid but_pin
+    ++ ace_row ace_c_pin_sid_set_pin (codes "C_PIN_SID_Set_PIN") sid (pin_column ∷ [])
+    ++ ace_row ace_c_pin_msid_get_pin (codes "C_PIN_MSID_Get_PIN") anybody
+    (uid_column ∷ pin_column ∷ [])
+    ++ ace_row ace_sp_sid (codes "SP_SID") sid []
+    ++ ace_row ace_tper_info_set_programmatic_reset_enable
+    (codes "TPerInfo_Set_ProgrammaticResetEnable") sid (programmatic_reset_enable_column ∷ [])
+
+unfoldable pub label_aces : List Item
+label_aces =
+    ace_row ace_c_pin_get_psid_nopin (codes "C_PIN_Get_PSID_NOPIN") anybody but_pin
+    ++ ace_row ace_sp_psid (codes "SP_PSID") psid_authority []
+
+unfoldable pub removal_aces : List Item
+removal_aces = ace_row ace_data_removal_set_active (codes "DataRemovalMechanism_Set_Active") sid
+    (active_data_removal_mechanism_column ∷ [])
+
+unfoldable pub authority_aces : List Item
+authority_aces =
+    ace_row ace_anybody (codes "Anybody") anybody []
+    ++ ace_row ace_admins (codes "Admins") admins_class []
+    ++ ace_row ace_anybody_get_common_name (codes "Anybody_Get_CommonName") anybody
+    (uid_column ∷ common_name_column ∷ [])
+    ++ ace_row ace_ace_set_boolean_expression (codes "ACE_Set_BooleanExpr") admins_class
+    (boolean_expr_column ∷ [])
+    ++ ace_row ace_authority_set_enabled (codes "Authority_Set_Enabled") admins_class
+    (enabled_column ∷ [])
+
+abbrev pub user_ace : ℕ → List (Column × Cell)
+user_ace n = new_ace (ace_c_pin_user_set_pin n)
+    (codes "C_PIN_User" ++ decimal n ++ codes "_Set_PIN")
+    (Authority admins_class ∷ Authority (user_uid n) ∷ Or ∷ []) (pin_column ∷ [])
+
+unfoldable pub pin_aces : List Item
+pin_aces =
+    ace_row ace_c_pin_admins_get_all_nopin (codes "C_PIN_Get_NOPIN") admins_class but_pin
+    ++ ace_row ace_c_pin_admins_set_pin (codes "C_PIN_Admins_Set_PIN") admins_class
+    (pin_column ∷ [])
+    ++ family user_ace_base user_ace USERS
+
+abbrev pub read_locked_ace : ℕ → List (Column × Cell)
+read_locked_ace n = new_ace (ace_range_set_read_locked n)
+    (codes "Range_" ++ decimal n ++ codes "_Set_RdLocked") (Authority admins_class ∷ [])
+    (read_locked_column ∷ [])
+
+abbrev pub write_locked_ace : ℕ → List (Column × Cell)
+write_locked_ace n =
+    new_ace (ace_range_set_write_locked n) (codes "Range_" ++ decimal n ++ codes "_Set_WrLocked")
+    (Authority admins_class ∷ []) (write_locked_column ∷ [])
+
+-- those of the two flags, the global range first
+abbrev pub read_locked_aces : List Item
+read_locked_aces = row_items (ace_range_set_read_locked 0) (read_locked_ace 0)
+    ++ family read_locked_ace_base read_locked_ace RANGES
+
+abbrev pub write_locked_aces : List Item
+write_locked_aces = row_items (ace_range_set_write_locked 0) (write_locked_ace 0)
+    ++ family write_locked_ace_base write_locked_ace RANGES
+
+-- who may read a range: one ACE for all of them, or under Field one for each, which names its key, too
+abbrev pub range_get_ace : ℕ → List (Column × Cell)
+range_get_ace n = new_ace (ace_range_get n) (codes "Range_" ++ decimal n ++ codes "_Get")
+    (Authority admins_class ∷ []) (bounds ++ locks ++ active_key_column ∷ [])
+
+unfoldable pub range_get_aces : Profile → List Item
+range_get_aces Base =
+    ace_row ace_locking_get_all (codes "Locking_Get") admins_class (bounds ++ locks)
+range_get_aces Field = row_items (ace_range_get 0) (range_get_ace 0)
+    ++ family range_get_ace_base range_get_ace RANGES
+
+-- who may make a new key for one
+abbrev pub gen_key_ace : ℕ → List (Column × Cell)
+gen_key_ace n =
+    new_ace (ace_key_gen_key n) (codes "K_AES_256_Range_" ++ decimal n ++ codes "_GenKey")
+    (Authority admins_class ∷ []) []
+
+unfoldable pub gen_key_aces : List Item
+gen_key_aces = row_items (ace_key_gen_key 0) (gen_key_ace 0)
+    ++ family gen_key_ace_base gen_key_ace RANGES
+
+unfoldable pub range_aces : Profile → List Item
+range_aces profile =
+    range_get_aces profile
+    ++ read_locked_aces
+    ++ write_locked_aces
+    ++ ace_row ace_locking_global_range_admins_set (codes "Locking_Global_Set") admins_class locks
+    ++ ace_row ace_locking_admins_set (codes "Locking_Range_Set") admins_class (bounds ++ locks)
+
+unfoldable pub mbr_aces : List Item
+mbr_aces =
+    ace_row ace_mbr_control_admins_set (codes "MBRControl_Set") admins_class
+    (mbr_enable_column ∷ mbr_done_column ∷ mbr_done_on_reset_column ∷ [])
+    ++ ace_row ace_mbr_control_set_done_to_dor (codes "MBRControl_Set_DoneToDOR") admins_class
+    (mbr_done_column ∷ mbr_done_on_reset_column ∷ [])
+
+-- who may read and write the bytes of DataStore
+unfoldable pub datastore_aces : List Item
+datastore_aces =
+    ace_row ace_datastore_get_all (codes "DataStore_Get_All") admins_class []
+    ++ ace_row ace_datastore_set_all (codes "DataStore_Set_All") admins_class []
+
+-- the Admin SP of a drive with this MSID, and this PIN on its label
+abbrev pub admin_factory : Profile → (msid psid : List ℕ) → List Item
+admin_factory profile msid psid =
+    admin_sps ++ ((admin_authorities ++ in_field profile label_authorities)
+    ++ ((admin_pins msid ++ in_field profile (label_pins psid))
+    ++ (admin_tper_infos
+    ++ ((admin_aces ++ in_field profile label_aces ++ in_field profile removal_aces)
+    ++ in_field profile data_removals))))
+
+abbrev pub locking_aces : Profile → List Item
+locking_aces profile = authority_aces ++ pin_aces ++ range_aces profile ++ mbr_aces
+    ++ in_field profile gen_key_aces ++ in_field profile datastore_aces
+
+-- the Locking SP of a drive with byte tables so large
+abbrev pub locking_factory : Profile → TableSizes → List Item
+locking_factory profile sizes = locking_authorities
+    ++ (locking_pins ++ (locking_ranges
+    ++ (locking_mbr_controls ++ (locking_aces profile
+    ++ (in_field profile range_keys ++ (in_field profile locking_infos
+    ++ in_field profile (byte_tables sizes)))))))

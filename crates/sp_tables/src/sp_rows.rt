@@ -1,0 +1,21 @@
+//! The rows of one security provider of a self-locking drive: a struct for each kind of row, the search and the
+//! exchange of a cell among them, and the rows of a new drive.
+
+mod adding;
+pub mod exchange;
+pub mod factory;
+mod families;
+mod field_rows;
+pub mod halves;
+mod new_rows;
+pub mod rows;
+pub mod runs;
+
+pub use exchange::{exchange_all, new_cells};
+pub use factory::{new_admin_sp, new_locking_sp};
+pub use halves::{FieldTables, SpTables};
+pub use rows::{
+    AceRow, AuthorityRow, CPinRow, DataRemovalRow, LockingInfoRow, LockingRow, MbrControlRow,
+    RangeKeyRow, Row, SpRow, TableRow, TperInfoRow,
+};
+pub use runs::{Run, find_cell, swap_in};

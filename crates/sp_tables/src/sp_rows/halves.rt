@@ -1,0 +1,140 @@
+//! The tables of one SP: one half of what a drive keeps.
+
+ghost use Rattle.std.specs.Prelude.{◌≡◌, option_copied, is_some, Some, IsTrue};
+ghost use Rattle.std.specs.Bool.{OnTrue, OnFalse};
+ghost use Rattle.sp_tables.specs.Items.{item_at, with_item};
+ghost use Rattle.sp_tables.specs.Halves.{last_items};
+
+use crate::sp_rows::rows::{
+    AceRow, AuthorityRow, CPinRow, DataRemovalRow, LockingInfoRow, LockingRow, MbrControlRow,
+    RangeKeyRow, SpRow, TableRow, TperInfoRow,
+};
+use crate::sp_rows::runs::{Run, find_cell, swap_in};
+use sp_cells::{Cell, Column, Uid};
+
+/// The tables that a drive of the profile `Field` alone has, each as runs of rows.
+#[derive(Drop)]
+pub struct FieldTables {
+    pub range_keys: Vec<Run<RangeKeyRow>>,
+    pub locking_infos: Vec<Run<LockingInfoRow>>,
+    pub tables: Vec<Run<TableRow>>,
+    pub data_removals: Vec<Run<DataRemovalRow>>,
+}
+
+#[tactic(auto, using(crate::proofs::sp_rows::ItemLemmas::joined))]
+impl FieldTables {
+    ghost use Rattle.sp_tables.specs.Halves.{field_items};
+
+    /// The cell at a place.
+    fn cell(&self, object: Uid, column: Column) -> Option<&Cell>
+        ensures { option_copied result ≡ item_at (field_items self.now) object column }
+    {
+        if let Some(cell) = find_cell(self.range_keys.as_slice(), object, column) {
+            return Some(cell);
+        }
+        if let Some(cell) = find_cell(self.locking_infos.as_slice(), object, column) {
+            return Some(cell);
+        }
+        if let Some(cell) = find_cell(self.tables.as_slice(), object, column) {
+            return Some(cell);
+        }
+        find_cell(self.data_removals.as_slice(), object, column)
+    }
+
+    /// Exchanges the cell at a place, where there is one.
+    fn swap(&mut self, object: Uid, column: Column, cell: &mut Cell) -> bool
+        ensures found { result ≡ is_some (item_at (field_items self.old) object column) }
+        ensures old { OnTrue result (item_at (field_items self.old) object column ≡ Some cell.new) }
+        ensures unchanged { OnFalse result (cell.new ≡ cell.old) }
+        ensures changed { field_items self.new
+            ≡ with_item (field_items self.old) object column cell.old }
+    {
+        swap_in(&mut self.range_keys, object, column, cell)
+            || swap_in(&mut self.locking_infos, object, column, cell)
+            || swap_in(&mut self.tables, object, column, cell)
+            || swap_in(&mut self.data_removals, object, column, cell)
+    }
+}
+
+/// Exchanges the cell at a place among the ACEs and the tables of the profile `Field`, where there is one.
+#[tactic(auto, using(crate::proofs::sp_rows::ItemLemmas::joined))]
+fn swap_last(
+    aces: &mut Vec<Run<AceRow>>,
+    field: &mut FieldTables,
+    object: Uid,
+    column: Column,
+    cell: &mut Cell,
+) -> bool
+    ensures found { result
+        ≡ is_some (item_at (last_items aces.old.items field.old) object column) }
+    ensures old { OnTrue result
+        (item_at (last_items aces.old.items field.old) object column ≡ Some cell.new) }
+    ensures unchanged { OnFalse result (cell.new ≡ cell.old) }
+    ensures changed { last_items aces.new.items field.new
+        ≡ with_item (last_items aces.old.items field.old) object column cell.old }
+{
+    swap_in(aces, object, column, cell) || field.swap(object, column, cell)
+}
+
+/// The tables of one SP, each as runs of rows. A table that the SP lacks is empty.
+#[derive(Drop)]
+pub struct SpTables {
+    pub sps: Vec<Run<SpRow>>,
+    pub authorities: Vec<Run<AuthorityRow>>,
+    pub pins: Vec<Run<CPinRow>>,
+    pub ranges: Vec<Run<LockingRow>>,
+    pub mbr_controls: Vec<Run<MbrControlRow>>,
+    pub tper_infos: Vec<Run<TperInfoRow>>,
+    pub aces: Vec<Run<AceRow>>,
+    pub field: FieldTables,
+}
+
+#[tactic(auto, using(crate::proofs::sp_rows::ItemLemmas::joined))]
+impl SpTables {
+    ghost use Rattle.sp_tables.specs.Halves.{half_items};
+
+    /// The cell at a place.
+    pub fn cell(&self, object: Uid, column: Column) -> Option<&Cell>
+        ensures { option_copied result ≡ item_at (half_items self.now) object column }
+    {
+        if let Some(cell) = find_cell(self.sps.as_slice(), object, column) {
+            return Some(cell);
+        }
+        if let Some(cell) = find_cell(self.authorities.as_slice(), object, column) {
+            return Some(cell);
+        }
+        if let Some(cell) = find_cell(self.pins.as_slice(), object, column) {
+            return Some(cell);
+        }
+        if let Some(cell) = find_cell(self.ranges.as_slice(), object, column) {
+            return Some(cell);
+        }
+        if let Some(cell) = find_cell(self.mbr_controls.as_slice(), object, column) {
+            return Some(cell);
+        }
+        if let Some(cell) = find_cell(self.tper_infos.as_slice(), object, column) {
+            return Some(cell);
+        }
+        if let Some(cell) = find_cell(self.aces.as_slice(), object, column) {
+            return Some(cell);
+        }
+        self.field.cell(object, column)
+    }
+
+    /// Exchanges the cell at a place, where there is one.
+    pub fn swap(&mut self, object: Uid, column: Column, cell: &mut Cell) -> bool
+        ensures found { result ≡ is_some (item_at (half_items self.old) object column) }
+        ensures old { OnTrue result (item_at (half_items self.old) object column ≡ Some cell.new) }
+        ensures unchanged { OnFalse result (cell.new ≡ cell.old) }
+        ensures changed { half_items self.new
+            ≡ with_item (half_items self.old) object column cell.old }
+    {
+        swap_in(&mut self.sps, object, column, cell)
+            || swap_in(&mut self.authorities, object, column, cell)
+            || swap_in(&mut self.pins, object, column, cell)
+            || swap_in(&mut self.ranges, object, column, cell)
+            || swap_in(&mut self.mbr_controls, object, column, cell)
+            || swap_in(&mut self.tper_infos, object, column, cell)
+            || swap_last(&mut self.aces, &mut self.field, object, column, cell)
+    }
+}

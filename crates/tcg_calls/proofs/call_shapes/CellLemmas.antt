@@ -1,0 +1,51 @@
+-- Values that are made, by what they are.
+use Rattle.std.proofs.Common.{◌≡◌, ℕ, List as Seq, [], ◌∷◌, ◌++◌, map, length, drop, get_or, refl, ap, arith, Vec, Box, Global, Option, None, Some, is_some, Bool, true, false, if◌then◌else◌, ◌<◌, ◌+◌, suc, append_assoc, nat_le}
+use Rattle.std.proofs.lemmas.Bool.Decides.{nat_tests}
+use Rattle.std.proofs.lemmas.List.{length-map}
+use Rattle.std.specs.List.{list_all, filter_map}
+use Rattle.sp_cells.specs.Limits.{most_elements}
+use Rattle.tcg_calls.specs.CellValues.{each_of, element_in, expression_of}
+use Rattle.tcg_calls.proofs.call_shapes.NamedLemmas.{trees_from}
+use Rattle.tcg_tokens.specs.declared.value.Value.{Value, List, Named}
+use Rattle.tcg_tokens.specs.Tree.{Tree, list, named, tree, trees}
+use Rattle.tcg_tokens.proofs.Trees.{tree_list, tree_named}
+
+pub tree_of_list : (items : Vec Value Global) → tree (List items) ≡ list (trees items.items)
+tree_of_list items = tree_list (List items) items refl
+
+pub tree_of_named : (both : Box (Value × Value) Global) → tree (Named both) ≡ named (tree both.value.0) (tree both.value.1)
+tree_of_named both = tree_named (Named both) both refl
+
+pub ruleset made = (tree_of_list, tree_of_named)
+
+-- what the rest of the values stand for behind those that were read
+abbrev pub each_behind : {A : Type 0} → (Tree → Option A) → Seq A → Seq Tree → Option (Seq A)
+each_behind f xs ts = if list_all (λ t. is_some (f t)) ts then Some (xs ++ filter_map f ts) else None
+
+pub each_none : {A : Type 0} (f : Tree → Option A) (xs : Seq A) (vs : Seq Value) (i : ℕ) (v : Value) → i < length vs → v ≡ get_or vs i v → f (tree v) ≡ None → each_behind f xs (map tree (drop i vs)) ≡ None
+each_none f xs vs i v lt e h = rw (trees_from vs i v lt e) (rw h refl)
+
+pub each_more : {A : Type 0} (f : Tree → Option A) (xs : Seq A) (vs : Seq Value) (i : ℕ) (v : Value) (x : A) → i < length vs → v ≡ get_or vs i v → f (tree v) ≡ Some x → each_behind f xs (map tree (drop i vs)) ≡ each_behind f (xs ++ x ∷ []) (map tree (drop (i + 1) vs))
+each_more f xs vs i v x lt e h = rw (trees_from vs i v lt e) (rw h (rw (append_assoc xs (x ∷ []) (filter_map f (map tree (drop (i + 1) vs)))) refl))
+
+clash : false ≡ true → ⊥
+clash h = cc
+
+each_head : {A : Type 0} (f : Tree → Option A) (t : Tree) (ts : Seq Tree) (o : Option A) → f t ≡ o → list_all (λ t. is_some (f t)) (t ∷ ts) ≡ true → (list_all (λ t. is_some (f t)) ts ≡ true → length (filter_map f ts) ≡ length ts) → length (filter_map f (t ∷ ts)) ≡ suc (length ts)
+each_head f t ts None e h rest = absurd (clash (rw e at h))
+each_head f t ts (Some x) e h rest = rw e (ap suc (rest (rw e at h)))
+
+-- as many as there are values
+each_length : {A : Type 0} (f : Tree → Option A) (ts : Seq Tree) → list_all (λ t. is_some (f t)) ts ≡ true → length (filter_map f ts) ≡ length ts
+each_length f [] h = refl
+each_length f (t ∷ ts) h = each_head f t ts (f t) refl h (each_length f ts)
+
+long_by : (ts : Seq Tree) (b : Bool) → list_all (λ t. is_some (element_in t)) ts ≡ b → most_elements < length ts → expression_of (if b then Some (filter_map element_in ts) else None) ≡ None
+long_by ts false e lt = refl
+long_by ts true e lt =
+    let n : length (filter_map element_in ts) ≡ length ts = each_length element_in ts e in
+    let over : nat_le (length (filter_map element_in ts)) most_elements ≡ false = rw n (grind (arith, nat_tests)) in
+    rw over refl
+
+pub too_long : (vs : Seq Value) → most_elements < length vs → expression_of (each_of element_in (map tree vs)) ≡ None
+too_long vs lt = long_by (map tree vs) (list_all (λ t. is_some (element_in t)) (map tree vs)) refl (rw length-map lt)

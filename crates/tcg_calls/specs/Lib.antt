@@ -1,0 +1,15 @@
+pub mod Objects
+pub mod Columns
+pub mod Tables
+pub mod Laws
+pub mod Named
+pub mod TreeCode
+pub mod Asks
+pub mod CellValues
+pub mod Parameters
+pub mod Statuses
+pub mod CallShapesLaws
+pub mod Limits
+pub mod Carried
+pub mod Places
+pub mod NamedText

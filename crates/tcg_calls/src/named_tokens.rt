@@ -1,0 +1,6 @@
+//! Items of token streams as text, with the names of objects, methods and columns in place of their numbers.
+
+mod place;
+mod text;
+
+pub use text::named_item_text;

@@ -1,0 +1,165 @@
+//! Objects that have a name of their own.
+
+ghost use Rattle.std.specs.Prelude.{◌≡◌, ◌++◌, MatchOption, Some, None};
+ghost use Rattle.tcg_calls.specs.Objects.{name_in, object_in, object_singles, authority_singles, admin_ace_singles, locking_ace_singles, method_singles};
+ghost use Rattle.tcg_calls.specs.Tables.{pairs};
+
+use sp_cells::Uid;
+
+/// An object, and its name.
+pub(crate) type Named = (Uid, &'static str);
+
+/// The objects of tables that have one row or few.
+const OBJECTS: [Named; 11] = [
+    (Uid::THIS_SP, "ThisSP"),
+    (Uid::ADMIN_SP, "AdminSP"),
+    (Uid::LOCKING_SP, "LockingSP"),
+    (Uid::TPER_INFO, "TPerInfo"),
+    (Uid::LOCKING_INFO, "LockingInfo"),
+    (Uid::MBR_CONTROL, "MBRControl"),
+    (Uid::MBR_TABLE, "MBR"),
+    (Uid::MBR_TABLE_ROW, "Table_MBR"),
+    (Uid::DATASTORE_TABLE, "DataStore"),
+    (Uid::DATASTORE_TABLE_ROW, "Table_DataStore"),
+    (Uid::DATA_REMOVAL, "DataRemovalMechanism"),
+];
+
+/// Authorities, and the rows of their PINs.
+const AUTHORITIES: [Named; 8] = [
+    (Uid::ANYBODY, "Anybody"),
+    (Uid::SID, "SID"),
+    (Uid::PSID, "PSID"),
+    (Uid::ADMINS, "Admins"),
+    (Uid::USERS, "Users"),
+    (Uid::C_PIN_SID, "C_PIN_SID"),
+    (Uid::C_PIN_MSID, "C_PIN_MSID"),
+    (Uid::C_PIN_PSID, "C_PIN_PSID"),
+];
+
+/// The ACEs of the Admin SP, and those of both.
+const ADMIN_ACES: [Named; 10] = [
+    (Uid::ACE_ANYBODY, "ACE_Anybody"),
+    (Uid::ACE_ADMINS, "ACE_Admin"),
+    (Uid::ACE_C_PIN_SID_GET_NOPIN, "ACE_C_PIN_SID_Get_NOPIN"),
+    (Uid::ACE_C_PIN_SID_SET_PIN, "ACE_C_PIN_SID_Set_PIN"),
+    (Uid::ACE_C_PIN_MSID_GET_PIN, "ACE_C_PIN_MSID_Get_PIN"),
+    (Uid::ACE_C_PIN_GET_PSID_NOPIN, "ACE_C_PIN_Get_PSID_NOPIN"),
+    (Uid::ACE_SP_PSID, "ACE_SP_PSID"),
+    (Uid::ACE_SP_SID, "ACE_SP_SID"),
+    (
+        Uid::ACE_TPER_INFO_SET_PROGRAMMATIC_RESET_ENABLE,
+        "ACE_TPerInfo_Set_ProgrammaticResetEnable",
+    ),
+    (
+        Uid::ACE_DATA_REMOVAL_SET_ACTIVE,
+        "ACE_DataRemovalMechanism_Set_Active",
+    ),
+];
+
+/// The ACEs of the Locking SP.
+const LOCKING_ACES: [Named; 11] = [
+    (
+        Uid::ACE_ANYBODY_GET_COMMON_NAME,
+        "ACE_Anybody_Get_CommonName",
+    ),
+    (
+        Uid::ACE_ACE_SET_BOOLEAN_EXPRESSION,
+        "ACE_ACE_Set_BooleanExpression",
+    ),
+    (Uid::ACE_AUTHORITY_SET_ENABLED, "ACE_Authority_Set_Enabled"),
+    (
+        Uid::ACE_C_PIN_ADMINS_GET_ALL_NOPIN,
+        "ACE_C_PIN_Admins_Get_All_NOPIN",
+    ),
+    (Uid::ACE_C_PIN_ADMINS_SET_PIN, "ACE_C_PIN_Admins_Set_PIN"),
+    (
+        Uid::ACE_LOCKING_GLOBAL_RANGE_ADMINS_SET,
+        "ACE_Locking_GlblRng_Admins_Set",
+    ),
+    (
+        Uid::ACE_LOCKING_ADMINS_SET,
+        "ACE_Locking_Admins_RangeStartToLOR",
+    ),
+    (Uid::ACE_MBR_CONTROL_ADMINS_SET, "ACE_MBRControl_Admins_Set"),
+    (
+        Uid::ACE_MBR_CONTROL_SET_DONE_TO_DOR,
+        "ACE_MBRControl_Set_DoneToDOR",
+    ),
+    (Uid::ACE_DATASTORE_GET_ALL, "ACE_DataStore_Get_All"),
+    (Uid::ACE_DATASTORE_SET_ALL, "ACE_DataStore_Set_All"),
+];
+
+/// The session manager, and the methods.
+const METHODS: [Named; 11] = [
+    (Uid::SESSION_MANAGER, "SMUID"),
+    (Uid::PROPERTIES, "Properties"),
+    (Uid::START_SESSION, "StartSession"),
+    (Uid::SYNC_SESSION, "SyncSession"),
+    (Uid::GET, "Get"),
+    (Uid::SET, "Set"),
+    (Uid::AUTHENTICATE, "Authenticate"),
+    (Uid::REVERT, "Revert"),
+    (Uid::ACTIVATE, "Activate"),
+    (Uid::GEN_KEY, "GenKey"),
+    (Uid::REVERT_SP, "RevertSP"),
+];
+
+/// The name of an object in a table.
+pub(crate) fn name_in(table: &[Named], object: Uid) -> Option<&'static str>
+    ensures { MatchOption result (name_in (pairs table.now) object ≡ None)
+        (λ name. name_in (pairs table.now) object ≡ Some name.now) }
+{
+    for (named, name) in table {
+        if *named == object {
+            return Some(name);
+        }
+    }
+    None
+}
+
+/// The object of a name in a table.
+pub(crate) fn object_in(table: &[Named], name: &str) -> Option<Uid>
+    ensures { result ≡ object_in (pairs table.now) name.now }
+{
+    for (named, its) in table {
+        if *its == name {
+            return Some(*named);
+        }
+    }
+    None
+}
+
+#[tactic(auto, unfolding(crate::specs::Objects::object_singles))]
+pub(crate) fn objects() -> &'static [Named]
+    ensures { pairs result.now ≡ object_singles }
+{
+    &OBJECTS
+}
+
+#[tactic(auto, unfolding(crate::specs::Objects::authority_singles))]
+pub(crate) fn authorities() -> &'static [Named]
+    ensures { pairs result.now ≡ authority_singles }
+{
+    &AUTHORITIES
+}
+
+#[tactic(auto, unfolding(crate::specs::Objects::admin_ace_singles))]
+pub(crate) fn admin_aces() -> &'static [Named]
+    ensures { pairs result.now ≡ admin_ace_singles }
+{
+    &ADMIN_ACES
+}
+
+#[tactic(auto, unfolding(crate::specs::Objects::locking_ace_singles))]
+pub(crate) fn locking_aces() -> &'static [Named]
+    ensures { pairs result.now ≡ locking_ace_singles }
+{
+    &LOCKING_ACES
+}
+
+#[tactic(auto, unfolding(crate::specs::Objects::method_singles))]
+pub(crate) fn methods() -> &'static [Named]
+    ensures { pairs result.now ≡ method_singles }
+{
+    &METHODS
+}

@@ -1,4 +1,0 @@
-pub mod Objects
-pub mod Columns
-pub mod Tables
-pub mod Laws

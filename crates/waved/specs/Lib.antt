@@ -1,2 +1,0 @@
-pub mod Waves
-pub mod Dumps

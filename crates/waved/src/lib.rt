@@ -1,8 +1,0 @@
-//! The value change dump of a run: what each line left behind, as signals over time.
-#![tactic(auto)]
-
-mod dump;
-mod wave;
-
-pub use dump::append_frame;
-pub use wave::Wave;
