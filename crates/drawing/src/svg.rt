@@ -11,8 +11,8 @@ ghost use Rattle.drawing.specs.Svg.{head_place, shown_title, head_words, drawn_h
 use crate::markup::{Piece, append_piece};
 use crate::paint::Paint;
 use crate::picture::{Bar, Mark, Picture};
-use crate::text::{append_decimal, append_escaped, append_numbered, append_title};
-use basics::Bytes;
+use crate::text::{append_escaped, append_numbered, append_title};
+use basics::{Bytes, append_decimal};
 use std::alloc::{AllocError, Global};
 
 /// How wide the legend is.
