@@ -1,8 +1,8 @@
 -- A controller and a port start from what their drive starts from.
-use Rattle.std.proofs.Common.{List, [], ◌∷◌}
+use Rattle.std.proofs.Common.{List}
 use Rattle.sp_cells.specs.Config.{Config}
 use Rattle.locking.specs.declared.range.RangeRow.{RangeRow}
-use Rattle.history.specs.Opening.{Origin, factory_origin}
+use Rattle.history.specs.Opening.{Origin}
 use Rattle.drive.specs.State.{DriveState, Agrees}
 use Rattle.hba.specs.History.{State, AgreesHba}
 use Rattle.port.specs.Agreement.{PortAgrees}
@@ -13,10 +13,8 @@ use Rattle.opalport_c.specs.PortCalls.{PortStartsAs}
 
 pub hba_starts : (config : Config) (rows : List RangeRow) (drive : DriveState) (hba : State)
     → ((o : Origin) → Agrees drive o [] → AgreesHba hba o []) → StartsAs config rows drive → HbaStartsAs config rows hba
-hba_starts config [] drive hba agrees starts = agrees (factory_origin config) starts
-hba_starts config (row ∷ rows) drive hba agrees starts = (starts.0, starts.1, agrees starts.0 starts.2)
+hba_starts config rows drive hba agrees starts = (starts.0, starts.1, agrees starts.0 starts.2)
 
 pub port_starts : (config : Config) (rows : List RangeRow) (drive : DriveState) (port : PortState)
     → ((o : Origin) → Agrees drive o [] → PortAgrees port o []) → StartsAs config rows drive → PortStartsAs config rows port
-port_starts config [] drive port agrees starts = agrees (factory_origin config) starts
-port_starts config (row ∷ rows) drive port agrees starts = (starts.0, starts.1, agrees starts.0 starts.2)
+port_starts config rows drive port agrees starts = (starts.0, starts.1, agrees starts.0 starts.2)

@@ -6,7 +6,7 @@ use Rattle.locking.specs.declared.range.RangeRow.{RangeRow}
 use Rattle.sp_cells.specs.Config.{Config, IsWithinLimits, AreNames, IsLabel, config_in, named_config, labelled_config, stored_config, new_serial, new_model, new_psid, new_datastore}
 use Rattle.sp_cells.specs.Limits.{most_datastore_bytes}
 use Rattle.sp_cells.specs.declared.error.SetError.{SetError}
-use Rattle.history.specs.Opening.{Origin, factory_origin, origin_with}
+use Rattle.history.specs.Opening.{Origin, opened_with}
 use Rattle.drive.specs.State.{DriveState, Agrees}
 use Rattle.opalport_c.specs.declared.asked.RangeCells.{RangeCells}
 use Rattle.opalport_c.specs.declared.asked.Size.{Size}
@@ -86,14 +86,13 @@ CanBe size msid serial model psid =
 
 -- What a drive with these rows starts from: with none it is as it leaves the factory.
 abbrev pub StartsAs : Config → List RangeRow → DriveState → Type 0
-StartsAs config [] drive = Agrees drive (factory_origin config) []
-StartsAs config (row ∷ rows) drive = (o : Origin) × (origin_with config (row ∷ rows) ≡ Ok o)
-    × Agrees drive o []
+StartsAs config rows drive =
+    (o : Origin) × (opened_with config rows ≡ Ok o) × Agrees drive o []
 
 -- What is wrong with the rows.
 abbrev pub IsOpeningFault : Config → List RangeRow → CallError → Type 0
 IsOpeningFault config rows e =
-    (error : SetError) × (origin_with config rows ≡ Err error) × (e ≡ set_refusal error)
+    (error : SetError) × (opened_with config rows ≡ Err error) × (e ≡ set_refusal error)
 
 -- Why the drive of this configuration is not made: its rows, or want of memory.
 abbrev pub IsStartFault : Config → List RangeRow → CallError → Type 0

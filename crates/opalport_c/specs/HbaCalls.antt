@@ -9,7 +9,7 @@ use Rattle.library_calls.specs.Refusals.{done_code, code_of_call}
 use Rattle.fis.specs.Bytes.{bit}
 use Rattle.locking.specs.declared.range.RangeRow.{RangeRow}
 use Rattle.sp_cells.specs.Config.{Config}
-use Rattle.history.specs.Opening.{Origin, factory_origin, origin_with}
+use Rattle.history.specs.Opening.{Origin, opened_with}
 use Rattle.hba.specs.History.{State, AgreesHba}
 use Rattle.hba.specs.Registers.{word_at, line}
 use Rattle.library_calls.specs.HbaCallsDesk.{WritesHba, TurnsDesk, denied_text}
@@ -64,9 +64,8 @@ CopiesDenied had has into out count = ByHba had has (WritesNone into out count)
 
 -- What the drive of a controller with these rows starts from: with none it is as it leaves the factory.
 abbrev pub HbaStartsAs : Config → List RangeRow → State → Type 0
-HbaStartsAs config [] hba = AgreesHba hba (factory_origin config) []
-HbaStartsAs config (row ∷ rows) hba = (o : Origin) × (origin_with config (row ∷ rows) ≡ Ok o)
-    × AgreesHba hba o []
+HbaStartsAs config rows hba =
+    (o : Origin) × (opened_with config rows ≡ Ok o) × AgreesHba hba o []
 
 -- A handle with nothing is given a controller that did no turn, or nothing was done.
 pub record MakesHba (had has : Option Object) (size : Size) (msid serial model psid : List ℕ)

@@ -8,7 +8,7 @@ use Rattle.library_calls.specs.Counts.{refused_count}
 use Rattle.library_calls.specs.Refusals.{done_code, code_of_call}
 use Rattle.locking.specs.declared.range.RangeRow.{RangeRow}
 use Rattle.sp_cells.specs.Config.{Config}
-use Rattle.history.specs.Opening.{Origin, factory_origin, origin_with}
+use Rattle.history.specs.Opening.{Origin, opened_with}
 use Rattle.port_history.specs.Requests.{no_bytes}
 use Rattle.port_history.specs.declared.step.Step.{Step}
 use Rattle.port_history.specs.declared.step.Step.TheVariants.{Recover}
@@ -98,9 +98,8 @@ ShowsByHandle had has shown = ByPort had has (λ e. shown ≡ refused_shown e)
 
 -- What the drive of a port with these rows starts from: with none it is as it leaves the factory.
 abbrev pub PortStartsAs : Config → List RangeRow → PortState → Type 0
-PortStartsAs config [] port = PortAgrees port (factory_origin config) []
-PortStartsAs config (row ∷ rows) port = (o : Origin) × (origin_with config (row ∷ rows) ≡ Ok o)
-    × PortAgrees port o []
+PortStartsAs config rows port =
+    (o : Origin) × (opened_with config rows ≡ Ok o) × PortAgrees port o []
 
 -- A handle with nothing is given a port of which nothing was taken yet, or nothing was done.
 pub record MakesPort (had has : Option Object) (size : Size) (msid serial model psid : List ℕ)

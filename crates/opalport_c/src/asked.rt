@@ -166,11 +166,8 @@ pub fn drive_asked(
     ensures { MatchResult result (StartsAs config (map row_asked cells.now))
         (IsStartFault config (map row_asked cells.now)) }
 {
-    if cells.is_empty() {
-        return Ok(Drive::new(alloc, config)?);
-    }
     let rows = rows_asked(alloc, cells)?;
-    match Drive::with_ranges(alloc, config, &rows) {
+    match Drive::opened(alloc, config, &rows) {
         Ok(drive) => Ok(drive),
         Err(error) => Err(of_set(error)),
     }

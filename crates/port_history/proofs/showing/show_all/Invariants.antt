@@ -1,6 +1,6 @@
 use Rattle.std.proofs.Common.{◌≡◌, drop}
 use Rattle.port_history.specs.Registers.{all_shown}
-use Rattle.port.proofs.registers.show_all.Given as goal
+use Rattle.port_history.proofs.showing.show_all.Given as goal
 
 abbrev pub invariant-loop-fis : goal.invariant-loop-fis
 invariant-loop-fis l =
