@@ -25,4 +25,5 @@ pub use remarks::{is_skipped, laws_of_remarks, may_hold_remarks};
 pub use script::{
     laws_of_limits, run_explained_script, run_script, run_script_with_faults, run_text,
 };
-pub use tokens::{Naming, run_tokens, run_tokens_with_faults};
+pub use tcg_calls::named_tokens::Naming;
+pub use tokens::{run_tokens, run_tokens_with_faults};
