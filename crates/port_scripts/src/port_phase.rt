@@ -2,7 +2,6 @@
 
 ghost use Rattle.std.specs.Prelude.{◌≡◌, ◌<◌, ◌≤◌, ◌∷◌, [], IfOk, OnOk, length, slice_get};
 ghost use Rattle.compacket.specs.Spelling.{frame_bytes};
-ghost use Rattle.port_history.specs.Stages.{put_at};
 ghost use Rattle.port_history.specs.declared.request.Request.TheVariants as requests;
 ghost use Rattle.script_lines.specs.Fields.{most_call_bytes, most_send_bytes};
 ghost use Rattle.script_lines.specs.PortLines.{FitsPut};
@@ -15,7 +14,7 @@ use basics::Bytes;
 use compacket::{ComId, Session, frame};
 use drive_scripts::{COM_ID_PROTOCOL, Fault, Turn, expectation, fill, kind_named, pad, shown};
 use fis::{Lba, Tag};
-use port::{Answer, Port, PortError, Put, Request, Stage};
+use port::{Answer, Port, PortError, Put, Request};
 use script_lines::{Hex, PortLine, PutRequest, Report, Reset};
 use std::alloc::{AllocError, Global};
 use trusted_cmds::{Command, SECTOR_SIZE};
@@ -195,18 +194,6 @@ fn print_step(done: Result<u64, PortError>, report: &mut Report) -> Result<(), A
         Err(error) => print_error(error, report)?,
     }
     Ok(())
-}
-
-/// The command that was put in a slot.
-fn put_in(stage: Stage) -> Option<Put>
-    ensures { result ≡ put_at stage }
-{
-    match stage {
-        Stage::Free => None,
-        Stage::Prepared(put) | Stage::Issued(put) | Stage::Accepted(put) | Stage::Answered(put) => {
-            Some(put)
-        }
-    }
 }
 
 /// Prints that a command is done, with its data.
@@ -413,7 +400,7 @@ impl PortPhase {
         ensures { IfOk result (PortMakes (PortLine.Take client tag)
             self.old self.new report.old report.new) }
     {
-        let put = put_in(self.port.stage(tag));
+        let put = self.port.stage(tag).put();
         print_taken(put, self.port.take(client, tag), report)?;
         Ok(Turn::Goes { aborted: false })
     }

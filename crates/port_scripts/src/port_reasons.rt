@@ -1,7 +1,6 @@
 //! What is told of a step of a port that is refused, or whose command is.
 
 ghost use Rattle.std.specs.Prelude.{◌≡◌, ◌<◌, ◌++◌, Some, List, IfSome, IfOk, OnOk, option_map};
-ghost use Rattle.port_history.specs.Stages.{put_at};
 ghost use Rattle.fis.specs.Tags.{slot_count};
 ghost use Rattle.history.specs.Opening.{Origin};
 ghost use Rattle.port.specs.Agreement.{PortAgrees};
@@ -12,6 +11,7 @@ ghost use Rattle.port_scripts.specs.PortReasons.{slot_of, step_refusal_text, acc
 
 use audit::Why;
 use audit::rules::Rule;
+use basics::append_decimal;
 use drive_scripts::ruling;
 use fis::{SLOT_COUNT, Tag};
 use port::Port;
@@ -53,18 +53,6 @@ fn stage_word(stage: Stage) -> &'static [u8]
     }
 }
 
-/// The command that was put in a slot.
-fn put_in(stage: Stage) -> Option<Put>
-    ensures { result ≡ put_at stage }
-{
-    match stage {
-        Stage::Free => None,
-        Stage::Prepared(put) | Stage::Issued(put) | Stage::Accepted(put) | Stage::Answered(put) => {
-            Some(put)
-        }
-    }
-}
-
 /// Appends words, and a number in decimal behind them.
 #[tactic(auto, unfolding(crate::specs::PortReasons::labelled_number))]
 fn append_number(
@@ -76,8 +64,7 @@ fn append_number(
     ensures { OnOk result (text.new.items ≡ text.old.items ++ labelled_number words.now number) }
 {
     text.extend_from_slice(words)?;
-    let digits = number.to_string(alloc)?;
-    text.extend_from_slice(digits.as_bytes())?;
+    append_decimal(alloc, text, number)?;
     Ok(())
 }
 
@@ -101,7 +88,7 @@ fn append_slot(alloc: Global, text: &mut Vec<u8>, tag: Tag, stage: Stage) -> Res
     append_number(alloc, text, b": slot ", u64::from(tag.number()))?;
     text.extend_from_slice(b" is ")?;
     text.extend_from_slice(stage_word(stage))?;
-    append_put(alloc, text, put_in(stage))?;
+    append_put(alloc, text, stage.put())?;
     Ok(())
 }
 
