@@ -10,7 +10,7 @@ use Rattle.sp_cells.specs.Config.{Config}
 use Rattle.trusted_cmds.specs.Commands.{fis_of, payload_length}
 use Rattle.trusted_cmds.specs.Profiles.{payload_length_in}
 use Rattle.trusted_cmds.specs.declared.command.Command.{Command}
-use Rattle.history.specs.Answers.{payload_of}
+use Rattle.history.specs.Answers.{payload_of, expected}
 use Rattle.history.specs.Opening.{Origin}
 use Rattle.history.specs.Events.{Event}
 use Rattle.history.specs.Facts.{Facts, facts}
@@ -18,7 +18,9 @@ use Rattle.audit.specs.declared.rules.rule.Rule.TheVariants.{NoCommand}
 use Rattle.history.specs.Decisions.{refuses}
 use Rattle.history.specs.Tcg.{accepted, commanded}
 use Rattle.history.specs.History.{Act, Accept, log, event}
+use Rattle.history.specs.Readers.{held}
 use Rattle.drive.specs.Answers.{IsAnswer}
+use Rattle.drive.specs.Queue.{held_at}
 use Rattle.drive.specs.State.{DriveState, KeepsDrive, Agrees}
 use Rattle.drive.specs.declared.answer.Accepted.{Accepted}
 use Rattle.port_history.proofs.Fises.{fis_back, fis_brings}
@@ -103,3 +105,8 @@ answers-so accepted o acts command tag bytes payload is answer =
 pub counted-so : (n : ℕ) (acts : List Act) (act : Act) → n ≡ step_of acts
     → (n + 1) % 2 ^ 64 ≡ step_of (act ∷ acts)
 counted-so n acts act e = omega (arith, e)
+
+-- a drive expects as many bytes for what it holds as the acts say
+pub expects_so : (d : DriveState) (o : Origin) (acts : List Act) (tag : ℕ) → Agrees d o acts
+    → expected (held_at d.queue tag) ≡ expected (held (log o acts) tag)
+expects_so d o acts tag agrees = ap expected (agrees.held tag)

@@ -179,6 +179,7 @@ impl RunningPhase {
     }
 
     /// Completes a held transfer, whose payload has this byte in each place, and prints its data.
+    #[tactic(auto, using(crate::proofs::Acts::expects_so))]
     fn serve(&mut self, tag: Tag, byte: u8, report: &mut Report) -> Result<(), AllocError>
         ensures serves { OnOk result
             ((o : Origin) (acts : List Act) → RunsOn self.old o acts
@@ -187,8 +188,6 @@ impl RunningPhase {
         ensures payload { self.new.payload ≡ self.old.payload }
         ensures completed { OnOk result (self.new.completed ≡ true) }
     {
-        // What is held expects as many bytes as the acts say.
-        let _ = self.drive.expects(tag);
         // what is held completes, unless memory is refused
         let Ok(done) = self.drive.complete_with_heads(tag, byte) else {
             return Err(AllocError);
