@@ -4,11 +4,13 @@ ghost use Rattle.std.specs.Prelude.{◌≡◌};
 ghost use Rattle.library_calls.specs.Carries.{FramedAs, IsOpened};
 ghost use Rattle.library_calls.specs.Copies.{IsWrittenOut};
 ghost use Rattle.library_calls.specs.Spelled.{AskedAs, SpelledAs, command_asked, trusted_asked};
-ghost use Rattle.library_calls.specs.Told.{DecodedAs, tokens_said};
+ghost use Rattle.library_calls.specs.Told.{DecodedAs};
+ghost use Rattle.tcg_calls.specs.TokenTexts.{naming_of, token_text};
 
 use compacket::Session;
 use library_calls::byte_calls::{Carried, Count, Transfer};
 use std::alloc::Global;
+use tcg_calls::named_tokens::Naming;
 
 /// [`library_calls::byte_calls::tokens_out`].
 #[unsafe(no_mangle)]
@@ -18,9 +20,9 @@ pub extern "C" fn opal_raw_tokens(
     bytes: &[u8],
     into: &mut [u8],
 ) -> Count
-    ensures { IsWrittenOut (tokens_said by_name bytes.now) into.old into.new result }
+    ensures { IsWrittenOut (token_text (naming_of by_name) bytes.now) into.old into.new result }
 {
-    library_calls::byte_calls::tokens_out(alloc, by_name, bytes, into)
+    library_calls::byte_calls::tokens_out(alloc, Naming::by_name(by_name), bytes, into)
 }
 
 /// [`library_calls::byte_calls::decoded_out`].
