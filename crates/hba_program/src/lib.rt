@@ -1,4 +1,4 @@
-//! The modules `hba_lines`, `hba_wire` and `hba_tool`.
+//! A controller as a program: a host writes registers and lends its memory in lines over standard streams.
 #![tactic(auto)]
 
 pub mod hba_lines;

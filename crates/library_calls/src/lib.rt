@@ -1,4 +1,4 @@
-//! The modules `byte_calls`, `port_calls` and `hba_calls`.
+//! Calls in bytes and numbers, for callers that are no Rattle: tokens, frames and FISes, a port, a controller.
 #![tactic(auto)]
 
 pub mod byte_calls;

@@ -1,4 +1,4 @@
-//! The modules `samples`, `waved` and `pictured`.
+//! Pictures and waveforms of a run: a look at a drive or a port after each line, as lanes of a picture and as signals.
 #![tactic(auto)]
 
 pub mod pictured;

@@ -1,4 +1,4 @@
-//! The modules `remedies` and `explained`.
+//! Why a denial came: since which act what denied it has been in force, and who may lift it, by the rows in force.
 #![tactic(auto)]
 
 pub mod explained;

@@ -1,4 +1,4 @@
-//! The modules `tcg_names`, `call_shapes` and `named_tokens`.
+//! Calls of methods as their token streams say them: names, arguments by their shape, cells as values, items as text.
 #![tactic(auto)]
 
 pub mod call_shapes;
