@@ -67,8 +67,8 @@ bar_face paint =
     words_of pieces.Face ++ colour_text paint ++ words_of pieces.Closed
 
 -- how many letters stand in so many pixels: none is wider than 7
-abbrev pub letters_in : ℕ → ℕ
-letters_in pixels = pixels / 7
+abbrev pub letters_for : ℕ → ℕ
+letters_for pixels = pixels / 7
 
 -- A text that has no room ends by two full stops; where there is no room for these and a letter, it is left out.
 unfoldable pub fitted : ℕ → List ℕ → List ℕ
@@ -84,7 +84,7 @@ bar_words room says = words_of pieces.BarWords ++ fitted room says ++ words_of p
 unfoldable pub bar_text : ℕ → Bar → List ℕ
 bar_text width bar =
     bar_place width bar ++ title_text bar.says ++ bar_face bar.paint
-    ++ bar_words (letters_in (width * bar.columns)) bar.says
+    ++ bar_words (letters_for (width * bar.columns)) bar.says
 
 -- a mark, in the middle of its column
 unfoldable pub mark_place : ℕ → Mark → List ℕ

@@ -5,5 +5,5 @@ abbrev pub digits_of : Option ℕ → List ℕ
 digits_of None = []
 digits_of (Some number) = decimal number
 
-abbrev pub numbered : List ℕ → Option ℕ → List ℕ
-numbered word number = word ++ digits_of number
+abbrev pub numbered_name : List ℕ → Option ℕ → List ℕ
+numbered_name word number = word ++ digits_of number

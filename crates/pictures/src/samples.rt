@@ -10,6 +10,6 @@ mod sample;
 pub use calls::Calls;
 pub use frame::Frame;
 pub use locks::Locks;
-pub(crate) use name::numbered;
+pub(crate) use name::numbered_name;
 pub use registers::Registers;
 pub use sample::Sample;

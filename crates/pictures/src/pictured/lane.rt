@@ -3,7 +3,7 @@
 ghost use Rattle.std.specs.Prelude.{◌≡◌, IfOk};
 ghost use Rattle.pictures.specs.Looks.{lane_at, lane_word, lane_number, lane_name, lane_paint};
 
-use crate::samples::numbered;
+use crate::samples::numbered_name;
 use basics::Bytes;
 use drawing::Paint;
 use sp_cells::Sp;
@@ -82,7 +82,7 @@ fn lane_number(lane: Lane) -> Option<u8>
 pub(crate) fn lane_name(alloc: Global, lane: Lane) -> Result<Bytes, AllocError>
     ensures { IfOk result (λ name. name ≡ lane_name lane) }
 {
-    let name = numbered(alloc, lane_word(lane), lane_number(lane))?;
+    let name = numbered_name(alloc, lane_word(lane), lane_number(lane))?;
     Ok(Bytes::from_vec(name))
 }
 

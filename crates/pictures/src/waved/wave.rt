@@ -3,7 +3,7 @@
 ghost use Rattle.std.specs.Prelude.{◌≡◌, IfOk, option_copied};
 ghost use Rattle.pictures.specs.Waves.{wave_at, wave_word, wave_number, wave_name, wave_bits, flag_value, stage_value, locks_value, held_value, register_value, port_value, wave_value};
 
-use crate::samples::{Locks, Registers, Sample, numbered};
+use crate::samples::{Locks, Registers, Sample, numbered_name};
 use port::Stage;
 use sp_cells::Sp;
 use std::alloc::{AllocError, Global};
@@ -109,7 +109,7 @@ fn wave_number(wave: Wave) -> Option<u8>
 pub(crate) fn wave_name(alloc: Global, wave: Wave) -> Result<Vec<u8>, AllocError>
     ensures { IfOk result (λ name. name.items ≡ wave_name wave) }
 {
-    numbered(alloc, wave_word(wave), wave_number(wave))
+    numbered_name(alloc, wave_word(wave), wave_number(wave))
 }
 
 /// How many bits a signal has.
