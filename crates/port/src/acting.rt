@@ -6,12 +6,12 @@ ghost use Rattle.history.specs.Audit.{line_for};
 use crate::host;
 use crate::outcome::{Outcome, outcome_then};
 use crate::port::Port;
-use crate::registers::{show_all, show_answer};
+use crate::registers::show_answer;
 use crate::stages::{accepted_stage, failed_then};
 use audit::{AuditLine, Why};
 use drive::DriveError;
 use fis::Tag;
-use port_history::{Answer, EngineStep, PortError, Put, Request, Stage, is_queued};
+use port_history::{Answer, EngineStep, PortError, Put, Request, Stage, is_queued, show_all};
 use slots::BUFFER;
 
 /// Adds the line of a denial, if there was one.

@@ -1,12 +1,12 @@
 //! Recovery from a failed command, and resets.
 
 use crate::port::Port;
-use crate::registers::{restart, show_all};
+use crate::registers::restart;
 use crate::stages::LogEntry;
 use crate::{host, registers};
 use drive::ResetKind;
 use fis::Tag;
-use port_history::{EngineStep, PortError};
+use port_history::{EngineStep, PortError, show_all};
 
 impl Port {
     ghost use Rattle.std.specs.Prelude.{◌≡◌, ◌+◌, ℕ, List, ◌∷◌, length, OnOk, OnErr, IfOk};
