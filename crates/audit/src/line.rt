@@ -5,6 +5,7 @@ ghost use Rattle.audit.specs.AuditText.{transfer_text, lock_text, shadow_text, c
 
 use crate::names::{append_method, append_uid, append_uids, sp_name};
 use crate::reason::{AttemptFailure, AuditLine, Why};
+use basics::append_decimal;
 use sp_cells::{Column, Sp, Uid};
 use std::alloc::{AllocError, Global};
 
@@ -23,14 +24,6 @@ pub fn line_bytes(alloc: Global, line: &AuditLine) -> Result<Vec<u8>, AllocError
     text.extend_from_slice(b" deny ")?;
     append_why(alloc, &mut text, &line.why)?;
     Ok(text)
-}
-
-fn append_decimal(alloc: Global, text: &mut Vec<u8>, number: u64) -> Result<(), AllocError>
-    ensures { OnOk result (text.new.items ≡ text.old.items ++ decimal number) }
-{
-    let digits = number.to_string(alloc)?;
-    text.extend_from_slice(digits.as_bytes())?;
-    Ok(())
 }
 
 /// Appends what a transfer does and its sectors, as `read 95+6`.
@@ -87,9 +80,9 @@ fn append_call(
     text.extend_from_slice(b"method ")?;
     text.extend_from_slice(sp_name(sp))?;
     text.extend_from_slice(b" ")?;
-    append_uid(alloc, text, object)?;
+    append_uid(text, object)?;
     text.extend_from_slice(b" ")?;
-    append_method(alloc, text, method)?;
+    append_method(text, method)?;
     Ok(())
 }
 
@@ -120,7 +113,7 @@ fn append_need(
     text.extend_from_slice(b" col ")?;
     append_column(alloc, text, column)?;
     text.extend_from_slice(b" need ")?;
-    append_uids(alloc, text, need)
+    append_uids(text, need)
 }
 
 /// The word for the failure of an attempt.
@@ -149,7 +142,7 @@ fn append_attempt(
     text.extend_from_slice(b"auth ")?;
     text.extend_from_slice(sp_name(sp))?;
     text.extend_from_slice(b" ")?;
-    append_uid(alloc, text, authority)?;
+    append_uid(text, authority)?;
     text.extend_from_slice(b" ")?;
     text.extend_from_slice(failure_name(failure))?;
     Ok(())

@@ -5,9 +5,11 @@
 pub mod addresses;
 pub mod bytes;
 pub mod profile;
+pub mod sums;
 pub mod text;
 
 pub use addresses::{ADDRESS_LIMIT, laws_of_addresses};
 pub use bytes::Bytes;
 pub use profile::Profile;
+pub use sums::byte_sum;
 pub use text::{append_decimal, append_hex, spell_hex};

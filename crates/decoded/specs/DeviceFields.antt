@@ -6,6 +6,7 @@ use Rattle.decoded.specs.declared.listing.Listing.TheVariants.{Words, Logs, Page
 use Rattle.decoded.specs.Fields.{FieldRow, field, little_endian, field_line, row_lines}
 use Rattle.decoded.specs.Faults.{BytesFault, earlier, fields_fault, size_fault}
 use Rattle.decoded.specs.Listings.{listing_lines}
+use Rattle.basics.specs.Sums.{byte_sum}
 
 -- how many bytes each has
 abbrev pub page_size : ℕ
@@ -39,11 +40,6 @@ identify_fields =
     ∷ field (codes "SecurityFrozen") (words_from 128 1) (Flag 0x0008)
     ∷ field (codes "IntegrityWord") (words_from 255 1) Hex
     ∷ []
-
--- the sum of bytes
-abbrev pub byte_sum : List ℕ → ℕ
-byte_sum [] = 0
-byte_sum (b ∷ bs) = b + byte_sum bs
 
 -- the sum of all bytes is a multiple of 256
 abbrev pub has_sum : List ℕ → Bool

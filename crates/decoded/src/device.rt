@@ -3,13 +3,14 @@
 ghost use Rattle.std.specs.Prelude.{◌≡◌, ◌%◌, ◌==◌, ◌++◌, OnOk};
 ghost use Rattle.decoded.specs.Fields.{rows_of};
 ghost use Rattle.decoded.specs.Faults.{Checks};
-ghost use Rattle.decoded.specs.DeviceFields.{identify_fields, byte_sum, has_sum, sum_text, integrity_text, identify_fault, identify_lines, queued_error_fields, queued_error_fault, queued_error_lines, directory_fields, directory_fault, directory_lines, data_page_fields, page_list_fields, security_page_fields, data_page_fault, page_content_lines, data_page_lines};
+ghost use Rattle.decoded.specs.DeviceFields.{identify_fields, has_sum, sum_text, integrity_text, identify_fault, identify_lines, queued_error_fields, queued_error_fault, queued_error_lines, directory_fields, directory_fault, directory_lines, data_page_fields, page_list_fields, security_page_fields, data_page_fault, page_content_lines, data_page_lines};
 
 use crate::fault::DecodeFault;
 use crate::field::{
     Field, Form, append_line, append_rows, byte_at, check_fields, check_size, front,
 };
 use crate::listing::{Listing, append_listing};
+use basics::byte_sum;
 use std::alloc::{AllocError, Global};
 
 /// How many bytes each of them has.
@@ -125,22 +126,11 @@ fn security_page_fields() -> &'static [Field]
     &SECURITY_PAGE
 }
 
-/// The sum of all bytes, modulo 256.
-fn sum(bytes: &[u8]) -> u8
-    ensures { result ≡ byte_sum bytes.now % 256 }
-{
-    let mut sum: u8 = 0;
-    for byte in bytes {
-        sum = sum.wrapping_add(*byte);
-    }
-    sum
-}
-
 /// Whether the sum of all bytes is a multiple of 256.
 fn has_sum(bytes: &[u8]) -> bool
     ensures { result ≡ has_sum bytes.now }
 {
-    sum(front(bytes, PAGE_SIZE)) == 0
+    byte_sum(front(bytes, PAGE_SIZE)) == 0
 }
 
 fn sum_text(is_right: bool) -> &'static str

@@ -5,6 +5,7 @@ ghost use Rattle.decoded.specs.Fields.{field_row, rows_of, octets_at, octets_num
 ghost use Rattle.decoded.specs.Faults.{Checks, fields_fault, size_fault};
 
 use crate::fault::DecodeFault;
+use basics::{append_decimal, append_hex};
 use byteorder::{BigEndian, ByteOrder};
 use std::alloc::{AllocError, Global};
 
@@ -71,27 +72,12 @@ fn printable(octet: u8) -> u8
     }
 }
 
-/// Appends a number in decimal.
-pub(crate) fn append_decimal(
-    alloc: Global,
-    text: &mut Vec<u8>,
-    number: u64,
-) -> Result<(), AllocError>
-    ensures { OnOk result (text.new.items ≡ text.old.items ++ decimal number) }
-{
-    let digits = number.to_string(alloc)?;
-    text.extend_from_slice(digits.as_bytes())?;
-    Ok(())
-}
-
 /// Appends `0x` and bytes in hex.
-pub(crate) fn append_hex(alloc: Global, text: &mut Vec<u8>, octets: &[u8]) -> Result<(), AllocError>
+pub(crate) fn append_prefixed_hex(text: &mut Vec<u8>, octets: &[u8]) -> Result<(), AllocError>
     ensures { OnOk result (text.new.items ≡ text.old.items ++ prefixed_hex octets.now) }
 {
-    let digits = hex::encode(alloc, octets)?;
     text.extend_from_slice(b"0x")?;
-    text.extend_from_slice(digits.as_bytes())?;
-    Ok(())
+    append_hex(text, octets)
 }
 
 /// Appends characters between quotes.
@@ -123,7 +109,7 @@ fn append_value(
 {
     match form {
         Form::Decimal => append_decimal(alloc, text, number(octets))?,
-        Form::Hex => append_hex(alloc, text, octets)?,
+        Form::Hex => append_prefixed_hex(text, octets)?,
         Form::Flag(mask) => text.extend_from_slice(flag_digit(number(octets), mask).as_bytes())?,
         Form::Low(mask) => append_decimal(alloc, text, number(octets) & mask)?,
         Form::High => append_decimal(alloc, text, number(octets) / 16)?,
@@ -154,7 +140,7 @@ pub(crate) fn append_hex_line(
         (text.new.items ≡ text.old.items ++ field_line name.now (prefixed_hex octets.now)) }
 {
     let mut value = Vec::new(alloc);
-    append_hex(alloc, &mut value, octets)?;
+    append_prefixed_hex(&mut value, octets)?;
     append_line(text, name, &value)?;
     Ok(())
 }

@@ -3,7 +3,8 @@
 ghost use Rattle.std.specs.Prelude.{◌≡◌, ◌≤◌, ◌<◌, ◌++◌, OnOk};
 ghost use Rattle.decoded.specs.Listings.{word_octets, qword_octets, is_in_text, word_line, log_pages_line, supported_page_line, qword_line, listing_line, listing_lines};
 
-use crate::field::{append_decimal, append_hex, append_hex_line, byte_at, number};
+use crate::field::{append_hex_line, append_prefixed_hex, byte_at, number};
+use basics::append_decimal;
 use std::alloc::{AllocError, Global};
 
 /// What is listed.
@@ -62,7 +63,7 @@ fn append_word(alloc: Global, text: &mut Vec<u8>, bytes: &[u8], n: u16) -> Resul
     text.extend_from_slice(b"Word ")?;
     append_decimal(alloc, text, u64::from(n))?;
     text.extend_from_slice(b" ")?;
-    append_hex(alloc, text, &octets)?;
+    append_prefixed_hex(text, &octets)?;
     text.extend_from_slice(b"\n")?;
     Ok(())
 }
@@ -77,7 +78,7 @@ fn append_log(alloc: Global, text: &mut Vec<u8>, bytes: &[u8], n: u16) -> Result
         return Ok(());
     }
     text.extend_from_slice(b"Log ")?;
-    append_hex(alloc, text, &[n as u8])?;
+    append_prefixed_hex(text, &[n as u8])?;
     text.extend_from_slice(b" ")?;
     append_decimal(alloc, text, pages)?;
     text.extend_from_slice(b"\n")?;
@@ -104,7 +105,7 @@ fn append_qword(alloc: Global, text: &mut Vec<u8>, bytes: &[u8], n: u16) -> Resu
     text.extend_from_slice(b"Qword ")?;
     append_decimal(alloc, text, u64::from(n))?;
     text.extend_from_slice(b" ")?;
-    append_hex(alloc, text, &octets)?;
+    append_prefixed_hex(text, &octets)?;
     text.extend_from_slice(b"\n")?;
     Ok(())
 }

@@ -3,6 +3,7 @@ use Rattle.std.specs.Prelude.{ℕ, ◌+◌, ◌-◌, ◌/◌, ◌%◌, ◌^◌, 
 use Rattle.fis.specs.declared.h2d.RegH2d.{RegH2d}
 use Rattle.device_data.specs.Identity.{low_first}
 use Rattle.device_data.specs.declared.log_page.Failure.{Failure}
+use Rattle.basics.specs.Sums.{byte_sum}
 
 -- The failure of the command that a FIS carried: its tag where it is queued, the error, and fields
 -- of the FIS.
@@ -26,13 +27,9 @@ page_head (Some failure) =
     unwrap_or failure.tag 0x80 ∷ 0 ∷ 0x51 ∷ failure.error ∷ lba_bytes failure.lba 0
     ++ failure.device ∷ lba_bytes failure.lba 24 ++ 0 ∷ low_first failure.count
 
-abbrev pub total : List ℕ → ℕ
-total [] = 0
-total (b ∷ bs) = b + total bs
-
 -- The last byte makes the sum of all a multiple of 256.
 abbrev pub with_sum : List ℕ → List ℕ
-with_sum content = content ++ (256 - total content % 256) % 256 ∷ []
+with_sum content = content ++ (256 - byte_sum content % 256) % 256 ∷ []
 
 abbrev pub error_log : Option Failure → List ℕ
 error_log failure = with_sum (sized 511 (page_head failure))

@@ -2,8 +2,9 @@
 
 ghost use Rattle.std.specs.Prelude.{◌≡◌, ◌%◌, Option, ℕ, IfOk};
 ghost use Rattle.fis.specs.declared.h2d.RegH2d.{RegH2d};
-ghost use Rattle.device_data.specs.ErrorLog.{page_head, total, with_sum, error_log};
+ghost use Rattle.device_data.specs.ErrorLog.{page_head, with_sum, error_log};
 
+use basics::byte_sum;
 use fis::{Lba, RegH2d, Tag};
 use std::alloc::{AllocError, Global};
 
@@ -72,17 +73,6 @@ fn page_head(failure: &Failure) -> [u8; 14]
     ]
 }
 
-/// The sum of all bytes, modulo 256.
-fn sum(bytes: &[u8]) -> u8
-    ensures { result ≡ total bytes.now % 256 }
-{
-    let mut sum: u8 = 0;
-    for byte in bytes {
-        sum = sum.wrapping_add(*byte);
-    }
-    sum
-}
-
 /// The 512 bytes of log page 10h: the tag, the error and fields of the FIS of the command that failed
 /// the queue, or bit 7 of byte 0 alone where none failed. The last byte makes the sum of all a
 /// multiple of 256.
@@ -95,7 +85,7 @@ pub fn error_log(alloc: Global, failure: &Option<Failure>) -> Result<Vec<u8>, Al
         None => bytes.push(NOT_QUEUED)?,
     }
     bytes.resize(PAGE_LENGTH - 1, 0)?;
-    let sum = sum(&bytes);
+    let sum = byte_sum(&bytes);
     bytes.push(sum.wrapping_neg())?;
     Ok(bytes)
 }

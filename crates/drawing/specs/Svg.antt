@@ -1,6 +1,6 @@
 -- A picture as a drawing (W3C, Scalable Vector Graphics (SVG) 1.1): where each thing stands, and its text. Lengths are in
 -- pixels.
-use Rattle.std.specs.Prelude.{ℕ, zero, suc, ◌+◌, ◌*◌, ◌/◌, ◌==◌, nat_le, max, ◌&&◌, List, [], ◌∷◌, ◌++◌, length, codes, decimal, if◌then◌else◌}
+use Rattle.std.specs.Prelude.{ℕ, zero, suc, ◌+◌, ◌-◌, ◌*◌, ◌/◌, ◌==◌, nat_le, max, ◌&&◌, List, [], ◌∷◌, ◌++◌, length, take, codes, decimal, if◌then◌else◌}
 use Rattle.std.specs.List.{flat_map}
 use Rattle.drawing.specs.declared.picture.Bar.{Bar}
 use Rattle.drawing.specs.declared.picture.Mark.{Mark}
@@ -39,7 +39,7 @@ top_edge row = 64 + 20 * row
 
 -- the columns and a margin, and no less than the legend
 abbrev pub legend_width : ℕ
-legend_width = 820
+legend_width = 1000
 
 abbrev pub whole_width : ℕ → ℕ
 whole_width columns = max legend_width (left_edge (column_width columns) columns + 20)
@@ -66,13 +66,25 @@ unfoldable pub bar_face : Paint → List ℕ
 bar_face paint =
     words_of pieces.Face ++ colour_text paint ++ words_of pieces.Closed
 
-unfoldable pub bar_words : List ℕ → List ℕ
-bar_words says = words_of pieces.BarWords ++ escaped says ++ words_of pieces.BarEnd
+-- how many letters stand in so many pixels: none is wider than 7
+abbrev pub letters_for : ℕ → ℕ
+letters_for pixels = pixels / 7
+
+-- A text that has no room ends by two full stops; where there is no room for these and a letter, it is left out.
+unfoldable pub fitted : ℕ → List ℕ → List ℕ
+fitted room says =
+    if nat_le (length says) room then escaped says
+    else if nat_le 3 room then escaped (take (room - 2) says) ++ codes ".."
+    else []
+
+unfoldable pub bar_words : ℕ → List ℕ → List ℕ
+bar_words room says = words_of pieces.BarWords ++ fitted room says ++ words_of pieces.BarEnd
 
 -- a bar, with what it says in it as far as there is room
 unfoldable pub bar_text : ℕ → Bar → List ℕ
 bar_text width bar =
-    bar_place width bar ++ title_text bar.says ++ bar_face bar.paint ++ bar_words bar.says
+    bar_place width bar ++ title_text bar.says ++ bar_face bar.paint
+    ++ bar_words (letters_for (width * bar.columns)) bar.says
 
 -- a mark, in the middle of its column
 unfoldable pub mark_place : ℕ → Mark → List ℕ
@@ -139,25 +151,25 @@ legend_item at paint word = legend_square at paint ++ legend_word (at + 16) word
 -- how commands end
 unfoldable pub endings_legend : List ℕ
 endings_legend =
-    legend_item 8 Done (codes "done") ++ legend_item 64 Failed (codes "failed")
-    ++ legend_item 124 Stopped (codes "not done")
+    legend_item 8 Done (codes "done") ++ legend_item 68 Failed (codes "failed")
+    ++ legend_item 142 Stopped (codes "not done")
 
 unfoldable pub denials_legend : List ℕ
 denials_legend =
-    legend_item 180 Waiting (codes "waits")
+    legend_item 232 Waiting (codes "waits")
     ++ words_of pieces.DeniedMark ++ words_of pieces.DeniedWord
 
 -- what is in force
 unfoldable pub states_legend : List ℕ
 states_legend =
-    legend_item 300 Session (codes "session") ++ legend_item 368 Transaction (codes "transaction")
-    ++ legend_item 732 Shadow (codes "shadow")
+    legend_item 374 Session (codes "session") ++ legend_item 458 Transaction (codes "transaction")
+    ++ legend_item 926 Shadow (codes "shadow")
 
 unfoldable pub locks_legend : List ℕ
 locks_legend =
-    legend_item 456 ReadLocked (codes "reads locked")
-    ++ legend_item 548 WriteLocked (codes "writes locked")
-    ++ legend_item 644 Locked (codes "both locked")
+    legend_item 570 ReadLocked (codes "reads locked")
+    ++ legend_item 690 WriteLocked (codes "writes locked")
+    ++ legend_item 814 Locked (codes "both locked")
 
 abbrev pub legend_text : List ℕ
 legend_text =

@@ -3,7 +3,7 @@
 ghost use Rattle.std.specs.Prelude.{◌≡◌, ◌≤◌, ◌<◌, ◌^◌, ◌++◌, ◌/◌, ◌+◌, OnOk, IfOk, length};
 ghost use Rattle.std.specs.List.{flat_map};
 ghost use Rattle.drawing.specs.Svg.{column_width, left_edge, top_edge, whole_width, whole_height};
-ghost use Rattle.drawing.specs.Svg.{bar_place, bar_face, bar_words, bar_text, mark_place, mark_text};
+ghost use Rattle.drawing.specs.Svg.{bar_place, bar_face, fitted, bar_words, bar_text, mark_place, mark_text};
 ghost use Rattle.drawing.specs.Svg.{row_name, row_rule, row_text, rows_text, tick_number, tick_line, tick_text, ticks_text};
 ghost use Rattle.drawing.specs.Svg.{legend_square, legend_word, legend_item, endings_legend, denials_legend, states_legend, locks_legend, legend_text};
 ghost use Rattle.drawing.specs.Svg.{head_place, shown_title, head_words, drawn_head, body_text, svg_text};
@@ -11,12 +11,15 @@ ghost use Rattle.drawing.specs.Svg.{head_place, shown_title, head_words, drawn_h
 use crate::markup::{Piece, append_piece};
 use crate::paint::Paint;
 use crate::picture::{Bar, Mark, Picture};
-use crate::text::{append_decimal, append_escaped, append_numbered, append_title};
-use basics::Bytes;
+use crate::text::{append_escaped, append_numbered, append_title};
+use basics::{Bytes, append_decimal};
 use std::alloc::{AllocError, Global};
 
 /// How wide the legend is.
-const LEGEND_WIDTH: u64 = 820;
+const LEGEND_WIDTH: u64 = 1000;
+
+/// No letter is wider.
+const LETTER_WIDTH: u64 = 7;
 
 /// How wide a column is.
 fn column_width(columns: u32) -> u8
@@ -80,13 +83,27 @@ fn append_bar_face(text: &mut Vec<u8>, paint: Paint) -> Result<(), AllocError>
     Ok(())
 }
 
+/// Appends a text as far as there is room for its letters.
+#[tactic(auto, unfolding(crate::specs::Svg::fitted))]
+fn append_fitted(text: &mut Vec<u8>, room: usize, says: &[u8]) -> Result<(), AllocError>
+    ensures { OnOk result (text.new.items ≡ text.old.items ++ fitted room says.now) }
+{
+    if says.len() <= room {
+        append_escaped(text, says)?;
+    } else if 3 <= room {
+        append_escaped(text, &says[..room - 2])?;
+        text.extend_from_slice(b"..")?;
+    }
+    Ok(())
+}
+
 /// Appends what a bar says.
 #[tactic(auto, unfolding(crate::specs::Svg::bar_words))]
-fn append_bar_words(text: &mut Vec<u8>, says: &[u8]) -> Result<(), AllocError>
-    ensures { OnOk result (text.new.items ≡ text.old.items ++ bar_words says.now) }
+fn append_bar_words(text: &mut Vec<u8>, room: usize, says: &[u8]) -> Result<(), AllocError>
+    ensures { OnOk result (text.new.items ≡ text.old.items ++ bar_words room says.now) }
 {
     append_piece(text, Piece::BarWords)?;
-    append_escaped(text, says)?;
+    append_fitted(text, room, says)?;
     append_piece(text, Piece::BarEnd)?;
     Ok(())
 }
@@ -99,7 +116,8 @@ fn append_bar(alloc: Global, text: &mut Vec<u8>, width: u8, bar: &Bar) -> Result
     append_bar_place(alloc, text, width, bar)?;
     append_title(text, bar.says.as_slice())?;
     append_bar_face(text, bar.paint)?;
-    append_bar_words(text, bar.says.as_slice())?;
+    let room = u64::from(width) * u64::from(bar.columns) / LETTER_WIDTH;
+    append_bar_words(text, room as usize, bar.says.as_slice())?;
     Ok(())
 }
 
@@ -337,8 +355,8 @@ fn append_endings_legend(alloc: Global, text: &mut Vec<u8>) -> Result<(), AllocE
     ensures { OnOk result (text.new.items ≡ text.old.items ++ endings_legend) }
 {
     append_legend_item(alloc, text, 8, Paint::Done, b"done")?;
-    append_legend_item(alloc, text, 64, Paint::Failed, b"failed")?;
-    append_legend_item(alloc, text, 124, Paint::Stopped, b"not done")?;
+    append_legend_item(alloc, text, 68, Paint::Failed, b"failed")?;
+    append_legend_item(alloc, text, 142, Paint::Stopped, b"not done")?;
     Ok(())
 }
 
@@ -347,7 +365,7 @@ fn append_endings_legend(alloc: Global, text: &mut Vec<u8>) -> Result<(), AllocE
 fn append_denials_legend(alloc: Global, text: &mut Vec<u8>) -> Result<(), AllocError>
     ensures { OnOk result (text.new.items ≡ text.old.items ++ denials_legend) }
 {
-    append_legend_item(alloc, text, 180, Paint::Waiting, b"waits")?;
+    append_legend_item(alloc, text, 232, Paint::Waiting, b"waits")?;
     append_piece(text, Piece::DeniedMark)?;
     append_piece(text, Piece::DeniedWord)?;
     Ok(())
@@ -358,9 +376,9 @@ fn append_denials_legend(alloc: Global, text: &mut Vec<u8>) -> Result<(), AllocE
 fn append_states_legend(alloc: Global, text: &mut Vec<u8>) -> Result<(), AllocError>
     ensures { OnOk result (text.new.items ≡ text.old.items ++ states_legend) }
 {
-    append_legend_item(alloc, text, 300, Paint::Session, b"session")?;
-    append_legend_item(alloc, text, 368, Paint::Transaction, b"transaction")?;
-    append_legend_item(alloc, text, 732, Paint::Shadow, b"shadow")?;
+    append_legend_item(alloc, text, 374, Paint::Session, b"session")?;
+    append_legend_item(alloc, text, 458, Paint::Transaction, b"transaction")?;
+    append_legend_item(alloc, text, 926, Paint::Shadow, b"shadow")?;
     Ok(())
 }
 
@@ -369,9 +387,9 @@ fn append_states_legend(alloc: Global, text: &mut Vec<u8>) -> Result<(), AllocEr
 fn append_locks_legend(alloc: Global, text: &mut Vec<u8>) -> Result<(), AllocError>
     ensures { OnOk result (text.new.items ≡ text.old.items ++ locks_legend) }
 {
-    append_legend_item(alloc, text, 456, Paint::ReadLocked, b"reads locked")?;
-    append_legend_item(alloc, text, 548, Paint::WriteLocked, b"writes locked")?;
-    append_legend_item(alloc, text, 644, Paint::Locked, b"both locked")?;
+    append_legend_item(alloc, text, 570, Paint::ReadLocked, b"reads locked")?;
+    append_legend_item(alloc, text, 690, Paint::WriteLocked, b"writes locked")?;
+    append_legend_item(alloc, text, 814, Paint::Locked, b"both locked")?;
     Ok(())
 }
 

@@ -5,20 +5,8 @@ ghost use Rattle.std.specs.List.{flat_map};
 ghost use Rattle.drawing.specs.Svg.{escaped_byte, escaped, attribute, title_text};
 
 use crate::markup::{Piece, append_piece};
+use basics::append_decimal;
 use std::alloc::{AllocError, Global};
-
-/// Appends a number in decimal.
-pub(crate) fn append_decimal(
-    alloc: Global,
-    text: &mut Vec<u8>,
-    number: u64,
-) -> Result<(), AllocError>
-    ensures { OnOk result (text.new.items ≡ text.old.items ++ decimal number) }
-{
-    let digits = number.to_string(alloc)?;
-    text.extend_from_slice(digits.as_bytes())?;
-    Ok(())
-}
 
 /// Appends an attribute whose value is a number, behind the piece that ends with its name and a quote.
 #[tactic(auto, unfolding(crate::specs::Svg::attribute))]

@@ -85,7 +85,7 @@ impl Drive {
     ghost use Rattle.device_data.specs.Protocols.{protocol_list as protocols_told};
     ghost use Rattle.device_data.specs.Identity.{identity_of as identity_in};
     ghost use Rattle.transactions.specs.Sights.{look_up, committed_sight};
-    ghost use Rattle.history.specs.Opening.{Origin, origin_on, factory_origin, origin_with};
+    ghost use Rattle.history.specs.Opening.{Origin, origin_on, factory_origin, origin_with, opened_with};
     ghost use Rattle.history.specs.Agreement.{HasNoTries};
     ghost use Rattle.history.specs.KeptStore.{HasKnownRows};
     ghost use Rattle.history.specs.Answers.{expected, payload_of};
@@ -136,6 +136,24 @@ impl Drive {
             }
         }
         Ok(opening.into_drive()?)
+    }
+
+    /// A drive as it leaves the factory where no row is given, else with these rows, as
+    /// [`Drive::with_ranges`] opens it.
+    ///
+    /// # Errors
+    ///
+    /// Those of `with_ranges`.
+    pub fn opened(alloc: Global, config: DriveConfig, rows: &[RangeRow]) -> Result<Drive, SetError>
+        ensures agrees { IfOk result (λ drive.
+            (o : Origin) × (opened_with config rows.now ≡ Ok o) × Agrees drive o []) }
+        ensures err { IfErr result (λ e.
+            (e ≡ SetError.OutOfMemory) ⊎ (opened_with config rows.now ≡ Err e)) }
+    {
+        if rows.is_empty() {
+            return Ok(Drive::new(alloc, config)?);
+        }
+        Drive::with_ranges(alloc, config, rows)
     }
 
     /// A drive over its tables.

@@ -17,7 +17,8 @@ use Rattle.host_memory.proofs.Accesses.{accessed_append}
 use Rattle.host_memory.specs.declared.hba_memory.miss.Miss.{Miss}
 use Rattle.host_memory.specs.declared.hba_memory.reading.Header.{Header}
 use Rattle.host_memory.specs.declared.hba_memory.delivery.Place.{Place}
-use Rattle.host_memory.specs.Memory.{header_by, carries_command, descriptors_of, data_len, Gathers, BringsNext, BringsEntry, BringsBlock, PostsTo, Delivers}
+use Rattle.slots.specs.Table.{is_command}
+use Rattle.host_memory.specs.Memory.{header_by, descriptors_of, data_len, Gathers, BringsNext, BringsEntry, BringsBlock, PostsTo, Delivers}
 use Rattle.hba.specs.declared.registers.Registers.{Registers}
 use Rattle.hba.specs.declared.work.Work.{Work}
 use Rattle.hba.specs.declared.work.Work.TheVariants as works
@@ -273,7 +274,7 @@ fetch_fis does old before middle new after done denied tag header fis answers t 
     (Asked header.table h2d_length fis) answers (λ o list a talk operation h. (fis, talk, refl, h)) t
 
 pub fetch_control : {M : Type 0} (does : M → Access → M → Type 0) (old : State) (now : M)
-    (new : State) (tag : ℕ) (header : Header) (fis : List ℕ) → carries_command fis ≡ false
+    (new : State) (tag : ℕ) (header : Header) (fis : List ℕ) → is_command fis ≡ false
     → Adds (Controlled tag) old new
     → TurnsAs does (λ o a. FetchesFis o a (place_of a.registers tag header) tag (Some fis)) old now new now
     dones.Control None
@@ -284,7 +285,7 @@ fetch_control does old now new tag header fis e adds =
 
 pub fetch_executes : {M : Type 0} (does : M → Access → M → Type 0) (old : State) (before : M)
     (new : State) (after : M) (done : Done) (denied : Option Why) (tag : ℕ) (header : Header)
-    (fis : List ℕ) (place : Place) → carries_command fis ≡ true
+    (fis : List ℕ) (place : Place) → is_command fis ≡ true
     → place ≡ place_of old.registers tag header
     → TurnsAs does (λ o a. Executes o a place tag fis) old before new after done denied
     → TurnsAs does (λ o a. FetchesFis o a (place_of a.registers tag header) tag (Some fis)) old before new after

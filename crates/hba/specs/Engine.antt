@@ -23,7 +23,8 @@ use Rattle.host_memory.specs.declared.hba_memory.miss.Miss.{Miss}
 use Rattle.host_memory.specs.declared.hba_memory.miss.Miss.TheVariants as misses
 use Rattle.host_memory.specs.declared.hba_memory.reading.Header.{Header}
 use Rattle.host_memory.specs.declared.hba_memory.delivery.Place.{Place}
-use Rattle.host_memory.specs.Memory.{header_by, carries_command, descriptors_of, Gathers, PostsTo, Delivers}
+use Rattle.slots.specs.Table.{is_command}
+use Rattle.host_memory.specs.Memory.{header_by, descriptors_of, Gathers, PostsTo, Delivers}
 use Rattle.hba.specs.Showing.{fault_of}
 use Rattle.hba.specs.History.{Operation, Wrote, Powered, Signed, Missed, Controlled, Fetched, Completed, Account, State, AgreesHba, account, effect_after, operation_denied}
 use Rattle.hba.specs.Ready.{picked, ready_after}
@@ -76,7 +77,7 @@ abbrev pub FetchesFis : Origin → Account → Place → ℕ → Option (List �
     → List Access → Operation → Type 0
 FetchesFis o a place tag None talk done = (talk ≡ []) × (done ≡ Missed misses.Table)
 FetchesFis o a place tag (Some fis) talk done =
-    FetchesIf (carries_command fis) o a place tag fis talk done
+    FetchesIf (is_command fis) o a place tag fis talk done
 
 abbrev pub FetchesFrom : Origin → Account → ℕ → Result Header Miss
     → List Access → Operation → Type 0

@@ -2,7 +2,7 @@
 use Rattle.std.specs.Prelude.{◌≡◌, ℕ, List, [], ◌∷◌, ◌++◌, codes, Result, Ok, Err}
 use Rattle.sp_cells.specs.Config.{Config}
 use Rattle.locking.specs.declared.range.RangeRow.{RangeRow}
-use Rattle.history.specs.Opening.{Origin, factory_origin, origin_with}
+use Rattle.history.specs.Opening.{Origin, opened_with}
 use Rattle.script_lines.specs.Lines.{line_said}
 use Rattle.script_lines.specs.declared.fault.LineFault.{LineFault}
 use Rattle.script_lines.specs.declared.line.Line.{Line}
@@ -35,19 +35,14 @@ abbrev pub option_rows : List (List ℕ) → Result (List RangeRow) RangeFault
 option_rows [] = Ok []
 option_rows (text ∷ texts) = row_then (option_row text) (option_rows texts)
 
--- a drive is as it leaves the factory, or has these ranges
-abbrev pub OpensWith : Config → List RangeRow → Origin → Type 0
-OpensWith config [] o = o ≡ factory_origin config
-OpensWith config (row ∷ rows) o = origin_with config (row ∷ rows) ≡ Ok o
-
 -- a row is refused
 abbrev pub IsRangeFault : Config → List RangeRow → RangeFault → Type 0
-IsRangeFault config rows (faults.Refused error) = origin_with config rows ≡ Err error
+IsRangeFault config rows (faults.Refused error) = opened_with config rows ≡ Err error
 IsRangeFault config rows fault = ⊥
 
 -- by what the texts of the ranges write
 abbrev pub OpensAs : Config → Result (List RangeRow) RangeFault → Origin → Type 0
-OpensAs config (Ok rows) o = OpensWith config rows o
+OpensAs config (Ok rows) o = opened_with config rows ≡ Ok o
 OpensAs config (Err fault) o = ⊥
 
 abbrev pub IsFaultOf : Config → Result (List RangeRow) RangeFault → RangeFault → Type 0

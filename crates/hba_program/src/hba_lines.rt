@@ -7,7 +7,7 @@ mod reply;
 mod request;
 mod words;
 
-pub use digits::{append_hex, hex_number};
+pub use digits::hex_number;
 pub use laws::laws_of_numbers;
 pub use memory_line::{Answer, append_read, append_write, read_answer, write_answer};
 pub use reply::{MemoryPart, Reply, append_error};

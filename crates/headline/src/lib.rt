@@ -6,6 +6,8 @@ ghost use Rattle.headline.specs.Methods.{MethodLaw};
 ghost use Rattle.headline.specs.NoTrace.{OpenLaw, AbortLaw};
 ghost use Rattle.headline.specs.Transfers.{TransferLaw, TakenLaw};
 
+pub mod law_rows;
+
 /// A read or write that the drive answers is served exactly where every range that it touches permits it by the rows
 /// in force at its last acceptance; and what is no write that was done, as one that a reset stopped, moves nothing. Both
 /// whatever quiet items do; `taken` says it of what a client takes.

@@ -82,6 +82,11 @@ origin_after (row ∷ rows) o = unless (row_fault o row) (origin_after rows (wit
 abbrev pub origin_with : Config → List RangeRow → Result Origin SetError
 origin_with config rows = origin_after rows (activated_origin config)
 
+-- A drive for which no row is given is as it leaves the factory.
+abbrev pub opened_with : Config → List RangeRow → Result Origin SetError
+opened_with config [] = Ok (factory_origin config)
+opened_with config (row ∷ rows) = origin_with config (row ∷ rows)
+
 -- Both settings of an Activate fit the factory's tables.
 abbrev pub ActivationLaw : Type 0
 ActivationLaw =

@@ -3,7 +3,6 @@
 use Rattle.std.specs.Prelude.{◌≡◌, ℕ, ◌+◌, ◌-◌, ◌*◌, ◌%◌, ◌/◌, ◌^◌, min, ◌==◌, ◌&&◌, zero, suc, nat_le, Bool, true, false, List, [], ◌∷◌, ◌++◌, length, take, drop, slice_index, Option, Some, None, Result, Ok, Err, if◌then◌else◌}
 use Rattle.byteorder.specs.Endian.{little_bytes}
 use Rattle.fis.specs.Fis.{IsSpelling}
-use Rattle.fis.specs.Types.{h2d_type}
 use Rattle.fis.specs.declared.any.Fis.{Fis}
 use Rattle.fis.specs.declared.any.Fis.TheVariants as kinds
 use Rattle.slots.specs.Layout.{descriptor_size, descriptors_at, received_at, received_place}
@@ -35,10 +34,6 @@ header_of bytes =
 abbrev pub header_by : Option (List ℕ) → Result Header Miss
 header_by None = Err misses.List
 header_by (Some bytes) = header_of bytes
-
--- A FIS of the type of a command, whose C bit is set (Serial ATA, Register FIS to the device).
-abbrev pub carries_command : List ℕ → Bool
-carries_command fis = slice_index fis 0 == h2d_type && nat_le 0x80 (slice_index fis 1)
 
 -- Where the descriptors stand.
 abbrev pub descriptors_of : Header → ℕ

@@ -7,4 +7,4 @@ mod reading;
 
 pub use delivery::{Place, deliver, post_all};
 pub use miss::Miss;
-pub use reading::{HEADER, Header, gather, header_by, is_command};
+pub use reading::{Header, gather, header_by, is_command};

@@ -1,10 +1,5 @@
 -- Bytes as text.
-use Rattle.std.specs.Prelude.{◌≡◌, ℕ, Bool, true, false, ◌==◌, List, if◌then◌else◌, Option, Some, None, Result, Ok, Err}
-use Rattle.tcg_tokens.specs.Message.{Message}
-use Rattle.tcg_tokens.specs.Reading.{reading}
-use Rattle.tcg_tokens.specs.Text.{item_text_of, fault_text_of}
-use Rattle.tcg_tokens.specs.declared.error.TokenError.{TokenError}
-use Rattle.tcg_calls.specs.NamedText.{named_item_text_of}
+use Rattle.std.specs.Prelude.{◌≡◌, ℕ, ◌==◌, List, if◌then◌else◌, Option, Some, None}
 use Rattle.decoded.specs.Faults.{BytesFault}
 use Rattle.decoded.specs.Decodings.{kind_fault, kind_lines}
 use Rattle.decoded.specs.declared.kind.Kind.{Kind}
@@ -13,18 +8,6 @@ use Rattle.library_calls.specs.declared.byte_calls.count.Count.{Count}
 use Rattle.library_calls.specs.declared.byte_calls.error.CallError.TheVariants.{Number, Malformed}
 use Rattle.library_calls.specs.Counts.{refused_count}
 use Rattle.library_calls.specs.Copies.{IsWrittenOut}
-
--- the item that bytes spell, with names or numbers, or what is wrong with them
-abbrev pub item_said : Bool → Message → List ℕ
-item_said true message = named_item_text_of message
-item_said false message = item_text_of message
-
-abbrev pub reading_said : Bool → Result Message TokenError → List ℕ
-reading_said by_name (Ok message) = item_said by_name message
-reading_said by_name (Err fault) = fault_text_of fault
-
-abbrev pub tokens_said : Bool → List ℕ → List ℕ
-tokens_said by_name bytes = reading_said by_name (reading bytes)
 
 -- what bytes are, by its number
 abbrev pub kind_numbered : ℕ → Option Kind

@@ -1,7 +1,6 @@
 //! What lies under the lock.
 
 ghost use Rattle.std.specs.Prelude.{◌≡◌, true, IfErr};
-ghost use Rattle.port_history.specs.Stages.{put_at};
 ghost use Rattle.locked_port.specs.Awaits.{awaited_at, is_of_wait};
 ghost use Rattle.locked_port.specs.Counts.{Stands, client_steps};
 
@@ -10,7 +9,7 @@ use crate::ticket::{Receipt, Ticket};
 use arrayvec::ArrayVec;
 use drive::ResetKind;
 use fis::{SLOT_COUNT, Tag};
-use port::{Built, EngineStep, Port, PortError, Put, Stage, Step};
+use port::{Built, EngineStep, Port, PortError, Stage, Step};
 use std::sync::ledger::{Book, Share};
 
 /// The port, the book of its client steps, and whether no engine is to come. The port agrees with an origin of its drive and the list of steps that its history stores, and the book has as
@@ -23,17 +22,6 @@ pub(crate) struct Desk<L: PortName> {
     ghost stands: { Stands port book.total },
 }
 
-/// The Put of a slot that is not free.
-fn put_in(stage: Stage) -> Option<Put>
-    ensures { result ≡ put_at stage }
-{
-    match stage {
-        Stage::Free => None,
-        Stage::Prepared(put) | Stage::Issued(put) | Stage::Accepted(put) | Stage::Answered(put) =>
-            Some(put),
-    }
-}
-
 /// Whether the answer of a client's ticket has come, by whether the history is full and the stage of the ticket's slot.
 fn awaited(full: bool, client: u32, ticket: &Ticket, stage: Stage) -> Result<bool, PortError>
     ensures told { result ≡ awaited_at full client ticket.now stage }
@@ -42,7 +30,7 @@ fn awaited(full: bool, client: u32, ticket: &Ticket, stage: Stage) -> Result<boo
     if full {
         return Err(PortError::HistoryFull);
     }
-    let Some(put) = put_in(stage) else {
+    let Some(put) = stage.put() else {
         return Err(PortError::NotAnswered);
     };
     if put.number != ticket.number {

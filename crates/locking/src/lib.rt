@@ -6,4 +6,4 @@ mod range;
 mod ranges;
 
 pub use range::{Op, RangeRow};
-pub use ranges::{Denier, Judgement, Ranges, Verdict};
+pub use ranges::{Denier, Judgement, Ranges, Verdict, is_shadow_up};

@@ -1,15 +1,14 @@
 //! The ranges that rows describe, the range of a sector, and the verdict on a transfer.
 
 ghost use Rattle.std.specs.Prelude.{◌≡◌, ◌≤◌, ℕ};
-ghost use Rattle.sp_cells.specs.Ranges.{of_range};
 ghost use Rattle.sp_cells.specs.declared.names.TheConstants.{RANGES};
-ghost use Rattle.locking.specs.Ranges.{row_of, range_rows_from, shadowed_sectors};
+ghost use Rattle.locking.specs.Ranges.{row_of, range_rows_from, is_shadow_up, shadowed_sectors};
 ghost use Rattle.locking.specs.Verdict.{why_of, shadow_why, denial_why, verdict_by, verdict_inside};
 
 use crate::numbered::NumberedRanges;
 use crate::range::{Op, RangeRow};
 use audit::Why;
-use sp_cells::{Column, RANGES, Rows, Sp, Uid, number_at};
+use sp_cells::{Column, RANGES, Rows, Sp, Uid, number_at, number_of_range};
 use std::alloc::{AllocError, Global};
 use std::marker::Model;
 
@@ -225,34 +224,34 @@ fn judged_inside(op: Op, wholly: bool) -> Judgement
     }
 }
 
-/// The number in a column of a range, 0 where there is none.
-fn number_of<R: Rows>(rows: &R, range: u8, column: Column) -> u64
-    ensures { result ≡ of_range (R.look_up rows.now) range column }
-{
-    number_at(rows, Sp::Locking, Uid::range(range), column)
-}
-
 fn row_of<R: Rows>(rows: &R, range: u8) -> RangeRow
     ensures { result ≡ row_of (R.look_up rows.now) range }
 {
     RangeRow {
         range,
-        start: number_of(rows, range, Column::RANGE_START),
-        length: number_of(rows, range, Column::RANGE_LENGTH),
-        read_enabled: number_of(rows, range, Column::READ_LOCK_ENABLED) == 1,
-        write_enabled: number_of(rows, range, Column::WRITE_LOCK_ENABLED) == 1,
-        read_locked: number_of(rows, range, Column::READ_LOCKED) == 1,
-        write_locked: number_of(rows, range, Column::WRITE_LOCKED) == 1,
+        start: number_of_range(rows, range, Column::RANGE_START),
+        length: number_of_range(rows, range, Column::RANGE_LENGTH),
+        read_enabled: number_of_range(rows, range, Column::READ_LOCK_ENABLED) == 1,
+        write_enabled: number_of_range(rows, range, Column::WRITE_LOCK_ENABLED) == 1,
+        read_locked: number_of_range(rows, range, Column::READ_LOCKED) == 1,
+        write_locked: number_of_range(rows, range, Column::WRITE_LOCKED) == 1,
     }
+}
+
+/// Whether the shadow MBR is up: it is enabled, and not done (Opal SSC 2.01, 4.3.5.3).
+pub fn is_shadow_up<R: Rows>(rows: &R) -> bool
+    ensures { result ≡ is_shadow_up (R.look_up rows.now) }
+{
+    let enabled = number_at(rows, Sp::Locking, Uid::MBR_CONTROL, Column::MBR_ENABLE);
+    let done = number_at(rows, Sp::Locking, Uid::MBR_CONTROL, Column::MBR_DONE);
+    enabled == 1 && done == 0
 }
 
 /// How many sectors are shadowed now.
 fn shadowed_sectors<R: Rows>(rows: &R) -> u64
     ensures { result ≡ shadowed_sectors (R.shadow_sectors rows.now) (R.look_up rows.now) }
 {
-    let enabled = number_at(rows, Sp::Locking, Uid::MBR_CONTROL, Column::MBR_ENABLE);
-    let done = number_at(rows, Sp::Locking, Uid::MBR_CONTROL, Column::MBR_DONE);
-    if enabled == 1 && done == 0 {
+    if is_shadow_up(rows) {
         rows.mbr_sectors()
     } else {
         0

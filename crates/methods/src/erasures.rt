@@ -6,22 +6,15 @@ ghost use Rattle.sp_cells.specs.declared.names.TheConstants.{RANGES};
 ghost use Rattle.methods.specs.Erasures.{run_of, numbered_runs, erased_by_key, erased_by_revert_sp, is_wholly_locked};
 
 use shadow_mbr::{Erasure, Run, Runs};
-use sp_cells::{Column, RANGES, Rows, Sp, Uid, number_at};
-
-/// The number in a column of a range, 0 where there is none.
-fn number_of<R: Rows>(rows: &R, range: u8, column: Column) -> u64
-    ensures { result ≡ of_range (R.look_up rows.now) range column }
-{
-    number_at(rows, Sp::Locking, Uid::range(range), column)
-}
+use sp_cells::{Column, RANGES, Rows, number_of_range};
 
 /// The sectors of a range.
 fn run_of<R: Rows>(rows: &R, range: u8) -> Run
     ensures { result ≡ run_of (R.look_up rows.now) range }
 {
     Run {
-        start: number_of(rows, range, Column::RANGE_START),
-        len: number_of(rows, range, Column::RANGE_LENGTH),
+        start: number_of_range(rows, range, Column::RANGE_START),
+        len: number_of_range(rows, range, Column::RANGE_LENGTH),
     }
 }
 
@@ -64,8 +57,8 @@ pub(crate) fn erased_by_revert_sp<R: Rows>(rows: &R, keep: bool) -> Erasure
 pub(crate) fn is_wholly_locked<R: Rows>(rows: &R) -> bool
     ensures { result ≡ is_wholly_locked (R.look_up rows.now) }
 {
-    number_of(rows, 0, Column::READ_LOCK_ENABLED) == 1
-        && number_of(rows, 0, Column::READ_LOCKED) == 1
-        && number_of(rows, 0, Column::WRITE_LOCK_ENABLED) == 1
-        && number_of(rows, 0, Column::WRITE_LOCKED) == 1
+    number_of_range(rows, 0, Column::READ_LOCK_ENABLED) == 1
+        && number_of_range(rows, 0, Column::READ_LOCKED) == 1
+        && number_of_range(rows, 0, Column::WRITE_LOCK_ENABLED) == 1
+        && number_of_range(rows, 0, Column::WRITE_LOCKED) == 1
 }

@@ -9,6 +9,7 @@ ghost use Rattle.methods.specs.Judgement.{judged};
 ghost use Rattle.methods.specs.PlainGets.{IsPlainGet};
 ghost use Rattle.methods.specs.declared.outcome.MethodFault.TheVariants as faults;
 ghost use Rattle.sp_cells.specs.Names.{get, mbr_table, datastore_table};
+ghost use Rattle.tcg_tokens.specs.declared.form.TheConstants.{TINY_LIMIT};
 
 use crate::calls::call_asked;
 use crate::outcome::{MethodFault, Outcome};
@@ -16,6 +17,7 @@ use sessions::Sessions;
 use sp_cells::Uid;
 use std::alloc::Global;
 use tcg_calls::call_shapes::{Ask, parameter, uid_of};
+use tcg_tokens::tiny;
 use transactions::{SessionId, Store};
 
 /// The bytes of the marks that a Get has, and that of a short atom of eight bytes.
@@ -32,9 +34,6 @@ const END_NAME: u8 = 0xf3;
 const END_OF_DATA: u8 = 0xf9;
 
 const SHORT_UID: u8 = 0xa8;
-
-/// The numbers below this are tokens of one byte.
-const TINY_LIMIT: u8 = 64;
 
 /// A Get of the columns from the first to the last.
 #[derive(Clone, Copy, Debug)]
@@ -65,17 +64,6 @@ fn uid(bytes: &[u8]) -> Option<(&[u8; 8], &[u8])>
         × (bytes.now ≡ SHORT_UID ∷ (x.0.now ++ x.1.now))) }
 {
     behind(SHORT_UID, bytes)?.split_first_chunk::<8>()
-}
-
-/// A number in one byte at the front, and what is behind it.
-#[inline(always)]
-fn tiny(bytes: &[u8]) -> Option<(u8, &[u8])>
-    ensures { IfSome result (λ x. (x.0 < TINY_LIMIT) × (bytes.now ≡ x.0 ∷ x.1.now)) }
-{
-    match bytes {
-        [first, rest @ ..] if *first < TINY_LIMIT => Some((*first, rest)),
-        _ => None,
-    }
 }
 
 /// The number of one byte that a small number names, and what is behind it.

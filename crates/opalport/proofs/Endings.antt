@@ -3,8 +3,8 @@ use Rattle.std.proofs.Common.{◌≡◌, ◌++◌, ℕ, List, [], ◌∷◌, Opt
 use Rattle.std.specs.Io.KnownBytes.{Appends}
 use Rattle.hex.specs.Hex.{decode_of}
 use Rattle.hex.specs.declared.error.FromHexError.{FromHexError}
-use Rattle.tool.specs.TokenLines.{token_text}
-use Rattle.tool.specs.declared.tokens.Naming.{Naming}
+use Rattle.tcg_calls.specs.TokenTexts.{token_text}
+use Rattle.tcg_calls.specs.declared.named_tokens.naming.Naming.{Naming}
 use Rattle.clap.specs.Words.{Text}
 use Rattle.opalport.specs.Program.{TokensEnd}
 

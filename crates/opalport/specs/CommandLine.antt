@@ -5,8 +5,8 @@ use Rattle.clap.specs.Words.{App, Row, Rule, Shape, Text, all_of, first_of, new_
 use Rattle.clap.specs.Simple.{on_top}
 use Rattle.clap.specs.declared.builder.action.ArgAction.TheVariants.{Append, SetTrue}
 use Rattle.tool.specs.OptionTexts.{DriveText, drive_text}
-use Rattle.tool.specs.declared.tokens.Naming.{Naming}
-use Rattle.tool.specs.declared.tokens.Naming.TheVariants.{Numbers, Names}
+use Rattle.tcg_calls.specs.declared.named_tokens.naming.Naming.{Naming}
+use Rattle.tcg_calls.specs.TokenTexts.{naming_of}
 use Rattle.opalport.specs.declared.command_line.Request.{Request}
 use Rattle.opalport.specs.declared.command_line.Request.TheVariants.{Run, Draw, Level0, Threads, Tokens, Decode, Hba, Explore}
 
@@ -169,7 +169,7 @@ has_flag name rows = bytes_eq (text_of name rows) (codes "true")
 
 -- names, where the flag is set
 abbrev pub naming_in : List Row → Naming
-naming_in rows = if has_flag (codes "names") rows then Names else Numbers
+naming_in rows = naming_of (has_flag (codes "names") rows)
 
 -- what a subcommand with these arguments asks for
 abbrev pub asked_of : Text × List Row → Option Wanted

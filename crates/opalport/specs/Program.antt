@@ -10,8 +10,8 @@ use Rattle.port_threads.specs.declared.load.LoadFault.{LoadFault}
 use Rattle.tool.specs.OptionTexts.{DriveText, WritesConfig, IsOfDrive}
 use Rattle.tool.specs.Outcomes.{YieldsBy}
 use Rattle.tool.specs.Level0.{level0_text}
-use Rattle.tool.specs.TokenLines.{token_text}
-use Rattle.tool.specs.declared.tokens.Naming.{Naming}
+use Rattle.tcg_calls.specs.TokenTexts.{token_text}
+use Rattle.tcg_calls.specs.declared.named_tokens.naming.Naming.{Naming}
 use Rattle.decoded.specs.Decodings.{DecodeEnds}
 use Rattle.runs.specs.Pictures.{Draws}
 use Rattle.runs.specs.Plans.{WritesPlan, WritesSomePlan}

@@ -489,14 +489,9 @@ fn token_texts<'a>(matches: &ArgMatches<'a>) -> TokenTexts<'a>
     ensures hex { result.hex.now ≡ text_of (codes "hex") (rows_of (found_of matches.now)) }
     ensures naming { result.naming ≡ naming_in (rows_of (found_of matches.now)) }
 {
-    let naming = if has_flag(matches, "names") {
-        Naming::Names
-    } else {
-        Naming::Numbers
-    };
     TokenTexts {
         hex: text_of(matches, "hex"),
-        naming,
+        naming: Naming::by_name(has_flag(matches, "names")),
     }
 }
 

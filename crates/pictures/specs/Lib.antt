@@ -1,4 +1,5 @@
 pub mod Lists
+pub mod Names
 pub mod Samples
 pub mod Waves
 pub mod Dumps

@@ -6,6 +6,7 @@ use Rattle.port_history.specs.declared.stages.Stage.{Stage}
 use Rattle.port_history.specs.declared.stages.Stage.TheVariants as stages
 use Rattle.drawing.specs.declared.paint.Paint.{Paint}
 use Rattle.drawing.specs.declared.paint.Paint.TheVariants as paints
+use Rattle.pictures.specs.Names.{numbered_name}
 use Rattle.pictures.specs.Samples.{calls_in}
 use Rattle.pictures.specs.declared.samples.frame.Frame.{Frame}
 use Rattle.pictures.specs.declared.samples.locks.Locks.{Locks}
@@ -62,12 +63,8 @@ lane_number (Slot tag) = Some tag
 lane_number (Range range) = Some range
 lane_number _ = None
 
-abbrev pub lane_digits : Option ℕ → List ℕ
-lane_digits None = []
-lane_digits (Some number) = decimal number
-
 abbrev pub lane_name : Lane → List ℕ
-lane_name lane = lane_word lane ++ lane_digits (lane_number lane)
+lane_name lane = numbered_name (lane_word lane) (lane_number lane)
 
 -- the colour of a lane whose bars have one colour
 abbrev pub lane_paint : Lane → Paint

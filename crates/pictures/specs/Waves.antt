@@ -4,6 +4,7 @@ use Rattle.sp_cells.specs.declared.names.Sp.{Sp}
 use Rattle.sp_cells.specs.declared.names.Sp.TheVariants.{Admin, Locking}
 use Rattle.port_history.specs.declared.stages.Stage.{Stage}
 use Rattle.port_history.specs.declared.stages.Stage.TheVariants as stages
+use Rattle.pictures.specs.Names.{numbered_name}
 use Rattle.pictures.specs.Samples.{Sample, calls_in}
 use Rattle.pictures.specs.declared.samples.locks.Locks.{Locks}
 use Rattle.pictures.specs.declared.samples.registers.Registers.{Registers}
@@ -58,12 +59,8 @@ wave_number (Slot tag) = Some tag
 wave_number (Range range) = Some range
 wave_number _ = None
 
-abbrev pub wave_digits : Option ℕ → List ℕ
-wave_digits None = []
-wave_digits (Some number) = decimal number
-
 abbrev pub wave_name : Wave → List ℕ
-wave_name wave = wave_word wave ++ wave_digits (wave_number wave)
+wave_name wave = numbered_name (wave_word wave) (wave_number wave)
 
 -- a register has 32 bits, a stage 3, the locks of a range 2, and a flag 1
 abbrev pub wave_bits : Wave → ℕ

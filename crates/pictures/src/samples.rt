@@ -3,11 +3,13 @@
 mod calls;
 mod frame;
 mod locks;
+mod name;
 mod registers;
 mod sample;
 
 pub use calls::Calls;
 pub use frame::Frame;
 pub use locks::Locks;
+pub(crate) use name::numbered_name;
 pub use registers::Registers;
 pub use sample::Sample;

@@ -7,6 +7,7 @@ mod error;
 mod laws;
 mod reply;
 mod request;
+mod showing;
 mod stages;
 mod step;
 
@@ -15,5 +16,6 @@ pub use error::{PlayError, PortError};
 pub use laws::{laws_of_equality, laws_of_limits, laws_of_steps};
 pub use reply::ReplyBytes;
 pub use request::{Answer, MOST_BLOCKS, Request};
+pub use showing::show_all;
 pub use stages::{Put, Stage, is_queued};
 pub use step::{EngineStep, Entry, Step};

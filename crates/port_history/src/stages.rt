@@ -28,6 +28,24 @@ pub enum Stage {
     Answered(Put),
 }
 
+impl Stage {
+    ghost use Rattle.std.specs.Prelude.{◌≡◌};
+    ghost use Rattle.port_history.specs.Stages.{put_at};
+
+    /// The command that was put in the slot; None where the slot is free.
+    pub fn put(self) -> Option<Put>
+        ensures { result ≡ put_at self }
+    {
+        match self {
+            Stage::Free => None,
+            Stage::Prepared(put)
+            | Stage::Issued(put)
+            | Stage::Accepted(put)
+            | Stage::Answered(put) => Some(put),
+        }
+    }
+}
+
 /// Whether a command goes through the queue.
 pub fn is_queued(command: Command) -> bool
     ensures { result ≡ is_queued_command command }

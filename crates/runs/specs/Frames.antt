@@ -5,16 +5,18 @@ use Rattle.script_lines.specs.Texts.{last_of}
 use Rattle.pictures.specs.Samples.{Sample, drive_sample, port_sample}
 use Rattle.pictures.specs.declared.samples.frame.Frame.{Frame}
 use Rattle.reasons.specs.Onsets.{bare_acts}
-use Rattle.tool.specs.Courses.{Course, Advance, OnDrive, OnPort, ExplainedDrive, ExplainedPort}
+use Rattle.tool.specs.Courses.{Course, Advance, DriveScript, PortScript}
+use Rattle.drive_scripts.specs.DriveCourses.{OnDrive, ExplainedDrive}
+use Rattle.port_scripts.specs.PortCourses.{OnPort, ExplainedPort}
 use Rattle.tool.specs.Outcomes.{printed_by}
 use Rattle.tool.specs.Scripts.{ScriptLine}
 
 -- what a look shows behind the acts on a drive, or the steps of a port
 abbrev pub sample_on : Origin → Course → Sample
-sample_on o (OnDrive acts) = drive_sample o acts
-sample_on o (OnPort list) = port_sample o list
-sample_on o (ExplainedDrive past) = drive_sample o (bare_acts past)
-sample_on o (ExplainedPort list) = port_sample o list
+sample_on o (DriveScript (OnDrive acts)) = drive_sample o acts
+sample_on o (DriveScript (ExplainedDrive past)) = drive_sample o (bare_acts past)
+sample_on o (PortScript (OnPort list)) = port_sample o list
+sample_on o (PortScript (ExplainedPort list)) = port_sample o list
 
 -- the frame of a line of this number and text, where this line was printed last
 abbrev pub frame_by : Origin → Course → ℕ → List ℕ → List ℕ → Frame

@@ -9,7 +9,7 @@ use Rattle.tool.specs.Ends.{exit_status}
 use Rattle.tool.specs.Courses.{Course, Advance, PhaseRunsOn, PhaseStands, start}
 use Rattle.tool.specs.Progress.{HandsOn}
 use Rattle.tool.specs.declared.ending.End.{End}
-use Rattle.tool.specs.declared.ending.Fault.{Fault}
+use Rattle.drive_scripts.specs.declared.turn.Fault.{Fault}
 use Rattle.tool.specs.declared.opening.OpeningPhase.{OpeningPhase}
 use Rattle.tool.specs.declared.opening.OpeningPhase.TheVariants.{Factory}
 use Rattle.tool.specs.declared.opening.OpeningTurn.{OpeningTurn}

@@ -22,5 +22,5 @@ pub use line::{DmaTransfer, Line, Reset, Transfer, expected_text};
 pub use number::number_up_to;
 pub use port_line::{PortLine, PutRequest, is_port_line};
 pub use remark::is_remark;
-pub use report::Report;
+pub use report::{Report, write_whole};
 pub use words::Words;

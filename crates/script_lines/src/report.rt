@@ -1,11 +1,12 @@
 //! The lines that a script prints.
 
-ghost use Rattle.std.specs.Prelude.{◌≡◌, ◌<◌, ◌++◌, ◌∷◌, ◌*◌, [], OnOk, length, slice_index};
+ghost use Rattle.std.specs.Prelude.{◌≡◌, ◌++◌, ◌∷◌, OnOk, length};
 ghost use Rattle.std.specs.Io.KnownBytes.{Appends};
-ghost use Rattle.hex.specs.Hex.{encode_lower, lower_digits};
+ghost use Rattle.hex.specs.Hex.{encode_lower};
 ghost use Rattle.script_lines.specs.Texts.{sectors_text, heads_text};
 
-use audit::{AuditLine, Why, line_bytes};
+use audit::{AuditLine, line_bytes};
+use basics::{append_hex, spell_hex};
 use shadow_mbr::HEAD_SIZE;
 use std::alloc::{AllocError, Global};
 use std::io;
@@ -21,10 +22,10 @@ pub struct Report {
 }
 
 impl Report {
-    ghost use Rattle.std.specs.Prelude.{◌≡◌, ◌++◌, ◌∷◌, [], ℕ, List, Option, OnOk, option_map};
+    ghost use Rattle.std.specs.Prelude.{◌≡◌, ◌++◌, ◌∷◌, [], ℕ, List, OnOk};
     ghost use Rattle.std.specs.Io.KnownBytes.{Appends};
     ghost use Rattle.shadow_mbr.specs.Stored.{heads as heads_of};
-    ghost use Rattle.script_lines.specs.Texts.{done_text, data_text, given_text, hex_text, command_failure_text, audit_text, refusal_lines, refused_text, reset_text, Prints};
+    ghost use Rattle.script_lines.specs.Texts.{done_text, data_text, given_text, hex_text, command_failure_text, audit_text, refused_text, reset_text, Prints};
 
     /// Nothing is printed.
     pub fn new(alloc: Global) -> Report
@@ -133,9 +134,9 @@ impl Report {
     {
         self.last.clear();
         self.last.extend_from_slice(b"fail ")?;
-        append_byte(&mut self.last, status)?;
+        append_hex(&mut self.last, &[status])?;
         self.last.push(b' ')?;
-        append_byte(&mut self.last, error)?;
+        append_hex(&mut self.last, &[error])?;
         self.print_last()?;
         Ok(())
     }
@@ -153,29 +154,6 @@ impl Report {
         self.last.extend_from_slice(b"audit ")?;
         self.last.extend_from_slice(&text)?;
         self.print_last()?;
-        Ok(())
-    }
-
-    /// Prints that a command failed, and under the number of its act what denied it to a client.
-    ///
-    /// # Errors
-    ///
-    /// Want of memory: then the line may be pending in part.
-    pub fn print_refusal(
-        &mut self,
-        step: u64,
-        client: u32,
-        status: u8,
-        error: u8,
-        denied: Option<Why>,
-    ) -> Result<(), AllocError>
-        ensures { OnOk result
-            (Prints self.old self.new (refusal_lines step client status error denied)) }
-    {
-        self.print_failure(status, error)?;
-        if let Some(why) = denied {
-            self.print_audit(&AuditLine { step, client, why })?;
-        }
         Ok(())
     }
 
@@ -230,7 +208,11 @@ impl Report {
 }
 
 /// Writes bytes, and has the writer pass them on.
-fn write_whole<W: Write>(output: &mut W, bytes: &[u8]) -> io::Result<()>
+///
+/// # Errors
+///
+/// What the writer answers.
+pub fn write_whole<W: Write>(output: &mut W, bytes: &[u8]) -> io::Result<()>
     ensures { OnOk result (Appends (W.contents output.old) (W.contents output.new) bytes.now) }
 {
     output.write_all(bytes)?;
@@ -262,37 +244,6 @@ fn append_heads(line: &mut Vec<u8>, heads: &[u8]) -> Result<(), AllocError>
     Ok(())
 }
 
-/// The digit of a number below 16.
-#[inline(always)]
-#[tactic(auto, using(crate::proofs::Digits::letter, crate::proofs::Digits::numeral))]
-fn digit(n: u8) -> u8
-    requires { n < 16 }
-    ensures { result ≡ slice_index lower_digits n }
-{
-    if n > 9 { n + (b'a' - 10) } else { n + b'0' }
-}
-
-/// Writes the digits of bytes to their room. LLVM does many at once.
-fn spell(bytes: &[u8], room: &mut [u8])
-    requires { length room.old ≡ 2 * length bytes.now }
-    ensures { room.new ≡ encode_lower bytes.now }
-{
-    for i in 0..bytes.len() {
-        let byte = bytes[i];
-        room[2 * i] = digit(byte / 16);
-        room[2 * i + 1] = digit(byte % 16);
-    }
-}
-
-fn append_byte(line: &mut Vec<u8>, byte: u8) -> Result<(), AllocError>
-    ensures { OnOk result (line.new.items ≡ line.old.items ++ encode_lower (byte ∷ [])) }
-{
-    let mut digits = [0; 2];
-    spell(&[byte], &mut digits);
-    line.extend_from_slice(&digits)?;
-    Ok(())
-}
-
 /// Appends a blank and four bytes in hex.
 #[inline(always)]
 fn append_four(line: &mut Vec<u8>, bytes: &[u8]) -> Result<(), AllocError>
@@ -300,19 +251,7 @@ fn append_four(line: &mut Vec<u8>, bytes: &[u8]) -> Result<(), AllocError>
     ensures { OnOk result (line.new.items ≡ line.old.items ++ 32 ∷ encode_lower bytes.now) }
 {
     let mut text = [b' '; 9];
-    spell(bytes, &mut text[1..]);
+    spell_hex(bytes, &mut text[1..]);
     line.extend_from_slice(&text)?;
-    Ok(())
-}
-
-/// Appends the hex text of bytes.
-fn append_hex(line: &mut Vec<u8>, bytes: &[u8]) -> Result<(), AllocError>
-    ensures { OnOk result (line.new.items ≡ line.old.items ++ encode_lower bytes.now) }
-{
-    let start = line.len();
-    let digits = bytes.len().checked_mul(2).ok_or(AllocError)?;
-    let end = start.checked_add(digits).ok_or(AllocError)?;
-    line.resize(end, 0)?;
-    spell(bytes, &mut line[start..]);
     Ok(())
 }

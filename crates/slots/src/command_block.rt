@@ -4,7 +4,8 @@ ghost use Rattle.std.specs.Prelude.{◌≡◌, ◌≤◌, ◌↔◌, IsTrue, len
 ghost use Rattle.fis.specs.Types.{h2d_length};
 ghost use Rattle.slots.specs.Table.{is_command};
 
-use fis::{H2D_LENGTH, H2D_TYPE};
+use crate::fields::is_command;
+use fis::H2D_LENGTH;
 use std::marker::Model;
 
 /// The bytes of a Register FIS to the device whose C bit is set.
@@ -24,14 +25,6 @@ impl Model for CommandBlock {
     ghost invariant = { λ c. is_command c.bytes ≡ true };
 
     ghost inverse = { λ b. record { bytes = b } };
-}
-
-/// Whether bytes begin as a Register FIS to the device does whose C bit is set.
-pub(crate) fn is_command(bytes: &[u8]) -> bool
-    requires { h2d_length ≤ length bytes.now }
-    ensures { result ≡ is_command bytes.now }
-{
-    bytes[0] == H2D_TYPE && bytes[1] >= 0x80
 }
 
 impl CommandBlock {

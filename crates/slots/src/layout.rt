@@ -5,12 +5,10 @@ ghost use Rattle.slots.specs.Layout.{header_place, table_place, buffer_place, re
 ghost use Rattle.fis.specs.Types.{dma_setup_length};
 ghost use Rattle.fis.specs.declared.any.Fis.{Fis};
 
+use crate::fields::{HEADER, received_offset};
 use fis::{Fis, SLOT_COUNT, Tag};
 
-/// How many bytes a command header has (AHCI 1.3.1, 4.2.2). The command list stands at 0.
-pub(crate) const HEADER: usize = 32;
-
-/// Where received FISes stand.
+/// Where received FISes stand. The command list stands at 0.
 const RECEIVED: usize = 0x400;
 
 /// Where the command tables stand.
@@ -18,12 +16,6 @@ const TABLES: usize = 0x800;
 
 /// How many bytes a command table has.
 pub(crate) const TABLE: usize = 0x100;
-
-/// Where the descriptors stand in a command table (AHCI 1.3.1, 4.2.3).
-pub(crate) const DESCRIPTORS: usize = 0x80;
-
-/// How many bytes a descriptor has (AHCI 1.3.1, 4.2.3.3).
-pub(crate) const DESCRIPTOR: usize = 16;
 
 /// Where the buffers stand.
 const BUFFERS: usize = 0x1_0000;
@@ -60,11 +52,5 @@ pub(crate) fn received_place(fis: &Fis) -> usize
     ensures value { result ≡ received_place fis.now }
     ensures inside { result + dma_setup_length ≤ received_at + received_size }
 {
-    match fis {
-        Fis::DmaSetup(_) => RECEIVED,
-        Fis::PioSetup(_) => RECEIVED + 0x20,
-        Fis::D2h(_) => RECEIVED + 0x40,
-        Fis::SetDeviceBits(_) => RECEIVED + 0x58,
-        Fis::H2d(_) => RECEIVED + 0x60,
-    }
+    RECEIVED + received_offset(fis)
 }

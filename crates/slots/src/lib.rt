@@ -5,6 +5,7 @@
 mod command_block;
 mod error;
 mod fetched;
+pub mod fields;
 mod layout;
 mod memory;
 mod parts;

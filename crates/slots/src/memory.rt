@@ -2,13 +2,11 @@
 
 ghost use Rattle.std.specs.Prelude.{◌≡◌, ℕ, IfOk, length, slice_index};
 
-use crate::command_block::{CommandBlock, is_command};
+use crate::command_block::CommandBlock;
 use crate::error::FetchError;
 use crate::fetched::Fetched;
-use crate::layout::{
-    BUFFER, DESCRIPTOR, DESCRIPTORS, HEADER, MEMORY, buffer_place, header_place, received_place,
-    table_place,
-};
+use crate::fields::{self, DESCRIPTOR, DESCRIPTORS, HEADER, is_command};
+use crate::layout::{BUFFER, MEMORY, buffer_place, header_place, received_place, table_place};
 use crate::parts::{self, COMMAND_WORDS};
 use fis::{Fis, H2D_LENGTH, Tag};
 use std::alloc::{AllocError, Global};
@@ -150,7 +148,7 @@ impl PortMemory {
             if !parts::is_sound(entry) {
                 return None;
             }
-            total += parts::count(entry);
+            total += u64::from(fields::byte_count(entry));
         }
         if total > BUFFER as u64 {
             return None;
@@ -192,20 +190,20 @@ impl PortMemory {
         ensures tag { tag < slot_count }
     {
         let header = self.part(header_place(tag), HEADER);
-        if parts::fis_words(header) != COMMAND_WORDS {
+        if fields::fis_words(header) != COMMAND_WORDS {
             return Err(FetchError::BadLength);
         }
         if !parts::has_table(header) {
             return Err(FetchError::BadAddress);
         }
-        let table = parts::table_at(header);
+        let table = fields::table_at(header) as usize;
         let len = self
-            .transfer(table, parts::entries(header))
+            .transfer(table, usize::from(fields::entries(header)))
             .ok_or(FetchError::BadPrdt)?;
         let fis = self.command_fis(table).ok_or(FetchError::BadFis)?;
         Ok(Fetched {
             fis,
-            write: parts::is_write(header),
+            write: fields::is_write(header),
             len,
         })
     }

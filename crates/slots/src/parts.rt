@@ -2,24 +2,22 @@
 
 ghost use Rattle.std.specs.Prelude.{◌≡◌, ◌≤◌, ◌<◌, ◌+◌, ◌*◌, ◌-◌, ◌^◌, length};
 ghost use Rattle.slots.specs.Layout.{header_size, command_table_size, descriptor_size, zero_bytes, memory_with, table_place, buffer_place};
-ghost use Rattle.slots.specs.Header.{header_bytes, fis_words, is_write, entry_count, table_at, table_upper, has_table, entries_for};
-ghost use Rattle.slots.specs.Table.{entry_bytes, table_bytes, address, upper, descriptor_range, byte_count_field, is_sound};
+ghost use Rattle.slots.specs.Header.{header_bytes, has_table, entries_for};
+ghost use Rattle.slots.specs.Table.{entry_bytes, table_bytes, is_sound};
 
-use crate::layout::{DESCRIPTOR, DESCRIPTORS, HEADER, MEMORY, TABLE, buffer_place, table_place};
+use crate::fields::{
+    DESCRIPTOR, DESCRIPTORS, HEADER, WRITE_BIT, address, byte_count, entries, table_at,
+    table_upper, upper,
+};
+use crate::layout::{MEMORY, TABLE, buffer_place, table_place};
 use byteorder::{ByteOrder, LittleEndian};
 use fis::{H2D_LENGTH, Tag};
 
 /// How many words of four bytes a command FIS has.
 pub(crate) const COMMAND_WORDS: u8 = (H2D_LENGTH / 4) as u8;
 
-/// W, a bit of a header's first byte (AHCI 1.3.1, 4.2.2).
-const WRITE_BIT: u8 = 64;
-
 /// A command table stands at a multiple of this (AHCI 1.3.1, 4.2.2).
 const TABLE_ALIGNMENT: usize = 128;
-
-/// How many bytes one descriptor can name (AHCI 1.3.1, 4.2.3.3).
-const DESCRIPTOR_RANGE: u32 = 0x40_0000;
 
 /// Lays bytes among others from a place on.
 pub(crate) fn lay(memory: &mut [u8], at: usize, bytes: &[u8])
@@ -74,76 +72,15 @@ pub(crate) fn table(tag: Tag, command: &[u8; H2D_LENGTH], len: u32) -> [u8; TABL
     table
 }
 
-pub(crate) fn fis_words(header: &[u8]) -> u8
-    requires { header_size ≤ length header.now }
-    ensures { result ≡ fis_words header.now }
-{
-    header[0] % 32
-}
-
-pub(crate) fn is_write(header: &[u8]) -> bool
-    requires { header_size ≤ length header.now }
-    ensures { result ≡ is_write header.now }
-{
-    header[0] / WRITE_BIT % 2 == 1
-}
-
-pub(crate) fn entries(header: &[u8]) -> usize
-    requires { header_size ≤ length header.now }
-    ensures value { result ≡ entry_count header.now }
-    ensures fits { result < 2 ^ 16 }
-{
-    usize::from(LittleEndian::read_u16(&header[2..]))
-}
-
-pub(crate) fn table_at(header: &[u8]) -> usize
-    requires { header_size ≤ length header.now }
-    ensures value { result ≡ table_at header.now }
-    ensures fits { result < 2 ^ 32 }
-{
-    LittleEndian::read_u32(&header[8..]) as usize
-}
-
-fn table_upper(header: &[u8]) -> u32
-    requires { header_size ≤ length header.now }
-    ensures { result ≡ table_upper header.now }
-{
-    LittleEndian::read_u32(&header[12..])
-}
-
 /// Whether the table that the header names stands in the memory, its entries included.
 pub(crate) fn has_table(header: &[u8]) -> bool
     requires { header_size ≤ length header.now }
     ensures { result ≡ has_table header.now }
 {
-    let at = table_at(header);
+    let at = table_at(header) as usize;
     at % TABLE_ALIGNMENT == 0
         && table_upper(header) == 0
-        && at + DESCRIPTORS + DESCRIPTOR * entries(header) <= MEMORY
-}
-
-fn address(entry: &[u8]) -> u64
-    requires { descriptor_size ≤ length entry.now }
-    ensures value { result ≡ address entry.now }
-    ensures fits { result < 2 ^ 32 }
-{
-    u64::from(LittleEndian::read_u32(entry))
-}
-
-fn upper(entry: &[u8]) -> u32
-    requires { descriptor_size ≤ length entry.now }
-    ensures { result ≡ upper entry.now }
-{
-    LittleEndian::read_u32(&entry[4..])
-}
-
-/// How many bytes the descriptor is of.
-pub(crate) fn count(entry: &[u8]) -> u64
-    requires { descriptor_size ≤ length entry.now }
-    ensures value { result ≡ byte_count_field entry.now }
-    ensures fits { result ≤ descriptor_range }
-{
-    u64::from(LittleEndian::read_u32(&entry[12..]) % DESCRIPTOR_RANGE) + 1
+        && at + DESCRIPTORS + DESCRIPTOR * usize::from(entries(header)) <= MEMORY
 }
 
 /// Whether the bytes that the descriptor names stand in the memory.
@@ -153,6 +90,6 @@ pub(crate) fn is_sound(entry: &[u8]) -> bool
 {
     address(entry) % 2 == 0
         && upper(entry) == 0
-        && count(entry) % 2 == 0
-        && address(entry) + count(entry) <= MEMORY as u64
+        && byte_count(entry) % 2 == 0
+        && address(entry) as usize + byte_count(entry) as usize <= MEMORY
 }

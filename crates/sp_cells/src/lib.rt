@@ -21,6 +21,6 @@ pub use cells::{Cell, Columns, Element, Expr, ResetTypes};
 pub use config::DriveConfig;
 pub use error::SetError;
 pub use laws::{laws_of_limits, laws_of_names};
-pub use look::{Rows, number_at};
+pub use look::{Rows, number_at, number_of_range};
 pub use names::{ADMINS, Column, RANGES, Sp, USERS, Uid};
 pub use values::are_values;

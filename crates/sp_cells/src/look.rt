@@ -4,7 +4,7 @@ ghost use Rattle.std.specs.Prelude.{◌≡◌, ◌≤◌, ℕ, option_copied};
 ghost use Rattle.sp_cells.specs.Flat.{LookUp};
 ghost use Rattle.sp_cells.specs.Limits.{most_mbr_sectors, most_datastore_bytes};
 ghost use Rattle.sp_cells.specs.declared.byte_tables.TableSizes.{TableSizes};
-ghost use Rattle.sp_cells.specs.Ranges.{AreApart, number};
+ghost use Rattle.sp_cells.specs.Ranges.{AreApart, number, of_range};
 ghost use Rattle.basics.specs.declared.profile.Profile.{Profile};
 
 use crate::byte_tables::TableSizes;
@@ -40,6 +40,13 @@ pub trait Rows {
     /// The profile of the drive.
     fn profile(&self) -> Profile
         ensures { result ≡ profile_of self.now };
+}
+
+/// The number in a column of a range of the Locking SP, 0 where there is none; range 0 is the global range.
+pub fn number_of_range<R: Rows>(rows: &R, range: u8, column: Column) -> u64
+    ensures { result ≡ of_range (R.look_up rows.now) range column }
+{
+    number_at(rows, Sp::Locking, Uid::range(range), column)
 }
 
 /// The number at a place; 0 where there is none.

@@ -1,5 +1,5 @@
 -- The cells of a new drive (Opal SSC 2.01, sections 4.2 and 4.3).
-use Rattle.std.specs.Prelude.{◌≡◌, ◌≤◌, ◌+◌, ◌==◌, ℕ, true, false, List, [], ◌∷◌, ◌++◌, zero, suc, codes, if◌then◌else◌}
+use Rattle.std.specs.Prelude.{◌≡◌, ◌+◌, ◌==◌, ℕ, true, false, List, [], ◌∷◌, ◌++◌, zero, suc, codes, if◌then◌else◌}
 use Rattle.std.specs.Fmt.{decimal}
 use Rattle.std.specs.List.{flat_map}
 use Rattle.basics.specs.declared.profile.Profile.{Profile}
@@ -182,14 +182,6 @@ AddsRows columns old new items = HasRows columns new (flat_map (run_items column
 abbrev pub family : ℕ → (ℕ → List (Column × Cell)) → ℕ → List Item
 family base values zero = []
 family base values (suc n) = family base values n ++ row_items (uid (base + suc n)) (values (suc n))
-
--- these rows are a family wherever P says what the row of each number is
-abbrev pub IsFamilyOf : {R : Type 0} → (R → List (Column × Cell)) → (ℕ → R → Type 0) → ℕ → List R
-    → Type 0
-IsFamilyOf columns P count rows =
-    (base : ℕ) (values : ℕ → List (Column × Cell))
-    → ((n : ℕ) (r : _) → n ≤ count → P n r → columns r ≡ values n)
-    → rows_from columns (base + 1) rows ≡ family base values count
 
 -- these rows are those of the numbers 1 to n
 abbrev pub IsFamily : {R : Type 0} → (R → List (Column × Cell)) → ℕ → (ℕ → List (Column × Cell)) → ℕ

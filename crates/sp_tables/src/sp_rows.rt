@@ -1,7 +1,10 @@
 //! The rows of one security provider of a self-locking drive: a struct for each kind of row, the search and the
 //! exchange of a cell among them, and the rows of a new drive.
 
+mod ace_tables;
+mod aces;
 mod adding;
+mod entries;
 pub mod exchange;
 pub mod factory;
 mod families;

@@ -13,3 +13,4 @@ pub mod Limits
 pub mod Carried
 pub mod Places
 pub mod NamedText
+pub mod TokenTexts

@@ -7,7 +7,7 @@ ghost use Rattle.tcg_tokens.specs.Atoms.{least, upper_range, length_bytes, first
 pub(crate) const EMPTY_ATOM: u8 = 0xff;
 
 /// A tiny atom is a number below this, in one byte.
-pub(crate) const TINY_LIMIT: u8 = 64;
+pub const TINY_LIMIT: u8 = 64;
 
 /// The form of an atom that has a length. The first byte says, from the top down, the form, the kind, the
 /// sign and the upper bits of the length.

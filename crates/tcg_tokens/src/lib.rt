@@ -8,7 +8,7 @@
 
 mod condition;
 mod error;
-mod form;
+pub mod form;
 mod laws;
 mod length;
 pub mod limits;
@@ -22,11 +22,12 @@ mod write;
 pub use basics::Bytes;
 pub use condition::writable;
 pub use error::TokenError;
+pub use form::TINY_LIMIT;
 pub use laws::laws_of_faults;
 pub use length::item_len;
 pub use limits::laws_of_limits;
-pub use read::read_item;
-pub use text::{fault_text, item_text, value_text};
+pub use read::{read_item, tiny};
+pub use text::{fault_text, item_text, show_hex, show_status, value_text};
 pub use token::begins_with_end;
 pub use value::{Call, Item, Value};
 pub use write::{write_item, write_item_into};

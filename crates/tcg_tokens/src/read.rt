@@ -56,7 +56,7 @@ pub(crate) fn after_mark(mark: Mark, bytes: &[u8]) -> Result<&[u8], TokenError>
 
 /// A number in one byte at the front, and what is behind it.
 #[inline(always)]
-fn tiny(bytes: &[u8]) -> Option<(u8, &[u8])>
+pub fn tiny(bytes: &[u8]) -> Option<(u8, &[u8])>
     ensures { IfSome result (λ x. (x.0 < TINY_LIMIT) × (bytes.now ≡ x.0 ∷ x.1.now)) }
 {
     match bytes {

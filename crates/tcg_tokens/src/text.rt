@@ -60,7 +60,11 @@ pub fn fault_text(alloc: Global, fault: TokenError) -> Result<String, AllocError
 }
 
 /// Bytes as hex, behind the text.
-fn show_hex(alloc: Global, content: &[u8], text: &mut String) -> Result<(), AllocError>
+///
+/// # Errors
+///
+/// An allocation was refused.
+pub fn show_hex(alloc: Global, content: &[u8], text: &mut String) -> Result<(), AllocError>
     ensures { OnOk result
         (string_bytes text.new ≡ string_bytes text.old ++ encode_lower content.now) }
 {
@@ -128,7 +132,11 @@ fn show_list(alloc: Global, items: &Vec<Value>, text: &mut String) -> Result<(),
 }
 
 /// The numbers of a status behind the text.
-fn show_status(status: &[u64], text: &mut String) -> Result<(), AllocError>
+///
+/// # Errors
+///
+/// An allocation was refused.
+pub fn show_status(status: &[u64], text: &mut String) -> Result<(), AllocError>
     ensures { OnOk result
         (string_bytes text.new ≡ string_bytes text.old ++ status_text status.now) }
 {

@@ -13,9 +13,11 @@ use Rattle.script_lines.specs.Texts.{last_of}
 use Rattle.script_lines.specs.declared.fault.LineFault.{LineFault}
 use Rattle.tool.specs.Scripts.{ScriptLine}
 use Rattle.tool.specs.Laws.{texts_of, LineNumberLaw}
-use Rattle.tool.specs.Effects.{LineEffect}
-use Rattle.tool.specs.PortEffects.{PortEffect}
-use Rattle.tool.specs.Courses.{Advance, OnDrive, OnPort, goes_on_drive, on_port, line_course, port_step, start}
+use Rattle.drive_scripts.specs.Effects.{LineEffect}
+use Rattle.port_scripts.specs.PortEffects.{PortEffect}
+use Rattle.tool.specs.Courses.{Advance, DriveScript, PortScript, advance_in, start}
+use Rattle.drive_scripts.specs.DriveCourses.{OnDrive, goes_on_drive, line_course}
+use Rattle.port_scripts.specs.PortCourses.{OnPort, on_port, port_step}
 use Rattle.tool.specs.Openings.{origin_of, base_of, row_said}
 use Rattle.tool.specs.Outcomes.{RunOutcome, onward, outcome_on, outcome_from, outcome_of_lines, printed_by, printed_first, set_then, opened_by, opened}
 use Rattle.tool.specs.declared.opening.OpeningPhase.{OpeningPhase}
@@ -24,27 +26,29 @@ use Rattle.tool.specs.declared.opening.OpeningPhase.TheVariants.{Factory}
 -- what comes behind a line of a drive, and of a port, alone decides
 drive-onward : (r : Result LineEffect ℕ) (f g : Advance → RunOutcome)
     → ((acts : List Act) (lines : List (List ℕ))
-    → f (record { course = OnDrive acts; lines = lines; reasons = [] })
-    ≡ g (record { course = OnDrive acts; lines = lines; reasons = [] }))
-    → onward f (goes_on_drive r) ≡ onward g (goes_on_drive r)
+    → f (record { course = DriveScript (OnDrive acts); lines = lines; reasons = [] })
+    ≡ g (record { course = DriveScript (OnDrive acts); lines = lines; reasons = [] }))
+    → onward f (advance_in DriveScript (goes_on_drive r))
+    ≡ onward g (advance_in DriveScript (goes_on_drive r))
 drive-onward (Ok effect) f g same =
-    ap (printed_first (printed_by (record { course = OnDrive effect.acts; lines = effect.lines; reasons = [] })))
+    ap (printed_first (printed_by (record { course = DriveScript (OnDrive effect.acts); lines = effect.lines; reasons = [] })))
     (same effect.acts effect.lines)
 drive-onward (Err status) f g same = refl
 
 port-onward : (r : Result PortEffect ℕ) (f g : Advance → RunOutcome)
     → ((list : List Step) (lines : List (List ℕ))
-    → f (record { course = OnPort list; lines = lines; reasons = [] })
-    ≡ g (record { course = OnPort list; lines = lines; reasons = [] }))
-    → onward f (on_port r) ≡ onward g (on_port r)
+    → f (record { course = PortScript (OnPort list); lines = lines; reasons = [] })
+    ≡ g (record { course = PortScript (OnPort list); lines = lines; reasons = [] }))
+    → onward f (advance_in PortScript (on_port r))
+    ≡ onward g (advance_in PortScript (on_port r))
 port-onward (Ok effect) f g same =
-    ap (printed_first (printed_by (record { course = OnPort effect.steps; lines = effect.lines; reasons = [] })))
+    ap (printed_first (printed_by (record { course = PortScript (OnPort effect.steps); lines = effect.lines; reasons = [] })))
     (same effect.steps effect.lines)
 port-onward (Err status) f g same = refl
 
 on-drive : (o : Origin) (acts : List Act) (last : List ℕ) (ones others : List ScriptLine)
     → texts_of ones ≡ texts_of others
-    → outcome_on o (OnDrive acts) last ones ≡ outcome_on o (OnDrive acts) last others
+    → outcome_on o (DriveScript (OnDrive acts)) last ones ≡ outcome_on o (DriveScript (OnDrive acts)) last others
 unfolding outcome_on
 on-drive o acts last [] [] same = refl
 on-drive o acts last [] (other ∷ others) same = absurd (cc same)
@@ -58,11 +62,11 @@ on-drive o acts last (one ∷ ones) (other ∷ others) same =
     (λ later lines. on-drive o later (last_of last lines) ones others rest)
     ∙ ap
     (λ (t : List ℕ). onward (λ made. outcome_on o made.course (last_of last made.lines) others)
-    (goes_on_drive (line_course o acts last t (line_said t)))) text
+    (advance_in DriveScript (goes_on_drive (line_course o acts last t (line_said t))))) text
 
 on-a-port : (o : Origin) (list : List Step) (last : List ℕ) (ones others : List ScriptLine)
     → texts_of ones ≡ texts_of others
-    → outcome_on o (OnPort list) last ones ≡ outcome_on o (OnPort list) last others
+    → outcome_on o (PortScript (OnPort list)) last ones ≡ outcome_on o (PortScript (OnPort list)) last others
 unfolding outcome_on
 on-a-port o list last [] [] same = refl
 on-a-port o list last [] (other ∷ others) same = absurd (cc same)
@@ -76,7 +80,7 @@ on-a-port o list last (one ∷ ones) (other ∷ others) same =
     (λ later lines. on-a-port o later (last_of last lines) ones others rest)
     ∙ ap
     (λ (t : List ℕ). onward (λ made. outcome_on o made.course (last_of last made.lines) others)
-    (on_port (port_step o list last t (port_line_of t)))) text
+    (advance_in PortScript (on_port (port_step o list last t (port_line_of t))))) text
 
 from-start : (on_a_port : Bool) (o : Origin) (ones others : List ScriptLine)
     → texts_of ones ≡ texts_of others

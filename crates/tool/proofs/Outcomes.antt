@@ -18,18 +18,18 @@ use Rattle.tool.specs.Ends.{exit_status}
 use Rattle.tool.specs.Outcomes.{RunOutcome, ends, printed_first, onward, outcome_on, set_then, opened_by, opened, outcome_from, outcome_of_lines, outcome_by, printed_by, Yields}
 use Rattle.tool.specs.Progress.{HandsOn, LeadsTo, Steps, step_or_skip, OpensTo, LinesOpenTo, SkipsTo, BeginsScript, FirstLine}
 use Rattle.tool.specs.declared.ending.End.{End}
-use Rattle.tool.specs.declared.ending.Fault.{Fault}
-use Rattle.tool.specs.declared.ending.Fault.TheVariants as faults
+use Rattle.drive_scripts.specs.declared.turn.Fault.{Fault}
+use Rattle.drive_scripts.specs.declared.turn.Fault.TheVariants as faults
 use Rattle.tool.specs.declared.ending.RunError.{RunError}
 use Rattle.tool.specs.declared.opening.OpeningPhase.{OpeningPhase}
 use Rattle.tool.specs.declared.opening.OpeningPhase.TheVariants.{Factory}
 use Rattle.tool.specs.declared.opening.OpeningTurn.{OpeningTurn}
 use Rattle.tool.specs.declared.opening.OpeningTurn.TheVariants as openings
 use Rattle.tool.specs.declared.phase.Phase.{Phase}
-use Rattle.tool.specs.declared.running.Turn.{Turn}
+use Rattle.drive_scripts.specs.declared.turn.Turn.{Turn}
 use Rattle.tool.specs.declared.head.Head.{Head}
 use Rattle.tool.specs.declared.script.Opened.{Opened}
-use Rattle.tool.specs.declared.running.Turn.TheVariants as turns
+use Rattle.drive_scripts.specs.declared.turn.Turn.TheVariants as turns
 use Rattle.tool.proofs.SkippedLines.{skips-first, keeps-first}
 use Rattle.tool.proofs.Texts.{taken}
 

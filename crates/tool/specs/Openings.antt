@@ -12,7 +12,7 @@ use Rattle.script_lines.specs.PortLines.{port_line_of}
 use Rattle.locking.specs.declared.range.RangeRow.{RangeRow}
 use Rattle.sp_cells.specs.declared.error.SetError.{SetError}
 use Rattle.tool.specs.Courses.{PhaseRunsOn, PhaseStands, start}
-use Rattle.tool.specs.declared.ending.Fault.TheVariants.{RefusedRow}
+use Rattle.drive_scripts.specs.declared.turn.Fault.TheVariants.{RefusedRow}
 use Rattle.tool.specs.declared.head.Head.{Head}
 use Rattle.tool.specs.declared.opening.OpeningTurn.{OpeningTurn}
 use Rattle.tool.specs.declared.opening.OpeningTurn.TheVariants.{Goes, Runs, Bad}

@@ -6,14 +6,14 @@ use Rattle.history.specs.Opening.{Origin}
 use Rattle.script_lines.specs.declared.report.Report.{Report}
 use Rattle.tool.specs.Scripts.{ScriptLine, bare, script_lines, is_skipped, effective_lines, lines_from, without_remarks}
 use Rattle.tool.specs.Ends.{exit_status}
-use Rattle.tool.specs.Courses.{Course, Advance, Advances, PhaseRunsOn, course_step, start}
+use Rattle.drive_scripts.specs.Turns.{StepsBy}
+use Rattle.tool.specs.Courses.{Course, Advance, PhaseRunsOn, course_step, start}
 use Rattle.tool.specs.Outcomes.{RunOutcome, ends, printed_first, outcome_on, outcome_from, outcome_by}
 use Rattle.tool.specs.declared.ending.End.{End}
 use Rattle.tool.specs.declared.opening.OpeningPhase.{OpeningPhase}
 use Rattle.tool.specs.declared.opening.OpeningPhase.TheVariants.{Factory}
 use Rattle.tool.specs.declared.phase.Phase.{Phase}
-use Rattle.tool.specs.declared.running.Turn.{Turn}
-use Rattle.tool.specs.declared.running.Turn.TheVariants as turns
+use Rattle.drive_scripts.specs.declared.turn.Turn.{Turn}
 use Rattle.tool.specs.declared.head.Head.{Head}
 use Rattle.tool.specs.declared.script.Opened.{Opened}
 use Rattle.tool.specs.declared.script.Opened.TheVariants.{Ended, Runs}
@@ -57,10 +57,8 @@ ScriptLeads explains config left end old new before after =
 
 -- a turn is what the line does, or the status that it ends the run with
 abbrev pub Steps : Turn → Result Advance ℕ → Phase → Origin → Report → Report → Type 0
-Steps (turns.Goes aborted) (Ok made) new o before after = Advances new o before after made
-Steps turns.ExpectationFailed (Err status) new o before after = (status ≡ 1) × (after ≡ before)
-Steps (turns.Bad fault) (Err status) new o before after = (status ≡ 2) × (after ≡ before)
-Steps turn result new o before after = ⊥
+Steps turn result new o before after =
+    StepsBy Course (PhaseRunsOn new o) turn result before after
 
 -- what a line makes of the course of a script: one that is skipped changes nothing
 abbrev pub step_or_skip : Bool → Origin → Course → List ℕ → ScriptLine → Result Advance ℕ

@@ -5,8 +5,8 @@ ghost use Rattle.tool.specs.Ends.{exit_status};
 ghost use Rattle.tool.specs.declared.ending.End.TheVariants as ends;
 ghost use Rattle.tool.specs.declared.ending.RunError.{RunError};
 
-use drive::SetError;
-use script_lines::{LineFault, expected_text};
+use drive_scripts::Fault;
+use script_lines::expected_text;
 use std::alloc::AllocError;
 use std::io::{ErrorKind, Write};
 use std::{fmt, io};
@@ -51,32 +51,6 @@ impl RunError {
         match error.kind() {
             ErrorKind::OutOfMemory => RunError::Memory,
             _ => RunError::Read,
-        }
-    }
-}
-
-/// What ends a script with status 2.
-#[derive(Clone, Copy, Debug, PartialEq, Eq)]
-pub enum Fault {
-    Line(LineFault),
-    LateRange,
-    RefusedRow { range: u8, error: SetError },
-}
-
-impl fmt::Display for Fault {
-    fn fmt<W: fmt::Write>(&self, f: &mut fmt::Formatter<W>) -> fmt::Result {
-        match *self {
-            Fault::Line(fault) => write!(f, "{fault}"),
-            Fault::LateRange => f.write_str("a range line stands behind another line"),
-            Fault::RefusedRow {
-                range,
-                error: SetError::NoCell,
-            } => write!(f, "there is no range {range} (0 to 16)"),
-            Fault::RefusedRow {
-                range: 0,
-                error: SetError::Beyond,
-            } => f.write_str("the global range has no place: its start and length are 0"),
-            Fault::RefusedRow { range, error } => write!(f, "range {range} is refused: {error}"),
         }
     }
 }

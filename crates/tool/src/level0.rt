@@ -9,6 +9,7 @@ use crate::ending::RunError;
 use crate::options::Options;
 use basics::Profile;
 use device_data::{discovery, field_discovery};
+use script_lines::write_whole;
 use sp_cells::DriveConfig;
 use sp_tables::Tables;
 use std::alloc::{AllocError, Global};
@@ -44,9 +45,6 @@ pub fn run_level0<W: Write>(
 {
     let mut line = discovery_text(alloc, &options.config())?;
     line.push_str("\n")?;
-    output
-        .write_all(line.as_bytes())
-        .map_err(|_| RunError::Write)?;
-    output.flush().map_err(|_| RunError::Write)?;
+    write_whole(output, line.as_bytes()).map_err(|_| RunError::Write)?;
     Ok(0)
 }

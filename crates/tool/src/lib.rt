@@ -1,37 +1,29 @@
 //! The program's library: scripts of lines, run on a drive or on a port, and token streams, told as text.
 #![tactic(auto)]
 
-mod commands;
-mod drive_phase;
 mod ending;
 mod head;
 mod level0;
 mod opening;
 mod options;
-mod payload;
 mod phase;
-mod port_desk;
-mod port_phase;
-mod printing;
 mod reading;
 mod remarks;
-mod running;
 mod script;
 mod tokens;
 
-pub use drive_phase::DrivePhase;
-pub use ending::{End, Fault, RunError, tell, tell_abort};
+pub use drive_scripts::{DrivePhase, Fault, Turn};
+pub use ending::{End, RunError, tell, tell_abort};
 pub use head::Head;
 pub use level0::run_level0;
 pub use opening::{OpeningPhase, OpeningTurn};
 pub use options::{DriveTexts, Options, OptionsFault};
 pub use phase::Phase;
-pub use port_desk::PortDesk;
-pub use port_phase::request_of;
+pub use port_scripts::{PortDesk, request_of};
 pub use reading::{answer, line_at_hand, lines_of, read_line, without_end};
 pub use remarks::{is_skipped, laws_of_remarks, may_hold_remarks};
-pub use running::Turn;
 pub use script::{
     laws_of_limits, run_explained_script, run_script, run_script_with_faults, run_text,
 };
-pub use tokens::{Naming, run_tokens, run_tokens_with_faults};
+pub use tcg_calls::named_tokens::Naming;
+pub use tokens::{run_tokens, run_tokens_with_faults};

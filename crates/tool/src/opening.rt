@@ -3,15 +3,13 @@
 ghost use Rattle.std.specs.Prelude.{◌≡◌};
 ghost use Rattle.tool.specs.Openings.{row_of_line, row_in_port, row_said};
 
-use crate::drive_phase::DrivePhase;
-use crate::ending::Fault;
 use crate::head::Head;
 use crate::phase::Phase;
-use crate::port_desk::PortDesk;
-use crate::port_phase::PortPhase;
 use crate::remarks::is_skipped;
 use drive::{Drive, DriveConfig, Opening, RangeRow, SetError};
+use drive_scripts::{DrivePhase, Fault};
 use port::Port;
+use port_scripts::{PortDesk, PortPhase};
 use script_lines::{Line, LineFault, PortLine};
 use std::alloc::{AllocError, Global};
 
@@ -73,7 +71,7 @@ impl OpeningPhase {
     ghost use Rattle.sp_cells.specs.declared.error.SetError.{SetError};
     ghost use Rattle.history.specs.Opening.{row_fault, with_range};
     ghost use Rattle.drive.specs.State.{Agrees};
-    ghost use Rattle.tool.specs.PortEffects.{PortRunsOn};
+    ghost use Rattle.port_scripts.specs.PortEffects.{PortRunsOn};
     ghost use Rattle.tool.specs.Openings.{origin_of, base_of, OpensBy, RunsFrom, TurnStands, row_said};
     ghost use Rattle.tool.specs.Scripts.{is_skipped};
     ghost use Rattle.tool.specs.declared.opening.OpeningPhase.TheVariants.{Activated};

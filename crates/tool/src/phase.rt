@@ -1,9 +1,8 @@
 //! What a script runs on: a drive, or a port.
 
-use crate::drive_phase::DrivePhase;
-use crate::port_desk::PortDesk;
 use crate::remarks::is_skipped;
-use crate::running::Turn;
+use drive_scripts::{DrivePhase, Turn};
+use port_scripts::PortDesk;
 use script_lines::Report;
 use std::alloc::AllocError;
 
@@ -33,7 +32,7 @@ impl Phase {
     {
         match self {
             Phase::Drive(drive) => drive.turn(number, text, report),
-            Phase::Port(port) => port.turn(number, text, report),
+            Phase::Port(port) => port.turn(text, report),
         }
     }
 

@@ -18,7 +18,7 @@ use crate::options::Options;
 use crate::phase::Phase;
 use crate::reading::{READ_AT_ONCE, answer, line_at_hand, lines_within, read_line, without_end};
 use crate::remarks::{is_skipped, may_hold_remarks};
-use crate::running::Turn;
+use drive_scripts::Turn;
 use script_lines::{Report, is_port_line};
 use std::alloc::Global;
 use std::io;

@@ -3,16 +3,8 @@
 ghost use Rattle.std.specs.Prelude.{◌≡◌, ◌++◌, OnOk, decimal};
 ghost use Rattle.drawing.specs.Dumps.{wire_code, digit_of, binary, declared_wire, declaration, preamble, definitions_end, values_begin, values_end, scalar, vector, wire_value, changed_value, time_text};
 
+use basics::append_decimal;
 use std::alloc::{AllocError, Global};
-
-/// Appends a number in decimal.
-fn append_decimal(alloc: Global, text: &mut Vec<u8>, number: u64) -> Result<(), AllocError>
-    ensures { OnOk result (text.new.items ≡ text.old.items ++ decimal number) }
-{
-    let digits = number.to_string(alloc)?;
-    text.extend_from_slice(digits.as_bytes())?;
-    Ok(())
-}
 
 /// Appends the code of the signal of a place.
 fn append_code(text: &mut Vec<u8>, place: usize) -> Result<(), AllocError>

@@ -2,9 +2,9 @@
 
 ghost use Rattle.std.specs.Prelude.{◌≡◌, ◌≤◌, ◌<◌, ◌^◌, ◌++◌, false, OnOk, IfSome};
 ghost use Rattle.std.specs.Fmt.{digits};
-ghost use Rattle.hex.specs.Hex.{encode_lower};
 ghost use Rattle.hba_program.specs.Digits.{hex_number, word_text};
 
+use basics::append_hex;
 use std::alloc::{AllocError, Global};
 
 /// The number that hex digits of either case write, 1 to `most` of them.
@@ -41,16 +41,4 @@ pub(crate) fn append_word(text: &mut Vec<u8>, word: u32) -> Result<(), AllocErro
     ensures { OnOk result (text.new.items ≡ text.old.items ++ word_text word) }
 {
     append_hex(text, &word.to_be_bytes())
-}
-
-/// Appends bytes, in two hex digits each.
-pub fn append_hex(text: &mut Vec<u8>, bytes: &[u8]) -> Result<(), AllocError>
-    ensures { OnOk result (text.new.items ≡ text.old.items ++ encode_lower bytes.now) }
-{
-    let start = text.len();
-    let digits = bytes.len().checked_mul(2).ok_or(AllocError)?;
-    let end = start.checked_add(digits).ok_or(AllocError)?;
-    text.resize(end, 0)?;
-    let _ = hex::encode_to_slice(bytes, &mut text[start..]);
-    Ok(())
 }

@@ -5,7 +5,8 @@ ghost use Rattle.hex.specs.Hex.{decode_sized};
 ghost use Rattle.hba_program.specs.MemoryLines.{read_question, write_question, answer_to_read, answer_to_write};
 ghost use Rattle.hba_program.specs.declared.hba_lines.memory_line.Answer.TheVariants.{Given};
 
-use crate::hba_lines::digits::{append_hex, append_number};
+use crate::hba_lines::digits::append_number;
+use basics::append_hex;
 use std::alloc::{AllocError, Global};
 
 /// What the host answers.

@@ -1,9 +1,9 @@
 //! The drive behind the controller, with the ranges that the options give.
 
 ghost use Rattle.std.specs.Prelude.{◌≡◌, ◌⊎◌, ◌++◌, ◌∷◌, [], Ok, Err, OnOk, IfOk, IfErr, map};
-ghost use Rattle.history.specs.Opening.{Origin};
+ghost use Rattle.history.specs.Opening.{Origin, opened_with};
 ghost use Rattle.drive.specs.State.{Agrees};
-ghost use Rattle.hba_program.specs.Openings.{option_row, option_rows, OpensWith, IsRangeFault, OpensAs, IsFaultOf};
+ghost use Rattle.hba_program.specs.Openings.{option_row, option_rows, IsRangeFault, OpensAs, IsFaultOf};
 ghost use Rattle.hba_program.specs.declared.hba_tool.opening.RangeFault.{RangeFault};
 
 use drive::{Drive, DriveConfig, RangeRow, SetError};
@@ -89,15 +89,12 @@ fn push(rows: &mut Vec<RangeRow>, row: RangeRow) -> Result<(), AllocError>
 
 /// A drive with these ranges.
 fn with_rows(alloc: Global, config: DriveConfig, rows: &[RangeRow]) -> Result<Drive, RangeFault>
-    ensures opened { IfOk result (λ drive. (o : Origin) × OpensWith config rows.now o
+    ensures opened { IfOk result (λ drive. (o : Origin) × (opened_with config rows.now ≡ Ok o)
         × Agrees drive o []) }
     ensures fault { IfErr result (λ fault. (fault ≡ RangeFault.OutOfMemory)
         ⊎ IsRangeFault config rows.now fault) }
 {
-    if rows.is_empty() {
-        return Ok(Drive::new(alloc, config)?);
-    }
-    match Drive::with_ranges(alloc, config, rows) {
+    match Drive::opened(alloc, config, rows) {
         Ok(drive) => Ok(drive),
         Err(SetError::OutOfMemory) => Err(RangeFault::OutOfMemory),
         Err(error) => Err(RangeFault::Refused(error)),

@@ -4,9 +4,10 @@ ghost use Rattle.std.specs.Prelude.{◌≡◌, ◌++◌, ◌∷◌, [], None, On
 ghost use Rattle.script_lines.specs.Texts.{audit_text};
 ghost use Rattle.hba_program.specs.Sayings.{part_by, work_tag, fetch_reply, complete_reply, work_reply, denials_text, sector_line, kept_denial};
 
-use crate::hba_lines::{MemoryPart, Reply, Request, append_hex};
+use crate::hba_lines::{MemoryPart, Reply, Request};
 use crate::hba_wire::{Wire, WireError};
 use audit::{AuditLine, Why, line_bytes};
+use basics::append_hex;
 use drive::Drive;
 use hba::{Done, Hba, MemoryFault, Work};
 use std::alloc::{AllocError, Global};

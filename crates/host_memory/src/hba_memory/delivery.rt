@@ -4,30 +4,17 @@ ghost use Rattle.std.specs.Prelude.{◌≡◌, ◌≤◌, ◌<◌, ◌+◌, ◌^
 ghost use Rattle.std.specs.Result.{result_err};
 ghost use Rattle.fis.specs.Fis.{IsSpelling};
 ghost use Rattle.host_memory.specs.Access.{Access, Accessed, IsAccess, Laid};
-ghost use Rattle.host_memory.specs.Memory.{offset_of, tells_error, data_taken, Scatters, Counts, Posts, PostsTo, Delivers};
+ghost use Rattle.host_memory.specs.Memory.{tells_error, data_taken, Scatters, Counts, Posts, PostsTo, Delivers};
 
 use crate::hba_memory::miss::Miss;
-use crate::hba_memory::reading::{DESCRIPTOR, Header, data_at, data_len};
+use crate::hba_memory::reading::{Header, data_at, data_len};
 use crate::{HostMemory, read_array, write_at};
 use byteorder::{ByteOrder, LittleEndian};
 use fis::Fis;
+use slots::fields::{DESCRIPTOR, received_offset};
 
 /// Where PRDBC stands in a command header (AHCI 1.3.1, 4.2.2).
 const BYTE_COUNT: u64 = 4;
-
-/// Where a FIS of this type stands among those received. One that no device sends is stored as unknown.
-fn offset_of(fis: &Fis) -> u64
-    ensures value { result ≡ offset_of fis.now }
-    ensures small { result < 256 }
-{
-    match fis {
-        Fis::DmaSetup(_) => 0,
-        Fis::PioSetup(_) => 0x20,
-        Fis::D2h(_) => 0x40,
-        Fis::SetDeviceBits(_) => 0x58,
-        Fis::H2d(_) => 0x60,
-    }
-}
 
 /// Lays data over the blocks that so many descriptors from an address on name, one after the other. A descriptor is read
 /// where bytes go to its block alone.
@@ -128,7 +115,7 @@ fn post<M: HostMemory>(memory: &mut M, at: u32, fises: &[Fis]) -> Result<(), Mis
         × Posts at fises.now talk (result_err result) }
 {
     for fis in fises {
-        if !store(memory, u64::from(at) + offset_of(fis), fis) {
+        if !store(memory, u64::from(at) + received_offset(fis) as u64, fis) {
             return Err(Miss::Fis);
         }
     }

@@ -2,21 +2,14 @@
 
 ghost use Rattle.std.specs.Prelude.{◌≡◌, ◌≤◌, ◌<◌, ◌+◌, ◌*◌, ◌-◌, ◌^◌, List, length, true};
 ghost use Rattle.host_memory.specs.Access.{Access, Accessed};
-ghost use Rattle.host_memory.specs.Memory.{command_table_of, header_of, header_by, carries_command, data_at, data_len, descriptors_of, Gathers, brought_as};
+ghost use Rattle.slots.specs.Table.{is_command};
+ghost use Rattle.host_memory.specs.Memory.{command_table_of, header_of, header_by, data_at, data_len, descriptors_of, Gathers, brought_as};
 
 use crate::hba_memory::miss::Miss;
 use crate::{HostMemory, read_array, read_at};
 use byteorder::{ByteOrder, LittleEndian};
-use fis::{H2D_LENGTH, H2D_TYPE};
-
-/// How many bytes a command header has (AHCI 1.3.1, 4.2.2).
-pub const HEADER: usize = 32;
-
-/// How many bytes a descriptor has (AHCI 1.3.1, 4.2.3.3).
-pub(crate) const DESCRIPTOR: usize = 16;
-
-/// Where the descriptors stand in a command table (AHCI 1.3.1, 4.2.3).
-const DESCRIPTORS: u64 = 0x80;
+use fis::H2D_LENGTH;
+use slots::fields::{self, DESCRIPTOR, DESCRIPTORS, HEADER};
 
 /// What a command header names: where the command table stands, and how many descriptors it has.
 #[derive(Clone, Copy, Debug, PartialEq, Eq)]
@@ -31,31 +24,29 @@ impl Header {
         ensures value { result ≡ descriptors_of self }
         ensures near { result < 2 ^ 33 }
     {
-        u64::from(self.table) + DESCRIPTORS
+        u64::from(self.table) + DESCRIPTORS as u64
     }
 }
 
 /// Whether the bytes of a FIS are a command.
 pub fn is_command(fis: &[u8; H2D_LENGTH]) -> bool
-    ensures { result ≡ carries_command fis.now }
+    ensures { result ≡ is_command fis.now }
 {
-    fis[0] == H2D_TYPE && fis[1] >= 0x80
+    fields::is_command(fis)
 }
 
 /// What the bytes of a header name.
 fn header_of(bytes: &[u8; HEADER]) -> Result<Header, Miss>
     ensures { result ≡ header_of bytes.now }
 {
-    let words = bytes[0] % 32;
-    let upper = LittleEndian::read_u32(&bytes[12..]);
-    if words < 2 || 16 < words || upper != 0 {
+    let words = fields::fis_words(bytes);
+    if words < 2 || 16 < words || fields::table_upper(bytes) != 0 {
         return Err(Miss::Table);
     }
-    let table = LittleEndian::read_u32(&bytes[8..]);
-    let entries = LittleEndian::read_u16(&bytes[2..]);
+    let table = fields::table_at(bytes);
     Ok(Header {
         table: table - table % 128,
-        entries,
+        entries: fields::entries(bytes),
     })
 }
 
@@ -77,12 +68,13 @@ pub(crate) fn data_at(entry: &[u8; DESCRIPTOR]) -> u64
     at - at % 2
 }
 
-/// How many bytes DBC names.
+/// How many bytes DBC names. Its bit 0 is always 1, since an even count less one is odd: where a host leaves it 0, the
+/// byte behind is counted too (AHCI 1.3.1, 4.2.3.3).
 pub(crate) fn data_len(entry: &[u8; DESCRIPTOR]) -> usize
     ensures value { result ≡ data_len entry.now }
     ensures small { result ≤ 2 ^ 22 }
 {
-    let count = (LittleEndian::read_u32(&entry[12..]) % 0x40_0000) as usize + 1;
+    let count = fields::byte_count(entry) as usize;
     2 * (count / 2) + 2 * (count % 2)
 }
 

@@ -1,47 +1,24 @@
 //! Bytes as text.
 
-ghost use Rattle.std.specs.Prelude.{◌≡◌, ◌⊎◌, IfOk, Some, None, string_bytes};
+ghost use Rattle.std.specs.Prelude.{◌≡◌, Some, None};
 ghost use Rattle.library_calls.specs.Copies.{IsWrittenOut};
-ghost use Rattle.tcg_tokens.specs.Message.{message};
-ghost use Rattle.library_calls.specs.Told.{item_said, tokens_said, kind_numbered, DecodedAs};
+ghost use Rattle.library_calls.specs.Told.{kind_numbered, DecodedAs};
+ghost use Rattle.tcg_calls.specs.TokenTexts.{token_text};
 
 use crate::byte_calls::copied::copy_text;
 use crate::byte_calls::count::Count;
 use crate::byte_calls::error::CallError;
 use decoded::{Kind, check, lines};
-use std::alloc::{AllocError, Global};
-use tcg_calls::named_tokens::named_item_text;
-use tcg_tokens::{Item, TokenError, fault_text, item_text, read_item};
-
-/// The text of an item, with the names of objects, methods and columns or with their numbers.
-fn item_said(alloc: Global, by_name: bool, item: &Item) -> Result<String, AllocError>
-    ensures { IfOk result (λ text. string_bytes text ≡ item_said by_name (message item.now)) }
-{
-    if by_name {
-        named_item_text(alloc, item)
-    } else {
-        item_text(alloc, item)
-    }
-}
-
-/// The text of the item that bytes spell, or `malformed N NAME`.
-fn tokens_said(alloc: Global, by_name: bool, bytes: &[u8]) -> Result<String, AllocError>
-    ensures { IfOk result (λ text. string_bytes text ≡ tokens_said by_name bytes.now) }
-{
-    match read_item(alloc, bytes) {
-        Ok(item) => item_said(alloc, by_name, &item),
-        Err(TokenError::OutOfMemory) => Err(AllocError),
-        Err(fault) => fault_text(alloc, fault),
-    }
-}
+use std::alloc::Global;
+use tcg_calls::named_tokens::{Naming, token_text};
 
 /// Copies the text of the item that a token stream spells, or of what is wrong with it, `malformed N NAME`: with the
 /// names that the standards give to objects, methods and columns, or with their numbers. It is what `opalport tokens`
 /// prints, without the end of the line.
-pub fn tokens_out(alloc: Global, by_name: bool, bytes: &[u8], into: &mut [u8]) -> Count
-    ensures { IsWrittenOut (tokens_said by_name bytes.now) into.old into.new result }
+pub fn tokens_out(alloc: Global, naming: Naming, bytes: &[u8], into: &mut [u8]) -> Count
+    ensures { IsWrittenOut (token_text naming bytes.now) into.old into.new result }
 {
-    let text = tokens_said(alloc, by_name, bytes);
+    let text = token_text(alloc, naming, bytes);
     copy_text(text.map(String::into_bytes), into)
 }
 

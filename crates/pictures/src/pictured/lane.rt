@@ -1,8 +1,9 @@
 //! What a row of the picture tells of.
 
-ghost use Rattle.std.specs.Prelude.{◌≡◌, ◌++◌, IfOk, OnOk, decimal};
-ghost use Rattle.pictures.specs.Looks.{lane_at, lane_word, lane_number, lane_digits, lane_name, lane_paint};
+ghost use Rattle.std.specs.Prelude.{◌≡◌, IfOk};
+ghost use Rattle.pictures.specs.Looks.{lane_at, lane_word, lane_number, lane_name, lane_paint};
 
+use crate::samples::numbered_name;
 use basics::Bytes;
 use drawing::Paint;
 use sp_cells::Sp;
@@ -77,25 +78,12 @@ fn lane_number(lane: Lane) -> Option<u8>
     }
 }
 
-/// Appends a number in decimal, where there is one.
-fn append_number(alloc: Global, text: &mut Vec<u8>, number: Option<u8>) -> Result<(), AllocError>
-    ensures { OnOk result (text.new.items ≡ text.old.items ++ lane_digits number) }
-{
-    if let Some(number) = number {
-        let digits = number.to_string(alloc)?;
-        text.extend_from_slice(digits.as_bytes())?;
-    }
-    Ok(())
-}
-
 /// The name of a lane.
 pub(crate) fn lane_name(alloc: Global, lane: Lane) -> Result<Bytes, AllocError>
     ensures { IfOk result (λ name. name ≡ lane_name lane) }
 {
-    let mut text = Vec::new(alloc);
-    text.extend_from_slice(lane_word(lane))?;
-    append_number(alloc, &mut text, lane_number(lane))?;
-    Ok(Bytes::from_vec(text))
+    let name = numbered_name(alloc, lane_word(lane), lane_number(lane))?;
+    Ok(Bytes::from_vec(name))
 }
 
 /// The colour of what a lane shows, where it is the same for all of it.

@@ -1,10 +1,9 @@
 //! Which locks of a range are in force.
 
 ghost use Rattle.std.specs.Prelude.{◌≡◌, ◌==◌};
-ghost use Rattle.locking.specs.Ranges.{is_shadow_up};
 ghost use Rattle.sp_cells.specs.Ranges.{of_range};
 
-use sp_cells::{Column, Rows, Sp, Uid, number_at};
+use sp_cells::{Column, Rows, number_of_range};
 
 /// Which locks of a range are in force: they are enabled and set (Opal SSC 2.01, 4.3.5.2).
 #[derive(Clone, Copy, Debug, PartialEq, Eq)]
@@ -19,7 +18,7 @@ pub struct Locks {
 fn is_set<R: Rows>(rows: &R, range: u8, column: Column) -> bool
     ensures { result ≡ (of_range (R.look_up rows.now) range column == 1) }
 {
-    number_at(rows, Sp::Locking, Uid::range(range), column) == 1
+    number_of_range(rows, range, column) == 1
 }
 
 impl Locks {
@@ -37,13 +36,4 @@ impl Locks {
                 && is_set(rows, range, Column::WRITE_LOCKED),
         }
     }
-}
-
-/// Whether the shadow MBR is up: it is enabled, and not done (Opal SSC 2.01, 4.3.5.3).
-pub(crate) fn is_shadow_up<R: Rows>(rows: &R) -> bool
-    ensures { result ≡ is_shadow_up (R.look_up rows.now) }
-{
-    let enabled = number_at(rows, Sp::Locking, Uid::MBR_CONTROL, Column::MBR_ENABLE);
-    let done = number_at(rows, Sp::Locking, Uid::MBR_CONTROL, Column::MBR_DONE);
-    enabled == 1 && done == 0
 }

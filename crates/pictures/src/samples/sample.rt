@@ -14,10 +14,11 @@ ghost use Rattle.pictures.specs.Lists.{values_below};
 ghost use Rattle.pictures.specs.Samples.{locks_by};
 
 use crate::samples::calls::Calls;
-use crate::samples::locks::{Locks, is_shadow_up};
+use crate::samples::locks::Locks;
 use crate::samples::registers::Registers;
 use drive::Drive;
 use fis::{SLOT_COUNT, Tag};
+use locking::is_shadow_up;
 use port::{Port, Stage};
 use sp_cells::{RANGES, Rows, Sp};
 use std::alloc::{AllocError, Global};

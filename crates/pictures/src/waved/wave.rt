@@ -1,9 +1,9 @@
 //! A signal of a dump.
 
-ghost use Rattle.std.specs.Prelude.{◌≡◌, ◌++◌, IfOk, OnOk, option_copied};
-ghost use Rattle.pictures.specs.Waves.{wave_at, wave_word, wave_number, wave_digits, wave_name, wave_bits, flag_value, stage_value, locks_value, held_value, register_value, port_value, wave_value};
+ghost use Rattle.std.specs.Prelude.{◌≡◌, IfOk, option_copied};
+ghost use Rattle.pictures.specs.Waves.{wave_at, wave_word, wave_number, wave_name, wave_bits, flag_value, stage_value, locks_value, held_value, register_value, port_value, wave_value};
 
-use crate::samples::{Locks, Registers, Sample};
+use crate::samples::{Locks, Registers, Sample, numbered_name};
 use port::Stage;
 use sp_cells::Sp;
 use std::alloc::{AllocError, Global};
@@ -105,25 +105,11 @@ fn wave_number(wave: Wave) -> Option<u8>
     }
 }
 
-/// Appends a number in decimal, where there is one.
-fn append_number(alloc: Global, text: &mut Vec<u8>, number: Option<u8>) -> Result<(), AllocError>
-    ensures { OnOk result (text.new.items ≡ text.old.items ++ wave_digits number) }
-{
-    if let Some(number) = number {
-        let digits = number.to_string(alloc)?;
-        text.extend_from_slice(digits.as_bytes())?;
-    }
-    Ok(())
-}
-
 /// The name of a signal.
 pub(crate) fn wave_name(alloc: Global, wave: Wave) -> Result<Vec<u8>, AllocError>
     ensures { IfOk result (λ name. name.items ≡ wave_name wave) }
 {
-    let mut name = Vec::new(alloc);
-    name.extend_from_slice(wave_word(wave))?;
-    append_number(alloc, &mut name, wave_number(wave))?;
-    Ok(name)
+    numbered_name(alloc, wave_word(wave), wave_number(wave))
 }
 
 /// How many bits a signal has.

@@ -1,12 +1,12 @@
 //! What the denial of a transfer rests on (Opal SSC 2.01, 4.3.5.2 and 4.3.5.3).
 
 ghost use Rattle.std.specs.Prelude.{◌≡◌};
-ghost use Rattle.locking.specs.Ranges.{is_shadow_up};
 ghost use Rattle.reasons.specs.Conditions.{conditions_of};
 
 use arrayvec::ArrayVec;
 use audit::Why;
-use sp_cells::{Column, RANGES, Rows, Sp, Uid, number_at};
+use locking::is_shadow_up;
+use sp_cells::{Column, RANGES, Rows, number_of_range};
 
 /// A column of a locking range that says what is locked.
 #[derive(Clone, Copy, Debug, PartialEq, Eq)]
@@ -43,15 +43,6 @@ impl Flag {
     }
 }
 
-/// Whether the shadow MBR is up.
-fn is_shadow_up<R: Rows>(rows: &R) -> bool
-    ensures { result ≡ is_shadow_up (R.look_up rows.now) }
-{
-    let enabled = number_at(rows, Sp::Locking, Uid::MBR_CONTROL, Column::MBR_ENABLE);
-    let done = number_at(rows, Sp::Locking, Uid::MBR_CONTROL, Column::MBR_DONE);
-    enabled == 1 && done == 0
-}
-
 impl Condition {
     ghost use Rattle.reasons.specs.Conditions.{is_in_force, has_range};
 
@@ -60,9 +51,7 @@ impl Condition {
         ensures { result ≡ is_in_force (R.look_up rows.now) self }
     {
         match self {
-            Condition::Lock { range, flag } => {
-                number_at(rows, Sp::Locking, Uid::range(range), flag.column()) == 1
-            }
+            Condition::Lock { range, flag } => { number_of_range(rows, range, flag.column()) == 1 }
             Condition::Shadow => is_shadow_up(rows),
         }
     }

@@ -8,17 +8,9 @@ ghost use Rattle.reasons.specs.Reasons.{worded_number, set_cell_text, not_done_t
 use crate::explained::condition::Condition;
 use crate::explained::onset::{Cause, Onset, Source};
 use crate::remedies::{append_column_name, append_object_name};
+use basics::append_decimal;
 use sp_cells::{Column, Uid};
 use std::alloc::{AllocError, Global};
-
-/// Appends a number in decimal.
-fn append_decimal(alloc: Global, text: &mut Vec<u8>, number: u64) -> Result<(), AllocError>
-    ensures { OnOk result (text.new.items ≡ text.old.items ++ decimal number) }
-{
-    let digits = number.to_string(alloc)?;
-    text.extend_from_slice(digits.as_bytes())?;
-    Ok(())
-}
 
 /// Appends words, and a number in decimal behind them.
 #[tactic(auto, unfolding(crate::specs::Reasons::worded_number))]

@@ -4,6 +4,7 @@ ghost use Rattle.std.specs.Prelude.{◌≡◌, ◌++◌, OnOk, decimal};
 ghost use Rattle.audit.specs.Names.{uid_text};
 ghost use Rattle.reasons.specs.Called.{called_object, called_column};
 
+use basics::{append_decimal, append_hex};
 use sp_cells::{Column, Uid};
 use std::alloc::{AllocError, Global};
 use tcg_calls::tcg_names::{column_name, object_name};
@@ -19,7 +20,7 @@ pub fn append_object_name(alloc: Global, text: &mut Vec<u8>, object: Uid) -> Res
 {
     match object_name(alloc, object)? {
         Some(name) => text.extend_from_slice(name.as_bytes())?,
-        None => append_hex(alloc, text, object)?,
+        None => append_hex(text, &object.0.to_be_bytes())?,
     }
     Ok(())
 }
@@ -42,27 +43,5 @@ pub fn append_column_name(
         Some(name) => text.extend_from_slice(name.as_bytes())?,
         None => append_decimal(alloc, text, column.0)?,
     }
-    Ok(())
-}
-
-/// Appends a UID as sixteen hex digits.
-fn append_hex(alloc: Global, text: &mut Vec<u8>, uid: Uid) -> Result<(), AllocError>
-    ensures { OnOk result (text.new.items ≡ text.old.items ++ uid_text uid) }
-{
-    let digits = hex::encode(alloc, uid.0.to_be_bytes())?;
-    text.extend_from_slice(digits.as_bytes())?;
-    Ok(())
-}
-
-/// Appends a number in decimal.
-pub(crate) fn append_decimal(
-    alloc: Global,
-    text: &mut Vec<u8>,
-    number: u64,
-) -> Result<(), AllocError>
-    ensures { OnOk result (text.new.items ≡ text.old.items ++ decimal number) }
-{
-    let digits = number.to_string(alloc)?;
-    text.extend_from_slice(digits.as_bytes())?;
     Ok(())
 }

@@ -3,9 +3,10 @@
 ghost use Rattle.std.specs.Prelude.{◌≡◌, ◌++◌, OnOk, IfOk};
 ghost use Rattle.reasons.specs.Remedies.{set_words, set_text, sp_object, revert_words, revert_text, unlocking_text, unshadowing_text, attempt_remedy, lifting_text, remedy_text};
 
-use crate::remedies::called::{append_column_name, append_decimal, append_object_name};
+use crate::remedies::called::{append_column_name, append_object_name};
 use crate::remedies::ways::{aces_for, append_ways};
 use audit::{AttemptFailure, Why};
+use basics::append_decimal;
 use sp_cells::{Column, Rows, Sp, Uid};
 use std::alloc::{AllocError, Global};
 

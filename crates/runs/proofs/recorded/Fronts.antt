@@ -9,7 +9,7 @@ use Rattle.script_lines.specs.declared.fault.LineFault.{LineFault}
 use Rattle.tool.specs.Scripts.{ScriptLine, bare, lines_from, lines_of_text, with_numbers, script_lines, is_skipped, without_remarks, TakesLine}
 use Rattle.tool.specs.Courses.{PhaseRunsOn, PhaseStands, start}
 use Rattle.tool.specs.Openings.{origin_of, base_of, row_said, OpensBy}
-use Rattle.tool.specs.declared.ending.Fault.TheVariants as faults
+use Rattle.drive_scripts.specs.declared.turn.Fault.TheVariants as faults
 use Rattle.tool.specs.declared.head.Head.{Head}
 use Rattle.tool.specs.declared.phase.Phase.{Phase}
 use Rattle.tool.specs.declared.opening.OpeningPhase.{OpeningPhase}

@@ -10,10 +10,10 @@ use Rattle.script_lines.specs.declared.report.Report.{Report}
 use Rattle.tool.specs.Scripts.{ScriptLine, bare, lines_from, lines_of_text, with_numbers, script_lines, is_skipped, without_remarks, TakesLine}
 use Rattle.tool.specs.Courses.{Course, Advance, Advances, PhaseRunsOn, course_step}
 use Rattle.tool.specs.Progress.{HandsOn, Steps, step_or_skip}
-use Rattle.tool.specs.declared.ending.Fault.{Fault}
+use Rattle.drive_scripts.specs.declared.turn.Fault.{Fault}
 use Rattle.tool.specs.declared.phase.Phase.{Phase}
-use Rattle.tool.specs.declared.running.Turn.{Turn}
-use Rattle.tool.specs.declared.running.Turn.TheVariants as turns
+use Rattle.drive_scripts.specs.declared.turn.Turn.{Turn}
+use Rattle.drive_scripts.specs.declared.turn.Turn.TheVariants as turns
 use Rattle.tool.proofs.Texts.{taken}
 use Rattle.tool.specs.Outcomes.{printed_by}
 use Rattle.runs.specs.Frames.{frame_by, frame_where, frame_behind}

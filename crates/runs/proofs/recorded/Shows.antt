@@ -5,14 +5,15 @@ use Rattle.history.specs.Opening.{Origin}
 use Rattle.drive.specs.State.{Agrees}
 use Rattle.reasons.specs.Onsets.{bare_acts}
 use Rattle.pictures.specs.Samples.{Sample, drive_sample}
-use Rattle.tool.specs.Courses.{Course, OnDrive, OnPort, ExplainedDrive, ExplainedPort, DriveRunsOn}
-use Rattle.tool.specs.declared.drive_phase.DrivePhase.{DrivePhase}
+use Rattle.drive_scripts.specs.DriveCourses.{OnDrive, ExplainedDrive}
+use Rattle.drive_scripts.specs.declared.drive_phase.DrivePhase.{DrivePhase}
+use Rattle.tool.specs.Courses.{Course, DriveScript, PortScript, PhaseRunsOn}
+use Rattle.tool.specs.declared.phase.Phase.TheVariants as phases
 use Rattle.runs.specs.Frames.{sample_on}
 
-pub drive-shows : (drive : DrivePhase) (o : Origin) (course : Course) (sample : Sample)
+pub drive-samples : (drive : DrivePhase) (o : Origin) (course : Course) (sample : Sample)
     → ((o : Origin) (acts : List Act) → Agrees drive.run.drive o acts → sample ≡ drive_sample o acts)
-    → DriveRunsOn drive o course → sample ≡ sample_on o course
-drive-shows drive o (OnDrive acts) sample shows runs = shows o acts runs.0.0
-drive-shows drive o (OnPort list) sample shows runs = absurd runs
-drive-shows drive o (ExplainedDrive past) sample shows runs = shows o (bare_acts past) runs.0.0
-drive-shows drive o (ExplainedPort list) sample shows runs = absurd runs
+    → PhaseRunsOn (phases.Drive drive) o course → sample ≡ sample_on o course
+drive-samples drive o (DriveScript (OnDrive acts)) sample shows runs = shows o acts runs.0.0
+drive-samples drive o (DriveScript (ExplainedDrive past)) sample shows runs = shows o (bare_acts past) runs.0.0
+drive-samples drive o (PortScript course) sample shows runs = absurd runs

@@ -17,7 +17,7 @@ use crate::explored::search::Search;
 use crate::explored::telling::findings_text;
 use crate::explored::words::is_letter;
 use basics::Bytes;
-use script_lines::{Line, PortLine, is_port_line};
+use script_lines::{Line, PortLine, is_port_line, write_whole};
 use std::alloc::{AllocError, Global};
 use std::io;
 use std::io::{ErrorKind, Read, Write};
@@ -39,14 +39,6 @@ fn whole_text<R: Read + Drop>(alloc: Global, input: R) -> Result<Vec<u8>, RunErr
     let mut text = Vec::new(alloc);
     input.read_to_end(&mut text).map_err(reading_error)?;
     Ok(text)
-}
-
-/// Writes a text, and has the writer pass it on.
-fn write_whole<W: Write>(output: &mut W, text: &[u8]) -> Result<(), RunError>
-    ensures { OnOk result (Appends (W.contents output.old) (W.contents output.new) text.now) }
-{
-    output.write_all(text).map_err(|_| RunError::Write)?;
-    output.flush().map_err(|_| RunError::Write)
 }
 
 /// Why a line of a port script can be no letter.
@@ -165,7 +157,7 @@ fn tell_findings<W: Write>(
         (W.contents output.old) (W.contents output.new)) }
 {
     let text = findings_text(alloc, findings)?;
-    write_whole(output, &text)?;
+    write_whole(output, &text).map_err(|_| RunError::Write)?;
     if findings.kinds.as_slice().is_empty() && !find.is_empty() {
         return Ok(1);
     }

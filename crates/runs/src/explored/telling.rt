@@ -1,22 +1,14 @@
 //! What is told of what was found.
 
-ghost use Rattle.std.specs.Prelude.{◌≡◌, ◌++◌, decimal, IfOk, OnOk};
+ghost use Rattle.std.specs.Prelude.{◌≡◌, ◌++◌, IfOk, OnOk};
 ghost use Rattle.std.specs.List.{flat_map};
 ghost use Rattle.runs.specs.Tellings.{count_line, list_lines, kind_lines_told, findings_text};
 
 use crate::explored::findings::Findings;
 use crate::explored::kinds::Kind;
 use crate::explored::lines::Lines;
+use basics::append_decimal;
 use std::alloc::{AllocError, Global};
-
-/// Appends a number in decimal.
-fn append_decimal(alloc: Global, text: &mut Vec<u8>, number: u64) -> Result<(), AllocError>
-    ensures { OnOk result (text.new.items ≡ text.old.items ++ decimal number) }
-{
-    let digits = number.to_string(alloc)?;
-    text.extend_from_slice(digits.as_bytes())?;
-    Ok(())
-}
 
 /// Appends a line of a word and a number.
 fn append_count(

@@ -13,6 +13,7 @@ use basics::Bytes;
 use drawing::svg_of;
 use pictures::pictured::{MOST_FRAMES, picture_of};
 use pictures::samples::Frame;
+use script_lines::write_whole;
 use std::alloc::{AllocError, Global};
 use std::io;
 use std::io::{Read, Write};
@@ -37,14 +38,6 @@ fn drawn(alloc: Global, frames: &[Frame]) -> Result<Vec<u8>, RecordError>
     let picture = picture_of(alloc, title(alloc)?, frames)?;
     let text = svg_of(alloc, &picture)?;
     Ok(text)
-}
-
-/// Writes a text, and has the writer pass it on.
-fn write_whole<W: Write>(output: &mut W, text: &[u8]) -> Result<(), RunError>
-    ensures { OnOk result (Appends (W.contents output.old) (W.contents output.new) text.now) }
-{
-    output.write_all(text).map_err(|_| RunError::Write)?;
-    output.flush().map_err(|_| RunError::Write)
 }
 
 /// Runs the script that a reader gives, writes the picture of the run to `output`, and the fault that ended it to
@@ -75,6 +68,6 @@ pub fn draw_script<R: Read + Drop, W: Write, E: Write>(
         false,
     )?;
     let text = drawn(alloc, &frames.frames)?;
-    write_whole(output, &text)?;
+    write_whole(output, &text).map_err(|_| RunError::Write)?;
     Ok(status)
 }

@@ -11,6 +11,7 @@ use crate::recorded::recorder::Recorder;
 use crate::recorded::script::record_script;
 use pictures::samples::{Frame, Sample};
 use pictures::waved::append_frame;
+use script_lines::write_whole;
 use std::alloc::{AllocError, Global};
 use std::io;
 use std::io::{Read, Write};
@@ -27,14 +28,6 @@ pub struct Dump<D> {
     shown: Option<Sample>,
     pending: Vec<u8>,
     out: D,
-}
-
-/// Writes bytes, and has the writer pass them on.
-fn write_whole<D: Write>(out: &mut D, bytes: &[u8]) -> io::Result<()>
-    ensures { OnOk result (Appends (D.contents out.old) (D.contents out.new) bytes.now) }
-{
-    out.write_all(bytes)?;
-    out.flush()
 }
 
 impl<D: Write + Drop> Dump<D> {

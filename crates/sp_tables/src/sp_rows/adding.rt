@@ -4,9 +4,8 @@ ghost use Rattle.std.specs.Prelude.{◌≡◌, ◌+◌, ◌<◌, ◌≤◌, ◌^
 ghost use Rattle.std.specs.List.{flat_map};
 ghost use Rattle.sp_cells.specs.declared.cells.Element.TheVariants as elements;
 ghost use Rattle.sp_tables.specs.Items.{row_items, rows_from};
-ghost use Rattle.sp_tables.specs.Runs.{run_items};
 ghost use Rattle.sp_tables.specs.Columns.{authority_columns, c_pin_columns, ace_columns};
-ghost use Rattle.sp_tables.specs.Factory.{HasRows, AddsRows, new_group, new_member, new_pin, ace_row};
+ghost use Rattle.sp_tables.specs.Factory.{AddsRows, new_group, new_member, new_pin, ace_row};
 ghost use Rattle.sp_cells.specs.Names.{none};
 
 use crate::sp_rows::new_rows::{ace, group, member, only, pin, push_row};

@@ -1,273 +1,303 @@
-//! The rows that come in families: of Admins, Users and numbered ranges.
+//! The authorities of a new drive with their PINs, and its ranges with their keys: those that have a number.
 
-ghost use Rattle.std.specs.Prelude.{◌≡◌, ◌+◌, ◌<◌, ◌≤◌, ◌^◌, [], ◌∷◌, ◌++◌, IfOk, OnOk, Ok, string_bytes};
-ghost use Rattle.sp_cells.specs.Names.{admin_base, user_base, admin_pin_base, user_pin_base, range_base, user_ace_base, range_get_ace_base, gen_key_ace_base, read_locked_ace_base, write_locked_ace_base};
-ghost use Rattle.sp_tables.specs.Items.{rows_from};
-ghost use Rattle.sp_tables.specs.Columns.{authority_columns, c_pin_columns, locking_columns, ace_columns, range_key_columns};
-ghost use Rattle.sp_tables.specs.Factory.{family, IsFamily, IsFamilyOf, admin_authority, user_authority, admin_pin, user_pin, numbered_range, range_key, user_ace, range_get_ace, gen_key_ace, read_locked_ace, write_locked_ace};
+ghost use Rattle.std.specs.Prelude.{◌≡◌, ◌+◌, ◌++◌, ◌==◌, if◌then◌else◌};
+ghost use Rattle.std.specs.List.{flat_map};
+ghost use Rattle.basics.specs.declared.profile.Profile.{Profile};
+ghost use Rattle.sp_tables.specs.Factory.{in_field, admin_authorities, label_authorities, locking_authorities, locking_pins};
+ghost use Rattle.sp_tables.specs.Entries.{entry_items, authority_items, pin_items};
 
-use crate::sp_rows::new_rows::{
-    ace, either, member, only, pin, push_row, range, range_key as key_row,
-};
-use crate::sp_rows::{AceRow, AuthorityRow, CPinRow, LockingRow, RangeKeyRow, Row};
+use crate::sp_rows::adding::{push_group, push_member};
+use crate::sp_rows::entries::{Adds, Entry, Numbered, push_family};
+use crate::sp_rows::new_rows::{member, pin, range, range_key};
+use crate::sp_rows::{AuthorityRow, CPinRow, LockingRow, RangeKeyRow, Run};
+use basics::Profile;
 use sp_cells::limits::NEW_TRY_LIMIT;
-use sp_cells::{ADMINS, Column, RANGES, USERS, Uid};
+use sp_cells::names::tables;
+use sp_cells::{ADMINS, USERS, Uid};
 use std::alloc::{AllocError, Global};
 
-/// The rows of the numbers 1 to `count`.
-fn numbered<R: Row + Drop, F: Fn(Global, u8) -> Result<R, AllocError>>(
-    alloc: Global,
-    count: u8,
-    row: F,
-) -> Result<Vec<R>, AllocError>
-    requires { F.IsAlwaysCallable row }
-    ensures { IfOk result
-        (λ rows. IsFamilyOf R.held (λ n r. F.post row alloc n (Ok r)) count rows.items) }
-{
-    let mut rows = Vec::with_capacity(alloc, usize::from(count))?;
-    for i in 0..count {
-        push_row(&mut rows, row(alloc, i + 1)?)?;
+/// The names of authorities begin here.
+const AUTHORITIES: u64 = tables::AUTHORITY << 32;
+
+/// The names of C_PIN rows begin here.
+const PINS: u64 = tables::C_PIN << 32;
+
+/// Anybody, or a class.
+pub(crate) struct Group {
+    pub(crate) object: Uid,
+    pub(crate) name: &'static str,
+    pub(crate) is_class: u64,
+}
+
+/// An authority that is of no class, enabled, and signs in with a PIN.
+pub(crate) struct Member {
+    pub(crate) object: Uid,
+    pub(crate) name: &'static str,
+    pub(crate) credential: Uid,
+}
+
+/// Authorities of a class that have a number: in what their names end where it is 0, as those of their PINs do; the
+/// text of the Name cell that it stands behind; their class; whether the first is enabled, as no other is; how many
+/// they are.
+pub(crate) struct AuthorityFamily {
+    pub(crate) number: u32,
+    pub(crate) name: &'static str,
+    pub(crate) class: Uid,
+    pub(crate) first_enabled: u64,
+    pub(crate) count: u8,
+}
+
+/// The authorities of an entry.
+pub(crate) enum Authorities {
+    Group(Group),
+    Member(Member),
+    Each(AuthorityFamily),
+}
+
+impl AuthorityFamily {
+    /// The Enabled cell of a number.
+    fn enabled(&self, n: u8) -> u64
+        ensures { result ≡ (if n == 1 then self.now.first_enabled else 0) }
+    {
+        if n == 1 { self.first_enabled } else { 0 }
     }
-    Ok(rows)
 }
 
-/// An Admin; the first alone is enabled.
-fn admin_row(alloc: Global, n: u8) -> Result<AuthorityRow, AllocError>
-    ensures { IfOk result (λ r. authority_columns r ≡ admin_authority n) }
-{
-    let name = format!(in alloc; "Admin{n}")?;
-    let enabled = if n == 1 { 1 } else { 0 };
-    Ok(member(
-        alloc,
-        Uid::admin(n),
-        name,
-        Uid::ADMINS,
-        enabled,
-        Uid::pin_of_admin(n),
-    ))
+impl Numbered<AuthorityRow> for AuthorityFamily {
+    ghost use Rattle.sp_tables.specs.Entries.{row_base, member_authority};
+    ghost use Rattle.sp_cells.specs.Names.{authority_table};
+
+    ghost base = { λ it. row_base authority_table + it.number };
+
+    ghost values = { member_authority };
+
+    fn first(&self) -> Uid {
+        Uid(AUTHORITIES + u64::from(self.number) + 1)
+    }
+
+    fn row(&self, alloc: Global, n: u8) -> Result<AuthorityRow, AllocError> {
+        let name = format!(in alloc; "{}{n}", self.name)?;
+        Ok(member(
+            alloc,
+            Uid(AUTHORITIES + u64::from(self.number) + u64::from(n)),
+            name,
+            self.class,
+            self.enabled(n),
+            Uid(PINS + u64::from(self.number) + u64::from(n)),
+        ))
+    }
 }
 
-/// All of them, by number.
-pub fn admin_rows(alloc: Global) -> Result<Vec<AuthorityRow>, AllocError>
-    ensures { IfOk result
-        (λ rows. IsFamily authority_columns admin_base admin_authority ADMINS rows.items) }
-{
-    let rows = numbered(alloc, ADMINS, admin_row)?;
-    Ok(rows)
+impl Adds<AuthorityRow> for Authorities {
+    ghost use Rattle.sp_tables.specs.Entries.{authority_items};
+
+    ghost items = { authority_items };
+
+    fn add(&self, alloc: Global, runs: &mut Vec<Run<AuthorityRow>>) -> Result<(), AllocError> {
+        match self {
+            Authorities::Group(it) => push_group(alloc, runs, it.object, it.name, it.is_class)?,
+            Authorities::Member(it) => push_member(alloc, runs, it.object, it.name, it.credential)?,
+            Authorities::Each(members) => push_family(alloc, runs, members, members.count)?,
+        }
+        Ok(())
+    }
 }
 
-/// A User, who is not enabled.
-fn user_row(alloc: Global, n: u8) -> Result<AuthorityRow, AllocError>
-    ensures { IfOk result (λ r. authority_columns r ≡ user_authority n) }
-{
-    let name = format!(in alloc; "User{n}")?;
-    Ok(member(
-        alloc,
-        Uid::user(n),
-        name,
-        Uid::USERS,
-        0,
-        Uid::pin_of_user(n),
-    ))
+/// The empty PINs of authorities that have a number.
+pub(crate) struct PinFamily {
+    pub(crate) number: u32,
+    pub(crate) name: &'static str,
+    pub(crate) count: u8,
 }
 
-/// All of them, by number.
-pub fn user_rows(alloc: Global) -> Result<Vec<AuthorityRow>, AllocError>
-    ensures { IfOk result
-        (λ rows. IsFamily authority_columns user_base user_authority USERS rows.items) }
-{
-    let rows = numbered(alloc, USERS, user_row)?;
-    Ok(rows)
+impl Numbered<CPinRow> for PinFamily {
+    ghost use Rattle.sp_tables.specs.Entries.{row_base, member_pin};
+    ghost use Rattle.sp_cells.specs.Names.{c_pin_table};
+
+    ghost base = { λ it. row_base c_pin_table + it.number };
+
+    ghost values = { member_pin };
+
+    fn first(&self) -> Uid {
+        Uid(PINS + u64::from(self.number) + 1)
+    }
+
+    fn row(&self, alloc: Global, n: u8) -> Result<CPinRow, AllocError> {
+        let name = format!(in alloc; "{}{n}", self.name)?;
+        let object = Uid(PINS + u64::from(self.number) + u64::from(n));
+        let row = pin(alloc, object, name, &[], NEW_TRY_LIMIT)?;
+        Ok(row)
+    }
 }
 
-/// The empty PIN of an Admin.
-fn admin_pin_row(alloc: Global, n: u8) -> Result<CPinRow, AllocError>
-    ensures { IfOk result (λ r. c_pin_columns r ≡ admin_pin n) }
-{
-    let name = format!(in alloc; "C_PIN_Admin{n}")?;
-    let row = pin(alloc, Uid::pin_of_admin(n), name, &[], NEW_TRY_LIMIT)?;
-    Ok(row)
+impl Adds<CPinRow> for PinFamily {
+    ghost use Rattle.sp_tables.specs.Entries.{pin_items};
+
+    ghost items = { pin_items };
+
+    fn add(&self, alloc: Global, runs: &mut Vec<Run<CPinRow>>) -> Result<(), AllocError> {
+        push_family(alloc, runs, self, self.count)?;
+        Ok(())
+    }
 }
 
-/// All of them, by number.
-pub fn admin_pin_rows(alloc: Global) -> Result<Vec<CPinRow>, AllocError>
-    ensures { IfOk result
-        (λ rows. IsFamily c_pin_columns admin_pin_base admin_pin ADMINS rows.items) }
-{
-    let rows = numbered(alloc, ADMINS, admin_pin_row)?;
-    Ok(rows)
+/// The numbered ranges.
+pub(crate) struct Ranges;
+
+impl Numbered<LockingRow> for Ranges {
+    ghost use Rattle.sp_cells.specs.Names.{range_base};
+    ghost use Rattle.sp_tables.specs.Factory.{numbered_range};
+
+    ghost base = { λ it. range_base };
+
+    ghost values = { λ it. numbered_range };
+
+    fn first(&self) -> Uid {
+        Uid::range(1)
+    }
+
+    fn row(&self, alloc: Global, n: u8) -> Result<LockingRow, AllocError> {
+        let name = format!(in alloc; "Locking_Range{n}")?;
+        Ok(range(alloc, Uid::range(n), name))
+    }
 }
 
-/// The empty PIN of a User.
-fn user_pin_row(alloc: Global, n: u8) -> Result<CPinRow, AllocError>
-    ensures { IfOk result (λ r. c_pin_columns r ≡ user_pin n) }
-{
-    let name = format!(in alloc; "C_PIN_User{n}")?;
-    let row = pin(alloc, Uid::pin_of_user(n), name, &[], NEW_TRY_LIMIT)?;
-    Ok(row)
+/// Their keys.
+pub(crate) struct RangeKeys;
+
+impl Numbered<RangeKeyRow> for RangeKeys {
+    ghost use Rattle.sp_cells.specs.Names.{range_base};
+    ghost use Rattle.sp_tables.specs.Factory.{range_key};
+
+    ghost base = { λ it. range_base };
+
+    ghost values = { λ it. range_key };
+
+    fn first(&self) -> Uid {
+        Uid::range(1)
+    }
+
+    fn row(&self, _alloc: Global, n: u8) -> Result<RangeKeyRow, AllocError> {
+        Ok(range_key(Uid::key(n)))
+    }
 }
 
-/// All of them, by number.
-pub fn user_pin_rows(alloc: Global) -> Result<Vec<CPinRow>, AllocError>
-    ensures { IfOk result (λ rows. IsFamily c_pin_columns user_pin_base user_pin USERS rows.items) }
-{
-    let rows = numbered(alloc, USERS, user_pin_row)?;
-    Ok(rows)
-}
-
-/// A numbered range.
-fn range_row(alloc: Global, n: u8) -> Result<LockingRow, AllocError>
-    ensures { IfOk result (λ r. locking_columns r ≡ numbered_range n) }
-{
-    let name = format!(in alloc; "Locking_Range{n}")?;
-    Ok(range(alloc, Uid::range(n), name))
-}
-
-/// All of them, by number.
-pub fn range_rows(alloc: Global) -> Result<Vec<LockingRow>, AllocError>
-    ensures { IfOk result
-        (λ rows. IsFamily locking_columns range_base numbered_range RANGES rows.items) }
-{
-    let rows = numbered(alloc, RANGES, range_row)?;
-    Ok(rows)
-}
-
-/// The key of a numbered range.
-fn range_key_row(_alloc: Global, n: u8) -> Result<RangeKeyRow, AllocError>
-    ensures { IfOk result (λ r. range_key_columns r ≡ range_key n) }
-{
-    Ok(key_row(Uid::key(n)))
-}
-
-/// All of them, by number.
-pub fn range_key_rows(alloc: Global) -> Result<Vec<RangeKeyRow>, AllocError>
-    ensures { IfOk result
-        (λ rows. IsFamily range_key_columns range_base range_key RANGES rows.items) }
-{
-    let rows = numbered(alloc, RANGES, range_key_row)?;
-    Ok(rows)
-}
-
-/// The columns of a range that its own ACE lets read.
-const BUT_NAMES: [Column; 8] = [
-    Column::RANGE_START,
-    Column::RANGE_LENGTH,
-    Column::READ_LOCK_ENABLED,
-    Column::WRITE_LOCK_ENABLED,
-    Column::READ_LOCKED,
-    Column::WRITE_LOCKED,
-    Column::LOCK_ON_RESET,
-    Column::ACTIVE_KEY,
+/// The authorities of the Admin SP.
+static ADMIN_AUTHORITIES: [Entry<Authorities>; 3] = [
+    Entry {
+        profile: None,
+        rows: Authorities::Group(Group {
+            object: Uid::ANYBODY,
+            name: "Anybody",
+            is_class: 0,
+        }),
+    },
+    Entry {
+        profile: None,
+        rows: Authorities::Member(Member {
+            object: Uid::SID,
+            name: "SID",
+            credential: Uid::C_PIN_SID,
+        }),
+    },
+    Entry {
+        profile: Some(Profile::Field),
+        rows: Authorities::Member(Member {
+            object: Uid::PSID,
+            name: "PSID",
+            credential: Uid::C_PIN_PSID,
+        }),
+    },
 ];
 
-/// Who may read a range.
-pub fn range_get_ace_row(alloc: Global, n: u8) -> Result<AceRow, AllocError>
-    ensures { IfOk result (λ r. ace_columns r ≡ range_get_ace n) }
+/// The authorities of the Locking SP.
+static LOCKING_AUTHORITIES: [Entry<Authorities>; 5] = [
+    Entry {
+        profile: None,
+        rows: Authorities::Group(Group {
+            object: Uid::ANYBODY,
+            name: "Anybody",
+            is_class: 0,
+        }),
+    },
+    Entry {
+        profile: None,
+        rows: Authorities::Group(Group {
+            object: Uid::ADMINS,
+            name: "Admins",
+            is_class: 1,
+        }),
+    },
+    Entry {
+        profile: None,
+        rows: Authorities::Each(AuthorityFamily {
+            number: 0x1_0000,
+            name: "Admin",
+            class: Uid::ADMINS,
+            first_enabled: 1,
+            count: ADMINS,
+        }),
+    },
+    Entry {
+        profile: None,
+        rows: Authorities::Group(Group {
+            object: Uid::USERS,
+            name: "Users",
+            is_class: 1,
+        }),
+    },
+    Entry {
+        profile: None,
+        rows: Authorities::Each(AuthorityFamily {
+            number: 0x3_0000,
+            name: "User",
+            class: Uid::USERS,
+            first_enabled: 0,
+            count: USERS,
+        }),
+    },
+];
+
+/// The PINs of the Locking SP.
+static LOCKING_PINS: [Entry<PinFamily>; 2] = [
+    Entry {
+        profile: None,
+        rows: PinFamily {
+            number: 0x1_0000,
+            name: "C_PIN_Admin",
+            count: ADMINS,
+        },
+    },
+    Entry {
+        profile: None,
+        rows: PinFamily {
+            number: 0x3_0000,
+            name: "C_PIN_User",
+            count: USERS,
+        },
+    },
+];
+
+/// The authorities of the Admin SP.
+pub(crate) fn admin_authority_entries() -> &'static [Entry<Authorities>]
+    ensures { (p : Profile) → flat_map (entry_items authority_items p) result.now
+        ≡ admin_authorities ++ in_field p label_authorities }
 {
-    let name = format!(in alloc; "Range_{n}_Get")?;
-    let expr = only(alloc, Uid::ADMINS)?;
-    let row = ace(alloc, Uid::ace_range_get(n), name, expr, &BUT_NAMES)?;
-    Ok(row)
+    &ADMIN_AUTHORITIES
 }
 
-/// All of them, by number.
-pub fn range_get_ace_rows(alloc: Global) -> Result<Vec<AceRow>, AllocError>
-    ensures { IfOk result
-        (λ rows. IsFamily ace_columns range_get_ace_base range_get_ace RANGES rows.items) }
+/// The authorities of the Locking SP.
+pub(crate) fn locking_authority_entries() -> &'static [Entry<Authorities>]
+    ensures { (p : Profile) → flat_map (entry_items authority_items p) result.now
+        ≡ locking_authorities }
 {
-    let rows = numbered(alloc, RANGES, range_get_ace_row)?;
-    Ok(rows)
+    &LOCKING_AUTHORITIES
 }
 
-/// Who may make a new key for a range.
-pub fn gen_key_ace_row(alloc: Global, n: u8) -> Result<AceRow, AllocError>
-    ensures { IfOk result (λ r. ace_columns r ≡ gen_key_ace n) }
+/// The PINs of the Locking SP.
+pub(crate) fn locking_pin_entries() -> &'static [Entry<PinFamily>]
+    ensures { (p : Profile) → flat_map (entry_items pin_items p) result.now
+        ≡ locking_pins }
 {
-    let name = format!(in alloc; "K_AES_256_Range_{n}_GenKey")?;
-    let expr = only(alloc, Uid::ADMINS)?;
-    let row = ace(alloc, Uid::ace_key_gen_key(n), name, expr, &[])?;
-    Ok(row)
-}
-
-/// All of them, by number.
-pub fn gen_key_ace_rows(alloc: Global) -> Result<Vec<AceRow>, AllocError>
-    ensures { IfOk result
-        (λ rows. IsFamily ace_columns gen_key_ace_base gen_key_ace RANGES rows.items) }
-{
-    let rows = numbered(alloc, RANGES, gen_key_ace_row)?;
-    Ok(rows)
-}
-
-/// Who may set a User's PIN.
-fn user_ace_row(alloc: Global, n: u8) -> Result<AceRow, AllocError>
-    ensures { IfOk result (λ r. ace_columns r ≡ user_ace n) }
-{
-    let name = format!(in alloc; "C_PIN_User{n}_Set_PIN")?;
-    let expr = either(alloc, Uid::ADMINS, Uid::user(n))?;
-    let row = ace(
-        alloc,
-        Uid::ace_c_pin_user_set_pin(n),
-        name,
-        expr,
-        &[Column::PIN],
-    )?;
-    Ok(row)
-}
-
-/// All of them, by number.
-pub fn user_ace_rows(alloc: Global) -> Result<Vec<AceRow>, AllocError>
-    ensures { IfOk result (λ rows. IsFamily ace_columns user_ace_base user_ace USERS rows.items) }
-{
-    let rows = numbered(alloc, USERS, user_ace_row)?;
-    Ok(rows)
-}
-
-/// Who may set a range's ReadLocked flag.
-pub fn read_locked_ace_row(alloc: Global, n: u8) -> Result<AceRow, AllocError>
-    ensures { IfOk result (λ r. ace_columns r ≡ read_locked_ace n) }
-{
-    let name = format!(in alloc; "Range_{n}_Set_RdLocked")?;
-    let expr = only(alloc, Uid::ADMINS)?;
-    let row = ace(
-        alloc,
-        Uid::ace_range_set_read_locked(n),
-        name,
-        expr,
-        &[Column::READ_LOCKED],
-    )?;
-    Ok(row)
-}
-
-/// All of them, by number.
-pub fn read_locked_ace_rows(alloc: Global) -> Result<Vec<AceRow>, AllocError>
-    ensures { IfOk result
-        (λ rows. IsFamily ace_columns read_locked_ace_base read_locked_ace RANGES rows.items) }
-{
-    let rows = numbered(alloc, RANGES, read_locked_ace_row)?;
-    Ok(rows)
-}
-
-/// Who may set a range's WriteLocked flag.
-pub fn write_locked_ace_row(alloc: Global, n: u8) -> Result<AceRow, AllocError>
-    ensures { IfOk result (λ r. ace_columns r ≡ write_locked_ace n) }
-{
-    let name = format!(in alloc; "Range_{n}_Set_WrLocked")?;
-    let expr = only(alloc, Uid::ADMINS)?;
-    let row = ace(
-        alloc,
-        Uid::ace_range_set_write_locked(n),
-        name,
-        expr,
-        &[Column::WRITE_LOCKED],
-    )?;
-    Ok(row)
-}
-
-/// All of them, by number.
-pub fn write_locked_ace_rows(alloc: Global) -> Result<Vec<AceRow>, AllocError>
-    ensures { IfOk result
-        (λ rows. IsFamily ace_columns write_locked_ace_base write_locked_ace RANGES rows.items) }
-{
-    let rows = numbered(alloc, RANGES, write_locked_ace_row)?;
-    Ok(rows)
+    &LOCKING_PINS
 }

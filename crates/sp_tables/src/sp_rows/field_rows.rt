@@ -3,61 +3,19 @@
 ghost use Rattle.std.specs.Prelude.{◌≡◌, ◌+◌, ◌<◌, ◌≤◌, ◌^◌, [], ◌∷◌, ◌++◌, IfOk, OnOk, string_bytes, map, codes};
 ghost use Rattle.std.specs.List.{flat_map};
 ghost use Rattle.sp_cells.specs.Limits.{most_mbr_sectors};
-ghost use Rattle.sp_cells.specs.Names.{admins_class, ace_locking_get_all, range_base, range_get_ace_base, ace_range_get, gen_key_ace_base, ace_key_gen_key};
-ghost use Rattle.sp_tables.specs.Items.{row_items, rows_from};
-ghost use Rattle.sp_tables.specs.Runs.{run_items};
-ghost use Rattle.sp_tables.specs.Columns.{authority_columns, c_pin_columns, ace_columns, range_key_columns, locking_info_columns, table_columns, data_removal_columns};
-ghost use Rattle.sp_tables.specs.Factory.{HasRows, AddsRows, in_field, ace_row, bounds, locks, family, label_authorities, label_pins, label_aces, range_get_aces, gen_key_aces, new_byte_table, range_get_ace, gen_key_ace, range_keys, locking_infos, byte_tables, datastore_aces, removal_aces, data_removals};
+ghost use Rattle.sp_tables.specs.Items.{row_items};
+ghost use Rattle.sp_tables.specs.Columns.{c_pin_columns, range_key_columns, locking_info_columns, table_columns, data_removal_columns};
+ghost use Rattle.sp_tables.specs.Factory.{HasRows, AddsRows, in_field, label_pins, new_byte_table, range_keys, locking_infos, byte_tables, data_removals};
 
-use crate::sp_rows::adding::{push_ace, push_member, push_one, push_pin, push_run};
-use crate::sp_rows::families::{
-    gen_key_ace_row, gen_key_ace_rows, range_get_ace_row, range_get_ace_rows, range_key_rows,
-};
+use crate::sp_rows::adding::{push_one, push_pin};
+use crate::sp_rows::entries::push_family;
+use crate::sp_rows::families::RangeKeys;
 use crate::sp_rows::new_rows::{byte_table, data_removal, locking_info, range_key};
-use crate::sp_rows::{
-    AceRow, AuthorityRow, CPinRow, DataRemovalRow, LockingInfoRow, RangeKeyRow, Run, TableRow,
-};
+use crate::sp_rows::{CPinRow, DataRemovalRow, LockingInfoRow, RangeKeyRow, Run, TableRow};
 use basics::Profile;
 use sp_cells::limits::NEW_TRY_LIMIT;
-use sp_cells::{ByteTable, Column, RANGES, TableSizes, Uid};
+use sp_cells::{ByteTable, RANGES, TableSizes, Uid};
 use std::alloc::{AllocError, Global};
-
-/// The columns of a C_PIN row but for its names and the PIN.
-const BUT_PIN: [Column; 5] = [
-    Column::UID,
-    Column::CHAR_SET,
-    Column::TRY_LIMIT,
-    Column::TRIES,
-    Column::PERSISTENCE,
-];
-
-/// The columns that place a range and lock it.
-const PLACE_AND_LOCKS: [Column; 7] = [
-    Column::RANGE_START,
-    Column::RANGE_LENGTH,
-    Column::READ_LOCK_ENABLED,
-    Column::WRITE_LOCK_ENABLED,
-    Column::READ_LOCKED,
-    Column::WRITE_LOCKED,
-    Column::LOCK_ON_RESET,
-];
-
-/// Adds the authority of the label.
-#[tactic(auto, using(crate::proofs::sp_rows::FamilyLemmas::pushing), unfolding(crate::specs::Factory::label_authorities))]
-pub(crate) fn push_label_authority(
-    alloc: Global,
-    profile: Profile,
-    runs: &mut Vec<Run<AuthorityRow>>,
-) -> Result<(), AllocError>
-    ensures { OnOk result (AddsRows authority_columns runs.old.items runs.new.items
-        (in_field profile label_authorities)) }
-{
-    if profile == Profile::Base {
-        return Ok(());
-    }
-    push_member(alloc, runs, Uid::PSID, "PSID", Uid::C_PIN_PSID)?;
-    Ok(())
-}
 
 /// Adds the PIN of the label.
 #[tactic(auto, using(crate::proofs::sp_rows::FamilyLemmas::pushing), unfolding(crate::specs::Factory::label_pins))]
@@ -84,122 +42,6 @@ pub(crate) fn push_label_pin(
     Ok(())
 }
 
-/// Adds the ACEs of the label.
-#[tactic(auto, using(crate::proofs::sp_rows::FamilyLemmas::pushing), unfolding(crate::specs::Factory::label_aces))]
-fn push_both_label_aces(alloc: Global, runs: &mut Vec<Run<AceRow>>) -> Result<(), AllocError>
-    ensures { OnOk result (AddsRows ace_columns runs.old.items runs.new.items label_aces) }
-{
-    push_ace(
-        alloc,
-        runs,
-        Uid::ACE_C_PIN_GET_PSID_NOPIN,
-        "C_PIN_Get_PSID_NOPIN",
-        Uid::ANYBODY,
-        &BUT_PIN,
-    )?;
-    push_ace(alloc, runs, Uid::ACE_SP_PSID, "SP_PSID", Uid::PSID, &[])?;
-    Ok(())
-}
-
-/// Adds them, where the profile has them.
-#[tactic(auto, using(crate::proofs::sp_rows::FamilyLemmas::pushing))]
-pub(crate) fn push_label_aces(
-    alloc: Global,
-    profile: Profile,
-    runs: &mut Vec<Run<AceRow>>,
-) -> Result<(), AllocError>
-    ensures { OnOk result (AddsRows ace_columns runs.old.items runs.new.items
-        (in_field profile label_aces)) }
-{
-    if profile == Profile::Field {
-        push_both_label_aces(alloc, runs)?;
-    }
-    Ok(())
-}
-
-/// Adds the ACE that lets ranges be read.
-fn push_range_get(alloc: Global, runs: &mut Vec<Run<AceRow>>) -> Result<(), AllocError>
-    ensures { OnOk result (AddsRows ace_columns runs.old.items runs.new.items
-        (ace_row ace_locking_get_all (codes "Locking_Get") admins_class (bounds ++ locks))) }
-{
-    push_ace(
-        alloc,
-        runs,
-        Uid::ACE_LOCKING_GET_ALL,
-        "Locking_Get",
-        Uid::ADMINS,
-        &PLACE_AND_LOCKS,
-    )?;
-    Ok(())
-}
-
-/// Adds the ACE that lets each range be read.
-#[tactic(auto, using(crate::proofs::sp_rows::FamilyLemmas::pushing))]
-fn push_each_range_get(alloc: Global, runs: &mut Vec<Run<AceRow>>) -> Result<(), AllocError>
-    ensures { OnOk result (AddsRows ace_columns runs.old.items runs.new.items
-        (row_items (ace_range_get 0) (range_get_ace 0)
-        ++ family range_get_ace_base range_get_ace RANGES)) }
-{
-    push_one(
-        alloc,
-        runs,
-        Uid::ace_range_get(0),
-        range_get_ace_row(alloc, 0)?,
-    )?;
-    push_run(runs, Uid::ace_range_get(1), range_get_ace_rows(alloc)?)?;
-    Ok(())
-}
-
-/// Adds the ACEs that let ranges be read: one for all, or one for each.
-#[tactic(auto, unfolding(crate::specs::Factory::range_get_aces))]
-pub(crate) fn push_range_get_aces(
-    alloc: Global,
-    profile: Profile,
-    runs: &mut Vec<Run<AceRow>>,
-) -> Result<(), AllocError>
-    ensures { OnOk result (AddsRows ace_columns runs.old.items runs.new.items
-        (range_get_aces profile)) }
-{
-    match profile {
-        Profile::Base => push_range_get(alloc, runs)?,
-        Profile::Field => push_each_range_get(alloc, runs)?,
-    }
-    Ok(())
-}
-
-/// Adds the ACE that lets the key of each range be made.
-#[tactic(auto, using(crate::proofs::sp_rows::FamilyLemmas::pushing))]
-fn push_each_gen_key(alloc: Global, runs: &mut Vec<Run<AceRow>>) -> Result<(), AllocError>
-    ensures { OnOk result (AddsRows ace_columns runs.old.items runs.new.items
-        (row_items (ace_key_gen_key 0) (gen_key_ace 0)
-        ++ family gen_key_ace_base gen_key_ace RANGES)) }
-{
-    push_one(
-        alloc,
-        runs,
-        Uid::ace_key_gen_key(0),
-        gen_key_ace_row(alloc, 0)?,
-    )?;
-    push_run(runs, Uid::ace_key_gen_key(1), gen_key_ace_rows(alloc)?)?;
-    Ok(())
-}
-
-/// Adds the ACEs that let keys be made.
-#[tactic(auto, using(crate::proofs::sp_rows::FamilyLemmas::pushing), unfolding(crate::specs::Factory::gen_key_aces))]
-pub(crate) fn push_gen_key_aces(
-    alloc: Global,
-    profile: Profile,
-    runs: &mut Vec<Run<AceRow>>,
-) -> Result<(), AllocError>
-    ensures { OnOk result (AddsRows ace_columns runs.old.items runs.new.items
-        (in_field profile gen_key_aces)) }
-{
-    if profile == Profile::Field {
-        push_each_gen_key(alloc, runs)?;
-    }
-    Ok(())
-}
-
 /// The keys of the ranges.
 #[tactic(auto, unfolding(crate::specs::Factory::range_keys))]
 pub(crate) fn range_keys_made(
@@ -212,7 +54,7 @@ pub(crate) fn range_keys_made(
     let mut runs = Vec::new(alloc);
     if profile == Profile::Field {
         push_one(alloc, &mut runs, Uid::range(0), range_key(Uid::key(0)))?;
-        push_run(&mut runs, Uid::range(1), range_key_rows(alloc)?)?;
+        push_family(alloc, &mut runs, &RangeKeys, RANGES)?;
     }
     Ok(runs)
 }
@@ -276,77 +118,6 @@ pub(crate) fn byte_tables_made(
         )?;
     }
     Ok(runs)
-}
-
-/// Adds the ACEs of DataStore.
-#[tactic(auto, using(crate::proofs::sp_rows::FamilyLemmas::pushing), unfolding(crate::specs::Factory::datastore_aces))]
-fn push_both_datastore_aces(alloc: Global, runs: &mut Vec<Run<AceRow>>) -> Result<(), AllocError>
-    ensures { OnOk result (AddsRows ace_columns runs.old.items runs.new.items datastore_aces) }
-{
-    push_ace(
-        alloc,
-        runs,
-        Uid::ACE_DATASTORE_GET_ALL,
-        "DataStore_Get_All",
-        Uid::ADMINS,
-        &[],
-    )?;
-    push_ace(
-        alloc,
-        runs,
-        Uid::ACE_DATASTORE_SET_ALL,
-        "DataStore_Set_All",
-        Uid::ADMINS,
-        &[],
-    )?;
-    Ok(())
-}
-
-/// Adds them, where the profile has them.
-#[tactic(auto, using(crate::proofs::sp_rows::FamilyLemmas::pushing))]
-pub(crate) fn push_datastore_aces(
-    alloc: Global,
-    profile: Profile,
-    runs: &mut Vec<Run<AceRow>>,
-) -> Result<(), AllocError>
-    ensures { OnOk result (AddsRows ace_columns runs.old.items runs.new.items
-        (in_field profile datastore_aces)) }
-{
-    if profile == Profile::Field {
-        push_both_datastore_aces(alloc, runs)?;
-    }
-    Ok(())
-}
-
-/// Adds the ACE that lets choose how the drive removes data.
-fn push_the_removal_ace(alloc: Global, runs: &mut Vec<Run<AceRow>>) -> Result<(), AllocError>
-    ensures { OnOk result (AddsRows ace_columns runs.old.items runs.new.items removal_aces) }
-{
-    push_ace(
-        alloc,
-        runs,
-        Uid::ACE_DATA_REMOVAL_SET_ACTIVE,
-        "DataRemovalMechanism_Set_Active",
-        Uid::SID,
-        &[Column::ACTIVE_DATA_REMOVAL_MECHANISM],
-    )?;
-    Ok(())
-}
-
-/// Adds it, where the profile has it.
-#[tactic(auto, using(crate::proofs::sp_rows::FamilyLemmas::pushing))]
-pub(crate) fn push_removal_ace(
-    alloc: Global,
-    profile: Profile,
-    runs: &mut Vec<Run<AceRow>>,
-) -> Result<(), AllocError>
-    ensures { OnOk result (AddsRows ace_columns runs.old.items runs.new.items
-        (in_field profile removal_aces)) }
-{
-    if profile == Profile::Field {
-        push_the_removal_ace(alloc, runs)?;
-    }
-    Ok(())
 }
 
 /// How the drive removes data.

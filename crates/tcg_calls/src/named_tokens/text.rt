@@ -1,7 +1,6 @@
 //! Values and items as text, with names.
 
 ghost use Rattle.std.specs.Prelude.{◌≡◌, ◌++◌, string_bytes, OnOk, IfOk, MatchOption, Some, None, codes, if◌then◌else◌, option_map};
-ghost use Rattle.hex.specs.Hex.{encode_lower};
 ghost use Rattle.tcg_tokens.specs.Message.{message};
 ghost use Rattle.tcg_tokens.specs.Text.{status_text};
 ghost use Rattle.tcg_tokens.specs.Tree.{tree, trees, list};
@@ -13,7 +12,7 @@ use crate::tcg_names::object_name;
 use sp_cells::Uid;
 use std::alloc::{AllocError, Global};
 use std::fmt::Write;
-use tcg_tokens::{Call, Item, Value, item_text};
+use tcg_tokens::{Call, Item, Value, item_text, show_hex, show_status};
 
 /// The text of an item, with the names of objects, methods and columns: `call C_PIN_MSID Get
 /// [[{startColumn=PIN} {endColumn=PIN}]] 0 0 0`. It is otherwise that of [`tcg_tokens::item_text`].
@@ -39,16 +38,6 @@ fn name_of_bytes(alloc: Global, content: &[u8]) -> Result<Option<String>, AllocE
         Ok(octets) => object_name(alloc, Uid::from_bytes(octets)),
         Err(_) => Ok(None),
     }
-}
-
-/// Bytes as hex, behind the text.
-fn show_hex(alloc: Global, content: &[u8], text: &mut String) -> Result<(), AllocError>
-    ensures { OnOk result
-        (string_bytes text.new ≡ string_bytes text.old ++ encode_lower content.now) }
-{
-    let digits = hex::encode(alloc, content)?;
-    text.push_str(digits.as_str())?;
-    Ok(())
 }
 
 /// An object or a method by its name, or as its eight bytes, behind the text.
@@ -165,17 +154,6 @@ fn show_list(
         is_first = false;
     }
     text.push_str("]")?;
-    Ok(())
-}
-
-/// The numbers of a status behind the text.
-fn show_status(status: &[u64], text: &mut String) -> Result<(), AllocError>
-    ensures { OnOk result
-        (string_bytes text.new ≡ string_bytes text.old ++ status_text status.now) }
-{
-    for number in status {
-        write!(text, " {number}")?;
-    }
     Ok(())
 }
 

@@ -2,14 +2,14 @@ use Rattle.std.proofs.Common.{subst, sym}
 use Rattle.std.proofs.lemmas.Result.{IfOk-weaker}
 use Rattle.drive.specs.State.{Agrees}
 use Rattle.tool.specs.Courses.{PhaseRunsOn}
-use Rattle.runs.proofs.recorded.Shows.{drive-shows}
+use Rattle.runs.proofs.recorded.Shows.{drive-samples}
 use Rattle.runs.proofs.recorded.look.sample_of.Goals as goal
 
 pub returns-in-Drive : goal.returns-in-Drive
 returns-in-Drive c =
     IfOk-weaker c.of_drive.result _ _
     (λ sample shows. λ o course runs.
-    drive-shows c.in-Drive.drive o course sample
+    drive-samples c.in-Drive.drive o course sample
     (λ o acts agrees. shows o acts (subst (λ d. Agrees d o acts) (sym c.drive.ensures) agrees))
     (subst (λ phase. PhaseRunsOn phase o course) c.in-Drive.is runs))
     c.of_drive.ensures

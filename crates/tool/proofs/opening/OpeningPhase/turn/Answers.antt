@@ -1,5 +1,5 @@
 use Rattle.std.proofs.lemmas.Result.{IfOk-weaker}
-use Rattle.tool.proofs.Runs.{opened-stands}
+use Rattle.tool.proofs.Opened.{opened-stands}
 use Rattle.tool.proofs.opening.OpeningPhase.turn.Goals as goal
 
 pub returns-in-Ok-clause-stands : goal.returns-in-Ok-clause-stands

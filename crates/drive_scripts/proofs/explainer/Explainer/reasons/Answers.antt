@@ -1,0 +1,23 @@
+use Rattle.std.proofs.Common.{◌∙◌, subst, sym, ap}
+use Rattle.basics.specs.declared.profile.Profile.{Profile}
+use Rattle.sp_cells.specs.Config.{Config}
+use Rattle.sp_cells.specs.Flat.{LookUp}
+use Rattle.transactions.specs.Sights.{Sight, look_up}
+use Rattle.reasons.specs.declared.explained.condition.Condition.{Condition}
+use Rattle.reasons.specs.Onsets.{held_since, holds_after}
+use Rattle.reasons.specs.Chronicles.{KeptOnsets, Recounts}
+use Rattle.reasons.specs.Reasons.{explanation_text}
+use Rattle.drive_scripts.specs.Explanations.{denial_text}
+use Rattle.drive_scripts.proofs.explainer.Explainer.reasons.Goals as goal
+
+pub returns : goal.returns
+returns c = λ o past acts agrees kept.
+    let was = subst (λ (k : KeptOnsets). Recounts k o past) (sym c.self.view_is) kept in
+    let onset = λ (c : Condition). held_since (holds_after o c) past in
+    let why = c.in-Some.why in
+    c.in_ok-text.ensures o past was
+    ∙ ap (λ (p : Profile). explanation_text onset p (look_up c.in_force.result) why)
+    (ap (λ (s : Sight). s.config.profile) c.in_force.ensures.stands ∙ ap (λ (k : Config). k.profile) agrees.tper.store.config)
+    ∙ ap (λ (rows : LookUp). explanation_text onset o.tables.config.profile rows why)
+    (c.in_force.ensures.told o acts agrees)
+    ∙ ap (λ denied. denial_text o past acts denied c.args.answer.now.rule) (sym c.in-Some.is)

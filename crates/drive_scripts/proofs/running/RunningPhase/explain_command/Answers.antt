@@ -1,0 +1,23 @@
+use Rattle.std.proofs.Common.{ap, sym, ◌∙◌, ◌++◌}
+use Rattle.reasons.specs.Onsets.{bare_acts}
+use Rattle.drive_scripts.specs.Explanations.{once_served}
+use Rattle.drive_scripts.proofs.Added.{bare_command, reasons_of_command}
+use Rattle.drive_scripts.proofs.running.RunningPhase.explain_command.Goals as goal
+
+pub returns : goal.returns
+returns c = λ o past acts runs answered kept.
+    let run = c.args.self.now in record {
+      bare = bare_command c.args.source run.completed answered.fis run.payload.items answered.tag answered.bytes
+          past acts answered.acts;
+      recounts = c.note_command.ensures o past acts answered.fis answered.tag answered.bytes
+          (answered.acts
+          ∙ ap
+          (λ payload. once_served run.completed answered.fis payload answered.tag answered.bytes (bare_acts past))
+          (sym c.deref.ensures.value))
+          runs.0 kept;
+      pending = c.in_ok-explain.ensures.pending o past acts runs.0 kept
+          ∙ ap (λ text. c.args.report.now.pending.items ++ text)
+          (reasons_of_command o run.completed answered.fis run.payload.items answered.tag answered.bytes past acts
+          run.answer.denied run.answer.rule answered.acts answered.denied answered.rule);
+      last = c.explain.ensures.last;
+    }

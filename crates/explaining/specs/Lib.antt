@@ -1,3 +1,0 @@
-pub mod Sources
-pub mod Explanations
-pub mod PortReasons

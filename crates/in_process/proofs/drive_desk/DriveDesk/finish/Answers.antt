@@ -1,5 +1,0 @@
-use Rattle.in_process.proofs.Handed.{refused_call}
-use Rattle.in_process.proofs.drive_desk.DriveDesk.finish.Goals as goal
-
-pub returns-in-Err : goal.returns-in-Err
-returns-in-Err c = refused_call _ _ _ _ c.in-Err.error _ c.refused.ensures c.in-Err.ensures.err c.in-Err.ensures.fault

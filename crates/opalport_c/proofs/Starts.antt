@@ -1,0 +1,20 @@
+-- A controller and a port start from what their drive starts from.
+use Rattle.std.proofs.Common.{List}
+use Rattle.sp_cells.specs.Config.{Config}
+use Rattle.locking.specs.declared.range.RangeRow.{RangeRow}
+use Rattle.history.specs.Opening.{Origin}
+use Rattle.drive.specs.State.{DriveState, Agrees}
+use Rattle.hba.specs.History.{State, AgreesHba}
+use Rattle.port.specs.Agreement.{PortAgrees}
+use Rattle.port.specs.State.{PortState}
+use Rattle.opalport_c.specs.Asked.{StartsAs}
+use Rattle.opalport_c.specs.HbaCalls.{HbaStartsAs}
+use Rattle.opalport_c.specs.PortCalls.{PortStartsAs}
+
+pub hba_starts : (config : Config) (rows : List RangeRow) (drive : DriveState) (hba : State)
+    → ((o : Origin) → Agrees drive o [] → AgreesHba hba o []) → StartsAs config rows drive → HbaStartsAs config rows hba
+hba_starts config rows drive hba agrees starts = (starts.0, starts.1, agrees starts.0 starts.2)
+
+pub port_starts : (config : Config) (rows : List RangeRow) (drive : DriveState) (port : PortState)
+    → ((o : Origin) → Agrees drive o [] → PortAgrees port o []) → StartsAs config rows drive → PortStartsAs config rows port
+port_starts config rows drive port agrees starts = (starts.0, starts.1, agrees starts.0 starts.2)

@@ -1,0 +1,3 @@
+pub mod PortReasons
+pub mod PortEffects
+pub mod PortCourses

@@ -1,0 +1,216 @@
+//! What is told of a step of a port that is refused, or whose command is.
+
+ghost use Rattle.std.specs.Prelude.{◌≡◌, ◌<◌, ◌++◌, Some, List, IfSome, IfOk, OnOk, option_map};
+ghost use Rattle.fis.specs.Tags.{slot_count};
+ghost use Rattle.history.specs.Opening.{Origin};
+ghost use Rattle.port.specs.Agreement.{PortAgrees};
+ghost use Rattle.port_history.specs.Refusals.{refusal};
+ghost use Rattle.port_history.specs.Steps.{trace};
+ghost use Rattle.port_history.specs.declared.step.Step.{Step as StepOf};
+ghost use Rattle.port_scripts.specs.PortReasons.{slot_of, step_refusal_text, accepted_now, error_words, stage_words, labelled_number, put_text, slot_text, slot_refusal_text, port_refusal_text, acceptance_text};
+
+use audit::Why;
+use audit::rules::Rule;
+use basics::append_decimal;
+use drive_scripts::ruling;
+use fis::{SLOT_COUNT, Tag};
+use port::Port;
+use port_history::{PortError, Put, Stage, Step};
+use reasons::remedies::remedy_bytes;
+use sp_cells::Rows;
+use std::alloc::{AllocError, Global};
+
+/// An error of a port in words.
+fn words_of(error: PortError) -> &'static [u8]
+    ensures { result.now ≡ error_words error }
+{
+    match error {
+        PortError::SlotBusy => b"the slot is not free",
+        PortError::NotPrepared => b"the slot has no prepared command",
+        PortError::Queue => b"queued and unqueued commands would mix",
+        PortError::NotIssued => b"the slot has no issued command",
+        PortError::NotAccepted => b"the slot has no accepted command",
+        PortError::NotFailed => b"the port has not failed",
+        PortError::Failed => b"the port has failed, and waits for recover or reset",
+        PortError::NotAnswered => b"the slot has no answer",
+        PortError::NotYours => b"the answer is another client's",
+        PortError::Size => b"no sector, too many, or data of another size",
+        PortError::HistoryFull => b"the history has no room for another step",
+        PortError::OutOfMemory => b"no memory",
+    }
+}
+
+/// How far the command of a slot has come, in a word.
+fn stage_word(stage: Stage) -> &'static [u8]
+    ensures { result.now ≡ stage_words stage }
+{
+    match stage {
+        Stage::Free => b"free",
+        Stage::Prepared(_) => b"prepared",
+        Stage::Issued(_) => b"issued",
+        Stage::Accepted(_) => b"accepted",
+        Stage::Answered(_) => b"answered",
+    }
+}
+
+/// Appends words, and a number in decimal behind them.
+#[tactic(auto, unfolding(crate::specs::PortReasons::labelled_number))]
+fn append_number(
+    alloc: Global,
+    text: &mut Vec<u8>,
+    words: &[u8],
+    number: u64,
+) -> Result<(), AllocError>
+    ensures { OnOk result (text.new.items ≡ text.old.items ++ labelled_number words.now number) }
+{
+    text.extend_from_slice(words)?;
+    append_decimal(alloc, text, number)?;
+    Ok(())
+}
+
+/// Appends who put a command, and in which step.
+#[tactic(auto, unfolding(crate::specs::PortReasons::put_text))]
+fn append_put(alloc: Global, text: &mut Vec<u8>, put: Option<Put>) -> Result<(), AllocError>
+    ensures { OnOk result (text.new.items ≡ text.old.items ++ put_text put) }
+{
+    if let Some(put) = put {
+        append_number(alloc, text, b", put by client ", u64::from(put.client))?;
+        append_number(alloc, text, b" in step ", put.number)?;
+    }
+    Ok(())
+}
+
+/// Appends how far the command of a slot has come, and who put it there.
+#[tactic(auto, unfolding(crate::specs::PortReasons::slot_text))]
+fn append_slot(alloc: Global, text: &mut Vec<u8>, tag: Tag, stage: Stage) -> Result<(), AllocError>
+    ensures { OnOk result (text.new.items ≡ text.old.items ++ slot_text tag stage) }
+{
+    append_number(alloc, text, b": slot ", u64::from(tag.number()))?;
+    text.extend_from_slice(b" is ")?;
+    text.extend_from_slice(stage_word(stage))?;
+    append_put(alloc, text, stage.put())?;
+    Ok(())
+}
+
+/// Why a step was refused that names a slot, in a line with its line feed.
+///
+/// # Errors
+///
+/// Want of memory.
+#[tactic(auto, unfolding(crate::specs::PortReasons::slot_refusal_text))]
+pub fn slot_refusal(
+    alloc: Global,
+    error: PortError,
+    tag: Tag,
+    stage: Stage,
+) -> Result<Vec<u8>, AllocError>
+    ensures { IfOk result (λ text. text.items ≡ slot_refusal_text error tag stage) }
+{
+    let mut text = Vec::new(alloc);
+    text.extend_from_slice(b"because ")?;
+    text.extend_from_slice(words_of(error))?;
+    append_slot(alloc, &mut text, tag, stage)?;
+    text.extend_from_slice(b"\n")?;
+    Ok(text)
+}
+
+/// Why a step was refused that names no slot, in a line with its line feed.
+///
+/// # Errors
+///
+/// Want of memory.
+#[tactic(auto, unfolding(crate::specs::PortReasons::port_refusal_text))]
+pub fn port_refusal(alloc: Global, error: PortError) -> Result<Vec<u8>, AllocError>
+    ensures { IfOk result (λ text. text.items ≡ port_refusal_text error) }
+{
+    let mut text = Vec::new(alloc);
+    text.extend_from_slice(b"because ")?;
+    text.extend_from_slice(words_of(error))?;
+    text.extend_from_slice(b"\n")?;
+    Ok(text)
+}
+
+/// What is told of an accepted command, in a line with its line feed: what lifts its denial, by the rows in force, or
+/// else the rule that refused it; nothing where neither did.
+///
+/// # Errors
+///
+/// Want of memory.
+#[tactic(auto, unfolding(crate::specs::PortReasons::acceptance_text))]
+pub fn acceptance<R: Rows>(
+    alloc: Global,
+    rows: &R,
+    denied: Option<&Why>,
+    rule: Option<Rule>,
+) -> Result<Vec<u8>, AllocError>
+    ensures { IfOk result (λ text. text.items
+        ≡ acceptance_text (R.profile_of rows.now) (R.look_up rows.now)
+        (option_map (λ why. why.now) denied.entry) rule) }
+{
+    let Some(why) = denied else {
+        return ruling(alloc, rule);
+    };
+    let mut text = remedy_bytes(alloc, rows, why)?;
+    text.extend_from_slice(b"\n")?;
+    Ok(text)
+}
+
+/// A tag, which numbers a slot.
+fn numbered(tag: Tag) -> Option<Tag>
+    ensures value { result ≡ Some tag }
+    ensures slot { IfSome result (λ tag. tag < slot_count) }
+{
+    (usize::from(tag.number()) < SLOT_COUNT).then_some(tag)
+}
+
+/// The slot that a step names.
+fn slot_of(step: &Step) -> Option<Tag>
+    ensures value { result ≡ slot_of step.now }
+    ensures slot { IfSome result (λ tag. tag < slot_count) }
+{
+    match *step {
+        Step::Put { tag, .. }
+        | Step::Issue { tag }
+        | Step::Accept { tag }
+        | Step::Complete { tag }
+        | Step::Take { tag, .. } => numbered(tag),
+        Step::Recover | Step::Reset { .. } => None,
+    }
+}
+
+/// Why a port would refuse a step, in a line with its line feed; None where it would not.
+///
+/// # Errors
+///
+/// Want of memory.
+pub fn refusal_of(alloc: Global, port: &Port, step: &Step) -> Result<Option<Vec<u8>>, AllocError>
+    ensures { IfOk result (λ text. (o : Origin) (list : List StepOf) → PortAgrees port.now o list
+        → option_map (λ t. t.items) text
+        ≡ option_map (step_refusal_text (trace o list) step.now)
+        (refusal (trace o list) step.now)) }
+{
+    let Some(error) = port.refuses(step) else {
+        return Ok(None);
+    };
+    let text = match slot_of(step) {
+        Some(tag) => slot_refusal(alloc, error, tag, port.stage(tag))?,
+        None => port_refusal(alloc, error)?,
+    };
+    Ok(Some(text))
+}
+
+/// What is told of the command that a port accepted last, in a line with its line feed. `place` is where its line of the
+/// audit log stands, if it has one: how many lines the log had before.
+///
+/// # Errors
+///
+/// Want of memory.
+pub fn acceptance_of(alloc: Global, port: &Port, place: usize) -> Result<Vec<u8>, AllocError>
+    ensures { IfOk result (λ text. text.items ≡ accepted_now port.now place) }
+{
+    let rows = port.drive().in_force();
+    match port.audit().get(place) {
+        Some(line) => acceptance(alloc, &rows, Some(&line.why), port.rule()),
+        None => acceptance(alloc, &rows, None, port.rule()),
+    }
+}

@@ -1,7 +1,0 @@
-use Rattle.std.proofs.Common.{rules}
-use Rattle.sp_cells.specs.Names.{read_locked_ace_base}
-use Rattle.sp_tables.specs.Factory.{read_locked_ace}
-use Rattle.sp_tables.proofs.sp_rows.families.read_locked_ace_rows.Goals as goal
-
-pub returns : goal.returns
-returns c = c.in_ok-rows.ensures read_locked_ace_base read_locked_ace (λ n r low made. search rules)
