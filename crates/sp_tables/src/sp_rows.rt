@@ -15,7 +15,7 @@ pub mod rows;
 pub mod runs;
 
 pub use exchange::{exchange_all, new_cells};
-pub use factory::{new_admin_sp, new_locking_sp};
+pub use factory::{new_halves, new_locking_sp};
 pub use halves::{FieldTables, SpTables};
 pub use rows::{
     AceRow, AuthorityRow, CPinRow, DataRemovalRow, LockingInfoRow, LockingRow, MbrControlRow,

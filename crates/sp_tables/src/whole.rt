@@ -8,7 +8,7 @@ ghost use Rattle.sp_tables.specs.Faults.{set_fault, TellsFault};
 ghost use Rattle.sp_cells.specs.Config.{sizes_in};
 ghost use Rattle.sp_cells.specs.Ranges.{AreApart};
 
-use crate::sp_rows::{SpTables, exchange_all, new_admin_sp, new_cells, new_locking_sp};
+use crate::sp_rows::{SpTables, exchange_all, new_cells, new_halves};
 use basics::Profile;
 use sp_cells::{Cell, Column, DriveConfig, Rows, SetError, Sp, TableSizes, Uid};
 use std::alloc::{AllocError, Global};
@@ -52,11 +52,13 @@ impl Tables {
     pub fn factory(alloc: Global, config: &DriveConfig) -> Result<Tables, AllocError>
         ensures { IfOk result (λ t. t ≡ factory_contents config.now) }
     {
+        let copy = config.copy()?;
+        let halves = new_halves(alloc, config)?;
         Ok(Tables {
             alloc,
-            config: config.copy()?,
-            admin: new_admin_sp(alloc, config)?,
-            locking: new_locking_sp(alloc, config)?,
+            config: copy,
+            admin: halves.0,
+            locking: halves.1,
         })
     }
 

@@ -286,3 +286,14 @@ pub fn new_locking_sp(alloc: Global, config: &DriveConfig) -> Result<SpTables, A
         tper_infos: Vec::new(alloc),
     })
 }
+
+/// The tables of a new drive: those of the Admin SP, and those of the Locking SP.
+pub fn new_halves(alloc: Global, config: &DriveConfig) -> Result<(SpTables, SpTables), AllocError>
+    ensures { IfOk result (λ t.
+        (half_items t.0 ≡ admin_factory config.now.profile config.now.msid config.now.psid)
+        × (half_items t.1 ≡ locking_factory config.now.profile (sizes_in config.now))) }
+{
+    let admin = new_admin_sp(alloc, config)?;
+    let locking = new_locking_sp(alloc, config)?;
+    Ok((admin, locking))
+}
