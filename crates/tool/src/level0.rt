@@ -7,9 +7,9 @@ ghost use Rattle.tool.specs.declared.ending.RunError.{RunError};
 
 use crate::ending::RunError;
 use crate::options::Options;
+use crate::writing::write_text;
 use basics::Profile;
 use device_data::{discovery, field_discovery};
-use script_lines::write_whole;
 use sp_cells::DriveConfig;
 use sp_tables::Tables;
 use std::alloc::{AllocError, Global};
@@ -45,6 +45,6 @@ pub fn run_level0<W: Write>(
 {
     let mut line = discovery_text(alloc, &options.config())?;
     line.push_str("\n")?;
-    write_whole(output, line.as_bytes()).map_err(|_| RunError::Write)?;
+    write_text(output, line.as_bytes())?;
     Ok(0)
 }

@@ -11,6 +11,7 @@ mod reading;
 mod remarks;
 mod script;
 mod tokens;
+mod writing;
 
 pub use drive_scripts::{DrivePhase, Fault, Turn};
 pub use ending::{End, RunError, tell, tell_abort};
@@ -27,3 +28,4 @@ pub use script::{
 };
 pub use tcg_calls::named_tokens::Naming;
 pub use tokens::{run_tokens, run_tokens_with_faults};
+pub use writing::write_text;

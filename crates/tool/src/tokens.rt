@@ -8,8 +8,8 @@ ghost use Rattle.tcg_calls.specs.TokenTexts.{token_text};
 ghost use Rattle.tool.specs.declared.ending.RunError.{RunError};
 
 use crate::ending::RunError;
+use crate::writing::write_text;
 use hex::FromHexError;
-use script_lines::write_whole;
 use std::alloc::Global;
 use std::io;
 use std::io::Write;
@@ -45,7 +45,7 @@ pub fn run_tokens_with_faults<W: Write, E: Write>(
     };
     let mut line = token_text(alloc, naming, &bytes)?;
     line.push_str("\n")?;
-    write_whole(output, line.as_bytes()).map_err(|_| RunError::Write)?;
+    write_text(output, line.as_bytes())?;
     Ok(0)
 }
 

@@ -17,11 +17,11 @@ use crate::explored::search::Search;
 use crate::explored::telling::findings_text;
 use crate::explored::words::is_letter;
 use basics::Bytes;
-use script_lines::{Line, PortLine, is_port_line, write_whole};
+use script_lines::{Line, PortLine, is_port_line};
 use std::alloc::{AllocError, Global};
 use std::io;
 use std::io::{ErrorKind, Read, Write};
-use tool::{Fault, Options, RunError, run_script_with_faults};
+use tool::{Fault, Options, RunError, run_script_with_faults, write_text};
 
 /// The error of a call that reads: its kind decides.
 fn reading_error(error: io::Error) -> RunError {
@@ -157,7 +157,7 @@ fn tell_findings<W: Write>(
         (W.contents output.old) (W.contents output.new)) }
 {
     let text = findings_text(alloc, findings)?;
-    write_whole(output, &text).map_err(|_| RunError::Write)?;
+    write_text(output, &text)?;
     if findings.kinds.as_slice().is_empty() && !find.is_empty() {
         return Ok(1);
     }

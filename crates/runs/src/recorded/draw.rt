@@ -13,11 +13,10 @@ use basics::Bytes;
 use drawing::svg_of;
 use pictures::pictured::{MOST_FRAMES, picture_of};
 use pictures::samples::Frame;
-use script_lines::write_whole;
 use std::alloc::{AllocError, Global};
 use std::io;
 use std::io::{Read, Write};
-use tool::{Options, RunError};
+use tool::{Options, write_text};
 
 /// The words above a picture.
 #[tactic(auto, unfolding(crate::specs::Pictures::picture_title))]
@@ -68,6 +67,6 @@ pub fn draw_script<R: Read + Drop, W: Write, E: Write>(
         false,
     )?;
     let text = drawn(alloc, &frames.frames)?;
-    write_whole(output, &text).map_err(|_| RunError::Write)?;
+    write_text(output, &text)?;
     Ok(status)
 }

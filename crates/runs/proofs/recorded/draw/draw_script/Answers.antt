@@ -12,6 +12,6 @@ returns-clause-draws g c =
     c.new-frames.result.frames.items c.record_script.new.recorder.frames.items c.in_ok-text.text.items
     c.new-frames.ensures
     (c.in_ok-text.ensures ∙ ap (λ frames. svg_text (picture_by picture_title frames)) c.deref.ensures.value)
-    (subst (Appends (g.W.Write.contents c.args.output.now) (g.W.Write.contents c.write_whole.new.output))
-    c.deref-2.ensures.value c.in_ok-write_whole.ensures)
+    (subst (Appends (g.W.Write.contents c.args.output.now) (g.W.Write.contents c.write_text.new.output))
+    c.deref-2.ensures.value c.in_ok-write_text.ensures.written)
     c.in_ok-status.ensures.records
