@@ -27,16 +27,20 @@ with_label_rules app =
     (free_rule (codes "psid")))
     (free_rule (codes "datastore"))
 
--- a command that opens a drive, with the options that say which
-abbrev pub drive_line : Text → App
-drive_line name =
+-- with the options that say which drive is opened
+abbrev pub with_drive_rules : App → App
+with_drive_rules app =
     with_label_rules
     (with_rule
     (with_rule
-    (with_rule (with_rule (new_app name) (option_rule (codes "sectors") (codes "1000")))
+    (with_rule (with_rule app (option_rule (codes "sectors") (codes "1000")))
     (option_rule (codes "shadow") (codes "8")))
     (option_rule (codes "msid") (codes "4f50414c4d534944")))
     (option_rule (codes "profile") (codes "base")))
+
+-- a command that opens a drive
+abbrev pub drive_line : Text → App
+drive_line name = with_drive_rules (new_app name)
 
 -- `--name`
 abbrev pub flag_rule : Text → Rule

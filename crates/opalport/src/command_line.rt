@@ -1,9 +1,9 @@
 //! The words of the command line, and what they ask for.
 
-ghost use Rattle.std.specs.Prelude.{◌≡◌, IfOk, false, map, option_map, option_and_then, string_bytes, codes};
-ghost use Rattle.clap.specs.Words.{FailsBy, app_of, fault_of, found_of, rows_of, rule_of, subcommand_rows_of};
+ghost use Rattle.std.specs.Prelude.{◌≡◌, IfOk, true, map, option_map, option_and_then, string_bytes, codes};
+ghost use Rattle.clap.specs.Words.{App, FailsBy, app_of, fault_of, found_of, new_app, rows_of, subcommand_rows_of, with_rule, with_subcommand};
 ghost use Rattle.tool.specs.OptionTexts.{drive_text};
-ghost use Rattle.opalport.specs.CommandLine.{top_line, option_rule, free_rule, required_rule, flag_rule, drive_line, drive_in, hba_line, explore_line, run_line, has_flag, range_rule, range_texts, optional_rule, threads_line, tokens_line, decode_line, opalport_line, text_of, naming_in, wanted_by, asked_of, asked_by};
+ghost use Rattle.opalport.specs.CommandLine.{top_line, option_rule, free_rule, required_rule, flag_rule, with_drive_rules, drive_line, drive_in, hba_line, explore_line, run_line, has_flag, range_rule, range_texts, optional_rule, threads_line, tokens_line, decode_line, opalport_line, text_of, naming_in, wanted_by, asked_of, asked_by};
 
 use crate::controller_help::LINES as CONTROLLER_LINES;
 use crate::decode_help::KINDS;
@@ -85,40 +85,6 @@ pub enum Request<'a> {
     Explore(ExploreTexts<'a>),
 }
 
-/// An option that takes a value, with the one that stands where it is left out.
-fn option<'a>(
-    alloc: Global,
-    name: &'static str,
-    value: &'static str,
-    default: &'static str,
-    help: &'static str,
-) -> Arg<'a>
-    ensures rule { rule_of result ≡ option_rule name.now default.now }
-    ensures local { result.global ≡ false }
-{
-    Arg::new(alloc, name)
-        .long(name)
-        .value_name(value)
-        .default_value(default)
-        .help(help)
-}
-
-/// An option that takes a value, and may be left out.
-fn free_option<'a>(
-    alloc: Global,
-    name: &'static str,
-    value: &'static str,
-    help: &'static str,
-) -> Arg<'a>
-    ensures rule { rule_of result ≡ free_rule name.now }
-    ensures local { result.global ≡ false }
-{
-    Arg::new(alloc, name)
-        .long(name)
-        .value_name(value)
-        .help(help)
-}
-
 /// What `run --help` says of lines and statuses.
 const LINES: &str = "\
 Lines, whose words stand between blanks; numbers are decimal, HH is two hex digits, HEX is hex text:
@@ -155,6 +121,144 @@ A script whose first byte is # may hold comments, which are lines that begin wit
 
 Status: 0 done, 1 an expectation failed, 2 a bad line, bad usage or an error";
 
+/// Adds an option that takes a value, with the one that stands where it is left out.
+fn with_option<'a>(
+    command: Command<'a>,
+    alloc: Global,
+    name: &'static str,
+    value: &'static str,
+    default: &'static str,
+    help: &'static str,
+) -> Result<Command<'a>, AllocError>
+    ensures { IfOk result (λ c. app_of c
+        ≡ with_rule (app_of command.entry) (option_rule name.now default.now)) }
+{
+    let option = Arg::new(alloc, name)
+        .long(name)
+        .value_name(value)
+        .default_value(default)
+        .help(help);
+    command.arg(option)
+}
+
+/// Adds an option that takes a value, and may be left out.
+fn with_free_option<'a>(
+    command: Command<'a>,
+    alloc: Global,
+    name: &'static str,
+    value: &'static str,
+    help: &'static str,
+) -> Result<Command<'a>, AllocError>
+    ensures { IfOk result (λ c. app_of c ≡ with_rule (app_of command.entry) (free_rule name.now)) }
+{
+    let option = Arg::new(alloc, name)
+        .long(name)
+        .value_name(value)
+        .help(help);
+    command.arg(option)
+}
+
+/// Adds an option without a value.
+fn with_flag<'a>(
+    command: Command<'a>,
+    alloc: Global,
+    name: &'static str,
+    help: &'static str,
+) -> Result<Command<'a>, AllocError>
+    ensures { IfOk result (λ c. app_of c ≡ with_rule (app_of command.entry) (flag_rule name.now)) }
+{
+    let flag = Arg::new(alloc, name)
+        .long(name)
+        .action(ArgAction::SetTrue)
+        .help(help);
+    command.arg(flag)
+}
+
+/// Adds an argument that is wanted.
+fn with_required<'a>(
+    command: Command<'a>,
+    alloc: Global,
+    name: &'static str,
+    value: &'static str,
+    help: &'static str,
+) -> Result<Command<'a>, AllocError>
+    ensures { IfOk result (λ c. app_of c ≡ with_rule (app_of command.entry) (required_rule name.now)) }
+{
+    let argument = Arg::new(alloc, name)
+        .value_name(value)
+        .required(true)
+        .help(help);
+    command.arg(argument)
+}
+
+/// Adds an argument that may be left out.
+fn with_optional<'a>(
+    command: Command<'a>,
+    alloc: Global,
+    name: &'static str,
+    value: &'static str,
+    help: &'static str,
+) -> Result<Command<'a>, AllocError>
+    ensures { IfOk result (λ c. app_of c ≡ with_rule (app_of command.entry) (optional_rule name.now)) }
+{
+    let argument = Arg::new(alloc, name).value_name(value).help(help);
+    command.arg(argument)
+}
+
+/// Adds the option that gives a range, as often as there are ranges.
+fn with_ranges<'a>(command: Command<'a>, alloc: Global) -> Result<Command<'a>, AllocError>
+    ensures { IfOk result (λ c. app_of c ≡ with_rule (app_of command.entry) range_rule) }
+{
+    let option = Arg::new(alloc, "range")
+        .long("range")
+        .value_name("ROW")
+        .action(ArgAction::Append)
+        .help("The words of a script's range line: N START LENGTH RE WE RL WL");
+    command.arg(option)
+}
+
+/// Adds the options that say which drive a command opens.
+fn with_drive<'a>(command: Command<'a>, alloc: Global) -> Result<Command<'a>, AllocError>
+    ensures { IfOk result (λ c. app_of c ≡ with_drive_rules (app_of command.entry)) }
+{
+    let profiles = "base, or field: what unmodified drivers ask for beside it";
+    let pin = "4f50414c4d534944";
+    let c = with_option(
+        command,
+        alloc,
+        "sectors",
+        "N",
+        "1000",
+        "The number of sectors",
+    )?;
+    let c = with_option(
+        c,
+        alloc,
+        "shadow",
+        "N",
+        "8",
+        "The number of sectors of the MBR shadow",
+    )?;
+    let c = with_option(c, alloc, "msid", "HEX", pin, "The manufactured PIN")?;
+    let c = with_option(c, alloc, "profile", "NAME", "base", profiles)?;
+    let c = with_free_option(c, alloc, "serial", "TEXT", "Serial number of a field drive")?;
+    let c = with_free_option(c, alloc, "model", "TEXT", "Model number of a field drive")?;
+    let c = with_free_option(c, alloc, "psid", "HEX", "PIN on the label of a field drive")?;
+    with_free_option(c, alloc, "datastore", "N", "Bytes of field's DataStore")
+}
+
+/// A command with what it is for, and what its help says behind its options.
+fn named<'a>(
+    alloc: Global,
+    name: &'static str,
+    about: &'static str,
+    lines: &'static str,
+) -> Command<'a>
+    ensures { app_of result ≡ new_app name.now }
+{
+    Command::new(alloc, name).about(about).after_help(lines)
+}
+
 /// A command that opens a drive, with the options that say which.
 fn drive_command<'a>(
     alloc: Global,
@@ -164,181 +268,70 @@ fn drive_command<'a>(
 ) -> Result<Command<'a>, AllocError>
     ensures { IfOk result (λ command. app_of command ≡ drive_line name.now) }
 {
-    let sectors = option(alloc, "sectors", "N", "1000", "The number of sectors");
-    let shadow = option(
-        alloc,
-        "shadow",
-        "N",
-        "8",
-        "The number of sectors of the MBR shadow",
-    );
-    let msid = option(
-        alloc,
-        "msid",
-        "HEX",
-        "4f50414c4d534944",
-        "The manufactured PIN",
-    );
-    let profile = option(
-        alloc,
-        "profile",
-        "NAME",
-        "base",
-        "base, or field: what unmodified drivers ask for beside it",
-    );
-    let serial = free_option(alloc, "serial", "TEXT", "Serial number of a field drive");
-    let model = free_option(alloc, "model", "TEXT", "Model number of a field drive");
-    let psid = free_option(alloc, "psid", "HEX", "PIN on the label of a field drive");
-    let datastore = free_option(alloc, "datastore", "N", "Bytes of field's DataStore");
-    Command::new(alloc, name)
-        .about(about)
-        .after_help(lines)
-        .arg(sectors)?
-        .arg(shadow)?
-        .arg(msid)?
-        .arg(profile)?
-        .arg(serial)?
-        .arg(model)?
-        .arg(psid)?
-        .arg(datastore)
+    with_drive(named(alloc, name, about, lines), alloc)
 }
 
 /// The command that runs a script, with the options that say on which drive, and whether it tells reasons.
 fn run_command<'a>(alloc: Global) -> Result<Command<'a>, AllocError>
     ensures { IfOk result (λ command. app_of command ≡ run_line) }
 {
-    let explain = flag(
-        alloc,
-        "explain",
-        "Tells each refusal with its reason, and what would lift it",
-    );
-    let vcd = free_option(
-        alloc,
-        "vcd",
-        "FILE",
-        "Writes the waveforms of the run there, while it runs",
-    );
-    drive_command(alloc, "run", "Runs a script from standard input", LINES)?
-        .arg(explain)?
-        .arg(vcd)
+    let explain = "Tells each refusal with its reason, and what would lift it";
+    let vcd = "Writes the waveforms of the run there, while it runs";
+    let c = drive_command(alloc, "run", "Runs a script from standard input", LINES)?;
+    let c = with_flag(c, alloc, "explain", explain)?;
+    with_free_option(c, alloc, "vcd", "FILE", vcd)
 }
 
 /// The command that runs clients and an engine at one port, with the options that say how many.
 fn threads_command<'a>(alloc: Global) -> Result<Command<'a>, AllocError>
     ensures { IfOk result (λ command. app_of command ≡ threads_line) }
 {
-    let clients = option(alloc, "clients", "N", "2", "The number of clients, 1 to 32");
-    let rounds = option(
+    let about = "Runs clients and an engine at one port, each in a thread of its own";
+    let rounds = "The rounds of each client, 1 to 1000: a write of its sector, and a read of it";
+    let c = named(alloc, "threads", about, "");
+    let c = with_option(
+        c,
         alloc,
-        "rounds",
+        "clients",
         "N",
-        "100",
-        "The rounds of each client, 1 to 1000: a write of its sector, and a read of it",
-    );
-    Command::new(alloc, "threads")
-        .about("Runs clients and an engine at one port, each in a thread of its own")
-        .arg(clients)?
-        .arg(rounds)
-}
-
-/// An argument that is wanted.
-fn required<'a>(
-    alloc: Global,
-    name: &'static str,
-    value: &'static str,
-    help: &'static str,
-) -> Arg<'a>
-    ensures rule { rule_of result ≡ required_rule name.now }
-    ensures local { result.global ≡ false }
-{
-    Arg::new(alloc, name)
-        .value_name(value)
-        .required(true)
-        .help(help)
-}
-
-/// An argument that may be left out.
-fn optional<'a>(
-    alloc: Global,
-    name: &'static str,
-    value: &'static str,
-    help: &'static str,
-) -> Arg<'a>
-    ensures rule { rule_of result ≡ optional_rule name.now }
-    ensures local { result.global ≡ false }
-{
-    Arg::new(alloc, name).value_name(value).help(help)
-}
-
-/// An option without a value.
-fn flag<'a>(alloc: Global, name: &'static str, help: &'static str) -> Arg<'a>
-    ensures rule { rule_of result ≡ flag_rule name.now }
-    ensures local { result.global ≡ false }
-{
-    Arg::new(alloc, name)
-        .long(name)
-        .action(ArgAction::SetTrue)
-        .help(help)
+        "2",
+        "The number of clients, 1 to 32",
+    )?;
+    with_option(c, alloc, "rounds", "N", "100", rounds)
 }
 
 /// The command that tells a token stream as text.
 fn tokens_command<'a>(alloc: Global) -> Result<Command<'a>, AllocError>
     ensures { IfOk result (λ command. app_of command ≡ tokens_line) }
 {
-    let hex = required(alloc, "hex", "HEX", "The bytes of the tokens, in hex");
-    let names = flag(
-        alloc,
-        "names",
-        "Tells objects, methods and columns by their names",
-    );
-    Command::new(alloc, "tokens")
-        .about("Tells the item that a token stream spells, or what is wrong with it")
-        .arg(hex)?
-        .arg(names)
+    let about = "Tells the item that a token stream spells, or what is wrong with it";
+    let names = "Tells objects, methods and columns by their names";
+    let c = named(alloc, "tokens", about, "");
+    let c = with_required(c, alloc, "hex", "HEX", "The bytes of the tokens, in hex")?;
+    with_flag(c, alloc, "names", names)
 }
 
 /// The command that tells bytes as the lines of their fields.
 fn decode_command<'a>(alloc: Global) -> Result<Command<'a>, AllocError>
     ensures { IfOk result (λ command. app_of command ≡ decode_line) }
 {
-    let kind = required(alloc, "kind", "KIND", "What the bytes are");
-    let hex = optional(
+    let hex = "The bytes, in hex; without it they are read from standard input";
+    let c = named(
         alloc,
-        "hex",
-        "HEX",
-        "The bytes, in hex; without it they are read from standard input",
+        "decode",
+        "Tells the fields of bytes, a line for each",
+        KINDS,
     );
-    Command::new(alloc, "decode")
-        .about("Tells the fields of bytes, a line for each")
-        .after_help(KINDS)
-        .arg(kind)?
-        .arg(hex)
-}
-
-/// The option that gives a range, as often as there are ranges.
-fn range_option<'a>(alloc: Global) -> Arg<'a>
-    ensures rule { rule_of result ≡ range_rule }
-    ensures local { result.global ≡ false }
-{
-    Arg::new(alloc, "range")
-        .long("range")
-        .value_name("ROW")
-        .action(ArgAction::Append)
-        .help("The words of a script's range line: N START LENGTH RE WE RL WL")
+    let c = with_required(c, alloc, "kind", "KIND", "What the bytes are")?;
+    with_optional(c, alloc, "hex", "HEX", hex)
 }
 
 /// The command that serves a host as a controller, with the options that say which drive.
 fn hba_command<'a>(alloc: Global) -> Result<Command<'a>, AllocError>
     ensures { IfOk result (λ command. app_of command ≡ hba_line) }
 {
-    let range = range_option(alloc);
-    drive_command(
-        alloc,
-        "hba",
-        "Serves a host over standard input and output, as an AHCI controller",
-        CONTROLLER_LINES,
-    )?
-    .arg(range)
+    let about = "Serves a host over standard input and output, as an AHCI controller";
+    with_ranges(drive_command(alloc, "hba", about, CONTROLLER_LINES)?, alloc)
 }
 
 /// The command that runs all short lists of the lines of a script, with the options that say on which drive, how long a
@@ -346,35 +339,20 @@ fn hba_command<'a>(alloc: Global) -> Result<Command<'a>, AllocError>
 fn explore_command<'a>(alloc: Global) -> Result<Command<'a>, AllocError>
     ensures { IfOk result (λ command. app_of command ≡ explore_line) }
 {
-    let steps = option(
+    let about = "Runs all short lists of the lines of a script, and tells what they lead to";
+    let limit = "How many lists of one length are gone on from, at most";
+    let find = "A text of a printed line; without it failures are looked for";
+    let c = drive_command(alloc, "explore", about, "")?;
+    let c = with_option(
+        c,
         alloc,
         "steps",
         "N",
         "4",
         "How many lines a list has at most",
-    );
-    let limit = option(
-        alloc,
-        "limit",
-        "N",
-        "100000",
-        "How many lists of one length are gone on from, at most",
-    );
-    let find = free_option(
-        alloc,
-        "find",
-        "TEXT",
-        "A text of a printed line; without it failures are looked for",
-    );
-    drive_command(
-        alloc,
-        "explore",
-        "Runs all short lists of the lines of a script, and tells what they lead to",
-        "",
-    )?
-    .arg(steps)?
-    .arg(limit)?
-    .arg(find)
+    )?;
+    let c = with_option(c, alloc, "limit", "N", "100000", limit)?;
+    with_free_option(c, alloc, "find", "TEXT", find)
 }
 
 /// The program, before its commands are there.
@@ -388,29 +366,37 @@ fn top_command<'a>(alloc: Global) -> Command<'a>
         .arg_required_else_help(true)
 }
 
+/// Adds a command below another, where there was memory for it.
+fn with_command<'a>(
+    command: Command<'a>,
+    below: Result<Command<'a>, AllocError>,
+) -> Result<Command<'a>, AllocError>
+    ensures { (line : App) → line.top.is_plain ≡ true → IfOk below.entry (λ b. app_of b ≡ line)
+        → IfOk result (λ c. app_of c ≡ with_subcommand (app_of command.entry) line.top) }
+{
+    match below {
+        Ok(below) => command.subcommand(below),
+        Err(refused) => {
+            drop(command);
+            Err(refused)
+        }
+    }
+}
+
 /// The whole command line.
 fn command<'a>(alloc: Global) -> Result<Command<'a>, AllocError>
     ensures { IfOk result (λ command. app_of command ≡ opalport_line) }
 {
-    top_command(alloc)
-        .subcommand(run_command(alloc)?)?
-        .subcommand(drive_command(
-            alloc,
-            "level0",
-            "Prints the Level 0 discovery of a new drive, in hex",
-            "",
-        )?)?
-        .subcommand(threads_command(alloc)?)?
-        .subcommand(tokens_command(alloc)?)?
-        .subcommand(decode_command(alloc)?)?
-        .subcommand(hba_command(alloc)?)?
-        .subcommand(drive_command(
-            alloc,
-            "draw",
-            "Draws the run of a script from standard input, as SVG",
-            "",
-        )?)?
-        .subcommand(explore_command(alloc)?)
+    let level0 = "Prints the Level 0 discovery of a new drive, in hex";
+    let draw = "Draws the run of a script from standard input, as SVG";
+    let c = with_command(top_command(alloc), run_command(alloc))?;
+    let c = with_command(c, drive_command(alloc, "level0", level0, ""))?;
+    let c = with_command(c, threads_command(alloc))?;
+    let c = with_command(c, tokens_command(alloc))?;
+    let c = with_command(c, decode_command(alloc))?;
+    let c = with_command(c, hba_command(alloc))?;
+    let c = with_command(c, drive_command(alloc, "draw", draw, ""))?;
+    with_command(c, explore_command(alloc))
 }
 
 /// The text of an argument, as it is written.
