@@ -4,7 +4,6 @@
 
 #[cfg(test)]
 pub mod conformance_hba;
-mod denials;
 #[cfg(test)]
 mod port_steps;
 #[cfg(test)]

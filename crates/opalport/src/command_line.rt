@@ -149,7 +149,8 @@ fn with_free_option<'a>(
     value: &'static str,
     help: &'static str,
 ) -> Result<Command<'a>, AllocError>
-    ensures { IfOk result (λ c. app_of c ≡ with_rule (app_of command.entry) (free_rule name.now)) }
+    ensures { IfOk result (λ c. app_of c
+        ≡ with_rule (app_of command.entry) (free_rule name.now)) }
 {
     let option = Arg::new(alloc, name)
         .long(name)
@@ -165,7 +166,8 @@ fn with_flag<'a>(
     name: &'static str,
     help: &'static str,
 ) -> Result<Command<'a>, AllocError>
-    ensures { IfOk result (λ c. app_of c ≡ with_rule (app_of command.entry) (flag_rule name.now)) }
+    ensures { IfOk result (λ c. app_of c
+        ≡ with_rule (app_of command.entry) (flag_rule name.now)) }
 {
     let flag = Arg::new(alloc, name)
         .long(name)
@@ -182,7 +184,8 @@ fn with_required<'a>(
     value: &'static str,
     help: &'static str,
 ) -> Result<Command<'a>, AllocError>
-    ensures { IfOk result (λ c. app_of c ≡ with_rule (app_of command.entry) (required_rule name.now)) }
+    ensures { IfOk result (λ c. app_of c
+        ≡ with_rule (app_of command.entry) (required_rule name.now)) }
 {
     let argument = Arg::new(alloc, name)
         .value_name(value)
@@ -199,7 +202,8 @@ fn with_optional<'a>(
     value: &'static str,
     help: &'static str,
 ) -> Result<Command<'a>, AllocError>
-    ensures { IfOk result (λ c. app_of c ≡ with_rule (app_of command.entry) (optional_rule name.now)) }
+    ensures { IfOk result (λ c. app_of c
+        ≡ with_rule (app_of command.entry) (optional_rule name.now)) }
 {
     let argument = Arg::new(alloc, name).value_name(value).help(help);
     command.arg(argument)

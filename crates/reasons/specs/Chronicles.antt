@@ -3,7 +3,6 @@ use Rattle.std.specs.Prelude.{◌≡◌, ℕ, Bool, List, [], ◌∷◌, length,
 use Rattle.sp_cells.specs.declared.names.TheConstants.{RANGES}
 use Rattle.sp_cells.specs.Flat.{LookUp}
 use Rattle.history.specs.Opening.{Origin}
-use Rattle.drive.specs.State.{DriveState, Agrees}
 use Rattle.reasons.specs.declared.explained.condition.Flag.{Flag}
 use Rattle.reasons.specs.declared.explained.condition.Flag.TheVariants.{ReadLockEnabled, WriteLockEnabled, ReadLocked, WriteLocked}
 use Rattle.reasons.specs.declared.explained.condition.Condition.{Condition}
@@ -11,7 +10,7 @@ use Rattle.reasons.specs.declared.explained.condition.Condition.TheVariants.{Loc
 use Rattle.reasons.specs.declared.explained.onset.Onset.{Onset}
 use Rattle.reasons.specs.declared.explained.onsets.RangeOnsets.{RangeOnsets}
 use Rattle.reasons.specs.Conditions.{HasRange, is_in_force}
-use Rattle.reasons.specs.Onsets.{Sourced, bare_acts, act_number, onset_after, held_since, holds_after}
+use Rattle.reasons.specs.Onsets.{Sourced, act_number, onset_after, held_since, holds_after}
 
 -- how many acts there were, the onsets of each range's flags, the global range's first, and that of the shadow
 pub record KeptOnsets : Type 0 where
@@ -54,13 +53,3 @@ pub record Recounts (k : KeptOnsets) (o : Origin) (past : List Sourced) : Type 0
   pub acts : k.acts ≡ act_number past
   pub onsets : (condition : Condition) → HasRange condition
       → kept_onset k condition ≡ held_since (holds_after o condition) past
-
--- a drive, and what is kept beside it
-pub record Explained : Type 0 where
-  pub drive : DriveState
-  pub kept : KeptOnsets
-
--- both are as these acts leave them, the newest first
-pub record Follows (e : Explained) (o : Origin) (past : List Sourced) : Type 0 where
-  pub drive : Agrees e.drive o (bare_acts past)
-  pub kept : Recounts e.kept o past

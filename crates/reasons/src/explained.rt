@@ -2,7 +2,6 @@
 
 mod chronicle;
 mod condition;
-mod explained;
 mod laws;
 mod onset;
 mod onsets;
@@ -10,6 +9,5 @@ mod reason;
 
 pub use chronicle::Chronicle;
 pub use condition::{Condition, Flag, conditions_of};
-pub use explained::Explained;
 pub use laws::{laws_of_onsets, laws_of_reasons};
 pub use onset::{Cause, Onset, Source, cause_in};
