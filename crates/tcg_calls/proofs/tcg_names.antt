@@ -2,3 +2,4 @@ mod Numbers
 mod Joins
 mod BothWays
 mod ColumnsBothWays
+mod FamilyLemmas

@@ -1,4 +1,5 @@
 pub mod Objects
+pub mod Families
 pub mod Columns
 pub mod Tables
 pub mod Laws

@@ -1,13 +1,15 @@
 -- Values that are made, by what they are.
-use Rattle.std.proofs.Common.{◌≡◌, ℕ, List as Seq, [], ◌∷◌, ◌++◌, map, length, drop, get_or, refl, ap, arith, Vec, Box, Global, Option, None, Some, is_some, Bool, true, false, if◌then◌else◌, ◌<◌, ◌+◌, suc, append_assoc, nat_le}
+use Rattle.std.proofs.Common.{◌≡◌, ℕ, List as Seq, [], ◌∷◌, ◌++◌, map, length, drop, get_or, refl, ap, arith, Vec, Box, Global, Option, None, Some, is_some, Bool, true, false, if◌then◌else◌, ◌<◌, ◌+◌, suc, append_assoc, nat_le, sym, ◌∙◌, take, add-one}
 use Rattle.std.proofs.lemmas.Bool.Decides.{nat_tests}
-use Rattle.std.proofs.lemmas.List.{length-map}
+use Rattle.std.proofs.lemmas.List.{length-map, map-append}
+use Rattle.std.proofs.Math.Seq.{take-suc}
 use Rattle.std.specs.List.{list_all, filter_map}
 use Rattle.sp_cells.specs.Limits.{most_elements}
 use Rattle.tcg_calls.specs.CellValues.{each_of, element_in, expression_of}
 use Rattle.tcg_calls.proofs.call_shapes.NamedLemmas.{trees_from}
 use Rattle.tcg_tokens.specs.declared.value.Value.{Value, List, Named}
-use Rattle.tcg_tokens.specs.Tree.{Tree, list, named, tree, trees}
+use Rattle.tcg_tokens.specs.Tree.{Tree, number, list, named, tree, trees}
+use Rattle.sp_cells.specs.declared.names.Column.{Column}
 use Rattle.tcg_tokens.proofs.Trees.{tree_list, tree_named}
 
 pub tree_of_list : (items : Vec Value Global) → tree (List items) ≡ list (trees items.items)
@@ -17,6 +19,17 @@ pub tree_of_named : (both : Box (Value × Value) Global) → tree (Named both) �
 tree_of_named both = tree_named (Named both) both refl
 
 pub ruleset made = (tree_of_list, tree_of_named)
+
+-- one more value of a list
+pub values-step : {A : Type 0} (g : A → Tree) (vs new : Seq Value) (v : Value) (xs : Seq A) (i : ℕ) (d : A) → i < length xs → new ≡ vs ++ v ∷ [] → tree v ≡ g (get_or xs i d) → map tree vs ≡ map g (take i xs) → map tree new ≡ map g (take (i + 1) xs)
+values-step g vs new v xs i d lt pushed is inv =
+    let more : take (i + 1) xs ≡ take i xs ++ (get_or xs i d ∷ []) = rw (add-one i) (take-suc xs i d lt) in
+    ap (map tree) pushed ∙ map-append tree vs (v ∷ []) ∙ ap (λ q. q ++ tree v ∷ []) inv ∙ ap (λ t. map g (take i xs) ++ t ∷ []) is ∙ sym (ap (map g) more ∙ map-append g (take i xs) (get_or xs i d ∷ []))
+
+-- the numbers of columns
+pub columns-as : (cs : Seq Column) → map (λ c. number c.0) cs ≡ map number (map (λ c. c.0) cs)
+columns-as [] = refl
+columns-as (c ∷ cs) = ap (λ q. number c.0 ∷ q) (columns-as cs)
 
 -- what the rest of the values stand for behind those that were read
 abbrev pub each_behind : {A : Type 0} → (Tree → Option A) → Seq A → Seq Tree → Option (Seq A)

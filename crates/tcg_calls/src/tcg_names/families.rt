@@ -1,8 +1,11 @@
 //! Objects whose names have a number.
 
 ghost use Rattle.std.specs.Prelude.{◌≡◌, ◌++◌, ◌+◌, ◌≤◌, MatchOption, OnOk, IfOk, Some, None, option_map, string_bytes, codes, decimal};
+ghost use Rattle.std.specs.List.{flat_map};
+ghost use Rattle.tcg_calls.specs.Families.{member, names_of, number_of};
 ghost use Rattle.tcg_calls.specs.Objects.{name_in, object_in, number_between, range_text, range_between, authority_families, range_families, number_making};
 
+use sp_cells::names::tables;
 use sp_cells::{ADMINS, RANGES, USERS, Uid};
 use std::alloc::{AllocError, Global};
 use std::fmt::Write;
@@ -186,47 +189,180 @@ pub(crate) fn range_named(
     Ok(None)
 }
 
-/// The member of a family of authorities, of their PINs or of the ACEs of these that has this name.
-#[tactic(auto, using(crate::proofs::tcg_names::Joins::objects))]
-pub(crate) fn authority_named(alloc: Global, name: &str) -> Result<Option<Uid>, AllocError>
-    ensures { IfOk result (λ object. object ≡ object_in authority_families name.now) }
-{
-    if let Some(number) = number_named(alloc, "Admin", "", ADMINS, name)? {
-        return Ok(Some(Uid::admin(number)));
-    }
-    if let Some(number) = number_named(alloc, "User", "", USERS, name)? {
-        return Ok(Some(Uid::user(number)));
-    }
-    if let Some(number) = number_named(alloc, "C_PIN_Admin", "", ADMINS, name)? {
-        return Ok(Some(Uid::pin_of_admin(number)));
-    }
-    if let Some(number) = number_named(alloc, "C_PIN_User", "", USERS, name)? {
-        return Ok(Some(Uid::pin_of_user(number)));
-    }
-    let number = number_named(alloc, "ACE_C_PIN_User", "_Set_PIN", USERS, name)?;
-    Ok(number.map(Uid::ace_c_pin_user_set_pin))
+/// The numbers that the members of a family have.
+pub(crate) enum Numbers {
+    /// From 1 up to this one.
+    UpTo(u8),
+    /// Those of the ranges, the global one being 0.
+    OfRanges,
 }
 
-/// The range, key, or ACE of these that has this name.
-#[tactic(auto, using(crate::proofs::tcg_names::Joins::objects))]
-pub(crate) fn range_object_named(alloc: Global, name: &str) -> Result<Option<Uid>, AllocError>
-    ensures { IfOk result (λ object. object ≡ object_in range_families name.now) }
+/// Objects that have a number: the table whose rows they are, what their names end in where the number is 0, the object
+/// of the number 0 where its name is none of these, the texts that the number stands between, and the numbers that
+/// there are.
+pub(crate) struct Family {
+    pub(crate) table: u16,
+    pub(crate) number: u32,
+    pub(crate) zero: Option<Uid>,
+    pub(crate) before: &'static str,
+    pub(crate) behind: &'static str,
+    pub(crate) numbers: Numbers,
+}
+
+/// The families of authorities, of their PINs and of the ACEs of these, and those of the ranges.
+static FAMILIES: [Family; 11] = [
+    Family {
+        table: tables::AUTHORITY as u16,
+        number: 0x1_0000,
+        zero: None,
+        before: "Admin",
+        behind: "",
+        numbers: Numbers::UpTo(ADMINS),
+    },
+    Family {
+        table: tables::AUTHORITY as u16,
+        number: 0x3_0000,
+        zero: None,
+        before: "User",
+        behind: "",
+        numbers: Numbers::UpTo(USERS),
+    },
+    Family {
+        table: tables::C_PIN as u16,
+        number: 0x1_0000,
+        zero: None,
+        before: "C_PIN_Admin",
+        behind: "",
+        numbers: Numbers::UpTo(ADMINS),
+    },
+    Family {
+        table: tables::C_PIN as u16,
+        number: 0x3_0000,
+        zero: None,
+        before: "C_PIN_User",
+        behind: "",
+        numbers: Numbers::UpTo(USERS),
+    },
+    Family {
+        table: tables::ACE as u16,
+        number: 0x3_a800,
+        zero: None,
+        before: "ACE_C_PIN_User",
+        behind: "_Set_PIN",
+        numbers: Numbers::UpTo(USERS),
+    },
+    Family {
+        table: tables::LOCKING as u16,
+        number: 0x3_0000,
+        zero: Some(Uid::GLOBAL_RANGE),
+        before: "Locking_",
+        behind: "",
+        numbers: Numbers::OfRanges,
+    },
+    Family {
+        table: tables::K_AES_256 as u16,
+        number: 0x3_0000,
+        zero: Some(Uid::GLOBAL_KEY),
+        before: "K_AES_256_",
+        behind: "_Key",
+        numbers: Numbers::OfRanges,
+    },
+    Family {
+        table: tables::ACE as u16,
+        number: 0x3_b800,
+        zero: None,
+        before: "ACE_K_AES_256_",
+        behind: "_GenKey",
+        numbers: Numbers::OfRanges,
+    },
+    Family {
+        table: tables::ACE as u16,
+        number: 0x3_d000,
+        zero: None,
+        before: "ACE_Locking_",
+        behind: "_Get_RangeStartToActiveKey",
+        numbers: Numbers::OfRanges,
+    },
+    Family {
+        table: tables::ACE as u16,
+        number: 0x3_e000,
+        zero: None,
+        before: "ACE_Locking_",
+        behind: "_Set_RdLocked",
+        numbers: Numbers::OfRanges,
+    },
+    Family {
+        table: tables::ACE as u16,
+        number: 0x3_e800,
+        zero: None,
+        before: "ACE_Locking_",
+        behind: "_Set_WrLocked",
+        numbers: Numbers::OfRanges,
+    },
+];
+
+/// The families of authorities, of their PINs and of the ACEs of these, and those of the ranges.
+fn families() -> &'static [Family]
+    ensures { flat_map names_of result.now ≡ authority_families ++ range_families }
 {
-    if let Some(number) = range_named(alloc, "Locking_", "", name)? {
-        return Ok(Some(Uid::range(number)));
+    &FAMILIES
+}
+
+impl Family {
+    /// The object of a number.
+    fn object(&self, number: u8) -> Uid
+        ensures { result ≡ member self.now number }
+    {
+        let following = Uid(
+            u64::from(self.table) * 0x1_0000_0000 + u64::from(self.number) + u64::from(number),
+        );
+        if number == 0 {
+            self.zero.unwrap_or(following)
+        } else {
+            following
+        }
     }
-    if let Some(number) = range_named(alloc, "K_AES_256_", "_Key", name)? {
-        return Ok(Some(Uid::key(number)));
+
+    /// The number of the member that has this name.
+    fn number(&self, alloc: Global, name: &str) -> Result<Option<u8>, AllocError>
+        ensures { IfOk result (λ number. number ≡ number_of self.now name.now) }
+    {
+        match self.numbers {
+            Numbers::UpTo(last) => number_named(alloc, self.before, self.behind, last, name),
+            Numbers::OfRanges => range_named(alloc, self.before, self.behind, name),
+        }
     }
-    if let Some(number) = range_named(alloc, "ACE_K_AES_256_", "_GenKey", name)? {
-        return Ok(Some(Uid::ace_key_gen_key(number)));
+
+    /// The member that has this name.
+    #[tactic(auto, using(crate::proofs::tcg_names::FamilyLemmas::members))]
+    fn named(&self, alloc: Global, name: &str) -> Result<Option<Uid>, AllocError>
+        ensures { IfOk result (λ object. object ≡ object_in (names_of self.now) name.now) }
+    {
+        match self.number(alloc, name)? {
+            None => Ok(None),
+            Some(number) => Ok(Some(self.object(number))),
+        }
     }
-    if let Some(number) = range_named(alloc, "ACE_Locking_", "_Get_RangeStartToActiveKey", name)? {
-        return Ok(Some(Uid::ace_range_get(number)));
+}
+
+/// The member of a family that has this name.
+fn named_among(alloc: Global, families: &[Family], name: &str) -> Result<Option<Uid>, AllocError>
+    ensures { IfOk result
+        (λ object. object ≡ object_in (flat_map names_of families.now) name.now) }
+{
+    for family in families {
+        if let Some(object) = family.named(alloc, name)? {
+            return Ok(Some(object));
+        }
     }
-    if let Some(number) = range_named(alloc, "ACE_Locking_", "_Set_RdLocked", name)? {
-        return Ok(Some(Uid::ace_range_set_read_locked(number)));
-    }
-    let number = range_named(alloc, "ACE_Locking_", "_Set_WrLocked", name)?;
-    Ok(number.map(Uid::ace_range_set_write_locked))
+    Ok(None)
+}
+
+/// The member of any family that has this name.
+pub(crate) fn member_named(alloc: Global, name: &str) -> Result<Option<Uid>, AllocError>
+    ensures { IfOk result
+        (λ object. object ≡ object_in (authority_families ++ range_families) name.now) }
+{
+    let object = named_among(alloc, families(), name)?;
+    Ok(object)
 }

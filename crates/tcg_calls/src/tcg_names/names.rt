@@ -3,9 +3,7 @@
 ghost use Rattle.std.specs.Prelude.{◌≡◌, MatchOption, IfOk, Some, None, option_map, string_bytes};
 ghost use Rattle.tcg_calls.specs.Objects.{name_in, object_in, singles, named_objects, object_name, object_by_name};
 
-use crate::tcg_names::families::{
-    authority_between, authority_named, range_between, range_object_named,
-};
+use crate::tcg_names::families::{authority_between, member_named, range_between};
 use crate::tcg_names::singles::{
     admin_aces, authorities, locking_aces, methods, name_in, object_in, objects,
 };
@@ -87,8 +85,6 @@ pub fn object_by_name(alloc: Global, name: &str) -> Result<Option<Uid>, AllocErr
     if let Some(object) = single_named(name) {
         return Ok(Some(object));
     }
-    if let Some(object) = authority_named(alloc, name)? {
-        return Ok(Some(object));
-    }
-    range_object_named(alloc, name)
+    let object = member_named(alloc, name)?;
+    Ok(object)
 }
