@@ -1,5 +1,4 @@
 use Rattle.std.proofs.Common.{◌∙◌, sym}
-use Rattle.sp_cells.specs.Names.{col}
 use Rattle.tcg_tokens.specs.Tree.{number}
 use Rattle.tcg_tokens.proofs.Trees.{tree_number}
 use Rattle.tcg_calls.proofs.call_shapes.CellLemmas.{values-step, columns-as}
@@ -7,4 +6,4 @@ use Rattle.tcg_calls.proofs.call_shapes.cell_values.column_values.Goals as goal
 
 pub loop-column-preserved : goal.loop-column-preserved
 loop-column-preserved c =
-    values-step (λ x. number x.0) c.loop-column.values.items c.push.new.self.items _ c.args.columns.now c.loop-column.column-index (col 0) c.loop-column-test.true c.in_ok-push.ensures.items (tree_number _) (c.loop-column.invariant ∙ sym (columns-as _)) ∙ columns-as _
+    values-step (λ x. number x.0) c.loop-column.values.items c.push.new.self.items _ c.args.columns.now c.loop-column.column-index (record { 0 = 0 }) c.loop-column-test.true c.in_ok-push.ensures.items (tree_number _) (c.loop-column.invariant ∙ sym (columns-as _)) ∙ columns-as _
