@@ -10,7 +10,7 @@ use Rattle.sp_cells.specs.declared.cells.Cell.TheVariants.{Number}
 use Rattle.sp_cells.specs.Names.{range_uid, mbr_control, admin_pin_uid, user_pin_uid}
 use Rattle.sp_cells.specs.ColumnNames.{lock_on_reset_column, mbr_done_column, mbr_done_on_reset_column, range_length_column, range_start_column, read_locked_column, tries_column, write_locked_column}
 use Rattle.sp_cells.specs.Flat.{LookUp}
-use Rattle.sp_cells.specs.Ranges.{range_start, range_length, AreApart, cell_number, of_range, ranges_meet}
+use Rattle.sp_cells.specs.Ranges.{range_start, range_length, AreApart, cell_number, ranges_meet}
 use Rattle.sp_tables.specs.Items.{Item, item_at, with_item, with_items}
 use Rattle.sp_cells.specs.Config.{Config}
 use Rattle.sp_tables.specs.Contents.{Contents, cells_look_up, new_locking, factory_contents}

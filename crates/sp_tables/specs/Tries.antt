@@ -1,5 +1,5 @@
 -- The wrong attempts that a C_PIN row counts (Core 2.01, section 5.3, table C_PIN), apart from the other cells.
-use Rattle.std.specs.Prelude.{◌==◌, ◌/◌, ℕ, zero, suc, Bool, ◌&&◌, List, [], ◌∷◌, if◌then◌else◌}
+use Rattle.std.specs.Prelude.{◌==◌, ℕ, zero, suc, Bool, ◌&&◌, List, [], ◌∷◌, if◌then◌else◌}
 use Rattle.std.specs.List.{list_any}
 use Rattle.sp_cells.specs.declared.names.TheConstants.{USERS, ADMINS}
 use Rattle.sp_cells.specs.declared.names.Uid.{Uid}

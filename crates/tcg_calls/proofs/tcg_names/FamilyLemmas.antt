@@ -1,12 +1,12 @@
 -- Which object of a table of families has a name.
-use Rattle.std.proofs.Common.{◌≡◌, ℕ, suc, ◌+◌, ◌<◌, List, [], ◌∷◌, length, get_or, drop, drop-cons, add-one, Option, Some, None, option_map, refl, sym, ◌∙◌, ap}
+use Rattle.std.proofs.Common.{◌≡◌, ℕ, suc, ◌+◌, ◌<◌, List, length, get_or, drop, drop-cons, add-one, Option, Some, None, option_map, sym, ◌∙◌, ap}
 use Rattle.std.specs.Option.{option_or}
 use Rattle.std.specs.List.{flat_map}
 use Rattle.sp_cells.specs.declared.names.Uid.{Uid}
 use Rattle.tcg_calls.specs.declared.tcg_names.families.Family.{Family}
 use Rattle.tcg_calls.specs.declared.tcg_names.families.Numbers.{Numbers}
 use Rattle.tcg_calls.specs.declared.tcg_names.families.Numbers.TheVariants.{UpTo, OfRanges}
-use Rattle.tcg_calls.specs.Objects.{Named, object_in}
+use Rattle.tcg_calls.specs.Objects.{object_in}
 use Rattle.tcg_calls.specs.Families.{member, names_for, names_of, number_for, number_of}
 use Rattle.tcg_calls.proofs.tcg_names.Joins.{object_in-append}
 use Rattle.tcg_calls.proofs.tcg_names.Numbers.{of_numbers-object, of_ranges-object}
