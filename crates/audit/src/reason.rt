@@ -19,7 +19,7 @@ pub enum AttemptFailure {
 }
 
 /// What denied an act. Addresses and counts are of sectors; range 0 is the global range.
-#[derive(Clone, Debug, Drop, PartialEq, Eq)]
+#[derive(Debug, Drop, PartialEq, Eq)]
 pub enum Why {
     /// A read over a range whose read lock is enabled and set.
     ReadLocked {
@@ -68,7 +68,7 @@ pub enum Why {
 }
 
 /// A line of the audit log: the number of the step that was denied, the client, and the reason.
-#[derive(Clone, Debug, Drop, PartialEq, Eq)]
+#[derive(Debug, Drop, PartialEq, Eq)]
 pub struct AuditLine {
     pub step: u64,
     pub client: u32,
