@@ -36,7 +36,7 @@ pub struct RunningPhase {
 }
 
 impl RunningPhase {
-    ghost use Rattle.std.specs.Prelude.{◌≡◌, ◌<◌, ◌≤◌, ◌^◌, ℕ, List, [], length, true, IfSome, IfOk, OnOk, Ok, Err};
+    ghost use Rattle.std.specs.Prelude.{◌≡◌, ◌<◌, ◌≤◌, ◌^◌, ℕ, List, [], length, true, false, IfSome, IfOk, OnOk, Ok, Err};
     ghost use Rattle.script_lines.specs.Fields.{most_call_bytes, most_send_bytes};
     ghost use Rattle.trusted_cmds.specs.Commands.{lba_of, IsCounted, payload_length, fis_of};
     ghost use Rattle.script_lines.specs.Lines.{line_said, HasBytesWithinLimits};
