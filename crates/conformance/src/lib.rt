@@ -3,8 +3,6 @@
 #![tactic(auto)]
 
 #[cfg(test)]
-pub mod conformance_hba;
-#[cfg(test)]
 mod port_steps;
 #[cfg(test)]
 mod queue;

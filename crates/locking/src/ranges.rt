@@ -22,7 +22,7 @@ pub struct Ranges {
 }
 
 /// What a transfer is answered.
-#[derive(Clone, Debug, Drop, PartialEq, Eq)]
+#[derive(Debug, Drop, PartialEq, Eq)]
 pub enum Verdict {
     /// No sector is shadowed, and each sector's range permits it.
     Serve,

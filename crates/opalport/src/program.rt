@@ -1,10 +1,10 @@
 //! What the program does with the words of its command line.
 
-ghost use Rattle.std.specs.Prelude.{◌≡◌, ◌≢◌, ◌≤◌, IfOk, map, string_bytes};
+ghost use Rattle.std.specs.Prelude.{◌≡◌, ◌≢◌, ◌≤◌, IfOk, MatchOption, map, string_bytes};
 ghost use Rattle.clap.specs.Words.{kind_of};
-ghost use Rattle.tool.specs.OptionTexts.{drive_text};
+ghost use Rattle.tool.specs.OptionTexts.{IsOfDrive, WritesConfig, drive_text};
 ghost use Rattle.tool.specs.Outcomes.{YieldsBy};
-ghost use Rattle.opalport.specs.Program.{EndsByWords, DrawEnds, ExploreEnds, ExploresOn, RunEnds, Level0Ends, ThreadsEnd, TokensEnd, Ends};
+ghost use Rattle.opalport.specs.Program.{WritesLimitedConfig, EndsByWords, DrawEnds, ExploreEnds, ExploresOn, RunEnds, Level0Ends, ThreadsEnd, TokensEnd, Ends};
 
 use crate::command_line::{ExploreTexts, LoadTexts, Request, RunTexts, TokenTexts, request_of};
 use crate::controller::serve_controller;
@@ -68,6 +68,30 @@ fn run_on<F: Files, R: Read + Drop, W: Write, E: Write>(
     Ok(status)
 }
 
+/// The options that texts write; `None` where they write none, and then `faults` is told why.
+///
+/// # Errors
+///
+/// An allocation was refused, or the writer failed.
+pub(crate) fn options_in<E: Write>(
+    alloc: Global,
+    texts: &DriveTexts<'_>,
+    faults: &mut E,
+) -> Result<Option<Options>, RunError>
+    ensures { IfOk result (λ found.
+        MatchOption found (WritesLimitedConfig (drive_text texts.now) → ⊥)
+        (λ options. WritesConfig (drive_text texts.now) options × IsOfDrive options)) }
+{
+    match Options::parse(alloc, texts) {
+        Ok(options) => Ok(Some(options)),
+        Err(OptionsFault::OutOfMemory) => Err(RunError::Memory),
+        Err(fault) => {
+            writeln!(faults, "error: {fault}").map_err(|_| RunError::Write)?;
+            Ok(None)
+        }
+    }
+}
+
 /// Runs a script on the drive that the options open, and gives the status.
 fn run<F: Files, R: Read + Drop, W: Write, E: Write>(
     files: &F,
@@ -81,14 +105,10 @@ fn run<F: Files, R: Read + Drop, W: Write, E: Write>(
     ensures ends { IfOk result (λ status. RunEnds texts.now.explains (drive_text texts.now.drive)
         (R.remaining input) status (W.contents output.old) (W.contents output.new)) }
 {
-    match Options::parse(alloc, &texts.drive) {
-        Ok(options) => run_on(files, alloc, &options, texts, input, output, faults),
-        Err(OptionsFault::OutOfMemory) => Err(ProgramError::Run(RunError::Memory)),
-        Err(fault) => {
-            writeln!(faults, "error: {fault}").map_err(|_| RunError::Write)?;
-            Ok(2)
-        }
-    }
+    let Some(options) = options_in(alloc, &texts.drive, faults)? else {
+        return Ok(2);
+    };
+    run_on(files, alloc, &options, texts, input, output, faults)
 }
 
 /// Draws the run of a script on the drive that the options open, and gives the status.
@@ -103,14 +123,10 @@ fn draw<R: Read + Drop, W: Write, E: Write>(
     ensures ends { IfOk result (λ status. DrawEnds (drive_text drive.now) (R.remaining input)
         status (W.contents output.old) (W.contents output.new)) }
 {
-    match Options::parse(alloc, drive) {
-        Ok(options) => draw_script(alloc, input, output, faults, &options),
-        Err(OptionsFault::OutOfMemory) => Err(RecordError::Run(RunError::Memory)),
-        Err(fault) => {
-            writeln!(faults, "error: {fault}").map_err(|_| RunError::Write)?;
-            Ok(2)
-        }
-    }
+    let Some(options) = options_in(alloc, drive, faults)? else {
+        return Ok(2);
+    };
+    draw_script(alloc, input, output, faults, &options)
 }
 
 /// Runs all short lists of the lines of a script on a drive, as far as the options say, and gives the status.
@@ -151,14 +167,10 @@ fn explore<R: Read + Drop, W: Write, E: Write>(
         texts.now.steps.now texts.now.limit.now texts.now.find.now (R.remaining input) status
         (W.contents output.old) (W.contents output.new)) }
 {
-    match Options::parse(alloc, &texts.drive) {
-        Ok(options) => explore_on(alloc, &options, texts, input, output, faults),
-        Err(OptionsFault::OutOfMemory) => Err(RunError::Memory),
-        Err(fault) => {
-            writeln!(faults, "error: {fault}").map_err(|_| RunError::Write)?;
-            Ok(2)
-        }
-    }
+    let Some(options) = options_in(alloc, &texts.drive, faults)? else {
+        return Ok(2);
+    };
+    explore_on(alloc, &options, texts, input, output, faults)
 }
 
 /// Prints the Level 0 discovery of a new drive, and gives the status.
@@ -172,14 +184,10 @@ fn level0<W: Write, E: Write>(
     ensures ends { IfOk result (λ status. Level0Ends (drive_text drive.now) status
         (W.contents output.old) (W.contents output.new)) }
 {
-    match Options::parse(alloc, drive) {
-        Ok(options) => run_level0(alloc, output, &options),
-        Err(OptionsFault::OutOfMemory) => Err(RunError::Memory),
-        Err(fault) => {
-            writeln!(faults, "error: {fault}").map_err(|_| RunError::Write)?;
-            Ok(2)
-        }
-    }
+    let Some(options) = options_in(alloc, drive, faults)? else {
+        return Ok(2);
+    };
+    run_level0(alloc, output, &options)
 }
 
 /// Runs clients and an engine at one port, prints what they tell, and gives the status.
