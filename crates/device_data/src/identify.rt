@@ -37,7 +37,6 @@ fn identify_word(sectors: u64, word: u16) -> u16
 /// The 512 bytes that a drive of so many sectors answers to IDENTIFY DEVICE: 256 words, of which the
 /// low byte comes first. Words 48, 75, 76 and 83 tell of trusted computing, the queue and addresses of
 /// 48 bits, words 100 to 103 how many sectors there are; all others are 0.
-#[tactic(auto, using(crate::proofs::Runs::flat_next))]
 pub fn identity(alloc: Global, sectors: u64) -> Result<Vec<u8>, AllocError>
     ensures { IfOk result (λ bytes. bytes.items ≡ identity sectors) }
 {
@@ -131,7 +130,6 @@ fn field_word(config: &DriveConfig, word: u16) -> u16
 }
 
 /// The 512 bytes of the answer under `Field`.
-#[tactic(auto, using(crate::proofs::Runs::flat_next))]
 fn field_identity(alloc: Global, config: &DriveConfig) -> Result<Vec<u8>, AllocError>
     ensures { IfOk result (λ bytes. bytes.items ≡ identity_in Field config.now) }
 {

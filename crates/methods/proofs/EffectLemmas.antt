@@ -12,7 +12,6 @@ use Rattle.transactions.specs.declared.change.Change.TheVariants.{Cells, Mbr}
 use Rattle.transactions.specs.Stored.{Stored, Part, Transaction, part_set, at_part}
 use Rattle.transactions.specs.Changes.{fault_of_change}
 use Rattle.methods.specs.Settings.{setting}
-use Rattle.sessions.specs.Deeds.{Setting}
 use Rattle.methods.specs.Changes.{setting_seen, changed_object}
 use Rattle.transactions.specs.Bytes.{bytes_from}
 use Rattle.methods.specs.Effects.{fault_of_set, has_set, is_told, stored_after, unless_fault, held_of}

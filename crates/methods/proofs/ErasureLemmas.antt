@@ -1,8 +1,7 @@
 -- The runs of ranges that follow one another.
-use Rattle.std.proofs.Common.{◌≡◌, ℕ, zero, suc, ◌+◌, ◌-◌, ◌<◌, ◌≤◌, ◌≢◌, List, [], ◌∷◌, ◌++◌, length, refl, ap, sym, ◌∙◌, arith}
+use Rattle.std.proofs.Common.{◌≡◌, ℕ, zero, suc, ◌+◌, ◌-◌, ◌<◌, ◌≤◌, ◌≢◌, List, [], ◌∷◌, ◌++◌, length, refl, ap, ◌∙◌, arith}
 use Rattle.sp_cells.specs.Flat.{LookUp}
 use Rattle.shadow_mbr.specs.declared.erasure.Run.{Run}
-use Rattle.shadow_mbr.specs.declared.erasure.Erasure.{Erasure}
 use Rattle.shadow_mbr.specs.declared.erasure.Erasure.TheVariants.{Within}
 use Rattle.methods.specs.Erasures.{run_of, runs_from, erased_by_key}
 

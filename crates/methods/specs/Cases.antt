@@ -1,6 +1,6 @@
 -- Each method that the access list offers has a case, and each column of a row stands in the table of columns (Core
 -- 2.01, section 5.3; Opal SSC 2.01, section 5.1).
-use Rattle.std.specs.Prelude.{◌≡◌, true, List, Option, None, Some, is_some}
+use Rattle.std.specs.Prelude.{◌≡◌, true, List, Option, Some, is_some}
 use Rattle.sp_cells.specs.declared.names.Uid.{Uid}
 use Rattle.sp_cells.specs.declared.names.Sp.{Sp}
 use Rattle.sp_cells.specs.declared.names.Column.{Column}
@@ -18,7 +18,7 @@ use Rattle.methods.specs.declared.kinds.Kind.TheVariants as kinds
 use Rattle.methods.specs.Columns.{columns_in, columns_of}
 use Rattle.sp_cells.specs.Values.{locking_types}
 use Rattle.basics.specs.declared.profile.Profile.{Profile}
-use Rattle.basics.specs.declared.profile.Profile.TheVariants.{Base, Field}
+use Rattle.basics.specs.declared.profile.Profile.TheVariants.{Base}
 use Rattle.methods.specs.Effects.{has_ask}
 use Rattle.methods.specs.Laws.{IsAmong}
 

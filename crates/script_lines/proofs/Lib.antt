@@ -3,6 +3,7 @@ mod Digits
 mod Heads
 mod Numerals
 mod SameWords
+mod FrontWords
 mod Sectors
 mod WrongWords
 pub mod SpellingLaws

@@ -8,7 +8,7 @@ use crate::field::Field;
 use crate::hex_text::{Hex, byte_in};
 use crate::number::number_in_front;
 use crate::verb::{Verb, verb_of};
-use crate::words::{Words, skip_blanks};
+use crate::words::{Words, behind_word, skip_blanks};
 use compacket::{ComId, Session};
 use fis::{Lba, Tag};
 use locking::RangeRow;
@@ -117,16 +117,14 @@ impl<'a> Words<'a> {
         ensures verb { result ≡ verb_of (first_word self.old.rest.now) }
         ensures rest { self.new.rest.now ≡ after_word self.old.rest.now }
     {
-        match self.rest {
-            [b'r', b'e', b'a', b'd', b' ', ..] => {
-                self.rest = &self.rest[4..];
-                Some(Verb::Read)
-            }
-            [b'w', b'r', b'i', b't', b'e', b' ', ..] => {
-                self.rest = &self.rest[5..];
-                Some(Verb::Write)
-            }
-            _ => verb_of(self.next_word()),
+        if let Some(rest) = behind_word(self.rest, b"read") {
+            self.rest = rest;
+            Some(Verb::Read)
+        } else if let Some(rest) = behind_word(self.rest, b"write") {
+            self.rest = rest;
+            Some(Verb::Write)
+        } else {
+            verb_of(self.next_word())
         }
     }
 

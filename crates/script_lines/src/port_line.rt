@@ -8,7 +8,7 @@ use crate::field::Field;
 use crate::hex_text::Hex;
 use crate::line::Reset;
 use crate::verb::{PortVerb, Verb, port_verb_of, verb_of};
-use crate::words::Words;
+use crate::words::{Words, behind_word};
 use compacket::{ComId, Session};
 use fis::{Lba, Tag};
 use locking::RangeRow;
@@ -115,28 +115,23 @@ impl<'a> Words<'a> {
         ensures verb { result ≡ port_verb_of (first_word self.old.rest.now) }
         ensures rest { self.new.rest.now ≡ after_word self.old.rest.now }
     {
-        match self.rest {
-            [b'p', b'u', b't', b' ', ..] => {
-                self.rest = &self.rest[3..];
-                Some(PortVerb::Put)
-            }
-            [b'i', b's', b's', b'u', b'e', b' ', ..] => {
-                self.rest = &self.rest[5..];
-                Some(PortVerb::Issue)
-            }
-            [b'a', b'c', b'c', b'e', b'p', b't', b' ', ..] => {
-                self.rest = &self.rest[6..];
-                Some(PortVerb::Accept)
-            }
-            [b'c', b'o', b'm', b'p', b'l', b'e', b't', b'e', b' ', ..] => {
-                self.rest = &self.rest[8..];
-                Some(PortVerb::Complete)
-            }
-            [b't', b'a', b'k', b'e', b' ', ..] => {
-                self.rest = &self.rest[4..];
-                Some(PortVerb::Take)
-            }
-            _ => port_verb_of(self.next_word()),
+        if let Some(rest) = behind_word(self.rest, b"put") {
+            self.rest = rest;
+            Some(PortVerb::Put)
+        } else if let Some(rest) = behind_word(self.rest, b"issue") {
+            self.rest = rest;
+            Some(PortVerb::Issue)
+        } else if let Some(rest) = behind_word(self.rest, b"accept") {
+            self.rest = rest;
+            Some(PortVerb::Accept)
+        } else if let Some(rest) = behind_word(self.rest, b"complete") {
+            self.rest = rest;
+            Some(PortVerb::Complete)
+        } else if let Some(rest) = behind_word(self.rest, b"take") {
+            self.rest = rest;
+            Some(PortVerb::Take)
+        } else {
+            port_verb_of(self.next_word())
         }
     }
 

@@ -1,8 +1,7 @@
 -- Faults of bytes: want of memory is none, and each is that of the shortest front of the bytes that has one.
-use Rattle.std.proofs.Common.{◌≡◌, ℕ, zero, suc, ◌%◌, ◌^◌, ◌+◌, ◌≤◌, ◌<◌, Bool, true, false, cond, ltb, eqb, List, [], ◌∷◌, ◌++◌, length, take, drop, Option, Some, None, Result, Ok, Err, refl, sym, ap, subst, ◌∙◌, arith, inl, inr}
-use Rattle.std.specs.Prelude.{if◌then◌else◌}
+use Rattle.std.proofs.Common.{◌≡◌, ℕ, zero, suc, ◌%◌, ◌^◌, Bool, true, false, cond, ltb, eqb, List, [], ◌∷◌, length, take, drop, Option, Some, None, Result, Ok, Err, refl, sym, ap, ◌∙◌}
 use Rattle.tcg_tokens.specs.declared.error.TokenError.{TokenError}
-use Rattle.tcg_tokens.specs.declared.error.TokenError.TheVariants.{Truncated, Reserved, Signed, Continued, TooBig, Unbalanced, Extra, Deep, OutOfMemory}
+use Rattle.tcg_tokens.specs.declared.error.TokenError.TheVariants.{OutOfMemory}
 use Rattle.tcg_tokens.specs.declared.token.Mark.{Mark}
 use Rattle.tcg_tokens.specs.declared.token.Mark.TheVariants.{StartList, EndList, StartName, EndName, Call, EndOfData, EndOfSession, StartTransaction, EndTransaction}
 use Rattle.tcg_tokens.specs.declared.form.Form.{Form}
@@ -12,7 +11,6 @@ use Rattle.tcg_tokens.specs.Grammar.{room_inside}
 use Rattle.tcg_tokens.specs.Lexeme.{Lexeme, number_from, same, is_mark}
 use Rattle.tcg_tokens.specs.Lexeme as lexeme
 use Rattle.tcg_tokens.specs.Lex.{◌>>=◌, content_lexeme, content_at, atom_at, form_at, mark_of, marked, mark_at, lexeme_at, skip, first_lexeme, token_at}
-use Rattle.tcg_tokens.specs.Tree.{Tree}
 use Rattle.tcg_tokens.specs.Message.{Message}
 use Rattle.tcg_tokens.specs.Reading.{Behind, expect, number_token, number_at, uid_token, uid_at, values_up_to, list_with, list_value_with, name_of, named_with, value_after_token, list_at, status_at, call_at, reply_at, marked_of, message_of, message_at, is_blank, reading}
 

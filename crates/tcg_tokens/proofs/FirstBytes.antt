@@ -1,6 +1,5 @@
 -- What the first byte says at once, where nothing is to be skipped.
-use Rattle.std.proofs.Common.{◌≡◌, ℕ, ◌<◌, Bool, true, false, ltb, eqb, List, [], ◌∷◌, ◌++◌, length, Option, Some, Result, Ok, refl, sym, subst, arith, eq-eqb}
-use Rattle.std.proofs.lemmas.Bool.{lt-ltb}
+use Rattle.std.proofs.Common.{◌≡◌, ℕ, ◌<◌, true, eqb, List, [], ◌∷◌, ◌++◌, length, Some, Ok, refl, sym, subst, arith, eq-eqb}
 use Rattle.tcg_tokens.specs.Lexeme.{code_of, marks}
 use Rattle.tcg_tokens.specs.Lexeme as lexeme
 use Rattle.tcg_tokens.specs.declared.token.Mark.{Mark}

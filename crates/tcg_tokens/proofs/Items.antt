@@ -1,5 +1,5 @@
 -- What is read as an item is spelled so, and what is spelled so is read as that item.
-use Rattle.std.proofs.Common.{◌≡◌, ℕ, true, eqb, List, [], ◌∷◌, ◌++◌, length, Result, Ok, Err, refl, sym, ap, subst, ◌∙◌, append_assoc, arith, inl, inr, eqb-true, eq-eqb}
+use Rattle.std.proofs.Common.{◌≡◌, ℕ, true, cond, eqb, List, [], ◌∷◌, ◌++◌, length, Result, Ok, Err, refl, sym, ap, subst, ◌∙◌, append_assoc, arith, inl, inr, eqb-true, eq-eqb}
 use Rattle.std.proofs.lemmas.List.{length-append, append-nil}
 use Rattle.tcg_tokens.specs.Lexeme.{AreBytes, Lexeme, is_mark, same}
 use Rattle.tcg_tokens.specs.declared.error.TokenError.{TokenError}
@@ -16,7 +16,7 @@ use Rattle.tcg_tokens.specs.Message.{Message, message, call, reply, end_session,
 use Rattle.tcg_tokens.specs.Grammar.{IsToken, AreValues, IsStatus, three_numbers, IsItem, a_call, a_reply, an_end_session, a_begin, an_end, IsFill, nothing, one_fill, Spells, room_inside}
 use Rattle.tcg_tokens.specs.Reading.{expect, number_token, number_at, uid_token, uid_at, list_with, list_at, status_at, call_at, reply_at, marked_of, message_of, message_at, is_blank, reading}
 use Rattle.tcg_tokens.proofs.Tokens.{chosen, ok_inj, IsAt, token_taken, token_again, bool_cases, behind}
-use Rattle.tcg_tokens.proofs.Values.{bind_ok, read, read_is, expect_again, expected, values_again, values_taken, sound, step}
+use Rattle.tcg_tokens.proofs.Values.{bind_then, read, read_is, expect_again, expected, values_again, values_taken, sound, step}
 
 -- ---- what is spelled is read
 
@@ -91,64 +91,73 @@ skipped_fill (b ∷ bs) e =
       | inr none ↦ absurd (let h : eqb (length (b ∷ bs)) 0 ≡ true = rw none at e in omega (arith, eqb-true _ _ h))
     ]
 
+number_read : (text rest : List ℕ) (n : ℕ) (t : Lexeme) (after : List ℕ) → IsAt text t after → number_token t after ≡ Ok (n, rest) → IsAt text (lexeme.number n) rest
+number_read text rest n (lexeme.number k) after at e =
+    let q = read_is k n after rest e in
+    subst (λ (x : List ℕ). IsAt text (lexeme.number n) x) q.1 (subst (λ (x : ℕ). IsAt text (lexeme.number x) after) q.0 at)
+number_read text rest n (lexeme.bytes b) after at e = absurd cc
+number_read text rest n (lexeme.mark m) after at e = absurd cc
+
 number_taken : (text rest : List ℕ) (n : ℕ) → AreBytes text → number_at text ≡ Ok (n, rest) → IsAt text (lexeme.number n) rest
 unfolding number_at
-number_taken text rest n ok e =
-    let p = bind_ok (token_at text) _ (n, rest) e in
-    go p.0.0 p.0.1 (token_taken text p.0.1 p.0.0 ok p.1) p.2
-  where
-    go : (t : Lexeme) (after : List ℕ) → IsAt text t after → number_token t after ≡ Ok (n, rest) → IsAt text (lexeme.number n) rest
-    go (lexeme.number k) after at e =
-        let q = read_is k n after rest e in
-        subst (λ (x : List ℕ). IsAt text (lexeme.number n) x) q.1 (subst (λ (x : ℕ). IsAt text (lexeme.number x) after) q.0 at)
-    go (lexeme.bytes b) after at e = absurd cc
-    go (lexeme.mark m) after at e = absurd cc
+number_taken text rest n ok e = bind_then (token_at text) _ (n, rest) e (λ t first then. number_read text rest n t.0 t.1 (token_taken text t.1 t.0 ok first) then)
+
+uid_read : (text rest o : List ℕ) (t : Lexeme) (after : List ℕ) → IsAt text t after → uid_token t after ≡ Ok (o, rest) → IsAt text (lexeme.bytes o) rest × (length o ≡ 8)
+uid_read text rest o (lexeme.number k) after at e = absurd cc
+uid_read text rest o (lexeme.bytes b) after at e =
+    elim (chosen (eqb (length b) 8) _ _ (Ok (o, rest)) e) [
+      | inl w ↦
+          let q = read_is b o after rest w.1 in
+          (subst (λ (x : List ℕ). IsAt text (lexeme.bytes o) x) q.1 (subst (λ (x : List ℕ). IsAt text (lexeme.bytes x) after) q.0 at), subst (λ (x : List ℕ). length x ≡ 8) q.0 (eqb-true _ _ w.0))
+      | inr w ↦ absurd (let h : Err Unbalanced ≡ read o rest = w.1 in cc)
+    ]
+uid_read text rest o (lexeme.mark m) after at e = absurd cc
 
 uid_taken : (text rest o : List ℕ) → AreBytes text → uid_at text ≡ Ok (o, rest) → IsAt text (lexeme.bytes o) rest × (length o ≡ 8)
 unfolding uid_at
-uid_taken text rest o ok e =
-    let p = bind_ok (token_at text) _ (o, rest) e in
-    go p.0.0 p.0.1 (token_taken text p.0.1 p.0.0 ok p.1) p.2
-  where
-    go : (t : Lexeme) (after : List ℕ) → IsAt text t after → uid_token t after ≡ Ok (o, rest) → IsAt text (lexeme.bytes o) rest × (length o ≡ 8)
-    go (lexeme.number k) after at e = absurd cc
-    go (lexeme.bytes b) after at e =
-        elim (chosen (eqb (length b) 8) _ _ (Ok (o, rest)) e) [
-          | inl w ↦
-              let q = read_is b o after rest w.1 in
-              (subst (λ (x : List ℕ). IsAt text (lexeme.bytes o) x) q.1 (subst (λ (x : List ℕ). IsAt text (lexeme.bytes x) after) q.0 at), subst (λ (x : List ℕ). length x ≡ 8) q.0 (eqb-true _ _ w.0))
-          | inr w ↦ absurd (let h : Err Unbalanced ≡ read o rest = w.1 in cc)
-        ]
-    go (lexeme.mark m) after at e = absurd cc
+uid_taken text rest o ok e = bind_then (token_at text) _ (o, rest) e (λ t first then. uid_read text rest o t.0 t.1 (token_taken text t.1 t.0 ok first) then)
 
-list_taken : (text rest : List ℕ) (vs : Trees) → AreBytes text → list_at text ≡ Ok (vs, rest) → (inner : List ℕ) × (text ≡ inner ++ rest) × AreValues room_inside inner vs
+-- the values of a list at the front of a text
+abbrev AreFirst : List ℕ → Trees → List ℕ → Type 0
+AreFirst text vs rest = (inner : List ℕ) × (text ≡ inner ++ rest) × AreValues room_inside inner vs
+
+list_taken : (text rest : List ℕ) (vs : Trees) → AreBytes text → list_at text ≡ Ok (vs, rest) → AreFirst text vs rest
 unfolding list_at list_with
 list_taken text rest vs ok e = values_taken room_inside (sound room_inside) (length text) text rest vs ok e
 
 five : (a b c d e rest : List ℕ) → a ++ (b ++ (c ++ (d ++ (e ++ rest)))) ≡ (a ++ (b ++ (c ++ (d ++ e)))) ++ rest
 five a b c d e rest = simp append_assoc
 
-status_taken : (text rest s : List ℕ) → AreBytes text → status_at text ≡ Ok (s, rest) → (inner : List ℕ) × (text ≡ inner ++ rest) × IsStatus inner s
+-- a status at the front of a text
+abbrev IsFirst : List ℕ → List ℕ → List ℕ → Type 0
+IsFirst text s rest = (inner : List ℕ) × (text ≡ inner ++ rest) × IsStatus inner s
+
+status_read : (text rest s start : List ℕ) (a b c : ℕ × List ℕ) (stop : List ℕ) → IsAt text (lexeme.mark StartList) start → IsAt start (lexeme.number a.0) a.1 → IsAt a.1 (lexeme.number b.0) b.1
+    → IsAt b.1 (lexeme.number c.0) c.1 → IsAt c.1 (lexeme.mark EndList) stop → read (a.0 ∷ b.0 ∷ c.0 ∷ []) stop ≡ read s rest → IsFirst text s rest
+status_read text rest s start a b c stop (f0, q0, t0) (f1, q1, t1) (f2, q2, t2) (f3, q3, t3) (f4, q4, t4) e =
+    let q = read_is (a.0 ∷ b.0 ∷ c.0 ∷ []) s stop rest e in (
+      f0 ++ (f1 ++ (f2 ++ (f3 ++ f4))),
+      step text f0 start (f1 ++ (f2 ++ (f3 ++ (f4 ++ rest)))) q0 (step start f1 a.1 (f2 ++ (f3 ++ (f4 ++ rest))) q1 (step a.1 f2 b.1 (f3 ++ (f4 ++ rest)) q2 (step b.1 f3 c.1 (f4 ++ rest) q3 (step c.1 f4 stop rest q4 q.1)))) ∙ five f0 f1 f2 f3 f4 rest,
+      subst (IsStatus (f0 ++ (f1 ++ (f2 ++ (f3 ++ f4))))) q.0 (three_numbers t0 t1 t2 t3 t4),
+    )
+
+status_taken : (text rest s : List ℕ) → AreBytes text → status_at text ≡ Ok (s, rest) → IsFirst text s rest
 unfolding status_at
 status_taken text rest s ok e =
-    let start = bind_ok (expect StartList text) _ (s, rest) e in
-    let a = bind_ok (number_at start.0) _ (s, rest) start.2 in
-    let b = bind_ok (number_at a.0.1) _ (s, rest) a.2 in
-    let c = bind_ok (number_at b.0.1) _ (s, rest) b.2 in
-    let stop = bind_ok (expect EndList c.0.1) _ (s, rest) c.2 in
-    let q = read_is (a.0.0 ∷ b.0.0 ∷ c.0.0 ∷ []) s stop.0 rest stop.2 in
-    let p0 = expected StartList text start.0 ok start.1 in
-    let ok0 = behind text p0.0 start.0 ok p0.1 in
-    let p1 = number_taken start.0 a.0.1 a.0.0 ok0 a.1 in
-    let ok1 = behind start.0 p1.0 a.0.1 ok0 p1.1 in
-    let p2 = number_taken a.0.1 b.0.1 b.0.0 ok1 b.1 in
-    let ok2 = behind a.0.1 p2.0 b.0.1 ok1 p2.1 in
-    let p3 = number_taken b.0.1 c.0.1 c.0.0 ok2 c.1 in
-    let ok3 = behind b.0.1 p3.0 c.0.1 ok2 p3.1 in
-    let p4 = expected EndList c.0.1 stop.0 ok3 stop.1 in
-    let inner : List ℕ = p0.0 ++ (p1.0 ++ (p2.0 ++ (p3.0 ++ p4.0))) in
-    let whole : text ≡ inner ++ stop.0 = step _ _ _ _ p0.1 (step _ _ _ _ p1.1 (step _ _ _ _ p2.1 (step _ _ _ _ p3.1 p4.1))) ∙ five p0.0 p1.0 p2.0 p3.0 p4.0 stop.0 in
-    (inner, step _ inner _ _ whole q.1, subst (IsStatus inner) q.0 (three_numbers p0.2 p1.2 p2.2 p3.2 p4.2))
+    bind_then (expect StartList text) _ (s, rest) e (λ start start_is e0.
+    bind_then (number_at start) _ (s, rest) e0 (λ a a_is e1.
+    bind_then (number_at a.1) _ (s, rest) e1 (λ b b_is e2.
+    bind_then (number_at b.1) _ (s, rest) e2 (λ c c_is e3.
+    bind_then (expect EndList c.1) _ (s, rest) e3 (λ stop stop_is e4.
+    let p0 : IsAt text (lexeme.mark StartList) start = expected StartList text start ok start_is in
+    let ok0 : AreBytes start = behind text p0.0 start ok p0.1 in
+    let p1 : IsAt start (lexeme.number a.0) a.1 = number_taken start a.1 a.0 ok0 a_is in
+    let ok1 : AreBytes a.1 = behind start p1.0 a.1 ok0 p1.1 in
+    let p2 : IsAt a.1 (lexeme.number b.0) b.1 = number_taken a.1 b.1 b.0 ok1 b_is in
+    let ok2 : AreBytes b.1 = behind a.1 p2.0 b.1 ok1 p2.1 in
+    let p3 : IsAt b.1 (lexeme.number c.0) c.1 = number_taken b.1 c.1 c.0 ok2 c_is in
+    let ok3 : AreBytes c.1 = behind b.1 p3.0 c.1 ok2 p3.1 in
+    status_read text rest s start a b c stop p0 p1 p2 p3 (expected EndList c.1 stop ok3 stop_is) e4)))))
 
 -- an item behind its first token
 abbrev Follows : Mark → List ℕ → Message → List ℕ → Type 0
@@ -160,90 +169,112 @@ six a b c d e f rest = simp append_assoc
 three : (a b c rest : List ℕ) → a ++ (b ++ (c ++ rest)) ≡ (a ++ (b ++ c)) ++ rest
 three a b c rest = simp append_assoc
 
+call_read : (text rest : List ℕ) (i : Message) (o m : List ℕ × List ℕ) (start : List ℕ) (args : Trees × List ℕ) (data_end : List ℕ) (st : List ℕ × List ℕ)
+    → IsAt text (lexeme.bytes o.0) o.1 × (length o.0 ≡ 8) → IsAt o.1 (lexeme.bytes m.0) m.1 × (length m.0 ≡ 8) → IsAt m.1 (lexeme.mark StartList) start → AreFirst start args.0 args.1
+    → IsAt args.1 (lexeme.mark EndOfData) data_end → IsFirst data_end st.0 st.1 → read (call o.0 m.0 args.0 st.0) st.1 ≡ read i rest → Follows Call text i rest
+call_read text rest i o m start args data_end st ((f1, q1, t1), l1) ((f2, q2, t2), l2) (f3, q3, t3) (f4, q4, t4) (f5, q5, t5) (f6, q6, t6) e =
+    let q = read_is (call o.0 m.0 args.0 st.0) i st.1 rest e in (
+      f1 ++ (f2 ++ (f3 ++ (f4 ++ (f5 ++ f6)))),
+      step text f1 o.1 (f2 ++ (f3 ++ (f4 ++ (f5 ++ (f6 ++ rest))))) q1 (step o.1 f2 m.1 (f3 ++ (f4 ++ (f5 ++ (f6 ++ rest)))) q2 (step m.1 f3 start (f4 ++ (f5 ++ (f6 ++ rest))) q3
+          (step start f4 args.1 (f5 ++ (f6 ++ rest)) q4 (step args.1 f5 data_end (f6 ++ rest) q5 (step data_end f6 st.1 rest q6 q.1))))) ∙ six f1 f2 f3 f4 f5 f6 rest,
+      λ front h. subst (IsItem (front ++ (f1 ++ (f2 ++ (f3 ++ (f4 ++ (f5 ++ f6))))))) q.0 (a_call h t1 l1 t2 l2 t3 t4 t5 t6),
+    )
+
 call_taken : (text rest : List ℕ) (i : Message) → AreBytes text → call_at text ≡ Ok (i, rest) → Follows Call text i rest
 unfolding call_at
 call_taken text rest i ok e =
-    let o = bind_ok (uid_at text) _ (i, rest) e in
-    let m = bind_ok (uid_at o.0.1) _ (i, rest) o.2 in
-    let start = bind_ok (expect StartList m.0.1) _ (i, rest) m.2 in
-    let args = bind_ok (list_at start.0) _ (i, rest) start.2 in
-    let data_end = bind_ok (expect EndOfData args.0.1) _ (i, rest) args.2 in
-    let st = bind_ok (status_at data_end.0) _ (i, rest) data_end.2 in
-    let q = read_is (call o.0.0 m.0.0 args.0.0 st.0.0) i st.0.1 rest st.2 in
-    let p1 = uid_taken text o.0.1 o.0.0 ok o.1 in
-    let ok1 = behind text p1.0.0 o.0.1 ok p1.0.1 in
-    let p2 = uid_taken o.0.1 m.0.1 m.0.0 ok1 m.1 in
-    let ok2 = behind o.0.1 p2.0.0 m.0.1 ok1 p2.0.1 in
-    let p3 = expected StartList m.0.1 start.0 ok2 start.1 in
-    let ok3 = behind m.0.1 p3.0 start.0 ok2 p3.1 in
-    let p4 = list_taken start.0 args.0.1 args.0.0 ok3 args.1 in
-    let ok4 = behind start.0 p4.0 args.0.1 ok3 p4.1 in
-    let p5 = expected EndOfData args.0.1 data_end.0 ok4 data_end.1 in
-    let ok5 = behind args.0.1 p5.0 data_end.0 ok4 p5.1 in
-    let p6 = status_taken data_end.0 st.0.1 st.0.0 ok5 st.1 in
-    let inner : List ℕ = p1.0.0 ++ (p2.0.0 ++ (p3.0 ++ (p4.0 ++ (p5.0 ++ p6.0)))) in
-    let whole : text ≡ inner ++ st.0.1 = step _ _ _ _ p1.0.1 (step _ _ _ _ p2.0.1 (step _ _ _ _ p3.1 (step _ _ _ _ p4.1 (step _ _ _ _ p5.1 p6.1)))) ∙ six p1.0.0 p2.0.0 p3.0 p4.0 p5.0 p6.0 st.0.1 in
-    (inner, step _ inner _ _ whole q.1, λ front h. subst (IsItem (front ++ inner)) q.0 (a_call h p1.0.2 p1.1 p2.0.2 p2.1 p3.2 p4.2 p5.2 p6.2))
+    bind_then (uid_at text) _ (i, rest) e (λ o o_is e1.
+    bind_then (uid_at o.1) _ (i, rest) e1 (λ m m_is e2.
+    bind_then (expect StartList m.1) _ (i, rest) e2 (λ start start_is e3.
+    bind_then (list_at start) _ (i, rest) e3 (λ args args_are e4.
+    bind_then (expect EndOfData args.1) _ (i, rest) e4 (λ data_end data_end_is e5.
+    bind_then (status_at data_end) _ (i, rest) e5 (λ st st_is e6.
+    let p1 : IsAt text (lexeme.bytes o.0) o.1 × (length o.0 ≡ 8) = uid_taken text o.1 o.0 ok o_is in
+    let ok1 : AreBytes o.1 = behind text p1.0.0 o.1 ok p1.0.1 in
+    let p2 : IsAt o.1 (lexeme.bytes m.0) m.1 × (length m.0 ≡ 8) = uid_taken o.1 m.1 m.0 ok1 m_is in
+    let ok2 : AreBytes m.1 = behind o.1 p2.0.0 m.1 ok1 p2.0.1 in
+    let p3 : IsAt m.1 (lexeme.mark StartList) start = expected StartList m.1 start ok2 start_is in
+    let ok3 : AreBytes start = behind m.1 p3.0 start ok2 p3.1 in
+    let p4 : AreFirst start args.0 args.1 = list_taken start args.1 args.0 ok3 args_are in
+    let ok4 : AreBytes args.1 = behind start p4.0 args.1 ok3 p4.1 in
+    let p5 : IsAt args.1 (lexeme.mark EndOfData) data_end = expected EndOfData args.1 data_end ok4 data_end_is in
+    let ok5 : AreBytes data_end = behind args.1 p5.0 data_end ok4 p5.1 in
+    call_read text rest i o m start args data_end st p1 p2 p3 p4 p5 (status_taken data_end st.1 st.0 ok5 st_is) e6))))))
+
+reply_read : (text rest : List ℕ) (i : Message) (args : Trees × List ℕ) (data_end : List ℕ) (st : List ℕ × List ℕ) → AreFirst text args.0 args.1 → IsAt args.1 (lexeme.mark EndOfData) data_end
+    → IsFirst data_end st.0 st.1 → read (reply args.0 st.0) st.1 ≡ read i rest → Follows StartList text i rest
+reply_read text rest i args data_end st (f4, q4, t4) (f5, q5, t5) (f6, q6, t6) e =
+    let q = read_is (reply args.0 st.0) i st.1 rest e in (
+      f4 ++ (f5 ++ f6),
+      step text f4 args.1 (f5 ++ (f6 ++ rest)) q4 (step args.1 f5 data_end (f6 ++ rest) q5 (step data_end f6 st.1 rest q6 q.1)) ∙ three f4 f5 f6 rest,
+      λ front h. subst (IsItem (front ++ (f4 ++ (f5 ++ f6)))) q.0 (a_reply h t4 t5 t6),
+    )
 
 reply_taken : (text rest : List ℕ) (i : Message) → AreBytes text → reply_at text ≡ Ok (i, rest) → Follows StartList text i rest
 unfolding reply_at
 reply_taken text rest i ok e =
-    let args = bind_ok (list_at text) _ (i, rest) e in
-    let data_end = bind_ok (expect EndOfData args.0.1) _ (i, rest) args.2 in
-    let st = bind_ok (status_at data_end.0) _ (i, rest) data_end.2 in
-    let q = read_is (reply args.0.0 st.0.0) i st.0.1 rest st.2 in
-    let p4 = list_taken text args.0.1 args.0.0 ok args.1 in
-    let ok4 = behind text p4.0 args.0.1 ok p4.1 in
-    let p5 = expected EndOfData args.0.1 data_end.0 ok4 data_end.1 in
-    let ok5 = behind args.0.1 p5.0 data_end.0 ok4 p5.1 in
-    let p6 = status_taken data_end.0 st.0.1 st.0.0 ok5 st.1 in
-    let inner : List ℕ = p4.0 ++ (p5.0 ++ p6.0) in
-    let whole : text ≡ inner ++ st.0.1 = step _ _ _ _ p4.1 (step _ _ _ _ p5.1 p6.1) ∙ three p4.0 p5.0 p6.0 st.0.1 in
-    (inner, step _ inner _ _ whole q.1, λ front h. subst (IsItem (front ++ inner)) q.0 (a_reply h p4.2 p5.2 p6.2))
+    bind_then (list_at text) _ (i, rest) e (λ args args_are e4.
+    bind_then (expect EndOfData args.1) _ (i, rest) e4 (λ data_end data_end_is e5.
+    bind_then (status_at data_end) _ (i, rest) e5 (λ st st_is e6.
+    let p4 : AreFirst text args.0 args.1 = list_taken text args.1 args.0 ok args_are in
+    let ok4 : AreBytes args.1 = behind text p4.0 args.1 ok p4.1 in
+    let p5 : IsAt args.1 (lexeme.mark EndOfData) data_end = expected EndOfData args.1 data_end ok4 data_end_is in
+    let ok5 : AreBytes data_end = behind args.1 p5.0 data_end ok4 p5.1 in
+    reply_read text rest i args data_end st p4 p5 (status_taken data_end st.1 st.0 ok5 st_is) e6)))
+
+end_taken : (text rest : List ℕ) (i : Message) → read end_session text ≡ read i rest → Follows EndOfSession text i rest
+end_taken text rest i e =
+    let q = read_is end_session i text rest e in
+    ([], q.1, λ front h. rw append-nil (subst (IsItem front) q.0 (an_end_session h)))
+
+begin_read : (text rest : List ℕ) (i : Message) (n : ℕ × List ℕ) → IsAt text (lexeme.number n.0) n.1 → read (begin n.0) n.1 ≡ read i rest → Follows StartTransaction text i rest
+begin_read text rest i n (front, whole, is_number) e =
+    let q = read_is (begin n.0) i n.1 rest e in
+    (front, step text front n.1 rest whole q.1, λ first h. subst (IsItem (first ++ front)) q.0 (a_begin h is_number))
+
+end_read : (text rest : List ℕ) (i : Message) (n : ℕ × List ℕ) → IsAt text (lexeme.number n.0) n.1 → read (end n.0) n.1 ≡ read i rest → Follows EndTransaction text i rest
+end_read text rest i n (front, whole, is_number) e =
+    let q = read_is (end n.0) i n.1 rest e in
+    (front, step text front n.1 rest whole q.1, λ first h. subst (IsItem (first ++ front)) q.0 (an_end h is_number))
 
 marked_taken : (m : Mark) (text rest : List ℕ) (i : Message) → AreBytes text → marked_of m text ≡ Ok (i, rest) → Follows m text i rest
 marked_taken Call text rest i ok e = call_taken text rest i ok e
 marked_taken StartList text rest i ok e = reply_taken text rest i ok e
-marked_taken EndOfSession text rest i ok e =
-    let q = read_is end_session i text rest e in
-    ([], q.1, λ front h. rw append-nil (subst (IsItem front) q.0 (an_end_session h)))
-marked_taken StartTransaction text rest i ok e =
-    let n = bind_ok (number_at text) _ (i, rest) e in
-    let q = read_is (begin n.0.0) i n.0.1 rest n.2 in
-    let p = number_taken text n.0.1 n.0.0 ok n.1 in
-    (p.0, step _ p.0 _ _ p.1 q.1, λ front h. subst (IsItem (front ++ p.0)) q.0 (a_begin h p.2))
-marked_taken EndTransaction text rest i ok e =
-    let n = bind_ok (number_at text) _ (i, rest) e in
-    let q = read_is (end n.0.0) i n.0.1 rest n.2 in
-    let p = number_taken text n.0.1 n.0.0 ok n.1 in
-    (p.0, step _ p.0 _ _ p.1 q.1, λ front h. subst (IsItem (front ++ p.0)) q.0 (an_end h p.2))
+marked_taken EndOfSession text rest i ok e = end_taken text rest i e
+marked_taken StartTransaction text rest i ok e = bind_then (number_at text) _ (i, rest) e (λ n n_is then. begin_read text rest i n (number_taken text n.1 n.0 ok n_is) then)
+marked_taken EndTransaction text rest i ok e = bind_then (number_at text) _ (i, rest) e (λ n n_is then. end_read text rest i n (number_taken text n.1 n.0 ok n_is) then)
 marked_taken EndList text rest i ok e = absurd cc
 marked_taken StartName text rest i ok e = absurd cc
 marked_taken EndName text rest i ok e = absurd cc
 marked_taken EndOfData text rest i ok e = absurd cc
 
-item_taken : (text rest : List ℕ) (i : Message) → AreBytes text → message_at text ≡ Ok (i, rest) → (inner : List ℕ) × (text ≡ inner ++ rest) × IsItem inner i
+-- an item at the front of a text
+abbrev ItemFirst : List ℕ → Message → List ℕ → Type 0
+ItemFirst text i rest = (inner : List ℕ) × (text ≡ inner ++ rest) × IsItem inner i
+
+item_joined : (text after rest : List ℕ) (i : Message) (m : Mark) → IsAt text (lexeme.mark m) after → Follows m after i rest → ItemFirst text i rest
+item_joined text after rest i m (front, whole, is_mark) (inner, then, goes_on) =
+    (front ++ inner, whole ∙ ap (λ (x : List ℕ). front ++ x) then ∙ sym (append_assoc front inner rest), goes_on front is_mark)
+
+item_read : (text rest : List ℕ) (i : Message) (t : Lexeme) (after : List ℕ) → AreBytes text → IsAt text t after → message_of t after ≡ Ok (i, rest) → ItemFirst text i rest
+item_read text rest i (lexeme.number n) after ok at e = absurd cc
+item_read text rest i (lexeme.bytes b) after ok at e = absurd cc
+item_read text rest i (lexeme.mark m) after ok at e = item_joined text after rest i m at (marked_taken m after rest i (behind text at.0 after ok at.1) e)
+
+item_taken : (text rest : List ℕ) (i : Message) → AreBytes text → message_at text ≡ Ok (i, rest) → ItemFirst text i rest
 unfolding message_at
-item_taken text rest i ok e =
-    let p = bind_ok (token_at text) _ (i, rest) e in
-    go p.0.0 p.0.1 (token_taken text p.0.1 p.0.0 ok p.1) p.2
-  where
-    go : (t : Lexeme) (after : List ℕ) → IsAt text t after → message_of t after ≡ Ok (i, rest) → (inner : List ℕ) × (text ≡ inner ++ rest) × IsItem inner i
-    go (lexeme.number n) after at e = absurd cc
-    go (lexeme.bytes b) after at e = absurd cc
-    go (lexeme.mark m) after at e =
-        let f = marked_taken m after rest i (behind text at.0 after ok at.1) e in
-        (at.0 ++ f.0, at.1 ∙ ap (λ (x : List ℕ). at.0 ++ x) f.1 ∙ sym (append_assoc at.0 f.0 rest), f.2 at.0 at.2)
+item_taken text rest i ok e = bind_then (token_at text) _ (i, rest) e (λ t first then. item_read text rest i t.0 t.1 ok (token_taken text t.1 t.0 ok first) then)
+
+all_read : (text : List ℕ) (i : Message) (m : Message × List ℕ) → ItemFirst text m.0 m.1 → cond (is_blank m.1) (Ok m.0) (Err Extra) ≡ Ok i → Spells text i
+all_read text i m at e =
+    elim (chosen (is_blank m.1) (Ok m.0) (Err Extra) (Ok i) e) [
+      | inl w ↦ (at.0, m.1, at.1, subst (IsItem at.0) (ok_inj m.0 i w.1) at.2, skipped_fill m.1 w.0)
+      | inr w ↦ absurd cc
+    ]
 
 pub all_taken : (text : List ℕ) (i : Message) → AreBytes text → reading text ≡ Ok i → Spells text i
 unfolding reading
-all_taken text i ok e =
-    let p = bind_ok (message_at text) _ i e in
-    let at = item_taken text p.0.1 p.0.0 ok p.1 in
-    elim (chosen (is_blank p.0.1) (Ok p.0.0) (Err Extra) (Ok i) p.2) [
-      | inl w ↦ (at.0, p.0.1, at.1, subst (IsItem at.0) (ok_inj p.0.0 i w.1) at.2, skipped_fill p.0.1 w.0)
-      | inr w ↦ absurd cc
-    ]
+all_taken text i ok e = bind_then (message_at text) _ i e (λ m m_is then. all_read text i m (item_taken text m.1 m.0 ok m_is) then)
 
 -- what a function gives that gives the reading
 pub found : (text : List ℕ) (r : Result Item TokenError) → AreBytes text → Gives message r (reading text) → IfOk r (λ i. Spells text (message i))

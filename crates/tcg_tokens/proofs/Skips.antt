@@ -1,5 +1,5 @@
 -- What is behind something that is read, apart from what it says.
-use Rattle.std.proofs.Common.{◌≡◌, ℕ, zero, suc, ◌-◌, ◌+◌, ◌≤◌, ◌<◌, Bool, true, false, cond, List, Result, Ok, Err, refl, sym, ap, ◌∙◌, arith}
+use Rattle.std.proofs.Common.{◌≡◌, ℕ, suc, ◌-◌, ◌+◌, ◌≤◌, ◌<◌, Bool, true, false, List, Result, Ok, Err, refl, sym, ap, ◌∙◌, arith}
 use Rattle.std.specs.Prelude.{if◌then◌else◌}
 use Rattle.tcg_tokens.specs.declared.error.TokenError.{TokenError}
 use Rattle.tcg_tokens.specs.declared.error.TokenError.TheVariants.{Truncated, Unbalanced, Extra, Deep}
@@ -9,7 +9,7 @@ use Rattle.tcg_tokens.specs.Gives.{rest_of, is_fault}
 use Rattle.tcg_tokens.specs.Lexeme.{Lexeme, same, is_mark, AreBytes}
 use Rattle.tcg_tokens.specs.Lexeme as lexeme
 use Rattle.tcg_tokens.specs.Lex.{◌>>=◌, token_at}
-use Rattle.tcg_tokens.specs.Tree.{Tree, Trees, list, named, empty, more}
+use Rattle.tcg_tokens.specs.Tree.{Trees, list, named, more}
 use Rattle.tcg_tokens.specs.Grammar.{Spells, room_inside}
 use Rattle.tcg_tokens.specs.Message.{Message, call, reply}
 use Rattle.tcg_tokens.specs.Reading.{Behind, expect, uid_at, values_up_to, list_with, list_value_with, name_of, named_with, value_after_token, list_at, status_at, call_at, reply_at, message_at, is_blank, reading}

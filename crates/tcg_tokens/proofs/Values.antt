@@ -14,9 +14,10 @@ use Rattle.tcg_tokens.specs.Reading.{expect, values_up_to, list_with, list_value
 use Rattle.tcg_tokens.proofs.Loop.{is_a_number, are_bytes}
 use Rattle.tcg_tokens.proofs.Tokens.{chosen, ok_inj, IsAt, token_taken, token_again, behind as bytes_behind}
 
-pub bind_ok : {A B : Type 0} (r : Result A TokenError) (f : A → Result B TokenError) (y : B) → (r >>= f) ≡ Ok y → (x : A) × (r ≡ Ok x) × (f x ≡ Ok y)
-bind_ok (Ok x) f y e = (x, refl, e)
-bind_ok (Err d) f y e = absurd cc
+-- what is read first, under a name of its own, and how the reading goes on
+pub bind_then : {A B G : Type 0} (r : Result A TokenError) (f : A → Result B TokenError) (y : B) → (r >>= f) ≡ Ok y → ((x : A) → r ≡ Ok x → f x ≡ Ok y → G) → G
+bind_then (Ok x) f y e k = k x refl e
+bind_then (Err d) f y e k = absurd cc
 
 -- ---- what is spelled is read
 
@@ -101,16 +102,17 @@ is_that_mark m (lexeme.number n) e = absurd cc
 is_that_mark m (lexeme.bytes b) e = absurd cc
 is_that_mark m (lexeme.mark n) e = ap (λ (x : Mark). lexeme.mark x) (same_is n m e)
 
+mark_taken : (m : Mark) (text rest : List ℕ) (t : Lexeme × List ℕ) → IsAt text t.0 t.1 → cond (is_mark m t.0) (Ok t.1) (Err Unbalanced) ≡ Ok rest → IsAt text (lexeme.mark m) rest
+mark_taken m text rest t at e =
+    elim (chosen (is_mark m t.0) (Ok t.1) (Err Unbalanced) (Ok rest) e) [
+      | inl w ↦ subst (λ (x : List ℕ). IsAt text (lexeme.mark m) x) (ok_inj t.1 rest w.1) (subst (λ (x : Lexeme). IsAt text x t.1) (is_that_mark m t.0 w.0) at)
+      | inr w ↦ absurd cc
+    ]
+
 pub expected : (m : Mark) (text rest : List ℕ) → AreBytes text → expect m text ≡ Ok rest → IsAt text (lexeme.mark m) rest
 unfolding expect
 expected m text rest ok e =
-    let p = bind_ok (token_at text) (λ t. cond (is_mark m t.0) (Ok t.1) (Err Unbalanced)) rest e in
-    elim (chosen (is_mark m p.0.0) (Ok p.0.1) (Err Unbalanced) (Ok rest) p.2) [
-      | inl w ↦
-          let same_rest : p.0.1 ≡ rest = ok_inj p.0.1 rest w.1 in
-          subst (λ (x : List ℕ). IsAt text (lexeme.mark m) x) same_rest (subst (λ (x : Lexeme). IsAt text x p.0.1) (is_that_mark m p.0.0 w.0) (token_taken text p.0.1 p.0.0 ok p.1))
-      | inr w ↦ absurd cc
-    ]
+    bind_then (token_at text) (λ t. cond (is_mark m t.0) (Ok t.1) (Err Unbalanced)) rest e (λ t first then. mark_taken m text rest t (token_taken text t.1 t.0 ok first) then)
 
 -- a value behind its first token
 abbrev pub Goes : ℕ → Lexeme → List ℕ → Tree → List ℕ → Type 0
@@ -136,27 +138,34 @@ read_is {A} x y a b e =
 pub step : (text front after whole : List ℕ) → text ≡ front ++ after → after ≡ whole → text ≡ front ++ whole
 step text front after whole e f = e ∙ ap (λ (x : List ℕ). front ++ x) f
 
+pieces : (text front after inner middle back last rest : List ℕ) → text ≡ front ++ after → after ≡ inner ++ middle → middle ≡ back ++ last → last ≡ rest → text ≡ ((front ++ inner) ++ back) ++ rest
+pieces text front after inner middle back last rest e f g h = step text front after (inner ++ (back ++ rest)) e (step after inner middle (back ++ rest) f (step middle back last rest g h)) ∙ simp append_assoc
+
+last_taken : (room : ℕ) (text rest : List ℕ) (vs : Trees) (t : Lexeme × List ℕ) → IsAt text t.0 t.1 → is_mark EndList t.0 ≡ true → read empty t.1 ≡ read vs rest → AreAt room text vs rest
+last_taken room text rest vs t at is_end e =
+    let q = read_is empty vs t.1 rest e in
+    (at.0, step text at.0 t.1 rest at.1 q.1, subst (λ (x : Trees). AreValues room at.0 x) q.0 (no_more (subst (IsToken at.0) (is_that_mark EndList t.0 is_end) at.2)))
+
+more_taken : (room : ℕ) (text rest : List ℕ) (vs : Trees) (t : Lexeme × List ℕ) (v : Tree × List ℕ) (ws : Trees × List ℕ) → IsAt text t.0 t.1 → Goes room t.0 t.1 v.0 v.1 → AreAt room v.1 ws.0 ws.1 → read (more v.0 ws.0) ws.1 ≡ read vs rest → AreAt room text vs rest
+more_taken room text rest vs t v ws (front, whole, is_token) (inner, goes, is_value) (back, others, are_values) e =
+    let q = read_is (more v.0 ws.0) vs ws.1 rest e in
+    ((front ++ inner) ++ back, pieces text front t.1 inner v.1 back ws.1 rest whole goes others q.1, subst (λ (x : Trees). AreValues room ((front ++ inner) ++ back) x) q.0 (one_more (is_value front is_token) are_values))
+
 pub values_taken : (room : ℕ) → IsSound room → (count : ℕ) (text rest : List ℕ) (vs : Trees) → AreBytes text → values_up_to (value_after_token room) count text ≡ Ok (vs, rest) → AreAt room text vs rest
 unfolding values_up_to
 values_taken room sound zero text rest vs ok e = absurd cc
 values_taken room sound (suc count) text rest vs ok e =
-    let p = bind_ok (token_at text) _ (vs, rest) e in
-    let at = token_taken text p.0.1 p.0.0 ok p.1 in
-    let ok_behind = bytes_behind text at.0 p.0.1 ok at.1 in
-    elim (chosen (is_mark EndList p.0.0) _ _ (Ok (vs, rest)) p.2) [
-      | inl w ↦
-          let q = read_is empty vs p.0.1 rest w.1 in
-          let is_end : IsToken at.0 (lexeme.mark EndList) = subst (IsToken at.0) (is_that_mark EndList p.0.0 w.0) at.2 in
-          (at.0, step _ at.0 _ _ at.1 q.1, subst (λ (x : Trees). AreValues room at.0 x) q.0 (no_more is_end))
+    bind_then (token_at text) _ (vs, rest) e (λ t first then.
+    let at : IsAt text t.0 t.1 = token_taken text t.1 t.0 ok first in
+    let ok_behind : AreBytes t.1 = bytes_behind text at.0 t.1 ok at.1 in
+    elim (chosen (is_mark EndList t.0) _ _ (Ok (vs, rest)) then) [
+      | inl w ↦ last_taken room text rest vs t at w.0 w.1
       | inr w ↦
-          let v = bind_ok (value_after_token room p.0.0 p.0.1) _ (vs, rest) w.1 in
-          let ws = bind_ok (values_up_to (value_after_token room) count v.0.1) _ (vs, rest) v.2 in
-          let q = read_is (more v.0.0 ws.0.0) vs ws.0.1 rest ws.2 in
-          let s = sound p.0.0 p.0.1 v.0.1 v.0.0 ok_behind v.1 in
-          let ih = values_taken room sound count v.0.1 ws.0.1 ws.0.0 (bytes_behind p.0.1 s.0 v.0.1 ok_behind s.1) ws.1 in
-          let whole : text ≡ ((at.0 ++ s.0) ++ ih.0) ++ ws.0.1 = at.1 ∙ ap (λ (x : List ℕ). at.0 ++ x) (s.1 ∙ ap (λ (x : List ℕ). s.0 ++ x) ih.1) ∙ simp append_assoc in
-          ((at.0 ++ s.0) ++ ih.0, step _ ((at.0 ++ s.0) ++ ih.0) _ _ whole q.1, subst (λ (x : Trees). AreValues room ((at.0 ++ s.0) ++ ih.0) x) q.0 (one_more (s.2 at.0 at.2) ih.2))
-    ]
+          bind_then (value_after_token room t.0 t.1) _ (vs, rest) w.1 (λ v is_value others.
+          let s : Goes room t.0 t.1 v.0 v.1 = sound t.0 t.1 v.1 v.0 ok_behind is_value in
+          bind_then (values_up_to (value_after_token room) count v.1) _ (vs, rest) others (λ ws are_values end.
+          more_taken room text rest vs t v ws at s (values_taken room sound count v.1 ws.1 ws.0 (bytes_behind t.1 s.0 v.1 ok_behind s.1) are_values) end))
+    ])
 
 name_taken : (t : Lexeme) (n : Tree) → name_of t ≡ Ok n → (text : List ℕ) → IsToken text t → IsName text n
 name_taken (lexeme.number k) n e text h = subst (IsName text) (ok_inj (number k) n e) (number_name h)
@@ -166,51 +175,78 @@ name_taken (lexeme.mark m) n e text h = absurd cc
 regroup : (a b c d e : List ℕ) → a ++ (b ++ (c ++ (d ++ e))) ≡ (a ++ ((b ++ c) ++ d)) ++ e
 regroup a b c d e = simp append_assoc
 
-pub sound : (room : ℕ) → IsSound room
-unfolding value_after_token list_value_with list_with named_with
-sound room (lexeme.number n) behind rest v ok e =
-    let q = read_is (number n) v behind rest (sym (is_a_number room n behind) ∙ e) in
-    ([], q.1, λ front h. rw append-nil (subst (IsValue room front) q.0 (a_number h)))
-sound room (lexeme.bytes b) behind rest v ok e =
-    let q = read_is (bytes b) v behind rest (sym (are_bytes room b behind) ∙ e) in
-    ([], q.1, λ front h. rw append-nil (subst (IsValue room front) q.0 (some_bytes h)))
-sound zero (lexeme.mark m) behind rest v ok e =
+list_read : (room : ℕ) (m : Mark) (behind rest : List ℕ) (v : Tree) (vs : Trees × List ℕ) → same m StartList ≡ true → AreAt room behind vs.0 vs.1 → read (list vs.0) vs.1 ≡ read v rest → Goes (suc room) (lexeme.mark m) behind v rest
+list_read room m behind rest v vs is_start at e =
+    let q = read_is (list vs.0) v vs.1 rest e in
+    (at.0, step behind at.0 vs.1 rest at.1 q.1, λ front h. subst (IsValue (suc room) (front ++ at.0)) q.0 (a_list (subst (λ (x : Mark). IsToken front (lexeme.mark x)) (same_is m StartList is_start) h) at.2))
+
+list_goes : (room : ℕ) → IsSound room → (m : Mark) (behind rest : List ℕ) (v : Tree) → AreBytes behind → same m StartList ≡ true → list_value_with (value_after_token room) behind ≡ Ok (v, rest) → Goes (suc room) (lexeme.mark m) behind v rest
+unfolding list_value_with list_with
+list_goes room sound m behind rest v ok is_start e =
+    bind_then (values_up_to (value_after_token room) (length behind) behind) _ (v, rest) e (λ vs are_values end.
+    list_read room m behind rest v vs is_start (values_taken room sound (length behind) behind vs.1 vs.0 ok are_values) end)
+
+-- a named value, part by part
+named_parts : (behind name after first middle inner last stop end rest : List ℕ) → behind ≡ name ++ after → after ≡ first ++ middle → middle ≡ inner ++ last → last ≡ stop ++ end → end ≡ rest → behind ≡ (name ++ ((first ++ inner) ++ stop)) ++ rest
+named_parts behind name after first middle inner last stop end rest e f g h i =
+    step behind name after (first ++ (inner ++ (stop ++ rest))) e (step after first middle (inner ++ (stop ++ rest)) f (step middle inner last (stop ++ rest) g (step last stop end rest h i))) ∙ regroup name first inner stop rest
+
+named_read : (room : ℕ) (m : Mark) (behind rest : List ℕ) (v : Tree) (n : Lexeme × List ℕ) (name : Tree) (t : Lexeme × List ℕ) (w : Tree × List ℕ) (end : List ℕ) → same m StartName ≡ true
+    → IsAt behind n.0 n.1 → name_of n.0 ≡ Ok name → IsAt n.1 t.0 t.1 → Goes room t.0 t.1 w.0 w.1 → IsAt w.1 (lexeme.mark EndName) end → read (named name w.0) end ≡ read v rest
+    → Goes (suc room) (lexeme.mark m) behind v rest
+named_read room m behind rest v n name t w end is_start (front, whole, is_first) is_name (first, then, is_token) (inner, goes, is_value) (stop, others, is_end) e =
+    let q = read_is (named name w.0) v end rest e in (
+      front ++ ((first ++ inner) ++ stop),
+      named_parts behind front n.1 first t.1 inner w.1 stop end rest whole then goes others q.1,
+      λ start h. subst (IsValue (suc room) (start ++ (front ++ ((first ++ inner) ++ stop)))) q.0
+          (a_name (subst (λ (x : Mark). IsToken start (lexeme.mark x)) (same_is m StartName is_start) h) (name_taken n.0 name is_name front is_first) (is_value first is_token) is_end),
+    )
+
+named_goes : (room : ℕ) → IsSound room → (m : Mark) (behind rest : List ℕ) (v : Tree) → AreBytes behind → same m StartName ≡ true → named_with (value_after_token room) behind ≡ Ok (v, rest) → Goes (suc room) (lexeme.mark m) behind v rest
+unfolding named_with
+named_goes room sound m behind rest v ok is_start e =
+    bind_then (token_at behind) _ (v, rest) e (λ n n_is e1.
+    bind_then (name_of n.0) _ (v, rest) e1 (λ name name_is e2.
+    bind_then (token_at n.1) _ (v, rest) e2 (λ t t_is e3.
+    bind_then (value_after_token room t.0 t.1) _ (v, rest) e3 (λ w w_is e4.
+    bind_then (expect EndName w.1) _ (v, rest) e4 (λ end end_is e5.
+    let at : IsAt behind n.0 n.1 = token_taken behind n.1 n.0 ok n_is in
+    let ok_name : AreBytes n.1 = bytes_behind behind at.0 n.1 ok at.1 in
+    let first : IsAt n.1 t.0 t.1 = token_taken n.1 t.1 t.0 ok_name t_is in
+    let ok_first : AreBytes t.1 = bytes_behind n.1 first.0 t.1 ok_name first.1 in
+    let goes : Goes room t.0 t.1 w.0 w.1 = sound t.0 t.1 w.1 w.0 ok_first w_is in
+    named_read room m behind rest v n name t w end is_start at name_is first goes (expected EndName w.1 end (bytes_behind t.1 goes.0 w.1 ok_first goes.1) end_is) e5)))))
+
+too_deep : (m : Mark) (behind rest : List ℕ) (v : Tree) → value_after_token 0 (lexeme.mark m) behind ≡ Ok (v, rest) → Goes 0 (lexeme.mark m) behind v rest
+unfolding value_after_token
+too_deep m behind rest v e =
     elim (chosen (same m StartList) _ _ (Ok (v, rest)) e) [
       | inl w ↦ absurd (let h : Err Deep ≡ read v rest = w.1 in cc)
       | inr w1 ↦
           elim (chosen (same m StartName) _ _ (Ok (v, rest)) w1.1) [ inl w ↦ absurd (let h : Err Deep ≡ read v rest = w.1 in cc) | inr w ↦ absurd (let h : Err Unbalanced ≡ read v rest = w.1 in cc) ]
     ]
-sound (suc room) (lexeme.mark m) behind rest v ok e =
+
+mark_goes : (room : ℕ) → IsSound room → (m : Mark) (behind rest : List ℕ) (v : Tree) → AreBytes behind → value_after_token (suc room) (lexeme.mark m) behind ≡ Ok (v, rest) → Goes (suc room) (lexeme.mark m) behind v rest
+unfolding value_after_token
+mark_goes room sound m behind rest v ok e =
     elim (chosen (same m StartList) _ _ (Ok (v, rest)) e) [
-      | inl w ↦
-          let vs = bind_ok (values_up_to (value_after_token room) (length behind) behind) _ (v, rest) w.1 in
-          let q = read_is (list vs.0.0) v vs.0.1 rest vs.2 in
-          let at = values_taken room (sound room) (length behind) behind vs.0.1 vs.0.0 ok vs.1 in
-          let m-is = same_is m StartList w.0 in
-          (at.0, step _ at.0 _ _ at.1 q.1, λ front h. subst (IsValue (suc room) (front ++ at.0)) q.0 (a_list (subst (λ (x : Mark). IsToken front (lexeme.mark x)) m-is h) at.2))
+      | inl w ↦ list_goes room sound m behind rest v ok w.0 w.1
       | inr w1 ↦
-          elim (chosen (same m StartName) _ _ (Ok (v, rest)) w1.1) [
-            | inl w ↦
-                let n = bind_ok (token_at behind) _ (v, rest) w.1 in
-                let nm = bind_ok (name_of n.0.0) _ (v, rest) n.2 in
-                let t = bind_ok (token_at n.0.1) _ (v, rest) nm.2 in
-                let val = bind_ok (value_after_token room t.0.0 t.0.1) _ (v, rest) t.2 in
-                let last = bind_ok (expect EndName val.0.1) _ (v, rest) val.2 in
-                let q = read_is (named nm.0 val.0.0) v last.0 rest last.2 in
-                let name_at = token_taken behind n.0.1 n.0.0 ok n.1 in
-                let ok_name = bytes_behind behind name_at.0 n.0.1 ok name_at.1 in
-                let first_at = token_taken n.0.1 t.0.1 t.0.0 ok_name t.1 in
-                let ok_first = bytes_behind n.0.1 first_at.0 t.0.1 ok_name first_at.1 in
-                let s = sound room t.0.0 t.0.1 val.0.1 val.0.0 ok_first val.1 in
-                let end_at = expected EndName val.0.1 last.0 (bytes_behind t.0.1 s.0 val.0.1 ok_first s.1) last.1 in
-                let inner : List ℕ = name_at.0 ++ ((first_at.0 ++ s.0) ++ end_at.0) in
-                let whole : behind ≡ inner ++ last.0 = step behind name_at.0 n.0.1 _ name_at.1 (step n.0.1 first_at.0 t.0.1 _ first_at.1 (step t.0.1 s.0 val.0.1 _ s.1 end_at.1)) ∙ regroup name_at.0 first_at.0 s.0 end_at.0 last.0 in
-                let m-is = same_is m StartName w.0 in (
-                  inner,
-                  step _ inner _ _ whole q.1,
-                  λ front h. subst (IsValue (suc room) (front ++ inner)) q.0
-                      (a_name (subst (λ (x : Mark). IsToken front (lexeme.mark x)) m-is h) (name_taken n.0.0 nm.0 nm.1 name_at.0 name_at.2) (s.2 first_at.0 first_at.2) end_at.2),
-                )
-            | inr w ↦ absurd (let h : Err Unbalanced ≡ read v rest = w.1 in cc)
-          ]
+          elim (chosen (same m StartName) _ _ (Ok (v, rest)) w1.1) [ inl w ↦ named_goes room sound m behind rest v ok w.0 w.1 | inr w ↦ absurd (let h : Err Unbalanced ≡ read v rest = w.1 in cc) ]
     ]
+
+number_goes : (room n : ℕ) (behind rest : List ℕ) (v : Tree) → value_after_token room (lexeme.number n) behind ≡ Ok (v, rest) → Goes room (lexeme.number n) behind v rest
+number_goes room n behind rest v e =
+    let q = read_is (number n) v behind rest (sym (is_a_number room n behind) ∙ e) in
+    ([], q.1, λ front h. rw append-nil (subst (IsValue room front) q.0 (a_number h)))
+
+bytes_go : (room : ℕ) (b behind rest : List ℕ) (v : Tree) → value_after_token room (lexeme.bytes b) behind ≡ Ok (v, rest) → Goes room (lexeme.bytes b) behind v rest
+bytes_go room b behind rest v e =
+    let q = read_is (bytes b) v behind rest (sym (are_bytes room b behind) ∙ e) in
+    ([], q.1, λ front h. rw append-nil (subst (IsValue room front) q.0 (some_bytes h)))
+
+pub sound : (room : ℕ) → IsSound room
+sound room (lexeme.number n) behind rest v ok e = number_goes room n behind rest v e
+sound room (lexeme.bytes b) behind rest v ok e = bytes_go room b behind rest v e
+sound zero (lexeme.mark m) behind rest v ok e = too_deep m behind rest v e
+sound (suc room) (lexeme.mark m) behind rest v ok e = mark_goes room (sound room) m behind rest v ok e

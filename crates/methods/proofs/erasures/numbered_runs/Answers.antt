@@ -1,4 +1,4 @@
-use Rattle.std.proofs.Common.{◌≡◌, ◌<◌, ◌-◌, List, length, arith, ap, ◌∙◌}
+use Rattle.std.proofs.Common.{◌≡◌, ◌-◌, List, arith, ap, ◌∙◌}
 use Rattle.arrayvec.specs.ArrayVec.{ArrayVec}
 use Rattle.sp_cells.specs.declared.names.TheConstants.{RANGES}
 use Rattle.shadow_mbr.specs.declared.erasure.Run.{Run}

@@ -1,4 +1,4 @@
-use Rattle.std.proofs.Common.{◌≡◌, ◌==◌, ◌+◌, ◌*◌, ◌∙◌, false, [], ◌∷◌, ◌++◌, ap, ap₂, map, arith, rules, ℕ}
+use Rattle.std.proofs.Common.{◌≡◌, ◌==◌, ◌+◌, ◌∙◌, false, [], ◌∷◌, ◌++◌, ap, ap₂, map, arith, rules, ℕ}
 use Rattle.std.proofs.lemmas.Bool.Decides.{nat_tests}
 use Rattle.std.specs.Prelude.{◌-◌, nat_le, nat_lt, slice_index}
 use Rattle.sp_cells.specs.Config.{sizes_in, table_sectors}

@@ -1,4 +1,4 @@
-use Rattle.std.proofs.Common.{◌≡◌, sym, ◌∙◌, length}
+use Rattle.std.proofs.Common.{sym, ◌∙◌, length}
 use Rattle.std.proofs.lemmas.Result.{err_from_is_err_and}
 use Rattle.tcg_tokens.proofs.Skips.{goes_on, token_fails, value_fails, ends, runs_out}
 use Rattle.tcg_tokens.specs.Gives.{rest_of}
