@@ -1,5 +1,5 @@
 -- A controller and a port start from what their drive starts from.
-use Rattle.std.proofs.Common.{List}
+use Rattle.std.proofs.Common.{List, []}
 use Rattle.sp_cells.specs.Config.{Config}
 use Rattle.locking.specs.declared.range.RangeRow.{RangeRow}
 use Rattle.history.specs.Opening.{Origin}
