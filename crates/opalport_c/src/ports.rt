@@ -114,16 +114,16 @@ pub extern "C" fn opal_raw_port_put(
     alloc: Global,
     client: u32,
     tag: u8,
-    asked: &Asked,
+    asked: Asked,
     payload: &[u8],
 ) -> Count
     ensures { PutsByHandle handle.old.place.kept handle.new.place.kept
-        client tag asked.now payload.now result }
+        client tag asked payload.now result }
 {
     let Some(mut object) = handle.take(alloc) else {
         return Count::refused(CallError::NotOpen);
     };
-    let told = object.put(alloc, client, tag, asked, payload);
+    let told = object.put(alloc, client, tag, &asked, payload);
     handle.put(object);
     told
 }
