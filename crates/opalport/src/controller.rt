@@ -6,11 +6,10 @@ ghost use Rattle.opalport.specs.Program.{ControllerEnds, HbaEnds};
 
 use crate::command_line::HbaTexts;
 use crate::error::ProgramError;
-use crate::program::options_in;
 use hba_program::hba_tool::{RangeFault, drive_with_ranges, serve};
 use std::alloc::Global;
 use std::io::{Read, Write};
-use tool::{Options, RunError};
+use tool::{Options, OptionsFault, RunError};
 
 /// Serves a host on the drive of a configuration and of ranges, and gives the status: 2 where a range is refused.
 fn on_drive<R: Read + Drop, W: Write, E: Write>(
@@ -49,8 +48,12 @@ pub(crate) fn serve_controller<R: Read + Drop, W: Write, E: Write>(
         (drive_text texts.now.drive) (map (λ s. s.now) texts.now.ranges.items)
         (R.remaining input) status (W.contents output.old) (W.contents output.new)) }
 {
-    let Some(options) = options_in(alloc, &texts.drive, faults)? else {
-        return Ok(2);
-    };
-    on_drive(alloc, &options, &texts.ranges, input, output, faults)
+    match Options::parse(alloc, &texts.drive) {
+        Ok(options) => on_drive(alloc, &options, &texts.ranges, input, output, faults),
+        Err(OptionsFault::OutOfMemory) => Err(ProgramError::Run(RunError::Memory)),
+        Err(fault) => {
+            writeln!(faults, "error: {fault}").map_err(|_| RunError::Write)?;
+            Ok(2)
+        }
+    }
 }

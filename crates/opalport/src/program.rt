@@ -73,7 +73,7 @@ fn run_on<F: Files, R: Read + Drop, W: Write, E: Write>(
 /// # Errors
 ///
 /// An allocation was refused, or the writer failed.
-pub(crate) fn options_in<E: Write>(
+fn options_in<E: Write>(
     alloc: Global,
     texts: &DriveTexts<'_>,
     faults: &mut E,
