@@ -1,19 +1,27 @@
 //! One AHCI port with 32 command slots, the drive behind it, and the clients that share it.
 
-use crate::{raw, text, written, Config, Error, Object};
+use crate::{text, written, Config, Error, Object};
+use opalport_sys as raw;
 
 /// What a client asks of a port. Addresses and counts are of blocks of 512 bytes.
 #[derive(Clone, Copy, Debug, PartialEq, Eq)]
+#[allow(missing_docs)] // the fields say themselves what they are
 pub enum Request<'a> {
-    /// In the queue, as the next one.
+    /// READ FPDMA QUEUED: in the queue, as the next one.
     Read { lba: u64, count: u32 },
+    /// WRITE FPDMA QUEUED.
     Write { lba: u64, bytes: &'a [u8] },
-    /// Out of the queue, as all below.
+    /// READ DMA EXT: out of the queue, as all below.
     ReadDma { lba: u64, count: u32 },
+    /// WRITE DMA EXT.
     WriteDma { lba: u64, bytes: &'a [u8] },
+    /// IDENTIFY DEVICE.
     Identify,
+    /// FLUSH CACHE EXT.
     Flush,
+    /// TRUSTED SEND DMA.
     Send { protocol: u8, com_id: u16, bytes: &'a [u8] },
+    /// TRUSTED RECEIVE DMA.
     Receive { protocol: u8, com_id: u16, blocks: u32 },
 }
 
@@ -23,17 +31,27 @@ pub enum Taken {
     /// Done, with its data.
     Done(Vec<u8>),
     /// The drive failed or denied it.
-    Failed { status: u8, error: u8 },
+    Failed {
+        /// 51h.
+        status: u8,
+        /// 04h aborted or denied, 10h beyond the drive.
+        error: u8,
+    },
     /// A reset stopped it.
     Reset,
 }
 
 /// A step that the engine may do.
 #[derive(Clone, Copy, Debug, PartialEq, Eq)]
+#[allow(missing_docs)] // the tag of each
 pub enum EngineStep {
+    /// The port issues a prepared command.
     Issue { tag: u8 },
+    /// The drive takes an issued one.
     Accept { tag: u8 },
+    /// The drive ends one that it holds.
     Complete { tag: u8 },
+    /// The port recovers from a command that failed.
     Recover,
 }
 
