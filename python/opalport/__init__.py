@@ -396,7 +396,8 @@ class _Object:
         with self._lock:
             told = call(self._handle, *arguments)
         _check(told.code)
-        return told.number
+        number: int = told.number
+        return number
 
 
 class Drive(_Object):
