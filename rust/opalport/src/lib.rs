@@ -166,16 +166,39 @@ impl std::error::Error for Error {}
 
 /// A command whose FIS [`command_fis`] makes.
 #[derive(Clone, Copy, Debug, PartialEq, Eq)]
-#[allow(missing_docs)] // lba, count and tag of each
 pub enum Command {
     /// READ FPDMA QUEUED.
-    ReadQueued { lba: u64, count: u32, tag: u8 },
+    ReadQueued {
+        /// The first sector.
+        lba: u64,
+        /// How many sectors.
+        count: u32,
+        /// The tag: 0 to 31.
+        tag: u8,
+    },
     /// WRITE FPDMA QUEUED.
-    WriteQueued { lba: u64, count: u32, tag: u8 },
+    WriteQueued {
+        /// The first sector.
+        lba: u64,
+        /// How many sectors.
+        count: u32,
+        /// The tag: 0 to 31.
+        tag: u8,
+    },
     /// READ DMA EXT.
-    ReadDma { lba: u64, count: u32 },
+    ReadDma {
+        /// The first sector.
+        lba: u64,
+        /// How many sectors.
+        count: u32,
+    },
     /// WRITE DMA EXT.
-    WriteDma { lba: u64, count: u32 },
+    WriteDma {
+        /// The first sector.
+        lba: u64,
+        /// How many sectors.
+        count: u32,
+    },
     /// IDENTIFY DEVICE.
     Identify,
     /// READ LOG DMA EXT of log 10h.

@@ -5,24 +5,57 @@ use opalport_sys as raw;
 
 /// What a client asks of a port. Addresses and counts are of blocks of 512 bytes.
 #[derive(Clone, Copy, Debug, PartialEq, Eq)]
-#[allow(missing_docs)] // the fields say themselves what they are
 pub enum Request<'a> {
     /// READ FPDMA QUEUED: in the queue, as the next one.
-    Read { lba: u64, count: u32 },
+    Read {
+        /// The first sector.
+        lba: u64,
+        /// How many sectors.
+        count: u32,
+    },
     /// WRITE FPDMA QUEUED.
-    Write { lba: u64, bytes: &'a [u8] },
+    Write {
+        /// The first sector.
+        lba: u64,
+        /// What is written, or sent.
+        bytes: &'a [u8],
+    },
     /// READ DMA EXT: out of the queue, as all below.
-    ReadDma { lba: u64, count: u32 },
+    ReadDma {
+        /// The first sector.
+        lba: u64,
+        /// How many sectors.
+        count: u32,
+    },
     /// WRITE DMA EXT.
-    WriteDma { lba: u64, bytes: &'a [u8] },
+    WriteDma {
+        /// The first sector.
+        lba: u64,
+        /// What is written, or sent.
+        bytes: &'a [u8],
+    },
     /// IDENTIFY DEVICE.
     Identify,
     /// FLUSH CACHE EXT.
     Flush,
     /// TRUSTED SEND DMA.
-    Send { protocol: u8, com_id: u16, bytes: &'a [u8] },
+    Send {
+        /// The security protocol.
+        protocol: u8,
+        /// The SP Specific: a ComID.
+        com_id: u16,
+        /// What is written, or sent.
+        bytes: &'a [u8],
+    },
     /// TRUSTED RECEIVE DMA.
-    Receive { protocol: u8, com_id: u16, blocks: u32 },
+    Receive {
+        /// The security protocol.
+        protocol: u8,
+        /// The SP Specific: a ComID.
+        com_id: u16,
+        /// How many blocks of 512 bytes.
+        blocks: u32,
+    },
 }
 
 /// What a client takes.
@@ -43,14 +76,22 @@ pub enum Taken {
 
 /// A step that the engine may do.
 #[derive(Clone, Copy, Debug, PartialEq, Eq)]
-#[allow(missing_docs)] // the tag of each
 pub enum EngineStep {
     /// The port issues a prepared command.
-    Issue { tag: u8 },
+    Issue {
+        /// The tag: 0 to 31.
+        tag: u8,
+    },
     /// The drive takes an issued one.
-    Accept { tag: u8 },
+    Accept {
+        /// The tag: 0 to 31.
+        tag: u8,
+    },
     /// The drive ends one that it holds.
-    Complete { tag: u8 },
+    Complete {
+        /// The tag: 0 to 31.
+        tag: u8,
+    },
     /// The port recovers from a command that failed.
     Recover,
 }
