@@ -1,7 +1,7 @@
 """What `opalport` prints, by the library: a script on standard input (`run`), on a drive or on a port; a token stream
 (`tokens`), Level 0 discovery of a new drive (`level0`).
 
-    python3 examples/python/run_script.py run --sectors 1000 < examples/first.txt
+    PYTHONPATH=python python3 examples/python/run_script.py run --sectors 1000 < examples/first.txt
 """
 import re
 import sys

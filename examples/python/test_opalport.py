@@ -1,5 +1,6 @@
 """A drive whose range 1 is locked, by the library, and by the program behind pipes. The values are worked from ACS-3 and
-TCG Core 2.01. `.ci/library` runs it: OPALPORT_LIBRARY names the shared object, OPALPORT_PROGRAM the program."""
+TCG Core 2.01. `.ci/library` runs it: OPALPORT_LIBRARY names the shared library, OPALPORT_PROGRAM the program, and python/ is
+on the path of modules."""
 import gc
 import os
 import threading

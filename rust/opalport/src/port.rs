@@ -1,20 +1,61 @@
 //! One AHCI port with 32 command slots, the drive behind it, and the clients that share it.
 
-use crate::{raw, text, written, Config, Error, Object};
+use crate::{text, written, Config, Error, Object};
+use opalport_sys as raw;
 
 /// What a client asks of a port. Addresses and counts are of blocks of 512 bytes.
 #[derive(Clone, Copy, Debug, PartialEq, Eq)]
 pub enum Request<'a> {
-    /// In the queue, as the next one.
-    Read { lba: u64, count: u32 },
-    Write { lba: u64, bytes: &'a [u8] },
-    /// Out of the queue, as all below.
-    ReadDma { lba: u64, count: u32 },
-    WriteDma { lba: u64, bytes: &'a [u8] },
+    /// READ FPDMA QUEUED: in the queue, as the next one.
+    Read {
+        /// The first sector.
+        lba: u64,
+        /// How many sectors.
+        count: u32,
+    },
+    /// WRITE FPDMA QUEUED.
+    Write {
+        /// The first sector.
+        lba: u64,
+        /// What is written, or sent.
+        bytes: &'a [u8],
+    },
+    /// READ DMA EXT: out of the queue, as all below.
+    ReadDma {
+        /// The first sector.
+        lba: u64,
+        /// How many sectors.
+        count: u32,
+    },
+    /// WRITE DMA EXT.
+    WriteDma {
+        /// The first sector.
+        lba: u64,
+        /// What is written, or sent.
+        bytes: &'a [u8],
+    },
+    /// IDENTIFY DEVICE.
     Identify,
+    /// FLUSH CACHE EXT.
     Flush,
-    Send { protocol: u8, com_id: u16, bytes: &'a [u8] },
-    Receive { protocol: u8, com_id: u16, blocks: u32 },
+    /// TRUSTED SEND DMA.
+    Send {
+        /// The security protocol.
+        protocol: u8,
+        /// The SP Specific: a ComID.
+        com_id: u16,
+        /// What is written, or sent.
+        bytes: &'a [u8],
+    },
+    /// TRUSTED RECEIVE DMA.
+    Receive {
+        /// The security protocol.
+        protocol: u8,
+        /// The SP Specific: a ComID.
+        com_id: u16,
+        /// How many blocks of 512 bytes.
+        blocks: u32,
+    },
 }
 
 /// What a client takes.
@@ -23,7 +64,12 @@ pub enum Taken {
     /// Done, with its data.
     Done(Vec<u8>),
     /// The drive failed or denied it.
-    Failed { status: u8, error: u8 },
+    Failed {
+        /// 51h.
+        status: u8,
+        /// 04h aborted or denied, 10h beyond the drive.
+        error: u8,
+    },
     /// A reset stopped it.
     Reset,
 }
@@ -31,9 +77,22 @@ pub enum Taken {
 /// A step that the engine may do.
 #[derive(Clone, Copy, Debug, PartialEq, Eq)]
 pub enum EngineStep {
-    Issue { tag: u8 },
-    Accept { tag: u8 },
-    Complete { tag: u8 },
+    /// The port issues a prepared command.
+    Issue {
+        /// The tag: 0 to 31.
+        tag: u8,
+    },
+    /// The drive takes an issued one.
+    Accept {
+        /// The tag: 0 to 31.
+        tag: u8,
+    },
+    /// The drive ends one that it holds.
+    Complete {
+        /// The tag: 0 to 31.
+        tag: u8,
+    },
+    /// The port recovers from a command that failed.
     Recover,
 }
 

@@ -1,27 +1,37 @@
 """A self-locking drive in this process, or a port with a drive behind it: Python over the C library (include/opalport.h), by
 `ctypes`. A call of a drive waits until a call of it in another thread has ended.
 
-The shared object is found by the environment variable OPALPORT_LIBRARY, or stands beside this file as libopalport.so.
-`.ci/library` makes it.
+The shared library is that which the environment variable OPALPORT_LIBRARY names, else libopalport.so.0 beside this file, where
+a wheel has it, else that of the system.
 
     with Drive(ranges=[Range(1, 100, 10, read_locked=True, read_lock_enabled=True)]) as drive:
         answer = drive.accept(command_fis(Command.READ_DMA, lba=100, count=1))
         print(answer.status, answer.error, drive.denial(client=7))
 """
+from __future__ import annotations
+
 import ctypes
 import enum
 import os
 import threading
 from dataclasses import dataclass
+from types import TracebackType
+from typing import Any, List, Optional, Sequence, Tuple, Type, TypeVar, Union
 
 __all__ = [
     "Answer", "Carried", "Code", "Command", "Drive", "EngineStep", "Failure", "Kind", "OpalError", "Port", "Range",
     "Shown", "Taken", "command_fis", "decoded_text", "frame", "opened", "tokens_text", "trusted_fis",
 ]
 
+__version__ = "0.2.0"
+
 FIS_LENGTH = 20
 ANY_SIZE = 2**64 - 1
 MSID = b"OPALMSID"
+NAME = "libopalport.so.0"
+
+Bytes = Union[bytes, bytearray, memoryview]
+_Self = TypeVar("_Self", bound="_Object")
 
 
 class Code(enum.IntEnum):
@@ -59,7 +69,9 @@ class Code(enum.IntEnum):
 class OpalError(Exception):
     """A call was refused, and nothing was done."""
 
-    def __init__(self, code):
+    code: Code
+
+    def __init__(self, code: int) -> None:
         super().__init__(Code(code).name.lower().replace("_", " "))
         self.code = Code(code)
 
@@ -123,7 +135,7 @@ class Answer:
     data: bytes
 
     @property
-    def has_failed(self):
+    def has_failed(self) -> bool:
         return self.status != 0x50
 
 
@@ -131,7 +143,7 @@ class Answer:
 class Failure:
     """How a queue has failed: what log page 10h tells. The tag of a command that was not queued is None."""
 
-    tag: "int | None"
+    tag: Optional[int]
     error: int
     device: int
     count: int
@@ -160,7 +172,7 @@ class Taken:
     data: bytes
 
     @property
-    def has_failed(self):
+    def has_failed(self) -> bool:
         return not self.done and not self.reset
 
 
@@ -268,36 +280,40 @@ _CALLS = {
 class _Library:
     """The calls of the shared object, by their names without `opal_raw_`."""
 
-    def __init__(self):
-        beside = os.path.join(os.path.dirname(os.path.abspath(__file__)), "libopalport.so")
-        library = ctypes.CDLL(os.environ.get("OPALPORT_LIBRARY", beside))
+    def __init__(self) -> None:
+        beside = os.path.join(os.path.dirname(os.path.abspath(__file__)), NAME)
+        found = beside if os.path.isfile(beside) else NAME
+        library = ctypes.CDLL(os.environ.get("OPALPORT_LIBRARY", found))
         for name, (result, parameters) in _CALLS.items():
             call = getattr(library, f"opal_raw_{name}")
             call.restype, call.argtypes = result, parameters
             setattr(self, name, call)
 
+    def __getattr__(self, name: str) -> Any:
+        raise AttributeError(name)
+
 
 _LIBRARY = _Library()
 
 
-def _check(code):
+def _check(code: int) -> None:
     if code != Code.DONE:
         raise OpalError(code)
 
 
-def _within(number, most):
+def _within(number: int, most: int) -> int:
     """A number that its field holds: `ctypes` would take what is left of a larger one."""
     if not 0 <= number <= most:
         raise OpalError(Code.NUMBER)
     return number
 
 
-def _bytes(data):
+def _bytes(data: Bytes) -> Tuple[bytes, int]:
     data = bytes(data)
     return data, len(data)
 
 
-def _written(call, *arguments, room=512):
+def _written(call: Any, *arguments: Any, room: int = 512) -> bytes:
     """What a call writes to a buffer: it is called once more where it tells that there is more of it."""
     while True:
         buffer = ctypes.create_string_buffer(room)
@@ -308,36 +324,36 @@ def _written(call, *arguments, room=512):
         room = told.number
 
 
-def tokens_text(data, by_name=False):
+def tokens_text(data: Bytes, by_name: bool = False) -> str:
     """The item that a token stream spells, or `malformed N NAME`."""
     return _written(_LIBRARY.tokens, by_name, *_bytes(data)).decode("ascii")
 
 
-def decoded_text(kind, data):
+def decoded_text(kind: int, data: Bytes) -> str:
     """The fields of bytes, a line for each."""
     return _written(_LIBRARY.decoded, _within(kind, 2**32 - 1), *_bytes(data)).decode("utf-8")
 
 
-def frame(com_id, tsn, hsn, payload):
+def frame(com_id: int, tsn: int, hsn: int, payload: Bytes) -> bytes:
     """A ComPacket of one packet of a session with one data subpacket."""
     words = _within(com_id, 2**16 - 1), _within(tsn, 2**32 - 1), _within(hsn, 2**32 - 1)
     return _written(_LIBRARY.frame, *words, *_bytes(payload), room=len(payload) + 64)
 
 
-def opened(data):
+def opened(data: Bytes) -> Carried:
     """What the frame carries that the bytes begin with."""
     told = _LIBRARY.opened(*_bytes(data))
     _check(told.code)
     return Carried(told.com_id, told.tsn, told.hsn, bytes(data)[told.at:told.at + told.length])
 
 
-def command_fis(command, lba=0, count=1, tag=0):
+def command_fis(command: int, lba: int = 0, count: int = 1, tag: int = 0) -> bytes:
     """The FIS of a command. Only a queued one has a tag; a count of 65,536 is the most."""
     words = _within(command, 2**32 - 1), _within(lba, 2**64 - 1), _within(count, 2**32 - 1), _within(tag, 255)
     return _written(_LIBRARY.command_fis, *words, room=FIS_LENGTH)
 
 
-def trusted_fis(is_send, protocol, sp_specific, blocks):
+def trusted_fis(is_send: bool, protocol: int, sp_specific: int, blocks: int) -> bytes:
     """The FIS of TRUSTED SEND DMA, or of TRUSTED RECEIVE DMA, of so many blocks of 512 bytes."""
     words = _within(protocol, 255), _within(sp_specific, 2**16 - 1), _within(blocks, 2**16 - 1)
     return _written(_LIBRARY.trusted_fis, is_send, *words, room=FIS_LENGTH)
@@ -346,73 +362,78 @@ def trusted_fis(is_send, protocol, sp_specific, blocks):
 class _Object:
     """What a handle has. It is freed by `close`, at the end of a `with`, or with the last reference."""
 
-    def __init__(self, make, sectors=1000, shadow=8, msid=MSID, ranges=(), field=False, serial="", model="", psid=b"",
-                 datastore=None):
+    _make = ""
+
+    def __init__(self, *, sectors: int = 1000, shadow: int = 8, msid: Bytes = MSID, ranges: Sequence[Range] = (),
+                 field: bool = False, serial: str = "", model: str = "", psid: Bytes = b"",
+                 datastore: Optional[int] = None) -> None:
         self._handle, self._lock = _Handle(), threading.RLock()
         rows = (_Range * len(ranges))(*(_row(it) for it in ranges))
         store = ANY_SIZE if datastore is None else _within(datastore, ANY_SIZE)
         size = _Size(_within(sectors, 2**64 - 1), _within(shadow, 2**64 - 1), store, 1 if field else 0)
         texts = _bytes(serial.encode("utf-8")), _bytes(model.encode("utf-8"))
+        make = getattr(_LIBRARY, self._make)
         _check(make(self._handle, size, *_bytes(msid), *texts[0], *texts[1], *_bytes(psid), rows, len(ranges)))
 
-    def close(self):
+    def close(self) -> None:
         """Frees the object, if that was not done."""
         with self._lock:
             if self._handle.mark:
                 _check(_LIBRARY.free(self._handle))
 
-    def __enter__(self):
+    def __enter__(self: _Self) -> _Self:
         return self
 
-    def __exit__(self, *_):
+    def __exit__(self, kind: Optional[Type[BaseException]], error: Optional[BaseException],
+                 trace: Optional[TracebackType]) -> None:
         self.close()
 
-    def __del__(self):
+    def __del__(self) -> None:
         if getattr(self, "_lock", None) is not None:
             self.close()
 
-    def _number(self, call, *arguments):
+    def _number(self, call: Any, *arguments: Any) -> int:
         with self._lock:
             told = call(self._handle, *arguments)
         _check(told.code)
-        return told.number
+        number: int = told.number
+        return number
 
 
 class Drive(_Object):
     """A self-locking drive."""
 
-    def __init__(self, **options):
-        super().__init__(_LIBRARY.drive_new, **options)
+    _make = "drive_new"
 
-    def _answer(self, call, *arguments):
+    def _answer(self, call: Any, *arguments: Any) -> Answer:
         with self._lock:
             told = call(self._handle, *arguments)
             _check(told.code)
             data = _written(_LIBRARY.drive_data, self._handle, room=told.length) if told.length else b""
         return Answer(told.status, told.error, told.held, told.denied, data)
 
-    def accept(self, fis, payload=b""):
+    def accept(self, fis: Bytes, payload: Bytes = b"") -> Answer:
         """Gives the drive the FIS of a command, with the payload that it brings."""
         return self._answer(_LIBRARY.drive_accept, *_bytes(fis), *_bytes(payload))
 
-    def complete(self, tag, payload=b""):
+    def complete(self, tag: int, payload: Bytes = b"") -> Answer:
         """Moves the data of the command that is held under a tag, and lets it go."""
         return self._answer(_LIBRARY.drive_complete, _tag(tag), *_bytes(payload))
 
-    def payload_length(self, fis):
+    def payload_length(self, fis: Bytes) -> int:
         """How many bytes of payload a command brings."""
         return self._number(_LIBRARY.drive_payload, *_bytes(fis))
 
-    def expects(self, tag):
+    def expects(self, tag: int) -> int:
         """How many bytes of payload a completion under a tag brings."""
         return self._number(_LIBRARY.drive_expects, _tag(tag))
 
-    def reset(self, kind):
+    def reset(self, kind: int) -> None:
         """Resets the drive: 0 is a power cycle, 1 a hardware reset."""
         with self._lock:
             _check(_LIBRARY.drive_reset(self._handle, _within(kind, 2**32 - 1)))
 
-    def failure(self):
+    def failure(self) -> Optional[Failure]:
         """How the queue has failed, or None."""
         with self._lock:
             told = _LIBRARY.drive_failure(self._handle)
@@ -421,7 +442,7 @@ class Drive(_Object):
             return None
         return Failure(told.tag if told.queued else None, told.error, told.device, told.count, told.lba)
 
-    def denial(self, client=0):
+    def denial(self, client: int = 0) -> str:
         """The line of the audit log that tells what denied the last command, as
         `3 7 deny read 95+6 range 1 ReadLocked`; empty where nothing did."""
         with self._lock:
@@ -432,37 +453,37 @@ class Port(_Object):
     """One AHCI port with 32 command slots, the drive behind it, and the clients that share it. Each step that is done gives
     its number, from 1."""
 
-    def __init__(self, **options):
-        super().__init__(_LIBRARY.port_new, **options)
+    _make = "port_new"
 
-    def put(self, client, tag, command, lba=0, count=1, payload=b"", protocol=0, com_id=0):
+    def put(self, client: int, tag: int, command: int, lba: int = 0, count: int = 1, payload: Bytes = b"", protocol: int = 0,
+            com_id: int = 0) -> int:
         """A client puts a request in the slot of a tag. A write and a send move their payload, a read and a receive as many
         blocks of 512 bytes as `count` says."""
         asked = _Asked(_within(lba, 2**64 - 1), _within(command, 2**32 - 1), _within(count, 2**32 - 1),
                        _within(com_id, 2**16 - 1), _within(protocol, 255))
         return self._number(_LIBRARY.port_put, _within(client, 2**32 - 1), _tag(tag), asked, *_bytes(payload))
 
-    def issue(self, tag):
+    def issue(self, tag: int) -> int:
         """The port issues a prepared command."""
         return self._number(_LIBRARY.port_issue, _tag(tag))
 
-    def accept(self, tag):
+    def accept(self, tag: int) -> int:
         """The drive takes an issued command."""
         return self._number(_LIBRARY.port_accept, _tag(tag))
 
-    def complete(self, tag):
+    def complete(self, tag: int) -> int:
         """The drive moves the data of a command that it holds, and ends it."""
         return self._number(_LIBRARY.port_complete, _tag(tag))
 
-    def recover(self):
+    def recover(self) -> int:
         """The port recovers from a command that failed."""
         return self._number(_LIBRARY.port_recover)
 
-    def reset(self, client, kind):
+    def reset(self, client: int, kind: int) -> int:
         """A client resets the port and the drive: 0 is a power cycle, 1 a hardware reset."""
         return self._number(_LIBRARY.port_reset, _within(client, 2**32 - 1), _within(kind, 2**32 - 1))
 
-    def take(self, client, tag):
+    def take(self, client: int, tag: int) -> Taken:
         """A client takes its answer, and the slot is free."""
         with self._lock:
             told = _LIBRARY.port_take(self._handle, _within(client, 2**32 - 1), _tag(tag))
@@ -470,37 +491,37 @@ class Port(_Object):
             data = _written(_LIBRARY.port_data, self._handle, room=told.length) if told.length else b""
         return Taken(told.number, told.ending == 0, told.ending == 2, told.status, told.error, data)
 
-    def turn(self, choice=0):
+    def turn(self, choice: int = 0) -> int:
         """The engine does the step at `choice`, modulo their number, of those that are ready. It gives 0 where there is
         none."""
         return self._number(_LIBRARY.port_turn, _within(choice, 2**64 - 1))
 
-    def ready(self):
+    def ready(self) -> List[Tuple[EngineStep, int]]:
         """The steps that the engine may do, each with its tag, by their kind, then by their tag."""
         steps = (_Ready * 32)()
         number = self._number(_LIBRARY.port_ready, steps, 32)
         return [(EngineStep(it.step), it.tag) for it in steps[:number]]
 
-    def shown(self):
+    def shown(self) -> Shown:
         """What the port shows."""
         with self._lock:
             told = _LIBRARY.port_shown(self._handle)
         _check(told.code)
         return Shown(told.interrupts, told.task, told.active, told.issued, told.denials)
 
-    def denial(self, place):
+    def denial(self, place: int) -> str:
         """The line of the audit log at a place, 0 the oldest, as `6 1 deny read 100+1 range 1 ReadLocked`; empty where it has
         none there."""
         with self._lock:
             return _written(_LIBRARY.port_denial, self._handle, _within(place, 2**64 - 1)).decode("ascii")
 
 
-def _tag(tag):
+def _tag(tag: int) -> int:
     """A tag: of a number that no byte holds it is told as of any other above 31."""
     return tag if 0 <= tag <= 255 else 255
 
 
-def _row(it):
+def _row(it: Range) -> _Range:
     flags = it.read_lock_enabled, it.write_lock_enabled, it.read_locked, it.write_locked
     words = _within(it.start, 2**64 - 1), _within(it.length, 2**64 - 1), _within(it.range, 255)
     return _Range(*words, *(1 if flag else 0 for flag in flags))

@@ -2,9 +2,28 @@
 //!
 //! A drive is a value, and so is a port: it is freed when it is dropped, and a call wants `&mut`, so that no two calls can
 //! meet. It may be moved to another thread. Nothing here panics on what a drive answers.
+//!
+//! ```no_run
+//! use opalport::{command_fis, Command, Config, Drive, Range};
+//!
+//! # fn main() -> Result<(), opalport::Error> {
+//! let locked = Range { range: 1, start: 100, length: 10, read_lock_enabled: true, read_locked: true, ..Range::default() };
+//! let mut drive = Drive::new(&Config { ranges: &[locked], ..Config::default() })?;
+//! let answer = drive.accept(&command_fis(Command::ReadDma { lba: 95, count: 6 })?, &[])?;
+//! assert_eq!((answer.status, answer.error), (0x51, 0x04));
+//! assert_eq!(drive.denial(7)?, "1 7 deny read 95+6 range 1 ReadLocked");
+//! # Ok(())
+//! # }
+//! ```
+//!
+//! The library is found as the crate `opalport-sys` says: by pkg-config, or in the folder that `OPALPORT_LIB` names. The
+//! feature `static` links its archive.
+
+#![warn(missing_docs)]
 
 mod port;
-mod raw;
+
+use opalport_sys as raw;
 
 pub use port::{EngineStep, Port, Request, Shown, Taken};
 
@@ -18,32 +37,59 @@ pub const FIS_LENGTH: usize = 20;
 #[derive(Clone, Copy, Debug, PartialEq, Eq)]
 #[non_exhaustive]
 pub enum Error {
+    /// An allocation was refused.
     OutOfMemory,
+    /// The handle has nothing.
     NotOpen,
+    /// What the handle has is of another kind.
     OtherKind,
+    /// A pointer is null.
     Null,
+    /// A FIS has not 20 bytes, or a payload not as many as its command brings.
     Length,
+    /// A tag is above 31.
     Tag,
+    /// A number is none of those that the call takes.
     Number,
+    /// No command is held under the tag.
     NotHeld,
+    /// The buffer is too short.
     Room,
+    /// The handle has something already.
     InUse,
+    /// A drive has no such size, PIN or name.
     Limits,
+    /// There is no such range.
     NoRange,
+    /// Two ranges have a sector in common.
     Overlap,
+    /// A range ends beyond the drive, or the global range has a place.
     Beyond,
+    /// Bytes are not what they are to be.
     Malformed,
+    /// The slot is not free.
     PortSlotBusy,
+    /// The slot has no prepared command.
     PortNotPrepared,
+    /// Queued and other commands would mix.
     PortQueue,
+    /// The slot has no issued command.
     PortNotIssued,
+    /// The slot has no accepted command.
     PortNotAccepted,
+    /// The port has not failed.
     PortNotFailed,
+    /// The port has failed.
     PortFailed,
+    /// The slot has no answer.
     PortNotAnswered,
+    /// The answer is another client's.
     PortNotYours,
+    /// A transfer has no size that the port takes.
     PortSize,
+    /// The history of the port is full.
     PortHistoryFull,
+    /// A code that this crate does not know.
     Unknown(u32),
 }
 
@@ -121,36 +167,81 @@ impl std::error::Error for Error {}
 /// A command whose FIS [`command_fis`] makes.
 #[derive(Clone, Copy, Debug, PartialEq, Eq)]
 pub enum Command {
-    ReadQueued { lba: u64, count: u32, tag: u8 },
-    WriteQueued { lba: u64, count: u32, tag: u8 },
-    ReadDma { lba: u64, count: u32 },
-    WriteDma { lba: u64, count: u32 },
+    /// READ FPDMA QUEUED.
+    ReadQueued {
+        /// The first sector.
+        lba: u64,
+        /// How many sectors.
+        count: u32,
+        /// The tag: 0 to 31.
+        tag: u8,
+    },
+    /// WRITE FPDMA QUEUED.
+    WriteQueued {
+        /// The first sector.
+        lba: u64,
+        /// How many sectors.
+        count: u32,
+        /// The tag: 0 to 31.
+        tag: u8,
+    },
+    /// READ DMA EXT.
+    ReadDma {
+        /// The first sector.
+        lba: u64,
+        /// How many sectors.
+        count: u32,
+    },
+    /// WRITE DMA EXT.
+    WriteDma {
+        /// The first sector.
+        lba: u64,
+        /// How many sectors.
+        count: u32,
+    },
+    /// IDENTIFY DEVICE.
     Identify,
+    /// READ LOG DMA EXT of log 10h.
     ReadQueueError,
+    /// FLUSH CACHE EXT.
     Flush,
 }
 
 /// What bytes are, for [`decoded_text`].
 #[derive(Clone, Copy, Debug, PartialEq, Eq)]
 pub enum Kind {
+    /// Level 0 discovery.
     Level0 = 0,
+    /// A ComPacket.
     ComPacket = 1,
+    /// A FIS.
     Fis = 2,
+    /// The answer to IDENTIFY DEVICE.
     Identify = 3,
+    /// Log 00h.
     LogDirectory = 4,
+    /// Log 10h.
     QueueError = 5,
+    /// A page of log 30h.
     DataPage = 6,
 }
 
 /// The cells of a locking range; range 0 is the global one.
 #[derive(Clone, Copy, Debug, Default, PartialEq, Eq)]
 pub struct Range {
+    /// Its number.
     pub range: u8,
+    /// Its first sector.
     pub start: u64,
+    /// How many sectors it has.
     pub length: u64,
+    /// ReadLockEnabled.
     pub read_lock_enabled: bool,
+    /// WriteLockEnabled.
     pub write_lock_enabled: bool,
+    /// ReadLocked.
     pub read_locked: bool,
+    /// WriteLocked.
     pub write_locked: bool,
 }
 
@@ -172,9 +263,13 @@ pub struct Config<'a> {
 /// What only a drive of the profile `field` has.
 #[derive(Clone, Copy, Debug, Default)]
 pub struct Field<'a> {
+    /// At most 20 characters of printable ASCII.
     pub serial: &'a str,
+    /// At most 40.
     pub model: &'a str,
+    /// The PIN on the label: at most 32 bytes.
     pub psid: &'a [u8],
+    /// How many bytes DataStore has: at most 16,777,216.
     pub datastore: Option<u64>,
 }
 
@@ -187,29 +282,43 @@ impl Default for Config<'_> {
 /// What a drive answers to a command, or to a completion.
 #[derive(Clone, Debug, PartialEq, Eq)]
 pub struct Answer {
+    /// 50h, or 51h with an error.
     pub status: u8,
+    /// 04h aborted or denied, 10h beyond the drive.
     pub error: u8,
+    /// Whether the command is held until it is completed.
     pub held: bool,
+    /// Whether the command, or what it sent, was denied: [`Drive::denial`] tells by what.
     pub denied: bool,
+    /// The data that it reads.
     pub data: Vec<u8>,
 }
 
 /// How a queue has failed: what log page 10h tells.
 #[derive(Clone, Copy, Debug, PartialEq, Eq)]
 pub struct Failure {
+    /// The tag of the command; none of one that was not queued.
     pub tag: Option<u8>,
+    /// The error.
     pub error: u8,
+    /// The device field.
     pub device: u8,
+    /// The count field.
     pub count: u16,
+    /// The address.
     pub lba: u64,
 }
 
 /// What a frame carries, and for whom.
 #[derive(Clone, Copy, Debug, PartialEq, Eq)]
 pub struct Carried<'a> {
+    /// The ComID.
     pub com_id: u16,
+    /// The session's number at the TPer; 0 for the session manager.
     pub tsn: u32,
+    /// Its number at the host.
     pub hsn: u32,
+    /// What it carries.
     pub payload: &'a [u8],
 }
 
