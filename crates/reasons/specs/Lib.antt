@@ -7,3 +7,4 @@ pub mod Onsets
 pub mod Chronicles
 pub mod Reasons
 pub mod Rests
+pub mod Lifts

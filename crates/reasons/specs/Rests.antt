@@ -1,5 +1,6 @@
--- A denied transfer rests on what is in force before its act, and so each of its conditions has an onset.
-use Rattle.std.specs.Prelude.{◌≡◌, ℕ, true, List, Option, Some}
+-- A denied transfer rests on something, all of which is in force before its act; and so each of its conditions has an
+-- onset.
+use Rattle.std.specs.Prelude.{◌≡◌, ℕ, true, List, [], ◌∷◌, Option, Some}
 use Rattle.std.specs.List.{AllByRecursion}
 use Rattle.audit.specs.declared.reason.Why.{Why}
 use Rattle.history.specs.Opening.{Origin}
@@ -15,10 +16,15 @@ use Rattle.reasons.specs.Onsets.{Sourced, bare_acts, held_since, holds_after}
 abbrev pub IsInForce : Facts → Condition → Type 0
 IsInForce f condition = HasRange condition × (is_in_force f.rows condition ≡ true)
 
+-- there is one
+abbrev pub HasSome : List Condition → Type 0
+HasSome [] = ⊥
+HasSome (condition ∷ conditions) = Unit {0}
+
 abbrev pub RestLaw : Type 0
 RestLaw =
     (f : Facts) (act : Act) (why : Why) → TransferDenied f act why
-    → AllByRecursion (IsInForce f) (conditions_of why)
+    → HasSome (conditions_of why) × AllByRecursion (IsInForce f) (conditions_of why)
 
 -- it holds since some act, or since the opening
 abbrev pub HasOnset : Origin → List Sourced → Condition → Type 0
@@ -29,4 +35,4 @@ abbrev pub ReasonLaw : Type 0
 ReasonLaw =
     (o : Origin) (past : List Sourced) (act : Act) (why : Why)
     → TransferDenied (facts o (log o (bare_acts past))) act why
-    → AllByRecursion (HasOnset o past) (conditions_of why)
+    → HasSome (conditions_of why) × AllByRecursion (HasOnset o past) (conditions_of why)

@@ -8,5 +8,5 @@ mod remedy;
 mod ways;
 
 pub use called::{append_column_name, append_object_name};
-pub use laws::laws_of_expressions;
+pub use laws::{laws_of_expressions, laws_of_remedies};
 pub use remedy::remedy_bytes;

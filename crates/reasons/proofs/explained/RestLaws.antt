@@ -22,7 +22,7 @@ use Rattle.reasons.specs.declared.explained.condition.Condition.{Condition}
 use Rattle.reasons.specs.declared.explained.onset.Onset.{Onset}
 use Rattle.reasons.specs.Conditions.{is_in_force, conditions_of}
 use Rattle.reasons.specs.Onsets.{Sourced, bare_acts, held_since, holds_after}
-use Rattle.reasons.specs.Rests.{IsInForce, RestLaw, HasOnset, ReasonLaw}
+use Rattle.reasons.specs.Rests.{IsInForce, HasSome, RestLaw, HasOnset, ReasonLaw}
 use Rattle.reasons.proofs.explained.OnsetLaws.{never}
 
 -- the range of a sector is one of those that the rows describe
@@ -86,8 +86,24 @@ reason-rests f op lba count why (inr range) =
     (sym (range.names ∙ ap (λ (r : RangeRow). why_of op lba count r.range) row.2))
     (range-rests f op lba count row.0 row.1 denied)
 
+-- and there is something
+range-some : (op : Op) (lba count k : ℕ) → HasSome (conditions_of (why_of op lba count k))
+range-some Read lba count k = tt
+range-some Write lba count k = tt
+
+shadow-some : (op : Op) (lba count : ℕ) → HasSome (conditions_of (shadow_why op lba count))
+shadow-some Read lba count = tt
+shadow-some Write lba count = tt
+
+reason-some : (f : Facts) (op : Op) (lba count : ℕ) (why : Why) → IsReason (ranges_in_force f) op lba count why → HasSome (conditions_of why)
+reason-some f op lba count why (inl shadow) = subst (λ (w : Why). HasSome (conditions_of w)) (sym shadow.names) (shadow-some op lba count)
+reason-some f op lba count why (inr range) =
+    subst (λ (w : Why). HasSome (conditions_of w)) (sym range.names) (range-some op lba count (row_at (ranges_in_force f) range.sector).range)
+
 pub rests : RestLaw
-rests f act why t = reason-rests f t.op t.lba t.count why ((verdict_law (ranges_in_force f) t.op t.lba t.count).reason why t.verdict)
+rests f act why t =
+    let its = (verdict_law (ranges_in_force f) t.op t.lba t.count).reason why t.verdict in
+    (reason-some f t.op t.lba t.count why its, reason-rests f t.op t.lba t.count why its)
 
 -- what holds has an onset
 onset-if : (o : Origin) (past : List Sourced) (c : Condition) (found : Option Onset) → held_since (holds_after o c) past ≡ found → holds_after o c past ≡ true → HasOnset o past c
@@ -101,4 +117,6 @@ each-onset o past [] all = tt
 each-onset o past (c ∷ cs) all = (onset-if o past c (held_since (holds_after o c) past) refl all.0.1, each-onset o past cs all.1)
 
 pub reasons : ReasonLaw
-reasons o past act why denied = each-onset o past (conditions_of why) (rests (facts o (log o (bare_acts past))) act why denied)
+reasons o past act why denied =
+    let rest = rests (facts o (log o (bare_acts past))) act why denied in
+    (rest.0, each-onset o past (conditions_of why) rest.1)
