@@ -5,6 +5,7 @@ ghost use Rattle.drive_scripts.specs.Explanations.{rule_text};
 
 use audit::rules::{Rule, rule_words};
 use drive::{Accepted, Drive, ResetKind};
+use fis::RegH2d;
 use reasons::explained::{Cause, Chronicle, Source, cause_in};
 use script_lines::Report;
 use std::alloc::{AllocError, Global};
@@ -40,6 +41,7 @@ pub fn ruling(alloc: Global, rule: Option<Rule>) -> Result<Vec<u8>, AllocError>
 
 impl Explainer {
     ghost use Rattle.std.specs.Prelude.{◌≡◌, ◌∷◌, ◌++◌, [], ℕ, List, IfOk, OnOk};
+    ghost use Rattle.fis.specs.H2d.{h2d_at};
     ghost use Rattle.history.specs.Opening.{Origin};
     ghost use Rattle.history.specs.History.{Act, Reset, log};
     ghost use Rattle.history.specs.Readers.{in_force};
@@ -67,14 +69,23 @@ impl Explainer {
         self.chronicle.note_act(&drive.in_force(), source, cause);
     }
 
-    /// Notes a command: its acceptance with this payload, and where it was held its completion. The drive has done both.
-    pub fn note_command(&mut self, drive: &Drive, payload: &[u8], held: bool, source: Source)
+    /// Notes a command: its acceptance with the FIS and the payload, and where it was held its completion. The drive has
+    /// done both.
+    pub fn note_command(
+        &mut self,
+        drive: &Drive,
+        h: &RegH2d,
+        payload: &[u8],
+        held: bool,
+        source: Source,
+    )
         ensures { (o : Origin) (past : List Sourced) (acts : List Act) (fis : List ℕ) (tag : ℕ)
-            (bytes : List ℕ) → acts ≡ once_served held fis payload.now tag bytes (bare_acts past)
+            (bytes : List ℕ) → h2d_at fis ≡ h.now
+            → acts ≡ once_served held fis payload.now tag bytes (bare_acts past)
             → Agrees drive.now o acts → Recounts self.old o past
             → Recounts self.new o (attributed source acts past) }
     {
-        self.note(drive, source, cause_in(payload));
+        self.note(drive, source, cause_in(h, payload));
         if held {
             self.note(drive, source, Cause::NoCause);
         }
