@@ -1,12 +1,10 @@
 //! What explains the denials of a drive that a script runs on.
 
-ghost use Rattle.std.specs.Prelude.{◌≡◌, IfOk};
-ghost use Rattle.drive_scripts.specs.Explanations.{rule_text};
-
-use audit::rules::{Rule, rule_words};
+use audit::rules::Rule;
 use drive::{Accepted, Drive, ResetKind};
 use fis::RegH2d;
 use reasons::explained::{Cause, Chronicle, Source, cause_in};
+use reasons::rulings::{command_in, ruling_of};
 use script_lines::Report;
 use std::alloc::{AllocError, Global};
 use std::marker::Model;
@@ -26,19 +24,6 @@ impl Model for Explainer {
     ghost view = { λ e. e.chronicle };
 }
 
-/// The line that tells by which rule a command was refused, with its line feed; nothing where there is none.
-pub fn ruling(alloc: Global, rule: Option<Rule>) -> Result<Vec<u8>, AllocError>
-    ensures { IfOk result (λ text. text.items ≡ rule_text rule) }
-{
-    let mut text = Vec::new(alloc);
-    if let Some(rule) = rule {
-        text.extend_from_slice(b"because ")?;
-        text.extend_from_slice(rule_words(rule))?;
-        text.extend_from_slice(b"\n")?;
-    }
-    Ok(text)
-}
-
 impl Explainer {
     ghost use Rattle.std.specs.Prelude.{◌≡◌, ◌∷◌, ◌++◌, [], ℕ, List, IfOk, OnOk};
     ghost use Rattle.fis.specs.H2d.{h2d_at};
@@ -49,6 +34,7 @@ impl Explainer {
     ghost use Rattle.drive.specs.State.{Agrees};
     ghost use Rattle.reasons.specs.Onsets.{Sourced, bare_acts, cause_of};
     ghost use Rattle.reasons.specs.Chronicles.{Recounts};
+    ghost use Rattle.reasons.specs.Rulings.{command_carried, ruled_text};
     ghost use Rattle.drive_scripts.specs.Explanations.{from_source, attributed, once_served, denial_text};
 
     /// Of a drive that has done no act.
@@ -102,21 +88,43 @@ impl Explainer {
         self.note(drive, source, Cause::ResetBy(kind.number()));
     }
 
-    /// The lines that tell why a command was refused with this answer, each with its line feed; none where it was not.
-    fn reasons(&self, drive: &Drive, answer: &Accepted) -> Result<Vec<u8>, AllocError>
+    /// The lines that tell by which rule the command of a FIS was refused, each with its line feed; none where none did.
+    fn rule_lines(
+        &self,
+        drive: &Drive,
+        h: &RegH2d,
+        rule: Option<Rule>,
+    ) -> Result<Vec<u8>, AllocError>
+        ensures { IfOk result (λ text. (o : Origin) (acts : List Act) → Agrees drive.now o acts
+            → text.items ≡ ruled_text o.tables.config.profile (in_force o (log o acts))
+            (command_carried h.now) rule) }
+    {
+        let text = ruling_of(self.alloc, &drive.in_force(), command_in(h), rule)?;
+        Ok(text)
+    }
+
+    /// The lines that tell why the command of a FIS was refused with this answer, each with its line feed; none where it
+    /// was not.
+    fn reasons(
+        &self,
+        drive: &Drive,
+        h: &RegH2d,
+        answer: &Accepted,
+    ) -> Result<Vec<u8>, AllocError>
         ensures { IfOk result (λ text. (o : Origin) (past : List Sourced) (acts : List Act)
             → Agrees drive.now o acts → Recounts self.now o past
-            → text.items ≡ denial_text o past acts answer.now.denied answer.now.rule) }
+            → text.items ≡ denial_text o past acts (command_carried h.now) answer.now.denied
+            answer.now.rule) }
     {
         let Some(why) = &answer.denied else {
-            return ruling(self.alloc, answer.rule);
+            return self.rule_lines(drive, h, answer.rule);
         };
         let text = self.chronicle.explain(self.alloc, &drive.in_force(), why)?;
         Ok(text)
     }
 
-    /// Prints why a command was refused with this answer, behind what it printed: what is expected is not held against
-    /// these lines. The drive has done the command, which is not noted yet.
+    /// Prints why the command of a FIS was refused with this answer, behind what it printed: what is expected is not held
+    /// against these lines. The drive has done the command, which is not noted yet.
     ///
     /// # Errors
     ///
@@ -124,6 +132,7 @@ impl Explainer {
     pub fn explain(
         &self,
         drive: &Drive,
+        h: &RegH2d,
         answer: &Accepted,
         report: &mut Report,
     ) -> Result<(), AllocError>
@@ -131,10 +140,11 @@ impl Explainer {
             → Agrees drive.now o acts → Recounts self.now o past
             → report.new.pending.items
             ≡ report.old.pending.items
-            ++ denial_text o past acts answer.now.denied answer.now.rule) }
+            ++ denial_text o past acts (command_carried h.now) answer.now.denied
+            answer.now.rule) }
         ensures last { report.new.last ≡ report.old.last }
     {
-        let text = self.reasons(drive, answer)?;
+        let text = self.reasons(drive, h, answer)?;
         report.pending.extend_from_slice(&text)?;
         Ok(())
     }

@@ -426,7 +426,7 @@ impl RunningPhase {
             → Recounts explainer.old o past
             → Explains source o past acts explainer.new report.old report.new) }
     {
-        explainer.explain(&self.drive, &self.answer, report)?;
+        explainer.explain(&self.drive, &self.header, &self.answer, report)?;
         explainer.note_command(
             &self.drive,
             &self.header,

@@ -17,13 +17,13 @@ use Rattle.port_history.specs.declared.step.Step.{Step}
 use Rattle.port_history.specs.declared.step.Step.TheVariants as steps
 use Rattle.audit.specs.declared.rules.rule.Rule.{Rule}
 use Rattle.reasons.specs.Remedies.{remedy_text}
+use Rattle.reasons.specs.Rulings.{rule_text}
 use Rattle.port_history.specs.Stages.{put_at}
 use Rattle.port_history.specs.declared.error.PortError.{PortError}
 use Rattle.port_history.specs.declared.error.PortError.TheVariants as errors
 use Rattle.port_history.specs.declared.stages.Put.{Put}
 use Rattle.port_history.specs.declared.stages.Stage.{Stage}
 use Rattle.port_history.specs.declared.stages.Stage.TheVariants as stages
-use Rattle.drive_scripts.specs.Explanations.{rule_text}
 
 abbrev pub error_words : PortError → List ℕ
 error_words errors.SlotBusy = codes "the slot is not free"

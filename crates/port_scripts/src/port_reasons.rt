@@ -12,11 +12,11 @@ ghost use Rattle.port_scripts.specs.PortReasons.{slot_of, step_refusal_text, acc
 use audit::Why;
 use audit::rules::Rule;
 use basics::append_decimal;
-use drive_scripts::ruling;
 use fis::{SLOT_COUNT, Tag};
 use port::Port;
 use port_history::{PortError, Put, Stage, Step};
 use reasons::remedies::remedy_bytes;
+use reasons::rulings::ruling;
 use sp_cells::Rows;
 use std::alloc::{AllocError, Global};
 

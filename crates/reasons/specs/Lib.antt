@@ -8,3 +8,4 @@ pub mod Chronicles
 pub mod Reasons
 pub mod Rests
 pub mod Lifts
+pub mod Rulings

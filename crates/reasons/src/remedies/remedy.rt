@@ -158,7 +158,7 @@ fn append_attempt_remedy<R: Rows>(
 
 /// Appends a Set that puts a number into a cell, and who may do it, as
 /// `Set of MBRControl Done = 1 by Admins (ACE_MBRControl_Admins_Set)`.
-fn append_set<R: Rows>(
+pub(crate) fn append_set<R: Rows>(
     alloc: Global,
     text: &mut Vec<u8>,
     rows: &R,

@@ -7,6 +7,7 @@ use Rattle.reasons.specs.declared.explained.condition.Condition.{Condition}
 use Rattle.reasons.specs.Onsets.{held_since, holds_after}
 use Rattle.reasons.specs.Chronicles.{KeptOnsets, Recounts}
 use Rattle.reasons.specs.Reasons.{explanation_text}
+use Rattle.reasons.specs.Rulings.{command_carried}
 use Rattle.drive_scripts.specs.Explanations.{denial_text}
 use Rattle.drive_scripts.proofs.explainer.Explainer.reasons.Goals as goal
 
@@ -20,4 +21,4 @@ returns c = λ o past acts agrees kept.
     (ap (λ (s : Sight). s.config.profile) c.in_force.ensures.stands ∙ ap (λ (k : Config). k.profile) agrees.tper.store.config)
     ∙ ap (λ (rows : LookUp). explanation_text onset o.tables.config.profile rows why)
     (c.in_force.ensures.told o acts agrees)
-    ∙ ap (λ denied. denial_text o past acts denied c.args.answer.now.rule) (sym c.in-Some.is)
+    ∙ ap (λ denied. denial_text o past acts (command_carried c.args.h.now) denied c.args.answer.now.rule) (sym c.in-Some.is)

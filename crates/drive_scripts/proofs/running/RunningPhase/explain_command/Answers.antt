@@ -18,6 +18,6 @@ returns c = λ o past acts runs answered kept.
       pending = c.in_ok-explain.ensures.pending o past acts runs.0 kept
           ∙ ap (λ text. c.args.report.now.pending.items ++ text)
           (reasons_of_command o run.completed answered.fis run.payload.items answered.tag answered.bytes past acts
-          run.answer.denied run.answer.rule answered.acts answered.denied answered.rule);
+          run.header run.answer.denied run.answer.rule answered.read answered.acts answered.denied answered.rule);
       last = c.explain.ensures.last;
     }
