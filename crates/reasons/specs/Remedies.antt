@@ -5,6 +5,7 @@
 --   lifted by: the PIN of AUTHORITY
 --   lifted by: a power cycle
 --   lifted by: a power cycle, or Revert of SP by EXPRESSION (ACE), or by EXPRESSION (ACE)
+--   lifted by: the same in a session on SP by EXPRESSION (ACE), or by EXPRESSION (ACE)
 --   lifted by: nothing
 use Rattle.std.specs.Prelude.{ℕ, ◌==◌, Bool, not, ◌&&◌, List, [], ◌∷◌, ◌++◌, filter, Option, None, Some, codes, decimal, if◌then◌else◌}
 use Rattle.std.specs.List.{flat_map}
@@ -15,7 +16,7 @@ use Rattle.sp_cells.specs.declared.names.Sp.TheVariants.{Admin, Locking}
 use Rattle.sp_cells.specs.declared.names.Column.{Column}
 use Rattle.sp_cells.specs.declared.cells.Cell.{Cell}
 use Rattle.sp_cells.specs.declared.cells.Cell.TheVariants.{Expr}
-use Rattle.sp_cells.specs.Names.{table_of, c_pin_table, get, set, revert, admin_sp, locking_sp, range_uid, mbr_control}
+use Rattle.sp_cells.specs.Names.{table_of, c_pin_table, get, set, revert, this_sp, admin_sp, locking_sp, range_uid, mbr_control}
 use Rattle.sp_cells.specs.ColumnNames.{boolean_expr_column, pin_column, enabled_column, read_locked_column, write_locked_column, mbr_done_column}
 use Rattle.sp_cells.specs.Flat.{LookUp}
 use Rattle.ace_eval.specs.Aces.{acl_at, naming, holds_at}
@@ -121,6 +122,25 @@ unread_text profile look sp object method =
     if is_pin_get object method
     then secret_text (aces_for profile look sp object method (Some pin_column)) else []
 
+-- A method that an SP does not offer on an object may be offered in a session on the other SP, as Activate of the Locking SP
+-- (Opal SSC 2.01, section 5.1.1). ThisSP is another SP there.
+abbrev pub other_sp : Sp → Sp
+other_sp Admin = Locking
+other_sp Locking = Admin
+
+abbrev pub elsewhere_words : Sp → List ℕ
+elsewhere_words sp =
+    codes "the same in a session on " ++ called_object (sp_object sp) ++ codes " by "
+
+abbrev pub elsewhere_aces : Profile → LookUp → Sp → Uid → Uid → List Uid
+elsewhere_aces profile look sp object method =
+    if object.0 == this_sp.0 then [] else aces_for profile look sp object method None
+
+abbrev pub elsewhere_text : Profile → LookUp → Sp → Uid → Uid → List ℕ
+elsewhere_text profile look sp object method =
+    ways_text look sp (elsewhere_words sp) (codes ", or by ")
+    (elsewhere_aces profile look sp object method)
+
 -- what stands behind `lifted by: `
 abbrev pub lifting_text : Profile → LookUp → Why → List ℕ
 lifting_text profile look (ReadLocked lba count range) =
@@ -131,7 +151,8 @@ lifting_text profile look (ReadShadow lba count) = unshadowing_text profile look
 lifting_text profile look (WriteShadow lba count) = unshadowing_text profile look
 lifting_text profile look (NoEntryHolds sp object method column need) =
     ways_text look sp [] (codes ", or ") need.items ++ unread_text profile look sp object method
-lifting_text profile look (NoAccessRow sp object method) = codes "nothing"
+lifting_text profile look (NoAccessRow sp object method) =
+    elsewhere_text profile look (other_sp sp) object method
 lifting_text profile look (AttemptFailed sp authority failure) =
     attempt_remedy profile look sp authority failure
 

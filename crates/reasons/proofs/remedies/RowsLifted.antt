@@ -12,7 +12,7 @@ use Rattle.sp_cells.specs.declared.cells.Element.{Element}
 use Rattle.sp_cells.specs.declared.cells.Element.TheVariants.{Authority, And, Or}
 use Rattle.sp_cells.specs.declared.cells.Cell.TheVariants.{Expr, Columns}
 use Rattle.sp_cells.specs.Authorities.{authorities_of_locking}
-use Rattle.sp_cells.specs.Names.{get, set, anybody, sid, psid, admins_class, user_uid, c_pin_sid, c_pin_msid, admin_pin_uid, range_uid, mbr_control, ace_sp_sid, ace_sp_psid, ace_c_pin_sid_get_nopin, ace_c_pin_sid_set_pin, ace_c_pin_msid_get_pin, ace_c_pin_admins_get_all_nopin, ace_authority_set_enabled, ace_locking_admins_set, ace_range_set_read_locked, ace_range_set_write_locked, ace_mbr_control_admins_set, ace_mbr_control_set_done_to_dor}
+use Rattle.sp_cells.specs.Names.{get, set, activate, revert_sp, this_sp, locking_sp, anybody, sid, psid, admins_class, user_uid, c_pin_sid, c_pin_msid, admin_pin_uid, range_uid, mbr_control, ace_sp_sid, ace_sp_psid, ace_c_pin_sid_get_nopin, ace_c_pin_sid_set_pin, ace_c_pin_msid_get_pin, ace_c_pin_admins_get_all_nopin, ace_authority_set_enabled, ace_locking_admins_set, ace_range_set_read_locked, ace_range_set_write_locked, ace_mbr_control_admins_set, ace_mbr_control_set_done_to_dor}
 use Rattle.sp_cells.specs.ColumnNames.{uid_column, pin_column, tries_column, boolean_expr_column, columns_column, enabled_column, range_start_column, range_length_column, read_locked_column, write_locked_column, mbr_enable_column, mbr_done_column, mbr_done_on_reset_column}
 use Rattle.sp_cells.specs.Flat.{PlacedCell, LookUp, cell_at}
 use Rattle.ace_eval.specs.Aces.{ace_of}
@@ -103,7 +103,20 @@ unfolding object_singles authority_singles admin_ace_singles locking_ace_singles
 set_pin = refl
 
 not_offered : remedy_text Base rows (NoAccessRow Locking mbr_control set) ≡ codes "lifted by: nothing"
+unfolding this_sp_grants owner_grants authority_grants fixed_ace_gets user_ace_grants range_get_ace_grants read_locked_ace_grants write_locked_ace_grants done_ace_grants pin_grants range_get_grants range_set_grants mbr_grants authorities_of_locking object_singles authority_singles admin_ace_singles locking_ace_singles method_singles of_numbers of_ranges named_objects digits
 not_offered = refl
+
+-- Activate is offered in the other SP; ThisSP is another there, and so is nothing told of it
+activate_within : remedy_text Base rows (NoAccessRow Locking locking_sp activate) ≡ codes "lifted by: the same in a session on AdminSP by SID (ACE_SP_SID)"
+unfolding this_sp_grants owner_grants object_singles authority_singles admin_ace_singles locking_ace_singles method_singles of_numbers of_ranges named_objects digits
+activate_within = refl
+
+unlocks_elsewhere : remedy_text Base rows (NoAccessRow Admin mbr_control set) ≡ codes "lifted by: the same in a session on LockingSP by Admins (ACE_MBRControl_Admins_Set), or by (Admins or User1) and User2 (ACE_MBRControl_Set_DoneToDOR)"
+unfolding this_sp_grants owner_grants authority_grants fixed_ace_gets user_ace_grants range_get_ace_grants read_locked_ace_grants write_locked_ace_grants done_ace_grants pin_grants range_get_grants range_set_grants mbr_grants authorities_of_locking object_singles authority_singles admin_ace_singles locking_ace_singles method_singles of_numbers of_ranges named_objects digits
+unlocks_elsewhere = refl
+
+another_sp : remedy_text Field rows (NoAccessRow Admin this_sp revert_sp) ≡ codes "lifted by: nothing"
+another_sp = refl
 
 -- attempts
 wrong_pin : remedy_text Base rows (AttemptFailed Locking (user_uid 16) WrongPin) ≡ codes "lifted by: the PIN of User16"

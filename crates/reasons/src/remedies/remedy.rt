@@ -1,10 +1,10 @@
 //! What lifts a denial, as its bytes.
 
 ghost use Rattle.std.specs.Prelude.{◌≡◌, ◌++◌, OnOk, IfOk};
-ghost use Rattle.reasons.specs.Remedies.{set_words, set_text, sp_object, revert_words, reverted_text, revert_text, unlocking_text, unshadowing_text, attempt_remedy, secret_text, unread_text, lifting_text, remedy_text};
+ghost use Rattle.reasons.specs.Remedies.{set_words, set_text, sp_object, revert_words, reverted_text, revert_text, unlocking_text, unshadowing_text, attempt_remedy, secret_text, unread_text, other_sp, elsewhere_words, elsewhere_text, lifting_text, remedy_text};
 
 use crate::remedies::called::{append_column_name, append_object_name};
-use crate::remedies::ways::{aces_beside, aces_for, append_ways};
+use crate::remedies::ways::{aces_beside, aces_elsewhere, aces_for, append_ways};
 use audit::{AttemptFailure, Why};
 use basics::append_decimal;
 use sp_cells::names::tables;
@@ -55,7 +55,9 @@ fn append_lifting<R: Rows>(
             append_ways(alloc, text, rows, *sp, b"", b", or ", need.as_slice())?;
             append_unread(text, rows, *sp, *object, *method)
         }
-        Why::NoAccessRow { .. } => text.extend_from_slice(b"nothing"),
+        Why::NoAccessRow { sp, object, method } => {
+            append_elsewhere(alloc, text, rows, other_sp(*sp), *object, *method)
+        }
         Why::AttemptFailed {
             sp,
             authority,
@@ -125,6 +127,45 @@ fn append_unread<R: Rows>(
         append_secret(text, readers.as_slice())?;
     }
     Ok(())
+}
+
+/// The other SP.
+fn other_sp(sp: Sp) -> Sp
+    ensures { result ≡ other_sp sp }
+{
+    match sp {
+        Sp::Admin => Sp::Locking,
+        Sp::Locking => Sp::Admin,
+    }
+}
+
+/// What stands before who may call a method in a session on an SP.
+fn elsewhere_words(alloc: Global, sp: Sp) -> Result<Vec<u8>, AllocError>
+    ensures { IfOk result (λ words. words.items ≡ elsewhere_words sp) }
+{
+    let mut words = Vec::new(alloc);
+    words.extend_from_slice(b"the same in a session on ")?;
+    append_object_name(alloc, &mut words, sp_object(sp))?;
+    words.extend_from_slice(b" by ")?;
+    Ok(words)
+}
+
+/// Appends who may call a method in a session on an SP, as
+/// `the same in a session on AdminSP by SID (ACE_SP_SID)`; `nothing` where nobody may.
+fn append_elsewhere<R: Rows>(
+    alloc: Global,
+    text: &mut Vec<u8>,
+    rows: &R,
+    sp: Sp,
+    object: Uid,
+    method: Uid,
+) -> Result<(), AllocError>
+    ensures { OnOk result (text.new.items ≡ text.old.items
+        ++ elsewhere_text (R.profile_of rows.now) (R.look_up rows.now) sp object method) }
+{
+    let words = elsewhere_words(alloc, sp)?;
+    let aces = aces_elsewhere(rows, sp, object, method);
+    append_ways(alloc, text, rows, sp, &words, b", or by ", aces.as_slice())
 }
 
 /// Appends what makes an attempt to authenticate succeed, or possible again.

@@ -2,7 +2,7 @@
 
 ghost use Rattle.std.specs.Prelude.{◌≡◌, ◌++◌, filter, OnOk};
 ghost use Rattle.sp_cells.specs.ColumnNames.{boolean_expr_column};
-ghost use Rattle.reasons.specs.Remedies.{fulfilling_text, way_text, more_ways_text, ways_text, aces_for, is_beside};
+ghost use Rattle.reasons.specs.Remedies.{fulfilling_text, way_text, more_ways_text, ways_text, aces_for, elsewhere_aces, is_beside};
 
 use crate::remedies::called::append_object_name;
 use crate::remedies::expression::append_expression;
@@ -28,6 +28,22 @@ pub(crate) fn aces_for<R: Rows>(
         Ok(_) => ArrayVec::new(),
         Err(missing) => missing.need,
     }
+}
+
+/// The ACEs of a method of an object in another session; none of ThisSP, which is another SP there.
+pub(crate) fn aces_elsewhere<R: Rows>(
+    rows: &R,
+    sp: Sp,
+    object: Uid,
+    method: Uid,
+) -> ArrayVec<Uid, 4>
+    ensures { result.items ≡ elsewhere_aces (R.profile_of rows.now) (R.look_up rows.now) sp object
+        method }
+{
+    if object == Uid::THIS_SP {
+        return ArrayVec::new();
+    }
+    aces_for(rows, sp, object, method, None)
 }
 
 /// Whether an authority does not fulfil an ACE by itself.
