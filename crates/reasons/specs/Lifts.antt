@@ -1,8 +1,9 @@
 -- What the remedy of a denied transfer does: it names a Set, and by the rows with that cell set the same transfer is
 -- permitted, where nothing else denied it (Opal SSC 2.01, sections 4.3.5.2 and 4.3.5.3).
-use Rattle.std.specs.Prelude.{◌≡◌, ◌⊎◌, ℕ, ◌+◌, true, List, [], ◌∷◌, Option, None, Some, is_some}
+use Rattle.std.specs.Prelude.{◌≡◌, ◌⊎◌, ℕ, ◌+◌, true, List, [], ◌∷◌, ◌++◌, Option, None, Some, is_some}
 use Rattle.basics.specs.declared.profile.Profile.{Profile}
 use Rattle.sp_cells.specs.declared.names.Uid.{Uid}
+use Rattle.sp_cells.specs.declared.names.Sp.{Sp}
 use Rattle.sp_cells.specs.declared.names.Sp.TheVariants.{Locking}
 use Rattle.sp_cells.specs.declared.names.Column.{Column}
 use Rattle.sp_cells.specs.declared.cells.Cell.TheVariants.{Number}
@@ -10,6 +11,7 @@ use Rattle.sp_cells.specs.Names.{range_uid, mbr_control}
 use Rattle.sp_cells.specs.ColumnNames.{read_locked_column, write_locked_column, mbr_done_column}
 use Rattle.sp_cells.specs.Flat.{LookUp}
 use Rattle.sp_tables.specs.Looks.{changed}
+use Rattle.ace_eval.specs.Aces.{holds_at, ace_of}
 use Rattle.audit.specs.declared.reason.Why.{Why}
 use Rattle.audit.specs.declared.reason.Why.TheVariants as whys
 use Rattle.locking.specs.declared.range.Op.{Op}
@@ -21,7 +23,7 @@ use Rattle.history.specs.Decisions.{ranges_in_force}
 use Rattle.history.specs.History.{Act}
 use Rattle.history.specs.DenialLaws.{TransferDenied}
 use Rattle.history.specs.TransferLaws.{IsPermitted}
-use Rattle.reasons.specs.Remedies.{set_text, lifting_text}
+use Rattle.reasons.specs.Remedies.{aces_for, set_text, lifting_text}
 
 -- a number that is put into a cell of the Locking SP
 pub record NamedSet : Type 0 where
@@ -86,3 +88,12 @@ abbrev pub LiftLaw : Type 0
 LiftLaw =
     (f : Facts) (act : Act) (why : Why) (its : TransferDenied f act why)
     → IsLifted f its.op its.lba its.count why
+
+-- Who fulfils one of the ACEs that are told has an ACE for the method, and the column.
+abbrev pub FulfilLaw : Type 0
+FulfilLaw =
+    (profile : Profile) (look : LookUp) (sp : Sp) (object method : Uid) (column : Option Column)
+    (held before later : List Uid) (ace : Uid)
+    → aces_for profile look sp object method column ≡ before ++ ace ∷ later
+    → holds_at look sp held ace ≡ true
+    → is_some (ace_of profile look sp object method column held) ≡ true

@@ -1,8 +1,10 @@
 -- The Set that a remedy names lifts the denial.
-use Rattle.std.proofs.Common.{◌≡◌, ◌∙◌, ◌⊎◌, ℕ, zero, suc, ◌==◌, ◌&&◌, ◌+◌, ◌≤◌, ◌<◌, nat_le, nat_lt, not, if◌then◌else◌, Bool, true, false, List, [], ◌∷◌, refl, sym, ap, subst, arith, inl, inr, Option, Some, None, eq-eqb}
+use Rattle.std.proofs.Common.{◌≡◌, ◌∙◌, ◌⊎◌, ℕ, zero, suc, ◌==◌, ◌&&◌, ◌+◌, ◌≤◌, ◌<◌, nat_le, nat_lt, not, if◌then◌else◌, Bool, true, false, List, [], ◌∷◌, ◌++◌, refl, sym, ap, subst, arith, inl, inr, Option, Some, None, eq-eqb}
 use Rattle.std.specs.Prelude.{option_map, is_some}
 use Rattle.std.proofs.lemmas.Bool.{le-ltb}
+use Rattle.sp_cells.specs.declared.names.Sp.{Sp}
 use Rattle.sp_cells.specs.declared.names.Sp.TheVariants.{Locking}
+use Rattle.sp_cells.specs.declared.names.Uid.{Uid}
 use Rattle.sp_cells.specs.declared.names.Column.{Column}
 use Rattle.sp_cells.specs.declared.cells.Cell.{Cell}
 use Rattle.sp_cells.specs.declared.cells.Cell.TheVariants.{Number}
@@ -10,6 +12,7 @@ use Rattle.sp_cells.specs.Names.{range_uid, mbr_control}
 use Rattle.sp_cells.specs.ColumnNames.{range_start_column, range_length_column, read_lock_enabled_column, write_lock_enabled_column, read_locked_column, write_locked_column, mbr_enable_column, mbr_done_column}
 use Rattle.sp_cells.specs.Flat.{LookUp}
 use Rattle.sp_cells.specs.Ranges.{cell_number, number, of_range, range_start, range_length, read_lock_enabled, write_lock_enabled, read_locked, write_locked}
+use Rattle.ace_eval.specs.Aces.{holds_at, first_holding}
 use Rattle.audit.specs.declared.reason.Why.{Why}
 use Rattle.locking.specs.declared.range.Op.{Op}
 use Rattle.locking.specs.declared.range.Op.TheVariants.{Read, Write}
@@ -21,7 +24,7 @@ use Rattle.history.specs.Facts.{Facts}
 use Rattle.history.specs.Decisions.{ranges_in_force}
 use Rattle.history.specs.TransferLaws.{IsPermitted, IsReason}
 use Rattle.history.proofs.TransferProofs.{verdict_law}
-use Rattle.reasons.specs.Lifts.{lock_cleared, shadow_done, HasNamedCell, rows_set, IsOfRange, IsLifted, LiftLaw}
+use Rattle.reasons.specs.Lifts.{lock_cleared, shadow_done, HasNamedCell, rows_set, IsOfRange, IsLifted, LiftLaw, FulfilLaw}
 
 -- a cell of another column stays; the cell itself is the number, where there is one
 
@@ -288,3 +291,19 @@ by-reason f op lba count why (inr range) =
 pub lifts : LiftLaw
 lifts f act why its =
     by-reason f its.op its.lba its.count why ((verdict_law (ranges_in_force f) its.op its.lba its.count).reason why its.verdict)
+
+-- an ACE that holds is the first that does, or stands behind it
+some-if : (look : LookUp) (sp : Sp) (held : List Uid) (first : Uid) (aces : List Uid) (b : Bool)
+    → is_some (first_holding look sp held aces) ≡ true → is_some (if b then Some first else first_holding look sp held aces) ≡ true
+some-if look sp held first aces true h = refl
+some-if look sp held first aces false h = h
+
+some-holds : (look : LookUp) (sp : Sp) (held before later : List Uid) (ace : Uid) → holds_at look sp held ace ≡ true
+    → is_some (first_holding look sp held (before ++ ace ∷ later)) ≡ true
+some-holds look sp held [] later ace h = ap (λ (b : Bool). is_some (if b then Some ace else first_holding look sp held later)) h
+some-holds look sp held (first ∷ before) later ace h =
+    some-if look sp held first (before ++ ace ∷ later) (holds_at look sp held first) (some-holds look sp held before later ace h)
+
+pub fulfils : FulfilLaw
+fulfils profile look sp object method column held before later ace is h =
+    ap (λ (aces : List Uid). is_some (first_holding look sp held aces)) is ∙ some-holds look sp held before later ace h
