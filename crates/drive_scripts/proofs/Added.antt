@@ -24,9 +24,9 @@ use Rattle.sp_cells.specs.declared.names.Sp.TheVariants.{Admin}
 use Rattle.sp_cells.specs.ColumnNames.{programmatic_reset_enable_column}
 use Rattle.basics.specs.declared.profile.Profile.{Profile}
 use Rattle.reasons.specs.Remedies.{set_text}
-use Rattle.reasons.specs.Rulings.{because_text, no_reset_words, list_words, discovery_words, matter_at, matter_text, command_carried}
+use Rattle.reasons.specs.Rulings.{because_text, no_reset_words, list_words, discovery_words, long_words, matter_at, matter_text, command_carried}
 use Rattle.reasons.specs.declared.rulings.Matter.{Matter}
-use Rattle.reasons.specs.declared.rulings.Matter.TheVariants.{Reset as ResetMatter, OtherThanList, SendToDiscovery, Plain}
+use Rattle.reasons.specs.declared.rulings.Matter.TheVariants.{Reset as ResetMatter, OtherThanList, SendToDiscovery, LongResponse, Plain}
 use Rattle.drive_scripts.specs.Explanations.{added, from_source, attributed, no_objection, objection_of, objection_in, command_done, denial_text, objection_text, told_reasons, once_served}
 
 -- the first items of a list, by how many stand behind them
@@ -169,6 +169,7 @@ matter_ends profile look rule ResetMatter =
     inr (because_text no_reset_words ++ codes "lifted by: " ++ set_text profile look Admin tper_info programmatic_reset_enable_column 1, refl)
 matter_ends profile look rule OtherThanList = inr (codes "because " ++ list_words, refl)
 matter_ends profile look rule SendToDiscovery = inr (codes "because " ++ discovery_words, refl)
+matter_ends profile look rule LongResponse = inr (codes "because " ++ long_words, refl)
 matter_ends profile look rule Plain = inr (codes "because " ++ rule_words rule, refl)
 
 denial_ends : (o : Origin) (past : List Sourced) (acts : List Act) (command : Option Command) (why : Option Why) (rule : Option Rule) → EndsLine (denial_text o past acts command why rule)

@@ -2,10 +2,11 @@
 -- TRUSTED RECEIVE; Opal SSC 2.01, sections 3.1.1 and 3.3.3; SPC-4, SECURITY PROTOCOL IN). The texts are this project's:
 --   because a response waits on the ComID
 --   because Level 0 discovery, ComID 0001h, is received and takes no send
+--   because a response carries at most 65480 bytes of tokens
 --   because security protocol 00h is its list alone: a receive, SP Specific 0000h, one block or more
 --   because TPerInfo ProgrammaticResetEnable = 0
 --   lifted by: Set of TPerInfo ProgrammaticResetEnable = 1 by SID (ACE_TPerInfo_Set_ProgrammaticResetEnable)
-use Rattle.std.specs.Prelude.{◌≡◌, ℕ, ◌==◌, Bool, true, false, ◌&&◌, List, [], ◌∷◌, ◌++◌, Option, None, Some, codes, Result, Ok, Err, if◌then◌else◌}
+use Rattle.std.specs.Prelude.{◌≡◌, ℕ, ◌==◌, Bool, true, false, ◌&&◌, List, [], ◌∷◌, ◌++◌, Option, None, Some, codes, decimal, Result, Ok, Err, if◌then◌else◌}
 use Rattle.basics.specs.declared.profile.Profile.{Profile}
 use Rattle.basics.specs.declared.profile.Profile.TheVariants.{Base, Field}
 use Rattle.fis.specs.declared.h2d.RegH2d.{RegH2d}
@@ -20,13 +21,14 @@ use Rattle.trusted_cmds.specs.declared.command.CommandError.{CommandError}
 use Rattle.audit.specs.declared.rules.rule.Rule.{Rule}
 use Rattle.audit.specs.declared.rules.rule.Rule.TheVariants as rules
 use Rattle.audit.specs.Words.{rule_words}
+use Rattle.tcg_calls.specs.Limits.{most_response}
 use Rattle.history.specs.Facts.{Facts}
 use Rattle.history.specs.Decisions.{discovery_com_id, lets_reset}
 use Rattle.history.specs.Tcg.{unqueued}
 use Rattle.reasons.specs.Called.{called_object, called_column}
 use Rattle.reasons.specs.Remedies.{set_text}
 use Rattle.reasons.specs.declared.rulings.Matter.{Matter}
-use Rattle.reasons.specs.declared.rulings.Matter.TheVariants.{Reset, OtherThanList, SendToDiscovery, Plain}
+use Rattle.reasons.specs.declared.rulings.Matter.TheVariants.{Reset, OtherThanList, SendToDiscovery, LongResponse, Plain}
 
 -- by security protocol 00h
 abbrev pub is_by_protocol_0 : Command → Bool
@@ -42,7 +44,7 @@ abbrev pub is_send_to_discovery : Command → Bool
 is_send_to_discovery (Send protocol sp_specific blocks dma) = sp_specific == discovery_com_id
 is_send_to_discovery _ = false
 
--- what a command asks for that its rule does not tell
+-- what a command asks for that its rule does not tell: status 11h goes by the bytes of a response
 abbrev pub matter_of_protocol : Profile → Command → Matter
 matter_of_protocol profile command =
     if is_programmatic_reset command then Reset
@@ -54,6 +56,7 @@ matter_of_com_id command = if is_send_to_discovery command then SendToDiscovery 
 abbrev pub matter_of : Profile → Command → Rule → Matter
 matter_of profile command rules.Protocol = matter_of_protocol profile command
 matter_of profile command rules.ComId = matter_of_com_id command
+matter_of profile command rules.TooLong = LongResponse
 matter_of profile command _ = Plain
 
 abbrev pub matter_at : Profile → Option Command → Rule → Matter
@@ -82,10 +85,15 @@ list_words =
 abbrev pub discovery_words : List ℕ
 discovery_words = codes "Level 0 discovery, ComID 0001h, is received and takes no send"
 
+abbrev pub long_words : List ℕ
+long_words =
+    codes "a response carries at most " ++ decimal most_response ++ codes " bytes of tokens"
+
 abbrev pub matter_text : Profile → LookUp → Rule → Matter → List ℕ
 matter_text profile look rule Reset = no_reset_text profile look
 matter_text profile look rule OtherThanList = because_text list_words
 matter_text profile look rule SendToDiscovery = because_text discovery_words
+matter_text profile look rule LongResponse = because_text long_words
 matter_text profile look rule Plain = because_text (rule_words rule)
 
 -- the rule alone; no line where there is none

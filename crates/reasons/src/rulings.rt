@@ -1,15 +1,16 @@
 //! Why a rule refused a command, in words: by what a trusted command asked for, or else by the rule.
 
 ghost use Rattle.std.specs.Prelude.{◌≡◌, ◌++◌, IfOk, OnOk};
-ghost use Rattle.reasons.specs.Rulings.{is_by_protocol_0, has_protocol_list, is_send_to_discovery, matter_of_protocol, matter_of_com_id, matter_of, matter_at, because_text, no_reset_words, no_reset_text, matter_text, rule_text, ruled_text, command_carried, ResetRuleLaw};
+ghost use Rattle.reasons.specs.Rulings.{is_by_protocol_0, has_protocol_list, is_send_to_discovery, matter_of_protocol, matter_of_com_id, matter_of, matter_at, because_text, no_reset_words, no_reset_text, long_words, matter_text, rule_text, ruled_text, command_carried, ResetRuleLaw};
 
 use crate::remedies::{append_column_name, append_object_name, append_set};
 use audit::rules::{Rule, rule_words};
-use basics::Profile;
+use basics::{Profile, append_decimal};
 use compacket::ComId;
 use fis::RegH2d;
 use sp_cells::{Column, Rows, Sp, Uid};
 use std::alloc::{AllocError, Global};
+use tcg_calls::call_shapes::limits::MOST_RESPONSE;
 use trusted_cmds::{Command, is_programmatic_reset, of_fis};
 
 /// The ComID of Level 0 discovery.
@@ -24,6 +25,8 @@ pub enum Matter {
     OtherThanList,
     /// A send to the ComID of Level 0 discovery.
     SendToDiscovery,
+    /// More than a response carries.
+    LongResponse,
     /// Nothing that the rule does not tell.
     Plain,
 }
@@ -89,6 +92,7 @@ fn matter_of(profile: Profile, command: &Command, rule: Rule) -> Matter
     match rule {
         Rule::Protocol => matter_of_protocol(profile, command),
         Rule::ComId => matter_of_com_id(command),
+        Rule::TooLong => Matter::LongResponse,
         _ => Matter::Plain,
     }
 }
@@ -151,6 +155,25 @@ fn append_no_reset<R: Rows>(alloc: Global, text: &mut Vec<u8>, rows: &R) -> Resu
     Ok(())
 }
 
+/// How much a response carries.
+fn long_words(alloc: Global) -> Result<Vec<u8>, AllocError>
+    ensures { IfOk result (λ words. words.items ≡ long_words) }
+{
+    let mut words = Vec::new(alloc);
+    words.extend_from_slice(b"a response carries at most ")?;
+    append_decimal(alloc, &mut words, MOST_RESPONSE)?;
+    words.extend_from_slice(b" bytes of tokens")?;
+    Ok(words)
+}
+
+/// Appends how much a response carries.
+fn append_long(alloc: Global, text: &mut Vec<u8>) -> Result<(), AllocError>
+    ensures { OnOk result (text.new.items ≡ text.old.items ++ because_text long_words) }
+{
+    let words = long_words(alloc)?;
+    append_because(text, &words)
+}
+
 /// Appends why a rule refused what a command asked for.
 fn append_matter<R: Rows>(
     alloc: Global,
@@ -172,6 +195,7 @@ fn append_matter<R: Rows>(
             text,
             b"Level 0 discovery, ComID 0001h, is received and takes no send",
         ),
+        Matter::LongResponse => append_long(alloc, text),
         Matter::Plain => append_because(text, rule_words(rule)),
     }
 }

@@ -92,3 +92,8 @@ to_discovery = refl
 
 to_none : ruled_text Base rows (Some (Send 1 77 1 true)) (Some rules.ComId) ≡ codes "because the drive has no such ComID\n"
 to_none = refl
+
+-- how much a response carries
+too_long : ruled_text Base rows (Some (Send 1 4096 1 true)) (Some rules.TooLong) ≡ codes "because a response carries at most 65480 bytes of tokens\n"
+unfolding digits
+too_long = refl
