@@ -105,12 +105,7 @@ impl Explainer {
 
     /// The lines that tell why the command of a FIS was refused with this answer, each with its line feed; none where it
     /// was not.
-    fn reasons(
-        &self,
-        drive: &Drive,
-        h: &RegH2d,
-        answer: &Accepted,
-    ) -> Result<Vec<u8>, AllocError>
+    fn reasons(&self, drive: &Drive, h: &RegH2d, answer: &Accepted) -> Result<Vec<u8>, AllocError>
         ensures { IfOk result (λ text. (o : Origin) (past : List Sourced) (acts : List Act)
             → Agrees drive.now o acts → Recounts self.now o past
             → text.items ≡ denial_text o past acts (command_carried h.now) answer.now.denied

@@ -97,12 +97,16 @@ unlocking_text profile look range column =
 abbrev pub unshadowing_text : Profile → LookUp → List ℕ
 unshadowing_text profile look = set_text profile look Locking mbr_control mbr_done_column 1
 
+-- what gives an authority its tries back
+abbrev pub locked_out_text : Profile → LookUp → Sp → Uid → List ℕ
+locked_out_text profile look sp authority =
+    codes "a power cycle" ++ revert_text profile look sp authority
+
 -- Tries that are used up are given back by a power cycle, and by a Revert of the SP (Core 2.01, section 5.3, table
 -- C_PIN); SID that is blocked is freed by a power cycle (Block SID Authentication feature set 1.00).
 abbrev pub attempt_remedy : Profile → LookUp → Sp → Uid → AttemptFailure → List ℕ
 attempt_remedy profile look sp authority WrongPin = codes "the PIN of " ++ called_object authority
-attempt_remedy profile look sp authority LockedOut =
-    codes "a power cycle" ++ revert_text profile look sp authority
+attempt_remedy profile look sp authority LockedOut = locked_out_text profile look sp authority
 attempt_remedy profile look sp authority Disabled =
     set_text profile look sp authority enabled_column 1
 attempt_remedy profile look sp authority Blocked = codes "a power cycle"

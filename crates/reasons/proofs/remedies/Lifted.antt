@@ -121,7 +121,7 @@ covers-stays op range look k sector = same-covers look (unlocked op range look) 
 row-stays : (op : Op) (range k : ℕ) (look : LookUp) → permits op (row_of look k) ≡ true → permits op (row_of (unlocked op range look) k) ≡ true
 row-stays Read range k look h =
     let enabled : read_lock_enabled (unlocked Read range look) k ≡ read_lock_enabled look k
-        = other (is_its range k) (put look k read_lock_enabled_column) (look Locking (range_uid k) read_lock_enabled_column) in
+    = other (is_its range k) (put look k read_lock_enabled_column) (look Locking (range_uid k) read_lock_enabled_column) in
     elim (gone-or-same (is_its range k) (look Locking (range_uid k) read_locked_column)) [
       | inl gone ↦ ap (λ (b : Bool). not ((read_lock_enabled (unlocked Read range look) k == 1) && b)) gone ∙ not-both (read_lock_enabled (unlocked Read range look) k == 1)
       | inr same ↦ ap (λ (b : Bool). not ((read_lock_enabled (unlocked Read range look) k == 1) && b)) same
@@ -129,7 +129,7 @@ row-stays Read range k look h =
     ]
 row-stays Write range k look h =
     let enabled : write_lock_enabled (unlocked Write range look) k ≡ write_lock_enabled look k
-        = other (is_its range k) (put look k write_lock_enabled_column) (look Locking (range_uid k) write_lock_enabled_column) in
+    = other (is_its range k) (put look k write_lock_enabled_column) (look Locking (range_uid k) write_lock_enabled_column) in
     elim (gone-or-same (is_its range k) (look Locking (range_uid k) write_locked_column)) [
       | inl gone ↦ ap (λ (b : Bool). not ((write_lock_enabled (unlocked Write range look) k == 1) && b)) gone ∙ not-both (write_lock_enabled (unlocked Write range look) k == 1)
       | inr same ↦ ap (λ (b : Bool). not ((write_lock_enabled (unlocked Write range look) k == 1) && b)) same
@@ -139,12 +139,12 @@ row-stays Write range k look h =
 row-lifts : (op : Op) (range : ℕ) (look : LookUp) → permits op (row_of (unlocked op range look) range) ≡ true
 row-lifts Read range look =
     let off : read_locked (unlocked Read range look) range ≡ 0
-        = cleared (is_its range range) (look Locking (range_uid range) read_locked_column) (eq-eqb (range_uid range).0 (range_uid range).0 refl) in
+    = cleared (is_its range range) (look Locking (range_uid range) read_locked_column) (eq-eqb (range_uid range).0 (range_uid range).0 refl) in
     ap (λ (n : ℕ). not ((read_lock_enabled (unlocked Read range look) range == 1) && (n == 1))) off
     ∙ not-both (read_lock_enabled (unlocked Read range look) range == 1)
 row-lifts Write range look =
     let off : write_locked (unlocked Write range look) range ≡ 0
-        = cleared (is_its range range) (look Locking (range_uid range) write_locked_column) (eq-eqb (range_uid range).0 (range_uid range).0 refl) in
+    = cleared (is_its range range) (look Locking (range_uid range) write_locked_column) (eq-eqb (range_uid range).0 (range_uid range).0 refl) in
     ap (λ (n : ℕ). not ((write_lock_enabled (unlocked Write range look) range == 1) && (n == 1))) off
     ∙ not-both (write_lock_enabled (unlocked Write range look) range == 1)
 

@@ -43,8 +43,8 @@ lets : (f : Facts) (payload : List ℕ) (protocol sp_specific blocks : ℕ) (dma
 lets f payload protocol sp_specific blocks dma false e is ruled = refl
 lets f payload protocol sp_specific blocks dma true e is ruled =
     let none : (unqueued f payload (Send protocol sp_specific blocks dma)).rule ≡ None
-        = ap (λ (b : Bool). (if b then did (WasReset programmatic) else send f protocol sp_specific blocks payload).rule)
-            (and_from (is_programmatic_reset (Send protocol sp_specific blocks dma)) (lets_reset f.rows) is e) in
+    = ap (λ (b : Bool). (if b then did (WasReset programmatic) else send f protocol sp_specific blocks payload).rule)
+    (and_from (is_programmatic_reset (Send protocol sp_specific blocks dma)) (lets_reset f.rows) is e) in
     absurd (no-rule rules.Protocol (sym none ∙ ruled))
 
 pub resets : ResetRuleLaw

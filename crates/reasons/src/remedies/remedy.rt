@@ -1,7 +1,7 @@
 //! What lifts a denial, as its bytes.
 
 ghost use Rattle.std.specs.Prelude.{◌≡◌, ◌++◌, OnOk, IfOk};
-ghost use Rattle.reasons.specs.Remedies.{set_words, set_text, sp_object, revert_words, reverted_text, revert_text, unlocking_text, unshadowing_text, attempt_remedy, secret_text, unread_text, other_sp, elsewhere_words, elsewhere_text, lifting_text, remedy_text};
+ghost use Rattle.reasons.specs.Remedies.{set_words, set_text, sp_object, revert_words, reverted_text, revert_text, unlocking_text, unshadowing_text, locked_out_text, attempt_remedy, secret_text, unread_text, other_sp, elsewhere_words, elsewhere_text, lifting_text, remedy_text};
 
 use crate::remedies::called::{append_column_name, append_object_name};
 use crate::remedies::ways::{aces_beside, aces_elsewhere, aces_for, append_ways};
@@ -168,6 +168,22 @@ fn append_elsewhere<R: Rows>(
     append_ways(alloc, text, rows, sp, &words, b", or by ", aces.as_slice())
 }
 
+/// Appends what gives an authority its tries back.
+fn append_locked_out<R: Rows>(
+    alloc: Global,
+    text: &mut Vec<u8>,
+    rows: &R,
+    sp: Sp,
+    authority: Uid,
+) -> Result<(), AllocError>
+    ensures { OnOk result (text.new.items ≡ text.old.items
+        ++ locked_out_text (R.profile_of rows.now) (R.look_up rows.now) sp authority) }
+{
+    text.extend_from_slice(b"a power cycle")?;
+    append_revert(alloc, text, rows, sp, authority)?;
+    Ok(())
+}
+
 /// Appends what makes an attempt to authenticate succeed, or possible again.
 fn append_attempt_remedy<R: Rows>(
     alloc: Global,
@@ -185,10 +201,7 @@ fn append_attempt_remedy<R: Rows>(
             text.extend_from_slice(b"the PIN of ")?;
             append_object_name(alloc, text, authority)
         }
-        AttemptFailure::LockedOut => {
-            text.extend_from_slice(b"a power cycle")?;
-            append_revert(alloc, text, rows, sp, authority)
-        }
+        AttemptFailure::LockedOut => append_locked_out(alloc, text, rows, sp, authority),
         AttemptFailure::Disabled => {
             append_set(alloc, text, rows, sp, authority, Column::ENABLED, 1)
         }
