@@ -12,7 +12,7 @@ use Rattle.history.specs.History.{Act, Accept, Complete, Reset, log, event}
 use Rattle.history.specs.Readers.{in_force, held}
 use Rattle.reasons.specs.declared.explained.onset.Source.{Source}
 use Rattle.reasons.specs.Remedies.{remedy_text}
-use Rattle.reasons.specs.Conditions.{conditions_of}
+use Rattle.reasons.specs.Conditions.{conditions_in}
 use Rattle.reasons.specs.Onsets.{Sourced, bare_acts, held_since, holds_after}
 use Rattle.reasons.specs.Reasons.{reasons_text}
 use Rattle.audit.specs.Words.{rule_words}
@@ -177,7 +177,7 @@ denial_ends o past acts command None None = inl refl
 denial_ends o past acts command None (Some rule) =
     matter_ends o.tables.config.profile (in_force o (log o acts)) rule (matter_at o.tables.config.profile command rule)
 denial_ends o past acts command (Some why) rule =
-    let because = reasons_text (λ c. held_since (holds_after o c) past) (conditions_of why) in
+    let because = reasons_text (λ c. held_since (holds_after o c) past) (conditions_in (in_force o (log o (bare_acts past))) why) in
     let remedy = remedy_text o.tables.config.profile (in_force o (log o acts)) why in
     inr (because ++ remedy, refl)
 

@@ -11,6 +11,7 @@ use Rattle.history.specs.History.{Act, Accept, Complete, Reset, log}
 use Rattle.history.specs.Readers.{in_force}
 use Rattle.reasons.specs.declared.explained.onset.Source.{Source}
 use Rattle.reasons.specs.Onsets.{Sourced, bare_acts, held_since, holds_after}
+use Rattle.reasons.specs.Conditions.{range_place}
 use Rattle.reasons.specs.Reasons.{explanation_text}
 use Rattle.reasons.specs.Rulings.{command_carried, ruled_text}
 
@@ -56,7 +57,8 @@ abbrev pub denial_text : Origin → List Sourced → List Act → Option Command
 denial_text o past acts command None rule =
     ruled_text o.tables.config.profile (in_force o (log o acts)) command rule
 denial_text o past acts command (Some why) rule =
-    explanation_text (λ c. held_since (holds_after o c) past) o.tables.config.profile
+    explanation_text (λ c. held_since (holds_after o c) past)
+    (range_place (in_force o (log o (bare_acts past)))) o.tables.config.profile
     (in_force o (log o acts)) why
 
 abbrev pub objection_text : Origin → List Sourced → List Act → Objection → List ℕ
