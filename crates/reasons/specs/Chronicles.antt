@@ -1,5 +1,5 @@
 -- What is kept of the onsets of all conditions.
-use Rattle.std.specs.Prelude.{◌≡◌, ℕ, Bool, true, nat_le, List, [], ◌∷◌, length, slice_index_or, Option, None, Some, suc, if◌then◌else◌}
+use Rattle.std.specs.Prelude.{◌≡◌, ℕ, true, nat_le, List, slice_index_or, Option, None, if◌then◌else◌}
 use Rattle.sp_cells.specs.declared.names.TheConstants.{RANGES}
 use Rattle.sp_cells.specs.Flat.{LookUp}
 use Rattle.history.specs.Opening.{Origin}

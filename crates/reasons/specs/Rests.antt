@@ -1,6 +1,6 @@
 -- A denied transfer rests on something, all of which is in force before its act; and so each of its conditions has an
 -- onset.
-use Rattle.std.specs.Prelude.{◌≡◌, ℕ, true, List, [], ◌∷◌, Option, Some}
+use Rattle.std.specs.Prelude.{◌≡◌, true, List, [], ◌∷◌, Some}
 use Rattle.std.specs.List.{AllByRecursion}
 use Rattle.audit.specs.declared.reason.Why.{Why}
 use Rattle.history.specs.Opening.{Origin}

@@ -1,6 +1,5 @@
 -- What is kept beside a drive, over one more act.
-use Rattle.std.proofs.Common.{◌≡◌, ◌∙◌, ℕ, ◌+◌, ◌%◌, ◌^◌, ◌≤◌, ◌<◌, ◌==◌, nat_le, Bool, true, false, List, [], ◌∷◌, ◌++◌, length, replicate, slice_index_or, suc, refl, sym, ap, if◌then◌else◌, arith, Option, Some, None}
-use Rattle.std.proofs.lemmas.List.{get_or-replicate}
+use Rattle.std.proofs.Common.{◌≡◌, ◌∙◌, ℕ, ◌+◌, ◌%◌, ◌^◌, ◌≤◌, ◌==◌, nat_le, Bool, true, false, List, [], ◌∷◌, ◌++◌, length, slice_index_or, refl, ap, if◌then◌else◌, arith, Option, None}
 use Rattle.std.proofs.lemmas.Bool.{leb-true, eqb-true, and_parts}
 use Rattle.sp_cells.specs.declared.names.TheConstants.{RANGES}
 use Rattle.sp_cells.specs.Flat.{LookUp}

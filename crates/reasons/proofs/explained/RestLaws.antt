@@ -9,21 +9,20 @@ use Rattle.audit.specs.declared.reason.Why.{Why}
 use Rattle.locking.specs.declared.range.Op.{Op}
 use Rattle.locking.specs.declared.range.Op.TheVariants.{Read, Write}
 use Rattle.locking.specs.declared.range.RangeRow.{RangeRow}
-use Rattle.locking.specs.Range.{RangeRows, covers, permits, row_in, row_at, is_shadowed}
+use Rattle.locking.specs.Range.{covers, permits, row_in, row_at, is_shadowed}
 use Rattle.locking.specs.Ranges.{row_of, range_rows_from, ranges_in, is_shadow_up}
-use Rattle.locking.specs.Verdict.{is_permitted, why_of, shadow_why}
+use Rattle.locking.specs.Verdict.{why_of, shadow_why}
 use Rattle.history.specs.Opening.{Origin}
 use Rattle.history.specs.Facts.{Facts, facts}
 use Rattle.history.specs.Readers.{in_force}
-use Rattle.history.specs.History.{Act, log}
+use Rattle.history.specs.History.{log}
 use Rattle.history.specs.Decisions.{ranges_in_force}
-use Rattle.history.specs.DenialLaws.{TransferDenied}
 use Rattle.history.specs.TransferLaws.{IsReason}
 use Rattle.history.proofs.TransferProofs.{verdict_law}
 use Rattle.reasons.specs.declared.explained.condition.Condition.{Condition}
 use Rattle.reasons.specs.declared.explained.onset.Onset.{Onset}
 use Rattle.reasons.specs.declared.explained.condition.Condition.TheVariants.{At}
-use Rattle.reasons.specs.Conditions.{is_in_force, nowhere, place_in, same_place, range_place, conditions_in}
+use Rattle.reasons.specs.Conditions.{nowhere, place_in, same_place, range_place, conditions_in}
 use Rattle.reasons.specs.Onsets.{Sourced, bare_acts, held_since, holds_after}
 use Rattle.reasons.specs.Rests.{IsInForce, HasSome, RestLaw, HasOnset, ReasonLaw}
 use Rattle.reasons.proofs.explained.OnsetLaws.{never}

@@ -1,5 +1,5 @@
 -- The Set that a remedy names lifts the denial.
-use Rattle.std.proofs.Common.{◌≡◌, ◌∙◌, ◌⊎◌, ℕ, zero, suc, ◌==◌, ◌&&◌, ◌+◌, ◌≤◌, ◌<◌, nat_le, nat_lt, not, if◌then◌else◌, Bool, true, false, List, [], ◌∷◌, ◌++◌, refl, sym, ap, subst, arith, inl, inr, Option, Some, None, eq-eqb}
+use Rattle.std.proofs.Common.{◌≡◌, ◌∙◌, ◌⊎◌, ℕ, zero, suc, ◌==◌, ◌&&◌, ◌+◌, nat_le, nat_lt, not, if◌then◌else◌, Bool, true, false, List, [], ◌∷◌, ◌++◌, refl, sym, ap, subst, arith, inl, inr, Option, Some, None, eq-eqb}
 use Rattle.std.specs.Prelude.{option_map, is_some}
 use Rattle.std.proofs.lemmas.Bool.{le-ltb}
 use Rattle.sp_cells.specs.declared.names.Sp.{Sp}
@@ -11,7 +11,7 @@ use Rattle.sp_cells.specs.declared.cells.Cell.TheVariants.{Number}
 use Rattle.sp_cells.specs.Names.{range_uid, mbr_control}
 use Rattle.sp_cells.specs.ColumnNames.{range_start_column, range_length_column, read_lock_enabled_column, write_lock_enabled_column, read_locked_column, write_locked_column, mbr_enable_column, mbr_done_column}
 use Rattle.sp_cells.specs.Flat.{LookUp}
-use Rattle.sp_cells.specs.Ranges.{cell_number, number, of_range, range_start, range_length, read_lock_enabled, write_lock_enabled, read_locked, write_locked}
+use Rattle.sp_cells.specs.Ranges.{cell_number, number, range_start, range_length, read_lock_enabled, write_lock_enabled, read_locked, write_locked}
 use Rattle.ace_eval.specs.Aces.{holds_at, first_holding}
 use Rattle.audit.specs.declared.reason.Why.{Why}
 use Rattle.locking.specs.declared.range.Op.{Op}

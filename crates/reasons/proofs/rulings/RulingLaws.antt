@@ -1,8 +1,7 @@
 -- What is told of refused commands is so, and rows of it, worked by hand from the names of the standards.
-use Rattle.std.proofs.Common.{◌≡◌, ◌∙◌, ℕ, ◌&&◌, Bool, true, false, List, [], ◌∷◌, ◌++◌, Option, None, Some, codes, refl, sym, ap, if◌then◌else◌}
+use Rattle.std.proofs.Common.{◌≡◌, ◌∙◌, ℕ, ◌&&◌, Bool, true, false, List, [], ◌∷◌, Option, None, Some, codes, refl, sym, ap, if◌then◌else◌}
 use Rattle.std.specs.Fmt.{digits}
 use Rattle.std.proofs.lemmas.Bool.{and_from}
-use Rattle.basics.specs.declared.profile.Profile.{Profile}
 use Rattle.basics.specs.declared.profile.Profile.TheVariants.{Base, Field}
 use Rattle.sp_cells.specs.declared.names.Sp.TheVariants.{Admin}
 use Rattle.sp_cells.specs.declared.cells.Element.TheVariants.{Authority}
@@ -24,7 +23,7 @@ use Rattle.history.specs.Decisions.{lets_reset}
 use Rattle.history.specs.Tcg.{unqueued, send}
 use Rattle.reasons.specs.declared.rulings.Matter.{Matter}
 use Rattle.reasons.specs.declared.rulings.Matter.TheVariants.{Reset, OtherThanList, Plain}
-use Rattle.reasons.specs.Rulings.{has_protocol_list, is_by_protocol_0, matter_of_protocol, ruled_text, ResetRuleLaw}
+use Rattle.reasons.specs.Rulings.{has_protocol_list, is_by_protocol_0, ruled_text, ResetRuleLaw}
 
 no-rule : (rule : Rule) → ◌≡◌ {A = Option Rule} None (Some rule) → ⊥
 no-rule rule h = cc

@@ -56,7 +56,7 @@ fn append_lifting<R: Rows>(
             append_unread(text, rows, *sp, *object, *method)
         }
         Why::NoAccessRow { sp, object, method } => {
-            append_elsewhere(alloc, text, rows, other_sp(*sp), *object, *method)
+            append_elsewhere(alloc, text, rows, *object, *method, other_sp(*sp))
         }
         Why::AttemptFailed {
             sp,
@@ -156,9 +156,9 @@ fn append_elsewhere<R: Rows>(
     alloc: Global,
     text: &mut Vec<u8>,
     rows: &R,
-    sp: Sp,
     object: Uid,
     method: Uid,
+    sp: Sp,
 ) -> Result<(), AllocError>
     ensures { OnOk result (text.new.items ≡ text.old.items
         ++ elsewhere_text (R.profile_of rows.now) (R.look_up rows.now) sp object method) }
@@ -173,8 +173,8 @@ fn append_locked_out<R: Rows>(
     alloc: Global,
     text: &mut Vec<u8>,
     rows: &R,
-    sp: Sp,
     authority: Uid,
+    sp: Sp,
 ) -> Result<(), AllocError>
     ensures { OnOk result (text.new.items ≡ text.old.items
         ++ locked_out_text (R.profile_of rows.now) (R.look_up rows.now) sp authority) }
@@ -201,7 +201,7 @@ fn append_attempt_remedy<R: Rows>(
             text.extend_from_slice(b"the PIN of ")?;
             append_object_name(alloc, text, authority)
         }
-        AttemptFailure::LockedOut => append_locked_out(alloc, text, rows, sp, authority),
+        AttemptFailure::LockedOut => append_locked_out(alloc, text, rows, authority, sp),
         AttemptFailure::Disabled => {
             append_set(alloc, text, rows, sp, authority, Column::ENABLED, 1)
         }

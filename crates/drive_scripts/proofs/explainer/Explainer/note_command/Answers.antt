@@ -1,7 +1,6 @@
-use Rattle.std.proofs.Common.{◌≡◌, ◌∙◌, ◌∷◌, List, refl, subst, sym, ap}
-use Rattle.history.specs.History.{Act, Accept, Complete, log}
+use Rattle.std.proofs.Common.{◌≡◌, ◌∙◌, ◌∷◌, refl, subst, sym, ap}
+use Rattle.history.specs.History.{Accept, Complete, log}
 use Rattle.history.specs.Readers.{in_force}
-use Rattle.drive.specs.State.{Agrees}
 use Rattle.compacket.specs.Frames.{reading as frame_in}
 use Rattle.fis.specs.declared.h2d.RegH2d.{RegH2d}
 use Rattle.reasons.specs.Onsets.{bare_acts, cause_in}
