@@ -12,11 +12,22 @@ use Rattle.history.specs.History.{Act, Accept, Complete, Reset, log, event}
 use Rattle.history.specs.Readers.{in_force, held}
 use Rattle.reasons.specs.declared.explained.onset.Source.{Source}
 use Rattle.reasons.specs.Remedies.{remedy_text}
-use Rattle.reasons.specs.Conditions.{conditions_of}
+use Rattle.reasons.specs.Conditions.{conditions_in}
 use Rattle.reasons.specs.Onsets.{Sourced, bare_acts, held_since, holds_after}
 use Rattle.reasons.specs.Reasons.{reasons_text}
 use Rattle.audit.specs.Words.{rule_words}
-use Rattle.drive_scripts.specs.Explanations.{added, from_source, attributed, no_objection, objection_of, objection_in, denial_text, objection_text, told_reasons, once_served}
+use Rattle.fis.specs.H2d.{h2d_at}
+use Rattle.fis.specs.declared.h2d.RegH2d.{RegH2d}
+use Rattle.sp_cells.specs.Flat.{LookUp}
+use Rattle.sp_cells.specs.Names.{tper_info}
+use Rattle.sp_cells.specs.declared.names.Sp.TheVariants.{Admin}
+use Rattle.sp_cells.specs.ColumnNames.{programmatic_reset_enable_column}
+use Rattle.basics.specs.declared.profile.Profile.{Profile}
+use Rattle.reasons.specs.Remedies.{set_text}
+use Rattle.reasons.specs.Rulings.{because_text, no_reset_words, list_words, discovery_words, long_words, matter_at, matter_text, command_carried}
+use Rattle.reasons.specs.declared.rulings.Matter.{Matter}
+use Rattle.reasons.specs.declared.rulings.Matter.TheVariants.{Reset as ResetMatter, OtherThanList, SendToDiscovery, LongResponse, Plain}
+use Rattle.drive_scripts.specs.Explanations.{added, from_source, attributed, no_objection, objection_of, objection_in, command_done, denial_text, objection_text, told_reasons, once_served}
 
 -- the first items of a list, by how many stand behind them
 
@@ -117,14 +128,23 @@ objection_served o false fis payload tag bytes past =
     ap objection_in (take_one (length (bare_acts past)) (length past) made (log o (bare_acts past)) (as_many past))
     ∙ told_or made.denied made.rule
 
-pub reasons_of_command : (o : Origin) (held : Bool) (fis payload : List ℕ) (tag : ℕ) (bytes : List ℕ) (past : List Sourced) (acts : List Act) (denied : Option Why) (rule : Option Rule)
+-- and its command that of the FIS
+command_served : (held : Bool) (fis payload : List ℕ) (tag : ℕ) (bytes : List ℕ) (acts : List Act)
+    → command_done (once_served held fis payload tag bytes acts) ≡ command_carried (h2d_at fis)
+command_served true fis payload tag bytes acts = refl
+command_served false fis payload tag bytes acts = refl
+
+pub reasons_of_command : (o : Origin) (held : Bool) (fis payload : List ℕ) (tag : ℕ) (bytes : List ℕ) (past : List Sourced) (acts : List Act) (h : RegH2d) (denied : Option Why) (rule : Option Rule)
+    → h2d_at fis ≡ h
     → acts ≡ once_served held fis payload tag bytes (bare_acts past)
     → denied ≡ (event o (log o (bare_acts past)) (Accept fis payload)).denied
     → rule ≡ (event o (log o (bare_acts past)) (Accept fis payload)).rule
-    → denial_text o past acts denied rule ≡ told_reasons o past acts
-reasons_of_command o held fis payload tag bytes past acts denied rule is told ruled =
-    ap (λ denied. denial_text o past acts denied rule) told
-    ∙ ap (λ rule. denial_text o past acts (event o (log o (bare_acts past)) (Accept fis payload)).denied rule) ruled
+    → denial_text o past acts (command_carried h) denied rule ≡ told_reasons o past acts
+reasons_of_command o held fis payload tag bytes past acts h denied rule read is told ruled =
+    ap (λ (command : Option Command). denial_text o past acts command denied rule)
+    (sym (ap command_carried read) ∙ sym (command_served held fis payload tag bytes (bare_acts past)) ∙ sym (ap command_done is))
+    ∙ ap (λ denied. denial_text o past acts (command_done acts) denied rule) told
+    ∙ ap (λ rule. denial_text o past acts (command_done acts) (event o (log o (bare_acts past)) (Accept fis payload)).denied rule) ruled
     ∙ ap (objection_text o past acts)
     (sym (objection_served o held fis payload tag bytes past) ∙ sym (ap (λ acts. objection_in (take (added acts past) (log o acts))) is))
 
@@ -144,14 +164,23 @@ reasons_of_reset o past kind =
 abbrev pub EndsLine : List ℕ → Type 0
 EndsLine text = (text ≡ []) ⊎ ((line : List ℕ) × (text ≡ line ++ 10 ∷ []))
 
-denial_ends : (o : Origin) (past : List Sourced) (acts : List Act) (why : Option Why) (rule : Option Rule) → EndsLine (denial_text o past acts why rule)
-denial_ends o past acts None None = inl refl
-denial_ends o past acts None (Some rule) = inr (codes "because " ++ rule_words rule, refl)
-denial_ends o past acts (Some why) rule =
-    let because = reasons_text (λ c. held_since (holds_after o c) past) (conditions_of why) in
+matter_ends : (profile : Profile) (look : LookUp) (rule : Rule) (matter : Matter) → EndsLine (matter_text profile look rule matter)
+matter_ends profile look rule ResetMatter =
+    inr (because_text no_reset_words ++ codes "lifted by: " ++ set_text profile look Admin tper_info programmatic_reset_enable_column 1, refl)
+matter_ends profile look rule OtherThanList = inr (codes "because " ++ list_words, refl)
+matter_ends profile look rule SendToDiscovery = inr (codes "because " ++ discovery_words, refl)
+matter_ends profile look rule LongResponse = inr (codes "because " ++ long_words, refl)
+matter_ends profile look rule Plain = inr (codes "because " ++ rule_words rule, refl)
+
+denial_ends : (o : Origin) (past : List Sourced) (acts : List Act) (command : Option Command) (why : Option Why) (rule : Option Rule) → EndsLine (denial_text o past acts command why rule)
+denial_ends o past acts command None None = inl refl
+denial_ends o past acts command None (Some rule) =
+    matter_ends o.tables.config.profile (in_force o (log o acts)) rule (matter_at o.tables.config.profile command rule)
+denial_ends o past acts command (Some why) rule =
+    let because = reasons_text (λ c. held_since (holds_after o c) past) (conditions_in (in_force o (log o (bare_acts past))) why) in
     let remedy = remedy_text o.tables.config.profile (in_force o (log o acts)) why in
     inr (because ++ remedy, refl)
 
 pub reasons_end : (o : Origin) (past : List Sourced) (acts : List Act) → EndsLine (told_reasons o past acts)
 reasons_end o past acts =
-    let objection = objection_in (take (added acts past) (log o acts)) in denial_ends o past acts objection.denied objection.rule
+    let objection = objection_in (take (added acts past) (log o acts)) in denial_ends o past acts (command_done acts) objection.denied objection.rule

@@ -18,6 +18,7 @@ use Rattle.drive.specs.State.{Agrees}
 use Rattle.drive.specs.Answers.{IsAnswer}
 use Rattle.drive_scripts.specs.Explanations.{once_served}
 use Rattle.port_history.specs.Requests.{command_fis}
+use Rattle.port_history.proofs.Fises.{fis_back}
 use Rattle.drive_scripts.specs.Effects.{LineEffect, RunsOn, IsReached, Has, Accepts, Answered, completion_effect, failure_effect, transferred, served_text, answer_text, told_lines, command_effect, Does}
 use Rattle.drive.specs.declared.answer.Accepted.{Accepted}
 use Rattle.script_lines.specs.declared.line.Transfer.{Transfer}
@@ -221,17 +222,19 @@ command-then new o acts client command tag given payload before after answer non
 -- the answer at hand is that of a command, which was held and is completed, or was not
 answered-by : (run : RunningPhase) (o : Origin) (acts : List Act) (command : Command) (tag : ℕ)
     (payload : List ℕ) (held : Bool) (bytes : List ℕ) (answer : Accepted)
+    → run.header ≡ fis_of command tag
     → run.payload.items ≡ payload → run.completed ≡ held → run.answer.denied ≡ answer.denied
     → run.answer.rule ≡ answer.rule
     → IsAnswer (facts o (log o acts)) (fis_of command tag)
     (event o (log o acts) (accept_of command tag payload)) answer
     → Answered run o acts (once_served held (command_fis command tag) payload tag bytes acts)
-answered-by run o acts command tag payload held bytes answer same so denied ruled is =
+answered-by run o acts command tag payload held bytes answer header same so denied ruled is =
     let fis = command_fis command tag in
     record {
       fis = fis;
       tag = tag;
       bytes = bytes;
+      read = fis_back command tag ∙ sym header;
       acts = ap (λ (b : Bool). once_served b fis payload tag bytes acts) (sym so)
           ∙ ap (λ (p : List ℕ). once_served run.completed fis p tag bytes acts) (sym same);
       denied = denied ∙ is.denied
@@ -243,10 +246,11 @@ answered-by run o acts command tag payload held bytes answer same so denied rule
 -- of a transfer that is held and completed
 pub answered-held : (run mid : RunningPhase) (o : Origin) (acts : List Act) (command : Command)
     (transfer : Transfer) (byte : ℕ) (payload : List ℕ) (answer : Accepted) → payload ≡ []
-    → answer.held ≡ true → run.payload.items ≡ payload → run.completed ≡ true → run.answer ≡ answer
+    → answer.held ≡ true → run.header ≡ fis_of command transfer.tag → run.payload.items ≡ payload
+    → run.completed ≡ true → run.answer ≡ answer
     → Accepts mid o acts command transfer.tag payload answer
     → Answered run o acts (transferred o acts command transfer byte).acts
-answered-held run mid o acts command transfer byte payload answer none held same done answers accepts =
+answered-held run mid o acts command transfer byte payload answer none held header same done answers accepts =
     let at =
     subst (λ payload. Accepts mid o acts command transfer.tag payload answer) none accepts in
     let made = event o (log o acts) (accept_of command transfer.tag []) in
@@ -256,16 +260,17 @@ answered-held run mid o acts command transfer byte payload answer none held same
     (λ (h : Bool). Answered run o acts
     (if h then completion_effect o later transfer.tag byte else failure_effect later transfer.client made).acts)
     (sym is_held)
-    (answered-by run o acts command transfer.tag [] true _ answer (same ∙ none) done
+    (answered-by run o acts command transfer.tag [] true _ answer header (same ∙ none) done
     (ap (λ (a : Accepted). a.denied) answers) (ap (λ (a : Accepted). a.rule) answers) at.answer)
 
 -- of one that is not
 pub answered-failed : (run mid : RunningPhase) (o : Origin) (acts : List Act) (command : Command)
     (transfer : Transfer) (byte : ℕ) (payload : List ℕ) (answer : Accepted) → payload ≡ []
-    → answer.held ≡ false → run.payload.items ≡ payload → run.completed ≡ false → run.answer ≡ answer
+    → answer.held ≡ false → run.header ≡ fis_of command transfer.tag → run.payload.items ≡ payload
+    → run.completed ≡ false → run.answer ≡ answer
     → Accepts mid o acts command transfer.tag payload answer
     → Answered run o acts (transferred o acts command transfer byte).acts
-answered-failed run mid o acts command transfer byte payload answer none held same done answers accepts =
+answered-failed run mid o acts command transfer byte payload answer none held header same done answers accepts =
     let at =
     subst (λ payload. Accepts mid o acts command transfer.tag payload answer) none accepts in
     let made = event o (log o acts) (accept_of command transfer.tag []) in
@@ -275,17 +280,18 @@ answered-failed run mid o acts command transfer byte payload answer none held sa
     (λ (h : Bool). Answered run o acts
     (if h then completion_effect o later transfer.tag byte else failure_effect later transfer.client made).acts)
     (sym is_held)
-    (answered-by run o acts command transfer.tag [] false [] answer (same ∙ none) done
+    (answered-by run o acts command transfer.tag [] false [] answer header (same ∙ none) done
     (ap (λ (a : Accepted). a.denied) answers) (ap (λ (a : Accepted). a.rule) answers) at.answer)
 
 -- of a command that is not queued
 pub answered-command : (run mid : RunningPhase) (o : Origin) (acts : List Act) (client : ℕ) (command : Command)
     (tag : ℕ) (given payload : List ℕ) (answer : Accepted) → tag ≡ 0 → given ≡ payload
-    → run.payload.items ≡ payload → run.completed ≡ false → run.answer.denied ≡ answer.denied
+    → run.header ≡ fis_of command tag → run.payload.items ≡ payload → run.completed ≡ false
+    → run.answer.denied ≡ answer.denied
     → run.answer.rule ≡ answer.rule → Accepts mid o acts command tag given answer
     → Answered run o acts (command_effect o acts client command payload).acts
-answered-command run mid o acts client command tag given payload answer none same kept done denied ruled accepts =
+answered-command run mid o acts client command tag given payload answer none same header kept done denied ruled accepts =
     let at =
     subst (λ tag. Accepts mid o acts command tag payload answer) none
     (subst (λ (bytes : List ℕ). Accepts mid o acts command tag bytes answer) same accepts) in
-    answered-by run o acts command 0 payload false [] answer kept done denied ruled at.answer
+    answered-by run o acts command 0 payload false [] answer (header ∙ ap (λ (t : ℕ). fis_of command t) none) kept done denied ruled at.answer

@@ -2,6 +2,7 @@
 use Rattle.std.specs.Prelude.{◌≡◌, ℕ, ◌==◌, true, false, if◌then◌else◌, List, [], ◌∷◌, length, take, slice_range, ◌+◌, Option, None, Some, unwrap_or, is_some}
 use Rattle.std.specs.Int.{w16, w32, from_be_bytes}
 use Rattle.std.specs.Str.{bytes_eq}
+use Rattle.fis.specs.H2d.{h2d_at}
 use Rattle.trusted_cmds.specs.Commands.{fis_of}
 use Rattle.trusted_cmds.specs.declared.command.Command.{Command}
 use Rattle.trusted_cmds.specs.declared.command.Command.TheVariants.{ReadDma, Receive, Identify, ReadLog10}
@@ -177,12 +178,13 @@ effect_of o acts (lines.TperReset client) = command_effect o acts client tper_re
 effect_of o acts lines.Expect = record { acts = acts; lines = [] }
 effect_of o acts (lines.Range row) = record { acts = acts; lines = [] }
 
--- the answer and the payload at hand are those of the command that these acts do: they are its
--- acceptance, and where it is held its completion
+-- the FIS, the answer and the payload at hand are those of the command that these acts do: they are
+-- its acceptance, and where it is held its completion
 pub record Answered (run : RunningPhase) (o : Origin) (before after : List Act) : Type 0 where
   pub fis : List ℕ
   pub tag : ℕ
   pub bytes : List ℕ
+  pub read : h2d_at fis ≡ run.header
   pub acts : after ≡ once_served run.completed fis run.payload.items tag bytes before
   pub denied : run.answer.denied
       ≡ (event o (log o before) (Accept fis run.payload.items)).denied

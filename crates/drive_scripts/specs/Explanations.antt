@@ -1,16 +1,19 @@
 -- What is told of a refusal behind the lines that it prints: of a denial since when what denied it has been in force, and
--- what would lift it; of any other the rule.
-use Rattle.std.specs.Prelude.{ℕ, ◌-◌, ◌||◌, Bool, codes, if◌then◌else◌, List, [], ◌∷◌, ◌++◌, map, take, length, Option, None, Some, is_some}
+-- what would lift it; of any other the rule, by what its command asked for.
+use Rattle.std.specs.Prelude.{ℕ, ◌-◌, ◌||◌, Bool, if◌then◌else◌, List, [], ◌∷◌, ◌++◌, map, take, length, Option, None, Some, is_some}
+use Rattle.fis.specs.H2d.{h2d_at}
+use Rattle.trusted_cmds.specs.declared.command.Command.{Command}
 use Rattle.audit.specs.declared.reason.Why.{Why}
 use Rattle.audit.specs.declared.rules.rule.Rule.{Rule}
-use Rattle.audit.specs.Words.{rule_words}
 use Rattle.history.specs.Opening.{Origin}
 use Rattle.history.specs.Events.{Event}
-use Rattle.history.specs.History.{Act, Accept, Complete, log}
+use Rattle.history.specs.History.{Act, Accept, Complete, Reset, log}
 use Rattle.history.specs.Readers.{in_force}
 use Rattle.reasons.specs.declared.explained.onset.Source.{Source}
 use Rattle.reasons.specs.Onsets.{Sourced, bare_acts, held_since, holds_after}
+use Rattle.reasons.specs.Conditions.{range_place}
 use Rattle.reasons.specs.Reasons.{explanation_text}
+use Rattle.reasons.specs.Rulings.{command_carried, ruled_text}
 
 -- how many acts stand before the earlier ones
 abbrev pub added : List Act → List Sourced → ℕ
@@ -40,22 +43,27 @@ objection_in [] = no_objection
 objection_in (event ∷ events) =
     if is_some event.denied || is_some event.rule then objection_of event else objection_in events
 
--- a rule, in a line with its line feed
-abbrev pub rule_text : Option Rule → List ℕ
-rule_text None = []
-rule_text (Some rule) = codes "because " ++ rule_words rule ++ 10 ∷ []
+-- the command that these acts, the newest first, did: that of the newest FIS
+abbrev pub command_done : List Act → Option Command
+command_done [] = None
+command_done (Accept fis payload ∷ acts) = command_carried (h2d_at fis)
+command_done (Complete tag payload ∷ acts) = command_done acts
+command_done (Reset kind ∷ acts) = None
 
 -- what is told of a denial, by the locks as they were before its acts, and by the rows in force behind them, or of the
--- rule: lines, each with its line feed
-abbrev pub denial_text : Origin → List Sourced → List Act → Option Why → Option Rule → List ℕ
-denial_text o past acts None rule = rule_text rule
-denial_text o past acts (Some why) rule =
-    explanation_text (λ c. held_since (holds_after o c) past) o.tables.config.profile
+-- rule, by the command and the rows in force: lines, each with its line feed
+abbrev pub denial_text : Origin → List Sourced → List Act → Option Command → Option Why
+    → Option Rule → List ℕ
+denial_text o past acts command None rule =
+    ruled_text o.tables.config.profile (in_force o (log o acts)) command rule
+denial_text o past acts command (Some why) rule =
+    explanation_text (λ c. held_since (holds_after o c) past)
+    (range_place (in_force o (log o (bare_acts past)))) o.tables.config.profile
     (in_force o (log o acts)) why
 
 abbrev pub objection_text : Origin → List Sourced → List Act → Objection → List ℕ
 objection_text o past acts objection =
-    denial_text o past acts objection.denied objection.rule
+    denial_text o past acts (command_done acts) objection.denied objection.rule
 
 -- what is told of the acts of a line
 abbrev pub told_reasons : Origin → List Sourced → List Act → List ℕ

@@ -12,7 +12,7 @@ mod turn;
 
 pub use commands::{COM_ID_PROTOCOL, kind_named};
 pub use drive_phase::DrivePhase;
-pub use explainer::{Explainer, ruling};
+pub use explainer::Explainer;
 pub use payload::{fill, pad};
 pub use printing::shown;
 pub use reasons::explained::Source;

@@ -9,12 +9,10 @@ use audit::{AuditLine, Why};
 use byteorder::{BigEndian, ByteOrder};
 use compacket::{COM_PACKET_HEADER, ComId};
 use drive::Accepted;
+use reasons::rulings::DISCOVERY_COM_ID;
 use script_lines::Report;
 use std::alloc::AllocError;
 use trusted_cmds::Command;
-
-/// The ComID of Level 0 discovery.
-const DISCOVERY_COM_ID: ComId = 1;
 
 /// How many bytes of Level 0 discovery say how many follow.
 const DISCOVERY_HEADER: usize = 4;

@@ -10,7 +10,7 @@ use crate::printing::{print_answer, print_failure};
 use crate::turn::{Fault, Turn, expectation};
 use compacket::{ComId, Session};
 use drive::{Accepted, Drive};
-use fis::Tag;
+use fis::{RegH2d, Tag};
 use reasons::explained::Source;
 use script_lines::{DmaTransfer, Hex, Line, Report, Reset, Transfer};
 use std::alloc::{AllocError, Global};
@@ -29,6 +29,8 @@ pub struct RunningPhase {
     payload: Vec<u8>,
     /// The tokens that the payload frames.
     tokens: Vec<u8>,
+    /// The FIS of the last command.
+    header: RegH2d,
     /// What the drive answered to the last command.
     answer: Accepted,
     /// Whether the last command was held, and is completed.
@@ -61,6 +63,7 @@ impl RunningPhase {
             had_failed: false,
             payload: Vec::new(alloc),
             tokens: Vec::new(alloc),
+            header: RegH2d::default(),
             answer: Accepted::none(alloc),
             completed: false,
         }
@@ -154,6 +157,7 @@ impl RunningPhase {
         requires payload { length self.old.payload.items ≡ payload_length (fis_of command.now tag) }
         ensures accepts { OnOk result ((o : Origin) (acts : List Act) → RunsOn self.old o acts
             → Accepts self.new o acts command.now tag self.old.payload.items self.new.answer) }
+        ensures header { OnOk result (self.new.header ≡ fis_of command.now tag) }
         ensures payload { self.new.payload ≡ self.old.payload }
         ensures completed { OnOk result (self.new.completed ≡ false) }
     {
@@ -162,6 +166,7 @@ impl RunningPhase {
         self.drive
             .accept_command(&fis, &h, &self.payload, &mut self.answer)?;
         self.acts = self.acts.wrapping_add(1);
+        self.header = h;
         self.completed = false;
         Ok(())
     }
@@ -184,6 +189,7 @@ impl RunningPhase {
         ensures serves { OnOk result
             ((o : Origin) (acts : List Act) → RunsOn self.old o acts
             → Has self.new o report.old report.new (completion_effect o acts tag byte)) }
+        ensures header { self.new.header ≡ self.old.header }
         ensures answer { self.new.answer ≡ self.old.answer }
         ensures payload { self.new.payload ≡ self.old.payload }
         ensures completed { OnOk result (self.new.completed ≡ true) }
@@ -420,8 +426,14 @@ impl RunningPhase {
             → Recounts explainer.old o past
             → Explains source o past acts explainer.new report.old report.new) }
     {
-        explainer.explain(&self.drive, &self.answer, report)?;
-        explainer.note_command(&self.drive, &self.payload, self.completed, source);
+        explainer.explain(&self.drive, &self.header, &self.answer, report)?;
+        explainer.note_command(
+            &self.drive,
+            &self.header,
+            &self.payload,
+            self.completed,
+            source,
+        );
         Ok(())
     }
 

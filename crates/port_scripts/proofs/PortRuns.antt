@@ -1,6 +1,6 @@
 -- What a line of a port script leaves of its port.
 use Rattle.std.proofs.Common.{◌≡◌, ℕ, ◌+◌, ◌<◌, List, [], ◌∷◌, ◌++◌, length, reverse, Option, Some, None, Result, Ok, Err, OnOk, OnErr, IfOk, sym, ap, subst, ◌∙◌, append_assoc, inl, inr, arith, ltb-true}
-use Rattle.std.specs.Prelude.{slice_get, unwrap_or, option_map}
+use Rattle.std.specs.Prelude.{slice_get, unwrap_or, option_map, IfSome}
 use Rattle.std.proofs.lemmas.List.{append-nil, reverse-append, length-append}
 use Rattle.std.proofs.lemmas.Option.{slice_get_past, slice_get_read}
 use Rattle.std.proofs.Math.Seq.{get_or-append_seam}
@@ -13,7 +13,8 @@ use Rattle.sp_cells.specs.Config.{Config}
 use Rattle.sp_cells.specs.Flat.{LookUp}
 use Rattle.transactions.specs.Sights.{look_up, committed_sight}
 use Rattle.history.proofs.KeptStoreReads.{store_read_law}
-use Rattle.port_scripts.specs.PortReasons.{acceptance_text, accepted_now, accepted_text, denied_in, line_denial, step_refusal_text}
+use Rattle.port_scripts.specs.PortReasons.{acceptance_text, accepted_now, accepted_text, command_put, denied_in, line_denial, slot_of, step_refusal_text}
+use Rattle.trusted_cmds.specs.declared.command.Command.{Command}
 use Rattle.port.specs.Agreement.{PortAgrees}
 use Rattle.fis.specs.Tags.{slot_count}
 use Rattle.port.specs.Answers.{stage_at}
@@ -237,27 +238,31 @@ denied-so number served (Some e) past = by_reason e.event.denied
         (sym (get_or-append_seam (reverse past) x [] x)))
 
 -- what is told of an accepted command is what the steps say
-accepted-so : (old new : PortState) (o : Origin) (list : List Step) (tag : ℕ)
+accepted-so : (old new : PortState) (o : Origin) (list : List Step) (tag : ℕ) → tag < slot_count
     → PortAgrees old o list → PortAgrees new o (steps.Accept tag ∷ list)
-    → accepted_now new (length old.audit) ≡ accepted_text o list tag
-accepted-so old new o list tag was now =
+    → accepted_now new (Some tag) (length old.audit) ≡ accepted_text o list tag
+accepted-so old new o list tag slot was now =
     let later = steps.Accept tag ∷ list in
     let ms = trace o list in
     let m = moment o ms (steps.Accept tag) in
-    ap (λ (c : Config). acceptance_text c.profile (look_up (committed_sight new.drive.tper.store))
+    let asked = command_put (stage (trace o later) tag) in
+    ap (λ (s : Stage). acceptance_text new.drive.tper.store.config.profile
+    (look_up (committed_sight new.drive.tper.store)) (command_put s)
+    (line_denial (slice_get new.audit (length old.audit))) new.rule) (now.tags tag slot).stands
+    ∙ ap (λ (c : Config). acceptance_text c.profile (look_up (committed_sight new.drive.tper.store)) asked
     (line_denial (slice_get new.audit (length old.audit))) new.rule) now.drive.tper.store.config
-    ∙ ap (λ (rows : LookUp). acceptance_text o.tables.config.profile rows
+    ∙ ap (λ (rows : LookUp). acceptance_text o.tables.config.profile rows asked
     (line_denial (slice_get new.audit (length old.audit))) new.rule)
     (store_read_law new.drive.tper.store o (log o (acts o later)) now.drive.tper.store).rows
     ∙ ap (λ (line : Option AuditLine). acceptance_text o.tables.config.profile
-    (in_force o (log o (acts o later))) (line_denial line) new.rule)
+    (in_force o (log o (acts o later))) asked (line_denial line) new.rule)
     (ap (λ (log : List AuditLine). slice_get log (length old.audit)) now.log
     ∙ ap (λ (log : List AuditLine). slice_get
     (reverse (line_of (1 + length ms) m.served m.effect ++ audit ms)) (length log)) was.log)
     ∙ ap (λ (denied : Option Why). acceptance_text o.tables.config.profile
-    (in_force o (log o (acts o later))) denied new.rule)
+    (in_force o (log o (acts o later))) asked denied new.rule)
     (denied-so (1 + length ms) m.served m.effect (audit ms))
-    ∙ ap (acceptance_text o.tables.config.profile (in_force o (log o (acts o later)))
+    ∙ ap (acceptance_text o.tables.config.profile (in_force o (log o (acts o later))) asked
     (denied_in m.effect)) now.rule
 
 -- and so is what is told behind any step
@@ -266,21 +271,22 @@ pub behind-so : (refused : Option PortError) (text : Option (List ℕ)) (old new
     → text ≡ option_map (step_refusal_text (trace o list) step) refused
     → PortAgrees old o list
     → PortAgrees new o (stepped o list step refused).steps
+    → IfSome (slot_of step) (λ tag. tag < slot_count)
     → told_behind_step text step new (length old.audit) ≡ reasons_by o list step refused
-behind-so (Some error) text old new o list step is was now =
+behind-so (Some error) text old new o list step is was now slot =
     ap (λ (t : Option (List ℕ)). told_behind_step t step new (length old.audit)) is
-behind-so None text old new o list (steps.Accept tag) is was now =
+behind-so None text old new o list (steps.Accept tag) is was now slot =
     ap (λ (t : Option (List ℕ)). told_behind_step t (steps.Accept tag) new (length old.audit)) is
-    ∙ accepted-so old new o list tag was now
-behind-so None text old new o list (steps.Put client tag request) is was now =
+    ∙ accepted-so old new o list tag slot was now
+behind-so None text old new o list (steps.Put client tag request) is was now slot =
     ap (λ (t : Option (List ℕ)). told_behind_step t (steps.Put client tag request) new (length old.audit)) is
-behind-so None text old new o list (steps.Issue tag) is was now =
+behind-so None text old new o list (steps.Issue tag) is was now slot =
     ap (λ (t : Option (List ℕ)). told_behind_step t (steps.Issue tag) new (length old.audit)) is
-behind-so None text old new o list (steps.Complete tag) is was now =
+behind-so None text old new o list (steps.Complete tag) is was now slot =
     ap (λ (t : Option (List ℕ)). told_behind_step t (steps.Complete tag) new (length old.audit)) is
-behind-so None text old new o list (steps.Reset client kind) is was now =
+behind-so None text old new o list (steps.Reset client kind) is was now slot =
     ap (λ (t : Option (List ℕ)). told_behind_step t (steps.Reset client kind) new (length old.audit)) is
-behind-so None text old new o list (steps.Take client tag) is was now =
+behind-so None text old new o list (steps.Take client tag) is was now slot =
     ap (λ (t : Option (List ℕ)). told_behind_step t (steps.Take client tag) new (length old.audit)) is
-behind-so None text old new o list steps.Recover is was now =
+behind-so None text old new o list steps.Recover is was now slot =
     ap (λ (t : Option (List ℕ)). told_behind_step t steps.Recover new (length old.audit)) is

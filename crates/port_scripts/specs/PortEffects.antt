@@ -156,7 +156,7 @@ step_reasons o list (Some step) = reasons_by o list step (refusal (trace o list)
 -- before it.
 abbrev pub told_behind_step : Option (List ℕ) → Step → PortState → ℕ → List ℕ
 told_behind_step (Some text) step port place = text
-told_behind_step None (steps.Accept tag) port place = accepted_now port place
+told_behind_step None (steps.Accept tag) port place = accepted_now port (Some tag) place
 told_behind_step None step port place = []
 
 -- The port is as its origin and the steps leave it.

@@ -1,14 +1,16 @@
 //! A port that a script runs on, and whether reasons are told.
 
-ghost use Rattle.std.specs.Prelude.{◌≡◌, List, IfOk, option_map};
+ghost use Rattle.std.specs.Prelude.{◌≡◌, ◌<◌, List, IfOk, IfSome, option_map};
+ghost use Rattle.fis.specs.Tags.{slot_count};
 ghost use Rattle.history.specs.Opening.{Origin};
 ghost use Rattle.port_history.specs.declared.step.Step.{Step as StepOf};
 ghost use Rattle.script_lines.specs.PortLines.{FitsPort, port_line_of};
 ghost use Rattle.port_scripts.specs.PortCourses.{PortSteps, port_step, step_said};
 ghost use Rattle.port_scripts.specs.PortEffects.{PortRunsOn, told_behind_step, step_in, step_reasons};
+ghost use Rattle.port_scripts.specs.PortReasons.{slot_of};
 
 use crate::port_phase::{PortPhase, request_of};
-use crate::port_reasons::{acceptance_of, refusal_of};
+use crate::port_reasons::{acceptance_of, refusal_of, slot_of};
 use drive_scripts::{Turn, kind_named};
 use port::{Port, Step};
 use script_lines::{PortLine, Report};
@@ -55,12 +57,14 @@ fn reasons_behind(
     refusal: Option<Vec<u8>>,
     place: usize,
 ) -> Result<Vec<u8>, AllocError>
-    ensures { IfOk result (λ text. text.items
+    ensures text { IfOk result (λ text. text.items
         ≡ told_behind_step (option_map (λ t. t.items) refusal) step.now port.now place) }
+    ensures slot { IfOk result (λ text. IfSome (slot_of step.now) (λ tag. tag < slot_count)) }
 {
+    let slot = slot_of(step);
     match (refusal, step) {
         (Some(text), _) => Ok(text),
-        (None, Step::Accept { .. }) => acceptance_of(alloc, port, place),
+        (None, Step::Accept { .. }) => acceptance_of(alloc, port, slot, place),
         (None, _) => Ok(Vec::new(alloc)),
     }
 }

@@ -2,3 +2,4 @@ mod WrittenTrees
 mod Wordings
 mod Holders
 mod RowsLifted
+mod Lifted

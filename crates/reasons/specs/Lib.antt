@@ -7,3 +7,5 @@ pub mod Onsets
 pub mod Chronicles
 pub mod Reasons
 pub mod Rests
+pub mod Lifts
+pub mod Rulings

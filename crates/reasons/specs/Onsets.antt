@@ -1,6 +1,11 @@
 -- Since which act something has held. The newest act comes first.
 use Rattle.std.specs.Prelude.{◌≡◌, ◌%◌, ◌^◌, ◌==◌, ◌↔◌, ℕ, Bool, true, false, List, [], ◌∷◌, ◌++◌, length, Option, None, Some, Result, Ok, Err, if◌then◌else◌}
+use Rattle.fis.specs.H2d.{h2d_at}
+use Rattle.fis.specs.declared.h2d.RegH2d.{RegH2d}
 use Rattle.sp_cells.specs.Resets.{programmatic}
+use Rattle.trusted_cmds.specs.Commands.{is_programmatic_reset, reading as command_in}
+use Rattle.trusted_cmds.specs.declared.command.Command.{Command}
+use Rattle.trusted_cmds.specs.declared.command.CommandError.{CommandError}
 use Rattle.compacket.specs.Frames.{Frame, reading as frame_in}
 use Rattle.compacket.specs.declared.error.FrameError.{FrameError}
 use Rattle.history.specs.Opening.{Origin}
@@ -35,16 +40,27 @@ is_end_of_transaction [] = false
 is_end_of_transaction (byte ∷ bytes) =
     if byte == empty_token then is_end_of_transaction bytes else byte == end_token
 
--- by what an act can bring something into force: tokens in a frame set it, or end the transaction that did; a command
--- without a frame can only be the one that resets
-abbrev pub cause_in : Result Frame FrameError → Cause
-cause_in (Ok frame) =
+-- the command that resets the drive, whatever comes with it (Opal SSC 2.01, section 3.3.3, TPER_RESET)
+abbrev pub is_reset_read : Result (Command × Option ℕ) CommandError → Bool
+is_reset_read (Ok read) = is_programmatic_reset read.0
+is_reset_read (Err fault) = false
+
+abbrev pub carries_reset : RegH2d → Bool
+carries_reset h = is_reset_read (command_in h)
+
+-- by what an act can bring something into force: a command that resets does it by that; the tokens in a frame set it, or
+-- end the transaction that did; nothing else brings something
+abbrev pub cause_of_frame : Result Frame FrameError → Cause
+cause_of_frame (Ok frame) =
     if is_end_of_transaction frame.payload then CommittedIn frame.session.tsn
     else SetIn frame.session.tsn
-cause_in (Err fault) = ResetBy programmatic
+cause_of_frame (Err fault) = NoCause
+
+abbrev pub cause_in : RegH2d → Result Frame FrameError → Cause
+cause_in h frame = if carries_reset h then ResetBy programmatic else cause_of_frame frame
 
 abbrev pub cause_of : Act → Cause
-cause_of (Accept fis payload) = cause_in (frame_in payload)
+cause_of (Accept fis payload) = cause_in (h2d_at fis) (frame_in payload)
 cause_of (Complete tag payload) = NoCause
 cause_of (Reset kind) = ResetBy kind
 

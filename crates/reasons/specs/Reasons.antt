@@ -1,6 +1,7 @@
 -- The lines that say why a transfer was denied: since when each condition of the denial has been in force, and what would
 -- lift it. The texts are this drive's own, with the names that the standards give to objects and columns:
 --   because the opening: Locking_Range1 ReadLocked = 1
+--   because act 9: Set of Locking_Range1 RangeStart = 100 and RangeLength = 20 by client 3 in session 4097, line 11
 --   because act 12: Set of Locking_Range1 ReadLocked = 1 by client 3 in session 4097, line 14
 --   because act 15: commit of Locking_Range1 ReadLocked = 1 by client 3 in session 4097, line 17
 --   because act 20: a power cycle, LockOnReset: Locking_Range1 ReadLocked = 1, line 22
@@ -11,19 +12,20 @@ use Rattle.basics.specs.declared.profile.Profile.{Profile}
 use Rattle.sp_cells.specs.declared.names.Uid.{Uid}
 use Rattle.sp_cells.specs.declared.names.Column.{Column}
 use Rattle.sp_cells.specs.Names.{range_uid, mbr_control}
-use Rattle.sp_cells.specs.ColumnNames.{lock_on_reset_column, mbr_enable_column, mbr_done_column, mbr_done_on_reset_column}
+use Rattle.sp_cells.specs.ColumnNames.{range_start_column, range_length_column, lock_on_reset_column, mbr_enable_column, mbr_done_column, mbr_done_on_reset_column}
 use Rattle.sp_cells.specs.Flat.{LookUp}
 use Rattle.audit.specs.declared.reason.Why.{Why}
 use Rattle.reasons.specs.Called.{called_object, called_column}
 use Rattle.reasons.specs.Remedies.{remedy_text}
+use Rattle.reasons.specs.declared.explained.condition.Place.{Place}
 use Rattle.reasons.specs.declared.explained.condition.Condition.{Condition}
-use Rattle.reasons.specs.declared.explained.condition.Condition.TheVariants.{Lock, Shadow}
+use Rattle.reasons.specs.declared.explained.condition.Condition.TheVariants.{Lock, At, Shadow}
 use Rattle.reasons.specs.declared.explained.onset.Source.{Source}
 use Rattle.reasons.specs.declared.explained.onset.Cause.{Cause}
 use Rattle.reasons.specs.declared.explained.onset.Cause.TheVariants.{SetIn, CommittedIn, ResetBy, NoCause}
 use Rattle.reasons.specs.declared.explained.onset.Onset.{Onset}
 use Rattle.reasons.specs.declared.explained.onset.Onset.TheVariants.{AtOpening, AtAct}
-use Rattle.reasons.specs.Conditions.{flag_column, has_range, conditions_of}
+use Rattle.reasons.specs.Conditions.{flag_column, has_range, range_named, conditions_of}
 
 -- words, and a number behind them
 unfoldable pub worded_number : List ℕ → ℕ → List ℕ
@@ -38,15 +40,29 @@ set_cell_text object column =
 unfoldable pub not_done_text : List ℕ
 not_done_text = called_column mbr_control mbr_done_column ++ codes " = 0"
 
+-- a column of a range as a number, as `RangeLength = 20`
+unfoldable pub range_number_text : ℕ → Column → ℕ → List ℕ
+range_number_text range column number =
+    worded_number (called_column (range_uid range) column ++ codes " = ") number
+
+-- where a range lies
+unfoldable pub place_text : ℕ → Place → List ℕ
+place_text range place =
+    called_object (range_uid range) ++ codes " "
+    ++ range_number_text range range_start_column place.start ++ codes " and "
+    ++ range_number_text range range_length_column place.length
+
 -- a condition that holds
 unfoldable pub condition_text : Condition → List ℕ
 condition_text (Lock range flag) = set_cell_text (range_uid range) (flag_column flag)
+condition_text (At range place) = place_text range place
 condition_text Shadow =
     set_cell_text mbr_control mbr_enable_column ++ codes " and " ++ not_done_text
 
--- the column by which a reset brings it into force
+-- the column by which a reset brings it into force; none moves a range
 unfoldable pub reset_column_text : Condition → List ℕ
 reset_column_text (Lock range flag) = called_column (range_uid range) lock_on_reset_column
+reset_column_text (At range place) = called_column (range_uid range) range_start_column
 reset_column_text Shadow = called_column mbr_control mbr_done_on_reset_column
 
 abbrev pub reset_kind_text : ℕ → List ℕ
@@ -90,6 +106,8 @@ reasons_text onset (condition ∷ conditions) =
     reason_text condition (onset condition) ++ reasons_text onset conditions
 
 -- all that is told of a denial
-abbrev pub explanation_text : (Condition → Option Onset) → Profile → LookUp → Why → List ℕ
-explanation_text onset profile rows why =
-    reasons_text onset (conditions_of why) ++ remedy_text profile rows why ++ 10 ∷ []
+abbrev pub explanation_text : (Condition → Option Onset) → (ℕ → Place) → Profile → LookUp → Why
+    → List ℕ
+explanation_text onset place profile rows why =
+    reasons_text onset (conditions_of why (place (range_named why)))
+    ++ remedy_text profile rows why ++ 10 ∷ []

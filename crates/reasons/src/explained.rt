@@ -1,4 +1,4 @@
-//! Why a drive denies a transfer: since which act each lock has been in force.
+//! Why a drive denies a transfer: since which act each lock has been in force, and its range where it is.
 
 mod chronicle;
 mod condition;
@@ -8,6 +8,6 @@ mod onsets;
 mod reason;
 
 pub use chronicle::Chronicle;
-pub use condition::{Condition, Flag, conditions_of};
+pub use condition::{Condition, Flag, Place, conditions_of, range_named};
 pub use laws::{laws_of_onsets, laws_of_reasons};
 pub use onset::{Cause, Onset, Source, cause_in};

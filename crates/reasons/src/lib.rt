@@ -1,5 +1,7 @@
-//! Why a denial came: since which act what denied it has been in force, and who may lift it, by the rows in force.
+//! Why a denial came: since which act what denied it has been in force, and who may lift it, by the rows in force; and
+//! why a rule refused what nothing denied.
 #![tactic(auto)]
 
 pub mod explained;
 pub mod remedies;
+pub mod rulings;

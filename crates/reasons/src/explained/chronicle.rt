@@ -1,11 +1,11 @@
-//! Since which act each lock, and the shadow MBR, has been in force.
+//! Since which act each lock, and the shadow MBR, has been in force, and each range where it is.
 
 ghost use Rattle.std.specs.Prelude.{◌≡◌, ◌≤◌, ℕ, List, []};
 ghost use Rattle.std.specs.Prelude.{◌∷◌, ◌++◌, slice_index_or, IfOk, OnOk};
 ghost use Rattle.sp_cells.specs.declared.names.TheConstants.{RANGES};
 ghost use Rattle.reasons.specs.Chronicles.{no_onsets, range_onsets_after};
 
-use crate::explained::condition::{Condition, conditions_of};
+use crate::explained::condition::{Condition, Place, conditions_of, range_named};
 use crate::explained::onset::{Cause, Onset, Source, onset_after};
 use crate::explained::onsets::RangeOnsets;
 use crate::explained::reason::append_line;
@@ -18,7 +18,7 @@ use std::marker::Model;
 /// The global range and the numbered ones.
 const RANGE_COUNT: usize = RANGES as usize + 1;
 
-/// Since which act each lock, and the shadow MBR, has been in force without a break.
+/// Since which act each lock, and the shadow MBR, has been in force without a break, and each range where it is.
 #[derive(Drop)]
 pub struct Chronicle {
     acts: u64,
@@ -34,7 +34,7 @@ impl Model for Chronicle {
     ghost view = { λ c. record { acts = c.acts; ranges = c.ranges; shadow = c.shadow } };
 }
 
-/// Notes of each range which flags are set now.
+/// Notes of each range which flags are set now, and where it lies.
 fn note_ranges<R: Rows>(ranges: &mut [RangeOnsets; RANGE_COUNT], rows: &R, now: Onset)
     ensures { (k : ℕ) → k ≤ RANGES → slice_index_or ranges.new k no_onsets
         ≡ range_onsets_after (R.look_up rows.now) k now (slice_index_or ranges.old k no_onsets) }
@@ -51,12 +51,13 @@ impl Chronicle {
     ghost use Rattle.history.specs.Readers.{in_force};
     ghost use Rattle.history.specs.History.{log};
     ghost use Rattle.reasons.specs.declared.explained.onset.Onset.TheVariants.{AtOpening};
-    ghost use Rattle.reasons.specs.Conditions.{HasRange, is_in_force, conditions_of};
+    ghost use Rattle.reasons.specs.Conditions.{HasRange, is_in_force, range_place, conditions_of};
     ghost use Rattle.reasons.specs.Onsets.{Sourced, bare_acts, cause_of, onset_after, held_since, holds_after};
-    ghost use Rattle.reasons.specs.Chronicles.{KeptOnsets, kept_onset, Recounts};
+    ghost use Rattle.reasons.specs.Chronicles.{KeptOnsets, kept_onset, kept_place, Recounts};
     ghost use Rattle.reasons.specs.Reasons.{reason_text, reasons_text, explanation_text};
 
     /// Nothing holds yet.
+    #[tactic(auto, using(crate::proofs::explained::Keeping::none_set, crate::proofs::explained::Keeping::none_placed))]
     fn empty() -> Chronicle
         ensures acts { result.acts ≡ 0 }
         ensures onsets { (condition : Condition) → HasRange condition
@@ -70,12 +71,15 @@ impl Chronicle {
     }
 
     /// Notes what holds now, by the rows.
+    #[tactic(auto, using(crate::proofs::explained::Keeping::noted, crate::proofs::explained::Keeping::placed))]
     fn note<R: Rows>(&mut self, rows: &R, now: Onset)
         ensures acts { self.new.acts ≡ self.old.acts }
         ensures onsets { (condition : Condition) → HasRange condition
             → kept_onset self.new condition
             ≡ onset_after (kept_onset self.old condition)
             (is_in_force (R.look_up rows.now) condition) now }
+        ensures places { (range : ℕ)
+            → kept_place self.new range ≡ range_place (R.look_up rows.now) range }
     {
         note_ranges(&mut self.ranges, rows, now);
         self.shadow = onset_after(self.shadow, Condition::Shadow.holds(rows), now);
@@ -116,7 +120,22 @@ impl Chronicle {
     {
         match condition {
             Condition::Lock { range, flag } => self.ranges[usize::from(range)].of(flag),
+            Condition::At { range, place } => self.ranges[usize::from(range)].at(place),
             Condition::Shadow => self.shadow,
+        }
+    }
+
+    /// Where the range of a number lies; nowhere where there is none.
+    fn place(&self, range: u8) -> Place
+        ensures { result ≡ kept_place self.now range }
+    {
+        if range <= RANGES {
+            self.ranges[usize::from(range)].place
+        } else {
+            Place {
+                start: 0,
+                length: 0,
+            }
         }
     }
 
@@ -160,11 +179,12 @@ impl Chronicle {
         why: &Why,
     ) -> Result<Vec<u8>, AllocError>
         ensures { IfOk result (λ text. text.items
-            ≡ explanation_text (kept_onset self.now) (R.profile_of rows.now)
+            ≡ explanation_text (kept_onset self.now) (kept_place self.now) (R.profile_of rows.now)
             (R.look_up rows.now) why.now) }
     {
         let mut text = Vec::new(alloc);
-        self.append_reasons(alloc, &mut text, conditions_of(why).as_slice())?;
+        let place = self.place(range_named(why));
+        self.append_reasons(alloc, &mut text, conditions_of(why, place).as_slice())?;
         let remedy = remedy_bytes(alloc, rows, why)?;
         text.extend_from_slice(&remedy)?;
         text.extend_from_slice(b"\n")?;
@@ -187,6 +207,7 @@ impl Chronicle {
         ensures { IfOk result (λ text. (o : Origin) (past : List Sourced)
             → Recounts self.now o past → text.items
             ≡ explanation_text (λ c. held_since (holds_after o c) past)
+            (range_place (in_force o (log o (bare_acts past))))
             (R.profile_of rows.now) (R.look_up rows.now) why.now) }
     {
         let text = self.explanation(alloc, rows, why)?;

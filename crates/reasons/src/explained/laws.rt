@@ -15,8 +15,8 @@ pub fn laws_of_onsets()
 
 /// The reasons of denied transfers.
 ///
-/// `rest`: what a denied transfer rests on is in force before its act. `reasons`: so of whatever list of acts, each of
-/// its conditions has an onset.
+/// `rest`: a denied transfer rests on something, and all that it rests on is in force before its act. `reasons`: so of
+/// whatever list of acts, it has a condition, and each of its conditions has an onset.
 #[tactic(auto, using(crate::proofs::explained::RestLaws::rests, crate::proofs::explained::RestLaws::reasons))]
 pub fn laws_of_reasons()
     ensures rest { RestLaw }

@@ -2,9 +2,12 @@
 
 ghost use Rattle.std.specs.Prelude.{◌≡◌};
 ghost use Rattle.compacket.specs.Frames.{reading as frame_in};
-ghost use Rattle.reasons.specs.Onsets.{is_end_of_transaction, cause_in, onset_after};
+ghost use Rattle.reasons.specs.Onsets.{is_end_of_transaction, carries_reset, cause_of_frame, cause_in, onset_after};
 
+use basics::Profile;
 use compacket::open;
+use fis::RegH2d;
+use trusted_cmds::{is_programmatic_reset, of_fis};
 
 /// The token that ends a transaction (TCG Core 2.01, 3.2.2.4).
 const END_OF_TRANSACTION: u8 = 0xfc;
@@ -31,7 +34,7 @@ pub enum Cause {
     CommittedIn(u32),
     /// A reset of this kind: 0 a power cycle, 1 a hardware reset, 3 one by a command.
     ResetBy(u8),
-    /// None: a completion brings nothing into force.
+    /// None: a completion brings nothing into force, nor does what is no frame.
     NoCause,
 }
 
@@ -59,14 +62,35 @@ fn is_end_of_transaction(tokens: &[u8]) -> bool
     false
 }
 
-/// By what a command with this payload can bring something into force.
-pub fn cause_in(payload: &[u8]) -> Cause
-    ensures { result ≡ cause_in (frame_in payload.now) }
+/// Whether a FIS carries the command that resets the drive, TPER_RESET.
+fn carries_reset(h: &RegH2d) -> bool
+    ensures { result ≡ carries_reset h.now }
+{
+    match of_fis(Profile::Base, h) {
+        Ok((command, _)) => is_programmatic_reset(&command),
+        Err(_) => false,
+    }
+}
+
+/// By what a payload can bring something into force, if it is a frame.
+fn cause_of_frame(payload: &[u8]) -> Cause
+    ensures { result ≡ cause_of_frame (frame_in payload.now) }
 {
     match open(payload) {
         Ok(frame) if is_end_of_transaction(frame.payload) => Cause::CommittedIn(frame.session.tsn),
         Ok(frame) => Cause::SetIn(frame.session.tsn),
-        Err(_) => Cause::ResetBy(PROGRAMMATIC),
+        Err(_) => Cause::NoCause,
+    }
+}
+
+/// By what the command of a FIS with this payload can bring something into force.
+pub fn cause_in(h: &RegH2d, payload: &[u8]) -> Cause
+    ensures { result ≡ cause_in h.now (frame_in payload.now) }
+{
+    if carries_reset(h) {
+        Cause::ResetBy(PROGRAMMATIC)
+    } else {
+        cause_of_frame(payload)
     }
 }
 

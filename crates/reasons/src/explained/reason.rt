@@ -3,9 +3,9 @@
 ghost use Rattle.std.specs.Prelude.{◌≡◌, ◌++◌, OnOk, codes, decimal};
 ghost use Rattle.reasons.specs.declared.explained.condition.Condition.TheVariants.{Shadow};
 ghost use Rattle.reasons.specs.declared.explained.onset.Onset.TheVariants.{AtOpening};
-ghost use Rattle.reasons.specs.Reasons.{worded_number, set_cell_text, not_done_text, condition_text, reset_column_text, reset_kind_text, client_text, cause_text, onset_text, line_since};
+ghost use Rattle.reasons.specs.Reasons.{worded_number, set_cell_text, not_done_text, range_number_text, place_text, condition_text, reset_column_text, reset_kind_text, client_text, cause_text, onset_text, line_since};
 
-use crate::explained::condition::Condition;
+use crate::explained::condition::{Condition, Place};
 use crate::explained::onset::{Cause, Onset, Source};
 use crate::remedies::{append_column_name, append_object_name};
 use basics::append_decimal;
@@ -65,6 +65,42 @@ fn append_shadow(alloc: Global, text: &mut Vec<u8>) -> Result<(), AllocError>
     Ok(())
 }
 
+/// Appends a column of a range as a number, as `RangeLength = 20`.
+#[tactic(auto, unfolding(crate::specs::Reasons::range_number_text, crate::specs::Reasons::worded_number))]
+fn append_range_number(
+    alloc: Global,
+    text: &mut Vec<u8>,
+    range: u8,
+    column: Column,
+    number: u64,
+) -> Result<(), AllocError>
+    ensures { OnOk result (text.new.items
+        ≡ text.old.items ++ range_number_text range column number) }
+{
+    append_column_name(alloc, text, Uid::range(range), column)?;
+    text.extend_from_slice(b" = ")?;
+    append_decimal(alloc, text, number)?;
+    Ok(())
+}
+
+/// Appends where a range lies.
+#[tactic(auto, unfolding(crate::specs::Reasons::place_text))]
+fn append_place(
+    alloc: Global,
+    text: &mut Vec<u8>,
+    range: u8,
+    place: Place,
+) -> Result<(), AllocError>
+    ensures { OnOk result (text.new.items ≡ text.old.items ++ place_text range place) }
+{
+    append_object_name(alloc, text, Uid::range(range))?;
+    text.extend_from_slice(b" ")?;
+    append_range_number(alloc, text, range, Column::RANGE_START, place.start)?;
+    text.extend_from_slice(b" and ")?;
+    append_range_number(alloc, text, range, Column::RANGE_LENGTH, place.length)?;
+    Ok(())
+}
+
 /// Appends a condition that holds.
 #[tactic(auto, unfolding(crate::specs::Reasons::condition_text))]
 fn append_condition(
@@ -78,6 +114,7 @@ fn append_condition(
         Condition::Lock { range, flag } => {
             append_set_cell(alloc, text, Uid::range(range), flag.column())?
         }
+        Condition::At { range, place } => append_place(alloc, text, range, place)?,
         Condition::Shadow => append_shadow(alloc, text)?,
     }
     Ok(())
@@ -95,6 +132,9 @@ fn append_reset_column(
     match condition {
         Condition::Lock { range, .. } => {
             append_column_name(alloc, text, Uid::range(range), Column::LOCK_ON_RESET)?;
+        }
+        Condition::At { range, .. } => {
+            append_column_name(alloc, text, Uid::range(range), Column::RANGE_START)?;
         }
         Condition::Shadow => {
             append_column_name(alloc, text, Uid::MBR_CONTROL, Column::MBR_DONE_ON_RESET)?;

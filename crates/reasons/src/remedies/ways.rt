@@ -1,12 +1,12 @@
 //! The access control elements (ACEs) of which one would do, and who fulfils each.
 
-ghost use Rattle.std.specs.Prelude.{◌≡◌, ◌++◌, OnOk};
+ghost use Rattle.std.specs.Prelude.{◌≡◌, ◌++◌, filter, OnOk};
 ghost use Rattle.sp_cells.specs.ColumnNames.{boolean_expr_column};
-ghost use Rattle.reasons.specs.Remedies.{fulfilling_text, way_text, more_ways_text, ways_text, aces_for};
+ghost use Rattle.reasons.specs.Remedies.{fulfilling_text, way_text, more_ways_text, ways_text, aces_for, elsewhere_aces, is_beside};
 
 use crate::remedies::called::append_object_name;
 use crate::remedies::expression::append_expression;
-use ace_eval::{Authorities, entry};
+use ace_eval::{Authorities, entry, holds};
 use arrayvec::ArrayVec;
 use sp_cells::{Cell, Column, Rows, Sp, Uid};
 use std::alloc::{AllocError, Global};
@@ -28,6 +28,52 @@ pub(crate) fn aces_for<R: Rows>(
         Ok(_) => ArrayVec::new(),
         Err(missing) => missing.need,
     }
+}
+
+/// The ACEs of a method of an object in another session; none of ThisSP, which is another SP there.
+pub(crate) fn aces_elsewhere<R: Rows>(
+    rows: &R,
+    sp: Sp,
+    object: Uid,
+    method: Uid,
+) -> ArrayVec<Uid, 4>
+    ensures { result.items ≡ elsewhere_aces (R.profile_of rows.now) (R.look_up rows.now) sp object
+        method }
+{
+    if object == Uid::THIS_SP {
+        return ArrayVec::new();
+    }
+    aces_for(rows, sp, object, method, None)
+}
+
+/// Whether an authority does not fulfil an ACE by itself.
+fn is_beside<R: Rows>(rows: &R, sp: Sp, authority: Uid, ace: Uid) -> bool
+    ensures { result ≡ is_beside (R.look_up rows.now) sp authority ace }
+{
+    let mut alone = Authorities::new();
+    alone.insert(authority);
+    match rows.cell(sp, ace, Column::BOOLEAN_EXPR) {
+        Some(Cell::Expr(expr)) => !holds(expr, &alone),
+        _ => true,
+    }
+}
+
+/// Those of the ACEs that an authority does not fulfil by itself.
+pub(crate) fn aces_beside<R: Rows>(
+    rows: &R,
+    sp: Sp,
+    authority: Uid,
+    aces: &ArrayVec<Uid, 4>,
+) -> ArrayVec<Uid, 4>
+    ensures { result.items ≡ filter (is_beside (R.look_up rows.now) sp authority) aces.now.items }
+{
+    let mut others = ArrayVec::new();
+    for ace in aces.as_slice() {
+        if is_beside(rows, sp, authority, *ace) {
+            others.push(*ace);
+        }
+    }
+    others
 }
 
 /// Appends the ACEs of which one would do, as `Admins or User1 (ACE_Locking_Range1_Set_RdLocked)`, the first of them

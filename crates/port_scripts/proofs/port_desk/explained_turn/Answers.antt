@@ -29,9 +29,9 @@ returns c = λ o list runs.
     (c.in_ok-extend_from_slice.ensures.items ∙ ap (λ reasons. mid.pending.items ++ reasons) c.deref.ensures.value)
     refl
     (λ line reads. c.in_ok-turn.ensures.does line reads o list runs)
-    (λ now. c.in_ok-reasons.ensures
+    (λ now. c.in_ok-reasons.ensures.text
     ∙ ap (λ port. told_behind_step text step port (length c.audit-place.result.now)) c.port-3.ensures
     ∙ ap (λ audit. told_behind_step text step new (length audit))
     (c.audit-place.ensures ∙ ap (λ port. port.audit) c.port-2.ensures)
     ∙ behind-so (refusal (trace o list) step) text old new o list step
-    (c.in_ok-refusal.ensures o list (subst (λ port. PortAgrees port o list) (sym c.port.ensures) runs)) runs now)
+    (c.in_ok-refusal.ensures o list (subst (λ port. PortAgrees port o list) (sym c.port.ensures) runs)) runs now c.in_ok-reasons.ensures.slot)

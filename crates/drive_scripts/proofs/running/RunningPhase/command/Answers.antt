@@ -22,6 +22,7 @@ returns c = λ o acts runs.
       answered-command _ c.accept.new.self o acts c.args.client c.args.command.now c.low_bits.result
           c.is_first_abort-is_first.new.self.payload.items c.args.self.now.payload.items
           c.accept.new.self.answer c.low_bits.ensures same
+          c.in_ok-accept.ensures.header
           (ap (λ payload. payload.items) c.in_ok-accept.ensures.payload ∙ same)
           c.in_ok-accept.ensures.completed
           (ap (λ answer. answer.denied) c.in_ok-print_answer.ensures.answer)

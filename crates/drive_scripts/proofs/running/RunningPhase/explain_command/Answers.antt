@@ -9,7 +9,7 @@ returns c = λ o past acts runs answered kept.
     let run = c.args.self.now in record {
       bare = bare_command c.args.source run.completed answered.fis run.payload.items answered.tag answered.bytes
           past acts answered.acts;
-      recounts = c.note_command.ensures o past acts answered.fis answered.tag answered.bytes
+      recounts = c.note_command.ensures o past acts answered.fis answered.tag answered.bytes answered.read
           (answered.acts
           ∙ ap
           (λ payload. once_served run.completed answered.fis payload answered.tag answered.bytes (bare_acts past))
@@ -18,6 +18,6 @@ returns c = λ o past acts runs answered kept.
       pending = c.in_ok-explain.ensures.pending o past acts runs.0 kept
           ∙ ap (λ text. c.args.report.now.pending.items ++ text)
           (reasons_of_command o run.completed answered.fis run.payload.items answered.tag answered.bytes past acts
-          run.answer.denied run.answer.rule answered.acts answered.denied answered.rule);
+          run.header run.answer.denied run.answer.rule answered.read answered.acts answered.denied answered.rule);
       last = c.explain.ensures.last;
     }

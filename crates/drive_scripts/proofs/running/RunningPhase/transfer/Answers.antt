@@ -13,6 +13,7 @@ returns-then-self c = λ o acts runs.
       λ told. absurd (cc told),
       answered-held c.serve.new.self c.accept.new.self o acts c.args.command.now c.args.transfer.now
           c.args.byte c.clear.new.self.items c.accept.new.self.answer c.clear.ensures.items c.if-self.true
+          (c.serve.ensures.header ∙ c.in_ok-accept.ensures.header)
           (ap (λ payload. payload.items) (c.serve.ensures.payload ∙ c.accept.ensures.payload))
           c.in_ok-serve.ensures.completed c.serve.ensures.answer accepts,
     )
@@ -29,6 +30,7 @@ returns c = λ o acts runs.
           ∙ c.is_first_abort-aborted.ensures.told told,
       answered-failed _ c.accept.new.self o acts c.args.command.now c.args.transfer.now
           c.args.byte c.clear.new.self.items c.accept.new.self.answer c.clear.ensures.items c.if-self.false
+          c.in_ok-accept.ensures.header
           (ap (λ payload. payload.items) c.accept.ensures.payload)
           c.in_ok-accept.ensures.completed c.in_ok-print_failure.ensures.answer accepts,
     )
