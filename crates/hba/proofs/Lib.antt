@@ -5,3 +5,4 @@ pub mod Turns
 pub mod Failures
 pub mod Active
 pub mod Counts
+mod Rows

@@ -88,7 +88,7 @@ abbrev pub link_word : ℕ → ℕ
 link_word control =
     if is_up control then link_up else (if control % 16 == 4 then 4 else 0)
 
--- After a reset of the HBA (10.4.3): the port is stopped, and the link has come up.
+-- After power on: the port is stopped, and the link has come up.
 abbrev pub fresh_port : Regs
 fresh_port = record {
   list_base = 0;
@@ -211,9 +211,20 @@ abbrev pub port_written_of : Registers → Option Register → ℕ → Registers
 port_written_of regs None value = regs
 port_written_of regs (Some register) value = port_written regs register value
 
+-- A reset of the HBA (10.4.3) leaves PxCLB and PxFB as the host wrote them, with their upper halves,
+-- which are 0. All else is as at the start.
+abbrev pub with_places : ℕ → ℕ → Regs → Regs
+with_places list_base fis_base port =
+    rewritten (rewritten port at.ListBase list_base) at.FisBase fis_base
+
+abbrev pub after_hba_reset : Registers → Registers
+after_hba_reset regs = record reset_registers {
+  port = with_places regs.port.list_base regs.port.fis_base fresh_port;
+}
+
 abbrev pub control_written : Registers → ℕ → Registers
 control_written regs value =
-    if has_bits value reset_bit then reset_registers
+    if has_bits value reset_bit then after_hba_reset regs
     else record regs { interrupts_enabled = has_bits value enable_bit }
 
 abbrev pub generic_written : Registers → ℕ → ℕ → Registers

@@ -114,7 +114,7 @@ fn link_word(control: u32) -> u32
     }
 }
 
-/// The port's registers after a reset of the HBA.
+/// The port's registers after power on.
 fn fresh_port() -> PortRegs
     ensures { result ≡ fresh_port }
 {
@@ -131,9 +131,9 @@ impl Registers {
     ghost use Rattle.hba_regs.specs.Registers.{register_at, word_at as port_word_at, written_at as port_written_at};
     ghost use Rattle.hba_regs.specs.declared.register.Register.TheVariants as registers;
     ghost use Rattle.hba.specs.Engine.{fises_at};
-    ghost use Rattle.hba.specs.Registers.{reset_registers, word_at, generic_word, port_word, port_word_of, interrupts, asks, noted, line, overridden, stopped_if, lost_if, found_if, goes_down, comes_up, port_written, port_written_of, generic_written, written_at, write_resets};
+    ghost use Rattle.hba.specs.Registers.{reset_registers, word_at, generic_word, port_word, port_word_of, interrupts, asks, noted, line, overridden, stopped_if, lost_if, found_if, goes_down, comes_up, port_written, port_written_of, after_hba_reset, generic_written, written_at, write_resets};
 
-    /// After a reset of the HBA: the port is stopped, and the link has come up.
+    /// After power on: the port is stopped, and the link has come up.
     pub fn new() -> Registers
         ensures { result ≡ reset_registers }
     {
@@ -409,11 +409,21 @@ impl Registers {
         }
     }
 
+    /// A reset of the HBA: PxCLB and PxFB stay (AHCI 1.3.1, 10.4.3).
+    fn restart(&mut self)
+        ensures { self.new ≡ after_hba_reset self.old }
+    {
+        let (list_base, fis_base) = (self.kept_word(PX_CLB), self.kept_word(PX_FB));
+        *self = Registers::new();
+        self.keep(PX_CLB, list_base);
+        self.keep(PX_FB, fis_base);
+    }
+
     fn write_generic(&mut self, offset: u32, value: u32)
         ensures { self.new ≡ generic_written self.old offset value }
     {
         match offset {
-            0x04 if value & RESET == RESET => *self = Registers::new(),
+            0x04 if value & RESET == RESET => self.restart(),
             0x04 => self.interrupts_enabled = value & ENABLE == ENABLE,
             0x08 => self.is_raised = self.is_raised && value & 1 != 1,
             _ => {}
