@@ -1,8 +1,9 @@
 -- Worked rows, computed from the definitions alone: words that a driver reads.
-use Rattle.std.proofs.Common.{◌≡◌, ℕ, List, [], ◌∷◌, refl}
+use Rattle.std.proofs.Common.{◌≡◌, ℕ, List, [], ◌∷◌, ◌++◌, Some, None, refl}
 use Rattle.history.specs.Opening.{Origin}
+use Rattle.host_memory.specs.declared.hba_memory.miss.Miss.TheVariants as misses
 use Rattle.hba.specs.Registers.{word_at}
-use Rattle.hba.specs.History.{Operation, Wrote, regs_of}
+use Rattle.hba.specs.History.{Operation, Wrote, Missed, Controlled, regs_of}
 
 -- The word at an offset behind operations, the newest first.
 abbrev reads : Origin → List Operation → ℕ → ℕ
@@ -28,3 +29,33 @@ row_stopped o = refl
 
 row_no_interrupts : (o : Origin) → reads o resets 0x004 ≡ 0x80000000
 row_no_interrupts o = refl
+
+-- PxCMD.CCS names the slot that was fetched last (3.3.7): slot 5, whose data, or whose header, are no
+-- memory; slot 7, whose FIS carries no command. A completion that fails leaves it, and so does a
+-- written ST that stays 1; ST 0 clears it.
+abbrev starts : List Operation
+starts = Wrote 0x118 0x11 ∷ []
+
+row_slot_of_a_block : (o : Origin)
+    → reads o (Missed (Some 5) misses.Block ∷ Wrote 0x138 0x20 ∷ starts) 0x118 ≡ 0xc517
+row_slot_of_a_block o = refl
+
+row_slot_of_a_header : (o : Origin)
+    → reads o (Missed (Some 5) misses.List ∷ Wrote 0x138 0x20 ∷ starts) 0x118 ≡ 0xc517
+row_slot_of_a_header o = refl
+
+row_slot_of_control : (o : Origin)
+    → reads o (Controlled 7 ∷ Wrote 0x138 0x80 ∷ starts) 0x118 ≡ 0xc717
+row_slot_of_control o = refl
+
+row_slot_of_a_completion : (o : Origin)
+    → reads o (Missed None misses.Block ∷ Controlled 7 ∷ Wrote 0x138 0x80 ∷ starts) 0x118 ≡ 0xc717
+row_slot_of_a_completion o = refl
+
+row_slot_stays : (o : Origin)
+    → reads o (Wrote 0x118 0x11 ∷ Controlled 7 ∷ Wrote 0x138 0x80 ∷ starts) 0x118 ≡ 0xc717
+row_slot_stays o = refl
+
+row_no_slot : (o : Origin)
+    → reads o (Wrote 0x118 0x10 ∷ Missed (Some 5) misses.Block ∷ starts) 0x118 ≡ 0x4016
+row_no_slot o = refl

@@ -82,14 +82,14 @@ turn_named does First Next old before new after done denied step t = (
 -- Nothing more is asked.
 pub turn_missed : {M : Type 0} (does : M → Access → M → Type 0)
     (Did : Origin → Account → List Access → Operation → Type 0) (old : State) (now : M)
-    (new : State) (miss : Miss)
+    (new : State) (fetched : Option ℕ) (miss : Miss)
     → ((o : Origin) (list : List Operation) → AgreesHba old o list
-    → Did o (account o list) [] (Missed miss))
-    → Adds (Missed miss) old new
+    → Did o (account o list) [] (Missed fetched miss))
+    → Adds (Missed fetched miss) old new
     → TurnsAs does Did old now new now (dones.Fault (fault_of miss)) None
-turn_missed does Did old now new miss did adds = (
+turn_missed does Did old now new fetched miss did adds = (
   [],
-  Missed miss,
+  Missed fetched miss,
   refl,
   refl,
   λ o list a. record { did = did o list a; agrees = adds o list a; denied = refl },
@@ -124,14 +124,14 @@ Delivered does place moved fises bytes before after missed =
     × Delivers place moved fises bytes talk missed
 
 pub serves_missed : {M : Type 0} (does : M → Access → M → Type 0) (place : Place) (n : ℕ)
-    (act : List ℕ → Act) (operation : List ℕ → Option Miss → Operation) (old : State) (before : M)
+    (fetched : Option ℕ) (act : List ℕ → Act) (operation : List ℕ → Option Miss → Operation) (old : State) (before : M)
     (new : State) (after : M) (miss : Miss) → Brought does place n before after (Err miss)
-    → Adds (Missed miss) old new
-    → TurnsAs does (λ o a. ServesSo o a place n act operation) old before new after
+    → Adds (Missed fetched miss) old new
+    → TurnsAs does (λ o a. ServesSo o a place n fetched act operation) old before new after
     (dones.Fault (fault_of miss)) None
-serves_missed does place n act operation old before new after miss g adds = (
+serves_missed does place n fetched act operation old before new after miss g adds = (
   g.0,
-  Missed miss,
+  Missed fetched miss,
   g.1,
   refl,
   λ o list a. record {
@@ -156,7 +156,7 @@ delivers_effect o a act place moved fises bytes talk missed e h =
     (subst (λ (fs : List Fis). Delivers place moved fs bytes talk missed) e.fises h)
 
 pub serves_done : {M : Type 0} (does : M → Access → M → Type 0) (place : Place) (n : ℕ)
-    (act : List ℕ → Act) (operation : List ℕ → Option Miss → Operation) (old : State)
+    (fetched : Option ℕ) (act : List ℕ → Act) (operation : List ℕ → Option Miss → Operation) (old : State)
     (before middle : M) (new : State) (after : M) (payload : List ℕ) (fises : List Fis)
     (bytes : List ℕ) (missed : Option Miss) (done : Done) (denied : Option Why)
     → Brought does place n before middle (Ok payload)
@@ -167,8 +167,8 @@ pub serves_done : {M : Type 0} (does : M → Access → M → Type 0) (place : P
     → Adds (operation payload missed) old new
     → ((o : Origin) (list : List Operation) → AgreesHba old o list
     → denied ≡ operation_denied o (account o list) (operation payload missed))
-    → TurnsAs does (λ o a. ServesSo o a place n act operation) old before new after done denied
-serves_done does place n act operation old before middle new after payload fises bytes missed done denied g d told gives adds denies = (
+    → TurnsAs does (λ o a. ServesSo o a place n fetched act operation) old before new after done denied
+serves_done does place n fetched act operation old before middle new after payload fises bytes missed done denied g d told gives adds denies = (
   g.0 ++ d.0,
   operation payload missed,
   accessed_append does before middle after g.0 d.0 g.1 d.1,
@@ -302,26 +302,26 @@ fetch_executes does old before new after done denied tag header fis place e p t 
 pub complete_serves : {M : Type 0} (does : M → Access → M → Type 0) (old : State) (before : M)
     (new : State) (after : M) (done : Done) (denied : Option Why) (tag n : ℕ) (header : Header)
     (place : Place) → place ≡ place_of old.registers tag header
-    → TurnsAs does (λ o a. ServesSo o a place n (Complete tag) (Completed tag)) old before new after done denied
+    → TurnsAs does (λ o a. ServesSo o a place n None (Complete tag) (Completed tag)) old before new after done denied
     → TurnsAs does (λ o a. CompletesFrom o a tag n (Ok header)) old before new after done denied
 complete_serves does old before new after done denied tag n header place p t =
     turn_named does (λ o a. CompletesFrom o a tag n (Ok header))
-    (λ o a. ServesSo o a place n (Complete tag) (Completed tag)) old before new after done denied
+    (λ o a. ServesSo o a place n None (Complete tag) (Completed tag)) old before new after done denied
     (λ o list a talk operation h.
     let same : place ≡ place_of (regs_of o list) tag header =
     p ∙ ap (λ (r : Registers). place_of r tag header) a.registers in
-    subst (λ (x : Place). ServesSo o (account o list) x n (Complete tag) (Completed tag) talk operation) same h) t
+    subst (λ (x : Place). ServesSo o (account o list) x n None (Complete tag) (Completed tag) talk operation) same h) t
 
 -- What comes with a FIS, by the drive and by what it started from.
 pub executes_as : {M : Type 0} (does : M → Access → M → Type 0) (place : Place) (tag : ℕ) (fis : List ℕ)
     (old : State) (before : M) (new : State) (after : M) (done : Done) (denied : Option Why)
-    → TurnsAs does (λ o a. ServesSo o a place (payload_of old.drive.tper.store.config fis) (Accept fis) (Fetched tag fis)) old before new after done denied
+    → TurnsAs does (λ o a. ServesSo o a place (payload_of old.drive.tper.store.config fis) (Some tag) (Accept fis) (Fetched tag fis)) old before new after done denied
     → TurnsAs does (λ o a. Executes o a place tag fis) old before new after done denied
 executes_as does place tag fis old before new after done denied t =
     turn_named does (λ o a. Executes o a place tag fis)
-    (λ o a. ServesSo o a place (payload_of old.drive.tper.store.config fis) (Accept fis) (Fetched tag fis)) old before new after done denied
+    (λ o a. ServesSo o a place (payload_of old.drive.tper.store.config fis) (Some tag) (Accept fis) (Fetched tag fis)) old before new after done denied
     (λ o list a talk operation h.
-    subst (λ (config : Config). ServesSo o (account o list) place (payload_of config fis) (Accept fis) (Fetched tag fis) talk operation)
+    subst (λ (config : Config). ServesSo o (account o list) place (payload_of config fis) (Some tag) (Accept fis) (Fetched tag fis) talk operation)
     a.acted.drive.tper.store.config h) t
 
 -- What is held is what the list holds.

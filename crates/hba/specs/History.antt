@@ -12,16 +12,17 @@ use Rattle.port_history.specs.Steps.{Effect, effect_by}
 use Rattle.hba.specs.declared.registers.Registers.{Registers}
 use Rattle.host_memory.specs.declared.hba_memory.miss.Miss.{Miss}
 use Rattle.hba.specs.Registers.{reset_registers, written_at, write_resets}
-use Rattle.hba.specs.Showing.{signed, faulted, controlled, fetching, served}
+use Rattle.hba.specs.Showing.{signed, faulted, beginning, controlled, fetching, served}
 
 -- The host's write of a register; a power cycle; the device's signature; memory that failed before
--- the drive's act; a FIS that carries no command; a command's FIS, with the data that came with it,
--- and what was missed behind the act; the completion of a held command, with the same.
+-- the drive's act, of the fetch under a tag or of a completion; a FIS that carries no command; a
+-- command's FIS, with the data that came with it, and what was missed behind the act; the completion
+-- of a held command, with the same.
 pub data Operation : Type 0 where
   Wrote : (offset value : ℕ) → Operation
   Powered : Operation
   Signed : Operation
-  Missed : (miss : Miss) → Operation
+  Missed : (fetched : Option ℕ) (miss : Miss) → Operation
   Controlled : (tag : ℕ) → Operation
   Fetched : (tag : ℕ) (fis payload : List ℕ) (missed : Option Miss) → Operation
   Completed : (tag : ℕ) (payload : List ℕ) (missed : Option Miss) → Operation
@@ -52,7 +53,9 @@ account_after o a Powered = record {
   registers = reset_registers;
 }
 account_after o a Signed = record a { registers = signed a.registers }
-account_after o a (Missed miss) = record a { registers = faulted miss a.registers }
+account_after o a (Missed fetched miss) = record a {
+  registers = faulted miss (beginning fetched a.registers);
+}
 account_after o a (Controlled tag) = record a { registers = controlled tag a.registers }
 account_after o a (Fetched tag fis payload missed) =
     acting tag (Accept fis payload) missed (effect_after o a (Accept fis payload))

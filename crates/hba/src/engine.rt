@@ -158,11 +158,12 @@ impl Hba {
         }
     }
 
-    /// Memory failed before the drive's act.
-    fn miss(&mut self, miss: Miss) -> Outcome
-        ensures agrees { Adds (Missed miss) self.old self.new }
+    /// Memory failed before the drive's act, of the fetch under a tag or of a completion.
+    fn miss(&mut self, fetched: Option<Tag>, miss: Miss) -> Outcome
+        ensures agrees { Adds (Missed fetched miss) self.old self.new }
         ensures told { result ≡ record { done = dones.Fault (fault_of miss); denied = None } }
     {
+        self.registers.begin(fetched);
         self.registers.fault(miss);
         Outcome {
             done: Done::Fault(fault_of(miss)),
@@ -226,7 +227,7 @@ impl Hba {
         let at = place.header.descriptors();
         match gather(memory, at, place.header.entries, room) {
             Ok(()) => {}
-            Err(miss) => return Ok(self.miss(miss)),
+            Err(miss) => return Ok(self.miss(Some(tag), miss)),
         }
         let mut answer = Accepted::none(self.alloc);
         self.take(fis, h, room, &mut answer)?;
@@ -274,10 +275,10 @@ impl Hba {
     {
         let header = match header_by(read_array(memory, self.header_at(tag))) {
             Ok(header) => header,
-            Err(miss) => return Ok(self.miss(miss)),
+            Err(miss) => return Ok(self.miss(Some(tag), miss)),
         };
         let Some(fis) = read_array(memory, u64::from(header.table)) else {
-            return Ok(self.miss(Miss::Table));
+            return Ok(self.miss(Some(tag), Miss::Table));
         };
         if !is_command(&fis) {
             return Ok(self.control(tag));
@@ -300,7 +301,7 @@ impl Hba {
         requires asked { len ≡ expected (held_at self.old.drive.queue tag) }
         requires held { is_some (held_at self.old.drive.queue tag) ≡ true }
         ensures done { IfOk result (λ r. TurnsAs M.does
-            (λ o a. ServesSo o a place len (Complete tag) (CompletedTag tag))
+            (λ o a. ServesSo o a place len None (Complete tag) (CompletedTag tag))
             self.old memory.old self.new memory.new r.done r.denied) }
         ensures err { OnErr result (self.new ≡ self.old) }
         ensures kept { OnErr result (OnlyReads M.does memory.old memory.new) }
@@ -308,7 +309,7 @@ impl Hba {
         let at = place.header.descriptors();
         match gather(memory, at, place.header.entries, room) {
             Ok(()) => {}
-            Err(miss) => return Ok(self.miss(miss)),
+            Err(miss) => return Ok(self.miss(None, miss)),
         }
         let completed = self.finish(tag, room)?;
         let told = completed.fises();
@@ -331,7 +332,7 @@ impl Hba {
         requires asked { len ≡ expected (held_at self.old.drive.queue tag) }
         requires held { is_some (held_at self.old.drive.queue tag) ≡ true }
         ensures done { IfOk result (λ r. TurnsAs M.does
-            (λ o a. ServesSo o a place len (Complete tag) (CompletedTag tag))
+            (λ o a. ServesSo o a place len None (Complete tag) (CompletedTag tag))
             self.old memory.old self.new memory.new r.done r.denied) }
         ensures err { OnErr result (self.new ≡ self.old) }
         ensures kept { OnErr result (OnlyReads M.does memory.old memory.new) }
@@ -353,7 +354,7 @@ impl Hba {
     {
         let header = match header_by(read_array(memory, self.header_at(tag))) {
             Ok(header) => header,
-            Err(miss) => return Ok(self.miss(miss)),
+            Err(miss) => return Ok(self.miss(None, miss)),
         };
         let len = self.drive.expects(tag);
         let place = self.place_of(tag, header);

@@ -43,7 +43,7 @@ fn shows_fises(miss: Miss) -> bool
 
 impl Registers {
     ghost use Rattle.std.specs.Prelude.{◌≡◌, if◌then◌else◌};
-    ghost use Rattle.hba.specs.Showing.{signed, faulted, controlled, fetching, halting, answered, served};
+    ghost use Rattle.hba.specs.Showing.{signed, faulted, beginning, controlled, fetching, halting, answered, served};
 
     /// The device's first FIS after a reset.
     pub(crate) fn sign(&mut self)
@@ -67,6 +67,16 @@ impl Registers {
         ensures { self.new ≡ controlled tag self.old }
     {
         self.port.clear_issue(tag);
+        self.fetch(tag);
+    }
+
+    /// A fetch under a tag begins, or a completion.
+    pub(crate) fn begin(&mut self, fetched: Option<Tag>)
+        ensures { self.new ≡ beginning fetched self.old }
+    {
+        if let Some(tag) = fetched {
+            self.current = tag;
+        }
     }
 
     /// The command of a tag is fetched.

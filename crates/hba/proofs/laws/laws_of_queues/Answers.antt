@@ -14,7 +14,7 @@ active_law : ActiveLaw
 active_law o before (Wrote offset value) = tt
 active_law o before Powered = tt
 active_law o before Signed = refl
-active_law o before (Missed miss) = refl
+active_law o before (Missed fetched miss) = refl
 active_law o before (Controlled tag) = refl
 active_law o before (Fetched tag fis payload missed) =
     let f = facts o (log o (acts_of o before)) in

@@ -13,9 +13,9 @@ use Rattle.hba.proofs.hba.Hba.end_in.Goals as goal
 
 pub returns-in-Err-clause-done : goal.returns-in-Err-clause-done
 returns-in-Err-clause-done g c =
-    told_as g.M.HostMemory.does (λ o a. ServesSo o a c.args.place c.args.len (Complete c.args.tag) (Completed c.args.tag)) c.args.self.now c.args.memory.now c.miss.new.self
+    told_as g.M.HostMemory.does (λ o a. ServesSo o a c.args.place c.args.len None (Complete c.args.tag) (Completed c.args.tag)) c.args.self.now c.args.memory.now c.miss.new.self
     c.gather.new.memory c.miss.result (dones.Fault (fault_of c.in-Err.miss)) None c.miss.ensures.told
-    (serves_missed g.M.HostMemory.does c.args.place c.args.len (Complete c.args.tag) (Completed c.args.tag)
+    (serves_missed g.M.HostMemory.does c.args.place c.args.len None (Complete c.args.tag) (Completed c.args.tag)
     c.args.self.now c.args.memory.now c.miss.new.self c.gather.new.memory c.in-Err.miss
     (rw (c.descriptors-at.ensures.value, c.requires.long, c.in-Err.is) at c.gather.ensures)
     c.miss.ensures.agrees)
@@ -29,9 +29,9 @@ returns-in_err-completed-clause-kept g c =
 pub returns-clause-done : goal.returns-clause-done
 returns-clause-done g c =
     let gives = rw (← c.fises-told.ensures, ← c.as_slice-fises.ensures.value, ← c.as_slice-bytes.ensures.value) at c.in_ok-completed.ensures.effect in
-    turn_kept g.M.HostMemory.does (λ o a. ServesSo o a c.args.place c.args.len (Complete c.args.tag) (Completed c.args.tag)) c.args.self.now c.args.memory.now c.show-done.new.self c.give_back.new.self
+    turn_kept g.M.HostMemory.does (λ o a. ServesSo o a c.args.place c.args.len None (Complete c.args.tag) (Completed c.args.tag)) c.args.self.now c.args.memory.now c.show-done.new.self c.give_back.new.self
     c.deliver-delivered.new.memory c.show-done.result None c.give_back.ensures
-    (serves_done g.M.HostMemory.does c.args.place c.args.len (Complete c.args.tag) (Completed c.args.tag)
+    (serves_done g.M.HostMemory.does c.args.place c.args.len None (Complete c.args.tag) (Completed c.args.tag)
     c.args.self.now c.args.memory.now c.gather.new.memory c.show-done.new.self c.deliver-delivered.new.memory
     c.gather.new.into c.as_slice-fises.result.now c.as_slice-bytes.result.now (result_err c.deliver-delivered.result)
     c.show-done.result None
