@@ -59,3 +59,31 @@ row_slot_stays o = refl
 row_no_slot : (o : Origin)
     → reads o (Wrote 0x118 0x10 ∷ Missed (Some 5) misses.Block ∷ starts) 0x118 ≡ 0x4016
 row_no_slot o = refl
+
+-- PxIE has no bits 31, 25, 21 to 8 and 7 (3.3.6); PxCMD keeps ATAPI and DLAE, whatever ST is, and no
+-- bit that CAP does not support (3.3.7).
+row_enabled : (o : Origin) → reads o (Wrote 0x114 0xffffffff ∷ []) 0x114 ≡ 0x7dc0007f
+row_enabled o = refl
+
+row_kept_bits : (o : Origin) → reads o (Wrote 0x118 0xffffff10 ∷ []) 0x118 ≡ 0x03004016
+row_kept_bits o = refl
+
+row_packet_bit : (o : Origin)
+    → reads o (Wrote 0x118 0x01000001 ∷ Wrote 0x118 0x02000000 ∷ []) 0x118 ≡ 0x01008007
+row_packet_bit o = refl
+
+-- PxSSTS.SPD is CAP.ISS, the second generation; PxSCTL.SPD 1 limits it once the link comes up, and
+-- 2 and 3 do not (3.1.1, 3.3.10, 3.3.11).
+row_speed : (o : Origin) → reads o [] 0x128 ≡ 0x123
+row_speed o = refl
+
+row_speed_limited : (o : Origin)
+    → reads o (Wrote 0x12c 0x10 ∷ Wrote 0x12c 0x11 ∷ []) 0x128 ≡ 0x113
+row_speed_limited o = refl
+
+row_speed_not_yet : (o : Origin) → reads o (Wrote 0x12c 0x10 ∷ []) 0x128 ≡ 0x123
+row_speed_not_yet o = refl
+
+row_speed_of_a_faster_limit : (o : Origin)
+    → reads o (Wrote 0x12c 0x30 ∷ Wrote 0x12c 0x31 ∷ []) 0x128 ≡ 0x123
+row_speed_of_a_faster_limit o = refl

@@ -1,10 +1,10 @@
 -- The registers of a host bus adapter with one port (AHCI 1.3.1, section 3): the word that each
 -- offset gives, and what a write makes of them. Every offset and every value has a meaning.
-use Rattle.std.specs.Prelude.{ℕ, ◌+◌, ◌-◌, ◌*◌, ◌%◌, ◌==◌, ◌&&◌, ◌||◌, not, nat_le, Bool, true, false, Option, Some, None, bit_and, bit_or, if◌then◌else◌}
+use Rattle.std.specs.Prelude.{ℕ, ◌+◌, ◌-◌, ◌*◌, ◌/◌, ◌%◌, ◌==◌, ◌&&◌, ◌||◌, not, nat_le, Bool, true, false, Option, Some, None, bit_and, bit_or, if◌then◌else◌}
 use Rattle.fis.specs.Bytes.{bit}
 use Rattle.hba_regs.specs.declared.register.Register.{Register}
 use Rattle.hba_regs.specs.declared.register.Register.TheVariants as at
-use Rattle.hba_regs.specs.Registers.{Regs, register_at, word, rewritten, has_bits, start_bit, link_up, disk_signature}
+use Rattle.hba_regs.specs.Registers.{Regs, register_at, word, rewritten, has_bits, start_bit, disk_signature}
 use Rattle.hba.specs.declared.registers.Registers.{Registers}
 
 -- CAP (3.1.1): one port, 32 slots, PIO blocks of several sectors, AHCI alone, the second
@@ -45,9 +45,10 @@ memory_bit = 0x20000000
 abbrev pub overflow_bit : ℕ
 overflow_bit = 0x01000000
 
--- The bits that PxIE has (3.3.6).
+-- The bits that PxIE has (3.3.6): all that are not reserved but CPDE and DMPE, which are 0 where there
+-- is neither cold presence detection nor a presence switch.
 abbrev pub enabled_bits : ℕ
-enabled_bits = 0xfdc000ff
+enabled_bits = 0x7dc0007f
 
 -- PxCMD (3.3.7): SUD and POD read 1 where there is neither staggered spin-up nor presence to detect;
 -- CLO clears BSY and DRQ.
@@ -56,6 +57,13 @@ power_bits = 0x6
 
 abbrev pub override_bit : ℕ
 override_bit = 0x8
+
+-- ATAPI and DLAE, which keep what is written, and change nothing here.
+abbrev pub packet_bit : ℕ
+packet_bit = 0x01000000
+
+abbrev pub light_bit : ℕ
+light_bit = 0x02000000
 
 -- BSY and DRQ (3.3.8, PxTFD.STS), and the status of a device that has not told its own.
 abbrev pub busy_bits : ℕ
@@ -79,14 +87,26 @@ control_bits = 0xfff
 abbrev pub exchange_bit : ℕ
 exchange_bit = 0x04000000
 
+-- PxSSTS (3.3.10) with the link up: IPM is active, DET says that a device is there and speaks.
+abbrev pub link_bits : ℕ
+link_bits = 0x103
+
+-- The speed that a link comes up with: the second generation's, as CAP.ISS has it, or the first's,
+-- where PxSCTL.SPD allows no other (3.1.1, 3.3.11).
+abbrev pub fastest : ℕ
+fastest = 2
+
+abbrev pub speed_by : ℕ → ℕ
+speed_by control = if control / 16 % 16 == 1 then 1 else fastest
+
 -- The link is up while DET is 0: 1 resets the device, 4 turns the link off (3.3.11).
 abbrev pub is_up : ℕ → Bool
 is_up control = control % 16 == 0
 
--- PxSSTS (3.3.10).
-abbrev pub link_word : ℕ → ℕ
-link_word control =
-    if is_up control then link_up else (if control % 16 == 4 then 4 else 0)
+-- PxSSTS (3.3.10): SPD is the speed that the link came up with.
+abbrev pub link_word : ℕ → ℕ → ℕ
+link_word speed control =
+    if is_up control then link_bits + 16 * speed else (if control % 16 == 4 then 4 else 0)
 
 -- After power on: the port is stopped, and the link has come up.
 abbrev pub fresh_port : Regs
@@ -114,6 +134,9 @@ reset_registers = record {
   is_exchanged = true;
   current = 0;
   is_halted = false;
+  is_packet = false;
+  has_light = false;
+  speed = fastest;
 }
 
 -- PxIS, PCS among its bits.
@@ -123,9 +146,11 @@ interrupts regs = bit_or regs.port.interrupts (if regs.is_exchanged then change_
 -- The word of a register of the port.
 abbrev pub port_word : Registers → Register → ℕ
 port_word regs at.InterruptStatus = interrupts regs
-port_word regs at.Command = word regs.port at.Command + power_bits + 256 * regs.current
+port_word regs at.Command =
+    word regs.port at.Command + power_bits + 256 * regs.current
+    + packet_bit * bit regs.is_packet + light_bit * bit regs.has_light
 port_word regs at.Signature = if regs.is_signed then disk_signature else no_signature
-port_word regs at.SataStatus = link_word regs.port.control
+port_word regs at.SataStatus = link_word regs.speed regs.port.control
 port_word regs at.SataError = if regs.is_exchanged then exchange_bit else 0
 port_word regs register = word regs.port register
 
@@ -165,6 +190,13 @@ overridden asked regs =
     then record regs { port = record regs.port { status = bit_and regs.port.status idle_bits } }
     else regs
 
+-- PxCMD keeps ATAPI and DLAE (3.3.7).
+abbrev pub optioned : ℕ → Registers → Registers
+optioned value regs = record regs {
+  is_packet = has_bits value packet_bit;
+  has_light = has_bits value light_bit;
+}
+
 -- A port that is stopped has no current command, and halts no more (3.3.7, ST).
 abbrev pub stopped_if : Bool → Registers → Registers
 stopped_if stops regs = if stops then record regs { current = 0; is_halted = false } else regs
@@ -181,7 +213,8 @@ lost_if goes regs =
 
 -- The link comes up: that is an exchange.
 abbrev pub found_if : Bool → Registers → Registers
-found_if comes regs = if comes then record regs { is_exchanged = true } else regs
+found_if comes regs =
+    if comes then record regs { is_exchanged = true; speed = speed_by regs.port.control } else regs
 
 -- The link goes down, or comes up.
 abbrev pub goes_down : Registers → ℕ → Bool
@@ -199,7 +232,7 @@ port_written regs at.InterruptEnable value =
     kept regs at.InterruptEnable (bit_and value enabled_bits)
 port_written regs at.Command value =
     stopped_if (not (has_bits value start_bit))
-    (overridden (has_bits value override_bit) (kept regs at.Command value))
+    (overridden (has_bits value override_bit) (optioned value (kept regs at.Command value)))
 port_written regs at.SataControl value =
     found_if (comes_up regs value) (lost_if (goes_down regs value)
     (kept regs at.SataControl (bit_and value control_bits)))

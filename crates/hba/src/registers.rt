@@ -1,7 +1,7 @@
 //! The registers, as the host reads and writes them (AHCI 1.3.1, section 3).
 
 ghost use Rattle.std.specs.Prelude.{◌≡◌, ◌≤◌, ◌+◌, ◌*◌, ℕ};
-ghost use Rattle.hba.specs.Registers.{fresh_port, is_up, link_word};
+ghost use Rattle.hba.specs.Registers.{fresh_port, is_up, speed_by, link_word};
 
 use fis::Tag;
 use hba_regs::{PortRegs, PxIs, Register};
@@ -25,8 +25,8 @@ const PORT: u32 = 0x100;
 /// PxIS.PCS.
 const CHANGE: u32 = 0x0000_0040;
 
-/// The bits of PxIE.
-const ENABLED: u32 = 0xfdc0_00ff;
+/// The bits of PxIE: those of PxIS that there are.
+const ENABLED: u32 = 0x7dc0_007f;
 
 /// PxCMD.FRE.
 const RECEIVE: u32 = 0x10;
@@ -35,6 +35,11 @@ const RECEIVE: u32 = 0x10;
 const POWER: u32 = 0x6;
 
 const OVERRIDE: u32 = 0x8;
+
+/// PxCMD.ATAPI and DLAE.
+const PACKET: u32 = 0x0100_0000;
+
+const LIGHT: u32 = 0x0200_0000;
 
 /// BSY and DRQ.
 const BUSY: u8 = 0x88;
@@ -50,8 +55,11 @@ const SIGNATURE: u32 = 0x101;
 
 const NO_SIGNATURE: u32 = 0xffff_ffff;
 
-/// PxSSTS with the link up.
-const LINK_UP: u32 = 0x133;
+/// PxSSTS with the link up, without its speed.
+const LINK: u32 = 0x103;
+
+/// The second generation's speed, as CAP has it.
+const FASTEST: u8 = 2;
 
 /// The bits that PxSCTL keeps.
 const CONTROL: u32 = 0xfff;
@@ -92,6 +100,12 @@ pub struct Registers {
     pub(crate) current: Tag,
     /// A status with ERR or a fault of memory came: nothing more is fetched until ST is cleared.
     pub(crate) is_halted: bool,
+    /// PxCMD.ATAPI.
+    pub(crate) is_packet: bool,
+    /// PxCMD.DLAE.
+    pub(crate) has_light: bool,
+    /// PxSSTS.SPD, while the link is up.
+    pub(crate) speed: u8,
 }
 
 /// Whether the link is up, by PxSCTL.
@@ -101,12 +115,19 @@ fn is_up(control: u32) -> bool
     control % 16 == 0
 }
 
-/// PxSSTS, by PxSCTL.
-fn link_word(control: u32) -> u32
-    ensures { result ≡ link_word control }
+/// The speed that the link comes up with, by PxSCTL.
+fn speed_by(control: u32) -> u8
+    ensures { result ≡ speed_by control }
+{
+    if control / 16 % 16 == 1 { 1 } else { FASTEST }
+}
+
+/// PxSSTS, by its speed and PxSCTL.
+fn link_word(speed: u8, control: u32) -> u32
+    ensures { result ≡ link_word speed control }
 {
     if is_up(control) {
-        LINK_UP
+        LINK + 16 * u32::from(speed)
     } else if control % 16 == 4 {
         4
     } else {
@@ -131,7 +152,7 @@ impl Registers {
     ghost use Rattle.hba_regs.specs.Registers.{register_at, word_at as port_word_at, written_at as port_written_at};
     ghost use Rattle.hba_regs.specs.declared.register.Register.TheVariants as registers;
     ghost use Rattle.hba.specs.Engine.{fises_at};
-    ghost use Rattle.hba.specs.Registers.{reset_registers, word_at, generic_word, port_word, port_word_of, interrupts, asks, noted, line, overridden, stopped_if, lost_if, found_if, goes_down, comes_up, port_written, port_written_of, after_hba_reset, generic_written, written_at, write_resets};
+    ghost use Rattle.hba.specs.Registers.{reset_registers, word_at, generic_word, port_word, port_word_of, interrupts, asks, noted, line, overridden, optioned, stopped_if, lost_if, found_if, goes_down, comes_up, port_written, port_written_of, after_hba_reset, generic_written, written_at, write_resets};
 
     /// After power on: the port is stopped, and the link has come up.
     pub fn new() -> Registers
@@ -145,6 +166,9 @@ impl Registers {
             is_exchanged: true,
             current: Tag::low_bits(0),
             is_halted: false,
+            is_packet: false,
+            has_light: false,
+            speed: FASTEST,
         }
     }
 
@@ -253,7 +277,11 @@ impl Registers {
     fn command(&self) -> u32
         ensures { result ≡ port_word self.now registers.Command }
     {
-        self.kept_word(PX_CMD) + POWER + 256 * u32::from(self.current.number())
+        self.kept_word(PX_CMD)
+            + POWER
+            + 256 * u32::from(self.current.number())
+            + PACKET * u32::from(self.is_packet)
+            + LIGHT * u32::from(self.has_light)
     }
 
     /// The word of a register of the port, at its offset.
@@ -265,7 +293,7 @@ impl Registers {
             Some(Register::Command) => self.command(),
             Some(Register::Signature) if self.is_signed => SIGNATURE,
             Some(Register::Signature) => NO_SIGNATURE,
-            Some(Register::SataStatus) => link_word(self.kept_word(PX_SCTL)),
+            Some(Register::SataStatus) => link_word(self.speed, self.kept_word(PX_SCTL)),
             Some(Register::SataError) if self.is_exchanged => EXCHANGE,
             Some(Register::SataError) => 0,
             _ => self.kept_word(offset),
@@ -335,6 +363,14 @@ impl Registers {
         }
     }
 
+    /// Keeps ATAPI and DLAE.
+    fn keep_options(&mut self, value: u32)
+        ensures { self.new ≡ optioned value self.old }
+    {
+        self.is_packet = value & PACKET == PACKET;
+        self.has_light = value & LIGHT == LIGHT;
+    }
+
     fn stop_if(&mut self, stops: bool)
         ensures { self.new ≡ stopped_if stops self.old }
     {
@@ -360,6 +396,7 @@ impl Registers {
     {
         if comes {
             self.is_exchanged = true;
+            self.speed = speed_by(self.kept_word(PX_SCTL));
         }
     }
 
@@ -381,6 +418,7 @@ impl Registers {
         ensures { self.new ≡ port_written self.old registers.Command value }
     {
         self.keep(PX_CMD, value);
+        self.keep_options(value);
         self.override_if(value & OVERRIDE == OVERRIDE);
         self.stop_if(value & 1 != 1);
     }
