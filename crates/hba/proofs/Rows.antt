@@ -1,9 +1,9 @@
 -- Worked rows, computed from the definitions alone: words that a driver reads.
-use Rattle.std.proofs.Common.{◌≡◌, ℕ, List, [], ◌∷◌, ◌++◌, Some, None, refl}
+use Rattle.std.proofs.Common.{◌≡◌, ℕ, List, [], ◌∷◌, Some, None, refl}
 use Rattle.history.specs.Opening.{Origin}
 use Rattle.host_memory.specs.declared.hba_memory.miss.Miss.TheVariants as misses
 use Rattle.hba.specs.Registers.{word_at}
-use Rattle.hba.specs.History.{Operation, Wrote, Missed, Controlled, regs_of}
+use Rattle.hba.specs.History.{Operation, Wrote, Signed, Missed, Controlled, regs_of}
 
 -- The word at an offset behind operations, the newest first.
 abbrev reads : Origin → List Operation → ℕ → ℕ
@@ -87,3 +87,48 @@ row_speed_not_yet o = refl
 row_speed_of_a_faster_limit : (o : Origin)
     → reads o (Wrote 0x12c 0x30 ∷ Wrote 0x12c 0x31 ∷ []) 0x128 ≡ 0x123
 row_speed_of_a_faster_limit o = refl
+
+-- COMRESET (10.4.2) behind a signature and a PxSERR that was cleared: while DET is 1, PxTFD is 7Fh,
+-- and PhyRdy has changed (PxSERR.DIAG.N, PxIS.PRCS); behind it COMINIT came (DIAG.X, PCS), and PxTFD is
+-- 80h and PxSIG FFFFFFFFh until the signature.
+abbrev heard : List Operation
+heard = Signed ∷ Wrote 0x118 0x10 ∷ Wrote 0x130 0xffffffff ∷ []
+
+abbrev falls : List Operation
+falls = Wrote 0x12c 1 ∷ heard
+
+abbrev rises : List Operation
+rises = Wrote 0x12c 0 ∷ falls
+
+row_heard : (o : Origin) → reads o heard 0x110 ≡ 0
+row_heard o = refl
+
+row_ready : (o : Origin) → reads o heard 0x120 ≡ 0x150
+row_ready o = refl
+
+row_down_errors : (o : Origin) → reads o falls 0x130 ≡ 0x00010000
+row_down_errors o = refl
+
+row_down_interrupts : (o : Origin) → reads o falls 0x110 ≡ 0x00400000
+row_down_interrupts o = refl
+
+row_down_task : (o : Origin) → reads o falls 0x120 ≡ 0x7f
+row_down_task o = refl
+
+row_up_errors : (o : Origin) → reads o rises 0x130 ≡ 0x04010000
+row_up_errors o = refl
+
+row_up_interrupts : (o : Origin) → reads o rises 0x110 ≡ 0x00400040
+row_up_interrupts o = refl
+
+row_up_task : (o : Origin) → reads o rises 0x120 ≡ 0x80
+row_up_task o = refl
+
+row_up_signature : (o : Origin) → reads o rises 0x124 ≡ 0xffffffff
+row_up_signature o = refl
+
+row_phy_cleared : (o : Origin) → reads o (Wrote 0x130 0x00010000 ∷ rises) 0x110 ≡ 0x40
+row_phy_cleared o = refl
+
+row_exchange_cleared : (o : Origin) → reads o (Wrote 0x130 0x04000000 ∷ rises) 0x110 ≡ 0x00400000
+row_exchange_cleared o = refl

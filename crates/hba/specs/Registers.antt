@@ -34,9 +34,13 @@ port_at = 0x100
 abbrev pub control_at : ℕ
 control_at = 0x12c
 
--- PxIS (3.3.5): PCS, which follows PxSERR.DIAG.X; HBFS, of memory that is not there.
+-- PxIS (3.3.5): PCS, which follows PxSERR.DIAG.X; PRCS, which follows PxSERR.DIAG.N; HBFS, of memory
+-- that is not there.
 abbrev pub change_bit : ℕ
 change_bit = 0x00000040
+
+abbrev pub phy_change_bit : ℕ
+phy_change_bit = 0x00400000
 
 abbrev pub memory_bit : ℕ
 memory_bit = 0x20000000
@@ -65,7 +69,8 @@ packet_bit = 0x01000000
 abbrev pub light_bit : ℕ
 light_bit = 0x02000000
 
--- BSY and DRQ (3.3.8, PxTFD.STS), and the status of a device that has not told its own.
+-- BSY and DRQ (3.3.8, PxTFD.STS); the status while the link is down, and that of a device which the
+-- link has come up to, and which has not told its own: BSY (10.4.2).
 abbrev pub busy_bits : ℕ
 busy_bits = 0x88
 
@@ -75,6 +80,9 @@ idle_bits = 0x77
 abbrev pub unknown_status : ℕ
 unknown_status = 0x7f
 
+abbrev pub awaited_status : ℕ
+awaited_status = 0x80
+
 -- PxSIG before the device's first FIS (3.3.9).
 abbrev pub no_signature : ℕ
 no_signature = 0xffffffff
@@ -83,9 +91,12 @@ no_signature = 0xffffffff
 abbrev pub control_bits : ℕ
 control_bits = 0xfff
 
--- PxSERR.DIAG.X (3.3.12).
+-- PxSERR (3.3.12): DIAG.X, where COMINIT came; DIAG.N, where PhyRdy changed.
 abbrev pub exchange_bit : ℕ
 exchange_bit = 0x04000000
+
+abbrev pub phy_error_bit : ℕ
+phy_error_bit = 0x00010000
 
 -- PxSSTS (3.3.10) with the link up: IPM is active, DET says that a device is there and speaks.
 abbrev pub link_bits : ℕ
@@ -117,7 +128,7 @@ fresh_port = record {
   enabled = 0;
   running = false;
   receiving = false;
-  status = unknown_status;
+  status = awaited_status;
   error = 0;
   control = 0;
   link_errors = 0;
@@ -132,6 +143,7 @@ reset_registers = record {
   is_raised = false;
   is_signed = false;
   is_exchanged = true;
+  has_phy_changed = true;
   current = 0;
   is_halted = false;
   is_packet = false;
@@ -139,9 +151,11 @@ reset_registers = record {
   speed = fastest;
 }
 
--- PxIS, PCS among its bits.
+-- PxIS, PCS and PRCS among its bits.
 abbrev pub interrupts : Registers → ℕ
-interrupts regs = bit_or regs.port.interrupts (if regs.is_exchanged then change_bit else 0)
+interrupts regs =
+    bit_or (bit_or regs.port.interrupts (if regs.is_exchanged then change_bit else 0))
+    (if regs.has_phy_changed then phy_change_bit else 0)
 
 -- The word of a register of the port.
 abbrev pub port_word : Registers → Register → ℕ
@@ -151,7 +165,9 @@ port_word regs at.Command =
     + packet_bit * bit regs.is_packet + light_bit * bit regs.has_light
 port_word regs at.Signature = if regs.is_signed then disk_signature else no_signature
 port_word regs at.SataStatus = link_word regs.speed regs.port.control
-port_word regs at.SataError = if regs.is_exchanged then exchange_bit else 0
+port_word regs at.SataError =
+    (if regs.is_exchanged then exchange_bit else 0)
+    + (if regs.has_phy_changed then phy_error_bit else 0)
 port_word regs register = word regs.port register
 
 abbrev pub port_word_of : Registers → Option Register → ℕ
@@ -201,20 +217,29 @@ optioned value regs = record regs {
 abbrev pub stopped_if : Bool → Registers → Registers
 stopped_if stops regs = if stops then record regs { current = 0; is_halted = false } else regs
 
--- The link goes down: the device is not heard of.
+-- The link goes down: the device is not heard of, and PhyRdy has changed.
 abbrev pub lost_if : Bool → Registers → Registers
 lost_if goes regs =
     if goes
     then record regs {
       port = record regs.port { status = unknown_status; error = 0 };
       is_signed = false;
+      has_phy_changed = true;
     }
     else regs
 
--- The link comes up: that is an exchange.
+-- The link comes up (10.4.2): PhyRdy has changed, COMINIT comes, and the device is busy until its
+-- first FIS.
 abbrev pub found_if : Bool → Registers → Registers
 found_if comes regs =
-    if comes then record regs { is_exchanged = true; speed = speed_by regs.port.control } else regs
+    if comes
+    then record regs {
+      port = record regs.port { status = awaited_status; error = 0 };
+      is_exchanged = true;
+      has_phy_changed = true;
+      speed = speed_by regs.port.control;
+    }
+    else regs
 
 -- The link goes down, or comes up.
 abbrev pub goes_down : Registers → ℕ → Bool
@@ -237,7 +262,10 @@ port_written regs at.SataControl value =
     found_if (comes_up regs value) (lost_if (goes_down regs value)
     (kept regs at.SataControl (bit_and value control_bits)))
 port_written regs at.SataError value =
-    record regs { is_exchanged = regs.is_exchanged && not (has_bits value exchange_bit) }
+    record regs {
+      is_exchanged = regs.is_exchanged && not (has_bits value exchange_bit);
+      has_phy_changed = regs.has_phy_changed && not (has_bits value phy_error_bit);
+    }
 port_written regs register value = kept regs register value
 
 abbrev pub port_written_of : Registers → Option Register → ℕ → Registers

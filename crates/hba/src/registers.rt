@@ -22,8 +22,10 @@ const VERSION: u32 = 0x0001_0301;
 /// Where the port's registers stand.
 const PORT: u32 = 0x100;
 
-/// PxIS.PCS.
+/// PxIS.PCS and PRCS.
 const CHANGE: u32 = 0x0000_0040;
+
+const PHY_CHANGE: u32 = 0x0040_0000;
 
 /// The bits of PxIE: those of PxIS that there are.
 const ENABLED: u32 = 0x7dc0_007f;
@@ -47,8 +49,11 @@ const BUSY: u8 = 0x88;
 /// The bits of a status but BSY and DRQ.
 const IDLE: u8 = 0x77;
 
-/// The status of a device that has not told its own.
+/// The status while the link is down.
 const UNKNOWN: u8 = 0x7f;
+
+/// The status of a device that the link has come up to, and that has not told its own: BSY.
+const AWAITED: u8 = 0x80;
 
 /// PxSIG of a disk, and before the device's first FIS.
 const SIGNATURE: u32 = 0x101;
@@ -64,8 +69,10 @@ const FASTEST: u8 = 2;
 /// The bits that PxSCTL keeps.
 const CONTROL: u32 = 0xfff;
 
-/// PxSERR.DIAG.X.
+/// PxSERR.DIAG.X and N.
 const EXCHANGE: u32 = 0x0400_0000;
+
+const PHY_ERROR: u32 = 0x0001_0000;
 
 /// The offsets of registers in the port's block.
 const PX_CLB: u32 = 0x00;
@@ -96,6 +103,8 @@ pub struct Registers {
     pub(crate) is_signed: bool,
     /// PxSERR.DIAG.X, and so PxIS.PCS.
     pub(crate) is_exchanged: bool,
+    /// PxSERR.DIAG.N, and so PxIS.PRCS.
+    pub(crate) has_phy_changed: bool,
     /// PxCMD.CCS.
     pub(crate) current: Tag,
     /// A status with ERR or a fault of memory came: nothing more is fetched until ST is cleared.
@@ -142,7 +151,7 @@ fn fresh_port() -> PortRegs
     let mut port = PortRegs::new();
     let _ = port.write(PX_FB, 0);
     let _ = port.write(PX_CMD, 0);
-    port.set_task(UNKNOWN, 0);
+    port.set_task(AWAITED, 0);
     port
 }
 
@@ -164,6 +173,7 @@ impl Registers {
             is_raised: false,
             is_signed: false,
             is_exchanged: true,
+            has_phy_changed: true,
             current: Tag::low_bits(0),
             is_halted: false,
             is_packet: false,
@@ -269,7 +279,8 @@ impl Registers {
         ensures { result ≡ interrupts self.now }
     {
         let change = if self.is_exchanged { CHANGE } else { 0 };
-        self.kept_word(PX_IS) | change
+        let phy = if self.has_phy_changed { PHY_CHANGE } else { 0 };
+        self.kept_word(PX_IS) | change | phy
     }
 
     /// PxCMD.
@@ -284,6 +295,15 @@ impl Registers {
             + LIGHT * u32::from(self.has_light)
     }
 
+    /// PxSERR.
+    fn link_errors(&self) -> u32
+        ensures { result ≡ port_word self.now registers.SataError }
+    {
+        let exchange = if self.is_exchanged { EXCHANGE } else { 0 };
+        let phy = if self.has_phy_changed { PHY_ERROR } else { 0 };
+        exchange + phy
+    }
+
     /// The word of a register of the port, at its offset.
     fn port_word(&self, offset: u32) -> u32
         ensures { result ≡ port_word_of self.now (register_at offset) }
@@ -294,8 +314,7 @@ impl Registers {
             Some(Register::Signature) if self.is_signed => SIGNATURE,
             Some(Register::Signature) => NO_SIGNATURE,
             Some(Register::SataStatus) => link_word(self.speed, self.kept_word(PX_SCTL)),
-            Some(Register::SataError) if self.is_exchanged => EXCHANGE,
-            Some(Register::SataError) => 0,
+            Some(Register::SataError) => self.link_errors(),
             _ => self.kept_word(offset),
         }
     }
@@ -387,6 +406,7 @@ impl Registers {
         if goes {
             self.port.set_task(UNKNOWN, 0);
             self.is_signed = false;
+            self.has_phy_changed = true;
         }
     }
 
@@ -395,7 +415,9 @@ impl Registers {
         ensures { self.new ≡ found_if comes self.old }
     {
         if comes {
+            self.port.set_task(AWAITED, 0);
             self.is_exchanged = true;
+            self.has_phy_changed = true;
             self.speed = speed_by(self.kept_word(PX_SCTL));
         }
     }
@@ -423,6 +445,13 @@ impl Registers {
         self.stop_if(value & 1 != 1);
     }
 
+    fn clear_errors(&mut self, value: u32)
+        ensures { self.new ≡ port_written self.old registers.SataError value }
+    {
+        self.is_exchanged = self.is_exchanged && value & EXCHANGE != EXCHANGE;
+        self.has_phy_changed = self.has_phy_changed && value & PHY_ERROR != PHY_ERROR;
+    }
+
     fn write_control(&mut self, value: u32)
         ensures { self.new ≡ port_written self.old registers.SataControl value }
     {
@@ -440,9 +469,7 @@ impl Registers {
             Some(Register::InterruptEnable) => self.keep(offset, value & ENABLED),
             Some(Register::Command) => self.write_command(value),
             Some(Register::SataControl) => self.write_control(value),
-            Some(Register::SataError) => {
-                self.is_exchanged = self.is_exchanged && value & EXCHANGE != EXCHANGE
-            }
+            Some(Register::SataError) => self.clear_errors(value),
             _ => self.keep(offset, value),
         }
     }
