@@ -222,11 +222,14 @@ impl Registers {
         }
     }
 
-    /// Whether commands are taken: ST is set, no error halts the port, and the link is up.
+    /// Whether commands are taken: ST and FRE are set, no error halts the port, and the link is up.
     fn is_working(&self) -> bool
         ensures { result ≡ is_working self.now }
     {
-        self.is_running() && !self.is_halted && is_up(self.kept_word(PX_SCTL))
+        self.is_running()
+            && self.is_receiving()
+            && !self.is_halted
+            && is_up(self.kept_word(PX_SCTL))
     }
 
     /// Whether the signature can be told.

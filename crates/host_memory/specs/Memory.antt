@@ -6,7 +6,7 @@ use Rattle.fis.specs.Fis.{IsSpelling}
 use Rattle.fis.specs.declared.any.Fis.{Fis}
 use Rattle.fis.specs.declared.any.Fis.TheVariants as kinds
 use Rattle.slots.specs.Layout.{descriptor_size, descriptors_at, received_at, received_place}
-use Rattle.slots.specs.Header.{fis_words, entry_count, table_at, table_upper, table_alignment, little_endian_at}
+use Rattle.slots.specs.Header.{fis_words, command_fis_words, entry_count, table_at, table_upper, table_alignment, little_endian_at}
 use Rattle.slots.specs.Table.{byte_count_field}
 use Rattle.host_memory.specs.Access.{Access, Asked, Laid}
 use Rattle.host_memory.specs.declared.hba_memory.miss.Miss.{Miss}
@@ -14,10 +14,12 @@ use Rattle.host_memory.specs.declared.hba_memory.miss.Miss.TheVariants as misses
 use Rattle.host_memory.specs.declared.hba_memory.reading.Header.{Header}
 use Rattle.host_memory.specs.declared.hba_memory.delivery.Place.{Place}
 
--- CFL is 2 to 16 (4.2.2), and CTBAU is 0, as CAP.S64A is.
+-- CFL is 16 at most (4.2.2), and the words that a command's FIS has at least (Serial ATA, Register FIS
+-- to the device): what is shorter is none. CTBAU is 0, as CAP.S64A is.
 abbrev pub is_sound_header : List ℕ → Bool
 is_sound_header header =
-    nat_le 2 (fis_words header) && nat_le (fis_words header) 16 && table_upper header == 0
+    nat_le command_fis_words (fis_words header) && nat_le (fis_words header) 16
+    && table_upper header == 0
 
 -- CTBA is a multiple of 128 (4.2.2).
 abbrev pub command_table_of : List ℕ → ℕ
