@@ -12,7 +12,7 @@
 
 enum { BASE = 0x100000, SIZE = 0x10000 };          /* the host's memory */
 enum { LIST = 0x100000, RECEIVED = 0x101000, TABLE = 0x102000, DATA = 0x103000 };
-enum { PxCLB = 0x100, PxFB = 0x108, PxCMD = 0x118, PxTFD = 0x120, PxCI = 0x138 };
+enum { PxCLB = 0x100, PxFB = 0x108, PxCMD = 0x118, PxTFD = 0x120, PxSERR = 0x130, PxCI = 0x138 };
 enum { LONGEST = 140000 };                         /* a line that moves 65,536 bytes, and its words */
 
 static unsigned char memory[SIZE];
@@ -142,6 +142,7 @@ int main(int count, char **words)
     start(words + 1);
     write_register(PxCLB, LIST);
     write_register(PxFB, RECEIVED);
+    write_register(PxSERR, 0xffffffff);            /* the first FIS waits for DIAG.X to be cleared */
     write_register(PxCMD, 0x11);                   /* FRE, ST */
     printf("%s\n", ask("turn"));
     prepare(100);

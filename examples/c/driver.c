@@ -7,7 +7,7 @@
 #include <string.h>
 
 enum { BASE = 0x100000, LIST = 0, RECEIVED = 0x1000, TABLE = 0x2000, DATA = 0x3000, SIZE = 0x4000 };
-enum { PxCLB = 0x100, PxFB = 0x108, PxIS = 0x110, PxIE = 0x114, PxCMD = 0x118, PxTFD = 0x120, PxCI = 0x138, GHC = 0x4, IS = 0x8 };
+enum { PxCLB = 0x100, PxFB = 0x108, PxIS = 0x110, PxIE = 0x114, PxCMD = 0x118, PxTFD = 0x120, PxSERR = 0x130, PxCI = 0x138, GHC = 0x4, IS = 0x8 };
 enum { ST = 0x1, FRE = 0x10, TASK_ERROR = 0x40000000, AE_IE = (int)0x80000002 };
 
 static uint8_t memory[SIZE];
@@ -69,6 +69,7 @@ int main(void)
     write_register(GHC, (uint32_t)AE_IE);
     write_register(PxCLB, BASE + LIST);
     write_register(PxFB, BASE + RECEIVED);
+    write_register(PxSERR, read_register(PxSERR));
     write_register(PxIE, TASK_ERROR);
     write_register(PxCMD, FRE | ST);
     must(opal_hba_turn(&hba, 0, BASE, memory, sizeof memory).work == OPAL_WORK_SIGNATURE, "the device tells no signature");

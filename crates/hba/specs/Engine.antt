@@ -22,6 +22,7 @@ use Rattle.hba.specs.declared.registers.Registers.{Registers}
 use Rattle.host_memory.specs.declared.hba_memory.miss.Miss.{Miss}
 use Rattle.host_memory.specs.declared.hba_memory.miss.Miss.TheVariants as misses
 use Rattle.host_memory.specs.declared.hba_memory.reading.Header.{Header}
+use Rattle.host_memory.specs.declared.hba_memory.delivery.Arrival.{Arrival}
 use Rattle.host_memory.specs.declared.hba_memory.delivery.Place.{Place}
 use Rattle.slots.specs.Table.{is_command}
 use Rattle.host_memory.specs.Memory.{header_by, descriptors_of, Gathers, PostsTo, Delivers}
@@ -45,28 +46,31 @@ place_of regs tag header = record {
   to = fises_at regs;
 }
 
--- An act of the drive with the data that were brought, and what it gives.
-abbrev pub Acts : Origin → Account → Place → (List ℕ → Act) → (List ℕ → Option Miss → Operation)
-    → Result (List ℕ) Miss → List Access → Operation → Type 0
-Acts o a place act operation (Err miss) talk done = (talk ≡ []) × (done ≡ Missed miss)
-Acts o a place act operation (Ok payload) talk done =
+-- An act of the drive with the data that were brought, and what it gives; of a fetch under a tag, or
+-- of a completion.
+abbrev pub Acts : Origin → Account → Place → Option ℕ → (List ℕ → Act)
+    → (List ℕ → Arrival → Operation) → Result (List ℕ) Miss → List Access → Operation → Type 0
+Acts o a place fetched act operation (Err miss) talk done =
+    (talk ≡ []) × (done ≡ Missed fetched miss)
+Acts o a place fetched act operation (Ok payload) talk done =
     let effect = effect_after o a (act payload) in
-    (missed : Option Miss)
-    × Delivers place (length payload) effect.fises effect.bytes talk missed
-    × (done ≡ operation payload missed)
+    (arrival : Arrival)
+    × Delivers place (length payload) effect.fises effect.bytes talk arrival
+    × (done ≡ operation payload arrival)
 
 -- So many bytes are brought; the drive acts; what it gives is delivered.
-abbrev pub ServesSo : Origin → Account → Place → ℕ → (List ℕ → Act)
-    → (List ℕ → Option Miss → Operation) → List Access → Operation → Type 0
-ServesSo o a place n act operation talk done =
+abbrev pub ServesSo : Origin → Account → Place → ℕ → Option ℕ → (List ℕ → Act)
+    → (List ℕ → Arrival → Operation) → List Access → Operation → Type 0
+ServesSo o a place n fetched act operation talk done =
     (before later : List Access) × (brought : Result (List ℕ) Miss) × (talk ≡ before ++ later)
     × Gathers (descriptors_of place.header) place.header.entries n before brought
-    × Acts o a place act operation brought later done
+    × Acts o a place fetched act operation brought later done
 
 -- A slot's command.
 abbrev pub Executes : Origin → Account → Place → ℕ → List ℕ → List Access → Operation → Type 0
 Executes o a place tag fis talk done =
-    ServesSo o a place (payload_of o.tables.config fis) (Accept fis) (Fetched tag fis) talk done
+    ServesSo o a place (payload_of o.tables.config fis) (Some tag) (Accept fis) (Fetched tag fis)
+    talk done
 
 abbrev pub FetchesIf : Bool → Origin → Account → Place → ℕ → List ℕ
     → List Access → Operation → Type 0
@@ -75,13 +79,14 @@ FetchesIf true o a place tag fis talk done = Executes o a place tag fis talk don
 
 abbrev pub FetchesFis : Origin → Account → Place → ℕ → Option (List ℕ)
     → List Access → Operation → Type 0
-FetchesFis o a place tag None talk done = (talk ≡ []) × (done ≡ Missed misses.Table)
+FetchesFis o a place tag None talk done =
+    (talk ≡ []) × (done ≡ Missed (Some tag) misses.Table)
 FetchesFis o a place tag (Some fis) talk done =
     FetchesIf (is_command fis) o a place tag fis talk done
 
 abbrev pub FetchesFrom : Origin → Account → ℕ → Result Header Miss
     → List Access → Operation → Type 0
-FetchesFrom o a tag (Err miss) talk done = (talk ≡ []) × (done ≡ Missed miss)
+FetchesFrom o a tag (Err miss) talk done = (talk ≡ []) × (done ≡ Missed (Some tag) miss)
 FetchesFrom o a tag (Ok header) talk done =
     (fis : Option (List ℕ)) × (later : List Access)
     × (talk ≡ Asked header.table h2d_length fis ∷ later)
@@ -96,9 +101,9 @@ Fetches o a tag talk done =
 
 abbrev pub CompletesFrom : Origin → Account → ℕ → ℕ → Result Header Miss → List Access → Operation
     → Type 0
-CompletesFrom o a tag n (Err miss) talk done = (talk ≡ []) × (done ≡ Missed miss)
+CompletesFrom o a tag n (Err miss) talk done = (talk ≡ []) × (done ≡ Missed None miss)
 CompletesFrom o a tag n (Ok header) talk done =
-    ServesSo o a (place_of a.registers tag header) n (Complete tag) (Completed tag) talk done
+    ServesSo o a (place_of a.registers tag header) n None (Complete tag) (Completed tag) talk done
 
 -- A completion of what is held under a tag, which wants so many bytes.
 abbrev pub Completes : Origin → Account → ℕ → ℕ → List Access → Operation → Type 0
@@ -149,10 +154,10 @@ abbrev pub done_of : Operation → Option Done
 done_of (Wrote offset value) = None
 done_of Powered = None
 done_of Signed = Some dones.Posted
-done_of (Missed miss) = Some (dones.Fault (fault_of miss))
+done_of (Missed fetched miss) = Some (dones.Fault (fault_of miss))
 done_of (Controlled tag) = Some dones.Control
-done_of (Fetched tag fis payload missed) = Some (done_by missed)
-done_of (Completed tag payload missed) = Some (done_by missed)
+done_of (Fetched tag fis payload arrival) = Some (done_by arrival.missed)
+done_of (Completed tag payload arrival) = Some (done_by arrival.missed)
 
 -- What a piece of work was, after a list of operations that the HBA agreed with.
 pub record TurnedSo (o : Origin) (list : List Operation) (operation : Operation) (new : State)

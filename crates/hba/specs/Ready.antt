@@ -12,13 +12,17 @@ use Rattle.hba.specs.declared.work.Work.TheVariants as works
 use Rattle.hba.specs.Registers.{is_up, busy_bits}
 use Rattle.hba.specs.History.{State, Operation, acts_of, regs_of}
 
--- ST is set, no error halts the port, and the link is up.
+-- ST is set, and FRE, since each command posts a FIS (3.3.7: FRE is set before ST); no error halts
+-- the port, and the link is up.
 abbrev pub is_working : Registers → Bool
-is_working regs = regs.port.running && not regs.is_halted && is_up regs.port.control
+is_working regs =
+    regs.port.running && regs.port.receiving && not regs.is_halted && is_up regs.port.control
 
--- The signature goes where received FISes go.
+-- The signature goes where received FISes go, once the host has cleared PxSERR.DIAG.X (10.1.2).
 abbrev pub may_sign : Registers → Bool
-may_sign regs = regs.port.receiving && is_up regs.port.control && not regs.is_signed
+may_sign regs =
+    regs.port.receiving && is_up regs.port.control && not regs.is_signed
+    && not regs.is_exchanged
 
 -- A command that is issued is fetched while the device is neither busy nor wants data.
 abbrev pub may_fetch : Registers → ℕ → Bool

@@ -1,10 +1,10 @@
 -- The registers of a host bus adapter with one port (AHCI 1.3.1, section 3): the word that each
 -- offset gives, and what a write makes of them. Every offset and every value has a meaning.
-use Rattle.std.specs.Prelude.{ℕ, ◌+◌, ◌-◌, ◌*◌, ◌%◌, ◌==◌, ◌&&◌, ◌||◌, not, nat_le, Bool, true, false, Option, Some, None, bit_and, bit_or, if◌then◌else◌}
+use Rattle.std.specs.Prelude.{ℕ, ◌+◌, ◌-◌, ◌*◌, ◌/◌, ◌%◌, ◌==◌, ◌&&◌, ◌||◌, not, nat_le, Bool, true, false, Option, Some, None, bit_and, bit_or, if◌then◌else◌}
 use Rattle.fis.specs.Bytes.{bit}
 use Rattle.hba_regs.specs.declared.register.Register.{Register}
 use Rattle.hba_regs.specs.declared.register.Register.TheVariants as at
-use Rattle.hba_regs.specs.Registers.{Regs, register_at, word, rewritten, has_bits, start_bit, link_up, disk_signature}
+use Rattle.hba_regs.specs.Registers.{Regs, register_at, word, rewritten, has_bits, start_bit, disk_signature}
 use Rattle.hba.specs.declared.registers.Registers.{Registers}
 
 -- CAP (3.1.1): one port, 32 slots, PIO blocks of several sectors, AHCI alone, the second
@@ -34,9 +34,13 @@ port_at = 0x100
 abbrev pub control_at : ℕ
 control_at = 0x12c
 
--- PxIS (3.3.5): PCS, which follows PxSERR.DIAG.X; HBFS, of memory that is not there.
+-- PxIS (3.3.5): PCS, which follows PxSERR.DIAG.X; PRCS, which follows PxSERR.DIAG.N; HBFS, of memory
+-- that is not there.
 abbrev pub change_bit : ℕ
 change_bit = 0x00000040
+
+abbrev pub phy_change_bit : ℕ
+phy_change_bit = 0x00400000
 
 abbrev pub memory_bit : ℕ
 memory_bit = 0x20000000
@@ -45,9 +49,10 @@ memory_bit = 0x20000000
 abbrev pub overflow_bit : ℕ
 overflow_bit = 0x01000000
 
--- The bits that PxIE has (3.3.6).
+-- The bits that PxIE has (3.3.6): all that are not reserved but CPDE and DMPE, which are 0 where there
+-- is neither cold presence detection nor a presence switch.
 abbrev pub enabled_bits : ℕ
-enabled_bits = 0xfdc000ff
+enabled_bits = 0x7dc0007f
 
 -- PxCMD (3.3.7): SUD and POD read 1 where there is neither staggered spin-up nor presence to detect;
 -- CLO clears BSY and DRQ.
@@ -57,7 +62,15 @@ power_bits = 0x6
 abbrev pub override_bit : ℕ
 override_bit = 0x8
 
--- BSY and DRQ (3.3.8, PxTFD.STS), and the status of a device that has not told its own.
+-- ATAPI and DLAE, which keep what is written, and change nothing here.
+abbrev pub packet_bit : ℕ
+packet_bit = 0x01000000
+
+abbrev pub light_bit : ℕ
+light_bit = 0x02000000
+
+-- BSY and DRQ (3.3.8, PxTFD.STS); the status while the link is down, and that of a device which the
+-- link has come up to, and which has not told its own: BSY (10.4.2).
 abbrev pub busy_bits : ℕ
 busy_bits = 0x88
 
@@ -67,6 +80,9 @@ idle_bits = 0x77
 abbrev pub unknown_status : ℕ
 unknown_status = 0x7f
 
+abbrev pub awaited_status : ℕ
+awaited_status = 0x80
+
 -- PxSIG before the device's first FIS (3.3.9).
 abbrev pub no_signature : ℕ
 no_signature = 0xffffffff
@@ -75,20 +91,35 @@ no_signature = 0xffffffff
 abbrev pub control_bits : ℕ
 control_bits = 0xfff
 
--- PxSERR.DIAG.X (3.3.12).
+-- PxSERR (3.3.12): DIAG.X, where COMINIT came; DIAG.N, where PhyRdy changed.
 abbrev pub exchange_bit : ℕ
 exchange_bit = 0x04000000
+
+abbrev pub phy_error_bit : ℕ
+phy_error_bit = 0x00010000
+
+-- PxSSTS (3.3.10) with the link up: IPM is active, DET says that a device is there and speaks.
+abbrev pub link_bits : ℕ
+link_bits = 0x103
+
+-- The speed that a link comes up with: the second generation's, as CAP.ISS has it, or the first's,
+-- where PxSCTL.SPD allows no other (3.1.1, 3.3.11).
+abbrev pub fastest : ℕ
+fastest = 2
+
+abbrev pub speed_by : ℕ → ℕ
+speed_by control = if control / 16 % 16 == 1 then 1 else fastest
 
 -- The link is up while DET is 0: 1 resets the device, 4 turns the link off (3.3.11).
 abbrev pub is_up : ℕ → Bool
 is_up control = control % 16 == 0
 
--- PxSSTS (3.3.10).
-abbrev pub link_word : ℕ → ℕ
-link_word control =
-    if is_up control then link_up else (if control % 16 == 4 then 4 else 0)
+-- PxSSTS (3.3.10): SPD is the speed that the link came up with.
+abbrev pub link_word : ℕ → ℕ → ℕ
+link_word speed control =
+    if is_up control then link_bits + 16 * speed else (if control % 16 == 4 then 4 else 0)
 
--- After a reset of the HBA (10.4.3): the port is stopped, and the link has come up.
+-- After power on: the port is stopped, and the link has come up.
 abbrev pub fresh_port : Regs
 fresh_port = record {
   list_base = 0;
@@ -97,7 +128,7 @@ fresh_port = record {
   enabled = 0;
   running = false;
   receiving = false;
-  status = unknown_status;
+  status = awaited_status;
   error = 0;
   control = 0;
   link_errors = 0;
@@ -112,21 +143,31 @@ reset_registers = record {
   is_raised = false;
   is_signed = false;
   is_exchanged = true;
+  has_phy_changed = true;
   current = 0;
   is_halted = false;
+  is_packet = false;
+  has_light = false;
+  speed = fastest;
 }
 
--- PxIS, PCS among its bits.
+-- PxIS, PCS and PRCS among its bits.
 abbrev pub interrupts : Registers → ℕ
-interrupts regs = bit_or regs.port.interrupts (if regs.is_exchanged then change_bit else 0)
+interrupts regs =
+    bit_or (bit_or regs.port.interrupts (if regs.is_exchanged then change_bit else 0))
+    (if regs.has_phy_changed then phy_change_bit else 0)
 
 -- The word of a register of the port.
 abbrev pub port_word : Registers → Register → ℕ
 port_word regs at.InterruptStatus = interrupts regs
-port_word regs at.Command = word regs.port at.Command + power_bits + 256 * regs.current
+port_word regs at.Command =
+    word regs.port at.Command + power_bits + 256 * regs.current
+    + packet_bit * bit regs.is_packet + light_bit * bit regs.has_light
 port_word regs at.Signature = if regs.is_signed then disk_signature else no_signature
-port_word regs at.SataStatus = link_word regs.port.control
-port_word regs at.SataError = if regs.is_exchanged then exchange_bit else 0
+port_word regs at.SataStatus = link_word regs.speed regs.port.control
+port_word regs at.SataError =
+    (if regs.is_exchanged then exchange_bit else 0)
+    + (if regs.has_phy_changed then phy_error_bit else 0)
 port_word regs register = word regs.port register
 
 abbrev pub port_word_of : Registers → Option Register → ℕ
@@ -165,23 +206,40 @@ overridden asked regs =
     then record regs { port = record regs.port { status = bit_and regs.port.status idle_bits } }
     else regs
 
+-- PxCMD keeps ATAPI and DLAE (3.3.7).
+abbrev pub optioned : ℕ → Registers → Registers
+optioned value regs = record regs {
+  is_packet = has_bits value packet_bit;
+  has_light = has_bits value light_bit;
+}
+
 -- A port that is stopped has no current command, and halts no more (3.3.7, ST).
 abbrev pub stopped_if : Bool → Registers → Registers
 stopped_if stops regs = if stops then record regs { current = 0; is_halted = false } else regs
 
--- The link goes down: the device is not heard of.
+-- The link goes down: the device is not heard of, and PhyRdy has changed.
 abbrev pub lost_if : Bool → Registers → Registers
 lost_if goes regs =
     if goes
     then record regs {
       port = record regs.port { status = unknown_status; error = 0 };
       is_signed = false;
+      has_phy_changed = true;
     }
     else regs
 
--- The link comes up: that is an exchange.
+-- The link comes up (10.4.2): PhyRdy has changed, COMINIT comes, and the device is busy until its
+-- first FIS.
 abbrev pub found_if : Bool → Registers → Registers
-found_if comes regs = if comes then record regs { is_exchanged = true } else regs
+found_if comes regs =
+    if comes
+    then record regs {
+      port = record regs.port { status = awaited_status; error = 0 };
+      is_exchanged = true;
+      has_phy_changed = true;
+      speed = speed_by regs.port.control;
+    }
+    else regs
 
 -- The link goes down, or comes up.
 abbrev pub goes_down : Registers → ℕ → Bool
@@ -199,21 +257,35 @@ port_written regs at.InterruptEnable value =
     kept regs at.InterruptEnable (bit_and value enabled_bits)
 port_written regs at.Command value =
     stopped_if (not (has_bits value start_bit))
-    (overridden (has_bits value override_bit) (kept regs at.Command value))
+    (overridden (has_bits value override_bit) (optioned value (kept regs at.Command value)))
 port_written regs at.SataControl value =
     found_if (comes_up regs value) (lost_if (goes_down regs value)
     (kept regs at.SataControl (bit_and value control_bits)))
 port_written regs at.SataError value =
-    record regs { is_exchanged = regs.is_exchanged && not (has_bits value exchange_bit) }
+    record regs {
+      is_exchanged = regs.is_exchanged && not (has_bits value exchange_bit);
+      has_phy_changed = regs.has_phy_changed && not (has_bits value phy_error_bit);
+    }
 port_written regs register value = kept regs register value
 
 abbrev pub port_written_of : Registers → Option Register → ℕ → Registers
 port_written_of regs None value = regs
 port_written_of regs (Some register) value = port_written regs register value
 
+-- A reset of the HBA (10.4.3) leaves PxCLB and PxFB as the host wrote them, with their upper halves,
+-- which are 0. All else is as at the start.
+abbrev pub with_places : ℕ → ℕ → Regs → Regs
+with_places list_base fis_base port =
+    rewritten (rewritten port at.ListBase list_base) at.FisBase fis_base
+
+abbrev pub after_hba_reset : Registers → Registers
+after_hba_reset regs = record reset_registers {
+  port = with_places regs.port.list_base regs.port.fis_base fresh_port;
+}
+
 abbrev pub control_written : Registers → ℕ → Registers
 control_written regs value =
-    if has_bits value reset_bit then reset_registers
+    if has_bits value reset_bit then after_hba_reset regs
     else record regs { interrupts_enabled = has_bits value enable_bit }
 
 abbrev pub generic_written : Registers → ℕ → ℕ → Registers

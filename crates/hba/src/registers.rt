@@ -1,7 +1,7 @@
 //! The registers, as the host reads and writes them (AHCI 1.3.1, section 3).
 
 ghost use Rattle.std.specs.Prelude.{◌≡◌, ◌≤◌, ◌+◌, ◌*◌, ℕ};
-ghost use Rattle.hba.specs.Registers.{fresh_port, is_up, link_word};
+ghost use Rattle.hba.specs.Registers.{fresh_port, is_up, speed_by, link_word};
 
 use fis::Tag;
 use hba_regs::{PortRegs, PxIs, Register};
@@ -22,11 +22,13 @@ const VERSION: u32 = 0x0001_0301;
 /// Where the port's registers stand.
 const PORT: u32 = 0x100;
 
-/// PxIS.PCS.
+/// PxIS.PCS and PRCS.
 const CHANGE: u32 = 0x0000_0040;
 
-/// The bits of PxIE.
-const ENABLED: u32 = 0xfdc0_00ff;
+const PHY_CHANGE: u32 = 0x0040_0000;
+
+/// The bits of PxIE: those of PxIS that there are.
+const ENABLED: u32 = 0x7dc0_007f;
 
 /// PxCMD.FRE.
 const RECEIVE: u32 = 0x10;
@@ -36,28 +38,41 @@ const POWER: u32 = 0x6;
 
 const OVERRIDE: u32 = 0x8;
 
+/// PxCMD.ATAPI and DLAE.
+const PACKET: u32 = 0x0100_0000;
+
+const LIGHT: u32 = 0x0200_0000;
+
 /// BSY and DRQ.
 const BUSY: u8 = 0x88;
 
 /// The bits of a status but BSY and DRQ.
 const IDLE: u8 = 0x77;
 
-/// The status of a device that has not told its own.
+/// The status while the link is down.
 const UNKNOWN: u8 = 0x7f;
+
+/// The status of a device that the link has come up to, and that has not told its own: BSY.
+const AWAITED: u8 = 0x80;
 
 /// PxSIG of a disk, and before the device's first FIS.
 const SIGNATURE: u32 = 0x101;
 
 const NO_SIGNATURE: u32 = 0xffff_ffff;
 
-/// PxSSTS with the link up.
-const LINK_UP: u32 = 0x133;
+/// PxSSTS with the link up, without its speed.
+const LINK: u32 = 0x103;
+
+/// The second generation's speed, as CAP has it.
+const FASTEST: u8 = 2;
 
 /// The bits that PxSCTL keeps.
 const CONTROL: u32 = 0xfff;
 
-/// PxSERR.DIAG.X.
+/// PxSERR.DIAG.X and N.
 const EXCHANGE: u32 = 0x0400_0000;
+
+const PHY_ERROR: u32 = 0x0001_0000;
 
 /// The offsets of registers in the port's block.
 const PX_CLB: u32 = 0x00;
@@ -88,10 +103,18 @@ pub struct Registers {
     pub(crate) is_signed: bool,
     /// PxSERR.DIAG.X, and so PxIS.PCS.
     pub(crate) is_exchanged: bool,
+    /// PxSERR.DIAG.N, and so PxIS.PRCS.
+    pub(crate) has_phy_changed: bool,
     /// PxCMD.CCS.
     pub(crate) current: Tag,
     /// A status with ERR or a fault of memory came: nothing more is fetched until ST is cleared.
     pub(crate) is_halted: bool,
+    /// PxCMD.ATAPI.
+    pub(crate) is_packet: bool,
+    /// PxCMD.DLAE.
+    pub(crate) has_light: bool,
+    /// PxSSTS.SPD, while the link is up.
+    pub(crate) speed: u8,
 }
 
 /// Whether the link is up, by PxSCTL.
@@ -101,12 +124,19 @@ fn is_up(control: u32) -> bool
     control % 16 == 0
 }
 
-/// PxSSTS, by PxSCTL.
-fn link_word(control: u32) -> u32
-    ensures { result ≡ link_word control }
+/// The speed that the link comes up with, by PxSCTL.
+fn speed_by(control: u32) -> u8
+    ensures { result ≡ speed_by control }
+{
+    if control / 16 % 16 == 1 { 1 } else { FASTEST }
+}
+
+/// PxSSTS, by its speed and PxSCTL.
+fn link_word(speed: u8, control: u32) -> u32
+    ensures { result ≡ link_word speed control }
 {
     if is_up(control) {
-        LINK_UP
+        LINK + 16 * u32::from(speed)
     } else if control % 16 == 4 {
         4
     } else {
@@ -114,14 +144,14 @@ fn link_word(control: u32) -> u32
     }
 }
 
-/// The port's registers after a reset of the HBA.
+/// The port's registers after power on.
 fn fresh_port() -> PortRegs
     ensures { result ≡ fresh_port }
 {
     let mut port = PortRegs::new();
     let _ = port.write(PX_FB, 0);
     let _ = port.write(PX_CMD, 0);
-    port.set_task(UNKNOWN, 0);
+    port.set_task(AWAITED, 0);
     port
 }
 
@@ -131,9 +161,9 @@ impl Registers {
     ghost use Rattle.hba_regs.specs.Registers.{register_at, word_at as port_word_at, written_at as port_written_at};
     ghost use Rattle.hba_regs.specs.declared.register.Register.TheVariants as registers;
     ghost use Rattle.hba.specs.Engine.{fises_at};
-    ghost use Rattle.hba.specs.Registers.{reset_registers, word_at, generic_word, port_word, port_word_of, interrupts, asks, noted, line, overridden, stopped_if, lost_if, found_if, goes_down, comes_up, port_written, port_written_of, generic_written, written_at, write_resets};
+    ghost use Rattle.hba.specs.Registers.{reset_registers, word_at, generic_word, port_word, port_word_of, interrupts, asks, noted, line, overridden, optioned, stopped_if, lost_if, found_if, goes_down, comes_up, port_written, port_written_of, after_hba_reset, generic_written, written_at, write_resets};
 
-    /// After a reset of the HBA: the port is stopped, and the link has come up.
+    /// After power on: the port is stopped, and the link has come up.
     pub fn new() -> Registers
         ensures { result ≡ reset_registers }
     {
@@ -143,8 +173,12 @@ impl Registers {
             is_raised: false,
             is_signed: false,
             is_exchanged: true,
+            has_phy_changed: true,
             current: Tag::low_bits(0),
             is_halted: false,
+            is_packet: false,
+            has_light: false,
+            speed: FASTEST,
         }
     }
 
@@ -188,18 +222,24 @@ impl Registers {
         }
     }
 
-    /// Whether commands are taken: ST is set, no error halts the port, and the link is up.
+    /// Whether commands are taken: ST and FRE are set, no error halts the port, and the link is up.
     fn is_working(&self) -> bool
         ensures { result ≡ is_working self.now }
     {
-        self.is_running() && !self.is_halted && is_up(self.kept_word(PX_SCTL))
+        self.is_running()
+            && self.is_receiving()
+            && !self.is_halted
+            && is_up(self.kept_word(PX_SCTL))
     }
 
     /// Whether the signature can be told.
     pub(crate) fn may_sign(&self) -> bool
         ensures { result ≡ may_sign self.now }
     {
-        self.is_receiving() && is_up(self.kept_word(PX_SCTL)) && !self.is_signed
+        self.is_receiving()
+            && is_up(self.kept_word(PX_SCTL))
+            && !self.is_signed
+            && !self.is_exchanged
     }
 
     /// The tags whose commands can be fetched, a bit for each.
@@ -245,7 +285,8 @@ impl Registers {
         ensures { result ≡ interrupts self.now }
     {
         let change = if self.is_exchanged { CHANGE } else { 0 };
-        self.kept_word(PX_IS) | change
+        let phy = if self.has_phy_changed { PHY_CHANGE } else { 0 };
+        self.kept_word(PX_IS) | change | phy
     }
 
     /// PxCMD.
@@ -253,7 +294,20 @@ impl Registers {
     fn command(&self) -> u32
         ensures { result ≡ port_word self.now registers.Command }
     {
-        self.kept_word(PX_CMD) + POWER + 256 * u32::from(self.current.number())
+        self.kept_word(PX_CMD)
+            + POWER
+            + 256 * u32::from(self.current.number())
+            + PACKET * u32::from(self.is_packet)
+            + LIGHT * u32::from(self.has_light)
+    }
+
+    /// PxSERR.
+    fn link_errors(&self) -> u32
+        ensures { result ≡ port_word self.now registers.SataError }
+    {
+        let exchange = if self.is_exchanged { EXCHANGE } else { 0 };
+        let phy = if self.has_phy_changed { PHY_ERROR } else { 0 };
+        exchange + phy
     }
 
     /// The word of a register of the port, at its offset.
@@ -265,9 +319,8 @@ impl Registers {
             Some(Register::Command) => self.command(),
             Some(Register::Signature) if self.is_signed => SIGNATURE,
             Some(Register::Signature) => NO_SIGNATURE,
-            Some(Register::SataStatus) => link_word(self.kept_word(PX_SCTL)),
-            Some(Register::SataError) if self.is_exchanged => EXCHANGE,
-            Some(Register::SataError) => 0,
+            Some(Register::SataStatus) => link_word(self.speed, self.kept_word(PX_SCTL)),
+            Some(Register::SataError) => self.link_errors(),
             _ => self.kept_word(offset),
         }
     }
@@ -335,6 +388,14 @@ impl Registers {
         }
     }
 
+    /// Keeps ATAPI and DLAE.
+    fn keep_options(&mut self, value: u32)
+        ensures { self.new ≡ optioned value self.old }
+    {
+        self.is_packet = value & PACKET == PACKET;
+        self.has_light = value & LIGHT == LIGHT;
+    }
+
     fn stop_if(&mut self, stops: bool)
         ensures { self.new ≡ stopped_if stops self.old }
     {
@@ -351,6 +412,7 @@ impl Registers {
         if goes {
             self.port.set_task(UNKNOWN, 0);
             self.is_signed = false;
+            self.has_phy_changed = true;
         }
     }
 
@@ -359,7 +421,10 @@ impl Registers {
         ensures { self.new ≡ found_if comes self.old }
     {
         if comes {
+            self.port.set_task(AWAITED, 0);
             self.is_exchanged = true;
+            self.has_phy_changed = true;
+            self.speed = speed_by(self.kept_word(PX_SCTL));
         }
     }
 
@@ -381,8 +446,16 @@ impl Registers {
         ensures { self.new ≡ port_written self.old registers.Command value }
     {
         self.keep(PX_CMD, value);
+        self.keep_options(value);
         self.override_if(value & OVERRIDE == OVERRIDE);
         self.stop_if(value & 1 != 1);
+    }
+
+    fn clear_errors(&mut self, value: u32)
+        ensures { self.new ≡ port_written self.old registers.SataError value }
+    {
+        self.is_exchanged = self.is_exchanged && value & EXCHANGE != EXCHANGE;
+        self.has_phy_changed = self.has_phy_changed && value & PHY_ERROR != PHY_ERROR;
     }
 
     fn write_control(&mut self, value: u32)
@@ -402,18 +475,26 @@ impl Registers {
             Some(Register::InterruptEnable) => self.keep(offset, value & ENABLED),
             Some(Register::Command) => self.write_command(value),
             Some(Register::SataControl) => self.write_control(value),
-            Some(Register::SataError) => {
-                self.is_exchanged = self.is_exchanged && value & EXCHANGE != EXCHANGE
-            }
+            Some(Register::SataError) => self.clear_errors(value),
             _ => self.keep(offset, value),
         }
+    }
+
+    /// A reset of the HBA: PxCLB and PxFB stay (AHCI 1.3.1, 10.4.3).
+    fn restart(&mut self)
+        ensures { self.new ≡ after_hba_reset self.old }
+    {
+        let (list_base, fis_base) = (self.kept_word(PX_CLB), self.kept_word(PX_FB));
+        *self = Registers::new();
+        self.keep(PX_CLB, list_base);
+        self.keep(PX_FB, fis_base);
     }
 
     fn write_generic(&mut self, offset: u32, value: u32)
         ensures { self.new ≡ generic_written self.old offset value }
     {
         match offset {
-            0x04 if value & RESET == RESET => *self = Registers::new(),
+            0x04 if value & RESET == RESET => self.restart(),
             0x04 => self.interrupts_enabled = value & ENABLE == ENABLE,
             0x08 => self.is_raised = self.is_raised && value & 1 != 1,
             _ => {}

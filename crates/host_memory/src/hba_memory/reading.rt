@@ -11,6 +11,9 @@ use byteorder::{ByteOrder, LittleEndian};
 use fis::H2D_LENGTH;
 use slots::fields::{self, DESCRIPTOR, DESCRIPTORS, HEADER};
 
+/// How many words of four bytes a command's FIS has.
+const FIS_WORDS: u8 = 5;
+
 /// What a command header names: where the command table stands, and how many descriptors it has.
 #[derive(Clone, Copy, Debug, PartialEq, Eq)]
 pub struct Header {
@@ -40,7 +43,7 @@ fn header_of(bytes: &[u8; HEADER]) -> Result<Header, Miss>
     ensures { result ≡ header_of bytes.now }
 {
     let words = fields::fis_words(bytes);
-    if words < 2 || 16 < words || fields::table_upper(bytes) != 0 {
+    if words < FIS_WORDS || 16 < words || fields::table_upper(bytes) != 0 {
         return Err(Miss::Table);
     }
     let table = fields::table_at(bytes);

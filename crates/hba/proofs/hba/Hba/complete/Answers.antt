@@ -20,14 +20,14 @@ returns-in-Err-clause-done g c =
     c.read_array.result (Err c.in-Err.miss) (sym c.header_by.ensures ∙ c.in-Err.is)
     (rw c.header_at.ensures.value at c.read_array.ensures)
     (turn_missed g.M.HostMemory.does (λ o a. CompletesFrom o a c.args.tag (expected (held_at c.args.self.now.drive.queue c.args.tag)) (Err c.in-Err.miss)) c.args.self.now c.read_array.new.memory c.miss.new.self
-    c.in-Err.miss (λ o list a. (refl, refl)) c.miss.ensures.agrees))
+    None c.in-Err.miss (λ o list a. (refl, refl)) c.miss.ensures.agrees))
 
 pub returns-clause-done : goal.returns-clause-done
 returns-clause-done g c =
     let len : c.expects-len.result ≡ expected (held_at c.args.self.now.drive.queue c.args.tag) =
     c.expects-len.ensures.stands ∙ ap (λ (s : State). expected (held_at s.drive.queue c.args.tag)) c.self.view_is in
     if_turned g.M.HostMemory.does (λ o a. Completes o a c.args.tag (expected (held_at c.args.self.now.drive.queue c.args.tag)))
-    (λ o a. ServesSo o a c.place_of-place.result (expected (held_at c.args.self.now.drive.queue c.args.tag)) (Complete c.args.tag) (Completed c.args.tag))
+    (λ o a. ServesSo o a c.place_of-place.result (expected (held_at c.args.self.now.drive.queue c.args.tag)) None (Complete c.args.tag) (Completed c.args.tag))
     c.args.self.now c.args.memory.now c.read_array.new.memory c.end.new.self c.end.new.memory c.end.result
     (λ done denied t.
     complete_header g.M.HostMemory.does c.args.self.now c.args.memory.now c.read_array.new.memory c.end.new.self c.end.new.memory done denied c.args.tag

@@ -1,5 +1,5 @@
 -- The room is taken, and put back.
-use Rattle.std.proofs.Common.{[], refl, ◌∙◌}
+use Rattle.std.proofs.Common.{[], None, refl, ◌∙◌}
 use Rattle.std.proofs.lemmas.Result.{on_err_weaker}
 use Rattle.history.specs.History.{Complete}
 use Rattle.host_memory.proofs.hba_memory.Talks.{on_err}
@@ -13,7 +13,7 @@ returns-in_err-room-clause-kept g c = on_err c.from_residual.result _ ([], tt, r
 
 pub returns-clause-done : goal.returns-clause-done
 returns-clause-done g c =
-    turn_between g.M.HostMemory.does (λ o a. ServesSo o a c.args.place c.args.len (Complete c.args.tag) (Completed c.args.tag)) c.args.self.now c.take_room.new.self c.args.memory.now
+    turn_between g.M.HostMemory.does (λ o a. ServesSo o a c.args.place c.args.len None (Complete c.args.tag) (Completed c.args.tag)) c.args.self.now c.take_room.new.self c.args.memory.now
     c.end_in-outcome.new.self c.put_back.new.self c.end_in-outcome.new.memory c.end_in-outcome.result
     c.in_ok-room.ensures.same c.put_back.ensures c.end_in-outcome.ensures.done
 

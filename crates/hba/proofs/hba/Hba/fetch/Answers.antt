@@ -17,7 +17,7 @@ returns-in-Err-clause-done g c =
     c.read_array.result (Err c.in-Err.miss) (sym c.header_by.ensures ∙ c.in-Err.is)
     (rw c.header_at.ensures.value at c.read_array.ensures)
     (turn_missed g.M.HostMemory.does (λ o a. FetchesFrom o a c.args.tag (Err c.in-Err.miss)) c.args.self.now c.read_array.new.memory c.miss.new.self
-    c.in-Err.miss (λ o list a. (refl, refl)) c.miss.ensures.agrees))
+    (Some c.args.tag) c.in-Err.miss (λ o list a. (refl, refl)) c.miss.ensures.agrees))
 
 pub returns-in_default-clause-done : goal.returns-in_default-clause-done
 returns-in_default-clause-done g c =
@@ -30,7 +30,7 @@ returns-in_default-clause-done g c =
     (dones.Fault (fault_of misses.Table)) None c.args.tag c.in-Ok.header None
     (rw (c.from.ensures, c.in_default.is) at c.read_array-2.ensures)
     (turn_missed g.M.HostMemory.does (λ o a. FetchesFis o a (place_of a.registers c.args.tag c.in-Ok.header) c.args.tag None) c.args.self.now c.read_array-2.new.memory
-    c.miss-in_default.new.self misses.Table (λ o list a. (refl, refl)) c.miss-in_default.ensures.agrees)))
+    c.miss-in_default.new.self (Some c.args.tag) misses.Table (λ o list a. (refl, refl)) c.miss-in_default.ensures.agrees)))
 
 pub returns-then-not-is_command-clause-done : goal.returns-then-not-is_command-clause-done
 returns-then-not-is_command-clause-done g c =
