@@ -5,6 +5,7 @@ ghost use Rattle.std.specs.Str.{bytes_eq};
 ghost use Rattle.script_lines.specs.Lines.{expected_text};
 
 use drive::SetError;
+use script_lines::named_lines::CallFault;
 use script_lines::{LineFault, Report, expected_text};
 use std::fmt;
 
@@ -12,6 +13,8 @@ use std::fmt;
 #[derive(Clone, Copy, Debug, PartialEq, Eq)]
 pub enum Fault {
     Line(LineFault),
+    /// The line writes a call by name, and stands for none.
+    Call(CallFault),
     LateRange,
     RefusedRow { range: u8, error: SetError },
 }
@@ -20,6 +23,7 @@ impl fmt::Display for Fault {
     fn fmt<W: fmt::Write>(&self, f: &mut fmt::Formatter<W>) -> fmt::Result {
         match *self {
             Fault::Line(fault) => write!(f, "{fault}"),
+            Fault::Call(fault) => write!(f, "{fault}"),
             Fault::LateRange => f.write_str("a range line stands behind another line"),
             Fault::RefusedRow {
                 range,

@@ -118,6 +118,11 @@ Behind a first line `port` the lines are steps of an AHCI port, with range and e
   take C T                          client C takes its answer; the slot is free
 
 A script whose first byte is # may hold comments, which are lines that begin with #, and blank lines.
+On a drive it may write calls by the names of the standards, in the session that client C received:
+  start C ID SP [AUTHORITY [PIN]]   a session by the ComID ID; a PIN is \"TEXT\" or xHEX
+  get C OBJECT [FIRST [LAST]]       columns of an object, one column, or all
+  set C OBJECT COLUMN=VALUE ..      a value is a PIN, a number or an object
+  authenticate C AUTHORITY [PIN], activate C, revert C SP, begin C, commit C, abort C, end C
 
 Status: 0 done, 1 an expectation failed, 2 a bad line, bad usage or an error";
 

@@ -5,7 +5,7 @@ use Rattle.script_lines.specs.Texts.{last_of}
 use Rattle.pictures.specs.Samples.{Sample, drive_sample, port_sample}
 use Rattle.pictures.specs.declared.samples.frame.Frame.{Frame}
 use Rattle.reasons.specs.Onsets.{bare_acts}
-use Rattle.tool.specs.Courses.{Course, Advance, DriveScript, PortScript}
+use Rattle.tool.specs.Courses.{Course, Advance, DriveScript, NamedScript, PortScript}
 use Rattle.drive_scripts.specs.DriveCourses.{OnDrive, ExplainedDrive}
 use Rattle.port_scripts.specs.PortCourses.{OnPort, ExplainedPort}
 use Rattle.tool.specs.Outcomes.{printed_by}
@@ -15,6 +15,8 @@ use Rattle.tool.specs.Scripts.{ScriptLine}
 abbrev pub sample_on : Origin → Course → Sample
 sample_on o (DriveScript (OnDrive acts)) = drive_sample o acts
 sample_on o (DriveScript (ExplainedDrive past)) = drive_sample o (bare_acts past)
+sample_on o (NamedScript known (OnDrive acts)) = drive_sample o acts
+sample_on o (NamedScript known (ExplainedDrive past)) = drive_sample o (bare_acts past)
 sample_on o (PortScript (OnPort list)) = port_sample o list
 sample_on o (PortScript (ExplainedPort list)) = port_sample o list
 

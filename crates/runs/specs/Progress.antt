@@ -10,12 +10,13 @@ use Rattle.tool.specs.Courses.{Course, Advance, PhaseRunsOn, PhaseStands, start}
 use Rattle.tool.specs.Progress.{HandsOn}
 use Rattle.tool.specs.declared.ending.End.{End}
 use Rattle.drive_scripts.specs.declared.turn.Fault.{Fault}
+use Rattle.tool.specs.declared.head.ScriptKind.{ScriptKind}
 use Rattle.tool.specs.declared.opening.OpeningPhase.{OpeningPhase}
 use Rattle.tool.specs.declared.opening.OpeningPhase.TheVariants.{Factory}
 use Rattle.tool.specs.declared.opening.OpeningTurn.{OpeningTurn}
 use Rattle.tool.specs.declared.opening.OpeningTurn.TheVariants as openings
 use Rattle.tool.specs.declared.phase.Phase.{Phase}
-use Rattle.tool.specs.Scripts.{ScriptLine, without_remarks, lines_from}
+use Rattle.tool.specs.Scripts.{ScriptLine, drive_kind, without_remarks, lines_from}
 use Rattle.runs.specs.Frames.{frame_behind}
 use Rattle.runs.specs.Recordings.{Recording, stops, preceded, recording_on, recording_opened, recording_from, recording_of_lines, recording_by}
 use Rattle.runs.specs.declared.recorded.front.Front.{Front}
@@ -84,27 +85,28 @@ ScriptEnds explains config left end old new before after held holds =
 
 -- what lines come to behind what stood in front of them
 abbrev pub front_recording : Bool → Front → List ScriptLine → Recording
-front_recording explains (fronts.Bare phase) lines = recording_of_lines explains phase lines
-front_recording explains (fronts.Told on_port phase) lines =
-    recording_from explains on_port phase lines
+front_recording explains (fronts.Bare kind phase) lines =
+    recording_of_lines explains kind phase lines
+front_recording explains (fronts.Told kind phase) lines =
+    recording_from explains kind phase lines
 
 abbrev pub line_at : ℕ → List ℕ → ScriptLine
 line_at number text = record { number = number; text = text }
 
 -- what an opening turn comes to, whatever the line's number is, and the lines behind it
-abbrev pub OpensSo : Bool → Bool → OpeningPhase → List ℕ → OpeningTurn → Type 0
-OpensSo explains on_port phase text (openings.Goes next) =
+abbrev pub OpensSo : Bool → ScriptKind → OpeningPhase → List ℕ → OpeningTurn → Type 0
+OpensSo explains kind phase text (openings.Goes next) =
     (number : ℕ) (lines : List ScriptLine)
-    → recording_from explains on_port phase (line_at number text ∷ lines)
-    ≡ recording_from explains on_port next lines
-OpensSo explains on_port phase text (openings.Runs run) =
-    (o : Origin) × PhaseRunsOn run o (start explains on_port)
+    → recording_from explains kind phase (line_at number text ∷ lines)
+    ≡ recording_from explains kind next lines
+OpensSo explains kind phase text (openings.Runs run) =
+    (o : Origin) × PhaseRunsOn run o (start explains kind)
     × ((number : ℕ) (lines : List ScriptLine)
-    → recording_from explains on_port phase (line_at number text ∷ lines)
-    ≡ recording_opened o (start explains on_port) (line_at number text ∷ lines))
-OpensSo explains on_port phase text (openings.Bad fault) =
+    → recording_from explains kind phase (line_at number text ∷ lines)
+    ≡ recording_opened o (start explains kind) (line_at number text ∷ lines))
+OpensSo explains kind phase text (openings.Bad fault) =
     (number : ℕ) (lines : List ScriptLine)
-    → recording_from explains on_port phase (line_at number text ∷ lines) ≡ stops 2
+    → recording_from explains kind phase (line_at number text ∷ lines) ≡ stops 2
 
 -- what a line in front comes to
 abbrev pub TurnsSo : Bool → Bool → Front → List ℕ → FrontTurn → Type 0
@@ -113,29 +115,29 @@ TurnsSo explains remarks front text (turns.Goes next) =
     → front_recording explains front (without_remarks remarks (line_at number text ∷ lines))
     ≡ front_recording explains next (without_remarks remarks lines)
 TurnsSo explains remarks front text (turns.Runs run) =
-    (o : Origin) × (on_port : Bool) × PhaseRunsOn run o (start explains on_port)
+    (o : Origin) × (kind : ScriptKind) × PhaseRunsOn run o (start explains kind)
     × ((number : ℕ) (lines : List ScriptLine)
     → front_recording explains front (without_remarks remarks (line_at number text ∷ lines))
-    ≡ recording_opened o (start explains on_port)
+    ≡ recording_opened o (start explains kind)
     (without_remarks remarks (line_at number text ∷ lines)))
 TurnsSo explains remarks front text (turns.Bad fault) =
     (number : ℕ) (lines : List ScriptLine)
     → front_recording explains front (without_remarks remarks (line_at number text ∷ lines))
     ≡ stops 2
 
--- an opening turn as that of a line in front
-abbrev pub front_turn : Bool → OpeningTurn → FrontTurn
-front_turn on_port (openings.Goes phase) = turns.Goes (fronts.Told on_port phase)
-front_turn on_port (openings.Runs run) = turns.Runs run
-front_turn on_port (openings.Bad fault) = turns.Bad fault
+-- an opening turn as that of a line in front, in a script of this kind
+abbrev pub front_turn : ScriptKind → OpeningTurn → FrontTurn
+front_turn kind (openings.Goes phase) = turns.Goes (fronts.Told kind phase)
+front_turn kind (openings.Runs run) = turns.Runs run
+front_turn kind (openings.Bad fault) = turns.Bad fault
 
 -- what the lines in front leave to come
 abbrev pub FrontComesTo : Bool → Bool → Opened → Recording → List ℕ → Option (List ℕ) → Type 0
 FrontComesTo explains remarks (Ended end) whole line left = whole ≡ stops (exit_status end)
 FrontComesTo explains remarks (Runs run lines) whole line left =
-    (o : Origin) × (on_port : Bool) × (text : List ℕ) × PhaseRunsOn run o (start explains on_port)
+    (o : Origin) × (kind : ScriptKind) × (text : List ℕ) × PhaseRunsOn run o (start explains kind)
     × (left ≡ Some text)
-    × (whole ≡ recording_opened o (start explains on_port) (lines_from remarks lines line text))
+    × (whole ≡ recording_opened o (start explains kind) (lines_from remarks lines line text))
 
 -- where the line at hand is in front of this text
 abbrev pub FrontLeads : Bool → Bool → Opened → OpeningPhase → List ℕ → Option (List ℕ) → List ℕ
@@ -143,7 +145,8 @@ abbrev pub FrontLeads : Bool → Bool → Opened → OpeningPhase → List ℕ �
 FrontLeads explains remarks opened phase first before line left =
     IfSome before
     (λ text. FrontComesTo explains remarks opened
-    (recording_of_lines explains phase (lines_from remarks 0 first text)) line left)
+    (recording_of_lines explains (drive_kind remarks) phase (lines_from remarks 0 first text)) line
+    left)
 
 -- this is the status; the text is written behind what was written before, and the frames are held
 pub record RecordsAs (recording : Recording) (ended : ℕ) (before after : Option (List ℕ))

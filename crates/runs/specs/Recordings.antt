@@ -9,9 +9,11 @@ use Rattle.script_lines.specs.Texts.{last_of}
 use Rattle.script_lines.specs.declared.fault.LineFault.{LineFault}
 use Rattle.pictures.specs.declared.samples.frame.Frame.{Frame}
 use Rattle.tool.specs.Outcomes.{printed_by}
-use Rattle.tool.specs.Scripts.{ScriptLine, effective_lines, script_lines}
+use Rattle.tool.specs.Scripts.{ScriptLine, effective_lines, script_lines, kind_of_script}
 use Rattle.tool.specs.Openings.{origin_of, base_of, row_said}
 use Rattle.tool.specs.Courses.{Course, Advance, course_step, start}
+use Rattle.tool.specs.declared.head.ScriptKind.{ScriptKind}
+use Rattle.tool.specs.declared.head.ScriptKind.TheVariants as kinds
 use Rattle.tool.specs.declared.opening.OpeningPhase.{OpeningPhase}
 use Rattle.tool.specs.declared.opening.OpeningPhase.TheVariants.{Factory, Activated}
 use Rattle.runs.specs.Frames.{frame_behind, opening_frame}
@@ -72,26 +74,28 @@ abbrev pub row_read : (OpeningPhase → Recording) → Recording → OpeningPhas
 row_read then_comes runs phase (Ok row) = row_given then_comes runs phase row
 row_read then_comes runs phase (Err fault) = stops 2
 
--- what lines come to behind what range lines made so far: whether reasons are told, and whether it is
--- on a port
-unfoldable pub recording_from : Bool → Bool → OpeningPhase → List ScriptLine → Recording
-recording_from explains on_port phase [] = stops 0
-recording_from explains on_port phase (line ∷ lines) =
-    row_read (λ next. recording_from explains on_port next lines)
-    (recording_opened (origin_of phase) (start explains on_port) (line ∷ lines)) phase
-    (row_said on_port line.text)
+-- what lines come to behind what range lines made so far: whether reasons are told, and what the lines
+-- are
+unfoldable pub recording_from : Bool → ScriptKind → OpeningPhase → List ScriptLine → Recording
+recording_from explains kind phase [] = stops 0
+recording_from explains kind phase (line ∷ lines) =
+    row_read (λ next. recording_from explains kind next lines)
+    (recording_opened (origin_of phase) (start explains kind) (line ∷ lines)) phase
+    (row_said kind line.text)
 
--- what lines come to: behind the line `port` stand those of a port script
-abbrev pub recording_of_lines : Bool → OpeningPhase → List ScriptLine → Recording
-recording_of_lines explains phase [] = stops 0
-recording_of_lines explains phase (first ∷ lines) =
-    if is_port_line first.text then recording_from explains true phase lines
-    else recording_from explains false phase (first ∷ lines)
+-- what lines come to, which are of this kind, unless the first is `port`: behind it stand those of a
+-- port script
+abbrev pub recording_of_lines : Bool → ScriptKind → OpeningPhase → List ScriptLine → Recording
+recording_of_lines explains kind phase [] = stops 0
+recording_of_lines explains kind phase (first ∷ lines) =
+    if is_port_line first.text then recording_from explains kinds.Port phase lines
+    else recording_from explains kind phase (first ∷ lines)
 
 -- what a script comes to on a drive of this configuration, with reasons or without
 abbrev pub recording_by : Bool → Config → List ℕ → Recording
 recording_by explains config text =
-    recording_of_lines explains (Factory config) (effective_lines (script_lines text))
+    recording_of_lines explains (kind_of_script (script_lines text)) (Factory config)
+    (effective_lines (script_lines text))
 
 abbrev pub recording_of : Config → List ℕ → Recording
 recording_of config text = recording_by false config text

@@ -7,7 +7,9 @@ use Rattle.script_lines.specs.PortLines.{is_port_line}
 use Rattle.script_lines.specs.declared.fault.LineFault.{LineFault}
 use Rattle.tool.specs.Openings.{row_said}
 use Rattle.tool.specs.Outcomes.{RunOutcome, Yields, ends, run_outcome_of}
-use Rattle.tool.specs.Scripts.{script_lines}
+use Rattle.tool.specs.Scripts.{script_lines, kind_of_script}
+use Rattle.tool.specs.declared.head.ScriptKind.{ScriptKind}
+use Rattle.tool.specs.declared.head.ScriptKind.TheVariants.{Port}
 use Rattle.runs.specs.Alphabets.{opening_lines_text, opening_size, letters_of, is_letter}
 use Rattle.runs.specs.Lists.{findings_of}
 use Rattle.runs.specs.declared.explored.findings.Findings.{Findings}
@@ -39,14 +41,18 @@ is_none_behind (Ok None) = false
 is_none_behind (Ok (Some row)) = true
 is_none_behind (Err fault) = true
 
+-- what the lines behind the opening are
+abbrev pub kind_behind : List (List ℕ) → ScriptKind
+kind_behind lines =
+    if list_any is_port_line (take (opening_size lines) lines) then Port else kind_of_script lines
+
 -- a letter that cannot stand behind the opening
-abbrev pub is_wrong_letter : Bool → List ℕ → Bool
-is_wrong_letter on_port line = is_letter line && is_none_behind (row_said on_port line)
+abbrev pub is_wrong_letter : ScriptKind → List ℕ → Bool
+is_wrong_letter kind line = is_letter line && is_none_behind (row_said kind line)
 
 abbrev pub has_wrong_letter : List (List ℕ) → Bool
 has_wrong_letter lines =
-    list_any (is_wrong_letter (list_any is_port_line (take (opening_size lines) lines)))
-    (drop (opening_size lines) lines)
+    list_any (is_wrong_letter (kind_behind lines)) (drop (opening_size lines) lines)
 
 -- there is nothing to explore
 abbrev pub is_unfit : List (List ℕ) → Bool

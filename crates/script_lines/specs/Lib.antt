@@ -15,4 +15,6 @@ pub mod Faults
 pub mod Laws
 pub mod Phrases
 pub mod Calls
+pub mod CallVerbs
 pub mod Said
+pub mod KnownSessions

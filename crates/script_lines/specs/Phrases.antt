@@ -1,5 +1,5 @@
 -- What the words of a phrase write: numbers, bytes, objects and columns.
-use Rattle.std.specs.Prelude.{◌==◌, ◌-◌, ◌^◌, ℕ, suc, List, [], ◌∷◌, take, drop, length, Option, None, Some, option_map, Result, Ok, Err, if◌then◌else◌}
+use Rattle.std.specs.Prelude.{◌==◌, ◌-◌, ◌+◌, ◌^◌, ℕ, suc, List, [], ◌∷◌, take, drop, length, Option, None, Some, option_map, Result, Ok, Err, if◌then◌else◌}
 use Rattle.std.specs.Option.{option_or}
 use Rattle.std.specs.Str.{is_utf8}
 use Rattle.hex.specs.Hex.{decode_of}
@@ -17,10 +17,24 @@ abbrev pub hex_or_none : Result (List ℕ) FromHexError → Option (List ℕ)
 hex_or_none (Ok content) = Some content
 hex_or_none (Err fault) = None
 
--- `"` and a text, or `x` and hex digits
+-- how many bytes stand before the first that is this one
+abbrev pub first_place : ℕ → List ℕ → ℕ
+first_place sign [] = 0
+first_place sign (byte ∷ text) = if byte == sign then 0 else suc (first_place sign text)
+
+-- the byte `"`, and a text in front of one, which is its last byte and its only one
+abbrev pub quote : ℕ
+quote = 34
+
+abbrev pub between_quotes : List ℕ → Option (List ℕ)
+between_quotes text =
+    if first_place quote text + 1 == length text
+    then Some (take (first_place quote text) text) else None
+
+-- a text between `"`, or `x` and hex digits
 abbrev pub marked_bytes : ℕ → List ℕ → Option (List ℕ)
 marked_bytes mark text =
-    if mark == 34 then Some text else
+    if mark == quote then between_quotes text else
     if mark == 120 then hex_or_none (decode_of text) else None
 
 abbrev pub bytes_said : List ℕ → Option (List ℕ)
@@ -41,20 +55,18 @@ value_said word =
     option_or (option_map number (number_up_to (2 ^ 64 - 1) word))
     (option_or (option_map bytes (bytes_said word)) (option_map uid_tree (object_said word)))
 
--- how many bytes stand before the first `=`
-abbrev pub sign_place : List ℕ → ℕ
-sign_place [] = 0
-sign_place (byte ∷ text) = if byte == 61 then 0 else suc (sign_place text)
+-- COLUMN=VALUE: the byte between them
+abbrev pub equals_sign : ℕ
+equals_sign = 61
 
--- COLUMN=VALUE
 abbrev pub cell_tree_of : Option Column → Option Tree → Option Tree
 cell_tree_of (Some column) (Some value) = Some (named (number column.0) value)
 cell_tree_of _ _ = None
 
 abbrev pub cell_said : ℕ → List ℕ → Option Tree
 cell_said table word =
-    cell_tree_of (column_said table (take (sign_place word) word))
-    (value_said (drop 1 (drop (sign_place word) word)))
+    cell_tree_of (column_said table (take (first_place equals_sign word) word))
+    (value_said (drop 1 (drop (first_place equals_sign word) word)))
 
 -- no word, or one that says something
 abbrev pub if_any : {A : Type 0} → (List ℕ → Option A) → List ℕ → Option (Option A)

@@ -6,10 +6,9 @@
 --   activate C, revert C SP             Activate of the Locking SP; Revert of an SP
 --   begin C, commit C, abort C          a transaction
 --   end C                               the session ends
--- An object, a column and an SP are told by the names of the standards. PIN is `"` and a text without blanks, or `x` and hex
--- digits; VALUE is such bytes, a decimal number, or an object.
-use Rattle.std.specs.Prelude.{◌==◌, ◌-◌, ◌^◌, ℕ, zero, suc, Bool, true, false, List, [], ◌∷◌, length, codes, Option, None, Some, option_map, option_and_then, if◌then◌else◌}
-use Rattle.std.specs.Str.{bytes_eq}
+-- An object, a column and an SP are told by the names of the standards. PIN is a text between `"`, without blanks and without
+-- `"`, or `x` and hex digits; VALUE is such bytes, a decimal number, or an object.
+use Rattle.std.specs.Prelude.{◌==◌, ◌-◌, ◌^◌, ℕ, zero, suc, Bool, true, false, List, [], ◌∷◌, length, Option, None, Some, option_map, option_and_then, if◌then◌else◌}
 use Rattle.tcg_tokens.specs.Tree.{Tree}
 use Rattle.tcg_tokens.specs.Message.{Message, end_session, begin, end}
 use Rattle.tcg_tokens.specs.Writable.{is_writable}
@@ -19,7 +18,10 @@ use Rattle.sp_cells.specs.declared.names.Column.{Column}
 use Rattle.sp_cells.specs.Names.{table_of}
 use Rattle.script_lines.specs.Numbers.{number_up_to}
 use Rattle.script_lines.specs.Words.{first_word, after_word, nth_word, after_words}
+use Rattle.script_lines.specs.CallVerbs.{call_verb_of, begins_session}
 use Rattle.script_lines.specs.declared.named_lines.line.NamedLine.{NamedLine}
+use Rattle.script_lines.specs.declared.named_lines.verb.CallVerb.{CallVerb}
+use Rattle.script_lines.specs.declared.named_lines.verb.CallVerb.TheVariants as verbs
 use Rattle.script_lines.specs.Phrases.{bytes_said, object_said, column_said, cell_said, if_any}
 use Rattle.script_lines.specs.Calls.{start_call, get_call, set_call, authenticate_call, activate_call, revert_call}
 
@@ -95,24 +97,23 @@ revert_of left (Some sp) = message_ended left (revert_call sp)
 abbrev pub revert_said : List ℕ → Option Message
 revert_said rest = revert_of (nth_word 1 rest) (object_said (nth_word 0 rest))
 
-abbrev pub phrase_behind : List ℕ → List ℕ → Option Message
-phrase_behind verb rest =
-    if bytes_eq verb (codes "start") then start_said rest else
-    if bytes_eq verb (codes "get") then get_said rest else
-    if bytes_eq verb (codes "set") then set_said rest else
-    if bytes_eq verb (codes "authenticate") then authenticate_said rest else
-    if bytes_eq verb (codes "activate") then message_ended (first_word rest) activate_call else
-    if bytes_eq verb (codes "revert") then revert_said rest else
-    if bytes_eq verb (codes "begin") then message_ended (first_word rest) (begin 0) else
-    if bytes_eq verb (codes "commit") then message_ended (first_word rest) (end 0) else
-    if bytes_eq verb (codes "abort") then message_ended (first_word rest) (end 1) else
-    if bytes_eq verb (codes "end") then message_ended (first_word rest) end_session else None
+abbrev pub phrase_behind : CallVerb → List ℕ → Option Message
+phrase_behind verbs.Start rest = start_said rest
+phrase_behind verbs.Get rest = get_said rest
+phrase_behind verbs.Set rest = set_said rest
+phrase_behind verbs.Authenticate rest = authenticate_said rest
+phrase_behind verbs.Activate rest = message_ended (first_word rest) activate_call
+phrase_behind verbs.Revert rest = revert_said rest
+phrase_behind verbs.Begin rest = message_ended (first_word rest) (begin 0)
+phrase_behind verbs.Commit rest = message_ended (first_word rest) (end 0)
+phrase_behind verbs.Abort rest = message_ended (first_word rest) (end 1)
+phrase_behind verbs.End rest = message_ended (first_word rest) end_session
 
 -- the tokens, where they can be written
 abbrev pub tokens_of_message : Message → Option (List ℕ)
 tokens_of_message m = if is_writable m then Some (item_spelling_of m) else None
 
-abbrev pub tokens_behind : List ℕ → List ℕ → Option (List ℕ)
+abbrev pub tokens_behind : CallVerb → List ℕ → Option (List ℕ)
 tokens_behind verb rest = option_and_then tokens_of_message (phrase_behind verb rest)
 
 -- a ComID stands in a line that begins a session
@@ -129,12 +130,16 @@ abbrev pub words_in_front : Bool → ℕ
 words_in_front true = 3
 words_in_front false = 2
 
--- what a line says: whose session it is, and the tokens that go there
-abbrev pub line_of_verb : Bool → List ℕ → Option NamedLine
-line_of_verb starts text =
+-- what a line of this verb says: whose session it is, and the tokens that go there
+abbrev pub line_of_verb : CallVerb → List ℕ → Option NamedLine
+line_of_verb verb text =
     line_of_parts (number_up_to (2 ^ 32 - 1) (nth_word 1 text))
-    (com_id_said starts (nth_word 2 text))
-    (tokens_behind (first_word text) (after_words (words_in_front starts) text))
+    (com_id_said (begins_session verb) (nth_word 2 text))
+    (tokens_behind verb (after_words (words_in_front (begins_session verb)) text))
+
+abbrev pub line_if_any : Option CallVerb → List ℕ → Option NamedLine
+line_if_any None text = None
+line_if_any (Some verb) text = line_of_verb verb text
 
 abbrev pub named_line_said : List ℕ → Option NamedLine
-named_line_said text = line_of_verb (bytes_eq (first_word text) (codes "start")) text
+named_line_said text = line_if_any (call_verb_of (first_word text)) text

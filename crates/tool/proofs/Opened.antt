@@ -15,5 +15,5 @@ opened-stands head phase (Some row) (openings.Goes next) does = tt
 opened-stands head phase (Some row) (openings.Runs run) does = absurd does
 opened-stands head phase (Some row) (openings.Bad fault) does = tt
 opened-stands head phase None (openings.Goes next) does = tt
-opened-stands head phase None (openings.Runs run) does = (origin_of phase, start head.explains head.on_port, does)
+opened-stands head phase None (openings.Runs run) does = (origin_of phase, start head.explains head.kind, does)
 opened-stands head phase None (openings.Bad fault) does = tt

@@ -11,7 +11,7 @@ use Rattle.script_lines.specs.PortLines.{is_port_line}
 use Rattle.script_lines.specs.Texts.{last_of}
 use Rattle.script_lines.specs.declared.fault.LineFault.{LineFault}
 use Rattle.script_lines.specs.declared.report.Report.{Report}
-use Rattle.tool.specs.Scripts.{ScriptLine, with_numbers, bare, lines_of_text, script_lines, may_hold_remarks, is_skipped, without_remarks, effective_lines, lines_from, TakesLine}
+use Rattle.tool.specs.Scripts.{ScriptLine, with_numbers, bare, lines_of_text, script_lines, may_hold_remarks, drive_kind, kind_of_script, is_skipped, without_remarks, effective_lines, lines_from, TakesLine}
 use Rattle.tool.specs.Courses.{Course, Advance, Advances, PhaseRunsOn, PhaseStands, course_step, start}
 use Rattle.tool.specs.Openings.{origin_of, base_of, row_said, OpensBy}
 use Rattle.tool.specs.Ends.{exit_status}
@@ -28,6 +28,8 @@ use Rattle.tool.specs.declared.opening.OpeningTurn.TheVariants as openings
 use Rattle.tool.specs.declared.phase.Phase.{Phase}
 use Rattle.drive_scripts.specs.declared.turn.Turn.{Turn}
 use Rattle.tool.specs.declared.head.Head.{Head}
+use Rattle.tool.specs.declared.head.ScriptKind.{ScriptKind}
+use Rattle.tool.specs.declared.head.ScriptKind.TheVariants as kinds
 use Rattle.tool.specs.declared.script.Opened.{Opened}
 use Rattle.drive_scripts.specs.declared.turn.Turn.TheVariants as turns
 use Rattle.tool.proofs.SkippedLines.{skips-first, keeps-first}
@@ -337,28 +339,28 @@ none-at-hand remarks count whole o run last line left later was now pending afte
 
 -- what lines come to behind what range lines made so far, and where what runs starts
 abbrev from : Head → OpeningPhase → List ScriptLine → RunOutcome
-from head = outcome_from head.explains head.on_port
+from head = outcome_from head.explains head.kind
 
 abbrev at-start : Head → Course
-at-start head = start head.explains head.on_port
+at-start head = start head.explains head.kind
 
 -- of a whole script this is still to come, where the line at hand is in front, behind so many others
 abbrev pub StillOpens : Head → ℕ → RunOutcome → OpeningPhase → List ℕ → Option (List ℕ) → Type 0
 StillOpens head count whole phase line left =
     (text : List ℕ) × (left ≡ Some text)
-    × (whole ≡ outcome_from head.explains head.on_port phase (lines_from head.remarks count line text))
+    × (whole ≡ outcome_from head.explains head.kind phase (lines_from head.remarks count line text))
 
 -- or with no line at hand
 abbrev pub OpensOn : Head → ℕ → RunOutcome → OpeningPhase → Option (List ℕ) → Type 0
 OpensOn head count whole phase left =
     (text : List ℕ) × (left ≡ Some text)
-    × (whole ≡ outcome_from head.explains head.on_port phase
+    × (whole ≡ outcome_from head.explains head.kind phase
     (without_remarks head.remarks (with_numbers count (script_lines text))))
 
 pub opens-all : (left : Option (List ℕ)) (head : Head) (count : ℕ) (phase : OpeningPhase) (line : List ℕ)
     → IfSome left
     (λ text. StillOpens head count
-    (outcome_from head.explains head.on_port phase (lines_from head.remarks count line text)) phase line left)
+    (outcome_from head.explains head.kind phase (lines_from head.remarks count line text)) phase line left)
 opens-all None head count phase line = tt
 opens-all (Some text) head count phase line = (text, refl, refl)
 
@@ -366,8 +368,8 @@ opens-all (Some text) head count phase line = (text, refl, refl)
 abbrev pub OpeningLeads : Head → ℕ → OpeningTurn → RunOutcome → List ℕ → Option (List ℕ) → Type 0
 OpeningLeads head count (openings.Goes next) whole line left = OpensOn head (count + 1) whole next left
 OpeningLeads head count (openings.Runs run) whole line left =
-    (o : Origin) × (rest : List ℕ) × PhaseRunsOn run o (start head.explains head.on_port) × (left ≡ Some rest)
-    × (whole ≡ outcome_on o (start head.explains head.on_port) [] (lines_from head.remarks count line rest))
+    (o : Origin) × (rest : List ℕ) × PhaseRunsOn run o (start head.explains head.kind) × (left ≡ Some rest)
+    × (whole ≡ outcome_on o (start head.explains head.kind) [] (lines_from head.remarks count line rest))
 OpeningLeads head count (openings.Bad fault) whole line left = whole ≡ ends 2
 
 -- the lines behind the one at hand
@@ -415,10 +417,10 @@ row-led head count None (openings.Bad fault) whole phase line rest left is stays
 line-led : (head : Head) (count : ℕ) (read : Result (Option RangeRow) LineFault) (turn : OpeningTurn)
     (whole : RunOutcome) (phase : OpeningPhase) (line rest : List ℕ) (left : Option (List ℕ))
     → left ≡ Some rest → is_skipped head.remarks (bare line) ≡ false
-    → row_said head.on_port (bare line) ≡ read
-    → ((row : Option RangeRow) → row_said head.on_port (bare line) ≡ Ok row
+    → row_said head.kind (bare line) ≡ read
+    → ((row : Option RangeRow) → row_said head.kind (bare line) ≡ Ok row
     → OpensBy head phase row turn)
-    → ((fault : LineFault) → row_said head.on_port (bare line) ≡ Err fault
+    → ((fault : LineFault) → row_said head.kind (bare line) ≡ Err fault
     → turn ≡ openings.Bad (faults.Line fault))
     → whole ≡ opened-then head count phase line rest read
     → OpeningLeads head count turn whole line left
@@ -431,7 +433,7 @@ line-led head count (Err fault) turn whole phase line rest left is stays reads d
 outcome-opens : (head : Head) (count : ℕ) (phase : OpeningPhase) (line rest : List ℕ)
     → is_skipped head.remarks (bare line) ≡ false
     → from head phase (lines_from head.remarks count line rest)
-    ≡ opened-then head count phase line rest (row_said head.on_port (bare line))
+    ≡ opened-then head count phase line rest (row_said head.kind (bare line))
 unfolding outcome_from
 outcome-opens head count phase line rest stays =
     ap (from head phase) (keeps-first head.remarks count (bare line) (script_lines rest) stays)
@@ -443,10 +445,10 @@ turned-by : {E : Type 0} (skipped : Bool) (head : Head) (count : ℕ) (turn : Op
     → (is_skipped head.remarks (bare line) ≡ true
     → ◌≡◌ {A = Result OpeningTurn E} (Ok turn) (Ok (openings.Goes phase)))
     → (is_skipped head.remarks (bare line) ≡ false
-    → (row : Option RangeRow) → row_said head.on_port (bare line) ≡ Ok row
+    → (row : Option RangeRow) → row_said head.kind (bare line) ≡ Ok row
     → OpensBy head phase row turn)
     → (is_skipped head.remarks (bare line) ≡ false
-    → (fault : LineFault) → row_said head.on_port (bare line) ≡ Err fault
+    → (fault : LineFault) → row_said head.kind (bare line) ≡ Err fault
     → ◌≡◌ {A = Result OpeningTurn E} (Ok turn) (Ok (openings.Bad (faults.Line fault))))
     → whole ≡ from head phase (lines_from head.remarks count line rest)
     → OpeningLeads head count turn whole line left
@@ -459,7 +461,7 @@ turned-by true head count turn whole phase line rest left is skipped goes does b
           (skips-first head.remarks count (bare line) (script_lines rest) skipped),
     )
 turned-by false head count turn whole phase line rest left is stays goes does bad comes =
-    line-led head count (row_said head.on_port (bare line)) turn whole phase line rest left is stays refl
+    line-led head count (row_said head.kind (bare line)) turn whole phase line rest left is stays refl
     (does stays)
     (λ fault reads. cc (bad stays fault reads))
     (comes ∙ outcome-opens head count phase line rest stays)
@@ -470,15 +472,15 @@ pub opening-turned : {E : Type 0} (head : Head) (count : ℕ) (turn : OpeningTur
     → (is_skipped head.remarks text ≡ true
     → ◌≡◌ {A = Result OpeningTurn E} (Ok turn) (Ok (openings.Goes phase)))
     → (is_skipped head.remarks text ≡ false
-    → (row : Option RangeRow) → row_said head.on_port text ≡ Ok row
+    → (row : Option RangeRow) → row_said head.kind text ≡ Ok row
     → OpensBy head phase row turn)
     → (is_skipped head.remarks text ≡ false
-    → (fault : LineFault) → row_said head.on_port text ≡ Err fault
+    → (fault : LineFault) → row_said head.kind text ≡ Err fault
     → ◌≡◌ {A = Result OpeningTurn E} (Ok turn) (Ok (openings.Bad (faults.Line fault))))
     → OpeningLeads head count turn whole line left
 opening-turned {E} head count turn whole phase line text left shown (all, is, comes) goes does bad =
     let skipped = ap (is_skipped head.remarks) shown in
-    let read = ap (row_said head.on_port) shown in
+    let read = ap (row_said head.kind) shown in
     turned-by {E = E} (is_skipped head.remarks (bare line)) head count turn whole phase line all left is refl
     (λ yes. goes (skipped ∙ yes))
     (λ stays row reads. does (skipped ∙ stays) row (read ∙ reads))
@@ -578,6 +580,14 @@ effective-from line text shown now remarks takes is held =
     (with_numbers 0 (bare line ∷ script_lines (drop_through 10 text))))
     (ap may_hold_remarks (sym is) ∙ sym held)
 
+-- and so whether lines may write calls by name
+kind-from : (line text shown : List ℕ) (now : Option (List ℕ)) (remarks : Bool)
+    → TakesLine true line text now → shown ≡ bare line → remarks ≡ may_hold_remarks shown
+    → drive_kind remarks ≡ kind_of_script (script_lines text)
+kind-from line text shown now remarks takes is held =
+    ap drive_kind (held ∙ ap may_hold_remarks is)
+    ∙ sym (ap kind_of_script (taken (Some text) now line text refl takes).1)
+
 -- all lines are skipped
 pub begins-none : (explains remarks : Bool) (found : Option ℕ) (line next shown : List ℕ)
     (old now new : Option (List ℕ)) → found ≡ None
@@ -601,13 +611,13 @@ begins-none explains remarks found line next shown (Some text) now new none take
 pub begins-some : (explains : Bool) (head : Head) (found : Option ℕ) (line next shown : List ℕ)
     (old now new : Option (List ℕ)) → found ≡ Some head.lines
     → IfSome old (λ text. TakesLine true line text now)
-    → shown ≡ bare line → head.remarks ≡ may_hold_remarks shown → head.on_port ≡ false
+    → shown ≡ bare line → head.remarks ≡ may_hold_remarks shown → head.kind ≡ drive_kind head.remarks
     → head.explains ≡ explains
     → IfSome now
     (λ text. SkipsTo head.remarks found (with_numbers 0 (bare line ∷ script_lines text)) next new)
     → IfSome old (λ text. BeginsScript explains (Some head) text next new)
-begins-some explains head found line next shown None now new some takes is held drive so to = tt
-begins-some explains head found line next shown (Some text) now new some takes is held drive so to =
+begins-some explains head found line next shown None now new some takes is held kind so to = tt
+begins-some explains head found line next shown (Some text) now new some takes is held kind so to =
     let left : now ≡ Some (drop_through 10 text) = (taken (Some text) now line text refl takes).0 in
     let lines = λ (text : List ℕ). with_numbers 0 (bare line ∷ script_lines text) in
     let first : SkipsTo head.remarks (Some head.lines) (lines (drop_through 10 text)) next new =
@@ -618,7 +628,7 @@ begins-some explains head found line next shown (Some text) now new some takes i
       first.0,
       first.1,
       first.2,
-      drive,
+      kind ∙ kind-from line text shown now head.remarks takes is held,
       so,
       effective-from line text shown now head.remarks takes is held ∙ first.3,
     )
@@ -629,42 +639,43 @@ pub nothing-first : (explains : Bool) (line : List ℕ) (old new : Option (List 
     → IfSome old (λ text. FirstLine explains None text line new)
 nothing-first explains line None new begins = tt
 nothing-first explains line (Some text) new begins =
-    λ config. ap (outcome_of_lines explains config) begins
+    λ config. ap (outcome_of_lines explains (kind_of_script (script_lines text)) config) begins
 
-outcome-comes : (explains : Bool) (head : Head) (line rest shown : List ℕ) (config : Config) (port : Bool)
-    → shown ≡ bare line → is_port_line shown ≡ port
+outcome-comes : (explains : Bool) (kind : ScriptKind) (head : Head) (line rest shown : List ℕ) (config : Config)
+    (port : Bool) → shown ≡ bare line → is_port_line shown ≡ port
     → is_skipped head.remarks (bare line) ≡ false
-    → outcome_of_lines explains config (lines_from head.remarks head.lines line rest)
-    ≡ (if port then outcome_from explains true (Factory config) (later-lines head head.lines rest)
-    else outcome_from explains false (Factory config)
+    → outcome_of_lines explains kind config (lines_from head.remarks head.lines line rest)
+    ≡ (if port then outcome_from explains kinds.Port (Factory config) (later-lines head head.lines rest)
+    else outcome_from explains kind (Factory config)
     (line-at head.lines (bare line) ∷ later-lines head head.lines rest))
-outcome-comes explains head line rest shown config port is told stays =
+outcome-comes explains kind head line rest shown config port is told stays =
     let lines = later-lines head head.lines rest in
-    ap (outcome_of_lines explains config)
+    ap (outcome_of_lines explains kind config)
     (keeps-first head.remarks head.lines (bare line) (script_lines rest) stays)
     ∙ ap
-    (λ (b : Bool). if b then outcome_from explains true (Factory config) lines
-    else outcome_from explains false (Factory config) (line-at head.lines (bare line) ∷ lines))
+    (λ (b : Bool). if b then outcome_from explains kinds.Port (Factory config) lines
+    else outcome_from explains kind (Factory config) (line-at head.lines (bare line) ∷ lines))
     (ap is_port_line (sym is) ∙ told)
 
 pub drive-first : (explains : Bool) (head : Head) (line shown : List ℕ) (old new : Option (List ℕ))
     → IfSome old (λ text. BeginsScript explains (Some head) text line new) → shown ≡ bare line
     → is_port_line shown ≡ false → IfSome old (λ text. FirstLine explains (Some head) text line new)
 drive-first explains head line shown None new begins is other = tt
-drive-first explains head line shown (Some text) new (rest, at, stays, drive, so, comes) is other = (
+drive-first explains head line shown (Some text) new (rest, at, stays, kind, so, comes) is other = (
   rest,
   at,
   λ config.
-      ap (outcome_of_lines explains config) comes
-      ∙ outcome-comes explains head line rest shown config false is other stays
-      ∙ ap (outcome_from explains false (Factory config))
+      let told = kind_of_script (script_lines text) in
+      ap (outcome_of_lines explains told config) comes
+      ∙ outcome-comes explains told head line rest shown config false is other stays
+      ∙ ap (outcome_from explains told (Factory config))
       (sym (keeps-first head.remarks head.lines (bare line) (script_lines rest) stays))
       ∙ ap
-      (λ (b : Bool). outcome_from explains b (Factory config)
+      (λ (k : ScriptKind). outcome_from explains k (Factory config)
       (lines_from head.remarks head.lines line rest))
-      (sym drive)
+      (sym kind)
       ∙ ap
-      (λ (b : Bool). outcome_from b head.on_port (Factory config)
+      (λ (b : Bool). outcome_from b head.kind (Factory config)
       (lines_from head.remarks head.lines line rest))
       (sym so),
 )
@@ -675,14 +686,15 @@ port-comes : (explains : Bool) (head : Head) (line text rest shown : List ℕ)
     → effective_lines (script_lines text) ≡ lines_from head.remarks head.lines line rest
     → shown ≡ bare line → is_port_line shown ≡ true → (config : Config)
     → outcome_by explains config text
-    ≡ outcome_from explains true (Factory config) (later-lines head head.lines rest)
+    ≡ outcome_from explains kinds.Port (Factory config) (later-lines head head.lines rest)
 port-comes explains head line text rest shown stays comes is port config =
-    ap (outcome_of_lines explains config) comes
-    ∙ outcome-comes explains head line rest shown config true is port stays
+    let told = kind_of_script (script_lines text) in
+    ap (outcome_of_lines explains told config) comes
+    ∙ outcome-comes explains told head line rest shown config true is port stays
 
 pub port-first : (explains : Bool) (head next_head : Head) (line next shown : List ℕ)
     (old now new : Option (List ℕ))
-    → next_head ≡ record { remarks = head.remarks; explains = head.explains; on_port = true; lines = head.lines + 1 }
+    → next_head ≡ record { remarks = head.remarks; explains = head.explains; kind = kinds.Port; lines = head.lines + 1 }
     → IfSome old (λ text. BeginsScript explains (Some head) text line now) → shown ≡ bare line
     → is_port_line shown ≡ true → IfSome now (λ text. TakesLine true next text new)
     → IfSome old (λ text. FirstLine explains (Some next_head) text next new)
@@ -694,14 +706,14 @@ port-first explains head next_head line next shown (Some text) now new same
       second.0,
       λ config. port-comes explains head line text rest shown stays comes is port config
           ∙ ap
-          (λ texts. outcome_from explains true (Factory config)
+          (λ texts. outcome_from explains kinds.Port (Factory config)
           (without_remarks head.remarks (with_numbers (head.lines + 1) texts))) second.1
           ∙ ap
-          (λ (b : Bool). outcome_from b true (Factory config)
+          (λ (b : Bool). outcome_from b kinds.Port (Factory config)
           (lines_from head.remarks (head.lines + 1) next (drop_through 10 rest)))
           (sym so)
           ∙ ap
-          (λ (h : Head). outcome_from h.explains h.on_port (Factory config)
+          (λ (h : Head). outcome_from h.explains h.kind (Factory config)
           (lines_from h.remarks h.lines next (drop_through 10 rest)))
           (sym same),
     )
@@ -716,7 +728,7 @@ port-alone explains head line next shown (Some text) now new (rest, at, stays, d
     let none : rest ≡ [] = subst (λ o. IfSome o (λ text. TakesLine false next text new)) at more in
     λ config. port-comes explains head line text rest shown stays comes is port config
     ∙ ap
-    (λ rest. outcome_from explains true (Factory config) (later-lines head head.lines rest)) none
+    (λ rest. outcome_from explains kinds.Port (Factory config) (later-lines head head.lines rest)) none
 
 -- what the lines behind the first come to, the script does
 pub first-opens : (explains : Bool) (head : Head) (config : Config) (opened : Opened) (text first line : List ℕ)
@@ -743,8 +755,8 @@ opened-ends whole status bytes pending is =
 -- the lines behind them do
 pub opened-runs : (head : Head) (count : ℕ) (whole later : RunOutcome) (run : Phase) (last line : List ℕ)
     (left was now : Option (List ℕ)) (pending after : List ℕ)
-    → ((o : Origin) × (text : List ℕ) × PhaseRunsOn run o (start head.explains head.on_port) × (left ≡ Some text)
-    × (whole ≡ outcome_on o (start head.explains head.on_port) [] (lines_from head.remarks count line text)))
+    → ((o : Origin) × (text : List ℕ) × PhaseRunsOn run o (start head.explains head.kind) × (left ≡ Some text)
+    × (whole ≡ outcome_on o (start head.explains head.kind) [] (lines_from head.remarks count line text)))
     → last ≡ []
     → ((o : Origin) (course : Course) → PhaseRunsOn run o course
     → IfSome left

@@ -4,6 +4,7 @@ use Rattle.sp_cells.specs.Config.{Config}
 use Rattle.script_lines.specs.Remarks.{is_remark}
 use Rattle.tool.specs.Outcomes.{outcome_of_lines}
 use Rattle.tool.specs.Scripts.{ScriptLine, may_hold_remarks, with_numbers, effective_lines}
+use Rattle.tool.specs.declared.head.ScriptKind.{ScriptKind}
 
 -- what lines say, without their numbers
 abbrev pub texts_of : List ScriptLine → List (List ℕ)
@@ -24,5 +25,6 @@ OtherScriptLaw = (first : List ℕ) (texts : List (List ℕ)) → may_hold_remar
 
 -- without reasons the numbers of lines make no difference to what they come to
 abbrev pub LineNumberLaw : Type 0
-LineNumberLaw = (config : Config) (ones others : List ScriptLine) → texts_of ones ≡ texts_of others
-    → outcome_of_lines false config ones ≡ outcome_of_lines false config others
+LineNumberLaw = (kind : ScriptKind) (config : Config) (ones others : List ScriptLine)
+    → texts_of ones ≡ texts_of others
+    → outcome_of_lines false kind config ones ≡ outcome_of_lines false kind config others

@@ -8,9 +8,11 @@ use Rattle.history.specs.Opening.{Origin, row_fault, with_range}
 use Rattle.script_lines.specs.PortLines.{is_port_line}
 use Rattle.script_lines.specs.Texts.{last_of, printed}
 use Rattle.script_lines.specs.declared.fault.LineFault.{LineFault}
-use Rattle.tool.specs.Scripts.{ScriptLine, script_lines, effective_lines}
+use Rattle.tool.specs.Scripts.{ScriptLine, script_lines, effective_lines, kind_of_script}
 use Rattle.tool.specs.Openings.{origin_of, base_of, row_said}
 use Rattle.tool.specs.Courses.{Course, Advance, course_step, start}
+use Rattle.tool.specs.declared.head.ScriptKind.{ScriptKind}
+use Rattle.tool.specs.declared.head.ScriptKind.TheVariants as kinds
 use Rattle.tool.specs.declared.opening.OpeningPhase.{OpeningPhase}
 use Rattle.tool.specs.declared.opening.OpeningPhase.TheVariants.{Factory, Activated}
 
@@ -62,27 +64,29 @@ abbrev pub opened : (OpeningPhase → RunOutcome) → RunOutcome → OpeningPhas
 opened then_comes runs phase (Ok row) = opened_by then_comes runs phase row
 opened then_comes runs phase (Err fault) = ends 2
 
--- what lines come to behind what range lines made so far: whether reasons are told, and whether it
--- is on a port
-unfoldable pub outcome_from : Bool → Bool → OpeningPhase → List ScriptLine → RunOutcome
-outcome_from explains on_port phase [] = ends 0
-outcome_from explains on_port phase (line ∷ lines) =
-    opened (λ next. outcome_from explains on_port next lines)
-    (outcome_on (origin_of phase) (start explains on_port) [] (line ∷ lines)) phase
-    (row_said on_port line.text)
+-- what lines come to behind what range lines made so far: whether reasons are told, and what the
+-- lines are
+unfoldable pub outcome_from : Bool → ScriptKind → OpeningPhase → List ScriptLine → RunOutcome
+outcome_from explains kind phase [] = ends 0
+outcome_from explains kind phase (line ∷ lines) =
+    opened (λ next. outcome_from explains kind next lines)
+    (outcome_on (origin_of phase) (start explains kind) [] (line ∷ lines)) phase
+    (row_said kind line.text)
 
--- what lines come to: behind the line `port` stand those of a port script
-abbrev pub outcome_of_lines : Bool → Config → List ScriptLine → RunOutcome
-outcome_of_lines explains config [] = ends 0
-outcome_of_lines explains config (first ∷ lines) =
-    if is_port_line first.text then outcome_from explains true (Factory config) lines
-    else outcome_from explains false (Factory config) (first ∷ lines)
+-- what lines come to, which are of this kind, unless the first is `port`: behind it stand those of a
+-- port script
+abbrev pub outcome_of_lines : Bool → ScriptKind → Config → List ScriptLine → RunOutcome
+outcome_of_lines explains kind config [] = ends 0
+outcome_of_lines explains kind config (first ∷ lines) =
+    if is_port_line first.text then outcome_from explains kinds.Port (Factory config) lines
+    else outcome_from explains kind (Factory config) (first ∷ lines)
 
 -- what a script comes to on a drive of this configuration, with reasons or without: in a script whose
--- first line begins with `#`, a remark does nothing
+-- first line begins with `#`, a remark does nothing, and a line may write a call by name
 abbrev pub outcome_by : Bool → Config → List ℕ → RunOutcome
 outcome_by explains config text =
-    outcome_of_lines explains config (effective_lines (script_lines text))
+    outcome_of_lines explains (kind_of_script (script_lines text)) config
+    (effective_lines (script_lines text))
 
 abbrev pub run_outcome_of : Config → List ℕ → RunOutcome
 run_outcome_of config text = outcome_by false config text

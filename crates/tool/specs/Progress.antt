@@ -4,7 +4,7 @@ use Rattle.std.specs.Io.KnownBytes.{Appends}
 use Rattle.sp_cells.specs.Config.{Config}
 use Rattle.history.specs.Opening.{Origin}
 use Rattle.script_lines.specs.declared.report.Report.{Report}
-use Rattle.tool.specs.Scripts.{ScriptLine, bare, script_lines, is_skipped, effective_lines, lines_from, without_remarks}
+use Rattle.tool.specs.Scripts.{ScriptLine, bare, script_lines, kind_of_script, is_skipped, effective_lines, lines_from, without_remarks}
 use Rattle.tool.specs.Ends.{exit_status}
 use Rattle.drive_scripts.specs.Turns.{StepsBy}
 use Rattle.tool.specs.Courses.{Course, Advance, PhaseRunsOn, course_step, start}
@@ -12,7 +12,9 @@ use Rattle.tool.specs.Outcomes.{RunOutcome, ends, printed_first, outcome_on, out
 use Rattle.tool.specs.declared.ending.End.{End}
 use Rattle.tool.specs.declared.opening.OpeningPhase.{OpeningPhase}
 use Rattle.tool.specs.declared.opening.OpeningPhase.TheVariants.{Factory}
+use Rattle.tool.specs.declared.named_phase.NamedPhase.{NamedPhase}
 use Rattle.tool.specs.declared.phase.Phase.{Phase}
+use Rattle.tool.specs.declared.phase.Phase.TheVariants as phases
 use Rattle.drive_scripts.specs.declared.turn.Turn.{Turn}
 use Rattle.tool.specs.declared.head.Head.{Head}
 use Rattle.tool.specs.declared.script.Opened.{Opened}
@@ -55,6 +57,12 @@ ScriptLeads explains config left end old new before after =
     IfSome left
     (λ text. Leads (outcome_by explains config text) (ends (exit_status end)) before after old new)
 
+-- a turn on a drive whose lines may write calls by name is what the line does, or the status that it
+-- ends the run with
+abbrev pub NamedSteps : Turn → Result Advance ℕ → NamedPhase → Origin → Report → Report → Type 0
+NamedSteps turn result new o before after =
+    StepsBy Course (λ course. PhaseRunsOn (phases.Named new) o course) turn result before after
+
 -- a turn is what the line does, or the status that it ends the run with
 abbrev pub Steps : Turn → Result Advance ℕ → Phase → Origin → Report → Report → Type 0
 Steps turn result new o before after =
@@ -70,10 +78,10 @@ step_or_skip remarks o course last line =
 abbrev pub OpensTo : Head → Opened → RunOutcome → List ℕ → Option (List ℕ) → Type 0
 OpensTo head (Ended end) whole line left = whole ≡ ends (exit_status end)
 OpensTo head (Runs run count) whole line left =
-    (o : Origin) × (text : List ℕ) × PhaseRunsOn run o (start head.explains head.on_port)
+    (o : Origin) × (text : List ℕ) × PhaseRunsOn run o (start head.explains head.kind)
     × (left ≡ Some text)
     × (whole
-    ≡ outcome_on o (start head.explains head.on_port) [] (lines_from head.remarks count line text))
+    ≡ outcome_on o (start head.explains head.kind) [] (lines_from head.remarks count line text))
 
 -- where the line at hand is in front of this text
 abbrev pub LinesOpenTo : Head → Opened → OpeningPhase → List ℕ → Option (List ℕ) → List ℕ
@@ -81,7 +89,7 @@ abbrev pub LinesOpenTo : Head → Opened → OpeningPhase → List ℕ → Optio
 LinesOpenTo head opened phase first before line left =
     IfSome before
     (λ text. OpensTo head opened
-    (outcome_from head.explains head.on_port phase
+    (outcome_from head.explains head.kind phase
     (lines_from head.remarks head.lines first text)) line left)
 
 -- all of these lines are skipped, or the line at hand, behind so many others, is the first that is
@@ -97,7 +105,7 @@ abbrev pub BeginsScript : Bool → Option Head → List ℕ → List ℕ → Opt
 BeginsScript explains None text line left = effective_lines (script_lines text) ≡ []
 BeginsScript explains (Some head) text line left =
     (rest : List ℕ) × (left ≡ Some rest) × (is_skipped head.remarks (bare line) ≡ false)
-    × (head.on_port ≡ false) × (head.explains ≡ explains)
+    × (head.kind ≡ kind_of_script (script_lines text)) × (head.explains ≡ explains)
     × (effective_lines (script_lines text) ≡ lines_from head.remarks head.lines line rest)
 
 -- there is no line, or the line at hand is the first of a script on a drive or of a port script
@@ -107,5 +115,5 @@ FirstLine explains None text line left =
 FirstLine explains (Some head) text line left =
     (rest : List ℕ) × (left ≡ Some rest)
     × ((config : Config) → outcome_by explains config text
-    ≡ outcome_from head.explains head.on_port (Factory config)
+    ≡ outcome_from head.explains head.kind (Factory config)
     (lines_from head.remarks head.lines line rest))

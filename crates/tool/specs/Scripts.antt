@@ -3,6 +3,8 @@ use Rattle.std.specs.Prelude.{◌+◌, ◌≤◌, ◌≡◌, ◌<◌, ℕ, ◌==
 use Rattle.std.specs.List.{list_any}
 use Rattle.std.specs.Io.BufRead.{strip_last, take_through, drop_through}
 use Rattle.script_lines.specs.Remarks.{hash_byte, is_remark}
+use Rattle.tool.specs.declared.head.ScriptKind.{ScriptKind}
+use Rattle.tool.specs.declared.head.ScriptKind.TheVariants as kinds
 
 -- a byte in front of the first line
 abbrev pub in_front : ℕ → List (List ℕ) → List (List ℕ)
@@ -27,6 +29,16 @@ bare line = strip_last 13 (strip_last 10 line)
 abbrev pub may_hold_remarks : List ℕ → Bool
 may_hold_remarks [] = false
 may_hold_remarks (byte ∷ bytes) = byte == hash_byte
+
+-- what the lines of a script on a drive are: where remarks may stand, lines may write calls by name
+abbrev pub drive_kind : Bool → ScriptKind
+drive_kind false = kinds.Drive
+drive_kind true = kinds.DriveWithNames
+
+-- what the lines of a script are, where none says that it is one of a port
+abbrev pub kind_of_script : List (List ℕ) → ScriptKind
+kind_of_script [] = kinds.Drive
+kind_of_script (first ∷ texts) = drive_kind (may_hold_remarks first)
 
 -- where remarks may stand, they are skipped
 abbrev pub is_skipped : Bool → List ℕ → Bool

@@ -4,6 +4,7 @@
 mod ending;
 mod head;
 mod level0;
+mod named_phase;
 mod opening;
 mod options;
 mod phase;
@@ -15,8 +16,9 @@ mod writing;
 
 pub use drive_scripts::{DrivePhase, Fault, Turn};
 pub use ending::{End, RunError, tell, tell_abort};
-pub use head::Head;
+pub use head::{Head, ScriptKind};
 pub use level0::run_level0;
+pub use named_phase::NamedPhase;
 pub use opening::{OpeningPhase, OpeningTurn};
 pub use options::{DriveTexts, Options, OptionsFault};
 pub use phase::Phase;

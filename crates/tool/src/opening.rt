@@ -1,15 +1,19 @@
 //! The opening phase of a script: its range lines.
 
 ghost use Rattle.std.specs.Prelude.{◌≡◌};
-ghost use Rattle.tool.specs.Openings.{row_of_line, row_in_port, row_said};
+ghost use Rattle.tool.specs.Openings.{row_of_line, row_or_fault, row_in_port, said_of_port, row_said};
+ghost use Rattle.script_lines.specs.Lines.{line_said};
+ghost use Rattle.script_lines.specs.PortLines.{port_line_of};
 
-use crate::head::Head;
+use crate::head::{Head, ScriptKind};
+use crate::named_phase::NamedPhase;
 use crate::phase::Phase;
 use crate::remarks::is_skipped;
 use drive::{Drive, DriveConfig, Opening, RangeRow, SetError};
 use drive_scripts::{DrivePhase, Fault};
 use port::Port;
 use port_scripts::{PortDesk, PortPhase};
+use script_lines::named_lines::call_verb_in;
 use script_lines::{Line, LineFault, PortLine};
 use std::alloc::{AllocError, Global};
 
@@ -52,16 +56,34 @@ fn row_in_port(line: &PortLine<'_>) -> Option<RangeRow>
     }
 }
 
-/// The row that a line gives, if it is a range line.
-fn row_said(on_port: bool, text: &[u8]) -> Result<Option<RangeRow>, LineFault>
-    ensures { result ≡ row_said on_port text.now }
+/// The row that a line on a drive gives, if it is a range line.
+fn row_on_drive(text: &[u8]) -> Result<Option<RangeRow>, LineFault>
+    ensures { result ≡ row_or_fault (line_said text.now) }
 {
-    if on_port {
-        let line = PortLine::parse(text)?;
-        return Ok(row_in_port(&line));
-    }
     let line = Line::parse(text)?;
     Ok(row_in(&line))
+}
+
+/// The row that a line of a port script gives, if it is a range line.
+fn row_on_port(text: &[u8]) -> Result<Option<RangeRow>, LineFault>
+    ensures { result ≡ said_of_port (port_line_of text.now) }
+{
+    let line = PortLine::parse(text)?;
+    Ok(row_in_port(&line))
+}
+
+/// The row that a line gives, if it is a range line, by what the lines of its script are.
+fn row_said(kind: ScriptKind, text: &[u8]) -> Result<Option<RangeRow>, LineFault>
+    ensures { result ≡ row_said kind text.now }
+{
+    match kind {
+        ScriptKind::Drive => row_on_drive(text),
+        ScriptKind::DriveWithNames => match call_verb_in(text) {
+            Some(_) => Ok(None),
+            None => row_on_drive(text),
+        },
+        ScriptKind::Port => row_on_port(text),
+    }
 }
 
 impl OpeningPhase {
@@ -126,12 +148,12 @@ impl OpeningPhase {
     /// Does what one line says, where it gives the cells of a range; any other line ends the phase.
     fn turn(self, alloc: Global, head: Head, text: &[u8]) -> Result<OpeningTurn, AllocError>
         ensures stands { IfOk result TurnStands }
-        ensures does { (row : Option RangeRow) → row_said head.on_port text.now ≡ Ok row
+        ensures does { (row : Option RangeRow) → row_said head.kind text.now ≡ Ok row
             → IfOk result (OpensBy head self row) }
-        ensures bad_line { (fault : LineFault) → row_said head.on_port text.now ≡ Err fault
+        ensures bad_line { (fault : LineFault) → row_said head.kind text.now ≡ Err fault
             → result ≡ Ok (OpeningTurn.Bad (Fault.Line fault)) }
     {
-        match row_said(head.on_port, text) {
+        match row_said(head.kind, text) {
             Ok(row) => self.act(alloc, head, row),
             Err(fault) => Ok(OpeningTurn::Bad(Fault::Line(fault))),
         }
@@ -148,9 +170,9 @@ impl OpeningPhase {
         ensures skips { is_skipped head.remarks text.now ≡ true
             → result ≡ Ok (OpeningTurn.Goes self) }
         ensures does { is_skipped head.remarks text.now ≡ false → (row : Option RangeRow)
-            → row_said head.on_port text.now ≡ Ok row → IfOk result (OpensBy head self row) }
+            → row_said head.kind text.now ≡ Ok row → IfOk result (OpensBy head self row) }
         ensures bad_line { is_skipped head.remarks text.now ≡ false → (fault : LineFault)
-            → row_said head.on_port text.now ≡ Err fault
+            → row_said head.kind text.now ≡ Err fault
             → result ≡ Ok (OpeningTurn.Bad (Fault.Line fault)) }
     {
         if is_skipped(head.remarks, text) {
@@ -184,11 +206,19 @@ impl OpeningPhase {
     fn run(self, alloc: Global, head: Head) -> Result<OpeningTurn, AllocError>
         ensures { IfOk result (RunsFrom head (origin_of self)) }
     {
-        if head.on_port {
-            let desk = PortDesk::new(self.into_port(alloc)?, head.explains);
-            return Ok(OpeningTurn::Runs(Phase::Port(desk)));
+        match head.kind {
+            ScriptKind::Drive => {
+                let drive = DrivePhase::new(alloc, self.into_drive(alloc)?, head.explains);
+                Ok(OpeningTurn::Runs(Phase::Drive(drive)))
+            }
+            ScriptKind::DriveWithNames => {
+                let drive = DrivePhase::new(alloc, self.into_drive(alloc)?, head.explains);
+                Ok(OpeningTurn::Runs(Phase::Named(NamedPhase::new(alloc, drive))))
+            }
+            ScriptKind::Port => {
+                let desk = PortDesk::new(self.into_port(alloc)?, head.explains);
+                Ok(OpeningTurn::Runs(Phase::Port(desk)))
+            }
         }
-        let drive = DrivePhase::new(alloc, self.into_drive(alloc)?, head.explains);
-        Ok(OpeningTurn::Runs(Phase::Drive(drive)))
     }
 }

@@ -1,5 +1,6 @@
 //! What a script runs on: a drive, or a port.
 
+use crate::named_phase::NamedPhase;
 use crate::remarks::is_skipped;
 use drive_scripts::{DrivePhase, Turn};
 use port_scripts::PortDesk;
@@ -10,6 +11,8 @@ use std::alloc::AllocError;
 #[derive(Drop)]
 pub enum Phase {
     Drive(DrivePhase),
+    /// A drive, whose lines may write calls by name.
+    Named(NamedPhase),
     Port(PortDesk),
 }
 
@@ -32,6 +35,7 @@ impl Phase {
     {
         match self {
             Phase::Drive(drive) => drive.turn(number, text, report),
+            Phase::Named(named) => named.turn(number, text, report),
             Phase::Port(port) => port.turn(text, report),
         }
     }

@@ -12,7 +12,7 @@ ghost use Rattle.tool.specs.Progress.{BeginsScript, FirstLine, LinesOpenTo, RunL
 ghost use Rattle.tool.specs.Scripts.{bare, with_numbers, script_lines};
 
 use crate::ending::{End, RunError, tell, tell_abort};
-use crate::head::Head;
+use crate::head::{Head, ScriptKind};
 use crate::opening::{OpeningPhase, OpeningTurn};
 use crate::options::Options;
 use crate::phase::Phase;
@@ -90,7 +90,7 @@ fn begin<R: Read + Drop>(
     Ok(Some(Head {
         remarks,
         explains,
-        on_port: false,
+        kind: ScriptKind::of_drive(remarks),
         lines,
     }))
 }
@@ -118,7 +118,7 @@ fn first_line<R: Read + Drop>(
         return Ok(None);
     }
     Ok(Some(Head {
-        on_port: true,
+        kind: ScriptKind::Port,
         lines: head.lines + 1,
         ..head
     }))
@@ -317,7 +317,7 @@ fn run_by<R: Read + Drop, W: Write, E: Write>(
 /// range row. A script whose first line is `port` runs on a port, any other on a drive. Without a
 /// `range` line the drive is as it leaves the factory. In a script whose first line begins with `#`
 /// remarks do nothing, wherever they stand: blank lines, and lines that begin with `#`, behind blanks
-/// or not. The first line that is none may be `port`. Answers are written before each read that could
+/// or not. The first line that is none may be `port`; where it is not, lines may write calls by name (`NamedPhase`). Answers are written before each read that could
 /// wait, and whenever more than 65,536 bytes of them wait.
 ///
 /// # Errors

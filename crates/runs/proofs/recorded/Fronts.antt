@@ -6,11 +6,13 @@ use Rattle.locking.specs.declared.range.RangeRow.{RangeRow}
 use Rattle.history.specs.Opening.{Origin}
 use Rattle.script_lines.specs.PortLines.{is_port_line}
 use Rattle.script_lines.specs.declared.fault.LineFault.{LineFault}
-use Rattle.tool.specs.Scripts.{ScriptLine, bare, lines_from, lines_of_text, with_numbers, script_lines, is_skipped, without_remarks, TakesLine}
+use Rattle.tool.specs.Scripts.{ScriptLine, bare, drive_kind, lines_from, lines_of_text, with_numbers, script_lines, is_skipped, without_remarks, TakesLine}
 use Rattle.tool.specs.Courses.{PhaseRunsOn, PhaseStands, start}
 use Rattle.tool.specs.Openings.{origin_of, base_of, row_said, OpensBy}
 use Rattle.drive_scripts.specs.declared.turn.Fault.TheVariants as faults
 use Rattle.tool.specs.declared.head.Head.{Head}
+use Rattle.tool.specs.declared.head.ScriptKind.{ScriptKind}
+use Rattle.tool.specs.declared.head.ScriptKind.TheVariants as kinds
 use Rattle.tool.specs.declared.phase.Phase.{Phase}
 use Rattle.tool.specs.declared.opening.OpeningPhase.{OpeningPhase}
 use Rattle.tool.specs.declared.opening.OpeningTurn.{OpeningTurn}
@@ -25,58 +27,58 @@ use Rattle.runs.specs.declared.recorded.front.FrontTurn.TheVariants as turns
 
 -- what a line says that is no remark
 row-so : (head : Head) (phase : OpeningPhase) (text : List ℕ) (row : Option RangeRow) (turn : OpeningTurn)
-    → row_said head.on_port text ≡ Ok row → OpensBy head phase row turn
-    → OpensSo head.explains head.on_port phase text turn
+    → row_said head.kind text ≡ Ok row → OpensBy head phase row turn
+    → OpensSo head.explains head.kind phase text turn
 unfolding recording_from
 row-so head phase text (Some row) (openings.Goes next) reads does = λ number lines.
-    let then_comes = λ (next : OpeningPhase). recording_from head.explains head.on_port next lines in
-    let runs = recording_opened (origin_of phase) (start head.explains head.on_port) (line_at number text ∷ lines) in
+    let then_comes = λ (next : OpeningPhase). recording_from head.explains head.kind next lines in
+    let runs = recording_opened (origin_of phase) (start head.explains head.kind) (line_at number text ∷ lines) in
     ap (row_read then_comes runs phase) reads ∙ ap (row_set then_comes (base_of phase) row) does.0
     ∙ sym (ap then_comes does.1)
 row-so head phase text (Some row) (openings.Runs run) reads does = absurd does
 row-so head phase text (Some row) (openings.Bad fault) reads does = λ number lines.
-    let then_comes = λ (next : OpeningPhase). recording_from head.explains head.on_port next lines in
-    let runs = recording_opened (origin_of phase) (start head.explains head.on_port) (line_at number text ∷ lines) in
+    let then_comes = λ (next : OpeningPhase). recording_from head.explains head.kind next lines in
+    let runs = recording_opened (origin_of phase) (start head.explains head.kind) (line_at number text ∷ lines) in
     ap (row_read then_comes runs phase) reads ∙ ap (row_set then_comes (base_of phase) row) does.2
 row-so head phase text None (openings.Goes next) reads does = absurd does
 row-so head phase text None (openings.Runs run) reads does = (
   origin_of phase,
   does,
   λ number lines.
-      let then_comes = λ (next : OpeningPhase). recording_from head.explains head.on_port next lines in
-      let runs = recording_opened (origin_of phase) (start head.explains head.on_port) (line_at number text ∷ lines) in
+      let then_comes = λ (next : OpeningPhase). recording_from head.explains head.kind next lines in
+      let runs = recording_opened (origin_of phase) (start head.explains head.kind) (line_at number text ∷ lines) in
       ap (row_read then_comes runs phase) reads,
 )
 row-so head phase text None (openings.Bad fault) reads does = absurd does
 
-fault-so : (explains on_port : Bool) (phase : OpeningPhase) (text : List ℕ) (fault : LineFault)
-    → row_said on_port text ≡ Err fault
-    → OpensSo explains on_port phase text (openings.Bad (faults.Line fault))
+fault-so : (explains : Bool) (kind : ScriptKind) (phase : OpeningPhase) (text : List ℕ) (fault : LineFault)
+    → row_said kind text ≡ Err fault
+    → OpensSo explains kind phase text (openings.Bad (faults.Line fault))
 unfolding recording_from
-fault-so explains on_port phase text fault reads = λ number lines.
+fault-so explains kind phase text fault reads = λ number lines.
     ap
-    (row_read (λ (next : OpeningPhase). recording_from explains on_port next lines)
-    (recording_opened (origin_of phase) (start explains on_port) (line_at number text ∷ lines)) phase) reads
+    (row_read (λ (next : OpeningPhase). recording_from explains kind next lines)
+    (recording_opened (origin_of phase) (start explains kind) (line_at number text ∷ lines)) phase) reads
 
 opens-by : (head : Head) (phase : OpeningPhase) (text : List ℕ) (turn : OpeningTurn)
-    (read : Result (Option RangeRow) LineFault) → row_said head.on_port text ≡ read
-    → ((row : Option RangeRow) → row_said head.on_port text ≡ Ok row → OpensBy head phase row turn)
-    → ((fault : LineFault) → row_said head.on_port text ≡ Err fault
+    (read : Result (Option RangeRow) LineFault) → row_said head.kind text ≡ read
+    → ((row : Option RangeRow) → row_said head.kind text ≡ Ok row → OpensBy head phase row turn)
+    → ((fault : LineFault) → row_said head.kind text ≡ Err fault
     → turn ≡ openings.Bad (faults.Line fault))
-    → OpensSo head.explains head.on_port phase text turn
+    → OpensSo head.explains head.kind phase text turn
 opens-by head phase text turn (Ok row) reads does bad =
     row-so head phase text row turn reads (does row reads)
 opens-by head phase text turn (Err fault) reads does bad =
-    subst (OpensSo head.explains head.on_port phase text) (sym (bad fault reads))
-    (fault-so head.explains head.on_port phase text fault reads)
+    subst (OpensSo head.explains head.kind phase text) (sym (bad fault reads))
+    (fault-so head.explains head.kind phase text fault reads)
 
 pub opens-so : {E : Type 0} (head : Head) (phase : OpeningPhase) (text : List ℕ) (turn : OpeningTurn)
-    → ((row : Option RangeRow) → row_said head.on_port text ≡ Ok row → OpensBy head phase row turn)
-    → ((fault : LineFault) → row_said head.on_port text ≡ Err fault
+    → ((row : Option RangeRow) → row_said head.kind text ≡ Ok row → OpensBy head phase row turn)
+    → ((fault : LineFault) → row_said head.kind text ≡ Err fault
     → ◌≡◌ {A = Result OpeningTurn E} (Ok turn) (Ok (openings.Bad (faults.Line fault))))
-    → OpensSo head.explains head.on_port phase text turn
+    → OpensSo head.explains head.kind phase text turn
 opens-so head phase text turn does bad =
-    opens-by head phase text turn (row_said head.on_port text) refl does
+    opens-by head phase text turn (row_said head.kind text) refl does
     (λ fault reads. cc (bad fault reads))
 
 -- remarks
@@ -99,57 +101,58 @@ skipped-so explains remarks front text is = λ number lines.
     ap (front_recording explains front) (skips remarks (line_at number text) lines is)
 
 -- a line that is no remark, where lines told where the script runs
-by-opening : (explains remarks on_port : Bool) (front : Front) (phase : OpeningPhase) (text : List ℕ) (turn : OpeningTurn)
+by-opening : (explains remarks : Bool) (kind : ScriptKind) (front : Front) (phase : OpeningPhase) (text : List ℕ) (turn : OpeningTurn)
     → is_skipped remarks text ≡ false
     → ((line : ScriptLine) (lines : List ScriptLine) → line.text ≡ text
-    → front_recording explains front (line ∷ lines) ≡ recording_from explains on_port phase (line ∷ lines))
-    → OpensSo explains on_port phase text turn → TurnsSo explains remarks front text (front_turn on_port turn)
-by-opening explains remarks on_port front phase text (openings.Goes next) stays same opens = λ number lines.
+    → front_recording explains front (line ∷ lines) ≡ recording_from explains kind phase (line ∷ lines))
+    → OpensSo explains kind phase text turn → TurnsSo explains remarks front text (front_turn kind turn)
+by-opening explains remarks kind front phase text (openings.Goes next) stays same opens = λ number lines.
     ap (front_recording explains front) (keeps remarks (line_at number text) lines stays)
     ∙ same (line_at number text) (without_remarks remarks lines) refl
     ∙ opens number (without_remarks remarks lines)
-by-opening explains remarks on_port front phase text (openings.Runs run) stays same (o, runs, opens) = (
+by-opening explains remarks kind front phase text (openings.Runs run) stays same (o, runs, opens) = (
   o,
-  on_port,
+  kind,
   runs,
   λ number lines.
       ap (front_recording explains front) (keeps remarks (line_at number text) lines stays)
       ∙ same (line_at number text) (without_remarks remarks lines) refl
       ∙ opens number (without_remarks remarks lines)
-      ∙ ap (recording_opened o (start explains on_port)) (sym (keeps remarks (line_at number text) lines stays)),
+      ∙ ap (recording_opened o (start explains kind)) (sym (keeps remarks (line_at number text) lines stays)),
 )
-by-opening explains remarks on_port front phase text (openings.Bad fault) stays same opens = λ number lines.
+by-opening explains remarks kind front phase text (openings.Bad fault) stays same opens = λ number lines.
     ap (front_recording explains front) (keeps remarks (line_at number text) lines stays)
     ∙ same (line_at number text) (without_remarks remarks lines) refl
     ∙ opens number (without_remarks remarks lines)
 
-pub told-so : (explains remarks on_port : Bool) (phase : OpeningPhase) (text : List ℕ) (turn : OpeningTurn)
-    → is_skipped remarks text ≡ false → OpensSo explains on_port phase text turn
-    → TurnsSo explains remarks (fronts.Told on_port phase) text (front_turn on_port turn)
-told-so explains remarks on_port phase text turn stays opens =
-    by-opening explains remarks on_port (fronts.Told on_port phase) phase text turn stays (λ line lines is. refl) opens
+pub told-so : (explains remarks : Bool) (kind : ScriptKind) (phase : OpeningPhase) (text : List ℕ) (turn : OpeningTurn)
+    → is_skipped remarks text ≡ false → OpensSo explains kind phase text turn
+    → TurnsSo explains remarks (fronts.Told kind phase) text (front_turn kind turn)
+told-so explains remarks kind phase text turn stays opens =
+    by-opening explains remarks kind (fronts.Told kind phase) phase text turn stays (λ line lines is. refl) opens
 
 -- the first such line
-pub bare-so : (explains remarks : Bool) (phase : OpeningPhase) (text : List ℕ) (turn : OpeningTurn)
-    → is_skipped remarks text ≡ false → is_port_line text ≡ false → OpensSo explains false phase text turn
-    → TurnsSo explains remarks (fronts.Bare phase) text (front_turn false turn)
-bare-so explains remarks phase text turn stays other opens =
-    by-opening explains remarks false (fronts.Bare phase) phase text turn stays
+pub bare-so : (explains remarks : Bool) (kind : ScriptKind) (phase : OpeningPhase) (text : List ℕ) (turn : OpeningTurn)
+    → is_skipped remarks text ≡ false → is_port_line text ≡ false → OpensSo explains kind phase text turn
+    → TurnsSo explains remarks (fronts.Bare kind phase) text (front_turn kind turn)
+bare-so explains remarks kind phase text turn stays other opens =
+    by-opening explains remarks kind (fronts.Bare kind phase) phase text turn stays
     (λ line lines is.
     ap
-    (λ (b : Bool). if b then recording_from explains true phase lines else recording_from explains false phase (line ∷ lines))
+    (λ (b : Bool). if b then recording_from explains kinds.Port phase lines
+    else recording_from explains kind phase (line ∷ lines))
     (ap is_port_line is ∙ other))
     opens
 
-pub port-so : (explains remarks : Bool) (phase : OpeningPhase) (text : List ℕ) → is_skipped remarks text ≡ false
-    → is_port_line text ≡ true
-    → TurnsSo explains remarks (fronts.Bare phase) text (turns.Goes (fronts.Told true phase))
-port-so explains remarks phase text stays port = λ number lines.
+pub port-so : (explains remarks : Bool) (kind : ScriptKind) (phase : OpeningPhase) (text : List ℕ)
+    → is_skipped remarks text ≡ false → is_port_line text ≡ true
+    → TurnsSo explains remarks (fronts.Bare kind phase) text (turns.Goes (fronts.Told kinds.Port phase))
+port-so explains remarks kind phase text stays port = λ number lines.
     let line = line_at number text in
-    ap (recording_of_lines explains phase) (keeps remarks line lines stays)
+    ap (recording_of_lines explains kind phase) (keeps remarks line lines stays)
     ∙ ap
-    (λ (b : Bool). if b then recording_from explains true phase (without_remarks remarks lines)
-    else recording_from explains false phase (line ∷ without_remarks remarks lines))
+    (λ (b : Bool). if b then recording_from explains kinds.Port phase (without_remarks remarks lines)
+    else recording_from explains kind phase (line ∷ without_remarks remarks lines))
     port
 
 -- of a whole script this is still to come, where the line at hand, behind so many others, is in front
@@ -166,8 +169,9 @@ FrontOn explains remarks lines whole front left =
 
 pub front-first : (left : Option (List ℕ)) (explains remarks : Bool) (phase : OpeningPhase) (line : List ℕ)
     → IfSome left
-    (λ text. StillFront explains remarks 0 (recording_of_lines explains phase (lines_from remarks 0 line text))
-    (fronts.Bare phase) line left)
+    (λ text. StillFront explains remarks 0
+    (recording_of_lines explains (drive_kind remarks) phase (lines_from remarks 0 line text))
+    (fronts.Bare (drive_kind remarks) phase) line left)
 front-first None explains remarks phase line = tt
 front-first (Some text) explains remarks phase line = (text, refl, refl)
 
@@ -175,9 +179,9 @@ front-first (Some text) explains remarks phase line = (text, refl, refl)
 abbrev pub FrontTurned : Bool → Bool → ℕ → FrontTurn → Recording → List ℕ → Option (List ℕ) → Type 0
 FrontTurned explains remarks lines (turns.Goes next) whole line left = FrontOn explains remarks lines whole next left
 FrontTurned explains remarks lines (turns.Runs run) whole line left =
-    (o : Origin) × (on_port : Bool) × (text : List ℕ) × PhaseRunsOn run o (start explains on_port)
+    (o : Origin) × (kind : ScriptKind) × (text : List ℕ) × PhaseRunsOn run o (start explains kind)
     × (left ≡ Some text)
-    × (whole ≡ recording_opened o (start explains on_port) (lines_from remarks lines line text))
+    × (whole ≡ recording_opened o (start explains kind) (lines_from remarks lines line text))
 FrontTurned explains remarks lines (turns.Bad fault) whole line left = whole ≡ stops 2
 
 turned-by : (explains remarks : Bool) (lines : ℕ) (turn : FrontTurn) (whole : Recording) (front : Front)
@@ -187,8 +191,8 @@ turned-by : (explains remarks : Bool) (lines : ℕ) (turn : FrontTurn) (whole : 
 unfolding with_numbers
 turned-by explains remarks lines (turns.Goes next) whole front line rest left is comes so =
     (rest, is, comes ∙ so (lines + 1) (with_numbers (lines + 1) (script_lines rest)))
-turned-by explains remarks lines (turns.Runs run) whole front line rest left is comes (o, on_port, runs, so) =
-    (o, on_port, rest, runs, is, comes ∙ so (lines + 1) (with_numbers (lines + 1) (script_lines rest)))
+turned-by explains remarks lines (turns.Runs run) whole front line rest left is comes (o, kind, runs, so) =
+    (o, kind, rest, runs, is, comes ∙ so (lines + 1) (with_numbers (lines + 1) (script_lines rest)))
 turned-by explains remarks lines (turns.Bad fault) whole front line rest left is comes so =
     comes ∙ so (lines + 1) (with_numbers (lines + 1) (script_lines rest))
 
@@ -215,8 +219,8 @@ next-front explains remarks lines whole front line left later (text, is, comes) 
 -- none is left
 no-lines : (explains : Bool) (front : Front) → front_recording explains front [] ≡ stops 0
 unfolding recording_from
-no-lines explains (fronts.Bare phase) = refl
-no-lines explains (fronts.Told on_port phase) = refl
+no-lines explains (fronts.Bare kind phase) = refl
+no-lines explains (fronts.Told kind phase) = refl
 
 pub nothing-front : (explains remarks : Bool) (lines : ℕ) (whole : Recording) (front : Front) (line : List ℕ)
     (left later : Option (List ℕ)) → FrontOn explains remarks lines whole front left
@@ -232,5 +236,5 @@ nothing-front explains remarks lines whole front line left later (text, is, come
 pub stands-so : (explains remarks : Bool) (front : Front) (text : List ℕ) (turn : FrontTurn)
     (run : Phase) → turn ≡ turns.Runs run → TurnsSo explains remarks front text turn → PhaseStands run
 stands-so explains remarks front text turn run is so =
-    let (o, on_port, runs, comes) = subst (TurnsSo explains remarks front text) is so in
-    (o, start explains on_port, runs)
+    let (o, kind, runs, comes) = subst (TurnsSo explains remarks front text) is so in
+    (o, start explains kind, runs)

@@ -10,10 +10,12 @@ use Rattle.pictures.specs.declared.samples.frame.Frame.{Frame}
 use Rattle.script_lines.specs.PortLines.{is_port_line}
 use Rattle.script_lines.specs.Texts.{last_of}
 use Rattle.script_lines.specs.declared.fault.LineFault.{LineFault}
-use Rattle.tool.specs.Scripts.{ScriptLine, effective_lines, script_lines}
+use Rattle.tool.specs.Scripts.{ScriptLine, effective_lines, script_lines, kind_of_script}
 use Rattle.tool.specs.Courses.{Course, Advance, course_step, start}
 use Rattle.tool.specs.Openings.{origin_of, base_of, row_said}
 use Rattle.tool.specs.Outcomes.{RunOutcome, onward, outcome_on, set_then, opened_by, opened, outcome_from, outcome_of_lines, outcome_by, YieldsBy}
+use Rattle.tool.specs.declared.head.ScriptKind.{ScriptKind}
+use Rattle.tool.specs.declared.head.ScriptKind.TheVariants as kinds
 use Rattle.tool.specs.declared.opening.OpeningPhase.{OpeningPhase}
 use Rattle.tool.specs.declared.opening.OpeningPhase.TheVariants.{Factory}
 use Rattle.runs.specs.Recordings.{Recording, continued, recording_on, recording_opened, row_set, row_given, row_read, recording_from, recording_of_lines, recording_by}
@@ -64,38 +66,40 @@ read-so phase (Ok row) runs records run recording same is =
     given-so phase row runs records run recording same is
 read-so phase (Err fault) runs records run recording same is = refl
 
-from-so : (explains on_port : Bool) (phase : OpeningPhase) (lines : List ScriptLine)
-    → outcome_from explains on_port phase lines
-    ≡ outcome_in (recording_from explains on_port phase lines)
+from-so : (explains : Bool) (kind : ScriptKind) (phase : OpeningPhase) (lines : List ScriptLine)
+    → outcome_from explains kind phase lines
+    ≡ outcome_in (recording_from explains kind phase lines)
 unfolding outcome_from recording_from
-from-so explains on_port phase [] = refl
-from-so explains on_port phase (line ∷ lines) =
-    read-so phase (row_said on_port line.text) (λ next. outcome_from explains on_port next lines)
-    (λ next. recording_from explains on_port next lines)
-    (outcome_on (origin_of phase) (start explains on_port) [] (line ∷ lines))
-    (recording_opened (origin_of phase) (start explains on_port) (line ∷ lines))
-    (λ next. from-so explains on_port next lines)
-    (on-so (origin_of phase) (start explains on_port) [] (line ∷ lines))
+from-so explains kind phase [] = refl
+from-so explains kind phase (line ∷ lines) =
+    read-so phase (row_said kind line.text) (λ next. outcome_from explains kind next lines)
+    (λ next. recording_from explains kind next lines)
+    (outcome_on (origin_of phase) (start explains kind) [] (line ∷ lines))
+    (recording_opened (origin_of phase) (start explains kind) (line ∷ lines))
+    (λ next. from-so explains kind next lines)
+    (on-so (origin_of phase) (start explains kind) [] (line ∷ lines))
 
-either-so : (on_port explains : Bool) (phase : OpeningPhase) (first : ScriptLine) (lines : List ScriptLine)
-    → (if on_port then outcome_from explains true phase lines
-    else outcome_from explains false phase (first ∷ lines))
+either-so : (on_port explains : Bool) (kind : ScriptKind) (phase : OpeningPhase) (first : ScriptLine)
+    (lines : List ScriptLine)
+    → (if on_port then outcome_from explains kinds.Port phase lines
+    else outcome_from explains kind phase (first ∷ lines))
     ≡ outcome_in
-    (if on_port then recording_from explains true phase lines
-    else recording_from explains false phase (first ∷ lines))
-either-so true explains phase first lines = from-so explains true phase lines
-either-so false explains phase first lines = from-so explains false phase (first ∷ lines)
+    (if on_port then recording_from explains kinds.Port phase lines
+    else recording_from explains kind phase (first ∷ lines))
+either-so true explains kind phase first lines = from-so explains kinds.Port phase lines
+either-so false explains kind phase first lines = from-so explains kind phase (first ∷ lines)
 
-lines-so : (explains : Bool) (config : Config) (lines : List ScriptLine)
-    → outcome_of_lines explains config lines
-    ≡ outcome_in (recording_of_lines explains (Factory config) lines)
-lines-so explains config [] = refl
-lines-so explains config (first ∷ lines) =
-    either-so (is_port_line first.text) explains (Factory config) first lines
+lines-so : (explains : Bool) (kind : ScriptKind) (config : Config) (lines : List ScriptLine)
+    → outcome_of_lines explains kind config lines
+    ≡ outcome_in (recording_of_lines explains kind (Factory config) lines)
+lines-so explains kind config [] = refl
+lines-so explains kind config (first ∷ lines) =
+    either-so (is_port_line first.text) explains kind (Factory config) first lines
 
 pub outcome-so : (explains : Bool) (config : Config) (text : List ℕ)
     → outcome_by explains config text ≡ outcome_in (recording_by explains config text)
-outcome-so explains config text = lines-so explains config (effective_lines (script_lines text))
+outcome-so explains config text =
+    lines-so explains (kind_of_script (script_lines text)) config (effective_lines (script_lines text))
 
 -- a run that is recorded yields what a run yields
 pub yields-so : (input : Option (List ℕ)) (explains : Bool) (config : Config) (status : ℕ)

@@ -7,7 +7,8 @@ use Rattle.reasons.specs.Onsets.{bare_acts}
 use Rattle.pictures.specs.Samples.{Sample, drive_sample}
 use Rattle.drive_scripts.specs.DriveCourses.{OnDrive, ExplainedDrive}
 use Rattle.drive_scripts.specs.declared.drive_phase.DrivePhase.{DrivePhase}
-use Rattle.tool.specs.Courses.{Course, DriveScript, PortScript, PhaseRunsOn}
+use Rattle.tool.specs.Courses.{Course, DriveScript, NamedScript, PortScript, PhaseRunsOn}
+use Rattle.tool.specs.declared.named_phase.NamedPhase.{NamedPhase}
 use Rattle.tool.specs.declared.phase.Phase.TheVariants as phases
 use Rattle.runs.specs.Frames.{sample_on}
 
@@ -16,4 +17,13 @@ pub drive-samples : (drive : DrivePhase) (o : Origin) (course : Course) (sample 
     → PhaseRunsOn (phases.Drive drive) o course → sample ≡ sample_on o course
 drive-samples drive o (DriveScript (OnDrive acts)) sample shows runs = shows o acts runs.0.0
 drive-samples drive o (DriveScript (ExplainedDrive past)) sample shows runs = shows o (bare_acts past) runs.0.0
+drive-samples drive o (NamedScript known course) sample shows runs = absurd runs
 drive-samples drive o (PortScript course) sample shows runs = absurd runs
+
+pub named-samples : (named : NamedPhase) (o : Origin) (course : Course) (sample : Sample)
+    → ((o : Origin) (acts : List Act) → Agrees named.drive.run.drive o acts → sample ≡ drive_sample o acts)
+    → PhaseRunsOn (phases.Named named) o course → sample ≡ sample_on o course
+named-samples named o (NamedScript known (OnDrive acts)) sample shows runs = shows o acts runs.0.0.0
+named-samples named o (NamedScript known (ExplainedDrive past)) sample shows runs = shows o (bare_acts past) runs.0.0.0
+named-samples named o (DriveScript course) sample shows runs = absurd runs
+named-samples named o (PortScript course) sample shows runs = absurd runs

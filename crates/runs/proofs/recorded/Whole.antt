@@ -7,7 +7,7 @@ use Rattle.history.specs.Opening.{Origin}
 use Rattle.pictures.specs.declared.samples.frame.Frame.{Frame}
 use Rattle.tool.specs.Ends.{exit_status}
 use Rattle.tool.specs.Courses.{Course, PhaseRunsOn, start}
-use Rattle.tool.specs.Scripts.{ScriptLine, bare, effective_lines, lines_from, lines_of_text, with_numbers, script_lines, may_hold_remarks, without_remarks, TakesLine}
+use Rattle.tool.specs.Scripts.{ScriptLine, bare, effective_lines, lines_from, lines_of_text, with_numbers, script_lines, may_hold_remarks, drive_kind, kind_of_script, without_remarks, TakesLine}
 use Rattle.tool.specs.declared.ending.End.{End}
 use Rattle.tool.specs.declared.opening.OpeningPhase.TheVariants.{Factory}
 use Rattle.tool.specs.declared.phase.Phase.{Phase}
@@ -57,19 +57,23 @@ unfolding lines_of_text
 no-line explains config line None later bytes pending held takes = tt
 no-line explains config line (Some text) later bytes pending held takes =
     ends-now (recording_by explains config text) 0 bytes pending held
-    (ap (λ text. recording_of_lines explains (Factory config) (effective_lines (script_lines text))) takes)
+    (ap
+    (λ text. recording_of_lines explains (kind_of_script (script_lines text)) (Factory config)
+    (effective_lines (script_lines text))) takes)
 
 -- its first line is read, which says whether remarks may stand in it
 first-comes : (explains : Bool) (config : Config) (line text shown : List ℕ) (now : Option (List ℕ)) (remarks : Bool)
     → TakesLine true line text now → shown ≡ bare line → remarks ≡ may_hold_remarks shown
     → recording_by explains config text
-    ≡ recording_of_lines explains (Factory config) (lines_from remarks 0 line (drop_through 10 text))
+    ≡ recording_of_lines explains (drive_kind remarks) (Factory config)
+    (lines_from remarks 0 line (drop_through 10 text))
 first-comes explains config line text shown now remarks takes is may =
     let rest = script_lines (drop_through 10 text) in
-    ap (λ texts. recording_of_lines explains (Factory config) (effective_lines texts))
+    ap (λ texts. recording_of_lines explains (kind_of_script texts) (Factory config) (effective_lines texts))
     (taken (Some text) now line text refl takes).1
     ∙ ap
-    (λ (remarks : Bool). recording_of_lines explains (Factory config) (without_remarks remarks (with_numbers 0 (bare line ∷ rest))))
+    (λ (remarks : Bool). recording_of_lines explains (drive_kind remarks) (Factory config)
+    (without_remarks remarks (with_numbers 0 (bare line ∷ rest))))
     (sym (may ∙ ap may_hold_remarks is))
 
 -- what the lines in front leave to come of the script
@@ -85,7 +89,7 @@ first-leads explains config opened remarks line shown after (Some text) now left
     (subst
     (λ now. IfSome now
     (λ rest. FrontComesTo explains remarks opened
-    (recording_of_lines explains (Factory config) (lines_from remarks 0 line rest)) after left))
+    (recording_of_lines explains (drive_kind remarks) (Factory config) (lines_from remarks 0 line rest)) after left))
     (taken (Some text) now line text refl takes).0 leads)
 
 -- they end it
@@ -108,14 +112,14 @@ pub front-runs : (whole later : Recording) (explains remarks : Bool) (lines : �
     pending after held holds))
     → ComesTo whole later was now pending after held holds
 front-runs whole later explains remarks lines opened run line left was now pending after held holds is comes leads =
-    let (o, on_port, text, runs, at, so) =
+    let (o, kind, text, runs, at, so) =
     subst (λ opened. FrontComesTo explains remarks opened whole line left) is comes in
     subst (λ whole. ComesTo whole later was now pending after held holds) (sym so)
     (subst
     (λ left. IfSome left
-    (λ text. ComesTo (recording_opened o (start explains on_port) (lines_from remarks lines line text)) later was
+    (λ text. ComesTo (recording_opened o (start explains kind) (lines_from remarks lines line text)) later was
     now pending after held holds))
-    at (leads o (start explains on_port) runs))
+    at (leads o (start explains kind) runs))
 
 -- the same, wherever a script comes from
 pub script-ends : (explains remarks : Bool) (config : Config) (opened : Opened) (end : End) (line : List ℕ)

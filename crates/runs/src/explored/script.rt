@@ -6,8 +6,9 @@ ghost use Rattle.std.specs.Io.KnownBytes.{Appends};
 ghost use Rattle.script_lines.specs.PortLines.{is_port_line};
 ghost use Rattle.tool.specs.Outcomes.{Yields, run_outcome_of};
 ghost use Rattle.tool.specs.Openings.{row_said};
+ghost use Rattle.tool.specs.Scripts.{kind_of_script};
 ghost use Rattle.runs.specs.Alphabets.{opening_size, letters_of};
-ghost use Rattle.runs.specs.Tellings.{is_none_behind, is_wrong_letter, has_wrong_letter, is_unfit, search_by, told_of, explored_lines, exploration_of, Explores};
+ghost use Rattle.runs.specs.Tellings.{is_none_behind, kind_behind, is_wrong_letter, has_wrong_letter, is_unfit, search_by, told_of, explored_lines, exploration_of, Explores};
 
 use crate::explored::alphabet::{letters_of, opening_lines_text, opening_size};
 use crate::explored::findings::Findings;
@@ -17,11 +18,14 @@ use crate::explored::search::Search;
 use crate::explored::telling::findings_text;
 use crate::explored::words::is_letter;
 use basics::Bytes;
+use script_lines::named_lines::call_verb_in;
 use script_lines::{Line, PortLine, is_port_line};
 use std::alloc::{AllocError, Global};
 use std::io;
 use std::io::{ErrorKind, Read, Write};
-use tool::{Fault, Options, RunError, run_script_with_faults, write_text};
+use tool::{
+    Fault, Options, RunError, ScriptKind, may_hold_remarks, run_script_with_faults, write_text,
+};
 
 /// The error of a call that reads: its kind decides.
 fn reading_error(error: io::Error) -> RunError {
@@ -43,7 +47,7 @@ fn whole_text<R: Read + Drop>(alloc: Global, input: R) -> Result<Vec<u8>, RunErr
 
 /// Why a line of a port script can be no letter.
 fn port_letter_fault(line: &[u8]) -> Option<Fault>
-    ensures { is_some result ≡ is_none_behind (row_said true line.now) }
+    ensures { is_some result ≡ is_none_behind (row_said ScriptKind.Port line.now) }
 {
     match PortLine::parse(line) {
         Ok(PortLine::Range(_)) => Some(Fault::LateRange),
@@ -54,7 +58,7 @@ fn port_letter_fault(line: &[u8]) -> Option<Fault>
 
 /// Why a line of a script on a drive can be no letter.
 fn drive_letter_fault(line: &[u8]) -> Option<Fault>
-    ensures { is_some result ≡ is_none_behind (row_said false line.now) }
+    ensures { is_some result ≡ is_none_behind (row_said ScriptKind.Drive line.now) }
 {
     match Line::parse(line) {
         Ok(Line::Range(_)) => Some(Fault::LateRange),
@@ -63,17 +67,27 @@ fn drive_letter_fault(line: &[u8]) -> Option<Fault>
     }
 }
 
+/// The same of a script whose lines may write calls by name: such a line may be one, whatever its words are.
+fn named_letter_fault(line: &[u8]) -> Option<Fault>
+    ensures { is_some result ≡ is_none_behind (row_said ScriptKind.DriveWithNames line.now) }
+{
+    match call_verb_in(line) {
+        Some(_) => None,
+        None => drive_letter_fault(line),
+    }
+}
+
 /// Why a letter can't stand behind the opening.
-fn letter_fault(on_port: bool, line: &[u8]) -> Option<Fault>
-    ensures { is_some result ≡ is_wrong_letter on_port line.now }
+fn letter_fault(kind: ScriptKind, line: &[u8]) -> Option<Fault>
+    ensures { is_some result ≡ is_wrong_letter kind line.now }
 {
     if !is_letter(line) {
         return None;
     }
-    if on_port {
-        port_letter_fault(line)
-    } else {
-        drive_letter_fault(line)
+    match kind {
+        ScriptKind::Drive => drive_letter_fault(line),
+        ScriptKind::DriveWithNames => named_letter_fault(line),
+        ScriptKind::Port => port_letter_fault(line),
     }
 }
 
@@ -89,14 +103,36 @@ fn has_port_line(lines: &[Bytes]) -> bool
     false
 }
 
+/// What the lines of a script are, where none says that it is one of a port.
+fn kind_of_script(lines: &[Bytes]) -> ScriptKind
+    ensures { result ≡ kind_of_script lines.now }
+{
+    match lines {
+        [] => ScriptKind::Drive,
+        [first, ..] => ScriptKind::of_drive(may_hold_remarks(first.as_slice())),
+    }
+}
+
+/// What the lines behind the opening are.
+fn kind_behind(lines: &[Bytes]) -> ScriptKind
+    ensures { result ≡ kind_behind lines.now }
+{
+    let size = opening_size(lines);
+    if has_port_line(&lines[..size]) {
+        ScriptKind::Port
+    } else {
+        kind_of_script(lines)
+    }
+}
+
 /// The first line behind so many that can be no letter, and why.
-fn wrong_letter(on_port: bool, size: usize, lines: &[Bytes]) -> Option<(usize, Fault)>
+fn wrong_letter(kind: ScriptKind, size: usize, lines: &[Bytes]) -> Option<(usize, Fault)>
     requires { size ≤ length lines.now }
-    ensures some { is_some result ≡ list_any (is_wrong_letter on_port) (drop size lines.now) }
+    ensures some { is_some result ≡ list_any (is_wrong_letter kind) (drop size lines.now) }
     ensures within { IfSome result (λ found. found.0 < length lines.now) }
 {
     for i in size..lines.len() {
-        if let Some(fault) = letter_fault(on_port, lines[i].as_slice()) {
+        if let Some(fault) = letter_fault(kind, lines[i].as_slice()) {
             return Some((i, fault));
         }
     }
@@ -108,7 +144,7 @@ fn are_letters<E: Write>(lines: &[Bytes], faults: &mut E) -> Result<bool, RunErr
     ensures { IfOk result (λ fit. fit ≡ not (has_wrong_letter lines.now)) }
 {
     let size = opening_size(lines);
-    match wrong_letter(has_port_line(&lines[..size]), size, lines) {
+    match wrong_letter(kind_behind(lines), size, lines) {
         Some((place, fault)) => {
             writeln!(faults, "line {}: {fault}", place + 1).map_err(|_| RunError::Write)?;
             Ok(false)

@@ -5,15 +5,21 @@ ghost use Rattle.runs.specs.Progress.{OpensSo, front_turn};
 
 use script_lines::is_port_line;
 use std::alloc::{AllocError, Global};
-use tool::{Fault, Head, OpeningPhase, OpeningTurn, Options, Phase, is_skipped};
+use tool::{Fault, Head, OpeningPhase, OpeningTurn, Options, Phase, ScriptKind, is_skipped};
 
 /// What the lines in front make so far.
 #[derive(Drop)]
 pub(crate) enum Front {
-    /// There were remarks at most.
-    Bare(OpeningPhase),
-    /// A line told whether the script runs on a port, and range lines made this.
-    Told { on_port: bool, phase: OpeningPhase },
+    /// There were remarks at most; this is what the lines are, unless one says that they are of a port script.
+    Bare {
+        kind: ScriptKind,
+        phase: OpeningPhase,
+    },
+    /// A line told what the lines are, and range lines made this.
+    Told {
+        kind: ScriptKind,
+        phase: OpeningPhase,
+    },
 }
 
 /// How a script goes on behind a line in front.
@@ -25,31 +31,31 @@ pub(crate) enum FrontTurn {
     Bad(Fault),
 }
 
-/// What a line in front comes to, on a drive or on a port.
-fn front_turn(on_port: bool, turn: OpeningTurn) -> FrontTurn
-    ensures { result ≡ front_turn on_port turn }
+/// What a line in front comes to, in a script of this kind.
+fn front_turn(kind: ScriptKind, turn: OpeningTurn) -> FrontTurn
+    ensures { result ≡ front_turn kind turn }
 {
     match turn {
-        OpeningTurn::Goes(phase) => FrontTurn::Goes(Front::Told { on_port, phase }),
+        OpeningTurn::Goes(phase) => FrontTurn::Goes(Front::Told { kind, phase }),
         OpeningTurn::Runs(run) => FrontTurn::Runs(run),
         OpeningTurn::Bad(fault) => FrontTurn::Bad(fault),
     }
 }
 
-/// What a line that is no remark comes to behind what range lines made so far, on a drive or on a port.
+/// What a line that is no remark comes to behind what range lines made so far, in a script of this kind.
 fn opens(
     alloc: Global,
     explains: bool,
-    on_port: bool,
+    kind: ScriptKind,
     phase: OpeningPhase,
     text: &[u8],
 ) -> Result<OpeningTurn, AllocError>
-    ensures { IfOk result (OpensSo explains on_port phase text.now) }
+    ensures { IfOk result (OpensSo explains kind phase text.now) }
 {
     let head = Head {
         remarks: false,
         explains,
-        on_port,
+        kind,
         lines: 0,
     };
     let turn = phase.turn_or_skip(alloc, head, text)?;
@@ -58,16 +64,19 @@ fn opens(
 
 impl Front {
     ghost use Rattle.std.specs.Prelude.{◌≡◌, false, IfOk};
-    ghost use Rattle.tool.specs.Scripts.{is_skipped};
+    ghost use Rattle.tool.specs.Scripts.{drive_kind, is_skipped};
     ghost use Rattle.tool.specs.declared.opening.OpeningPhase.TheVariants.{Factory};
     ghost use Rattle.runs.specs.Progress.{TurnsSo};
     ghost use Rattle.runs.specs.declared.recorded.front.Front.TheVariants.{Bare};
 
-    /// What a script begins with.
-    pub(crate) fn new(options: &Options) -> Front
-        ensures { result ≡ Bare (Factory options.now) }
+    /// What a script begins with, in which remarks may stand or not.
+    pub(crate) fn new(options: &Options, remarks: bool) -> Front
+        ensures { result ≡ Bare (drive_kind remarks) (Factory options.now) }
     {
-        Front::Bare(OpeningPhase::Factory(options.config()))
+        Front::Bare {
+            kind: ScriptKind::of_drive(remarks),
+            phase: OpeningPhase::Factory(options.config()),
+        }
     }
 
     /// Does what one line says, where it is one in front; a remark does nothing.
@@ -98,10 +107,12 @@ impl Front {
         ensures { IfOk result (TurnsSo explains remarks self text.now) }
     {
         match self {
-            Front::Bare(phase) => Front::bare_turn(alloc, explains, remarks, phase, text),
-            Front::Told { on_port, phase } => {
-                let turn = opens(alloc, explains, on_port, phase, text)?;
-                Ok(front_turn(on_port, turn))
+            Front::Bare { kind, phase } => {
+                Front::bare_turn(alloc, explains, remarks, kind, phase, text)
+            }
+            Front::Told { kind, phase } => {
+                let turn = opens(alloc, explains, kind, phase, text)?;
+                Ok(front_turn(kind, turn))
             }
         }
     }
@@ -111,19 +122,20 @@ impl Front {
         alloc: Global,
         explains: bool,
         remarks: bool,
+        kind: ScriptKind,
         phase: OpeningPhase,
         text: &[u8],
     ) -> Result<FrontTurn, AllocError>
         requires { is_skipped remarks text.now ≡ false }
-        ensures { IfOk result (TurnsSo explains remarks (Bare phase) text.now) }
+        ensures { IfOk result (TurnsSo explains remarks (Bare kind phase) text.now) }
     {
         if is_port_line(text) {
             return Ok(FrontTurn::Goes(Front::Told {
-                on_port: true,
+                kind: ScriptKind::Port,
                 phase,
             }));
         }
-        let turn = opens(alloc, explains, false, phase, text)?;
-        Ok(front_turn(false, turn))
+        let turn = opens(alloc, explains, kind, phase, text)?;
+        Ok(front_turn(kind, turn))
     }
 }

@@ -21,6 +21,7 @@ fn sample_of(alloc: Global, run: &Phase) -> Result<Sample, AllocError>
 {
     match run {
         Phase::Drive(drive) => Sample::of_drive(alloc, drive.drive()),
+        Phase::Named(named) => Sample::of_drive(alloc, named.drive()),
         Phase::Port(desk) => Sample::of_port(alloc, desk.port()),
     }
 }

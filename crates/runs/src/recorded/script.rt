@@ -53,7 +53,7 @@ fn front_lines<R: Read + Drop>(
         (reader_remaining R.remaining reader.old)
         line.new.items (reader_remaining R.remaining reader.new)) }
 {
-    let mut front = Front::new(options);
+    let mut front = Front::new(options, remarks);
     for number in 0..READ_LIMIT {
         match front.turn(alloc, explains, remarks, without_end(line))? {
             FrontTurn::Goes(next) => front = next,

@@ -6,6 +6,7 @@ ghost use Rattle.script_lines.specs.Words.{first_word, after_word};
 ghost use Rattle.script_lines.specs.Said.{com_id_said};
 
 use crate::named_lines::phrase::tokens_behind;
+use crate::named_lines::verb::{CallVerb, call_verb_of};
 use crate::{Words, number_up_to};
 use std::alloc::{AllocError, Global};
 use tcg_tokens::Bytes;
@@ -31,12 +32,12 @@ fn client_said(word: &[u8]) -> Option<u32>
 }
 
 /// The ComID, where the line begins a session.
-fn com_id_said(starts: bool, words: &mut Words<'_>) -> Option<Option<u16>>
-    ensures said { result ≡ com_id_said starts (first_word words.old.rest.now) }
-    ensures rest { words.new.rest.now ≡ (if starts then after_word words.old.rest.now
+fn com_id_said(begins_session: bool, words: &mut Words<'_>) -> Option<Option<u16>>
+    ensures said { result ≡ com_id_said begins_session (first_word words.old.rest.now) }
+    ensures rest { words.new.rest.now ≡ (if begins_session then after_word words.old.rest.now
         else words.old.rest.now) }
 {
-    if !starts {
+    if !begins_session {
         return Some(None);
     }
     match number_up_to(u64::from(u16::MAX), words.next_word()) {
@@ -47,9 +48,35 @@ fn com_id_said(starts: bool, words: &mut Words<'_>) -> Option<Option<u16>>
 
 impl NamedLine {
     ghost use Rattle.std.specs.Prelude.{◌≡◌, IfOk};
-    ghost use Rattle.script_lines.specs.Said.{named_line_said};
+    ghost use Rattle.script_lines.specs.Said.{line_of_verb, named_line_said};
 
-    /// What a line says: `start 1 4096 LockingSP Admin1 "OPALMSID`, `get 1 Locking_Range1 RangeStart RangeLength`,
+    /// What a line of this verb says.
+    pub(crate) fn of_verb(
+        alloc: Global,
+        verb: CallVerb,
+        text: &[u8],
+    ) -> Result<Option<NamedLine>, AllocError>
+        ensures { IfOk result (λ line. line ≡ line_of_verb verb text.now) }
+    {
+        let mut words = Words::new(text);
+        words.next_word();
+        let Some(client) = client_said(words.next_word()) else {
+            return Ok(None);
+        };
+        let Some(com_id) = com_id_said(verb.begins_session(), &mut words) else {
+            return Ok(None);
+        };
+        match tokens_behind(alloc, verb, &mut words)? {
+            Some(tokens) => Ok(Some(NamedLine {
+                client,
+                com_id,
+                tokens,
+            })),
+            None => Ok(None),
+        }
+    }
+
+    /// What a line says: `start 1 4096 LockingSP Admin1 "OPALMSID"`, `get 1 Locking_Range1 RangeStart RangeLength`,
     /// `set 1 Locking_Range1 ReadLocked=0 WriteLocked=0`; `specs/Said` lists the lines. `None` where it is none of these.
     ///
     /// # Errors
@@ -59,19 +86,8 @@ impl NamedLine {
         ensures { IfOk result (λ line. line ≡ named_line_said text.now) }
     {
         let mut words = Words::new(text);
-        let verb = words.next_word();
-        let Some(client) = client_said(words.next_word()) else {
-            return Ok(None);
-        };
-        let Some(com_id) = com_id_said(verb == b"start".as_slice(), &mut words) else {
-            return Ok(None);
-        };
-        match tokens_behind(alloc, verb, &mut words)? {
-            Some(tokens) => Ok(Some(NamedLine {
-                client,
-                com_id,
-                tokens,
-            })),
+        match call_verb_of(words.next_word()) {
+            Some(verb) => NamedLine::of_verb(alloc, verb, text),
             None => Ok(None),
         }
     }

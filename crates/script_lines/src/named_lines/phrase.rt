@@ -9,6 +9,7 @@ use crate::Words;
 use crate::named_lines::calls::{
     activate_call, authenticate_call, get_call, revert_call, set_call, start_call,
 };
+use crate::named_lines::verb::CallVerb;
 use crate::named_lines::words::{
     bytes_if_any, cell_said, column_if_any, object_if_any, object_said,
 };
@@ -122,34 +123,23 @@ fn revert_said(alloc: Global, words: &mut Words<'_>) -> Result<Option<Item>, All
 /// What stands behind a verb.
 fn phrase_behind(
     alloc: Global,
-    verb: &[u8],
+    verb: CallVerb,
     words: &mut Words<'_>,
 ) -> Result<Option<Item>, AllocError>
     ensures { IfOk result
-        (λ item. option_map message item ≡ phrase_behind verb.now words.old.rest.now) }
+        (λ item. option_map message item ≡ phrase_behind verb words.old.rest.now) }
 {
-    if verb == b"start".as_slice() {
-        start_said(alloc, words)
-    } else if verb == b"get".as_slice() {
-        get_said(alloc, words)
-    } else if verb == b"set".as_slice() {
-        set_said(alloc, words)
-    } else if verb == b"authenticate".as_slice() {
-        authenticate_said(alloc, words)
-    } else if verb == b"activate".as_slice() {
-        Ok(ended(words.next_word(), activate_call(alloc)))
-    } else if verb == b"revert".as_slice() {
-        revert_said(alloc, words)
-    } else if verb == b"begin".as_slice() {
-        Ok(ended(words.next_word(), Item::Begin(0)))
-    } else if verb == b"commit".as_slice() {
-        Ok(ended(words.next_word(), Item::End(0)))
-    } else if verb == b"abort".as_slice() {
-        Ok(ended(words.next_word(), Item::End(1)))
-    } else if verb == b"end".as_slice() {
-        Ok(ended(words.next_word(), Item::EndSession))
-    } else {
-        Ok(None)
+    match verb {
+        CallVerb::Start => start_said(alloc, words),
+        CallVerb::Get => get_said(alloc, words),
+        CallVerb::Set => set_said(alloc, words),
+        CallVerb::Authenticate => authenticate_said(alloc, words),
+        CallVerb::Activate => Ok(ended(words.next_word(), activate_call(alloc))),
+        CallVerb::Revert => revert_said(alloc, words),
+        CallVerb::Begin => Ok(ended(words.next_word(), Item::Begin(0))),
+        CallVerb::Commit => Ok(ended(words.next_word(), Item::End(0))),
+        CallVerb::Abort => Ok(ended(words.next_word(), Item::End(1))),
+        CallVerb::End => Ok(ended(words.next_word(), Item::EndSession)),
     }
 }
 
@@ -157,10 +147,10 @@ fn phrase_behind(
 /// bytes are too long.
 pub(crate) fn tokens_behind(
     alloc: Global,
-    verb: &[u8],
+    verb: CallVerb,
     words: &mut Words<'_>,
 ) -> Result<Option<Bytes>, AllocError>
-    ensures { IfOk result (λ tokens. tokens ≡ tokens_behind verb.now words.old.rest.now) }
+    ensures { IfOk result (λ tokens. tokens ≡ tokens_behind verb words.old.rest.now) }
 {
     let Some(item) = phrase_behind(alloc, verb, words)? else {
         return Ok(None);

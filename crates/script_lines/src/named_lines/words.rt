@@ -4,7 +4,7 @@ ghost use Rattle.std.specs.Prelude.{◌≡◌, ◌≤◌, length, drop, option_m
 ghost use Rattle.hex.specs.Hex.{decode_of};
 ghost use Rattle.tcg_tokens.specs.Tree.{tree};
 ghost use Rattle.tcg_calls.specs.CellValues.{uid_tree};
-ghost use Rattle.script_lines.specs.Phrases.{hex_or_none, marked_bytes, bytes_said, object_said, column_said, value_said, sign_place, cell_said, if_any};
+ghost use Rattle.script_lines.specs.Phrases.{hex_or_none, first_place, between_quotes, marked_bytes, bytes_said, object_said, column_said, value_said, equals_sign, cell_said, if_any};
 
 use crate::number_up_to;
 use hex::FromHexError;
@@ -16,7 +16,7 @@ use tcg_calls::tcg_names::{column_by_name, object_by_name};
 use tcg_tokens::{Bytes, Value};
 
 /// The bytes that hex digits write.
-fn hex_or_none(alloc: Global, digits: &[u8]) -> Result<Option<Bytes>, AllocError>
+pub(crate) fn hex_or_none(alloc: Global, digits: &[u8]) -> Result<Option<Bytes>, AllocError>
     ensures { IfOk result (λ content. content ≡ hex_or_none (decode_of digits.now)) }
 {
     match hex::decode(alloc, digits) {
@@ -26,12 +26,37 @@ fn hex_or_none(alloc: Global, digits: &[u8]) -> Result<Option<Bytes>, AllocError
     }
 }
 
+/// How many bytes stand before the first that is this one.
+fn first_place(sign: u8, word: &[u8]) -> usize
+    ensures value { result ≡ first_place sign word.now }
+    ensures within { result ≤ length word.now }
+{
+    for i in 0..word.len() {
+        if word[i] == sign {
+            return i;
+        }
+    }
+    word.len()
+}
+
+/// A text in front of a `"`, which is its last byte and its only one.
+fn between_quotes(alloc: Global, text: &[u8]) -> Result<Option<Bytes>, AllocError>
+    ensures { IfOk result (λ content. content ≡ between_quotes text.now) }
+{
+    let place = first_place(b'"', text);
+    if place + 1 != text.len() {
+        return Ok(None);
+    }
+    let content = Vec::from_slice(alloc, &text[..place])?;
+    Ok(Some(Bytes::from_vec(content)))
+}
+
 /// The bytes of a text behind this mark.
 fn marked_bytes(alloc: Global, mark: u8, text: &[u8]) -> Result<Option<Bytes>, AllocError>
     ensures { IfOk result (λ content. content ≡ marked_bytes mark text.now) }
 {
     if mark == b'"' {
-        return Ok(Some(Bytes::from_vec(Vec::from_slice(alloc, text)?)));
+        return between_quotes(alloc, text);
     }
     if mark == b'x' {
         return hex_or_none(alloc, text);
@@ -39,7 +64,7 @@ fn marked_bytes(alloc: Global, mark: u8, text: &[u8]) -> Result<Option<Bytes>, A
     Ok(None)
 }
 
-/// The bytes that a word writes: `"` and a text, or `x` and hex digits.
+/// The bytes that a word writes: a text between `"`, or `x` and hex digits.
 pub(crate) fn bytes_said(alloc: Global, word: &[u8]) -> Result<Option<Bytes>, AllocError>
     ensures { IfOk result (λ content. content ≡ bytes_said word.now) }
 {
@@ -95,19 +120,6 @@ pub(crate) fn value_said(alloc: Global, word: &[u8]) -> Result<Option<Value>, Al
     }
 }
 
-/// How many bytes stand before the first `=`.
-fn sign_place(word: &[u8]) -> usize
-    ensures value { result ≡ sign_place word.now }
-    ensures within { result ≤ length word.now }
-{
-    for i in 0..word.len() {
-        if word[i] == b'=' {
-            return i;
-        }
-    }
-    word.len()
-}
-
 /// What stands behind one byte.
 fn behind_one(text: &[u8]) -> &[u8]
     ensures { result.now ≡ drop 1 text.now }
@@ -122,7 +134,7 @@ fn behind_one(text: &[u8]) -> &[u8]
 pub(crate) fn cell_said(alloc: Global, table: u64, word: &[u8]) -> Result<Option<Value>, AllocError>
     ensures { IfOk result (λ cell. option_map tree cell ≡ cell_said table word.now) }
 {
-    let place = sign_place(word);
+    let place = first_place(b'=', word);
     let Some(column) = column_said(table, &word[..place]) else {
         return Ok(None);
     };

@@ -35,8 +35,8 @@ returns-clause-begins g c =
     (record {
       remarks = c.may_hold_remarks-remarks.result;
       explains = c.args.explains;
-      on_port = false;
+      kind = c.of_drive.result;
       lines = c.in-Some.lines;
     })
     _ line c.skip_remarks.new.line.items c.without_end.result.now
-    old now new c.in-Some.is takes shown c.may_hold_remarks-remarks.ensures refl refl c.in_ok-lines.ensures.skips
+    old now new c.in-Some.is takes shown c.may_hold_remarks-remarks.ensures c.of_drive.ensures refl c.in_ok-lines.ensures.skips

@@ -3,6 +3,7 @@ use Rattle.std.specs.Io.Buffered.{reader_remaining}
 use Rattle.script_lines.specs.PortLines.{is_port_line}
 use Rattle.tool.specs.Progress.{BeginsScript}
 use Rattle.tool.specs.Scripts.{bare, TakesLine}
+use Rattle.tool.specs.declared.head.ScriptKind.TheVariants as kinds
 use Rattle.tool.proofs.Outcomes.{nothing-first, drive-first, port-first, port-alone}
 use Rattle.tool.proofs.script.first_line.Goals as goal
 
@@ -53,7 +54,7 @@ returns g c =
     (record {
       remarks = c.in-Some.head.remarks;
       explains = c.in-Some.head.explains;
-      on_port = true;
+      kind = kinds.Port;
       lines = c.in-Some.head.lines + 1;
     }) line next shown old now new refl begins is port
     (subst (λ b. IfSome now (λ text. TakesLine b next text new)) c.if-not-branch.false c.in_ok-read_line.ensures.line)

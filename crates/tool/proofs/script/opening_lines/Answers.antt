@@ -16,7 +16,7 @@ returns-in-Runs-clause-leads g c =
     (λ text opens.
     subst
     (λ turn. OpeningLeads c.args.head c.loop-number.number turn
-    (outcome_from c.args.head.explains c.args.head.on_port (opens_with c.args.options.now)
+    (outcome_from c.args.head.explains c.args.head.kind (opens_with c.args.options.now)
     (lines_from c.args.head.remarks c.args.head.lines c.args.line.now.items text)) line left)
     c.in-Runs.is
     (opening-turned c.args.head c.loop-number.number c.in_ok-next.field-0 _ c.loop-number.phase line c.without_end.result.now left shown opens
@@ -32,7 +32,7 @@ returns-in-Bad-clause-leads g c =
     (λ text opens.
     subst
     (λ turn. OpeningLeads c.args.head c.loop-number.number turn
-    (outcome_from c.args.head.explains c.args.head.on_port (opens_with c.args.options.now)
+    (outcome_from c.args.head.explains c.args.head.kind (opens_with c.args.options.now)
     (lines_from c.args.head.remarks c.args.head.lines c.args.line.now.items text)) line left)
     c.in-Bad.is
     (opening-turned c.args.head c.loop-number.number c.in_ok-next.field-0 _ c.loop-number.phase line c.without_end.result.now left shown opens
@@ -50,7 +50,7 @@ returns-then-not-branch-clause-leads g c =
     (λ text opens. nothing-opens c.args.head (c.loop-number.number + 1) _ c.in-Goes.next c.read_line.new.line.items left later
     (subst
     (λ turn. OpeningLeads c.args.head c.loop-number.number turn
-    (outcome_from c.args.head.explains c.args.head.on_port (opens_with c.args.options.now)
+    (outcome_from c.args.head.explains c.args.head.kind (opens_with c.args.options.now)
     (lines_from c.args.head.remarks c.args.head.lines c.args.line.now.items text)) line left)
     c.in-Goes.is
     (opening-turned c.args.head c.loop-number.number c.in_ok-next.field-0 _ c.loop-number.phase line c.without_end.result.now left shown opens
@@ -68,7 +68,7 @@ loop-number-preserved g c =
     (λ text opens. next-opens c.args.head (c.loop-number.number + 1) _ c.in-Goes.next c.read_line.new.line.items left later
     (subst
     (λ turn. OpeningLeads c.args.head c.loop-number.number turn
-    (outcome_from c.args.head.explains c.args.head.on_port (opens_with c.args.options.now)
+    (outcome_from c.args.head.explains c.args.head.kind (opens_with c.args.options.now)
     (lines_from c.args.head.remarks c.args.head.lines c.args.line.now.items text)) line left)
     c.in-Goes.is
     (opening-turned c.args.head c.loop-number.number c.in_ok-next.field-0 _ c.loop-number.phase line c.without_end.result.now left shown opens
@@ -82,7 +82,7 @@ loop-number-init g c =
     subst
     (λ config. IfSome start
     (λ text. StillOpens c.args.head c.args.head.lines
-    (outcome_from c.args.head.explains c.args.head.on_port (opens_with c.args.options.now)
+    (outcome_from c.args.head.explains c.args.head.kind (opens_with c.args.options.now)
     (lines_from c.args.head.remarks c.args.head.lines line text))
     (opens_with config) line start))
     (sym c.config.ensures) (opens-all start c.args.head c.args.head.lines (opens_with c.args.options.now) line)

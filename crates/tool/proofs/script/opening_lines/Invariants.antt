@@ -10,6 +10,6 @@ abbrev pub invariant-loop-number : goal.invariant-loop-number
 invariant-loop-number g l =
     IfSome (reader_remaining g.R.Read.remaining l.initial.reader)
     (λ text. StillOpens l.head l.number
-    (outcome_from l.head.explains l.head.on_port (opens_with l.options)
+    (outcome_from l.head.explains l.head.kind (opens_with l.options)
     (lines_from l.head.remarks l.head.lines l.initial.line.items text))
     l.phase l.line.items (reader_remaining g.R.Read.remaining l.reader))

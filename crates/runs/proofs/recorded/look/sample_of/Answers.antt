@@ -2,7 +2,7 @@ use Rattle.std.proofs.Common.{subst, sym}
 use Rattle.std.proofs.lemmas.Result.{IfOk-weaker}
 use Rattle.drive.specs.State.{Agrees}
 use Rattle.tool.specs.Courses.{PhaseRunsOn}
-use Rattle.runs.proofs.recorded.Shows.{drive-samples}
+use Rattle.runs.proofs.recorded.Shows.{drive-samples, named-samples}
 use Rattle.runs.proofs.recorded.look.sample_of.Goals as goal
 
 pub returns-in-Drive : goal.returns-in-Drive
@@ -13,3 +13,12 @@ returns-in-Drive c =
     (λ o acts agrees. shows o acts (subst (λ d. Agrees d o acts) (sym c.drive.ensures) agrees))
     (subst (λ phase. PhaseRunsOn phase o course) c.in-Drive.is runs))
     c.of_drive.ensures
+
+pub returns-in-Named : goal.returns-in-Named
+returns-in-Named c =
+    IfOk-weaker c.of_drive-in-Named.result _ _
+    (λ sample shows. λ o course runs.
+    named-samples c.in-Named.named o course sample
+    (λ o acts agrees. shows o acts (subst (λ d. Agrees d o acts) (sym c.drive-in-Named.ensures) agrees))
+    (subst (λ phase. PhaseRunsOn phase o course) c.in-Named.is runs))
+    c.of_drive-in-Named.ensures

@@ -1,6 +1,6 @@
 use Rattle.std.proofs.Common.{◌≡◌, IfSome, subst, sym, ap, ◌∙◌}
 use Rattle.std.specs.Io.Buffered.{reader_remaining}
-use Rattle.tool.specs.Scripts.{bare, lines_from, TakesLine}
+use Rattle.tool.specs.Scripts.{bare, lines_from, TakesLine, drive_kind}
 use Rattle.tool.specs.Openings.{opens_with}
 use Rattle.tool.proofs.Texts.{weaker}
 use Rattle.runs.specs.Recordings.{recording_of_lines}
@@ -21,7 +21,7 @@ returns-in-Runs-clause-leads g c =
     (λ text still.
     subst
     (λ turn. FrontTurned c.args.explains c.args.remarks c.loop-number.number turn
-    (recording_of_lines c.args.explains (opens_with c.args.options.now) (lines_from c.args.remarks 0 c.args.line.now.items text)) line left)
+    (recording_of_lines c.args.explains (drive_kind c.args.remarks) (opens_with c.args.options.now) (lines_from c.args.remarks 0 c.args.line.now.items text)) line left)
     c.in-Runs.is
     (front-turned c.args.explains c.args.remarks c.loop-number.number c.in_ok-next.field-0 _ c.loop-number.front line c.without_end.result.now left shown still c.in_ok-next.ensures))
     c.loop-number.invariant
@@ -35,7 +35,7 @@ returns-in-Bad-clause-leads g c =
     (λ text still.
     subst
     (λ turn. FrontTurned c.args.explains c.args.remarks c.loop-number.number turn
-    (recording_of_lines c.args.explains (opens_with c.args.options.now) (lines_from c.args.remarks 0 c.args.line.now.items text)) line left)
+    (recording_of_lines c.args.explains (drive_kind c.args.remarks) (opens_with c.args.options.now) (lines_from c.args.remarks 0 c.args.line.now.items text)) line left)
     c.in-Bad.is
     (front-turned c.args.explains c.args.remarks c.loop-number.number c.in_ok-next.field-0 _ c.loop-number.front line c.without_end.result.now left shown still c.in_ok-next.ensures))
     c.loop-number.invariant
@@ -51,7 +51,7 @@ returns-then-not-branch-clause-leads g c =
     (λ text still. nothing-front c.args.explains c.args.remarks c.loop-number.number _ c.in-Goes.next c.read_line.new.line.items left later
     (subst
     (λ turn. FrontTurned c.args.explains c.args.remarks c.loop-number.number turn
-    (recording_of_lines c.args.explains (opens_with c.args.options.now) (lines_from c.args.remarks 0 c.args.line.now.items text)) line left)
+    (recording_of_lines c.args.explains (drive_kind c.args.remarks) (opens_with c.args.options.now) (lines_from c.args.remarks 0 c.args.line.now.items text)) line left)
     c.in-Goes.is
     (front-turned c.args.explains c.args.remarks c.loop-number.number c.in_ok-next.field-0 _ c.loop-number.front line c.without_end.result.now left shown still c.in_ok-next.ensures)) takes)
     c.loop-number.invariant
@@ -67,7 +67,7 @@ loop-number-preserved g c =
     (λ text still. next-front c.args.explains c.args.remarks c.loop-number.number _ c.in-Goes.next c.read_line.new.line.items left later
     (subst
     (λ turn. FrontTurned c.args.explains c.args.remarks c.loop-number.number turn
-    (recording_of_lines c.args.explains (opens_with c.args.options.now) (lines_from c.args.remarks 0 c.args.line.now.items text)) line left)
+    (recording_of_lines c.args.explains (drive_kind c.args.remarks) (opens_with c.args.options.now) (lines_from c.args.remarks 0 c.args.line.now.items text)) line left)
     c.in-Goes.is
     (front-turned c.args.explains c.args.remarks c.loop-number.number c.in_ok-next.field-0 _ c.loop-number.front line c.without_end.result.now left shown still c.in_ok-next.ensures)) takes)
     c.loop-number.invariant
@@ -79,6 +79,6 @@ loop-number-init g c =
     subst
     (λ (front : Front). IfSome start
     (λ text. StillFront c.args.explains c.args.remarks 0
-    (recording_of_lines c.args.explains (opens_with c.args.options.now) (lines_from c.args.remarks 0 line text))
+    (recording_of_lines c.args.explains (drive_kind c.args.remarks) (opens_with c.args.options.now) (lines_from c.args.remarks 0 line text))
     front line start))
     (sym c.new-front.ensures) (front-first start c.args.explains c.args.remarks (opens_with c.args.options.now) line)

@@ -1,6 +1,6 @@
 use Rattle.std.proofs.Common.{subst}
 use Rattle.tool.specs.Courses.{PhaseStands}
-use Rattle.tool.proofs.Turns.{drive-stands, drive-turns, port-turns}
+use Rattle.tool.proofs.Turns.{drive-stands, drive-turns, named-stands, named-turns, port-turns}
 use Rattle.tool.proofs.phase.Phase.turn.Goals as goal
 
 pub turn-requires : goal.turn-requires
@@ -10,6 +10,15 @@ pub returns-in-Drive : goal.returns-in-Drive
 returns-in-Drive c = record {
   steps = rw c.in-Drive.is (drive-turns c.turn.result c.in-Drive.drive c.turn.new.self c.args.number c.args.text.now
       c.args.report.now c.turn.new.report c.turn.ensures);
+}
+
+pub turn-in-Named-requires : goal.turn-in-Named-requires
+turn-in-Named-requires c = named-stands c.in-Named.named (subst PhaseStands c.in-Named.is c.requires)
+
+pub returns-in-Named : goal.returns-in-Named
+returns-in-Named c = record {
+  steps = rw c.in-Named.is (named-turns c.turn-in-Named.result c.in-Named.named c.turn-in-Named.new.self c.args.number
+      c.args.text.now c.args.report.now c.turn-in-Named.new.report c.turn-in-Named.ensures);
 }
 
 pub returns-in-Port : goal.returns-in-Port
