@@ -10,7 +10,7 @@ use Rattle.compacket.specs.declared.error.FrameError.{FrameError}
 use Rattle.compacket.specs.declared.session.Session.{Session}
 use Rattle.tcg_tokens.specs.Message.{Message, call, reply, end_session, begin, end}
 use Rattle.tcg_tokens.specs.Reading.{reading as item_in}
-use Rattle.tcg_tokens.specs.Tree.{Trees, more}
+use Rattle.tcg_tokens.specs.Tree.{Tree, Trees, empty, more}
 use Rattle.tcg_tokens.specs.declared.error.TokenError.{TokenError}
 use Rattle.tcg_calls.specs.Asks.{uid_of}
 use Rattle.tcg_calls.specs.CellValues.{number_in}
@@ -79,9 +79,13 @@ session_of_numbers (Some hsn) (Some tsn) =
 session_of_numbers _ _ = None
 
 -- the arguments of a SyncSession: first the host's number, and then the TPer's
+abbrev pub session_behind : Tree → Trees → Option Session
+session_behind hsn empty = None
+session_behind hsn (more tsn others) = session_of_numbers (number_in hsn) (number_in tsn)
+
 abbrev pub session_among : Trees → Option Session
-session_among (more hsn (more tsn others)) = session_of_numbers (number_in hsn) (number_in tsn)
-session_among _ = None
+session_among empty = None
+session_among (more hsn others) = session_behind hsn others
 
 -- a SyncSession of the session manager
 abbrev pub is_sync_session : Uid → Uid → Bool

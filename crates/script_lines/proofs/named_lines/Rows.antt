@@ -2,11 +2,9 @@
 use Rattle.std.proofs.Common.{◌≡◌, ℕ, List, [], ◌∷◌, codes, refl, Option, Some, None, Result, Ok, Err}
 use Rattle.tcg_tokens.specs.Spelling.{number_spelling, bytes_spelling}
 use Rattle.tcg_calls.specs.Objects.{named_objects, of_numbers, of_ranges, number_making}
-use Rattle.compacket.specs.declared.session.Session.{Session}
 use Rattle.tcg_tokens.specs.Message.{call}
 use Rattle.tcg_tokens.specs.Tree.{number, trees_of}
-use Rattle.script_lines.specs.CallVerbs.{call_verb_of}
-use Rattle.script_lines.specs.KnownSessions.{Known, plain_line, session_begun}
+use Rattle.script_lines.specs.KnownSessions.{Known, call_line_text, plain_line, session_begun}
 use Rattle.script_lines.specs.Phrases.{bytes_said}
 use Rattle.script_lines.specs.Said.{named_line_said}
 use Rattle.script_lines.specs.declared.named_lines.fault.CallFault.TheVariants.{NoCall, NoSession}
@@ -40,7 +38,8 @@ end-amid = refl
 abbrev knows : Known
 knows = (7, record { com_id = 0x1000; session = record { tsn = 0x1001; hsn = 1 } }) ∷ []
 
-calls : plain_line knows (codes "end 7") ≡ Ok (codes "call 7 4096 4097 1 fa")
+calls : plain_line knows (codes "end 7")
+    ≡ Ok (call_line_text 7 (record { com_id = 0x1000; session = record { tsn = 0x1001; hsn = 1 } }) (0xfa ∷ []))
 calls = refl
 
 stranger : plain_line knows (codes "end 8") ≡ Err (NoSession 8)

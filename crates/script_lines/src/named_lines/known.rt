@@ -2,10 +2,10 @@
 
 ghost use Rattle.std.specs.Prelude.{◌≡◌, ◌++◌, codes, decimal, IfOk, OnOk};
 ghost use Rattle.tcg_tokens.specs.Message.{message};
-ghost use Rattle.tcg_tokens.specs.Tree.{trees};
+ghost use Rattle.tcg_tokens.specs.Tree.{tree, trees};
 ghost use Rattle.script_lines.specs.CallVerbs.{call_verb_of};
 ghost use Rattle.script_lines.specs.Words.{first_word};
-ghost use Rattle.script_lines.specs.KnownSessions.{call_line_text, manager_at, session_of_numbers, session_among, is_sync_session, is_success, session_of_call, session_begun, session_in, received_in, session_told, receiver_of};
+ghost use Rattle.script_lines.specs.KnownSessions.{call_line_text, manager_at, session_of_numbers, session_behind, session_among, is_sync_session, is_success, session_of_call, session_begun, session_in, received_in, session_told, receiver_of};
 
 use crate::line::Line;
 use crate::named_lines::fault::CallFault;
@@ -84,13 +84,23 @@ fn session_of_numbers(hsn: Option<u64>, tsn: Option<u64>) -> Option<Session>
     }
 }
 
+/// The session of a SyncSession whose arguments are a first one and others.
+fn session_behind(hsn: &Value, others: &[Value]) -> Option<Session>
+    ensures { result ≡ session_behind (tree hsn.now) (trees others.now) }
+{
+    match others {
+        [] => None,
+        [tsn, ..] => session_of_numbers(number_in(hsn), number_in(tsn)),
+    }
+}
+
 /// The session of the arguments of a SyncSession.
 fn session_among(args: &[Value]) -> Option<Session>
     ensures { result ≡ session_among (trees args.now) }
 {
     match args {
-        [hsn, tsn, ..] => session_of_numbers(number_in(hsn), number_in(tsn)),
-        _ => None,
+        [] => None,
+        [hsn, others @ ..] => session_behind(hsn, others),
     }
 }
 
