@@ -12,8 +12,8 @@ returns-in-Drive c = record {
       c.args.report.now c.turn.new.report c.turn.ensures);
 }
 
-pub turn-in-Named-requires : goal.turn-in-Named-requires
-turn-in-Named-requires c = named-stands c.in-Named.named (subst PhaseStands c.in-Named.is c.requires)
+pub turn-requires-in-Named : goal.turn-requires-in-Named
+turn-requires-in-Named c = named-stands c.in-Named.named (subst PhaseStands c.in-Named.is c.requires)
 
 pub returns-in-Named : goal.returns-in-Named
 returns-in-Named c = record {
