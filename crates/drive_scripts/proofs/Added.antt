@@ -1,5 +1,5 @@
 -- The acts of a line, and what they denied.
-use Rattle.std.proofs.Common.{◌≡◌, ◌∙◌, ℕ, ◌-◌, Bool, true, false, List, [], ◌∷◌, ◌++◌, take, map, length, refl, sym, ap, subst, codes, inl, inr, arith, Option, Some, None}
+use Rattle.std.proofs.Common.{◌≡◌, ◌∙◌, ℕ, ◌-◌, Bool, true, false, List, [], ◌∷◌, ◌++◌, take, map, length, refl, sym, ap, subst, append_assoc, codes, inl, inr, arith, Option, Some, None}
 use Rattle.audit.specs.declared.rules.rule.Rule.{Rule}
 use Rattle.std.specs.Prelude.{◌⊎◌, suc, is_some, ◌||◌, if◌then◌else◌}
 use Rattle.audit.specs.declared.reason.Why.{Why}
@@ -27,7 +27,7 @@ use Rattle.reasons.specs.Remedies.{set_text}
 use Rattle.reasons.specs.Rulings.{because_text, no_reset_words, list_words, discovery_words, long_words, matter_at, matter_text, command_carried}
 use Rattle.reasons.specs.declared.rulings.Matter.{Matter}
 use Rattle.reasons.specs.declared.rulings.Matter.TheVariants.{Reset as ResetMatter, OtherThanList, SendToDiscovery, LongResponse, Plain}
-use Rattle.drive_scripts.specs.Explanations.{added, from_source, attributed, no_objection, objection_of, objection_in, command_done, denial_text, objection_text, told_reasons, once_served}
+use Rattle.drive_scripts.specs.Explanations.{added, from_source, attributed, no_objection, objection_of, objection_in, command_done, sp_asked, open_text, denial_text, objection_text, told_reasons, once_served}
 
 -- the first items of a list, by how many stand behind them
 
@@ -179,7 +179,8 @@ denial_ends o past acts command None (Some rule) =
 denial_ends o past acts command (Some why) rule =
     let because = reasons_text (λ c. held_since (holds_after o c) past) (conditions_in (in_force o (log o (bare_acts past))) why) in
     let remedy = remedy_text o.tables.config.profile (in_force o (log o acts)) why in
-    inr (because ++ remedy, refl)
+    let pending = open_text (log o acts) (sp_asked why) in
+    inr (pending ++ (because ++ remedy), sym (append_assoc pending (because ++ remedy) (10 ∷ [])))
 
 pub reasons_end : (o : Origin) (past : List Sourced) (acts : List Act) → EndsLine (told_reasons o past acts)
 reasons_end o past acts =

@@ -1,17 +1,23 @@
 -- What is told of a refusal behind the lines that it prints: of a denial since when what denied it has been in force, and
 -- what would lift it; of any other the rule, by what its command asked for.
-use Rattle.std.specs.Prelude.{ℕ, ◌-◌, ◌||◌, Bool, if◌then◌else◌, List, [], ◌∷◌, ◌++◌, map, take, length, Option, None, Some, is_some}
+use Rattle.std.specs.Prelude.{ℕ, ◌-◌, ◌||◌, Bool, true, false, codes, if◌then◌else◌, List, [], ◌∷◌, ◌++◌, map, take, length, Option, None, Some, is_some}
 use Rattle.fis.specs.H2d.{h2d_at}
 use Rattle.trusted_cmds.specs.declared.command.Command.{Command}
+use Rattle.sp_cells.specs.declared.names.Sp.{Sp}
+use Rattle.audit.specs.declared.reason.AttemptFailure.{AttemptFailure}
+use Rattle.audit.specs.declared.reason.AttemptFailure.TheVariants.{Disabled}
 use Rattle.audit.specs.declared.reason.Why.{Why}
+use Rattle.audit.specs.declared.reason.Why.TheVariants.{NoEntryHolds, AttemptFailed}
 use Rattle.audit.specs.declared.rules.rule.Rule.{Rule}
 use Rattle.history.specs.Opening.{Origin}
 use Rattle.history.specs.Events.{Event}
 use Rattle.history.specs.History.{Act, Accept, Complete, Reset, log}
-use Rattle.history.specs.Readers.{in_force}
+use Rattle.history.specs.Readers.{in_force, open_on}
 use Rattle.reasons.specs.declared.explained.onset.Source.{Source}
 use Rattle.reasons.specs.Onsets.{Sourced, bare_acts, held_since, holds_after}
 use Rattle.reasons.specs.Conditions.{range_place}
+use Rattle.reasons.specs.Called.{called_object}
+use Rattle.reasons.specs.Remedies.{sp_object}
 use Rattle.reasons.specs.Reasons.{explanation_text}
 use Rattle.reasons.specs.Rulings.{command_carried, ruled_text}
 
@@ -50,6 +56,28 @@ command_done (Accept fis payload ∷ acts) = command_carried (h2d_at fis)
 command_done (Complete tag payload ∷ acts) = command_done acts
 command_done (Reset kind ∷ acts) = None
 
+-- the SP whose rows a denial went by that a transaction may have changed: of a method for which no ACE holds, and of an
+-- authority that is not enabled
+abbrev pub sp_of_failure : Sp → AttemptFailure → Option Sp
+sp_of_failure sp Disabled = Some sp
+sp_of_failure sp _ = None
+
+abbrev pub sp_asked : Why → Option Sp
+sp_asked (NoEntryHolds sp object method column need) = Some sp
+sp_asked (AttemptFailed sp authority failure) = sp_of_failure sp failure
+sp_asked _ = None
+
+-- that a transaction is open there, whose changes its session sees, and all do behind the commit (Core 2.01, section 3.3.9)
+abbrev pub pending_text : Bool → Sp → List ℕ
+pending_text false sp = []
+pending_text true sp =
+    codes "because a transaction is open on " ++ called_object (sp_object sp)
+    ++ codes ": its session sees what it set, and all do behind its commit" ++ 10 ∷ []
+
+abbrev pub open_text : List Event → Option Sp → List ℕ
+open_text past None = []
+open_text past (Some sp) = pending_text (is_some (open_on past sp)) sp
+
 -- what is told of a denial, by the locks as they were before its acts, and by the rows in force behind them, or of the
 -- rule, by the command and the rows in force: lines, each with its line feed
 abbrev pub denial_text : Origin → List Sourced → List Act → Option Command → Option Why
@@ -57,7 +85,8 @@ abbrev pub denial_text : Origin → List Sourced → List Act → Option Command
 denial_text o past acts command None rule =
     ruled_text o.tables.config.profile (in_force o (log o acts)) command rule
 denial_text o past acts command (Some why) rule =
-    explanation_text (λ c. held_since (holds_after o c) past)
+    open_text (log o acts) (sp_asked why)
+    ++ explanation_text (λ c. held_since (holds_after o c) past)
     (range_place (in_force o (log o (bare_acts past)))) o.tables.config.profile
     (in_force o (log o acts)) why
 

@@ -10,4 +10,4 @@ mod ways;
 pub use called::{append_column_name, append_object_name};
 pub use laws::{laws_of_expressions, laws_of_remedies};
 pub(crate) use remedy::append_set;
-pub use remedy::remedy_bytes;
+pub use remedy::{remedy_bytes, sp_object};

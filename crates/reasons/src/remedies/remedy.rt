@@ -284,7 +284,7 @@ fn append_revert<R: Rows>(
 }
 
 /// The row of an SP in the SP table.
-fn sp_object(sp: Sp) -> Uid
+pub fn sp_object(sp: Sp) -> Uid
     ensures { result ≡ sp_object sp }
 {
     match sp {
