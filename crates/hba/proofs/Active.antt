@@ -10,9 +10,10 @@ use Rattle.history.specs.Answers.{errored, ready, answer_fis, served_fises, fise
 use Rattle.history.specs.Events.{HeldCommand}
 use Rattle.port_history.specs.Registers.{raised, with_task, task_error_bit, carried, all_shown}
 use Rattle.hba.specs.declared.registers.Registers.{Registers}
+use Rattle.host_memory.specs.declared.hba_memory.delivery.Arrival.{Arrival}
 use Rattle.host_memory.specs.declared.hba_memory.miss.Miss.{Miss}
 use Rattle.host_memory.specs.declared.hba_memory.miss.Miss.TheVariants as misses
-use Rattle.hba.specs.Showing.{served, fetching}
+use Rattle.hba.specs.Showing.{served, shortened, arrived, fetching}
 use Rattle.hba.specs.Laws.{ToldByDeviceBits}
 
 raised_active : (bits : ℕ) (raises : Bool) (regs : Regs) → (raised bits raises regs).active ≡ regs.active
@@ -66,14 +67,15 @@ served_same (Some misses.Block) tag fises regs e = refl
 served_same (Some misses.Overflow) tag fises regs e = refl
 served_same (Some misses.Fis) tag fises regs e = e
 
-pub fetched_same : (missed : Option Miss) (tag : ℕ) (regs : Registers) (error : Option ℕ) (holds : Bool)
+pub fetched_same : (arrival : Arrival) (tag : ℕ) (regs : Registers) (error : Option ℕ) (holds : Bool)
     (read : Result (Command × Option ℕ) CommandError) (fises : List Fis)
     → fises ≡ (if is_some error then answer_fis true errored (unwrap_or error 0) ∷ []
     else (if holds then answer_fis false ready 0 ∷ [] else fises_read read))
-    → (served tag fises missed (fetching tag regs)).port.active ≡ regs.port.active
-fetched_same missed tag regs error holds read fises e =
-    served_same missed tag fises (fetching tag regs)
-    (rw e (accepted_active tag regs.port error holds read))
+    → (arrived tag fises arrival (fetching tag regs)).port.active ≡ regs.port.active
+fetched_same arrival tag regs error holds read fises e =
+    let before = shortened arrival.is_short (fetching tag regs) in
+    served_same arrival.missed tag fises before
+    (rw e (accepted_active tag before.port error holds read))
 
 -- The two FISes of a completion.
 moved_active : (tag : ℕ) (to_host : Bool) (count : ℕ) (regs : Regs)
@@ -117,3 +119,9 @@ pub completed_told : (missed : Option Miss) (tag : ℕ) (regs : Registers) (held
     (served tag (completed_fises tag held) missed regs).port.active
 completed_told missed tag regs None = inl (served_same missed tag [] regs refl)
 completed_told missed tag regs (Some held) = by_command missed tag regs held.command
+
+pub arrived_told : (arrival : Arrival) (tag : ℕ) (regs : Registers) (held : Option HeldCommand)
+    → ToldByDeviceBits tag (completed_fises tag held) regs.port.active
+    (arrived tag (completed_fises tag held) arrival regs).port.active
+arrived_told arrival tag regs held =
+    completed_told arrival.missed tag (shortened arrival.is_short regs) held

@@ -10,10 +10,11 @@ use Rattle.history.specs.Facts.{Facts}
 use Rattle.hba.specs.declared.registers.Registers.{Registers}
 use Rattle.host_memory.specs.declared.hba_memory.miss.Miss.{Miss}
 use Rattle.host_memory.specs.declared.hba_memory.miss.Miss.TheVariants as misses
+use Rattle.host_memory.specs.declared.hba_memory.delivery.Arrival.{Arrival}
 use Rattle.host_memory.specs.declared.hba_memory.delivery.Place.{Place}
-use Rattle.host_memory.specs.Memory.{descriptors_of, Scatters, Counts, PostsTo, After, Then, Delivers}
-use Rattle.hba.specs.Showing.{served, fetching}
-use Rattle.hba.specs.Laws.{TellsError, Halts, GivesNothing}
+use Rattle.host_memory.specs.Memory.{descriptors_of, written_by, ending, Scatters, Counts, PostsTo, After, Then, EndsBy, Delivers}
+use Rattle.hba.specs.Showing.{served, shortened, arrived, fetching}
+use Rattle.hba.specs.Laws.{whole, TellsError, Halts, GivesNothing}
 
 pub fises_failed : (f : Facts) (h : RegH2d) (event : Event) (error : ℕ) → event.failed ≡ Some error
     → answer_fises f h event ≡ answer_fis true errored error ∷ []
@@ -29,7 +30,7 @@ or_true false = refl
 
 pub tells_error : (regs : Registers) (tag error : ℕ) (fises : List Fis)
     → fises ≡ answer_fis true errored error ∷ []
-    → TellsError error regs (served tag fises None (fetching tag regs))
+    → TellsError error regs (arrived tag fises whole (fetching tag regs))
 tells_error regs tag error fises f = rw f (record { status = refl; code = refl; raised = refl })
 
 halts_so : (regs : Registers) (tag error : ℕ) (missed : Option Miss)
@@ -41,10 +42,12 @@ halts_so regs tag error (Some misses.Block) = record { issued = refl; active = r
 halts_so regs tag error (Some misses.Overflow) = record { issued = refl; active = refl; halted = refl }
 halts_so regs tag error (Some misses.Fis) = record { issued = refl; active = refl; halted = refl }
 
-pub halts : (regs : Registers) (tag error : ℕ) (missed : Option Miss) (fises : List Fis)
+pub halts : (regs : Registers) (tag error : ℕ) (arrival : Arrival) (fises : List Fis)
     → fises ≡ answer_fis true errored error ∷ []
-    → Halts regs (served tag fises missed (fetching tag regs))
-halts regs tag error missed fises f = rw f (halts_so regs tag error missed)
+    → Halts regs (arrived tag fises arrival (fetching tag regs))
+halts regs tag error arrival fises f =
+    let h = halts_so (shortened arrival.is_short regs) tag error arrival.missed in
+    rw f (record { issued = h.issued; active = h.active; halted = h.halted })
 
 -- No bytes ask for nothing.
 scatters_none : (at n : ℕ) (talk : List Access) (missed : Option Miss) → Scatters at n [] talk missed
@@ -53,18 +56,20 @@ scatters_none at zero talk missed h = h
 scatters_none at (suc n) talk missed h = h
 
 pub gives_nothing : (place : Place) (brought error : ℕ) (fises : List Fis) (bytes : List ℕ)
-    (talk : List Access) (missed : Option Miss) → fises ≡ answer_fis true errored error ∷ []
-    → bytes ≡ [] → Delivers place brought fises bytes talk missed
-    → GivesNothing place error talk missed
-gives_nothing place brought error fises bytes talk missed f b h =
+    (talk : List Access) (arrival : Arrival) → fises ≡ answer_fis true errored error ∷ []
+    → bytes ≡ [] → Delivers place brought fises bytes talk arrival
+    → GivesNothing place error talk arrival.missed
+gives_nothing place brought error fises bytes talk arrival f b h =
     let told : List Fis = answer_fis true errored error ∷ [] in
-    let g : Delivers place brought told [] talk missed =
-    subst (λ (xs : List ℕ). Delivers place brought told xs talk missed) b
-    (subst (λ (fs : List Fis). Delivers place brought fs bytes talk missed) f h) in
+    let g : Delivers place brought told [] talk arrival =
+    subst (λ (xs : List ℕ). Delivers place brought told xs talk arrival) b
+    (subst (λ (fs : List Fis). Delivers place brought fs bytes talk arrival) f h) in
     let n = scatters_none (descriptors_of place.header) place.header.entries g.0 g.2 g.4 in
-    let rest : Then (Counts place.at 0) (PostsTo place.to told) g.1 missed =
-    subst (λ (m : Option Miss). After m (Then (Counts place.at 0) (PostsTo place.to told)) g.1 missed) n.1 g.5 in
+    let ends : EndsBy (ending g.2) (Counts place.at 0) (PostsTo place.to told) g.1 arrival.missed =
+    subst (λ (xs : List Access). EndsBy (ending g.2) (Counts place.at (0 + written_by xs)) (PostsTo place.to told) g.1 arrival.missed) n.0 g.6 in
+    let rest : Then (Counts place.at 0) (PostsTo place.to told) g.1 arrival.missed =
+    subst (λ (m : Option Miss). EndsBy (ending m) (Counts place.at 0) (PostsTo place.to told) g.1 arrival.missed) n.1 ends in
     let same : talk ≡ rest.1 =
     g.3 ∙ ap (λ (xs : List Access). xs ++ g.1) n.0 ∙ rest.3 ∙ ap (λ (xs : List Access). xs ++ rest.1) rest.4.0 in
-    subst (λ (xs : List Access). GivesNothing place error xs missed) (sym same)
-    (subst (λ (m : Option Miss). After m (PostsTo place.to told) rest.1 missed) rest.4.1 rest.5)
+    subst (λ (xs : List Access). GivesNothing place error xs arrival.missed) (sym same)
+    (subst (λ (m : Option Miss). After m (PostsTo place.to told) rest.1 arrival.missed) rest.4.1 rest.5)

@@ -1,8 +1,12 @@
 -- Worked rows, computed from the definitions alone: words that a driver reads.
 use Rattle.std.proofs.Common.{◌≡◌, ℕ, true, false, List, [], ◌∷◌, Some, None, refl}
 use Rattle.history.specs.Opening.{Origin}
+use Rattle.history.specs.Answers.{ready, answer_fis}
+use Rattle.host_memory.specs.declared.hba_memory.delivery.Arrival.{Arrival}
 use Rattle.host_memory.specs.declared.hba_memory.miss.Miss.TheVariants as misses
+use Rattle.hba.specs.declared.registers.Registers.{Registers}
 use Rattle.hba.specs.Registers.{word_at}
+use Rattle.hba.specs.Showing.{arrived}
 use Rattle.hba.specs.Ready.{may_sign}
 use Rattle.hba.specs.History.{Operation, Wrote, Signed, Missed, Controlled, regs_of}
 
@@ -139,3 +143,34 @@ row_waits o = refl
 
 row_signs : (o : Origin) → may_sign (regs_of o (Wrote 0x130 0x04000000 ∷ rises)) ≡ true
 row_signs o = refl
+
+-- OFS (3.3.5) of a read whose data pass the PRDT: its FIS comes, PxCI is clear, and nothing halts (6.1).
+-- A write is not done: PxCI keeps its bit, and the port halts.
+abbrev issued : List Operation
+issued = Wrote 0x138 1 ∷ Wrote 0x118 0x11 ∷ heard
+
+abbrev cut : Arrival
+cut = record { is_short = true; missed = None }
+
+abbrev read_cut : Origin → Registers
+read_cut o = arrived 0 (answer_fis true ready 0 ∷ []) cut (regs_of o issued)
+
+row_read_interrupts : (o : Origin) → word_at (read_cut o) 0x110 ≡ 0x01000001
+row_read_interrupts o = refl
+
+row_read_done : (o : Origin) → word_at (read_cut o) 0x138 ≡ 0
+row_read_done o = refl
+
+row_read_goes_on : (o : Origin) → (read_cut o).is_halted ≡ false
+row_read_goes_on o = refl
+
+row_write_interrupts : (o : Origin)
+    → reads o (Missed (Some 0) misses.Overflow ∷ issued) 0x110 ≡ 0x01000000
+row_write_interrupts o = refl
+
+row_write_stays : (o : Origin) → reads o (Missed (Some 0) misses.Overflow ∷ issued) 0x138 ≡ 1
+row_write_stays o = refl
+
+row_write_halts : (o : Origin)
+    → (regs_of o (Missed (Some 0) misses.Overflow ∷ issued)).is_halted ≡ true
+row_write_halts o = refl

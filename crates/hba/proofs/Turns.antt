@@ -16,6 +16,7 @@ use Rattle.host_memory.specs.Access.{Access, Asked, IsAccess, Accessed, OnlyRead
 use Rattle.host_memory.proofs.Accesses.{accessed_append}
 use Rattle.host_memory.specs.declared.hba_memory.miss.Miss.{Miss}
 use Rattle.host_memory.specs.declared.hba_memory.reading.Header.{Header}
+use Rattle.host_memory.specs.declared.hba_memory.delivery.Arrival.{Arrival}
 use Rattle.host_memory.specs.declared.hba_memory.delivery.Place.{Place}
 use Rattle.slots.specs.Table.{is_command}
 use Rattle.host_memory.specs.Memory.{header_by, descriptors_of, data_len, Gathers, BringsNext, BringsEntry, BringsBlock, PostsTo, Delivers}
@@ -25,7 +26,7 @@ use Rattle.hba.specs.declared.work.Work.TheVariants as works
 use Rattle.hba.specs.declared.work.Done.{Done}
 use Rattle.hba.specs.declared.work.Outcome.{Outcome}
 use Rattle.hba.specs.declared.work.Done.TheVariants as dones
-use Rattle.hba.specs.Showing.{fault_of, served, fetching}
+use Rattle.hba.specs.Showing.{fault_of, arrived, fetching}
 use Rattle.hba.specs.History.{Operation, Signed, Missed, Controlled, Fetched, Completed, Account, State, HasActed, AgreesHba, Adds, account, acts_of, regs_of, effect_after, operation_denied}
 use Rattle.hba.specs.Ready.{ready_on, picked}
 use Rattle.hba.specs.Engine.{header_at, fises_at, place_of, IsEffect, ServesSo, Executes, FetchesIf, FetchesFis, FetchesFrom, Fetches, CompletesFrom, Completes, Signs, signature_fis, IsWork, done_of, TurnsAs, TurnsBy, HasRun, Runs, HasStopped}
@@ -118,13 +119,13 @@ Brought does place n before after brought =
     × Gathers (descriptors_of place.header) place.header.entries n talk brought
 
 abbrev pub Delivered : {M : Type 0} → (M → Access → M → Type 0) → Place → ℕ → List Fis → List ℕ → M → M
-    → Option Miss → Type 0
-Delivered does place moved fises bytes before after missed =
+    → Arrival → Type 0
+Delivered does place moved fises bytes before after arrival =
     (talk : List Access) × Accessed does before talk after
-    × Delivers place moved fises bytes talk missed
+    × Delivers place moved fises bytes talk arrival
 
 pub serves_missed : {M : Type 0} (does : M → Access → M → Type 0) (place : Place) (n : ℕ)
-    (fetched : Option ℕ) (act : List ℕ → Act) (operation : List ℕ → Option Miss → Operation) (old : State) (before : M)
+    (fetched : Option ℕ) (act : List ℕ → Act) (operation : List ℕ → Arrival → Operation) (old : State) (before : M)
     (new : State) (after : M) (miss : Miss) → Brought does place n before after (Err miss)
     → Adds (Missed fetched miss) old new
     → TurnsAs does (λ o a. ServesSo o a place n fetched act operation) old before new after
@@ -148,29 +149,29 @@ Gives old act fises bytes =
     → IsEffect (effect_after o (account o list) (act list o)) fises bytes
 
 delivers_effect : (o : Origin) (a : Account) (act : Act) (place : Place) (moved : ℕ) (fises : List Fis)
-    (bytes : List ℕ) (talk : List Access) (missed : Option Miss)
-    → IsEffect (effect_after o a act) fises bytes → Delivers place moved fises bytes talk missed
-    → Delivers place moved (effect_after o a act).fises (effect_after o a act).bytes talk missed
-delivers_effect o a act place moved fises bytes talk missed e h =
-    subst (λ (xs : List ℕ). Delivers place moved (effect_after o a act).fises xs talk missed) e.bytes
-    (subst (λ (fs : List Fis). Delivers place moved fs bytes talk missed) e.fises h)
+    (bytes : List ℕ) (talk : List Access) (arrival : Arrival)
+    → IsEffect (effect_after o a act) fises bytes → Delivers place moved fises bytes talk arrival
+    → Delivers place moved (effect_after o a act).fises (effect_after o a act).bytes talk arrival
+delivers_effect o a act place moved fises bytes talk arrival e h =
+    subst (λ (xs : List ℕ). Delivers place moved (effect_after o a act).fises xs talk arrival) e.bytes
+    (subst (λ (fs : List Fis). Delivers place moved fs bytes talk arrival) e.fises h)
 
 pub serves_done : {M : Type 0} (does : M → Access → M → Type 0) (place : Place) (n : ℕ)
-    (fetched : Option ℕ) (act : List ℕ → Act) (operation : List ℕ → Option Miss → Operation) (old : State)
+    (fetched : Option ℕ) (act : List ℕ → Act) (operation : List ℕ → Arrival → Operation) (old : State)
     (before middle : M) (new : State) (after : M) (payload : List ℕ) (fises : List Fis)
-    (bytes : List ℕ) (missed : Option Miss) (done : Done) (denied : Option Why)
+    (bytes : List ℕ) (arrival : Arrival) (done : Done) (denied : Option Why)
     → Brought does place n before middle (Ok payload)
-    → Delivered does place (length payload) fises bytes middle after missed
-    → done_of (operation payload missed) ≡ Some done
+    → Delivered does place (length payload) fises bytes middle after arrival
+    → done_of (operation payload arrival) ≡ Some done
     → ((o : Origin) (list : List Operation) → AgreesHba old o list
     → IsEffect (effect_after o (account o list) (act payload)) fises bytes)
-    → Adds (operation payload missed) old new
+    → Adds (operation payload arrival) old new
     → ((o : Origin) (list : List Operation) → AgreesHba old o list
-    → denied ≡ operation_denied o (account o list) (operation payload missed))
+    → denied ≡ operation_denied o (account o list) (operation payload arrival))
     → TurnsAs does (λ o a. ServesSo o a place n fetched act operation) old before new after done denied
-serves_done does place n fetched act operation old before middle new after payload fises bytes missed done denied g d told gives adds denies = (
+serves_done does place n fetched act operation old before middle new after payload fises bytes arrival done denied g d told gives adds denies = (
   g.0 ++ d.0,
-  operation payload missed,
+  operation payload arrival,
   accessed_append does before middle after g.0 d.0 g.1 d.1,
   told,
   λ o list a. record {
@@ -181,8 +182,8 @@ serves_done does place n fetched act operation old before middle new after paylo
       refl,
       g.2,
       (
-        missed,
-        delivers_effect o (account o list) (act payload) place (length payload) fises bytes d.0 missed
+        arrival,
+        delivers_effect o (account o list) (act payload) place (length payload) fises bytes d.0 arrival
             (gives o list a) d.2,
         refl,
       ),
@@ -194,39 +195,39 @@ serves_done does place n fetched act operation old before middle new after paylo
 
 -- The registers are those that an act leaves.
 pub adds_fetched : (old acted new : State) (tag : ℕ) (fis payload : List ℕ) (fises : List Fis)
-    (bytes : List ℕ) (missed : Option Miss)
+    (bytes : List ℕ) (arrival : Arrival)
     → ((o : Origin) (list : List Operation) → AgreesHba old o list
     → HasActed acted o (Accept fis payload ∷ acts_of o list))
     → ((o : Origin) (list : List Operation) → AgreesHba old o list
     → IsEffect (effect_after o (account o list) (Accept fis payload)) fises bytes)
-    → new ≡ record acted { registers = served tag fises missed (fetching tag old.registers) }
-    → Adds (Fetched tag fis payload missed) old new
-adds_fetched old acted new tag fis payload fises bytes missed has gives e = λ o list a.
+    → new ≡ record acted { registers = arrived tag fises arrival (fetching tag old.registers) }
+    → Adds (Fetched tag fis payload arrival) old new
+adds_fetched old acted new tag fis payload fises bytes arrival has gives e = λ o list a.
     let h = has o list a in
-    subst (λ (s : State). AgreesHba s o (Fetched tag fis payload missed ∷ list)) (sym e)
+    subst (λ (s : State). AgreesHba s o (Fetched tag fis payload arrival ∷ list)) (sym e)
     (record {
       acted = record { drive = h.drive; count = h.count };
       registers =
-          ap (λ (r : Registers). served tag fises missed (fetching tag r)) a.registers
-          ∙ ap (λ (fs : List Fis). served tag fs missed (fetching tag (regs_of o list))) (gives o list a).fises;
+          ap (λ (r : Registers). arrived tag fises arrival (fetching tag r)) a.registers
+          ∙ ap (λ (fs : List Fis). arrived tag fs arrival (fetching tag (regs_of o list))) (gives o list a).fises;
     })
 
 pub adds_completed : (old acted new : State) (tag : ℕ) (payload : List ℕ) (fises : List Fis)
-    (bytes : List ℕ) (missed : Option Miss)
+    (bytes : List ℕ) (arrival : Arrival)
     → ((o : Origin) (list : List Operation) → AgreesHba old o list
     → HasActed acted o (Complete tag payload ∷ acts_of o list))
     → ((o : Origin) (list : List Operation) → AgreesHba old o list
     → IsEffect (effect_after o (account o list) (Complete tag payload)) fises bytes)
-    → new ≡ record acted { registers = served tag fises missed old.registers }
-    → Adds (Completed tag payload missed) old new
-adds_completed old acted new tag payload fises bytes missed has gives e = λ o list a.
+    → new ≡ record acted { registers = arrived tag fises arrival old.registers }
+    → Adds (Completed tag payload arrival) old new
+adds_completed old acted new tag payload fises bytes arrival has gives e = λ o list a.
     let h = has o list a in
-    subst (λ (s : State). AgreesHba s o (Completed tag payload missed ∷ list)) (sym e)
+    subst (λ (s : State). AgreesHba s o (Completed tag payload arrival ∷ list)) (sym e)
     (record {
       acted = record { drive = h.drive; count = h.count };
       registers =
-          ap (λ (r : Registers). served tag fises missed r) a.registers
-          ∙ ap (λ (fs : List Fis). served tag fs missed (regs_of o list)) (gives o list a).fises;
+          ap (λ (r : Registers). arrived tag fises arrival r) a.registers
+          ∙ ap (λ (fs : List Fis). arrived tag fs arrival (regs_of o list)) (gives o list a).fises;
     })
 
 -- The header is read.
@@ -472,22 +473,22 @@ brought_reads does place n before after brought g =
     (g.0, gathers_reads (descriptors_of place.header) place.header.entries n g.0 brought g.2, g.1)
 
 -- The registers after an act.
-pub shown_fetched : (old acted noted new : State) (tag : ℕ) (fises : List Fis) (missed : Option Miss)
+pub shown_fetched : (old acted noted new : State) (tag : ℕ) (fises : List Fis) (arrival : Arrival)
     → acted.registers ≡ old.registers
     → noted ≡ record acted { registers = fetching tag acted.registers }
-    → new ≡ record noted { registers = served tag fises missed noted.registers }
-    → new ≡ record acted { registers = served tag fises missed (fetching tag old.registers) }
-shown_fetched old acted noted new tag fises missed r n s =
+    → new ≡ record noted { registers = arrived tag fises arrival noted.registers }
+    → new ≡ record acted { registers = arrived tag fises arrival (fetching tag old.registers) }
+shown_fetched old acted noted new tag fises arrival r n s =
     s
-    ∙ ap (λ (x : State). let y : State = record x { registers = served tag fises missed x.registers } in y) n
-    ∙ ap (λ (x : Registers). let y : State = record acted { registers = served tag fises missed (fetching tag x) } in y) r
+    ∙ ap (λ (x : State). let y : State = record x { registers = arrived tag fises arrival x.registers } in y) n
+    ∙ ap (λ (x : Registers). let y : State = record acted { registers = arrived tag fises arrival (fetching tag x) } in y) r
 
-pub shown_completed : (old acted new : State) (tag : ℕ) (fises : List Fis) (missed : Option Miss)
+pub shown_completed : (old acted new : State) (tag : ℕ) (fises : List Fis) (arrival : Arrival)
     → acted.registers ≡ old.registers
-    → new ≡ record acted { registers = served tag fises missed acted.registers }
-    → new ≡ record acted { registers = served tag fises missed old.registers }
-shown_completed old acted new tag fises missed r s =
-    s ∙ ap (λ (x : Registers). let y : State = record acted { registers = served tag fises missed x } in y) r
+    → new ≡ record acted { registers = arrived tag fises arrival acted.registers }
+    → new ≡ record acted { registers = arrived tag fises arrival old.registers }
+shown_completed old acted new tag fises arrival r s =
+    s ∙ ap (λ (x : Registers). let y : State = record acted { registers = arrived tag fises arrival x } in y) r
 
 -- The work, as it was matched.
 pub by_work : {M E : Type 0} (does : M → Access → M → Type 0) (work matched : Work) (old : State)

@@ -22,6 +22,7 @@ use Rattle.hba.specs.declared.registers.Registers.{Registers}
 use Rattle.host_memory.specs.declared.hba_memory.miss.Miss.{Miss}
 use Rattle.host_memory.specs.declared.hba_memory.miss.Miss.TheVariants as misses
 use Rattle.host_memory.specs.declared.hba_memory.reading.Header.{Header}
+use Rattle.host_memory.specs.declared.hba_memory.delivery.Arrival.{Arrival}
 use Rattle.host_memory.specs.declared.hba_memory.delivery.Place.{Place}
 use Rattle.slots.specs.Table.{is_command}
 use Rattle.host_memory.specs.Memory.{header_by, descriptors_of, Gathers, PostsTo, Delivers}
@@ -48,18 +49,18 @@ place_of regs tag header = record {
 -- An act of the drive with the data that were brought, and what it gives; of a fetch under a tag, or
 -- of a completion.
 abbrev pub Acts : Origin → Account → Place → Option ℕ → (List ℕ → Act)
-    → (List ℕ → Option Miss → Operation) → Result (List ℕ) Miss → List Access → Operation → Type 0
+    → (List ℕ → Arrival → Operation) → Result (List ℕ) Miss → List Access → Operation → Type 0
 Acts o a place fetched act operation (Err miss) talk done =
     (talk ≡ []) × (done ≡ Missed fetched miss)
 Acts o a place fetched act operation (Ok payload) talk done =
     let effect = effect_after o a (act payload) in
-    (missed : Option Miss)
-    × Delivers place (length payload) effect.fises effect.bytes talk missed
-    × (done ≡ operation payload missed)
+    (arrival : Arrival)
+    × Delivers place (length payload) effect.fises effect.bytes talk arrival
+    × (done ≡ operation payload arrival)
 
 -- So many bytes are brought; the drive acts; what it gives is delivered.
 abbrev pub ServesSo : Origin → Account → Place → ℕ → Option ℕ → (List ℕ → Act)
-    → (List ℕ → Option Miss → Operation) → List Access → Operation → Type 0
+    → (List ℕ → Arrival → Operation) → List Access → Operation → Type 0
 ServesSo o a place n fetched act operation talk done =
     (before later : List Access) × (brought : Result (List ℕ) Miss) × (talk ≡ before ++ later)
     × Gathers (descriptors_of place.header) place.header.entries n before brought
@@ -155,8 +156,8 @@ done_of Powered = None
 done_of Signed = Some dones.Posted
 done_of (Missed fetched miss) = Some (dones.Fault (fault_of miss))
 done_of (Controlled tag) = Some dones.Control
-done_of (Fetched tag fis payload missed) = Some (done_by missed)
-done_of (Completed tag payload missed) = Some (done_by missed)
+done_of (Fetched tag fis payload arrival) = Some (done_by arrival.missed)
+done_of (Completed tag payload arrival) = Some (done_by arrival.missed)
 
 -- What a piece of work was, after a list of operations that the HBA agreed with.
 pub record TurnedSo (o : Origin) (list : List Operation) (operation : Operation) (new : State)

@@ -11,21 +11,22 @@ use Rattle.audit.specs.declared.reason.Why.{Why}
 use Rattle.port_history.specs.Steps.{Effect, effect_by}
 use Rattle.hba.specs.declared.registers.Registers.{Registers}
 use Rattle.host_memory.specs.declared.hba_memory.miss.Miss.{Miss}
+use Rattle.host_memory.specs.declared.hba_memory.delivery.Arrival.{Arrival}
 use Rattle.hba.specs.Registers.{reset_registers, written_at, write_resets}
-use Rattle.hba.specs.Showing.{signed, faulted, beginning, controlled, fetching, served}
+use Rattle.hba.specs.Showing.{signed, faulted, beginning, controlled, fetching, arrived}
 
 -- The host's write of a register; a power cycle; the device's signature; memory that failed before
 -- the drive's act, of the fetch under a tag or of a completion; a FIS that carries no command; a
--- command's FIS, with the data that came with it, and what was missed behind the act; the completion
--- of a held command, with the same.
+-- command's FIS, with the data that came with it, and how what the act gave arrived; the completion of
+-- a held command, with the same.
 pub data Operation : Type 0 where
   Wrote : (offset value : ℕ) → Operation
   Powered : Operation
   Signed : Operation
   Missed : (fetched : Option ℕ) (miss : Miss) → Operation
   Controlled : (tag : ℕ) → Operation
-  Fetched : (tag : ℕ) (fis payload : List ℕ) (missed : Option Miss) → Operation
-  Completed : (tag : ℕ) (payload : List ℕ) (missed : Option Miss) → Operation
+  Fetched : (tag : ℕ) (fis payload : List ℕ) (arrival : Arrival) → Operation
+  Completed : (tag : ℕ) (payload : List ℕ) (arrival : Arrival) → Operation
 
 -- What operations have done: the acts of the drive, the newest first, and the registers.
 pub record Account : Type 0 where
@@ -36,10 +37,10 @@ abbrev pub effect_after : Origin → Account → Act → Effect
 effect_after o a act = effect_by (facts o (log o a.acts)) act
 
 -- An act of the drive for the command of a tag.
-abbrev pub acting : ℕ → Act → Option Miss → Effect → Account → Account
-acting tag act missed effect a = record {
+abbrev pub acting : ℕ → Act → Arrival → Effect → Account → Account
+acting tag act arrival effect a = record {
   acts = act ∷ a.acts;
-  registers = served tag effect.fises missed a.registers;
+  registers = arrived tag effect.fises arrival a.registers;
 }
 
 abbrev pub account_after : Origin → Account → Operation → Account
@@ -57,11 +58,11 @@ account_after o a (Missed fetched miss) = record a {
   registers = faulted miss (beginning fetched a.registers);
 }
 account_after o a (Controlled tag) = record a { registers = controlled tag a.registers }
-account_after o a (Fetched tag fis payload missed) =
-    acting tag (Accept fis payload) missed (effect_after o a (Accept fis payload))
+account_after o a (Fetched tag fis payload arrival) =
+    acting tag (Accept fis payload) arrival (effect_after o a (Accept fis payload))
     (record a { registers = fetching tag a.registers })
-account_after o a (Completed tag payload missed) =
-    acting tag (Complete tag payload) missed (effect_after o a (Complete tag payload)) a
+account_after o a (Completed tag payload arrival) =
+    acting tag (Complete tag payload) arrival (effect_after o a (Complete tag payload)) a
 
 abbrev pub account : Origin → List Operation → Account
 account o [] = record { acts = []; registers = reset_registers }
@@ -95,7 +96,7 @@ pub record AgreesHba (hba : State) (o : Origin) (list : List Operation) : Type 0
 
 -- What denied the command that an operation fetched, if one did.
 abbrev pub operation_denied : Origin → Account → Operation → Option Why
-operation_denied o a (Fetched tag fis payload missed) =
+operation_denied o a (Fetched tag fis payload arrival) =
     (effect_after o a (Accept fis payload)).event.denied
 operation_denied o a _ = None
 

@@ -1,6 +1,6 @@
 -- Laws over every list of operations: a command that fails, and a transfer that the policy denies, in
 -- the words of the registers and of the host's memory.
-use Rattle.std.specs.Prelude.{◌≡◌, ◌⊎◌, ℕ, ◌^◌, List, [], ◌∷◌, length, Option, Some, None, true, bit_or}
+use Rattle.std.specs.Prelude.{◌≡◌, ◌⊎◌, ℕ, ◌^◌, List, [], ◌∷◌, length, Option, Some, None, true, false, bit_or}
 use Rattle.fis.specs.declared.any.Fis.{Fis}
 use Rattle.hba_regs.specs.Registers.{without}
 use Rattle.locking.specs.declared.range.Op.{Op}
@@ -17,6 +17,7 @@ use Rattle.port_history.specs.Registers.{register_bit, task_error_bit}
 use Rattle.hba.specs.declared.registers.Registers.{Registers}
 use Rattle.host_memory.specs.Access.{Access}
 use Rattle.host_memory.specs.declared.hba_memory.miss.Miss.{Miss}
+use Rattle.host_memory.specs.declared.hba_memory.delivery.Arrival.{Arrival}
 use Rattle.host_memory.specs.declared.hba_memory.delivery.Place.{Place}
 use Rattle.host_memory.specs.Memory.{Delivers, PostsTo}
 use Rattle.hba.specs.History.{Operation, Wrote, Powered, Fetched, Completed, account, acts_of, regs_of, effect_after}
@@ -39,19 +40,23 @@ abbrev pub GivesNothing : Place → ℕ → List Access → Option Miss → Type
 GivesNothing place error talk missed =
     PostsTo place.to (answer_fis true errored error ∷ []) talk missed
 
+-- All that an act gives has arrived.
+abbrev pub whole : Arrival
+whole = record { is_short = false; missed = None }
+
 -- A fetched command fails with an error, in registers and memory; where memory misses something
 -- behind the act, it halts all the same.
 pub record FailsSo (o : Origin) (before : List Operation) (tag : ℕ) (fis payload : List ℕ)
     (error : ℕ) : Type 0 where
   pub tells : TellsError error (regs_of o before)
-      (regs_of o (Fetched tag fis payload None ∷ before))
-  pub halts : (missed : Option Miss)
-      → Halts (regs_of o before) (regs_of o (Fetched tag fis payload missed ∷ before))
-  pub gives : (place : Place) (talk : List Access) (missed : Option Miss)
+      (regs_of o (Fetched tag fis payload whole ∷ before))
+  pub halts : (arrival : Arrival)
+      → Halts (regs_of o before) (regs_of o (Fetched tag fis payload arrival ∷ before))
+  pub gives : (place : Place) (talk : List Access) (arrival : Arrival)
       → Delivers place (length payload)
       (effect_after o (account o before) (Accept fis payload)).fises
-      (effect_after o (account o before) (Accept fis payload)).bytes talk missed
-      → GivesNothing place error talk missed
+      (effect_after o (account o before) (Accept fis payload)).bytes talk arrival
+      → GivesNothing place error talk arrival.missed
 
 -- Each command that the drive fails does so.
 abbrev pub HostFailureLaw : Type 0
@@ -82,10 +87,10 @@ ToldByDeviceBits tag fises before after =
 abbrev pub ActiveAfter : Origin → List Operation → Operation → Type 0
 ActiveAfter o before (Wrote offset value) = Unit {0}
 ActiveAfter o before Powered = Unit {0}
-ActiveAfter o before (Completed tag payload missed) =
+ActiveAfter o before (Completed tag payload arrival) =
     ToldByDeviceBits tag (effect_after o (account o before) (Complete tag payload)).fises
     (regs_of o before).port.active
-    (regs_of o (Completed tag payload missed ∷ before)).port.active
+    (regs_of o (Completed tag payload arrival ∷ before)).port.active
 ActiveAfter o before operation =
     (regs_of o (operation ∷ before)).port.active ≡ (regs_of o before).port.active
 

@@ -1,7 +1,6 @@
 //! What the engine does (AHCI 1.3.1, 5.5).
 
 ghost use Rattle.std.specs.Prelude.{◌≡◌, ◌<◌, ◌≤◌, ◌^◌, List, ◌∷◌, Option, OnOk, OnErr, IfOk, length, is_some, true, Some, None};
-ghost use Rattle.std.specs.Result.{result_err};
 ghost use Rattle.history.specs.Answers.{payload_of, expected};
 ghost use Rattle.host_memory.specs.Access.{OnlyReads};
 ghost use Rattle.hba.specs.Engine.{signature_fis};
@@ -11,7 +10,7 @@ use crate::work::{Done, Outcome, Work, fault_of};
 use drive::{Accepted, Completed, DriveError};
 use fis::{Fis, H2D_LENGTH, Lba, RegD2h, RegH2d, Tag};
 use host_memory::hba_memory::{
-    Header, Miss, Place, deliver, gather, header_by, is_command, post_all,
+    Arrival, Header, Miss, Place, deliver, gather, header_by, is_command, post_all,
 };
 use host_memory::{HostMemory, read_array};
 use std::alloc::AllocError;
@@ -39,7 +38,7 @@ impl Hba {
     ghost use Rattle.drive.specs.Answers.{fises_in, fises_done};
     ghost use Rattle.drive.specs.Queue.{held_at};
     ghost use Rattle.hba.specs.History.{Operation, Completed as CompletedTag, Signed, Missed, Controlled, AgreesHba, HasActed, Adds, account, acts_of, effect_after};
-    ghost use Rattle.hba.specs.Showing.{fetching, fault_of, served};
+    ghost use Rattle.hba.specs.Showing.{fetching, fault_of, arrived};
     ghost use Rattle.hba.specs.Engine.{IsEffect, header_at, fises_at, place_of, done_by, Executes, Fetches, Completes, CompletesFrom, ServesSo, IsWork, TurnsAs, TurnsBy, Signs};
     ghost use Rattle.hba.specs.Ready.{is_ready_on};
     ghost use Rattle.hba.specs.declared.work.Done.TheVariants as dones;
@@ -190,16 +189,15 @@ impl Hba {
         self.registers.fetch(tag);
     }
 
-    /// The registers after an act, whose FISes are delivered, or memory failed.
-    fn show(&mut self, tag: Tag, fises: &[Fis], delivered: Result<(), Miss>) -> Done
+    /// The registers after an act, by how what it gave arrived.
+    fn show(&mut self, tag: Tag, fises: &[Fis], arrival: Arrival) -> Done
         ensures shown { self.new ≡ record self.old {
-          registers = served tag fises.now (result_err delivered) self.old.registers;
+          registers = arrived tag fises.now arrival self.old.registers;
         } }
-        ensures told { result ≡ done_by (result_err delivered) }
+        ensures told { result ≡ done_by arrival.missed }
     {
-        let missed = delivered.err();
-        self.registers.serve(tag, fises, missed);
-        match missed {
+        self.registers.arrive(tag, fises, arrival);
+        match arrival.missed {
             None => Done::Served,
             Some(miss) => Done::Fault(fault_of(miss)),
         }

@@ -6,7 +6,7 @@ ghost use Rattle.hba.specs.Showing.{bits_of, shows_fises};
 use crate::registers::Registers;
 use fis::{Fis, Tag};
 use hba_regs::PxIs;
-use host_memory::hba_memory::Miss;
+use host_memory::hba_memory::{Arrival, Miss};
 use port_history::show_all;
 
 /// The status of a device that is ready.
@@ -43,7 +43,7 @@ fn shows_fises(miss: Miss) -> bool
 
 impl Registers {
     ghost use Rattle.std.specs.Prelude.{◌≡◌, if◌then◌else◌};
-    ghost use Rattle.hba.specs.Showing.{signed, faulted, beginning, controlled, fetching, halting, answered, served};
+    ghost use Rattle.hba.specs.Showing.{signed, faulted, beginning, controlled, fetching, halting, answered, served, shortened, arrived};
 
     /// The device's first FIS after a reset.
     pub(crate) fn sign(&mut self)
@@ -102,8 +102,25 @@ impl Registers {
         self.note();
     }
 
+    /// FISes of the drive for the command of a tag, by how what it gave arrived.
+    pub(crate) fn arrive(&mut self, tag: Tag, fises: &[Fis], arrival: Arrival)
+        ensures { self.new ≡ arrived tag fises.now arrival self.old }
+    {
+        self.shorten(arrival.is_short);
+        self.serve(tag, fises, arrival.missed);
+    }
+
+    /// Data past the PRDT raise OFS.
+    fn shorten(&mut self, is_short: bool)
+        ensures { self.new ≡ shortened is_short self.old }
+    {
+        if is_short {
+            self.port.raise(PxIs(OVERFLOW));
+        }
+    }
+
     /// FISes of the drive for the command of a tag, unless memory failed before they came.
-    pub(crate) fn serve(&mut self, tag: Tag, fises: &[Fis], missed: Option<Miss>)
+    fn serve(&mut self, tag: Tag, fises: &[Fis], missed: Option<Miss>)
         ensures { self.new ≡ served tag fises.now missed self.old }
     {
         match missed {

@@ -34,7 +34,7 @@ pub enum MemoryFault {
     /// The command table, or a descriptor that is wanted; or the header is none of a command. Behind the act where it
     /// was wanted for data from the drive.
     Table,
-    /// A block of data, or the PRDT names fewer bytes than there are data. Behind the act where they come from the
+    /// A block of data, or the PRDT names fewer bytes than go to the drive. Behind the act where data come from the
     /// drive; blocks before it have their bytes.
     Data,
     /// The place of a received FIS, behind the act; the registers show it all the same.

@@ -1,6 +1,6 @@
 -- What the engine asks of the host's memory, and what comes of the answers (AHCI 1.3.1, section 4).
 -- An access that is refused ends it: the engine asks for nothing more.
-use Rattle.std.specs.Prelude.{◌≡◌, ℕ, ◌+◌, ◌-◌, ◌*◌, ◌%◌, ◌/◌, ◌^◌, min, ◌==◌, ◌&&◌, zero, suc, nat_le, Bool, true, false, List, [], ◌∷◌, ◌++◌, length, take, drop, slice_index, Option, Some, None, Result, Ok, Err, if◌then◌else◌}
+use Rattle.std.specs.Prelude.{◌≡◌, ℕ, ◌+◌, ◌-◌, ◌*◌, ◌%◌, ◌/◌, ◌^◌, min, ◌==◌, ◌&&◌, zero, suc, nat_le, Bool, true, false, List, [], ◌∷◌, ◌++◌, length, take, drop, Option, Some, None, Result, Ok, Err, if◌then◌else◌}
 use Rattle.byteorder.specs.Endian.{little_bytes}
 use Rattle.fis.specs.Fis.{IsSpelling}
 use Rattle.fis.specs.declared.any.Fis.{Fis}
@@ -12,6 +12,7 @@ use Rattle.host_memory.specs.Access.{Access, Asked, Laid}
 use Rattle.host_memory.specs.declared.hba_memory.miss.Miss.{Miss}
 use Rattle.host_memory.specs.declared.hba_memory.miss.Miss.TheVariants as misses
 use Rattle.host_memory.specs.declared.hba_memory.reading.Header.{Header}
+use Rattle.host_memory.specs.declared.hba_memory.delivery.Arrival.{Arrival}
 use Rattle.host_memory.specs.declared.hba_memory.delivery.Place.{Place}
 
 -- CFL is 16 at most (4.2.2), and the words that a command's FIS has at least (Serial ATA, Register FIS
@@ -118,6 +119,13 @@ Scatters at zero bytes talk missed =
 Scatters at (suc n) bytes talk missed =
     TakesNext (length bytes == 0) at bytes (Scatters (at + descriptor_size) n) talk missed
 
+-- How many bytes accesses have written.
+abbrev pub written_by : List Access → ℕ
+written_by [] = 0
+written_by (Asked at n answer ∷ later) = written_by later
+written_by (Laid at bytes false ∷ later) = written_by later
+written_by (Laid at bytes true ∷ later) = length bytes + written_by later
+
 -- A write, and what is missed where it is refused.
 abbrev pub missed_unless : Bool → Miss → Option Miss
 missed_unless is_done miss = if is_done then None else Some miss
@@ -180,10 +188,39 @@ Then First Next talk missed =
     (before later : List Access) × (first : Option Miss) × (talk ≡ before ++ later)
     × First before first × After first Next later missed
 
--- What an act gives reaches the memory: its data, the count of the bytes that moved, where so many
--- were brought, and its FISes.
-abbrev pub Delivers : Place → ℕ → List Fis → List ℕ → List Access → Option Miss → Type 0
-Delivers place brought fises bytes talk missed =
-    Then (Scatters (descriptors_of place.header) place.header.entries bytes)
-    (Then (Counts place.at (data_taken fises brought + length bytes)) (PostsTo place.to fises))
-    talk missed
+-- The PRDT has no room for some bytes.
+abbrev pub runs_short : Option Miss → Bool
+runs_short None = false
+runs_short (Some misses.List) = false
+runs_short (Some misses.Table) = false
+runs_short (Some misses.Block) = false
+runs_short (Some misses.Overflow) = true
+runs_short (Some misses.Fis) = false
+
+-- What ends a command of which data were laid: they end at the end of the PRDT, and that is no fatal
+-- error (3.3.5, OFS; 6.1).
+abbrev pub ending : Option Miss → Option Miss
+ending None = None
+ending (Some misses.List) = Some misses.List
+ending (Some misses.Table) = Some misses.Table
+ending (Some misses.Block) = Some misses.Block
+ending (Some misses.Overflow) = None
+ending (Some misses.Fis) = Some misses.Fis
+
+-- The count is written, and then FISes, unless the data ended by what was missed.
+abbrev pub EndsBy : Option Miss → (List Access → Option Miss → Type 0)
+    → (List Access → Option Miss → Type 0) → List Access → Option Miss → Type 0
+EndsBy None Counting Posting talk missed = Then Counting Posting talk missed
+EndsBy (Some miss) Counting Posting talk missed =
+    (untold : Option Miss) × Counting talk untold × (missed ≡ Some miss)
+
+-- What an act gives reaches the memory: its data, as far as the PRDT and the memory go; the count of
+-- the bytes that moved, where so many were brought; and its FISes.
+abbrev pub Delivers : Place → ℕ → List Fis → List ℕ → List Access → Arrival → Type 0
+Delivers place brought fises bytes talk arrival =
+    (before later : List Access) × (laid : Option Miss) × (talk ≡ before ++ later)
+    × Scatters (descriptors_of place.header) place.header.entries bytes before laid
+    × (arrival.is_short ≡ runs_short laid)
+    × EndsBy (ending laid)
+    (Counts place.at (data_taken fises brought + written_by before)) (PostsTo place.to fises)
+    later arrival.missed

@@ -5,6 +5,6 @@ mod delivery;
 mod miss;
 mod reading;
 
-pub use delivery::{Place, deliver, post_all};
+pub use delivery::{Arrival, Place, deliver, post_all};
 pub use miss::Miss;
 pub use reading::{Header, gather, header_by, is_command};

@@ -11,7 +11,7 @@ use Rattle.host_memory.specs.Access.{Access, Asked, Laid, IsAccess, Accessed, On
 use Rattle.host_memory.proofs.Accesses.{only_reads_more}
 use Rattle.host_memory.specs.declared.hba_memory.miss.Miss.{Miss}
 use Rattle.host_memory.specs.declared.hba_memory.miss.Miss.TheVariants as misses
-use Rattle.host_memory.specs.Memory.{data_at, data_len, then_bytes, Gathers, BringsNext, Scatters, TakesNext, Counts, CountsIf, missed_unless, offset_of, Posts, Then}
+use Rattle.host_memory.specs.Memory.{data_at, data_len, then_bytes, Gathers, BringsNext, Scatters, TakesNext, written_by, Counts, CountsIf, missed_unless, offset_of, Posts, Then}
 
 -- Of the FISes all, those from some place on are left.
 abbrev pub PostsOn : {M : Type 0} → (M → Access → M → Type 0) → M → M → ℕ → List Fis → List Fis → Type 0
@@ -211,26 +211,45 @@ read_more does start now next at n answer h a =
 
 -- Bytes are left, to be laid over so many descriptors from an address on.
 abbrev pub ScattersOn : {M : Type 0} → (M → Access → M → Type 0) → M → M → ℕ → ℕ → List ℕ → ℕ → ℕ → List ℕ
-    → Type 0
-ScattersOn {M} does start now first all bytes at n left =
+    → ℕ → Type 0
+ScattersOn {M} does start now first all bytes at n left done =
     (rest : List Access) (end : M) (missed : Option Miss) → Accessed does now rest end
     → Scatters at n left rest missed
     → (talk : List Access) × Accessed does start talk end × Scatters first all bytes talk missed
+    × (written_by talk ≡ done + written_by rest)
 
 pub scatters_begin : {M : Type 0} (does : M → Access → M → Type 0) (now : M) (first all : ℕ)
-    (bytes : List ℕ) → ScattersOn does now now first all bytes first all bytes
-scatters_begin does now first all bytes = λ rest end missed a p. (rest, a, p)
+    (bytes : List ℕ) → ScattersOn does now now first all bytes first all bytes 0
+scatters_begin does now first all bytes = λ rest end missed a p. (rest, a, p, omega arith)
+
+-- What was scattered, and how many bytes of it were written.
+abbrev pub Scattered : {M : Type 0} → (M → Access → M → Type 0) → M → M → ℕ → ℕ → List ℕ → Option Miss → ℕ
+    → Type 0
+Scattered does start now first all bytes missed done =
+    (talk : List Access) × Accessed does start talk now × Scatters first all bytes talk missed
+    × (done ≡ written_by talk)
+
+-- Nothing more is written.
+scattered : {M : Type 0} (does : M → Access → M → Type 0) (start now : M) (first all : ℕ)
+    (bytes : List ℕ) (missed : Option Miss) (done : ℕ)
+    → ((talk : List Access) × Accessed does start talk now × Scatters first all bytes talk missed
+    × (written_by talk ≡ done + 0))
+    → Scattered does start now first all bytes missed done
+scattered does start now first all bytes missed done t =
+    let w : written_by t.0 ≡ done + 0 = t.3 in
+    (t.0, t.1, t.2, omega (arith, w))
 
 pub scatters_more : {M : Type 0} (does : M → Access → M → Type 0) (start now middle next : M)
-    (first all : ℕ) (bytes : List ℕ) (at n m at' : ℕ) (left after entry part : List ℕ)
-    → ScattersOn does start now first all bytes at n left → n ≡ suc m → (length left == 0) ≡ false
+    (first all : ℕ) (bytes : List ℕ) (at n m at' : ℕ) (left after entry part : List ℕ) (done done' : ℕ)
+    → ScattersOn does start now first all bytes at n left done → n ≡ suc m → (length left == 0) ≡ false
+    → done' ≡ done + length part
     → at' ≡ at + descriptor_size → after ≡ drop (data_len entry) left → part ≡ take (data_len entry) left
     → IsAccess does now (Asked at descriptor_size (Some entry)) middle
     → IsAccess does middle (Laid (data_at entry) part true) next
-    → ScattersOn does start next first all bytes at' m after
-scatters_more does start now middle next first all bytes at zero m at' left after entry part h one some t e f a b =
+    → ScattersOn does start next first all bytes at' m after done'
+scatters_more does start now middle next first all bytes at zero m at' left after entry part done done' h one some d t e f a b =
     absurd (omega arith)
-scatters_more does start now middle next first all bytes at (suc k) m at' left after entry part h one some t e f a b =
+scatters_more does start now middle next first all bytes at (suc k) m at' left after entry part done done' h one some d t e f a b =
     let same : m ≡ k = omega arith in
     λ rest end missed c p.
     let q : Scatters (at + descriptor_size) k (drop (data_len entry) left) rest missed =
@@ -240,56 +259,57 @@ scatters_more does start now middle next first all bytes at (suc k) m at' left a
     let next_one : TakesNext false at left (Scatters (at + descriptor_size) k)
     (Asked at descriptor_size (Some entry) ∷ Laid (data_at entry) part true ∷ rest) missed =
     (Some entry, Laid (data_at entry) part true ∷ rest, refl, (true, rest, ap (λ xs. Laid (data_at entry) xs true ∷ rest) f, q)) in
-    h (Asked at descriptor_size (Some entry) ∷ Laid (data_at entry) part true ∷ rest) end missed
-    (middle, a, (next, b, c)) (rw some next_one)
+    let got = h (Asked at descriptor_size (Some entry) ∷ Laid (data_at entry) part true ∷ rest) end missed
+    (middle, a, (next, b, c)) (rw some next_one) in
+    let w : written_by got.0 ≡ done + (length part + written_by rest) = got.3 in
+    (got.0, got.1, got.2, omega (arith, w, d))
 
 pub scatters_done : {M : Type 0} (does : M → Access → M → Type 0) (start now : M)
-    (first all : ℕ) (bytes : List ℕ) (at n : ℕ) (left : List ℕ)
-    → ScattersOn does start now first all bytes at n left → (length left == 0) ≡ true
-    → (talk : List Access) × Accessed does start talk now × Scatters first all bytes talk None
-scatters_done does start now first all bytes at zero left h none =
-    h [] now None refl (refl, rw none refl)
-scatters_done does start now first all bytes at (suc k) left h none =
+    (first all : ℕ) (bytes : List ℕ) (at n : ℕ) (left : List ℕ) (done : ℕ)
+    → ScattersOn does start now first all bytes at n left done → (length left == 0) ≡ true
+    → Scattered does start now first all bytes None done
+scatters_done does start now first all bytes at zero left done h none =
+    scattered does start now first all bytes None done (h [] now None refl (refl, rw none refl))
+scatters_done does start now first all bytes at (suc k) left done h none =
     let p : TakesNext true at left (Scatters (at + descriptor_size) k) [] None = (refl, refl) in
-    h [] now None refl (rw none p)
+    scattered does start now first all bytes None done (h [] now None refl (rw none p))
 
 pub scatters_short : {M : Type 0} (does : M → Access → M → Type 0) (start now : M)
-    (first all : ℕ) (bytes : List ℕ) (at n : ℕ) (left : List ℕ)
-    → ScattersOn does start now first all bytes at n left → n ≡ 0 → (length left == 0) ≡ false
-    → (talk : List Access) × Accessed does start talk now
-    × Scatters first all bytes talk (Some misses.Overflow)
-scatters_short does start now first all bytes at zero left h last some =
-    h [] now (Some misses.Overflow) refl (refl, rw some refl)
-scatters_short does start now first all bytes at (suc k) left h last some = absurd (omega arith)
+    (first all : ℕ) (bytes : List ℕ) (at n : ℕ) (left : List ℕ) (done : ℕ)
+    → ScattersOn does start now first all bytes at n left done → n ≡ 0 → (length left == 0) ≡ false
+    → Scattered does start now first all bytes (Some misses.Overflow) done
+scatters_short does start now first all bytes at zero left done h last some =
+    scattered does start now first all bytes (Some misses.Overflow) done (h [] now (Some misses.Overflow) refl (refl, rw some refl))
+scatters_short does start now first all bytes at (suc k) left done h last some = absurd (omega arith)
 
 pub scatters_no_entry : {M : Type 0} (does : M → Access → M → Type 0) (start now next : M)
-    (first all : ℕ) (bytes : List ℕ) (at n : ℕ) (left : List ℕ)
-    → ScattersOn does start now first all bytes at n left → 0 < n → (length left == 0) ≡ false
+    (first all : ℕ) (bytes : List ℕ) (at n : ℕ) (left : List ℕ) (done : ℕ)
+    → ScattersOn does start now first all bytes at n left done → 0 < n → (length left == 0) ≡ false
     → IsAccess does now (Asked at descriptor_size None) next
-    → (talk : List Access) × Accessed does start talk next
-    × Scatters first all bytes talk (Some misses.Table)
-scatters_no_entry does start now next first all bytes at zero left h more some a = absurd (omega arith)
-scatters_no_entry does start now next first all bytes at (suc k) left h more some a =
+    → Scattered does start next first all bytes (Some misses.Table) done
+scatters_no_entry does start now next first all bytes at zero left done h more some a = absurd (omega arith)
+scatters_no_entry does start now next first all bytes at (suc k) left done h more some a =
     let p : TakesNext false at left (Scatters (at + descriptor_size) k)
     (Asked at descriptor_size None ∷ []) (Some misses.Table) = (None, [], refl, (refl, refl)) in
-    h (Asked at descriptor_size None ∷ []) next (Some misses.Table) (next, a, refl) (rw some p)
+    scattered does start next first all bytes (Some misses.Table) done
+    (h (Asked at descriptor_size None ∷ []) next (Some misses.Table) (next, a, refl) (rw some p))
 
 pub scatters_no_block : {M : Type 0} (does : M → Access → M → Type 0) (start now middle next : M)
-    (first all : ℕ) (bytes : List ℕ) (at n : ℕ) (left entry part : List ℕ)
-    → ScattersOn does start now first all bytes at n left → 0 < n → (length left == 0) ≡ false
+    (first all : ℕ) (bytes : List ℕ) (at n : ℕ) (left entry part : List ℕ) (done : ℕ)
+    → ScattersOn does start now first all bytes at n left done → 0 < n → (length left == 0) ≡ false
     → part ≡ take (data_len entry) left
     → IsAccess does now (Asked at descriptor_size (Some entry)) middle
     → IsAccess does middle (Laid (data_at entry) part false) next
-    → (talk : List Access) × Accessed does start talk next
-    × Scatters first all bytes talk (Some misses.Block)
-scatters_no_block does start now middle next first all bytes at zero left entry part h more some f a b =
+    → Scattered does start next first all bytes (Some misses.Block) done
+scatters_no_block does start now middle next first all bytes at zero left entry part done h more some f a b =
     absurd (omega arith)
-scatters_no_block does start now middle next first all bytes at (suc k) left entry part h more some f a b =
+scatters_no_block does start now middle next first all bytes at (suc k) left entry part done h more some f a b =
     let p : TakesNext false at left (Scatters (at + descriptor_size) k)
     (Asked at descriptor_size (Some entry) ∷ Laid (data_at entry) part false ∷ []) (Some misses.Block) =
     (Some entry, Laid (data_at entry) part false ∷ [], refl, (false, [], ap (λ xs. Laid (data_at entry) xs false ∷ []) f, (refl, refl))) in
-    h (Asked at descriptor_size (Some entry) ∷ Laid (data_at entry) part false ∷ []) next (Some misses.Block)
-    (middle, a, (next, b, refl)) (rw some p)
+    scattered does start next first all bytes (Some misses.Block) done
+    (h (Asked at descriptor_size (Some entry) ∷ Laid (data_at entry) part false ∷ []) next (Some misses.Block)
+    (middle, a, (next, b, refl)) (rw some p))
 
 -- The bytes from a place on: none are left there, or some.
 pub none_left : (bytes : List ℕ) (i : ℕ) → i ≡ length bytes → (length (drop i bytes) == 0) ≡ true
@@ -304,6 +324,10 @@ some_left bytes i h g =
 pub part_of : (bytes : List ℕ) (i n k : ℕ) → i ≤ length bytes → k ≡ min n (length bytes - i)
     → slice_range bytes i (i + k) ≡ take n (drop i bytes)
 part_of bytes i n k h e = grind (arith, common_steps)
+
+pub part_size : (bytes : List ℕ) (i k : ℕ) → i + k ≤ length bytes
+    → i + k ≡ i + length (slice_range bytes i (i + k))
+part_size bytes i k h = grind (arith, common_steps)
 
 pub rest_of : (bytes : List ℕ) (i n k : ℕ) → i ≤ length bytes → k ≡ min n (length bytes - i)
     → drop (i + k) bytes ≡ drop n (drop i bytes)

@@ -4,7 +4,7 @@ ghost use Rattle.std.specs.Prelude.{◌≡◌, ◌≤◌, ◌<◌, ◌+◌, ◌^
 ghost use Rattle.std.specs.Result.{result_err};
 ghost use Rattle.fis.specs.Fis.{IsSpelling};
 ghost use Rattle.host_memory.specs.Access.{Access, Accessed, IsAccess, Laid};
-ghost use Rattle.host_memory.specs.Memory.{tells_error, data_taken, Scatters, Counts, Posts, PostsTo, Delivers};
+ghost use Rattle.host_memory.specs.Memory.{tells_error, data_taken, written_by, runs_short, ending, Scatters, Counts, Posts, PostsTo, Then, EndsBy, Delivers};
 
 use crate::hba_memory::miss::Miss;
 use crate::hba_memory::reading::{Header, data_at, data_len};
@@ -17,34 +17,36 @@ use slots::fields::{DESCRIPTOR, received_offset};
 const BYTE_COUNT: u64 = 4;
 
 /// Lays data over the blocks that so many descriptors from an address on name, one after the other. A descriptor is read
-/// where bytes go to its block alone.
-///
-/// # Errors
-///
-/// Where memory failed. Blocks before it have their bytes.
-fn scatter<M: HostMemory>(memory: &mut M, at: u64, entries: u16, bytes: &[u8]) -> Result<(), Miss>
+/// where bytes go to its block alone. Gives how many bytes were written, and what was missed behind them.
+fn scatter<M: HostMemory>(
+    memory: &mut M,
+    at: u64,
+    entries: u16,
+    bytes: &[u8],
+) -> (usize, Option<Miss>)
     requires { at < 2 ^ 33 }
-    ensures { (talk : List Access) × Accessed M.does memory.old talk memory.new
-        × Scatters at entries bytes.now talk (result_err result) }
+    ensures talk { (talk : List Access) × Accessed M.does memory.old talk memory.new
+        × Scatters at entries bytes.now talk result.1 × (result.0 ≡ written_by talk) }
+    ensures most { result.0 ≤ length bytes.now }
 {
     let mut done = 0;
     for k in 0..entries {
         if done == bytes.len() {
-            return Ok(());
+            return (done, None);
         }
         let Some(entry) = read_array(memory, at + DESCRIPTOR as u64 * u64::from(k)) else {
-            return Err(Miss::Table);
+            return (done, Some(Miss::Table));
         };
         let end = done + data_len(&entry).min(bytes.len() - done);
         if !write_at(memory, data_at(&entry), &bytes[done..end]) {
-            return Err(Miss::Block);
+            return (done, Some(Miss::Block));
         }
         done = end;
     }
     if done == bytes.len() {
-        Ok(())
+        (done, None)
     } else {
-        Err(Miss::Overflow)
+        (done, Some(Miss::Overflow))
     }
 }
 
@@ -145,30 +147,99 @@ pub struct Place {
     pub to: Option<u32>,
 }
 
-/// What an act gives reaches the memory: its data over their blocks, the count of the bytes that moved, those that it
-/// took of what was brought among them, and its FISes.
-///
-/// # Errors
-///
-/// Where memory failed; what comes before has reached it.
+/// How what an act gives arrived in the memory.
+#[derive(Clone, Copy, Debug, PartialEq, Eq)]
+pub struct Arrival {
+    /// The PRDT had no room for all data.
+    pub is_short: bool,
+    /// What was missed.
+    pub missed: Option<Miss>,
+}
+
+/// Whether the PRDT had no room for some bytes.
+fn runs_short(missed: Option<Miss>) -> bool
+    ensures { result ≡ runs_short missed }
+{
+    match missed {
+        Some(Miss::Overflow) => true,
+        Some(Miss::List | Miss::Table | Miss::Block | Miss::Fis) | None => false,
+    }
+}
+
+/// What ends a command of which data were laid: the end of the PRDT does not.
+fn ending(missed: Option<Miss>) -> Option<Miss>
+    ensures { result ≡ ending missed }
+{
+    match missed {
+        Some(Miss::Overflow) => None,
+        Some(Miss::List | Miss::Table | Miss::Block | Miss::Fis) | None => missed,
+    }
+}
+
+/// Stores PRDBC, and then received FISes; tells what was missed.
+fn count_and_post<M: HostMemory>(
+    memory: &mut M,
+    header: u64,
+    moved: usize,
+    to: Option<u32>,
+    fises: &[Fis],
+) -> Option<Miss>
+    requires { header < 2 ^ 40 }
+    ensures { (talk : List Access) × Accessed M.does memory.old talk memory.new
+        × Then (Counts header moved) (PostsTo to fises.now) talk result }
+{
+    match count(memory, header, moved) {
+        Ok(()) => post_all(memory, to, fises).err(),
+        Err(miss) => Some(miss),
+    }
+}
+
+/// Stores PRDBC, and received FISes unless the data ended by what was missed; tells what was missed first.
+fn end<M: HostMemory>(
+    memory: &mut M,
+    ended: Option<Miss>,
+    header: u64,
+    moved: usize,
+    to: Option<u32>,
+    fises: &[Fis],
+) -> Option<Miss>
+    requires { header < 2 ^ 40 }
+    ensures { (talk : List Access) × Accessed M.does memory.old talk memory.new
+        × EndsBy ended (Counts header moved) (PostsTo to fises.now) talk result }
+{
+    match ended {
+        Some(miss) => {
+            let _ = count(memory, header, moved);
+            Some(miss)
+        }
+        None => count_and_post(memory, header, moved, to, fises),
+    }
+}
+
+/// What an act gives reaches the memory: its data over their blocks, as far as the PRDT and the memory go, the count of
+/// the bytes that moved, those that it took of what was brought among them, and its FISes.
 pub fn deliver<M: HostMemory>(
     memory: &mut M,
     place: Place,
     brought: usize,
     fises: &[Fis],
     bytes: &[u8],
-) -> Result<(), Miss>
+) -> Arrival
     requires near { place.at < 2 ^ 40 }
     requires short { brought < 2 ^ 63 }
     ensures { (talk : List Access) × Accessed M.does memory.old talk memory.new
-        × Delivers place brought fises.now bytes.now talk (result_err result) }
+        × Delivers place brought fises.now bytes.now talk result }
 {
-    scatter(
+    let (laid, lost) = scatter(
         memory,
         place.header.descriptors(),
         place.header.entries,
         bytes,
-    )?;
-    count(memory, place.at, data_taken(fises, brought) + bytes.len())?;
-    post_all(memory, place.to, fises)
+    );
+    let moved = data_taken(fises, brought) + laid;
+    let missed = end(memory, ending(lost), place.at, moved, place.to, fises);
+    Arrival {
+        is_short: runs_short(lost),
+        missed,
+    }
 }

@@ -18,8 +18,8 @@ failure_law o before tag fis payload error e =
     let given = data_failed f (h2d_at fis) event error e in
     record {
       tells = tells_error (regs_of o before) tag error _ sent;
-      halts = λ missed. halts (regs_of o before) tag error missed _ sent;
-      gives = λ place talk missed h. gives_nothing place _ error _ _ talk missed sent given h;
+      halts = λ arrival. halts (regs_of o before) tag error arrival _ sent;
+      gives = λ place talk arrival h. gives_nothing place _ error _ _ talk arrival sent given h;
     }
 
 denial_law : HostDenialLaw

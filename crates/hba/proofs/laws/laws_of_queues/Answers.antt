@@ -7,7 +7,7 @@ use Rattle.history.specs.History.{Accept, log, event_by}
 use Rattle.history.specs.Tcg.{command_read}
 use Rattle.hba.specs.History.{Wrote, Powered, Signed, Missed, Controlled, Fetched, Completed, account, acts_of, regs_of, effect_after}
 use Rattle.hba.specs.Laws.{ActiveLaw}
-use Rattle.hba.proofs.Active.{fetched_same, completed_told}
+use Rattle.hba.proofs.Active.{fetched_same, arrived_told}
 use Rattle.hba.proofs.laws.laws_of_queues.Goals as goal
 
 active_law : ActiveLaw
@@ -16,14 +16,14 @@ active_law o before Powered = tt
 active_law o before Signed = refl
 active_law o before (Missed fetched miss) = refl
 active_law o before (Controlled tag) = refl
-active_law o before (Fetched tag fis payload missed) =
+active_law o before (Fetched tag fis payload arrival) =
     let f = facts o (log o (acts_of o before)) in
     let event = event_by f (Accept fis payload) in
-    fetched_same missed tag (regs_of o before)
+    fetched_same arrival tag (regs_of o before)
     event.failed (is_holding event.deed) (command_read f.config (h2d_at fis)) (effect_after o (account o before) (Accept fis payload)).fises refl
-active_law o before (Completed tag payload missed) =
+active_law o before (Completed tag payload arrival) =
     let f = facts o (log o (acts_of o before)) in
-    completed_told missed tag (regs_of o before) (f.held tag)
+    arrived_told arrival tag (regs_of o before) (f.held tag)
 
 pub returns : goal.returns
 returns c = active_law

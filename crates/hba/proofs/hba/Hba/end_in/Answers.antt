@@ -1,6 +1,5 @@
 -- Memory fails before the act, or the drive acts.
 use Rattle.std.proofs.Common.{Some, None, Ok, ap, sym, refl}
-use Rattle.std.specs.Result.{result_err}
 use Rattle.history.specs.History.{Complete}
 use Rattle.host_memory.proofs.hba_memory.Talks.{on_err}
 use Rattle.hba.specs.declared.work.Done.{Done}
@@ -33,15 +32,15 @@ returns-clause-done g c =
     c.deliver-delivered.new.memory c.show-done.result None c.give_back.ensures
     (serves_done g.M.HostMemory.does c.args.place c.args.len None (Complete c.args.tag) (Completed c.args.tag)
     c.args.self.now c.args.memory.now c.gather.new.memory c.show-done.new.self c.deliver-delivered.new.memory
-    c.gather.new.into c.as_slice-fises.result.now c.as_slice-bytes.result.now (result_err c.deliver-delivered.result)
+    c.gather.new.into c.as_slice-fises.result.now c.as_slice-bytes.result.now c.deliver-delivered.result
     c.show-done.result None
     (rw (c.descriptors-at.ensures.value, c.requires.long, c.in-Ok.is) at c.gather.ensures)
     c.deliver-delivered.ensures
     (ap (λ (d : Done). Some d) (sym c.show-done.ensures.told))
     gives
     (adds_completed c.args.self.now c.finish.new.self c.show-done.new.self c.args.tag c.gather.new.into
-    c.as_slice-fises.result.now c.as_slice-bytes.result.now (result_err c.deliver-delivered.result)
+    c.as_slice-fises.result.now c.as_slice-bytes.result.now c.deliver-delivered.result
     c.in_ok-completed.ensures.acted gives
     (shown_completed c.args.self.now c.finish.new.self c.show-done.new.self c.args.tag c.as_slice-fises.result.now
-    (result_err c.deliver-delivered.result) c.in_ok-completed.ensures.registers c.show-done.ensures.shown))
+    c.deliver-delivered.result c.in_ok-completed.ensures.registers c.show-done.ensures.shown))
     (λ o list a. refl))

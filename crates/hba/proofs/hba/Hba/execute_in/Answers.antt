@@ -1,6 +1,5 @@
 -- Memory fails before the act, or the drive acts.
-use Rattle.std.proofs.Common.{Some, None, Ok, ap, sym, ◌∙◌}
-use Rattle.std.specs.Result.{result_err}
+use Rattle.std.proofs.Common.{Some, None, Ok, ap, sym}
 use Rattle.history.specs.Answers.{payload_of}
 use Rattle.history.specs.History.{Accept}
 use Rattle.host_memory.proofs.hba_memory.Talks.{on_err}
@@ -38,15 +37,15 @@ returns-clause-done g c =
     c.deliver-delivered.new.memory c.show-done.result c.take.new.answer.denied
     (serves_done g.M.HostMemory.does c.args.place (payload_of c.args.self.now.drive.tper.store.config c.args.fis.now) (Some c.args.tag) (Accept c.args.fis.now) (Fetched c.args.tag c.args.fis.now)
     c.args.self.now c.args.memory.now c.gather.new.memory c.show-done.new.self c.deliver-delivered.new.memory
-    c.gather.new.into c.as_slice-fises.result.now c.as_slice-bytes.result.now (result_err c.deliver-delivered.result)
+    c.gather.new.into c.as_slice-fises.result.now c.as_slice-bytes.result.now c.deliver-delivered.result
     c.show-done.result c.take.new.answer.denied
     (rw (c.descriptors-at.ensures.value, c.requires.long, c.in-Ok.is) at c.gather.ensures)
     c.deliver-delivered.ensures
     (ap (λ (d : Done). Some d) (sym c.show-done.ensures.told))
     gives
     (adds_fetched c.args.self.now c.take.new.self c.show-done.new.self c.args.tag c.args.fis.now c.gather.new.into
-    c.as_slice-fises.result.now c.as_slice-bytes.result.now (result_err c.deliver-delivered.result)
+    c.as_slice-fises.result.now c.as_slice-bytes.result.now c.deliver-delivered.result
     c.in_ok-take.ensures.acted gives
     (shown_fetched c.args.self.now c.take.new.self c.note_fetch.new.self c.show-done.new.self c.args.tag c.as_slice-fises.result.now
-    (result_err c.deliver-delivered.result) c.in_ok-take.ensures.registers c.note_fetch.ensures c.show-done.ensures.shown))
+    c.deliver-delivered.result c.in_ok-take.ensures.registers c.note_fetch.ensures c.show-done.ensures.shown))
     c.in_ok-take.ensures.denied))

@@ -6,5 +6,5 @@ abbrev pub invariant-loop-k : goal.invariant-loop-k
 invariant-loop-k g l = record {
   done : l.done ≤ length l.bytes;
   talk : ScattersOn g.M.HostMemory.does l.initial.memory l.memory l.at l.entries l.bytes
-      (l.at + 16 * l.k) (l.entries - l.k) (drop l.done l.bytes);
+      (l.at + 16 * l.k) (l.entries - l.k) (drop l.done l.bytes) l.done;
 }
