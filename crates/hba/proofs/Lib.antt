@@ -5,4 +5,5 @@ pub mod Turns
 pub mod Failures
 pub mod Active
 pub mod Counts
+pub mod Current
 mod Rows

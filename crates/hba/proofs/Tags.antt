@@ -1,5 +1,5 @@
 -- Tags as the bits of a word.
-use Rattle.std.proofs.Common.{◌≡◌, ℕ, ◌*◌, ◌^◌, ◌%◌, ◌<◌, Bool, true, false, Some, refl, ap, sym, arith, ◌∙◌}
+use Rattle.std.proofs.Common.{◌≡◌, ℕ, ◌*◌, ◌^◌, ◌<◌, Bool, true, false, Some, refl, ap, sym, arith, ◌∙◌}
 use Rattle.std.specs.Prelude.{◌==◌, ◌&&◌, bit_and, is_some, if◌then◌else◌}
 use Rattle.std.specs.Int.{bit_at, w32, trailing_zeros}
 use Rattle.std.proofs.lemmas.Nat.{pow_pos}

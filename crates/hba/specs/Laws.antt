@@ -1,8 +1,10 @@
 -- Laws over every list of operations: a command that fails, and a transfer that the policy denies, in
 -- the words of the registers and of the host's memory.
-use Rattle.std.specs.Prelude.{◌≡◌, ◌⊎◌, ℕ, ◌^◌, List, [], ◌∷◌, length, Option, Some, None, true, false, bit_or}
+use Rattle.std.specs.Prelude.{◌≡◌, ◌⊎◌, ℕ, ◌^◌, ◌-◌, ◌==◌, ◌&&◌, not, nat_le, Bool, List, [], ◌∷◌, length, Option, Some, None, true, false, bit_or, if◌then◌else◌}
 use Rattle.fis.specs.declared.any.Fis.{Fis}
-use Rattle.hba_regs.specs.Registers.{without}
+use Rattle.hba_regs.specs.declared.register.Register.{Register}
+use Rattle.hba_regs.specs.declared.register.Register.TheVariants as at
+use Rattle.hba_regs.specs.Registers.{register_at, has_bits, start_bit, without}
 use Rattle.locking.specs.declared.range.Op.{Op}
 use Rattle.trusted_cmds.specs.declared.command.Command.{Command}
 use Rattle.history.specs.Answers.{errored, answer_fis, moved_fis}
@@ -20,7 +22,8 @@ use Rattle.host_memory.specs.declared.hba_memory.miss.Miss.{Miss}
 use Rattle.host_memory.specs.declared.hba_memory.delivery.Arrival.{Arrival}
 use Rattle.host_memory.specs.declared.hba_memory.delivery.Place.{Place}
 use Rattle.host_memory.specs.Memory.{Delivers, PostsTo}
-use Rattle.hba.specs.History.{Operation, Wrote, Powered, Fetched, Completed, account, acts_of, regs_of, effect_after}
+use Rattle.hba.specs.Registers.{port_at, reset_bit}
+use Rattle.hba.specs.History.{Operation, Wrote, Powered, Signed, Missed, Controlled, Fetched, Completed, account, acts_of, regs_of, effect_after}
 
 -- The registers tell the error: PxTFD has it, and PxIS has TFES.
 pub record TellsError (error : ℕ) (before after : Registers) : Type 0 where
@@ -99,3 +102,35 @@ ActiveAfter o before operation =
 abbrev pub ActiveLaw : Type 0
 ActiveLaw =
     (o : Origin) (before : List Operation) (operation : Operation) → ActiveAfter o before operation
+
+-- The host clears ST (3.3.7), or resets the HBA (3.1.2).
+abbrev pub clears_start : Register → ℕ → Bool
+clears_start at.Command value = not (has_bits value start_bit)
+clears_start register value = false
+
+abbrev pub clears_start_at : Option Register → ℕ → Bool
+clears_start_at None value = false
+clears_start_at (Some register) value = clears_start register value
+
+abbrev pub clears_slot : ℕ → ℕ → Bool
+clears_slot offset value =
+    if nat_le port_at offset then clears_start_at (register_at (offset - port_at)) value
+    else offset == 0x04 && has_bits value reset_bit
+
+-- The slot whose command was fetched last, with or without its memory, since ST was cleared or a reset
+-- came; else 0.
+abbrev pub current_slot : List Operation → ℕ
+current_slot [] = 0
+current_slot (Wrote offset value ∷ before) =
+    if clears_slot offset value then 0 else current_slot before
+current_slot (Powered ∷ before) = 0
+current_slot (Signed ∷ before) = current_slot before
+current_slot (Missed None miss ∷ before) = current_slot before
+current_slot (Missed (Some tag) miss ∷ before) = tag
+current_slot (Controlled tag ∷ before) = tag
+current_slot (Fetched tag fis payload arrival ∷ before) = tag
+current_slot (Completed tag payload arrival ∷ before) = current_slot before
+
+-- PxCMD.CCS is that slot (3.3.7; 6.2.2.1 has a driver find the failed command by it).
+abbrev pub CurrentLaw : Type 0
+CurrentLaw = (o : Origin) (list : List Operation) → (regs_of o list).current ≡ current_slot list

@@ -1,6 +1,6 @@
 //! What follows from the definitions alone.
 
-ghost use Rattle.hba.specs.Laws.{HostFailureLaw, HostDenialLaw, ActiveLaw};
+ghost use Rattle.hba.specs.Laws.{HostFailureLaw, HostDenialLaw, ActiveLaw, CurrentLaw};
 
 /// Laws of the definitions, over every origin and every list of operations.
 ///
@@ -16,4 +16,10 @@ pub fn laws_of_failures()
 /// host writes and a power cycle.
 pub fn laws_of_queues()
     ensures { ActiveLaw }
+{}
+
+/// The law of PxCMD.CCS: it names the slot whose command was fetched last, also where memory failed or its FIS was no
+/// command, since the host cleared ST or a reset came; else it is 0.
+pub fn laws_of_slots()
+    ensures { CurrentLaw }
 {}

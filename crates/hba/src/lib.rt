@@ -11,6 +11,6 @@ mod work;
 
 pub use hba::Hba;
 pub use host_memory::{HostMemory, Window};
-pub use laws::{laws_of_failures, laws_of_queues};
+pub use laws::{laws_of_failures, laws_of_queues, laws_of_slots};
 pub use registers::Registers;
 pub use work::{Done, HbaError, MemoryFault, Turned, Work};

@@ -1,5 +1,5 @@
 -- The least that may be done, or none.
-use Rattle.std.proofs.Common.{◌≡◌, ◌<◌, ℕ, false, ap, sym, ◌∙◌, subst, arith}
+use Rattle.std.proofs.Common.{◌≡◌, ℕ, false, ap, sym, ◌∙◌, subst, arith}
 use borrow.Author.Count.{below_more}
 use Rattle.hba.specs.declared.work.Work.TheVariants as works
 use Rattle.hba.specs.History.{State}
