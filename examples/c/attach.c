@@ -142,7 +142,7 @@ int main(int count, char **words)
     start(words + 1);
     write_register(PxCLB, LIST);
     write_register(PxFB, RECEIVED);
-    write_register(PxSERR, 0xffffffff);            /* the first FIS waits for DIAG.X to be cleared */
+    write_register(PxSERR, 0xffffffff);            /* the exchange is seen */
     write_register(PxCMD, 0x11);                   /* FRE, ST */
     printf("%s\n", ask("turn"));
     prepare(100);

@@ -91,7 +91,7 @@ fn main() {
 
     device.write(0x100, 0x10_0000); // PxCLB: the command list
     device.write(0x108, 0x10_1000); // PxFB: received FISes
-    device.write(0x130, 0xffff_ffff); // PxSERR: the first FIS waits for DIAG.X to be cleared
+    device.write(0x130, 0xffff_ffff); // PxSERR: the exchange is seen
     device.write(0x118, 0x11); // PxCMD: FRE and ST
     println!("{}", device.ask("turn"));
 

@@ -7,7 +7,6 @@ use Rattle.host_memory.specs.declared.hba_memory.miss.Miss.TheVariants as misses
 use Rattle.hba.specs.declared.registers.Registers.{Registers}
 use Rattle.hba.specs.Registers.{word_at}
 use Rattle.hba.specs.Showing.{arrived}
-use Rattle.hba.specs.Ready.{may_sign}
 use Rattle.hba.specs.History.{Operation, Wrote, Signed, Missed, Controlled, regs_of}
 
 -- The word at an offset behind operations, the newest first.
@@ -95,7 +94,7 @@ row_speed_of_a_faster_limit o = refl
 
 -- COMRESET (10.4.2) behind a signature and a PxSERR that was cleared: while DET is 1, PxTFD is 7Fh,
 -- and PhyRdy has changed (PxSERR.DIAG.N, PxIS.PRCS); behind it COMINIT came (DIAG.X, PCS), and PxTFD is
--- 80h and PxSIG FFFFFFFFh until the signature, which waits for DIAG.X to be cleared (10.1.2).
+-- 80h and PxSIG FFFFFFFFh until the signature.
 abbrev heard : List Operation
 heard = Signed ∷ Wrote 0x118 0x10 ∷ Wrote 0x130 0xffffffff ∷ []
 
@@ -137,12 +136,6 @@ row_phy_cleared o = refl
 
 row_exchange_cleared : (o : Origin) → reads o (Wrote 0x130 0x04000000 ∷ rises) 0x110 ≡ 0x00400000
 row_exchange_cleared o = refl
-
-row_waits : (o : Origin) → may_sign (regs_of o (Wrote 0x130 0x00010000 ∷ rises)) ≡ false
-row_waits o = refl
-
-row_signs : (o : Origin) → may_sign (regs_of o (Wrote 0x130 0x04000000 ∷ rises)) ≡ true
-row_signs o = refl
 
 -- OFS (3.3.5) of a read whose data pass the PRDT: its FIS comes, PxCI is clear, and nothing halts (6.1).
 -- A write is not done: PxCI keeps its bit, and the port halts.

@@ -18,11 +18,9 @@ abbrev pub is_working : Registers → Bool
 is_working regs =
     regs.port.running && regs.port.receiving && not regs.is_halted && is_up regs.port.control
 
--- The signature goes where received FISes go, once the host has cleared PxSERR.DIAG.X (10.1.2).
+-- The signature goes where received FISes go.
 abbrev pub may_sign : Registers → Bool
-may_sign regs =
-    regs.port.receiving && is_up regs.port.control && not regs.is_signed
-    && not regs.is_exchanged
+may_sign regs = regs.port.receiving && is_up regs.port.control && not regs.is_signed
 
 -- A command that is issued is fetched while the device is neither busy nor wants data.
 abbrev pub may_fetch : Registers → ℕ → Bool

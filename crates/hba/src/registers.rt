@@ -236,10 +236,7 @@ impl Registers {
     pub(crate) fn may_sign(&self) -> bool
         ensures { result ≡ may_sign self.now }
     {
-        self.is_receiving()
-            && is_up(self.kept_word(PX_SCTL))
-            && !self.is_signed
-            && !self.is_exchanged
+        self.is_receiving() && is_up(self.kept_word(PX_SCTL)) && !self.is_signed
     }
 
     /// The tags whose commands can be fetched, a bit for each.
