@@ -13,7 +13,7 @@ use Rattle.hba.specs.declared.registers.Registers.{Registers}
 use Rattle.host_memory.specs.declared.hba_memory.delivery.Arrival.{Arrival}
 use Rattle.host_memory.specs.declared.hba_memory.miss.Miss.{Miss}
 use Rattle.host_memory.specs.declared.hba_memory.miss.Miss.TheVariants as misses
-use Rattle.hba.specs.Showing.{served, shortened, arrived, fetching}
+use Rattle.hba.specs.Showing.{served, moved, arrived, fetching}
 use Rattle.hba.specs.Laws.{ToldByDeviceBits}
 
 raised_active : (bits : ℕ) (raises : Bool) (regs : Regs) → (raised bits raises regs).active ≡ regs.active
@@ -73,7 +73,7 @@ pub fetched_same : (arrival : Arrival) (tag : ℕ) (regs : Registers) (error : O
     else (if holds then answer_fis false ready 0 ∷ [] else fises_read read))
     → (arrived tag fises arrival (fetching tag regs)).port.active ≡ regs.port.active
 fetched_same arrival tag regs error holds read fises e =
-    let before = shortened arrival.is_short (fetching tag regs) in
+    let before = moved arrival (fetching tag regs) in
     served_same arrival.missed tag fises before
     (rw e (accepted_active tag before.port error holds read))
 
@@ -124,4 +124,4 @@ pub arrived_told : (arrival : Arrival) (tag : ℕ) (regs : Registers) (held : Op
     → ToldByDeviceBits tag (completed_fises tag held) regs.port.active
     (arrived tag (completed_fises tag held) arrival regs).port.active
 arrived_told arrival tag regs held =
-    completed_told arrival.missed tag (shortened arrival.is_short regs) held
+    completed_told arrival.missed tag (moved arrival regs) held

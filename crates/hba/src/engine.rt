@@ -223,15 +223,15 @@ impl Hba {
         ensures kept { OnErr result (OnlyReads M.does memory.old memory.new) }
     {
         let at = place.header.descriptors();
-        match gather(memory, at, place.header.entries, room) {
-            Ok(()) => {}
+        let brought = match gather(memory, at, place.header.entries, room) {
+            Ok(brought) => brought,
             Err(miss) => return Ok(self.miss(Some(tag), miss)),
-        }
+        };
         let mut answer = Accepted::none(self.alloc);
         self.take(fis, h, room, &mut answer)?;
         let told = answer.fises();
         let (fises, bytes) = (told.as_slice(), answer.bytes.as_slice());
-        let delivered = deliver(memory, place, room.len(), fises, bytes);
+        let delivered = deliver(memory, place, brought, fises, bytes);
         self.note_fetch(tag);
         let done = self.show(tag, fises, delivered);
         self.give_back(answer.bytes);
@@ -305,14 +305,14 @@ impl Hba {
         ensures kept { OnErr result (OnlyReads M.does memory.old memory.new) }
     {
         let at = place.header.descriptors();
-        match gather(memory, at, place.header.entries, room) {
-            Ok(()) => {}
+        let brought = match gather(memory, at, place.header.entries, room) {
+            Ok(brought) => brought,
             Err(miss) => return Ok(self.miss(None, miss)),
-        }
+        };
         let completed = self.finish(tag, room)?;
         let told = completed.fises();
         let (fises, bytes) = (told.as_slice(), completed.bytes.as_slice());
-        let delivered = deliver(memory, place, room.len(), fises, bytes);
+        let delivered = deliver(memory, place, brought, fises, bytes);
         let done = self.show(tag, fises, delivered);
         self.give_back(completed.bytes);
         Ok(Outcome { done, denied: None })

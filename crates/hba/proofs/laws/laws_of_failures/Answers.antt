@@ -19,7 +19,7 @@ failure_law o before tag fis payload error e =
     record {
       tells = tells_error (regs_of o before) tag error _ sent;
       halts = λ arrival. halts (regs_of o before) tag error arrival _ sent;
-      gives = λ place talk arrival h. gives_nothing place _ error _ _ talk arrival sent given h;
+      gives = λ place brought talk arrival h. gives_nothing place brought error _ _ talk arrival sent given h;
     }
 
 denial_law : HostDenialLaw
