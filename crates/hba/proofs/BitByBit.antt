@@ -1,27 +1,24 @@
 -- The bits of PxCI and of PxIS, operation by operation.
-use Rattle.std.proofs.Common.{◌≡◌, ℕ, ◌-◌, ◌^◌, ◌%◌, ◌<◌, min, Bool, true, false, not, nat_le, List, [], ◌∷◌, Option, Some, None, refl, ap, sym, ◌∙◌}
-use Rattle.std.specs.Prelude.{◌==◌, ◌&&◌, ◌||◌, bit_and, bit_or, max, if◌then◌else◌}
-use Rattle.std.specs.Int.{bit_at}
-use Rattle.std.proofs.lemmas.Nat.Bits.{bit_at_lowest, bit_at_or, bit_at_and, bit_at-lt}
+use Rattle.std.proofs.Common.{◌≡◌, ℕ, ◌-◌, ◌%◌, ◌<◌, Bool, true, false, not, nat_le, List, [], ◌∷◌, Option, Some, None, refl, ap, ◌∙◌}
+use Rattle.std.specs.Prelude.{◌==◌, ◌&&◌, ◌||◌, bit_and, bit_or, if◌then◌else◌}
 use Rattle.fis.specs.declared.any.Fis.{Fis}
 use Rattle.fis.specs.declared.any.Fis.TheVariants as fises
 use Rattle.hba_regs.specs.declared.register.Register.{Register}
 use Rattle.hba_regs.specs.declared.register.Register.TheVariants as at
-use Rattle.hba_regs.specs.Registers.{Regs, register_at, has_bits, start_bit, rewritten, run_if, without}
+use Rattle.hba_regs.specs.Registers.{Regs, register_at, has_bits, start_bit, run_if}
 use Rattle.history.specs.History.{Accept, Complete}
 use Rattle.host_memory.specs.declared.hba_memory.miss.Miss.{Miss}
 use Rattle.host_memory.specs.declared.hba_memory.miss.Miss.TheVariants as misses
-use Rattle.host_memory.specs.declared.hba_memory.delivery.Arrival.{Arrival}
-use Rattle.port_history.specs.Registers.{raised, with_task, task_error_bit, carried, no_more_issued, no_more_active, shown, all_shown, is_finished, register_bit, pio_setup_bit, dma_setup_bit, device_bits_bit}
+use Rattle.port_history.specs.Registers.{raised, with_task, task_error_bit, carried, no_more_issued, shown, all_shown, is_finished, register_bit, pio_setup_bit, dma_setup_bit, device_bits_bit}
 use Rattle.hba.specs.declared.registers.Registers.{Registers}
-use Rattle.hba.specs.Registers.{port_at, reset_bit, enable_bit, override_bit, control_bits, processed_bit, overflow_bit, kept, optioned, overridden, stopped_if, lost_if, found_if, goes_down, comes_up, port_written, port_written_of, after_hba_reset, generic_written, written_at}
-use Rattle.hba.specs.Showing.{served, moved, fetching, bits_of}
+use Rattle.hba.specs.Registers.{port_at, reset_bit, enable_bit, override_bit, control_bits, kept, optioned, overridden, stopped_if, lost_if, found_if, goes_down, comes_up, port_written, port_written_of, after_hba_reset, written_at}
+use Rattle.hba.specs.Showing.{served, moved, fetching}
 use Rattle.hba.specs.History.{Wrote, Powered, Signed, Missed, Controlled, Fetched, Completed, account, regs_of, effect_after}
-use Rattle.hba.specs.BitLaws.{has, AreOfWords, at_register, by_write, starts, runs, shown_if, ends_command, one_ends, issues, is_issued, IssuedLaw, raises, one_raises, missing_raises, arrival_raises, clears, is_raised, RaisedLaw, RunningLaw}
-use Rattle.hba.proofs.BitsOfWords.{has_zero, has_or, has_without, has_without_one}
+use Rattle.hba.specs.BitLaws.{word_has, at_register, by_write, start_after, runs, shown_if, ends_command, one_ends, issues, IssuedLaw, raises, RunningLaw}
+use Rattle.hba.proofs.BitsOfWords.{has_zero, has_or, has_without_one}
 
 -- What a look at ST, PxCI, PxSACT and PxIS finds.
-abbrev seen : (Bool → ℕ → ℕ → ℕ → Bool) → Regs → Bool
+abbrev pub seen : (Bool → ℕ → ℕ → ℕ → Bool) → Regs → Bool
 seen look regs = look regs.running regs.issued regs.active regs.interrupts
 
 -- A write, by where it goes.
@@ -43,7 +40,7 @@ at_offset look port reset regs value p r false register true is_status false ena
 at_offset look port reset regs value p r false register false true resets enables raises = refl
 at_offset look port reset regs value p r false register false false resets enables raises = refl
 
-written_so : (look : Bool → ℕ → ℕ → ℕ → Bool) (port : Register → Bool) (reset : Bool) (regs : Registers)
+pub written_so : (look : Bool → ℕ → ℕ → ℕ → Bool) (port : Register → Bool) (reset : Bool) (regs : Registers)
     (offset value : ℕ)
     → ((register : Register) → seen look (port_written regs register value).port ≡ port register)
     → seen look (after_hba_reset regs).port ≡ reset
@@ -69,14 +66,14 @@ by_control look false true regs = refl
 by_control look false false regs = refl
 
 -- A written PxCMD, for what ST takes along.
-commanded : (look : Bool → ℕ → ℕ → ℕ → Bool) (regs : Registers) (value : ℕ)
+pub commanded : (look : Bool → ℕ → ℕ → ℕ → Bool) (regs : Registers) (value : ℕ)
     → seen look (port_written regs at.Command value).port
     ≡ seen look (run_if (has_bits value start_bit) (record regs.port { receiving = has_bits value 0x10 }))
 commanded look regs value =
     by_command look (not (has_bits value start_bit)) (has_bits value override_bit)
     (optioned value (kept regs at.Command value))
 
-controlled_so : (look : Bool → ℕ → ℕ → ℕ → Bool) (regs : Registers) (value : ℕ)
+pub controlled_so : (look : Bool → ℕ → ℕ → ℕ → Bool) (regs : Registers) (value : ℕ)
     → seen look (port_written regs at.SataControl value).port ≡ seen look regs.port
 controlled_so look regs value =
     by_control look (comes_up regs value) (goes_down regs value)
@@ -96,7 +93,7 @@ set_if true one other e = e
 set_if false one other e = refl
 
 port_running : (regs : Registers) (value : ℕ) (register : Register)
-    → seen running (port_written regs register value).port ≡ starts value regs.port.running register
+    → seen running (port_written regs register value).port ≡ start_after value regs.port.running register
 port_running regs value at.ListBase = refl
 port_running regs value at.ListBaseUpper = refl
 port_running regs value at.FisBase = refl
@@ -158,8 +155,8 @@ pub running_law : RunningLaw
 running_law o [] = refl
 running_law o (Wrote offset value ∷ before) =
     let regs = regs_of o before in
-    written_so running (starts value regs.port.running) false regs offset value (port_running regs value) refl
-    ∙ ap (λ (b : Bool). by_write (starts value b) false b offset value) (running_law o before)
+    written_so running (start_after value regs.port.running) false regs offset value (port_running regs value) refl
+    ∙ ap (λ (b : Bool). by_write (start_after value b) false b offset value) (running_law o before)
 running_law o (Powered ∷ before) = refl
 running_law o (Signed ∷ before) = running_law o before
 running_law o (Missed fetched miss ∷ before) = running_law o before
@@ -175,22 +172,22 @@ running_law o (Completed tag payload arrival ∷ before) =
 
 -- PxCI.
 abbrev issued_bit : ℕ → Bool → ℕ → ℕ → ℕ → Bool
-issued_bit tag st issued active interrupts = has issued tag
+issued_bit tag st issued active interrupts = word_has issued tag
 
 run_issued : (tag : ℕ) (st : Bool) (regs : Regs)
-    → has (run_if st regs).issued tag ≡ (st && has regs.issued tag)
+    → word_has (run_if st regs).issued tag ≡ (st && word_has regs.issued tag)
 run_issued tag true regs = refl
 run_issued tag false regs = has_zero tag
 
-or_false : (a : Bool) → a ≡ (a || false)
+pub or_false : (a : Bool) → a ≡ (a || false)
 or_false true = refl
 or_false false = refl
 
 issue_if : (tag value : ℕ) (st : Bool) (regs : Regs)
-    → has (if st then record regs { issued = bit_or regs.issued value } else regs).issued tag
-    ≡ (has regs.issued tag || st && has value tag)
+    → word_has (if st then record regs { issued = bit_or regs.issued value } else regs).issued tag
+    ≡ (word_has regs.issued tag || st && word_has value tag)
 issue_if tag value true regs = has_or regs.issued value tag
-issue_if tag value false regs = or_false (has regs.issued tag)
+issue_if tag value false regs = or_false (word_has regs.issued tag)
 
 active_if : (value : ℕ) (st : Bool) (regs : Regs)
     → (if st then record regs { active = bit_or regs.active value } else regs).issued ≡ regs.issued
@@ -199,7 +196,7 @@ active_if value false regs = refl
 
 port_issued : (tag value : ℕ) (regs : Registers) (register : Register)
     → seen (issued_bit tag) (port_written regs register value).port
-    ≡ issues value tag regs.port.running (has regs.port.issued tag) register
+    ≡ issues value tag regs.port.running (word_has regs.port.issued tag) register
 port_issued tag value regs at.ListBase = refl
 port_issued tag value regs at.ListBaseUpper = refl
 port_issued tag value regs at.FisBase = refl
@@ -214,7 +211,7 @@ port_issued tag value regs at.Signature = refl
 port_issued tag value regs at.SataStatus = refl
 port_issued tag value regs at.SataControl = controlled_so (issued_bit tag) regs value
 port_issued tag value regs at.SataError = refl
-port_issued tag value regs at.Active = ap (λ (w : ℕ). has w tag) (active_if value regs.port.running regs.port)
+port_issued tag value regs at.Active = ap (λ (w : ℕ). word_has w tag) (active_if value regs.port.running regs.port)
 port_issued tag value regs at.Issue = issue_if tag value regs.port.running regs.port
 
 raised_issued : (bits : ℕ) (raises : Bool) (regs : Regs) → (raised bits raises regs).issued ≡ regs.issued
@@ -222,29 +219,29 @@ raised_issued bits true regs = refl
 raised_issued bits false regs = refl
 
 no_more_has : (tag slot : ℕ) (ends : Bool) (regs : Regs) → slot < 32 → tag < 32
-    → has (no_more_issued slot ends regs).issued tag ≡ (not (ends && slot == tag) && has regs.issued tag)
+    → word_has (no_more_issued slot ends regs).issued tag ≡ (not (ends && slot == tag) && word_has regs.issued tag)
 no_more_has tag slot true regs s t = has_without_one regs.issued slot tag s t
 no_more_has tag slot false regs s t = refl
 
 shown_issued : (tag slot : ℕ) (regs : Regs) (fis : Fis) → slot < 32 → tag < 32
-    → has (shown slot regs fis).issued tag ≡ (not (ends_command fis && slot == tag) && has regs.issued tag)
+    → word_has (shown slot regs fis).issued tag ≡ (not (ends_command fis && slot == tag) && word_has regs.issued tag)
 shown_issued tag slot regs (fises.H2d f) s t = refl
 shown_issued tag slot regs (fises.D2h f) s t =
     no_more_has tag slot (is_finished f.status) (raised register_bit f.interrupt (with_task f.status f.error regs)) s t
-    ∙ ap (λ (w : ℕ). not (is_finished f.status && slot == tag) && has w tag)
+    ∙ ap (λ (w : ℕ). not (is_finished f.status && slot == tag) && word_has w tag)
     (raised_issued register_bit f.interrupt (with_task f.status f.error regs)
     ∙ raised_issued task_error_bit (f.status % 2 == 1) (record regs { status = f.status; error = f.error }))
 shown_issued tag slot regs (fises.PioSetup f) s t =
     let ends = f.to_host && is_finished f.end_status in
     no_more_has tag slot ends (raised pio_setup_bit f.interrupt (with_task f.end_status f.error regs)) s t
-    ∙ ap (λ (w : ℕ). not (ends && slot == tag) && has w tag)
+    ∙ ap (λ (w : ℕ). not (ends && slot == tag) && word_has w tag)
     (raised_issued pio_setup_bit f.interrupt (with_task f.end_status f.error regs)
     ∙ raised_issued task_error_bit (f.end_status % 2 == 1) (record regs { status = f.end_status; error = f.error }))
 shown_issued tag slot regs (fises.DmaSetup f) s t =
-    ap (λ (w : ℕ). has w tag) (raised_issued dma_setup_bit f.interrupt regs)
+    ap (λ (w : ℕ). word_has w tag) (raised_issued dma_setup_bit f.interrupt regs)
 shown_issued tag slot regs (fises.SetDeviceBits f) s t =
     let status = carried regs.status f.status in
-    ap (λ (w : ℕ). has w tag)
+    ap (λ (w : ℕ). word_has w tag)
     (raised_issued device_bits_bit f.interrupt (with_task status f.error regs)
     ∙ raised_issued task_error_bit (status % 2 == 1) (record regs { status = status; error = f.error }))
 
@@ -255,16 +252,16 @@ both_end true true true y = refl
 both_end true true false y = refl
 
 all_issued : (tag slot : ℕ) (list : List Fis) (regs : Regs) → slot < 32 → tag < 32
-    → has (all_shown slot regs list).issued tag ≡ (not (one_ends list && slot == tag) && has regs.issued tag)
+    → word_has (all_shown slot regs list).issued tag ≡ (not (one_ends list && slot == tag) && word_has regs.issued tag)
 all_issued tag slot [] regs s t = refl
 all_issued tag slot (fis ∷ later) regs s t =
     all_issued tag slot later (shown slot regs fis) s t
     ∙ ap (λ (b : Bool). not (one_ends later && slot == tag) && b) (shown_issued tag slot regs fis s t)
-    ∙ both_end (ends_command fis) (one_ends later) (slot == tag) (has regs.issued tag)
+    ∙ both_end (ends_command fis) (one_ends later) (slot == tag) (word_has regs.issued tag)
 
 served_issued : (missed : Option Miss) (tag slot : ℕ) (list : List Fis) (regs : Registers) → slot < 32 → tag < 32
-    → has (served slot list missed regs).port.issued tag
-    ≡ (not (one_ends (shown_if missed list) && slot == tag) && has regs.port.issued tag)
+    → word_has (served slot list missed regs).port.issued tag
+    ≡ (not (one_ends (shown_if missed list) && slot == tag) && word_has regs.port.issued tag)
 served_issued None tag slot list regs s t = all_issued tag slot list regs.port s t
 served_issued (Some misses.List) tag slot list regs s t = refl
 served_issued (Some misses.Table) tag slot list regs s t = refl
@@ -276,9 +273,9 @@ pub issued_law : IssuedLaw
 issued_law o [] tag w t = has_zero tag
 issued_law o (Wrote offset value ∷ before) tag w t =
     let regs = regs_of o before in
-    written_so (issued_bit tag) (issues value tag regs.port.running (has regs.port.issued tag)) false regs offset value
+    written_so (issued_bit tag) (issues value tag regs.port.running (word_has regs.port.issued tag)) false regs offset value
     (port_issued tag value regs) (has_zero tag)
-    ∙ ap (λ (b : Bool). by_write (issues value tag b (has regs.port.issued tag)) false (has regs.port.issued tag) offset value)
+    ∙ ap (λ (b : Bool). by_write (issues value tag b (word_has regs.port.issued tag)) false (word_has regs.port.issued tag) offset value)
     (running_law o before)
     ∙ ap (λ (b : Bool). by_write (issues value tag (runs before) b) false b offset value) (issued_law o before tag w.1 t)
 issued_law o (Powered ∷ before) tag w t = has_zero tag

@@ -1,14 +1,13 @@
 -- FISes of several blocks, one after the other.
-use Rattle.std.proofs.Common.{◌≡◌, ℕ, ◌+◌, ◌^◌, ◌||◌, zero, suc, not, nat_le, Bool, true, false, refl, ap, arith, ◌∙◌}
+use Rattle.std.proofs.Common.{◌≡◌, ℕ, ◌^◌, zero, suc, nat_le, Bool, true, false, refl, ap, arith, ◌∙◌}
 use Rattle.std.specs.Prelude.{bit_or}
 use Rattle.std.specs.Int.Bits.{or_add_and}
 use Rattle.std.proofs.lemmas.Nat.{and_or_self}
 use Rattle.fis.specs.declared.pio_setup.PioSetup.{PioSetup}
-use Rattle.fis.specs.declared.any.Fis.TheVariants as fises
 use Rattle.hba_regs.specs.Registers.{Regs, without}
 use Rattle.history.specs.Answers.{busy, ready}
 use Rattle.port_history.specs.Registers.{shown, all_shown, pio_setup_bit}
-use Rattle.hba.specs.Blocks.{setup_of, setups, of_last_block, read_setup, write_setup, BlocksLaw}
+use Rattle.hba.specs.Blocks.{setup_of, setups, read_setup, write_setup, BlocksLaw}
 
 or_twice : (i b : ℕ) → bit_or (bit_or i b) b ≡ bit_or i b
 or_twice i b =

@@ -10,4 +10,6 @@ pub mod Counts
 pub mod Current
 pub mod BitsOfWords
 pub mod BitByBit
+pub mod RaisedBits
+pub mod QueuedBits
 mod Rows
