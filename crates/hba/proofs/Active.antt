@@ -1,6 +1,6 @@
 -- Which FISes leave PxSACT as it was.
-use Rattle.std.proofs.Common.{◌≡◌, ℕ, ◌%◌, ◌^◌, Bool, true, false, List, [], ◌∷◌, Option, Some, None, ◌*◌, refl, ap, inl, inr}
-use Rattle.std.specs.Prelude.{◌==◌, is_some, unwrap_or, Result, Ok, Err, if◌then◌else◌}
+use Rattle.std.proofs.Common.{◌≡◌, ℕ, ◌^◌, Bool, true, false, List, [], ◌∷◌, map, Option, Some, None, ◌*◌, refl, ap, inl, inr, ◌∙◌}
+use Rattle.std.specs.Prelude.{is_some, unwrap_or, Result, Ok, Err, if◌then◌else◌}
 use Rattle.fis.specs.declared.any.Fis.{Fis}
 use Rattle.hba_regs.specs.Registers.{Regs, without}
 use Rattle.trusted_cmds.specs.declared.command.Command.{Command}
@@ -8,21 +8,15 @@ use Rattle.trusted_cmds.specs.declared.command.Command.TheVariants.{ReadQueued, 
 use Rattle.trusted_cmds.specs.declared.command.CommandError.{CommandError}
 use Rattle.history.specs.Answers.{errored, ready, answer_fis, served_fises, fises_read, fises_of, completed_fises, setup_fis, moved_fis}
 use Rattle.history.specs.Events.{HeldCommand}
-use Rattle.port_history.specs.Registers.{raised, with_task, task_error_bit, carried, all_shown}
+use Rattle.port_history.specs.Registers.{carried, all_shown}
 use Rattle.hba.specs.declared.registers.Registers.{Registers}
 use Rattle.host_memory.specs.declared.hba_memory.delivery.Arrival.{Arrival}
 use Rattle.host_memory.specs.declared.hba_memory.miss.Miss.{Miss}
 use Rattle.host_memory.specs.declared.hba_memory.miss.Miss.TheVariants as misses
-use Rattle.hba.specs.Showing.{served, shortened, arrived, fetching}
+use Rattle.hba.specs.Showing.{served, moved, arrived, fetching}
+use Rattle.hba.specs.Blocks.{of_last_block}
 use Rattle.hba.specs.Laws.{ToldByDeviceBits}
-
-raised_active : (bits : ℕ) (raises : Bool) (regs : Regs) → (raised bits raises regs).active ≡ regs.active
-raised_active bits true regs = refl
-raised_active bits false regs = refl
-
-task_active : (status error : ℕ) (regs : Regs) → (with_task status error regs).active ≡ regs.active
-task_active status error regs =
-    raised_active task_error_bit (status % 2 == 1) (record regs { status = status; error = error })
+use Rattle.hba.proofs.Shown.{task_active, blocks_active}
 
 served_active : (tag : ℕ) (regs : Regs) (command : Command)
     → (all_shown tag regs (served_fises command)).active ≡ regs.active
@@ -68,14 +62,15 @@ served_same (Some misses.Overflow) tag fises regs e = refl
 served_same (Some misses.Fis) tag fises regs e = e
 
 pub fetched_same : (arrival : Arrival) (tag : ℕ) (regs : Registers) (error : Option ℕ) (holds : Bool)
-    (read : Result (Command × Option ℕ) CommandError) (fises : List Fis)
-    → fises ≡ (if is_some error then answer_fis true errored (unwrap_or error 0) ∷ []
+    (read : Result (Command × Option ℕ) CommandError) (n : ℕ) (given fises : List Fis)
+    → fises ≡ map (of_last_block n) given
+    → given ≡ (if is_some error then answer_fis true errored (unwrap_or error 0) ∷ []
     else (if holds then answer_fis false ready 0 ∷ [] else fises_read read))
     → (arrived tag fises arrival (fetching tag regs)).port.active ≡ regs.port.active
-fetched_same arrival tag regs error holds read fises e =
-    let before = shortened arrival.is_short (fetching tag regs) in
+fetched_same arrival tag regs error holds read n given fises m e =
+    let before = moved arrival (fetching tag regs) in
     served_same arrival.missed tag fises before
-    (rw e (accepted_active tag before.port error holds read))
+    (rw m (blocks_active n tag given before.port ∙ rw e (accepted_active tag before.port error holds read)))
 
 -- The two FISes of a completion.
 moved_active : (tag : ℕ) (to_host : Bool) (count : ℕ) (regs : Regs)
@@ -124,4 +119,4 @@ pub arrived_told : (arrival : Arrival) (tag : ℕ) (regs : Registers) (held : Op
     → ToldByDeviceBits tag (completed_fises tag held) regs.port.active
     (arrived tag (completed_fises tag held) arrival regs).port.active
 arrived_told arrival tag regs held =
-    completed_told arrival.missed tag (shortened arrival.is_short regs) held
+    completed_told arrival.missed tag (moved arrival regs) held

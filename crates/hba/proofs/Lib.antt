@@ -3,7 +3,13 @@ pub mod Tags
 pub mod Works
 pub mod Turns
 pub mod Failures
+pub mod Shown
 pub mod Active
+pub mod BlockByBlock
 pub mod Counts
 pub mod Current
+pub mod BitsOfWords
+pub mod BitByBit
+pub mod RaisedBits
+pub mod QueuedBits
 mod Rows

@@ -143,7 +143,7 @@ abbrev issued : List Operation
 issued = Wrote 0x138 1 ∷ Wrote 0x118 0x11 ∷ heard
 
 abbrev cut : Arrival
-cut = record { is_short = true; missed = None }
+cut = record { is_short = true; is_processed = false; missed = None }
 
 abbrev read_cut : Origin → Registers
 read_cut o = arrived 0 (answer_fis true ready 0 ∷ []) cut (regs_of o issued)
@@ -167,3 +167,27 @@ row_write_stays o = refl
 row_write_halts : (o : Origin)
     → (regs_of o (Missed (Some 0) misses.Overflow ∷ issued)).is_halted ≡ true
 row_write_halts o = refl
+
+-- DPS (3.3.5) of a read whose descriptor asks for it: PxIS bit 5 beside the register FIS's, and where the
+-- FIS has no place; a written 1 clears it, and PxIE.DPE lets it interrupt (3.3.6).
+abbrev told : Arrival
+told = record { is_short = false; is_processed = true; missed = None }
+
+abbrev unreceived : Arrival
+unreceived = record { is_short = false; is_processed = true; missed = Some misses.Block }
+
+row_block_done : (o : Origin)
+    → word_at (arrived 0 (answer_fis true ready 0 ∷ []) told (regs_of o issued)) 0x110 ≡ 0x21
+row_block_done o = refl
+
+row_block_before_a_fault : (o : Origin)
+    → word_at (arrived 0 (answer_fis true ready 0 ∷ []) unreceived (regs_of o issued)) 0x110 ≡ 0x20000020
+row_block_before_a_fault o = refl
+
+row_block_interrupts : (o : Origin)
+    → word_at (arrived 0 [] told (regs_of o (Wrote 0x114 0x20 ∷ issued))) 0x008 ≡ 1
+row_block_interrupts o = refl
+
+row_block_does_not : (o : Origin)
+    → word_at (arrived 0 [] told (regs_of o (Wrote 0x114 0x5f ∷ issued))) 0x008 ≡ 0
+row_block_does_not o = refl

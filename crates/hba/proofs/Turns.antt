@@ -1,7 +1,7 @@
 -- A piece of work: what the engine asks of memory, what it does, and that it does so after every list
 -- that the HBA agreed with.
 use Rattle.sp_cells.specs.Config.{Config}
-use Rattle.std.proofs.Common.{◌≡◌, ℕ, ◌+◌, ◌-◌, zero, suc, Bool, true, false, List, [], ◌∷◌, ◌++◌, length, Option, Some, None, Ok, Err, ap, sym, refl, ◌∙◌, subst, add-one}
+use Rattle.std.proofs.Common.{◌≡◌, ℕ, ◌+◌, ◌-◌, zero, suc, Bool, true, false, List, [], ◌∷◌, ◌++◌, Option, Some, None, Ok, Err, ap, sym, refl, ◌∙◌, subst, add-one}
 use Rattle.std.proofs.lemmas.List.{append-nil}
 use Rattle.std.specs.Prelude.{Result, IfOk, ◌==◌}
 use Rattle.fis.specs.Types.{h2d_length}
@@ -16,10 +16,11 @@ use Rattle.host_memory.specs.Access.{Access, Asked, IsAccess, Accessed, OnlyRead
 use Rattle.host_memory.proofs.Accesses.{accessed_append}
 use Rattle.host_memory.specs.declared.hba_memory.miss.Miss.{Miss}
 use Rattle.host_memory.specs.declared.hba_memory.reading.Header.{Header}
+use Rattle.host_memory.specs.declared.hba_memory.reading.Moved.{Moved}
 use Rattle.host_memory.specs.declared.hba_memory.delivery.Arrival.{Arrival}
 use Rattle.host_memory.specs.declared.hba_memory.delivery.Place.{Place}
 use Rattle.slots.specs.Table.{is_command}
-use Rattle.host_memory.specs.Memory.{header_by, descriptors_of, data_len, Gathers, BringsNext, BringsEntry, BringsBlock, PostsTo, Delivers}
+use Rattle.host_memory.specs.Memory.{header_by, descriptors_of, data_len, moved_by, Gathers, BringsNext, BringsEntry, BringsBlock, PostsTo, Delivers}
 use Rattle.hba.specs.declared.registers.Registers.{Registers}
 use Rattle.hba.specs.declared.work.Work.{Work}
 use Rattle.hba.specs.declared.work.Work.TheVariants as works
@@ -118,7 +119,15 @@ Brought does place n before after brought =
     (talk : List Access) × Accessed does before talk after
     × Gathers (descriptors_of place.header) place.header.entries n talk brought
 
-abbrev pub Delivered : {M : Type 0} → (M → Access → M → Type 0) → Place → ℕ → List Fis → List ℕ → M → M
+-- And by how it moved.
+abbrev pub BroughtBy : {M : Type 0} → (M → Access → M → Type 0) → Place → ℕ → M → M
+    → Result (List ℕ) Miss → Moved → Type 0
+BroughtBy does place n before after brought moved =
+    (talk : List Access) × Accessed does before talk after
+    × Gathers (descriptors_of place.header) place.header.entries n talk brought
+    × (moved ≡ moved_by talk n)
+
+abbrev pub Delivered : {M : Type 0} → (M → Access → M → Type 0) → Place → Moved → List Fis → List ℕ → M → M
     → Arrival → Type 0
 Delivered does place moved fises bytes before after arrival =
     (talk : List Access) × Accessed does before talk after
@@ -148,7 +157,7 @@ Gives old act fises bytes =
     (o : Origin) (list : List Operation) → AgreesHba old o list
     → IsEffect (effect_after o (account o list) (act list o)) fises bytes
 
-delivers_effect : (o : Origin) (a : Account) (act : Act) (place : Place) (moved : ℕ) (fises : List Fis)
+delivers_effect : (o : Origin) (a : Account) (act : Act) (place : Place) (moved : Moved) (fises : List Fis)
     (bytes : List ℕ) (talk : List Access) (arrival : Arrival)
     → IsEffect (effect_after o a act) fises bytes → Delivers place moved fises bytes talk arrival
     → Delivers place moved (effect_after o a act).fises (effect_after o a act).bytes talk arrival
@@ -159,9 +168,9 @@ delivers_effect o a act place moved fises bytes talk arrival e h =
 pub serves_done : {M : Type 0} (does : M → Access → M → Type 0) (place : Place) (n : ℕ)
     (fetched : Option ℕ) (act : List ℕ → Act) (operation : List ℕ → Arrival → Operation) (old : State)
     (before middle : M) (new : State) (after : M) (payload : List ℕ) (fises : List Fis)
-    (bytes : List ℕ) (arrival : Arrival) (done : Done) (denied : Option Why)
-    → Brought does place n before middle (Ok payload)
-    → Delivered does place (length payload) fises bytes middle after arrival
+    (bytes : List ℕ) (moved : Moved) (arrival : Arrival) (done : Done) (denied : Option Why)
+    → BroughtBy does place n before middle (Ok payload) moved
+    → Delivered does place moved fises bytes middle after arrival
     → done_of (operation payload arrival) ≡ Some done
     → ((o : Origin) (list : List Operation) → AgreesHba old o list
     → IsEffect (effect_after o (account o list) (act payload)) fises bytes)
@@ -169,7 +178,7 @@ pub serves_done : {M : Type 0} (does : M → Access → M → Type 0) (place : P
     → ((o : Origin) (list : List Operation) → AgreesHba old o list
     → denied ≡ operation_denied o (account o list) (operation payload arrival))
     → TurnsAs does (λ o a. ServesSo o a place n fetched act operation) old before new after done denied
-serves_done does place n fetched act operation old before middle new after payload fises bytes arrival done denied g d told gives adds denies = (
+serves_done does place n fetched act operation old before middle new after payload fises bytes moved arrival done denied g d told gives adds denies = (
   g.0 ++ d.0,
   operation payload arrival,
   accessed_append does before middle after g.0 d.0 g.1 d.1,
@@ -183,8 +192,8 @@ serves_done does place n fetched act operation old before middle new after paylo
       g.2,
       (
         arrival,
-        delivers_effect o (account o list) (act payload) place (length payload) fises bytes d.0 arrival
-            (gives o list a) d.2,
+        delivers_effect o (account o list) (act payload) place (moved_by g.0 n) fises bytes d.0 arrival
+            (gives o list a) (subst (λ (m : Moved). Delivers place m fises bytes d.0 arrival) g.3 d.2),
         refl,
       ),
     );

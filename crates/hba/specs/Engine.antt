@@ -1,6 +1,6 @@
 -- What the engine does with a slot of the command list, by what the host's memory answers (AHCI
 -- 1.3.1, 5.5.1).
-use Rattle.std.specs.Prelude.{◌≡◌, ℕ, zero, suc, ◌+◌, ◌*◌, Bool, true, false, List, [], ◌∷◌, ◌++◌, length, Option, Some, None, Result, Ok, Err, if◌then◌else◌}
+use Rattle.std.specs.Prelude.{◌≡◌, ℕ, zero, suc, ◌+◌, ◌*◌, Bool, true, false, List, [], ◌∷◌, ◌++◌, Option, Some, None, Result, Ok, Err, if◌then◌else◌}
 use Rattle.fis.specs.Types.{h2d_length}
 use Rattle.fis.specs.declared.any.Fis.{Fis}
 use Rattle.fis.specs.declared.any.Fis.TheVariants as fises
@@ -22,10 +22,11 @@ use Rattle.hba.specs.declared.registers.Registers.{Registers}
 use Rattle.host_memory.specs.declared.hba_memory.miss.Miss.{Miss}
 use Rattle.host_memory.specs.declared.hba_memory.miss.Miss.TheVariants as misses
 use Rattle.host_memory.specs.declared.hba_memory.reading.Header.{Header}
+use Rattle.host_memory.specs.declared.hba_memory.reading.Moved.{Moved}
 use Rattle.host_memory.specs.declared.hba_memory.delivery.Arrival.{Arrival}
 use Rattle.host_memory.specs.declared.hba_memory.delivery.Place.{Place}
 use Rattle.slots.specs.Table.{is_command}
-use Rattle.host_memory.specs.Memory.{header_by, descriptors_of, Gathers, PostsTo, Delivers}
+use Rattle.host_memory.specs.Memory.{header_by, descriptors_of, moved_by, Gathers, PostsTo, Delivers}
 use Rattle.hba.specs.Showing.{fault_of}
 use Rattle.hba.specs.History.{Operation, Wrote, Powered, Signed, Missed, Controlled, Fetched, Completed, Account, State, AgreesHba, account, effect_after, operation_denied}
 use Rattle.hba.specs.Ready.{picked, ready_after}
@@ -46,16 +47,17 @@ place_of regs tag header = record {
   to = fises_at regs;
 }
 
--- An act of the drive with the data that were brought, and what it gives; of a fetch under a tag, or
--- of a completion.
+-- An act of the drive with the data that were brought, by how they moved, and what it gives; of a
+-- fetch under a tag, or of a completion.
 abbrev pub Acts : Origin → Account → Place → Option ℕ → (List ℕ → Act)
-    → (List ℕ → Arrival → Operation) → Result (List ℕ) Miss → List Access → Operation → Type 0
-Acts o a place fetched act operation (Err miss) talk done =
+    → (List ℕ → Arrival → Operation) → Moved → Result (List ℕ) Miss → List Access → Operation
+    → Type 0
+Acts o a place fetched act operation moved (Err miss) talk done =
     (talk ≡ []) × (done ≡ Missed fetched miss)
-Acts o a place fetched act operation (Ok payload) talk done =
+Acts o a place fetched act operation moved (Ok payload) talk done =
     let effect = effect_after o a (act payload) in
     (arrival : Arrival)
-    × Delivers place (length payload) effect.fises effect.bytes talk arrival
+    × Delivers place moved effect.fises effect.bytes talk arrival
     × (done ≡ operation payload arrival)
 
 -- So many bytes are brought; the drive acts; what it gives is delivered.
@@ -64,7 +66,7 @@ abbrev pub ServesSo : Origin → Account → Place → ℕ → Option ℕ → (L
 ServesSo o a place n fetched act operation talk done =
     (before later : List Access) × (brought : Result (List ℕ) Miss) × (talk ≡ before ++ later)
     × Gathers (descriptors_of place.header) place.header.entries n before brought
-    × Acts o a place fetched act operation brought later done
+    × Acts o a place fetched act operation (moved_by before n) brought later done
 
 -- A slot's command.
 abbrev pub Executes : Origin → Account → Place → ℕ → List ℕ → List Access → Operation → Type 0

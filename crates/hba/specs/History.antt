@@ -9,6 +9,7 @@ use Rattle.history.specs.Opening.{Origin}
 use Rattle.drive.specs.State.{DriveState, Agrees}
 use Rattle.audit.specs.declared.reason.Why.{Why}
 use Rattle.port_history.specs.Steps.{Effect, effect_by}
+use Rattle.hba.specs.Blocks.{by_blocks}
 use Rattle.hba.specs.declared.registers.Registers.{Registers}
 use Rattle.host_memory.specs.declared.hba_memory.miss.Miss.{Miss}
 use Rattle.host_memory.specs.declared.hba_memory.delivery.Arrival.{Arrival}
@@ -33,8 +34,12 @@ pub record Account : Type 0 where
   pub acts : List Act
   pub registers : Registers
 
+-- What an act gives: of the drive, and what of its FISes the host is told.
+abbrev pub drive_effect : Origin → Account → Act → Effect
+drive_effect o a act = effect_by (facts o (log o a.acts)) act
+
 abbrev pub effect_after : Origin → Account → Act → Effect
-effect_after o a act = effect_by (facts o (log o a.acts)) act
+effect_after o a act = by_blocks act (drive_effect o a act)
 
 -- An act of the drive for the command of a tag.
 abbrev pub acting : ℕ → Act → Arrival → Effect → Account → Account

@@ -1,6 +1,6 @@
 -- Laws over every list of operations: a command that fails, and a transfer that the policy denies, in
 -- the words of the registers and of the host's memory.
-use Rattle.std.specs.Prelude.{◌≡◌, ◌⊎◌, ℕ, ◌^◌, ◌-◌, ◌==◌, ◌&&◌, not, nat_le, Bool, List, [], ◌∷◌, length, Option, Some, None, true, false, bit_or, if◌then◌else◌}
+use Rattle.std.specs.Prelude.{◌≡◌, ◌⊎◌, ℕ, ◌^◌, ◌-◌, ◌==◌, ◌&&◌, not, nat_le, Bool, List, [], ◌∷◌, Option, Some, None, true, false, bit_or, if◌then◌else◌}
 use Rattle.fis.specs.declared.any.Fis.{Fis}
 use Rattle.hba_regs.specs.declared.register.Register.{Register}
 use Rattle.hba_regs.specs.declared.register.Register.TheVariants as at
@@ -18,8 +18,8 @@ use Rattle.history.specs.TransferLaws.{IsPermitted}
 use Rattle.port_history.specs.Registers.{register_bit, task_error_bit}
 use Rattle.hba.specs.declared.registers.Registers.{Registers}
 use Rattle.host_memory.specs.Access.{Access}
-use Rattle.host_memory.specs.declared.hba_memory.miss.Miss.{Miss}
 use Rattle.host_memory.specs.declared.hba_memory.delivery.Arrival.{Arrival}
+use Rattle.host_memory.specs.declared.hba_memory.reading.Moved.{Moved}
 use Rattle.host_memory.specs.declared.hba_memory.delivery.Place.{Place}
 use Rattle.host_memory.specs.Memory.{Delivers, PostsTo}
 use Rattle.hba.specs.Registers.{port_at, reset_bit}
@@ -38,14 +38,15 @@ pub record Halts (before after : Registers) : Type 0 where
   pub active : after.port.active ≡ before.port.active
   pub halted : after.is_halted ≡ true
 
--- Nothing reaches the memory but the FIS of the error.
-abbrev pub GivesNothing : Place → ℕ → List Access → Option Miss → Type 0
-GivesNothing place error talk missed =
-    PostsTo place.to (answer_fis true errored error ∷ []) talk missed
+-- Nothing reaches the memory but the FIS of the error, and no block is done.
+abbrev pub GivesNothing : Place → ℕ → List Access → Arrival → Type 0
+GivesNothing place error talk arrival =
+    PostsTo place.to (answer_fis true errored error ∷ []) talk arrival.missed
+    × (arrival.is_short ≡ false) × (arrival.is_processed ≡ false)
 
 -- All that an act gives has arrived.
 abbrev pub whole : Arrival
-whole = record { is_short = false; missed = None }
+whole = record { is_short = false; is_processed = false; missed = None }
 
 -- A fetched command fails with an error, in registers and memory; where memory misses something
 -- behind the act, it halts all the same.
@@ -55,11 +56,11 @@ pub record FailsSo (o : Origin) (before : List Operation) (tag : ℕ) (fis paylo
       (regs_of o (Fetched tag fis payload whole ∷ before))
   pub halts : (arrival : Arrival)
       → Halts (regs_of o before) (regs_of o (Fetched tag fis payload arrival ∷ before))
-  pub gives : (place : Place) (talk : List Access) (arrival : Arrival)
-      → Delivers place (length payload)
+  pub gives : (place : Place) (brought : Moved) (talk : List Access) (arrival : Arrival)
+      → Delivers place brought
       (effect_after o (account o before) (Accept fis payload)).fises
       (effect_after o (account o before) (Accept fis payload)).bytes talk arrival
-      → GivesNothing place error talk arrival.missed
+      → GivesNothing place error talk arrival
 
 -- Each command that the drive fails does so.
 abbrev pub HostFailureLaw : Type 0

@@ -45,6 +45,10 @@ phy_change_bit = 0x00400000
 abbrev pub memory_bit : ℕ
 memory_bit = 0x20000000
 
+-- DPS, of a block that is done whose descriptor asks to tell of it.
+abbrev pub processed_bit : ℕ
+processed_bit = 0x00000020
+
 -- OFS, of data past the PRDT.
 abbrev pub overflow_bit : ℕ
 overflow_bit = 0x01000000

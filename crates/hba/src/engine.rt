@@ -5,6 +5,7 @@ ghost use Rattle.history.specs.Answers.{payload_of, expected};
 ghost use Rattle.host_memory.specs.Access.{OnlyReads};
 ghost use Rattle.hba.specs.Engine.{signature_fis};
 
+use crate::blocks::by_blocks;
 use crate::hba::{Hba, one_more};
 use crate::work::{Done, Outcome, Work, fault_of};
 use drive::{Accepted, Completed, DriveError};
@@ -37,7 +38,7 @@ impl Hba {
     ghost use Rattle.fis.specs.Types.{h2d_type};
     ghost use Rattle.drive.specs.Answers.{fises_in, fises_done};
     ghost use Rattle.drive.specs.Queue.{held_at};
-    ghost use Rattle.hba.specs.History.{Operation, Completed as CompletedTag, Signed, Missed, Controlled, AgreesHba, HasActed, Adds, account, acts_of, effect_after};
+    ghost use Rattle.hba.specs.History.{Operation, Completed as CompletedTag, Signed, Missed, Controlled, AgreesHba, HasActed, Adds, account, acts_of, drive_effect, effect_after};
     ghost use Rattle.hba.specs.Showing.{fetching, fault_of, arrived};
     ghost use Rattle.hba.specs.Engine.{IsEffect, header_at, fises_at, place_of, done_by, Executes, Fetches, Completes, CompletesFrom, ServesSo, IsWork, TurnsAs, TurnsBy, Signs};
     ghost use Rattle.hba.specs.Ready.{is_ready_on};
@@ -60,7 +61,7 @@ impl Hba {
             → HasActed self.new o (Accept fis.now payload.now ∷ acts_of o list)) }
         ensures effect { OnOk result ((o : Origin) (list : List Operation)
             → AgreesHba self.old o list
-            → IsEffect (effect_after o (account o list) (Accept fis.now payload.now))
+            → IsEffect (drive_effect o (account o list) (Accept fis.now payload.now))
             (fises_in answer.new) answer.new.bytes.items) }
         ensures denied { OnOk result ((o : Origin) (list : List Operation)
             → AgreesHba self.old o list
@@ -223,15 +224,16 @@ impl Hba {
         ensures kept { OnErr result (OnlyReads M.does memory.old memory.new) }
     {
         let at = place.header.descriptors();
-        match gather(memory, at, place.header.entries, room) {
-            Ok(()) => {}
+        let brought = match gather(memory, at, place.header.entries, room) {
+            Ok(brought) => brought,
             Err(miss) => return Ok(self.miss(Some(tag), miss)),
-        }
+        };
         let mut answer = Accepted::none(self.alloc);
         self.take(fis, h, room, &mut answer)?;
-        let told = answer.fises();
-        let (fises, bytes) = (told.as_slice(), answer.bytes.as_slice());
-        let delivered = deliver(memory, place, room.len(), fises, bytes);
+        let bytes = answer.bytes.as_slice();
+        let told = by_blocks(&answer.fises(), room, bytes);
+        let fises = told.as_slice();
+        let delivered = deliver(memory, place, brought, fises, bytes);
         self.note_fetch(tag);
         let done = self.show(tag, fises, delivered);
         self.give_back(answer.bytes);
@@ -305,14 +307,14 @@ impl Hba {
         ensures kept { OnErr result (OnlyReads M.does memory.old memory.new) }
     {
         let at = place.header.descriptors();
-        match gather(memory, at, place.header.entries, room) {
-            Ok(()) => {}
+        let brought = match gather(memory, at, place.header.entries, room) {
+            Ok(brought) => brought,
             Err(miss) => return Ok(self.miss(None, miss)),
-        }
+        };
         let completed = self.finish(tag, room)?;
         let told = completed.fises();
         let (fises, bytes) = (told.as_slice(), completed.bytes.as_slice());
-        let delivered = deliver(memory, place, room.len(), fises, bytes);
+        let delivered = deliver(memory, place, brought, fises, bytes);
         let done = self.show(tag, fises, delivered);
         self.give_back(completed.bytes);
         Ok(Outcome { done, denied: None })

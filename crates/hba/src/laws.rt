@@ -1,5 +1,7 @@
 //! What follows from the definitions alone.
 
+ghost use Rattle.hba.specs.Blocks.{BlocksLaw, read_setup, write_setup};
+ghost use Rattle.hba.specs.BitLaws.{RunningLaw, IssuedLaw, QueuedLaw, RaisedLaw};
 ghost use Rattle.hba.specs.Laws.{HostFailureLaw, HostDenialLaw, ActiveLaw, CurrentLaw};
 
 /// Laws of the definitions, over every origin and every list of operations.
@@ -22,4 +24,24 @@ pub fn laws_of_queues()
 /// command, since the host cleared ST or a reset came; else it is 0.
 pub fn laws_of_slots()
     ensures { CurrentLaw }
+{}
+
+/// The law of PIO in several blocks: the registers after a PIO Setup FIS for each block are those after the last one
+/// alone, to the host (`read`) and to the device (`written`). The FISes of later blocks stand in the place of the first.
+pub fn laws_of_blocks()
+    ensures read { BlocksLaw read_setup }
+    ensures written { BlocksLaw write_setup }
+{}
+
+/// Laws of bits, over every list of operations of 32-bit words: what a driver reads is what set a bit and cleared it since.
+///
+/// `running`: ST of PxCMD is as it was written last since a reset. `issued`: PxCI has the bit of a slot exactly if its
+/// command was issued while ST was 1, and since then none of these came: a FIS of the device that ends it, ST 0, a reset.
+/// `queued`: so it is of PxSACT, which Set Device Bits FISes end. `raised`: PxIS has a bit exactly if a FIS, data or a fault
+/// of memory raised it since a 1 was written to it and a reset came; PCS and PRCS follow PxSERR.
+pub fn laws_of_bits()
+    ensures running { RunningLaw }
+    ensures issued { IssuedLaw }
+    ensures queued { QueuedLaw }
+    ensures raised { RaisedLaw }
 {}

@@ -1,6 +1,7 @@
 //! An AHCI host bus adapter with one port, by its registers, over a drive (AHCI 1.3.1).
 #![tactic(auto)]
 
+mod blocks;
 mod engine;
 mod hba;
 mod laws;
@@ -11,6 +12,6 @@ mod work;
 
 pub use hba::Hba;
 pub use host_memory::{HostMemory, Window};
-pub use laws::{laws_of_failures, laws_of_queues, laws_of_slots};
+pub use laws::{laws_of_bits, laws_of_blocks, laws_of_failures, laws_of_queues, laws_of_slots};
 pub use registers::Registers;
 pub use work::{Done, HbaError, MemoryFault, Turned, Work};

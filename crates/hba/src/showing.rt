@@ -18,6 +18,9 @@ const PASSED: u8 = 0x01;
 /// PxIS.HBFS: bytes are no memory.
 const MEMORY: u32 = 0x2000_0000;
 
+/// PxIS.DPS: a block is done whose descriptor asks to tell of it.
+const PROCESSED: u32 = 0x20;
+
 /// PxIS.OFS: data are more than the PRDT names.
 const OVERFLOW: u32 = 0x0100_0000;
 
@@ -43,7 +46,7 @@ fn shows_fises(miss: Miss) -> bool
 
 impl Registers {
     ghost use Rattle.std.specs.Prelude.{◌≡◌, if◌then◌else◌};
-    ghost use Rattle.hba.specs.Showing.{signed, faulted, beginning, controlled, fetching, halting, answered, served, shortened, arrived};
+    ghost use Rattle.hba.specs.Showing.{signed, faulted, beginning, controlled, fetching, halting, answered, served, shortened, processed, moved, arrived};
 
     /// The device's first FIS after a reset.
     pub(crate) fn sign(&mut self)
@@ -106,8 +109,25 @@ impl Registers {
     pub(crate) fn arrive(&mut self, tag: Tag, fises: &[Fis], arrival: Arrival)
         ensures { self.new ≡ arrived tag fises.now arrival self.old }
     {
-        self.shorten(arrival.is_short);
+        self.show_moved(arrival);
         self.serve(tag, fises, arrival.missed);
+    }
+
+    /// How data moved.
+    fn show_moved(&mut self, arrival: Arrival)
+        ensures { self.new ≡ moved arrival self.old }
+    {
+        self.process(arrival.is_processed);
+        self.shorten(arrival.is_short);
+    }
+
+    /// A block that is done, whose descriptor asks to tell of it, raises DPS.
+    fn process(&mut self, is_processed: bool)
+        ensures { self.new ≡ processed is_processed self.old }
+    {
+        if is_processed {
+            self.port.raise(PxIs(PROCESSED));
+        }
     }
 
     /// Data past the PRDT raise OFS.

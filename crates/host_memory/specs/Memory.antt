@@ -1,6 +1,6 @@
 -- What the engine asks of the host's memory, and what comes of the answers (AHCI 1.3.1, section 4).
 -- An access that is refused ends it: the engine asks for nothing more.
-use Rattle.std.specs.Prelude.{◌≡◌, ℕ, ◌+◌, ◌-◌, ◌*◌, ◌%◌, ◌/◌, ◌^◌, min, ◌==◌, ◌&&◌, zero, suc, nat_le, Bool, true, false, List, [], ◌∷◌, ◌++◌, length, take, drop, Option, Some, None, Result, Ok, Err, if◌then◌else◌}
+use Rattle.std.specs.Prelude.{◌≡◌, ℕ, ◌+◌, ◌-◌, ◌*◌, ◌%◌, ◌/◌, ◌^◌, min, ◌==◌, ◌&&◌, ◌||◌, not, zero, suc, nat_le, Bool, true, false, List, [], ◌∷◌, ◌++◌, length, take, drop, slice_index, Option, Some, None, Result, Ok, Err, if◌then◌else◌}
 use Rattle.byteorder.specs.Endian.{little_bytes}
 use Rattle.fis.specs.Fis.{IsSpelling}
 use Rattle.fis.specs.declared.any.Fis.{Fis}
@@ -12,6 +12,7 @@ use Rattle.host_memory.specs.Access.{Access, Asked, Laid}
 use Rattle.host_memory.specs.declared.hba_memory.miss.Miss.{Miss}
 use Rattle.host_memory.specs.declared.hba_memory.miss.Miss.TheVariants as misses
 use Rattle.host_memory.specs.declared.hba_memory.reading.Header.{Header}
+use Rattle.host_memory.specs.declared.hba_memory.reading.Moved.{Moved}
 use Rattle.host_memory.specs.declared.hba_memory.delivery.Arrival.{Arrival}
 use Rattle.host_memory.specs.declared.hba_memory.delivery.Place.{Place}
 
@@ -48,6 +49,38 @@ data_at entry = little_endian_at 8 entry 0 - little_endian_at 8 entry 0 % 2
 
 abbrev pub data_len : List ℕ → ℕ
 data_len entry = 2 * (byte_count_field entry / 2) + 2 * (byte_count_field entry % 2)
+
+-- I, the highest bit of a descriptor (4.2.3.3): the host asks to be told when its block is done.
+abbrev pub asks_interrupt : List ℕ → Bool
+asks_interrupt entry = nat_le 0x80 (slice_index entry 15)
+
+-- A block of which so many bytes moved is done, and the host asks to be told (3.3.5, DPS: a descriptor
+-- with I has transferred all of its data).
+abbrev pub processes : List ℕ → ℕ → Bool
+processes entry n = asks_interrupt entry && n == data_len entry
+
+-- In an access of a descriptor's block.
+abbrev pub processed_in : List ℕ → Access → Bool
+processed_in entry (Asked at n None) = false
+processed_in entry (Asked at n (Some bytes)) = processes entry n
+processed_in entry (Laid at bytes false) = false
+processed_in entry (Laid at bytes true) = processes entry (length bytes)
+
+-- In one of the accesses of a PRDT, which read a descriptor and then move its block; behind a
+-- descriptor, or in front of the next.
+abbrev pub processed_behind : Option (List ℕ) → List Access → Bool
+processed_behind entry [] = false
+processed_behind None (Laid at bytes is_done ∷ later) = processed_behind None later
+processed_behind None (Asked at n answer ∷ later) = processed_behind answer later
+processed_behind (Some entry) (block ∷ later) =
+    processed_in entry block || processed_behind None later
+
+abbrev pub has_processed : List Access → Bool
+has_processed talk = processed_behind None talk
+
+-- How bytes moved by accesses.
+abbrev pub moved_by : List Access → ℕ → Moved
+moved_by talk n = record { len = n; is_processed = has_processed talk }
 
 -- What is brought, as bytes.
 abbrev pub brought_as : {V : Type 0} → (V → List ℕ) → Result V Miss → Result (List ℕ) Miss
@@ -148,11 +181,15 @@ tells_error (kinds.PioSetup f) = false
 tells_error (kinds.DmaSetup f) = false
 tells_error (kinds.SetDeviceBits f) = false
 
--- How many of the bytes that were brought the device took: it fails a command by such a FIS before it
--- asks for data, by DMA Activate or PIO Setup (Serial ATA, device command layer).
+-- Whether the device took the bytes that were brought: it fails a command by such a FIS before it asks
+-- for data, by DMA Activate or PIO Setup (Serial ATA, device command layer).
+abbrev pub takes_data : List Fis → Bool
+takes_data [] = true
+takes_data (fis ∷ more) = not (tells_error fis)
+
+-- How many it took of so many.
 abbrev pub data_taken : List Fis → ℕ → ℕ
-data_taken [] n = n
-data_taken (fis ∷ more) n = if tells_error fis then 0 else n
+data_taken fises n = if takes_data fises then n else 0
 
 -- Where a FIS stands among those received (4.2.1).
 abbrev pub offset_of : Fis → ℕ
@@ -215,12 +252,15 @@ EndsBy (Some miss) Counting Posting talk missed =
     (untold : Option Miss) × Counting talk untold × (missed ≡ Some miss)
 
 -- What an act gives reaches the memory: its data, as far as the PRDT and the memory go; the count of
--- the bytes that moved, where so many were brought; and its FISes.
-abbrev pub Delivers : Place → ℕ → List Fis → List ℕ → List Access → Arrival → Type 0
+-- the bytes that moved, where so many were brought; and its FISes. DPS is told of
+-- blocks of either direction.
+abbrev pub Delivers : Place → Moved → List Fis → List ℕ → List Access → Arrival → Type 0
 Delivers place brought fises bytes talk arrival =
     (before later : List Access) × (laid : Option Miss) × (talk ≡ before ++ later)
     × Scatters (descriptors_of place.header) place.header.entries bytes before laid
     × (arrival.is_short ≡ runs_short laid)
+    × (arrival.is_processed
+    ≡ (takes_data fises && brought.is_processed || has_processed before))
     × EndsBy (ending laid)
-    (Counts place.at (data_taken fises brought + written_by before)) (PostsTo place.to fises)
+    (Counts place.at (data_taken fises brought.len + written_by before)) (PostsTo place.to fises)
     later arrival.missed

@@ -7,4 +7,4 @@ mod reading;
 
 pub use delivery::{Arrival, Place, deliver, post_all};
 pub use miss::Miss;
-pub use reading::{Header, gather, header_by, is_command};
+pub use reading::{Header, Moved, gather, header_by, is_command};

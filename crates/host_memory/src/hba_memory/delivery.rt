@@ -1,13 +1,13 @@
 //! What the engine puts into the host's memory: data, their count, and received FISes (AHCI 1.3.1, 4.2 and 5.4.1).
 
-ghost use Rattle.std.specs.Prelude.{◌≡◌, ◌≤◌, ◌<◌, ◌+◌, ◌^◌, ℕ, List, Some, None, length};
+ghost use Rattle.std.specs.Prelude.{◌≡◌, ◌≤◌, ◌<◌, ◌+◌, ◌^◌, ◌&&◌, ◌||◌, ℕ, List, Some, None, length};
 ghost use Rattle.std.specs.Result.{result_err};
 ghost use Rattle.fis.specs.Fis.{IsSpelling};
 ghost use Rattle.host_memory.specs.Access.{Access, Accessed, IsAccess, Laid};
-ghost use Rattle.host_memory.specs.Memory.{tells_error, data_taken, written_by, runs_short, ending, Scatters, Counts, Posts, PostsTo, Then, EndsBy, Delivers};
+ghost use Rattle.host_memory.specs.Memory.{tells_error, takes_data, data_taken, written_by, moved_by, runs_short, ending, Scatters, Counts, Posts, PostsTo, Then, EndsBy, Delivers};
 
 use crate::hba_memory::miss::Miss;
-use crate::hba_memory::reading::{Header, data_at, data_len};
+use crate::hba_memory::reading::{Header, Moved, data_at, data_len};
 use crate::{HostMemory, read_array, write_at};
 use byteorder::{ByteOrder, LittleEndian};
 use fis::Fis;
@@ -17,36 +17,37 @@ use slots::fields::{DESCRIPTOR, received_offset};
 const BYTE_COUNT: u64 = 4;
 
 /// Lays data over the blocks that so many descriptors from an address on name, one after the other. A descriptor is read
-/// where bytes go to its block alone. Gives how many bytes were written, and what was missed behind them.
+/// where bytes go to its block alone. Gives how they moved, and what was missed behind them.
 fn scatter<M: HostMemory>(
     memory: &mut M,
     at: u64,
     entries: u16,
     bytes: &[u8],
-) -> (usize, Option<Miss>)
+) -> (Moved, Option<Miss>)
     requires { at < 2 ^ 33 }
     ensures talk { (talk : List Access) × Accessed M.does memory.old talk memory.new
-        × Scatters at entries bytes.now talk result.1 × (result.0 ≡ written_by talk) }
-    ensures most { result.0 ≤ length bytes.now }
+        × Scatters at entries bytes.now talk result.1
+        × (result.0 ≡ moved_by talk (written_by talk)) }
+    ensures most { result.0.len ≤ length bytes.now }
 {
-    let mut done = 0;
+    let mut moved = Moved::none();
     for k in 0..entries {
-        if done == bytes.len() {
-            return (done, None);
+        if moved.len == bytes.len() {
+            return (moved, None);
         }
         let Some(entry) = read_array(memory, at + DESCRIPTOR as u64 * u64::from(k)) else {
-            return (done, Some(Miss::Table));
+            return (moved, Some(Miss::Table));
         };
-        let end = done + data_len(&entry).min(bytes.len() - done);
-        if !write_at(memory, data_at(&entry), &bytes[done..end]) {
-            return (done, Some(Miss::Block));
+        let end = moved.len + data_len(&entry).min(bytes.len() - moved.len);
+        if !write_at(memory, data_at(&entry), &bytes[moved.len..end]) {
+            return (moved, Some(Miss::Block));
         }
-        done = end;
+        moved = moved.with(&entry, end);
     }
-    if done == bytes.len() {
-        (done, None)
+    if moved.len == bytes.len() {
+        (moved, None)
     } else {
-        (done, Some(Miss::Overflow))
+        (moved, Some(Miss::Overflow))
     }
 }
 
@@ -82,15 +83,30 @@ fn tells_error(fis: &Fis) -> bool
     }
 }
 
-/// How many of the bytes that were brought the device took: none where it fails the command.
+/// Whether the device took the bytes that were brought: not where it fails the command.
+fn takes_data(fises: &[Fis]) -> bool
+    ensures { result ≡ takes_data fises.now }
+{
+    match fises {
+        [fis, ..] => !tells_error(fis),
+        [] => true,
+    }
+}
+
+/// How many of the bytes that were brought the device took.
 fn data_taken(fises: &[Fis], brought: usize) -> usize
     ensures value { result ≡ data_taken fises.now brought }
     ensures most { result ≤ brought }
 {
-    match fises {
-        [fis, ..] if tells_error(fis) => 0,
-        _ => brought,
-    }
+    if takes_data(fises) { brought } else { 0 }
+}
+
+/// Whether a block is done whose descriptor asks to tell of it, among those of bytes that were brought and laid.
+fn is_processed(fises: &[Fis], brought: Moved, laid: Moved) -> bool
+    ensures { result
+        ≡ (takes_data fises.now && brought.is_processed || laid.is_processed) }
+{
+    takes_data(fises) && brought.is_processed || laid.is_processed
 }
 
 /// Stores a FIS at an address; false where memory failed.
@@ -152,6 +168,8 @@ pub struct Place {
 pub struct Arrival {
     /// The PRDT had no room for all data.
     pub is_short: bool,
+    /// A block is done whose descriptor asks to tell of it.
+    pub is_processed: bool,
     /// What was missed.
     pub missed: Option<Miss>,
 }
@@ -221,12 +239,12 @@ fn end<M: HostMemory>(
 pub fn deliver<M: HostMemory>(
     memory: &mut M,
     place: Place,
-    brought: usize,
+    brought: Moved,
     fises: &[Fis],
     bytes: &[u8],
 ) -> Arrival
     requires near { place.at < 2 ^ 40 }
-    requires short { brought < 2 ^ 63 }
+    requires short { brought.len < 2 ^ 63 }
     ensures { (talk : List Access) × Accessed M.does memory.old talk memory.new
         × Delivers place brought fises.now bytes.now talk result }
 {
@@ -236,10 +254,12 @@ pub fn deliver<M: HostMemory>(
         place.header.entries,
         bytes,
     );
-    let moved = data_taken(fises, brought) + laid;
+    let is_processed = is_processed(fises, brought, laid);
+    let moved = data_taken(fises, brought.len) + laid.len;
     let missed = end(memory, ending(lost), place.at, moved, place.to, fises);
     Arrival {
         is_short: runs_short(lost),
+        is_processed,
         missed,
     }
 }

@@ -1,9 +1,9 @@
 //! What the engine reads of the host's memory: command headers, FISes, and data (AHCI 1.3.1, section 4).
 
-ghost use Rattle.std.specs.Prelude.{◌≡◌, ◌≤◌, ◌<◌, ◌+◌, ◌*◌, ◌-◌, ◌^◌, List, length, true};
+ghost use Rattle.std.specs.Prelude.{◌≡◌, ◌≤◌, ◌<◌, ◌+◌, ◌*◌, ◌-◌, ◌^◌, List, length, true, false, ◌||◌, IfOk};
 ghost use Rattle.host_memory.specs.Access.{Access, Accessed};
 ghost use Rattle.slots.specs.Table.{is_command};
-ghost use Rattle.host_memory.specs.Memory.{command_table_of, header_of, header_by, data_at, data_len, descriptors_of, Gathers, brought_as};
+ghost use Rattle.host_memory.specs.Memory.{command_table_of, header_of, header_by, data_at, data_len, descriptors_of, processes, moved_by, Gathers, brought_as};
 
 use crate::hba_memory::miss::Miss;
 use crate::{HostMemory, read_array, read_at};
@@ -81,6 +81,51 @@ pub(crate) fn data_len(entry: &[u8; DESCRIPTOR]) -> usize
     2 * (count / 2) + 2 * (count % 2)
 }
 
+/// I, a bit of a descriptor's last byte (4.2.3.3).
+const INTERRUPT: u8 = 0x80;
+
+/// Whether a block of which so many bytes moved is done, and its descriptor asks to tell of it.
+pub(crate) fn processes(entry: &[u8; DESCRIPTOR], moved: usize) -> bool
+    ensures { result ≡ processes entry.now moved }
+{
+    entry[DESCRIPTOR - 1] >= INTERRUPT && moved == data_len(entry)
+}
+
+/// How data moved by a PRDT.
+#[derive(Clone, Copy, Debug, PartialEq, Eq)]
+pub struct Moved {
+    /// How many bytes.
+    pub len: usize,
+    /// A block is done whose descriptor asks to tell of it.
+    pub is_processed: bool,
+}
+
+impl Moved {
+    /// Nothing.
+    pub(crate) fn none() -> Moved
+        ensures { result ≡ record { len = 0; is_processed = false } }
+    {
+        Moved {
+            len: 0,
+            is_processed: false,
+        }
+    }
+
+    /// With the data of a descriptor's block, which end behind so many bytes.
+    pub(crate) fn with(self, entry: &[u8; DESCRIPTOR], end: usize) -> Moved
+        requires { self.len ≤ end }
+        ensures { result ≡ record {
+          len = end;
+          is_processed = self.is_processed || processes entry.now (end - self.len);
+        } }
+    {
+        Moved {
+            len: end,
+            is_processed: self.is_processed || processes(entry, end - self.len),
+        }
+    }
+}
+
 /// Fills `into` with the first bytes of the blocks that so many descriptors from an address on name. A descriptor is read
 /// where bytes are wanted of its block alone.
 ///
@@ -92,27 +137,28 @@ pub fn gather<M: HostMemory>(
     at: u64,
     entries: u16,
     into: &mut [u8],
-) -> Result<(), Miss>
+) -> Result<Moved, Miss>
     requires { at < 2 ^ 33 }
     ensures { (talk : List Access) × Accessed M.does memory.old talk memory.new
-        × Gathers at entries (length into.old) talk (brought_as (λ done. into.new) result) }
+        × Gathers at entries (length into.old) talk (brought_as (λ done. into.new) result)
+        × IfOk result (λ moved. moved ≡ moved_by talk (length into.old)) }
 {
-    let mut done = 0;
+    let mut moved = Moved::none();
     for k in 0..entries {
-        if done == into.len() {
-            return Ok(());
+        if moved.len == into.len() {
+            return Ok(moved);
         }
         let Some(entry) = read_array(memory, at + DESCRIPTOR as u64 * u64::from(k)) else {
             return Err(Miss::Table);
         };
-        let end = done + data_len(&entry).min(into.len() - done);
-        if !read_at(memory, data_at(&entry), &mut into[done..end]) {
+        let end = moved.len + data_len(&entry).min(into.len() - moved.len);
+        if !read_at(memory, data_at(&entry), &mut into[moved.len..end]) {
             return Err(Miss::Block);
         }
-        done = end;
+        moved = moved.with(&entry, end);
     }
-    if done == into.len() {
-        Ok(())
+    if moved.len == into.len() {
+        Ok(moved)
     } else {
         Err(Miss::Overflow)
     }

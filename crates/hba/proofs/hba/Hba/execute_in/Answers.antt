@@ -1,45 +1,59 @@
 -- Memory fails before the act, or the drive acts.
-use Rattle.std.proofs.Common.{Some, None, Ok, ap, sym}
+use Rattle.std.proofs.Common.{◌≡◌, ◌+◌, ◌/◌, List, map, length, Some, None, Ok, ap, sym, subst}
 use Rattle.history.specs.Answers.{payload_of}
 use Rattle.history.specs.History.{Accept}
 use Rattle.host_memory.proofs.hba_memory.Talks.{on_err}
 use Rattle.hba.specs.declared.work.Done.{Done}
 use Rattle.hba.specs.declared.work.Done.TheVariants as dones
 use Rattle.hba.specs.Showing.{fault_of}
-use Rattle.hba.specs.History.{Fetched}
-use Rattle.hba.specs.Engine.{Executes}
+use Rattle.fis.specs.declared.any.Fis.{Fis}
+use Rattle.history.specs.Opening.{Origin}
+use Rattle.hba.specs.History.{Operation, Fetched, AgreesHba, account, drive_effect, effect_after}
+use Rattle.drive.specs.Answers.{fises_in}
+use Rattle.hba.specs.Blocks.{block_size, of_last_block}
+use Rattle.hba.specs.Engine.{Executes, IsEffect}
+use Rattle.hba.proofs.Shown.{told_effect}
 use Rattle.hba.proofs.Turns.{executes_as, told_as, serves_missed, serves_done, adds_fetched, shown_fetched, brought_reads, turn_kept}
 use Rattle.hba.proofs.hba.Hba.execute_in.Goals as goal
 
 pub returns-in-Err-clause-done : goal.returns-in-Err-clause-done
 returns-in-Err-clause-done g c =
+    let brought = rw (c.descriptors-at.ensures.value, c.requires.long, c.in-Err.is) at c.gather.ensures in
     told_as g.M.HostMemory.does (λ o a. Executes o a c.args.place c.args.tag c.args.fis.now) c.args.self.now c.args.memory.now c.miss.new.self
     c.gather.new.memory c.miss.result (dones.Fault (fault_of c.in-Err.miss)) None c.miss.ensures.told
     (executes_as g.M.HostMemory.does c.args.place c.args.tag c.args.fis.now c.args.self.now c.args.memory.now c.miss.new.self c.gather.new.memory
     (dones.Fault (fault_of c.in-Err.miss)) None
     (serves_missed g.M.HostMemory.does c.args.place (payload_of c.args.self.now.drive.tper.store.config c.args.fis.now) (Some c.args.tag) (Accept c.args.fis.now) (Fetched c.args.tag c.args.fis.now)
     c.args.self.now c.args.memory.now c.miss.new.self c.gather.new.memory c.in-Err.miss
-    (rw (c.descriptors-at.ensures.value, c.requires.long, c.in-Err.is) at c.gather.ensures)
+    (brought.0, brought.1, brought.2)
     c.miss.ensures.agrees))
 
 pub returns-in_err-take-clause-kept : goal.returns-in_err-take-clause-kept
 returns-in_err-take-clause-kept g c =
+    let brought = rw (c.descriptors-at.ensures.value, c.requires.long, c.in-Ok.is) at c.gather.ensures in
     on_err c.from_residual.result _
     (brought_reads g.M.HostMemory.does c.args.place (payload_of c.args.self.now.drive.tper.store.config c.args.fis.now) c.args.memory.now c.gather.new.memory (Ok c.gather.new.into)
-    (rw (c.descriptors-at.ensures.value, c.requires.long, c.in-Ok.is) at c.gather.ensures))
+    (brought.0, brought.1, brought.2))
 
 pub returns-clause-done : goal.returns-clause-done
 returns-clause-done g c =
-    let gives = rw (← c.fises-told.ensures, ← c.as_slice-fises.ensures.value, ← c.as_slice-bytes.ensures.value) at c.in_ok-take.ensures.effect in
+    let brought = rw (c.descriptors-at.ensures.value, c.requires.long, c.in-Ok.is) at c.gather.ensures in
+    let told : c.as_slice-fises.result.now ≡ map (of_last_block ((length c.gather.new.into + length c.as_slice-bytes.result.now) / block_size)) (fises_in c.take.new.answer) =
+    rw (c.as_slice-fises.ensures.value, ← c.fises.ensures) c.by_blocks-told.ensures in
+    let given = rw (← c.as_slice-bytes.ensures.value) at c.in_ok-take.ensures.effect in
+    let gives : (o : Origin) (list : List Operation) → AgreesHba c.args.self.now o list
+    → IsEffect (effect_after o (account o list) (Accept c.args.fis.now c.gather.new.into)) c.as_slice-fises.result.now c.as_slice-bytes.result.now =
+    λ o list a. subst (λ (fs : List Fis). IsEffect (effect_after o (account o list) (Accept c.args.fis.now c.gather.new.into)) fs c.as_slice-bytes.result.now) (sym told)
+    (told_effect c.args.fis.now c.gather.new.into (drive_effect o (account o list) (Accept c.args.fis.now c.gather.new.into)) (fises_in c.take.new.answer) c.as_slice-bytes.result.now (given o list a)) in
     turn_kept g.M.HostMemory.does (λ o a. Executes o a c.args.place c.args.tag c.args.fis.now) c.args.self.now c.args.memory.now c.show-done.new.self c.give_back.new.self
     c.deliver-delivered.new.memory c.show-done.result c.take.new.answer.denied c.give_back.ensures
     (executes_as g.M.HostMemory.does c.args.place c.args.tag c.args.fis.now c.args.self.now c.args.memory.now c.show-done.new.self
     c.deliver-delivered.new.memory c.show-done.result c.take.new.answer.denied
     (serves_done g.M.HostMemory.does c.args.place (payload_of c.args.self.now.drive.tper.store.config c.args.fis.now) (Some c.args.tag) (Accept c.args.fis.now) (Fetched c.args.tag c.args.fis.now)
     c.args.self.now c.args.memory.now c.gather.new.memory c.show-done.new.self c.deliver-delivered.new.memory
-    c.gather.new.into c.as_slice-fises.result.now c.as_slice-bytes.result.now c.deliver-delivered.result
+    c.gather.new.into c.as_slice-fises.result.now c.as_slice-bytes.result.now c.in-Ok.brought c.deliver-delivered.result
     c.show-done.result c.take.new.answer.denied
-    (rw (c.descriptors-at.ensures.value, c.requires.long, c.in-Ok.is) at c.gather.ensures)
+    brought
     c.deliver-delivered.ensures
     (ap (λ (d : Done). Some d) (sym c.show-done.ensures.told))
     gives

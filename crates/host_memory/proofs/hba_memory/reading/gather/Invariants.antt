@@ -4,7 +4,7 @@ use Rattle.host_memory.proofs.hba_memory.reading.gather.Given as goal
 
 abbrev pub invariant-loop-k : goal.invariant-loop-k
 invariant-loop-k g l = record {
-  done : l.done ≤ length l.initial.into;
+  done : l.moved.len ≤ length l.initial.into;
   talk : GathersOn g.M.HostMemory.does l.initial.memory l.memory l.at l.entries (length l.initial.into)
-      (take l.done l.into) (l.at + 16 * l.k) (l.entries - l.k) (length l.initial.into - l.done);
+      (take l.moved.len l.into) (l.at + 16 * l.k) (l.entries - l.k) (length l.initial.into - l.moved.len) l.moved.is_processed;
 }

@@ -1,0 +1,17 @@
+-- Bit by bit.
+use Rattle.hba.proofs.BitByBit.{running_law, issued_law}
+use Rattle.hba.proofs.QueuedBits.{queued_law}
+use Rattle.hba.proofs.RaisedBits.{raised_law}
+use Rattle.hba.proofs.laws.laws_of_bits.Goals as goal
+
+pub returns-clause-running : goal.returns-clause-running
+returns-clause-running c = running_law
+
+pub returns-clause-issued : goal.returns-clause-issued
+returns-clause-issued c = issued_law
+
+pub returns-clause-queued : goal.returns-clause-queued
+returns-clause-queued c = queued_law
+
+pub returns-clause-raised : goal.returns-clause-raised
+returns-clause-raised c = raised_law

@@ -1,0 +1,44 @@
+//! FISes of commands whose data are several blocks (Serial ATA, PIO data-in and PIO data-out).
+
+ghost use Rattle.std.specs.Prelude.{◌≡◌, ◌+◌, ◌/◌, map, length};
+ghost use Rattle.hba.specs.Blocks.{block_size};
+ghost use Rattle.hba.specs.Blocks.{of_last_block};
+
+use arrayvec::ArrayVec;
+use fis::{Fis, PioSetup};
+
+/// How many bytes a DRQ block has.
+const BLOCK: usize = 512;
+
+/// What stands for the FISes of so many blocks: of PIO Setup FISes the last.
+fn of_last_block(fis: &Fis, blocks: usize) -> Fis
+    ensures { result ≡ of_last_block blocks fis.now }
+{
+    match *fis {
+        Fis::PioSetup(f) => Fis::PioSetup(PioSetup {
+            interrupt: f.interrupt || 2 <= blocks,
+            ..f
+        }),
+        other => other,
+    }
+}
+
+/// The FISes of a command that is in so many blocks.
+fn all_of_last_block(fises: &ArrayVec<Fis, 2>, blocks: usize) -> ArrayVec<Fis, 2>
+    ensures { result.items ≡ map (of_last_block blocks) fises.now.items }
+{
+    let mut told = ArrayVec::new();
+    for fis in fises.as_slice() {
+        told.push(of_last_block(fis, blocks));
+    }
+    told
+}
+
+/// The FISes of a command, with the data that came with it or that it gives.
+pub(crate) fn by_blocks(fises: &ArrayVec<Fis, 2>, brought: &[u8], given: &[u8]) -> ArrayVec<Fis, 2>
+    ensures { result.items
+        ≡ map (of_last_block ((length brought.now + length given.now) / block_size))
+        fises.now.items }
+{
+    all_of_last_block(fises, (brought.len() + given.len()) / BLOCK)
+}
