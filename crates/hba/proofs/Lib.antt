@@ -6,4 +6,6 @@ pub mod Failures
 pub mod Active
 pub mod Counts
 pub mod Current
+pub mod SoftwareResets
 mod Rows
+mod RowsSoftwareReset

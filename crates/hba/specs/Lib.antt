@@ -1,5 +1,6 @@
 pub mod Registers
 pub mod Showing
+pub mod SoftwareReset
 pub mod History
 pub mod Ready
 pub mod Engine
