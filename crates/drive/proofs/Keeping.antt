@@ -18,7 +18,7 @@ use Rattle.sessions.specs.Deeds.{Begun, erased_by}
 use Rattle.history.specs.Decisions.{completed}
 use Rattle.history.specs.Tcg.{sent, framed, to_session, to_manager, answers, is_manager}
 use Rattle.history.specs.Opening.{Origin}
-use Rattle.history.specs.Events.{HeldCommand, QueueDeed, Held as HeldDeed, Completed, CompletedWrite, QueueFailed, QueueMended, Deed, Nothing, OfQueue, Wrote, Took, BlockedSid, WasReset, InSession, Event, did, or_else, latest, ignores}
+use Rattle.history.specs.Events.{HeldCommand, QueueDeed, Held as HeldDeed, Completed, CompletedWrite, QueueFailed, QueueMended, QueueEnded, Deed, Nothing, OfQueue, Wrote, Took, BlockedSid, WasReset, InSession, Event, did, or_else, latest, ignores}
 use Rattle.history.specs.Readers.{holding, held, in_force, failing, failure, writing, sector}
 use Rattle.history.specs.Facts.{Facts, facts, session_named}
 use Rattle.history.specs.KeptStore.{ReadsStore}
@@ -92,6 +92,13 @@ failed-keeps d e o past fault ev h is k = subst (λ (x : DriveState). KeepsDrive
     (λ tag. ap (option_map held_command) (no_slot tag) ∙ sym (ap (λ (x : Deed). unwrap_or (holding tag x) (held_at d.queue tag)) h))
     (sym (ap (λ (x : Deed). unwrap_or (failing x) d.queue.failure) h))
     (λ s. sym (ap (λ (x : Deed). unwrap_or (writing s x) (sector_at d.media s)) h)) k)
+
+-- the queue ends
+pub ended-keeps : (d e : DriveState) (o : Origin) (past : List Event) → e ≡ record d { queue = empty_queue } → KeepsDrive d o past
+    → KeepsDrive e o (did (OfQueue QueueEnded) ∷ past)
+ended-keeps d e o past is k = subst (λ (x : DriveState). KeepsDrive x o (did (OfQueue QueueEnded) ∷ past)) (sym is) (
+    keeps-more d (record d { queue = empty_queue }) o past (did (OfQueue QueueEnded)) (spared d d o past (did (OfQueue QueueEnded)) refl refl k) none_length
+    (λ tag. ap (option_map held_command) (no_slot tag)) refl (λ s. refl) k)
 
 -- a slot is set
 set-here : (b : Bool) (x y : Option Held) → option_map held_command (cond b x y) ≡ unwrap_or (cond b (Some (option_map held_command x)) None) (option_map held_command y)

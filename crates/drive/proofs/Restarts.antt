@@ -4,14 +4,14 @@ use Rattle.std.proofs.lemmas.List.{reverse-append}
 use Rattle.shadow_mbr.specs.Stored.{StoredSectors, sector_at, zeros}
 use Rattle.history.specs.Opening.{Origin}
 use Rattle.history.specs.Events.{WasReset, Event, did}
-use Rattle.history.specs.History.{Act, log}
+use Rattle.history.specs.History.{Act, SoftwareReset, log}
 use Rattle.tper.specs.Tper.{Keeps as KeepsTper}
 use Rattle.drive.specs.declared.queue.Queue.{Queue}
 use Rattle.drive.specs.Transfer.{held_command}
 use Rattle.drive.specs.Queue.{held_at, empty_queue}
-use Rattle.drive.specs.State.{DriveState, KeepsDrive, Agrees}
+use Rattle.drive.specs.State.{DriveState, KeepsDrive, Agrees, AgreesInOrder}
 use Rattle.drive.proofs.Slots.{no_slot, none_length}
-use Rattle.drive.proofs.Keeping.{keeps-more}
+use Rattle.drive.proofs.Keeping.{keeps-more, ended-keeps}
 
 empty-held : (queue : Queue) (tag : ℕ) → queue ≡ empty_queue → held_at queue tag ≡ None
 empty-held queue tag is = ap (λ (q : Queue). held_at q tag) is ∙ ap (option_map held_command) (no_slot tag)
@@ -39,3 +39,11 @@ fresh-keeps d o tper queue media = record {
 -- the newest act is the last of a list in order
 pub in-order : (d : DriveState) (o : Origin) (acts : List Act) (act : Act) → Agrees d o (act ∷ reverse acts) → Agrees d o (reverse (acts ++ act ∷ []))
 in-order d o acts act k = subst (λ (past : List Act). Agrees d o past) (sym (reverse-append acts (act ∷ []))) k
+
+-- a software reset
+pub ended : (d e : DriveState) (o : Origin) (acts : List Act) → e ≡ record d { queue = empty_queue } → Agrees d o acts → Agrees e o (SoftwareReset ∷ acts)
+ended d e o acts is k = ended-keeps d e o (log o acts) is k
+
+pub ended_in_order : (d e : DriveState) (o : Origin) (acts : List Act) → e ≡ record d { queue = empty_queue } → AgreesInOrder d o acts
+    → AgreesInOrder e o (acts ++ SoftwareReset ∷ [])
+ended_in_order d e o acts is k = in-order e o acts SoftwareReset (ended d e o (reverse acts) is k)

@@ -48,7 +48,7 @@ pub struct Drive {
     profile: Profile,
     ranges: Ranges,
     tper: Tper,
-    queue: Queue,
+    pub(crate) queue: Queue,
     pub(crate) media: Media,
     /// A vector for the bytes of the next read, or of the next response.
     spare: Vec<u8>,

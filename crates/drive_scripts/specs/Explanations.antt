@@ -11,7 +11,7 @@ use Rattle.audit.specs.declared.reason.Why.TheVariants.{NoEntryHolds, AttemptFai
 use Rattle.audit.specs.declared.rules.rule.Rule.{Rule}
 use Rattle.history.specs.Opening.{Origin}
 use Rattle.history.specs.Events.{Event}
-use Rattle.history.specs.History.{Act, Accept, Complete, Reset, log}
+use Rattle.history.specs.History.{Act, Accept, Complete, Reset, SoftwareReset, log}
 use Rattle.history.specs.Readers.{in_force, open_on}
 use Rattle.reasons.specs.declared.explained.onset.Source.{Source}
 use Rattle.reasons.specs.Onsets.{Sourced, bare_acts, held_since, holds_after}
@@ -55,6 +55,7 @@ command_done [] = None
 command_done (Accept fis payload ∷ acts) = command_carried (h2d_at fis)
 command_done (Complete tag payload ∷ acts) = command_done acts
 command_done (Reset kind ∷ acts) = None
+command_done (SoftwareReset ∷ acts) = None
 
 -- the SP whose rows a denial went by that a transaction may have changed: of a method for which no ACE holds, and of an
 -- authority that is not enabled

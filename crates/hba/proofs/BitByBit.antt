@@ -13,7 +13,7 @@ use Rattle.port_history.specs.Registers.{raised, with_task, task_error_bit, carr
 use Rattle.hba.specs.declared.registers.Registers.{Registers}
 use Rattle.hba.specs.Registers.{port_at, reset_bit, enable_bit, override_bit, control_bits, kept, optioned, overridden, stopped_if, lost_if, found_if, goes_down, comes_up, port_written, port_written_of, after_hba_reset, written_at}
 use Rattle.hba.specs.Showing.{served, moved, fetching}
-use Rattle.hba.specs.History.{Wrote, Powered, Signed, Missed, Controlled, Fetched, Completed, account, regs_of, effect_after}
+use Rattle.hba.specs.History.{Wrote, Powered, Signed, Missed, Controlled, Asserted, Restarted, Unheard, Fetched, Completed, account, regs_of, effect_after}
 use Rattle.hba.specs.BitLaws.{word_has, at_register, by_write, start_after, runs, shown_if, ends_command, one_ends, issues, IssuedLaw, raises, RunningLaw}
 use Rattle.hba.proofs.BitsOfWords.{has_zero, has_or, has_without_one}
 
@@ -161,6 +161,9 @@ running_law o (Powered ∷ before) = refl
 running_law o (Signed ∷ before) = running_law o before
 running_law o (Missed fetched miss ∷ before) = running_law o before
 running_law o (Controlled tag ∷ before) = running_law o before
+running_law o (Asserted tag ∷ before) = running_law o before
+running_law o (Restarted tag ∷ before) = running_law o before
+running_law o (Unheard tag ∷ before) = running_law o before
 running_law o (Fetched tag fis payload arrival ∷ before) =
     served_running arrival.missed tag (effect_after o (account o before) (Accept fis payload)).fises
     (moved arrival (fetching tag (regs_of o before)))
@@ -284,6 +287,13 @@ issued_law o (Missed fetched miss ∷ before) tag w t = issued_law o before tag 
 issued_law o (Controlled slot ∷ before) tag w t =
     has_without_one (regs_of o before).port.issued slot tag w.0 t
     ∙ ap (λ (b : Bool). not (slot == tag) && b) (issued_law o before tag w.1 t)
+issued_law o (Asserted slot ∷ before) tag w t =
+    has_without_one (regs_of o before).port.issued slot tag w.0 t
+    ∙ ap (λ (b : Bool). not (slot == tag) && b) (issued_law o before tag w.1 t)
+issued_law o (Restarted slot ∷ before) tag w t =
+    has_without_one (regs_of o before).port.issued slot tag w.0 t
+    ∙ ap (λ (b : Bool). not (slot == tag) && b) (issued_law o before tag w.1 t)
+issued_law o (Unheard slot ∷ before) tag w t = issued_law o before tag w.1 t
 issued_law o (Fetched slot fis payload arrival ∷ before) tag w t =
     let list = (effect_after o (account o before) (Accept fis payload)).fises in
     served_issued arrival.missed tag slot list (moved arrival (fetching slot (regs_of o before))) w.0 t

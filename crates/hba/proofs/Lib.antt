@@ -12,4 +12,6 @@ pub mod BitsOfWords
 pub mod BitByBit
 pub mod RaisedBits
 pub mod QueuedBits
+pub mod SoftwareResets
 mod Rows
+mod RowsSoftwareReset

@@ -23,7 +23,7 @@ use Rattle.hba.specs.declared.registers.Registers.{Registers}
 use Rattle.hba.specs.Registers.{port_written}
 use Rattle.hba.specs.Blocks.{block_size, of_last_block}
 use Rattle.hba.specs.Showing.{served, moved, fetching}
-use Rattle.hba.specs.History.{Wrote, Powered, Signed, Missed, Controlled, Fetched, Completed, account, acts_of, regs_of, drive_effect, effect_after}
+use Rattle.hba.specs.History.{Wrote, Powered, Signed, Missed, Controlled, Asserted, Restarted, Unheard, Fetched, Completed, account, acts_of, regs_of, drive_effect, effect_after}
 use Rattle.hba.specs.BitLaws.{word_has, by_write, runs, shown_if, one_ends_queued, queues, QueuedLaw}
 use Rattle.hba.proofs.BitsOfWords.{has_zero, has_or, has_without}
 use Rattle.hba.proofs.BitByBit.{seen, written_so, commanded, controlled_so, or_false, running_law}
@@ -172,6 +172,9 @@ queued_law o (Powered ∷ before) tag w t = has_zero tag
 queued_law o (Signed ∷ before) tag w t = queued_law o before tag w.1 t
 queued_law o (Missed fetched miss ∷ before) tag w t = queued_law o before tag w.1 t
 queued_law o (Controlled slot ∷ before) tag w t = queued_law o before tag w.1 t
+queued_law o (Asserted slot ∷ before) tag w t = queued_law o before tag w.1 t
+queued_law o (Restarted slot ∷ before) tag w t = queued_law o before tag w.1 t
+queued_law o (Unheard slot ∷ before) tag w t = queued_law o before tag w.1 t
 queued_law o (Fetched slot fis payload arrival ∷ before) tag w t =
     let f = facts o (log o (acts_of o before)) in
     let event = event_by f (Accept fis payload) in

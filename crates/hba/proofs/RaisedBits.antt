@@ -16,7 +16,7 @@ use Rattle.port_history.specs.Registers.{raised, with_task, task_error_bit, carr
 use Rattle.hba.specs.declared.registers.Registers.{Registers}
 use Rattle.hba.specs.Registers.{processed_bit, overflow_bit, port_written, interrupts}
 use Rattle.hba.specs.Showing.{served, moved, fetching, bits_of}
-use Rattle.hba.specs.History.{Wrote, Powered, Signed, Missed, Controlled, Fetched, Completed, account, regs_of, effect_after}
+use Rattle.hba.specs.History.{Wrote, Powered, Signed, Missed, Controlled, Asserted, Restarted, Unheard, Fetched, Completed, account, regs_of, effect_after}
 use Rattle.hba.specs.BitLaws.{word_has, by_write, shown_if, raises, one_raises, missing_raises, arrival_raises, clears, RaisedLaw}
 use Rattle.hba.proofs.BitsOfWords.{has_zero, has_or, has_without}
 use Rattle.hba.proofs.BitByBit.{seen, written_so, commanded, controlled_so, or_false}
@@ -185,6 +185,9 @@ raised_law o (Signed ∷ before) bit w b = raised_law o before bit w.1 b
 raised_law o (Missed fetched miss ∷ before) bit w b =
     missed_too bit (bits_of miss) (regs_of o before).port.interrupts _ (raised_law o before bit w.1 b)
 raised_law o (Controlled tag ∷ before) bit w b = raised_law o before bit w.1 b
+raised_law o (Asserted tag ∷ before) bit w b = raised_law o before bit w.1 b
+raised_law o (Restarted tag ∷ before) bit w b = raised_law o before bit w.1 b
+raised_law o (Unheard tag ∷ before) bit w b = raised_law o before bit w.1 b
 raised_law o (Fetched tag fis payload arrival ∷ before) bit w b =
     let list = (effect_after o (account o before) (Accept fis payload)).fises in
     arrived_raised bit tag arrival list (fetching tag (regs_of o before))

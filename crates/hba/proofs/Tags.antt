@@ -11,7 +11,7 @@ use Rattle.fis.specs.Tags.{slot_count}
 use Rattle.drive.specs.Queue.{held_at}
 use Rattle.hba.specs.declared.work.Work.TheVariants as works
 use Rattle.hba.specs.History.{State}
-use Rattle.hba.specs.Ready.{is_working, may_sign, may_fetch, may_complete, fetchable, completable, IsLeast, is_ready_on, ready_on, completions, picked}
+use Rattle.hba.specs.Ready.{is_working, is_telling, may_sign, may_fetch, may_complete, fetchable, completable, IsLeast, is_ready_on, ready_on, completions, picked}
 use Rattle.hba.proofs.Works.{first_fetch, first_behind}
 
 equal : (n m : ℕ) → n ≡ m → (n == m) ≡ true
@@ -73,7 +73,7 @@ by_complete false active n = none_set n
 
 pub complete_tag : (regs : Registers) (n : ℕ)
     → has_bits (completable regs) (2 ^ n) ≡ may_complete regs n
-complete_tag regs n = by_complete (is_working regs) regs.port.active n
+complete_tag regs n = by_complete (is_telling regs) regs.port.active n
 
 -- What may be done, by the words.
 none_fetched : (hba : State) (tags n : ℕ) → tags ≡ fetchable hba.registers → tags ≡ 0

@@ -28,9 +28,9 @@ use Rattle.hba.specs.declared.work.Done.{Done}
 use Rattle.hba.specs.declared.work.Outcome.{Outcome}
 use Rattle.hba.specs.declared.work.Done.TheVariants as dones
 use Rattle.hba.specs.Showing.{fault_of, arrived, fetching}
-use Rattle.hba.specs.History.{Operation, Signed, Missed, Controlled, Fetched, Completed, Account, State, HasActed, AgreesHba, Adds, account, acts_of, regs_of, effect_after, operation_denied}
+use Rattle.hba.specs.History.{Operation, Signed, Missed, Fetched, Completed, Account, State, HasActed, AgreesHba, Adds, account, acts_of, regs_of, effect_after, operation_denied}
 use Rattle.hba.specs.Ready.{ready_on, picked}
-use Rattle.hba.specs.Engine.{header_at, fises_at, place_of, IsEffect, ServesSo, Executes, FetchesIf, FetchesFis, FetchesFrom, Fetches, CompletesFrom, Completes, Signs, signature_fis, IsWork, done_of, TurnsAs, TurnsBy, HasRun, Runs, HasStopped}
+use Rattle.hba.specs.Engine.{header_at, fises_at, place_of, IsEffect, ServesSo, Executes, Controls, HearsIf, FetchesIf, FetchesFis, FetchesFrom, Fetches, CompletesFrom, Completes, Signs, signature_fis, IsWork, done_of, TurnsAs, TurnsBy, HasRun, Runs, HasStopped}
 use Rattle.hba.proofs.Works.{ready_same}
 
 -- The account of a list, with the registers of an HBA that agrees with it.
@@ -97,19 +97,22 @@ turn_missed does Did old now new fetched miss did adds = (
   λ o list a. record { did = did o list a; agrees = adds o list a; denied = refl },
 )
 
-pub turn_controlled : {M : Type 0} (does : M → Access → M → Type 0)
+-- A FIS of which memory is asked nothing more.
+pub turn_told : {M : Type 0} (does : M → Access → M → Type 0)
     (Did : Origin → Account → List Access → Operation → Type 0) (old : State) (now : M)
-    (new : State) (tag : ℕ)
+    (new : State) (operation : Operation)
+    → done_of operation ≡ Some dones.Control
+    → ((o : Origin) (list : List Operation) → operation_denied o (account o list) operation ≡ None)
     → ((o : Origin) (list : List Operation) → AgreesHba old o list
-    → Did o (account o list) [] (Controlled tag))
-    → Adds (Controlled tag) old new
+    → Did o (account o list) [] operation)
+    → Adds operation old new
     → TurnsAs does Did old now new now dones.Control None
-turn_controlled does Did old now new tag did adds = (
+turn_told does Did old now new operation told none did adds = (
   [],
-  Controlled tag,
+  operation,
   refl,
-  refl,
-  λ o list a. record { did = did o list a; agrees = adds o list a; denied = refl },
+  told,
+  λ o list a. record { did = did o list a; agrees = adds o list a; denied = sym (none o list) },
 )
 
 -- What comes with a command, so far as memory has it.
@@ -283,31 +286,34 @@ fetch_fis does old before middle new after done denied tag header fis answers t 
     (λ o a. FetchesFis o a (place_of a.registers tag header) tag fis) old before middle new after done denied
     (Asked header.table h2d_length fis) answers (λ o list a talk operation h. (fis, talk, refl, h)) t
 
-pub fetch_control : {M : Type 0} (does : M → Access → M → Type 0) (old : State) (now : M)
-    (new : State) (tag : ℕ) (header : Header) (fis : List ℕ) → is_command fis ≡ false
-    → Adds (Controlled tag) old new
-    → TurnsAs does (λ o a. FetchesFis o a (place_of a.registers tag header) tag (Some fis)) old now new now
-    dones.Control None
-fetch_control does old now new tag header fis e adds =
-    turn_controlled does (λ o a. FetchesFis o a (place_of a.registers tag header) tag (Some fis)) old now new tag
-    (λ o list a. subst (λ (b : Bool). FetchesIf b o (account o list) (place_of (regs_of o list) tag header) tag fis [] (Controlled tag))
-    (sym e) (refl, refl)) adds
+pub fetch_control : {M : Type 0} (does : M → Access → M → Type 0) (old : State) (before : M)
+    (new : State) (after : M) (done : Done) (denied : Option Why) (tag : ℕ) (header : Header)
+    (fis : List ℕ) → is_command fis ≡ false
+    → TurnsAs does (λ o a. Controls a tag fis) old before new after done denied
+    → TurnsAs does (λ o a. FetchesFis o a (place_of a.registers tag header) tag (Some fis)) old before new after
+    done denied
+fetch_control does old before new after done denied tag header fis e t =
+    turn_named does (λ o a. FetchesFis o a (place_of a.registers tag header) tag (Some fis))
+    (λ o a. Controls a tag fis) old before new after done denied
+    (λ o list a talk operation h.
+    subst (λ (b : Bool). FetchesIf b o (account o list) (place_of (regs_of o list) tag header) tag fis talk operation)
+    (sym e) h) t
 
-pub fetch_executes : {M : Type 0} (does : M → Access → M → Type 0) (old : State) (before : M)
+pub fetch_hears : {M : Type 0} (does : M → Access → M → Type 0) (old : State) (before : M)
     (new : State) (after : M) (done : Done) (denied : Option Why) (tag : ℕ) (header : Header)
     (fis : List ℕ) (place : Place) → is_command fis ≡ true
     → place ≡ place_of old.registers tag header
-    → TurnsAs does (λ o a. Executes o a place tag fis) old before new after done denied
+    → TurnsAs does (λ o a. HearsIf a.registers.in_reset o a place tag fis) old before new after done denied
     → TurnsAs does (λ o a. FetchesFis o a (place_of a.registers tag header) tag (Some fis)) old before new after
     done denied
-fetch_executes does old before new after done denied tag header fis place e p t =
+fetch_hears does old before new after done denied tag header fis place e p t =
     turn_named does (λ o a. FetchesFis o a (place_of a.registers tag header) tag (Some fis))
-    (λ o a. Executes o a place tag fis) old before new after done denied
+    (λ o a. HearsIf a.registers.in_reset o a place tag fis) old before new after done denied
     (λ o list a talk operation h.
     let same : place ≡ place_of (regs_of o list) tag header =
     p ∙ ap (λ (r : Registers). place_of r tag header) a.registers in
     subst (λ (b : Bool). FetchesIf b o (account o list) (place_of (regs_of o list) tag header) tag fis talk operation) (sym e)
-    (subst (λ (x : Place). Executes o (account o list) x tag fis talk operation) same h)) t
+    (subst (λ (x : Place). HearsIf (regs_of o list).in_reset o (account o list) x tag fis talk operation) same h)) t
 
 pub complete_serves : {M : Type 0} (does : M → Access → M → Type 0) (old : State) (before : M)
     (new : State) (after : M) (done : Done) (denied : Option Why) (tag n : ℕ) (header : Header)

@@ -15,7 +15,7 @@ use Rattle.host_memory.specs.declared.hba_memory.miss.Miss.{Miss}
 use Rattle.host_memory.specs.declared.hba_memory.delivery.Arrival.{Arrival}
 use Rattle.hba.specs.Registers.{word_at, port_at, reset_bit, processed_bit, overflow_bit}
 use Rattle.hba.specs.Showing.{shows_fises, bits_of}
-use Rattle.hba.specs.History.{Operation, Wrote, Powered, Signed, Missed, Controlled, Fetched, Completed, account, regs_of, effect_after}
+use Rattle.hba.specs.History.{Operation, Wrote, Powered, Signed, Missed, Controlled, Asserted, Restarted, Unheard, Fetched, Completed, account, regs_of, effect_after}
 
 -- A bit of a word.
 abbrev pub word_has : ℕ → ℕ → Bool
@@ -28,6 +28,9 @@ IsOfWords Powered = Unit {0}
 IsOfWords Signed = Unit {0}
 IsOfWords (Missed fetched miss) = Unit {0}
 IsOfWords (Controlled tag) = tag < slot_count
+IsOfWords (Asserted tag) = tag < slot_count
+IsOfWords (Restarted tag) = tag < slot_count
+IsOfWords (Unheard tag) = tag < slot_count
 IsOfWords (Fetched tag fis payload arrival) = tag < slot_count
 IsOfWords (Completed tag payload arrival) = tag < slot_count
 
@@ -59,6 +62,9 @@ runs (Powered ∷ before) = false
 runs (Signed ∷ before) = runs before
 runs (Missed fetched miss ∷ before) = runs before
 runs (Controlled tag ∷ before) = runs before
+runs (Asserted tag ∷ before) = runs before
+runs (Restarted tag ∷ before) = runs before
+runs (Unheard tag ∷ before) = runs before
 runs (Fetched tag fis payload arrival ∷ before) = runs before
 runs (Completed tag payload arrival ∷ before) = runs before
 
@@ -104,6 +110,9 @@ issued_since o tag (Powered ∷ before) = false
 issued_since o tag (Signed ∷ before) = issued_since o tag before
 issued_since o tag (Missed fetched miss ∷ before) = issued_since o tag before
 issued_since o tag (Controlled slot ∷ before) = not (slot == tag) && issued_since o tag before
+issued_since o tag (Asserted slot ∷ before) = not (slot == tag) && issued_since o tag before
+issued_since o tag (Restarted slot ∷ before) = not (slot == tag) && issued_since o tag before
+issued_since o tag (Unheard slot ∷ before) = issued_since o tag before
 issued_since o tag (Fetched slot fis payload arrival ∷ before) =
     not (one_ends (fetch_shows o before fis payload arrival) && slot == tag)
     && issued_since o tag before
@@ -161,6 +170,9 @@ raised_since o bit (Signed ∷ before) = raised_since o bit before
 raised_since o bit (Missed fetched miss ∷ before) =
     raised_since o bit before || word_has (bits_of miss) bit
 raised_since o bit (Controlled tag ∷ before) = raised_since o bit before
+raised_since o bit (Asserted tag ∷ before) = raised_since o bit before
+raised_since o bit (Restarted tag ∷ before) = raised_since o bit before
+raised_since o bit (Unheard tag ∷ before) = raised_since o bit before
 raised_since o bit (Fetched tag fis payload arrival ∷ before) =
     raised_since o bit before
     || arrival_raises arrival (fetch_shows o before fis payload arrival) bit
@@ -207,6 +219,9 @@ queued_since o tag (Powered ∷ before) = false
 queued_since o tag (Signed ∷ before) = queued_since o tag before
 queued_since o tag (Missed fetched miss ∷ before) = queued_since o tag before
 queued_since o tag (Controlled slot ∷ before) = queued_since o tag before
+queued_since o tag (Asserted slot ∷ before) = queued_since o tag before
+queued_since o tag (Restarted slot ∷ before) = queued_since o tag before
+queued_since o tag (Unheard slot ∷ before) = queued_since o tag before
 queued_since o tag (Fetched slot fis payload arrival ∷ before) =
     not (one_ends_queued tag (fetch_shows o before fis payload arrival))
     && queued_since o tag before

@@ -28,8 +28,9 @@ use Rattle.host_memory.specs.declared.hba_memory.delivery.Place.{Place}
 use Rattle.slots.specs.Table.{is_command}
 use Rattle.host_memory.specs.Memory.{header_by, descriptors_of, moved_by, Gathers, PostsTo, Delivers}
 use Rattle.hba.specs.Showing.{fault_of}
-use Rattle.hba.specs.History.{Operation, Wrote, Powered, Signed, Missed, Controlled, Fetched, Completed, Account, State, AgreesHba, account, effect_after, operation_denied}
+use Rattle.hba.specs.History.{Operation, Wrote, Powered, Signed, Missed, Controlled, Asserted, Restarted, Unheard, Fetched, Completed, Account, State, AgreesHba, account, effect_after, operation_denied}
 use Rattle.hba.specs.Ready.{picked, ready_after}
+use Rattle.hba.specs.SoftwareReset.{resets_behind}
 
 -- Where the header of a slot stands.
 abbrev pub header_at : Registers → ℕ → ℕ
@@ -74,10 +75,41 @@ Executes o a place tag fis talk done =
     ServesSo o a place (payload_of o.tables.config fis) (Some tag) (Accept fis) (Fetched tag fis)
     talk done
 
+-- The device's first FIS after a reset: ready, with its signature (ACS-3, device signatures).
+abbrev pub signature_fis : Fis
+signature_fis = fises.D2h (record {
+  interrupt = false;
+  port = 0;
+  status = ready;
+  error = 1;
+  lba = 1;
+  device = 0;
+  count = 1;
+})
+
+-- A FIS that carries no command, by SRST behind it and before it. Where it clears SRST, the device tells
+-- its signature; where the place of that is no memory, it alone is lost.
+abbrev pub ControlsTo : Bool → Bool → Account → ℕ → List Access → Operation → Type 0
+ControlsTo true was a tag talk done = (talk ≡ []) × (done ≡ Asserted tag)
+ControlsTo false true a tag talk done =
+    (missed : Option Miss) × PostsTo (fises_at a.registers) (signature_fis ∷ []) talk missed
+    × (done ≡ Restarted tag)
+ControlsTo false false a tag talk done = (talk ≡ []) × (done ≡ Controlled tag)
+
+abbrev pub Controls : Account → ℕ → List ℕ → List Access → Operation → Type 0
+Controls a tag fis talk done =
+    ControlsTo (resets_behind a.registers.in_reset fis) a.registers.in_reset a tag talk done
+
+-- A command, which a device in reset does not take.
+abbrev pub HearsIf : Bool → Origin → Account → Place → ℕ → List ℕ → List Access → Operation → Type 0
+HearsIf true o a place tag fis talk done = (talk ≡ []) × (done ≡ Unheard tag)
+HearsIf false o a place tag fis talk done = Executes o a place tag fis talk done
+
 abbrev pub FetchesIf : Bool → Origin → Account → Place → ℕ → List ℕ
     → List Access → Operation → Type 0
-FetchesIf false o a place tag fis talk done = (talk ≡ []) × (done ≡ Controlled tag)
-FetchesIf true o a place tag fis talk done = Executes o a place tag fis talk done
+FetchesIf false o a place tag fis talk done = Controls a tag fis talk done
+FetchesIf true o a place tag fis talk done =
+    HearsIf a.registers.in_reset o a place tag fis talk done
 
 abbrev pub FetchesFis : Origin → Account → Place → ℕ → Option (List ℕ)
     → List Access → Operation → Type 0
@@ -119,18 +151,6 @@ pub record IsEffect (effect : Effect) (sent : List Fis) (given : List ℕ) : Typ
   pub fises : sent ≡ effect.fises
   pub bytes : given ≡ effect.bytes
 
--- The device's first FIS after a reset: ready, with its signature (ACS-3, device signatures).
-abbrev pub signature_fis : Fis
-signature_fis = fises.D2h (record {
-  interrupt = false;
-  port = 0;
-  status = ready;
-  error = 1;
-  lba = 1;
-  device = 0;
-  count = 1;
-})
-
 -- The device's signature. Where its place is no memory, the FIS alone is lost.
 abbrev pub Signs : Account → List Access → Operation → Type 0
 Signs a talk done =
@@ -158,6 +178,9 @@ done_of Powered = None
 done_of Signed = Some dones.Posted
 done_of (Missed fetched miss) = Some (dones.Fault (fault_of miss))
 done_of (Controlled tag) = Some dones.Control
+done_of (Asserted tag) = Some dones.Control
+done_of (Restarted tag) = Some dones.Control
+done_of (Unheard tag) = Some dones.Control
 done_of (Fetched tag fis payload arrival) = Some (done_by arrival.missed)
 done_of (Completed tag payload arrival) = Some (done_by arrival.missed)
 

@@ -4,7 +4,7 @@
 use Rattle.std.specs.Prelude.{◌≡◌, ◌%◌, ◌^◌, ℕ, List, [], ◌∷◌, length, Option, None, if◌then◌else◌}
 use Rattle.sp_cells.specs.Resets.{power_cycle, hardware}
 use Rattle.history.specs.Facts.{facts}
-use Rattle.history.specs.History.{Act, Accept, Complete, Reset, log}
+use Rattle.history.specs.History.{Act, Accept, Complete, Reset, SoftwareReset, log}
 use Rattle.history.specs.Opening.{Origin}
 use Rattle.drive.specs.State.{DriveState, Agrees}
 use Rattle.audit.specs.declared.reason.Why.{Why}
@@ -15,9 +15,11 @@ use Rattle.host_memory.specs.declared.hba_memory.miss.Miss.{Miss}
 use Rattle.host_memory.specs.declared.hba_memory.delivery.Arrival.{Arrival}
 use Rattle.hba.specs.Registers.{reset_registers, written_at, write_resets}
 use Rattle.hba.specs.Showing.{signed, faulted, beginning, controlled, fetching, arrived}
+use Rattle.hba.specs.SoftwareReset.{asserted, reset_ended, unheard}
 
 -- The host's write of a register; a power cycle; the device's signature; memory that failed before
--- the drive's act, of the fetch under a tag or of a completion; a FIS that carries no command; a
+-- the drive's act, of the fetch under a tag or of a completion; a FIS that carries no command; one
+-- that sets SRST, and one that clears it; a command's FIS that a device in reset does not take; a
 -- command's FIS, with the data that came with it, and how what the act gave arrived; the completion of
 -- a held command, with the same.
 pub data Operation : Type 0 where
@@ -26,6 +28,9 @@ pub data Operation : Type 0 where
   Signed : Operation
   Missed : (fetched : Option ℕ) (miss : Miss) → Operation
   Controlled : (tag : ℕ) → Operation
+  Asserted : (tag : ℕ) → Operation
+  Restarted : (tag : ℕ) → Operation
+  Unheard : (tag : ℕ) → Operation
   Fetched : (tag : ℕ) (fis payload : List ℕ) (arrival : Arrival) → Operation
   Completed : (tag : ℕ) (payload : List ℕ) (arrival : Arrival) → Operation
 
@@ -63,6 +68,12 @@ account_after o a (Missed fetched miss) = record a {
   registers = faulted miss (beginning fetched a.registers);
 }
 account_after o a (Controlled tag) = record a { registers = controlled tag a.registers }
+account_after o a (Asserted tag) = record a { registers = asserted tag a.registers }
+account_after o a (Restarted tag) = record {
+  acts = SoftwareReset ∷ a.acts;
+  registers = reset_ended tag a.registers;
+}
+account_after o a (Unheard tag) = record a { registers = unheard tag a.registers }
 account_after o a (Fetched tag fis payload arrival) =
     acting tag (Accept fis payload) arrival (effect_after o a (Accept fis payload))
     (record a { registers = fetching tag a.registers })

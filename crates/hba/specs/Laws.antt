@@ -23,7 +23,7 @@ use Rattle.host_memory.specs.declared.hba_memory.reading.Moved.{Moved}
 use Rattle.host_memory.specs.declared.hba_memory.delivery.Place.{Place}
 use Rattle.host_memory.specs.Memory.{Delivers, PostsTo}
 use Rattle.hba.specs.Registers.{port_at, reset_bit}
-use Rattle.hba.specs.History.{Operation, Wrote, Powered, Signed, Missed, Controlled, Fetched, Completed, account, acts_of, regs_of, effect_after}
+use Rattle.hba.specs.History.{Operation, Wrote, Powered, Signed, Missed, Controlled, Asserted, Restarted, Unheard, Fetched, Completed, account, acts_of, regs_of, effect_after}
 
 -- The registers tell the error: PxTFD has it, and PxIS has TFES.
 pub record TellsError (error : ℕ) (before after : Registers) : Type 0 where
@@ -129,6 +129,9 @@ current_slot (Signed ∷ before) = current_slot before
 current_slot (Missed None miss ∷ before) = current_slot before
 current_slot (Missed (Some tag) miss ∷ before) = tag
 current_slot (Controlled tag ∷ before) = tag
+current_slot (Asserted tag ∷ before) = tag
+current_slot (Restarted tag ∷ before) = tag
+current_slot (Unheard tag ∷ before) = tag
 current_slot (Fetched tag fis payload arrival ∷ before) = tag
 current_slot (Completed tag payload arrival ∷ before) = current_slot before
 

@@ -1,6 +1,7 @@
 pub mod Registers
 pub mod Showing
 pub mod Blocks
+pub mod SoftwareReset
 pub mod History
 pub mod Ready
 pub mod Engine

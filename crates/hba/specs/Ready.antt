@@ -28,9 +28,13 @@ may_fetch regs tag =
     is_working regs && has_bits regs.port.issued (2 ^ tag)
     && bit_and regs.port.status busy_bits == 0
 
+-- A device in reset tells nothing.
+abbrev pub is_telling : Registers → Bool
+is_telling regs = is_working regs && not regs.in_reset
+
 -- What the drive holds is completed while PxSACT has it.
 abbrev pub may_complete : Registers → ℕ → Bool
-may_complete regs tag = is_working regs && has_bits regs.port.active (2 ^ tag)
+may_complete regs tag = is_telling regs && has_bits regs.port.active (2 ^ tag)
 
 -- The tags whose commands can be fetched, and those whose commands can be completed, a bit for each.
 abbrev pub fetchable : Registers → ℕ
@@ -38,7 +42,7 @@ fetchable regs =
     if is_working regs && bit_and regs.port.status busy_bits == 0 then regs.port.issued else 0
 
 abbrev pub completable : Registers → ℕ
-completable regs = if is_working regs then regs.port.active else 0
+completable regs = if is_telling regs then regs.port.active else 0
 
 -- The least tag of a word.
 pub record IsLeast (tags tag : ℕ) : Type 0 where

@@ -153,6 +153,7 @@ reset_registers = record {
   is_packet = false;
   has_light = false;
   speed = fastest;
+  in_reset = false;
 }
 
 -- PxIS, PCS and PRCS among its bits.
@@ -229,6 +230,7 @@ lost_if goes regs =
       port = record regs.port { status = unknown_status; error = 0 };
       is_signed = false;
       has_phy_changed = true;
+      in_reset = false;
     }
     else regs
 

@@ -18,7 +18,7 @@ use std::alloc::AllocError;
 use std::mem::replace;
 
 /// The device's first FIS after a reset: ready, with its signature.
-fn signature_fis() -> Fis
+pub(crate) fn signature_fis() -> Fis
     ensures { result ≡ signature_fis }
 {
     Fis::D2h(RegD2h {
@@ -38,7 +38,7 @@ impl Hba {
     ghost use Rattle.fis.specs.Types.{h2d_type};
     ghost use Rattle.drive.specs.Answers.{fises_in, fises_done};
     ghost use Rattle.drive.specs.Queue.{held_at};
-    ghost use Rattle.hba.specs.History.{Operation, Completed as CompletedTag, Signed, Missed, Controlled, AgreesHba, HasActed, Adds, account, acts_of, drive_effect, effect_after};
+    ghost use Rattle.hba.specs.History.{Operation, Completed as CompletedTag, Signed, Missed, AgreesHba, HasActed, Adds, account, acts_of, drive_effect, effect_after};
     ghost use Rattle.hba.specs.Showing.{fetching, fault_of, arrived};
     ghost use Rattle.hba.specs.Engine.{IsEffect, header_at, fises_at, place_of, done_by, Executes, Fetches, Completes, CompletesFrom, ServesSo, IsWork, TurnsAs, TurnsBy, Signs};
     ghost use Rattle.hba.specs.Ready.{is_ready_on};
@@ -171,18 +171,6 @@ impl Hba {
         }
     }
 
-    /// A FIS that carries no command is done.
-    fn control(&mut self, tag: Tag) -> Outcome
-        ensures agrees { Adds (Controlled tag) self.old self.new }
-        ensures told { result ≡ record { done = dones.Control; denied = None } }
-    {
-        self.registers.control(tag);
-        Outcome {
-            done: Done::Control,
-            denied: None,
-        }
-    }
-
     /// The command of a tag is fetched.
     fn note_fetch(&mut self, tag: Tag)
         ensures { self.new ≡ record self.old { registers = fetching tag self.old.registers } }
@@ -244,7 +232,7 @@ impl Hba {
     }
 
     /// The engine executes the command of a slot.
-    fn execute<M: HostMemory>(
+    pub(crate) fn execute<M: HostMemory>(
         &mut self,
         tag: Tag,
         place: Place,
@@ -281,10 +269,10 @@ impl Hba {
             return Ok(self.miss(Some(tag), Miss::Table));
         };
         if !is_command(&fis) {
-            return Ok(self.control(tag));
+            return Ok(self.control(tag, &fis, memory));
         }
         let place = self.place_of(tag, header);
-        self.execute(tag, place, &fis, memory)
+        self.hear(&fis, tag, place, memory)
     }
 
     /// The engine completes the command of a slot, whose data fill a room.

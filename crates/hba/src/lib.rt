@@ -7,6 +7,7 @@ mod hba;
 mod laws;
 mod registers;
 mod showing;
+mod software_reset;
 mod turning;
 mod work;
 

@@ -53,7 +53,7 @@ const IDLE: u8 = 0x77;
 const UNKNOWN: u8 = 0x7f;
 
 /// The status of a device that the link has come up to, and that has not told its own: BSY.
-const AWAITED: u8 = 0x80;
+pub(crate) const AWAITED: u8 = 0x80;
 
 /// PxSIG of a disk, and before the device's first FIS.
 const SIGNATURE: u32 = 0x101;
@@ -115,6 +115,8 @@ pub struct Registers {
     pub(crate) has_light: bool,
     /// PxSSTS.SPD, while the link is up.
     pub(crate) speed: u8,
+    /// The device's SRST is set.
+    pub(crate) in_reset: bool,
 }
 
 /// Whether the link is up, by PxSCTL.
@@ -157,7 +159,7 @@ fn fresh_port() -> PortRegs
 
 impl Registers {
     ghost use Rattle.std.specs.Prelude.{◌≡◌, unwrap_or};
-    ghost use Rattle.hba.specs.Ready.{is_working, may_sign, may_fetch, may_complete, fetchable, completable};
+    ghost use Rattle.hba.specs.Ready.{is_working, is_telling, may_sign, may_fetch, may_complete, fetchable, completable};
     ghost use Rattle.hba_regs.specs.Registers.{register_at, word_at as port_word_at, written_at as port_written_at};
     ghost use Rattle.hba_regs.specs.declared.register.Register.TheVariants as registers;
     ghost use Rattle.hba.specs.Engine.{fises_at};
@@ -179,6 +181,7 @@ impl Registers {
             is_packet: false,
             has_light: false,
             speed: FASTEST,
+            in_reset: false,
         }
     }
 
@@ -232,6 +235,13 @@ impl Registers {
             && is_up(self.kept_word(PX_SCTL))
     }
 
+    /// Whether the device tells what it has done: commands are taken, and it is not in reset.
+    fn is_telling(&self) -> bool
+        ensures { result ≡ is_telling self.now }
+    {
+        self.is_working() && !self.in_reset
+    }
+
     /// Whether the signature can be told.
     pub(crate) fn may_sign(&self) -> bool
         ensures { result ≡ may_sign self.now }
@@ -254,7 +264,7 @@ impl Registers {
     pub(crate) fn completable(&self) -> u32
         ensures { result ≡ completable self.now }
     {
-        if self.is_working() {
+        if self.is_telling() {
             self.kept_word(PX_SACT)
         } else {
             0
@@ -274,7 +284,7 @@ impl Registers {
         ensures { result ≡ may_complete self.now tag }
     {
         let bit = 1 << tag.number();
-        self.is_working() && self.kept_word(PX_SACT) & bit == bit
+        self.is_telling() && self.kept_word(PX_SACT) & bit == bit
     }
 
     /// PxIS.
@@ -410,6 +420,7 @@ impl Registers {
             self.port.set_task(UNKNOWN, 0);
             self.is_signed = false;
             self.has_phy_changed = true;
+            self.in_reset = false;
         }
     }
 

@@ -60,7 +60,7 @@ pub enum Done {
     Posted,
     /// The drive took the command, or completed it.
     Served,
-    /// The FIS was no command.
+    /// The FIS was no command, or it came to a device in reset.
     Control,
     /// The host's memory failed, and the HBA has halted.
     Fault(MemoryFault),

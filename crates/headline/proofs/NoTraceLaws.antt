@@ -7,7 +7,7 @@ use Rattle.sp_cells.specs.Flat.{LookUp}
 use Rattle.history.specs.Events.{Event}
 use Rattle.history.specs.Facts.{Facts, facts}
 use Rattle.history.specs.Items.{Items}
-use Rattle.history.specs.History.{Act, Accept as AcceptFis, Complete as CompleteTag, Reset as ResetDrive, event_of, event_in}
+use Rattle.history.specs.History.{Act, Accept as AcceptFis, Complete as CompleteTag, Reset as ResetDrive, SoftwareReset, event_of, event_in}
 use Rattle.history.specs.NoTrace.{emptied}
 use Rattle.history.specs.Opening.{Origin}
 use Rattle.history.proofs.Elsewhere.{elsewhere_law}
@@ -22,6 +22,7 @@ effect_event : (items : Items) (f : Facts) (act : Act) → (effect_in items f ac
 effect_event items f (AcceptFis fis bytes) = refl
 effect_event items f (CompleteTag tag bytes) = refl
 effect_event items f (ResetDrive kind) = refl
+effect_event items f SoftwareReset = refl
 
 pub open_law_of_steps : OpenLaw
 open_law_of_steps items own o list lawful sp number is_open =

@@ -52,7 +52,7 @@ use Rattle.history.specs.Facts.{Facts, session_named, has_open, standing}
 use Rattle.history.specs.Decisions.{not_found, fails, refuses, aborted, fails_queue, on_drive, verdict_on, queued_by, admitted, unqueued_by, is_trusted, is_session_com_id, discovery_com_id, received, while_failed, is_busy, completed_by, completed, resets, is_received, unreceived}
 use Rattle.history.specs.Tcg.{answers, start_verdict, started_by, started, is_method_of_manager, to_manager, judgement_on, begins_on, ends_on, in_session, is_manager, to_session, framed, sent, unqueued, known, commanded, tcg, command_read, item_in, blocks_sid, send_item, send, unsent}
 use Rattle.methods.specs.Calls.{tried_in, outcome_of}
-use Rattle.history.specs.History.{Act, Accept, Complete, Reset, event_by}
+use Rattle.history.specs.History.{Act, Accept, Complete, Reset, SoftwareReset, event_by}
 use Rattle.history.specs.MethodLaws.{IsLookedAt, IsSent, IsCall}
 use Rattle.history.specs.DenialLaws.{Moves, read_queued, write_queued, read_dma, write_dma, IsFree, TransferDenied, MethodDenied, AttemptDenied, StartDenied, IsDenied, DenialLaw}
 use Rattle.history.proofs.MethodProofs.{looked_event, looked_law, sent_law, call_law}
@@ -458,6 +458,7 @@ is-denied : (f : Facts) (act : Act) (why : Why) → (event_by f act).denied ≡ 
 is-denied f (Accept fis payload) why h = accept-is f fis payload why h
 is-denied f (Complete tag payload) why h = absurd (nothing (sym (completed-none tag payload (f.held tag)) ∙ h))
 is-denied f (Reset kind) why h = absurd (nothing h)
+is-denied f SoftwareReset why h = absurd (nothing h)
 
 pub denial_law : DenialLaw
 denial_law f act why = (is-denied f act why, denied-if f act why)

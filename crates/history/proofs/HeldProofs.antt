@@ -16,14 +16,14 @@ use Rattle.trusted_cmds.specs.Commands.{fault_of, read_unless}
 use Rattle.locking.specs.declared.ranges.Verdict.{Verdict}
 use Rattle.locking.specs.declared.ranges.Verdict.TheVariants.{Serve, Shadow, Denied}
 use Rattle.device_data.specs.declared.log_page.Failure.{Failure}
-use Rattle.history.specs.Events.{HeldCommand, Held, Completed, CompletedWrite, QueueFailed, QueueMended, Deed, Nothing, InSession, OfQueue, Wrote, Took, BlockedSid, WasReset, Event, did}
+use Rattle.history.specs.Events.{HeldCommand, Held, Completed, CompletedWrite, QueueFailed, QueueMended, QueueEnded, Deed, Nothing, InSession, OfQueue, Wrote, Took, BlockedSid, WasReset, Event, did}
 use Rattle.history.specs.Readers.{holding, held}
 use Rattle.history.specs.Facts.{Facts, facts}
 use Rattle.history.specs.Decisions.{not_found, aborted, fails, refuses, fails_queue, on_drive, ranges_in_force, verdict_on, queued_by, admitted, unqueued_by, is_trusted, is_session_com_id, discovery_com_id, received, while_failed, is_busy, completed_by, completed, resets, unqueued_of, known_of, commanded_of, is_received, unreceived}
 use Rattle.history.specs.Items.{Items}
 use Rattle.history.specs.Quiet.{IsQuiet, ReadsTags}
 use Rattle.history.specs.Answers.{is_holding}
-use Rattle.history.specs.History.{Act, Accept, Complete, Reset, event_in, event_of, log_of}
+use Rattle.history.specs.History.{Act, Accept, Complete, Reset, SoftwareReset, event_in, event_of, log_of}
 use Rattle.history.specs.Looked.{IsLookedAtBy}
 use Rattle.history.specs.Tcg.{tcg}
 use Rattle.history.specs.DenialLaws.{Moves, read_queued, write_queued}
@@ -58,6 +58,7 @@ holds-is tag (OfQueue (Completed t)) h g = absurd (drops-if (t == tag) h g)
 holds-is tag (OfQueue (CompletedWrite t lba bytes)) h g = absurd (drops-if (t == tag) h g)
 holds-is tag (OfQueue (QueueFailed failure)) h g = cc
 holds-is tag (OfQueue QueueMended) h g = cc
+holds-is tag (OfQueue QueueEnded) h g = cc
 holds-is tag Nothing h g = cc
 holds-is tag (InSession d r) h g = cc
 holds-is tag (Wrote lba bytes) h g = cc
@@ -188,6 +189,7 @@ later items o act acts tag h w = record {
 here : (items : Items) (still : IsQuiet items) (o : Origin) (act : Act) (acts : List Act) (tag : ℕ) (h : HeldCommand) → (event_of items o (log_of items o acts) act).deed ≡ OfQueue (Held tag h) → WasAccepted items o (act ∷ acts) tag h
 here items still o (Complete t payload) acts tag h g = absurd (not-held (completed-none t payload (held (log_of items o acts) t)) g)
 here items still o (Reset kind) acts tag h g = absurd (not-held refl g)
+here items still o SoftwareReset acts tag h g = absurd (not-held refl g)
 here items still o (Accept fis payload) acts tag h g =
     let w = accept-is items still (facts o (log_of items o acts)) fis payload tag h g in
     record {

@@ -27,7 +27,7 @@ use Rattle.history.specs.Events.{Response, HeldCommand, Deed, Nothing, InSession
 use Rattle.history.specs.Facts.{Facts, is_named, if_named, session_named}
 use Rattle.history.specs.Decisions.{aborted, not_found, fails, refuses, fails_queue, on_drive, verdict_on, queued_by, queued_transfer, admitted, unqueued_by, unqueued_transfer, is_trusted, is_session_com_id, discovery_com_id, received, while_failed, is_busy, completed_by, completed, resets, is_received, unreceived}
 use Rattle.history.specs.Tcg.{answers, to_manager, in_session, is_manager, to_session, framed, sent, unqueued, known, commanded, command_read, item_in, blocks_sid, unsent}
-use Rattle.history.specs.History.{Act, Accept, Complete, Reset, event_by}
+use Rattle.history.specs.History.{Act, Accept, Complete, Reset, SoftwareReset, event_by}
 use Rattle.sp_cells.specs.Resets.{programmatic}
 use Rattle.audit.specs.declared.rules.rule.Rule.TheVariants.{NoCommand, Unreadable, Mixed, BeyondDrive, SidKept}
 
@@ -163,6 +163,7 @@ event-comes : (f : Facts) (act : Act) → Comes f (event_by f act)
 event-comes f (Accept fis payload) = either f (slice_index fis 0 == h2d_type) (commanded f (h2d_at fis) payload) (refuses NoCommand) (commanded-comes f (h2d_at fis) payload) (no_item refl)
 event-comes f (Complete tag payload) = completed-comes f tag payload (f.held tag)
 event-comes f (Reset kind) = no_item refl
+event-comes f SoftwareReset = no_item refl
 
 -- an item's deed comes from the session manager or from a live session
 pub item-from : (f : Facts) (act : Act) (deed : SessionDeed) (response : Response) → (event_by f act).deed ≡ InSession deed response → OfManager f deed ⊎ OfSession f deed

@@ -23,7 +23,7 @@ use Rattle.history.specs.Events.{did, HeldCommand, Deed, Nothing, InSession, Wro
 use Rattle.history.specs.Facts.{Facts, facts, session_named}
 use Rattle.history.specs.Decisions.{aborted, not_found, fails, refuses, fails_queue, on_drive, verdict_on, queued_by, queued_transfer, admitted, unqueued_by, unqueued_transfer, is_trusted, is_session_com_id, discovery_com_id, received, while_failed, is_busy, completed_by, completed, resets, is_received, unreceived}
 use Rattle.history.specs.Tcg.{answers, to_manager, is_manager, to_session, framed, sent, unqueued, known, commanded, command_read, blocks_sid, unsent}
-use Rattle.history.specs.History.{Act, Accept, Complete, Reset, event_by, event, log}
+use Rattle.history.specs.History.{Act, Accept, Complete, Reset, SoftwareReset, event_by, event, log}
 use Rattle.history.specs.Readers.{waits, waiting}
 use Rattle.history.specs.Bounds.{ResponseLaw}
 use Rattle.sp_cells.specs.Resets.{programmatic}
@@ -119,6 +119,7 @@ event-on : (f : Facts) (act : Act) → on_session (event_by f act).deed ≡ true
 event-on f (Accept fis payload) = either (slice_index fis 0 == h2d_type) (commanded f (h2d_at fis) payload) (refuses NoCommand) (λ is. commanded-on f (h2d_at fis) payload) refl
 event-on f (Complete tag payload) = completed-on tag payload (f.held tag)
 event-on f (Reset kind) = refl
+event-on f SoftwareReset = refl
 
 -- and so none waits elsewhere
 true-false : true ≡ false → ⊥

@@ -24,11 +24,11 @@ use Rattle.sessions.specs.Deeds.{Begun, SessionDeed, Reverted}
 use Rattle.trusted_cmds.specs.BlockSid.{is_block_sid, block_asked, is_blocked}
 use Rattle.device_data.specs.Discovery.{has_owner}
 use Rattle.history.specs.Opening.{Origin}
-use Rattle.history.specs.Events.{did, HeldCommand, Deed, Nothing, InSession, Wrote, Event, or_else, OfQueue, Took, BlockedSid, WasReset, latest, CompletedWrite, Completed, Held, QueueFailed, QueueMended, ignores}
+use Rattle.history.specs.Events.{did, HeldCommand, Deed, Nothing, InSession, Wrote, Event, or_else, OfQueue, Took, BlockedSid, WasReset, latest, CompletedWrite, Completed, Held, QueueFailed, QueueMended, QueueEnded, ignores}
 use Rattle.history.specs.Facts.{Facts, facts, session_named}
 use Rattle.history.specs.Decisions.{aborted, not_found, fails, refuses, fails_queue, on_drive, verdict_on, queued_by, queued_transfer, admitted, unqueued_by, unqueued_transfer, is_trusted, is_session_com_id, discovery_com_id, received, while_failed, is_busy, completed_by, completed, resets, is_received, unreceived}
 use Rattle.history.specs.Tcg.{answers, to_manager, is_manager, to_session, framed, sent, unqueued, known, commanded, tcg, command_read, blocks_sid, unsent}
-use Rattle.history.specs.History.{Act, Accept, Complete, Reset, event_by, log}
+use Rattle.history.specs.History.{Act, Accept, Complete, Reset, SoftwareReset, event_by, log}
 use Rattle.shadow_mbr.specs.Erasure.{is_erased}
 use Rattle.sessions.specs.Deeds.{erased_by}
 use Rattle.history.specs.Readers.{part_of, writing, sector}
@@ -265,6 +265,7 @@ queue-left place past (Completed t) h rest = rest
 queue-left place past (Held t x) h rest = rest
 queue-left place past (QueueFailed x) h rest = rest
 queue-left place past QueueMended h rest = rest
+queue-left place past QueueEnded h rest = rest
 
 deed-left : (f : Facts) (act : Act) (place : ℕ) (past : List Event) (d : Deed) → IsFed f act → f.config.sectors ≤ place → (event_by f act).deed ≡ d → quiet d ≡ true → sector past place ≡ zeros → left place (writing place d) past ≡ zeros
 deed-left f act place past (Wrote lba bytes) fed le is h rest = left-none place past (part_of place lba bytes) (wrote-none f act place lba bytes fed le is) rest
@@ -303,3 +304,4 @@ sector_law o (Accept fis payload ∷ acts) place fed le =
     deed-left (facts o (log o acts)) (Accept fis payload) place (log o acts) (event_by (facts o (log o acts)) (Accept fis payload)).deed fed.0 le refl (accept-quiet (facts o (log o acts)) fis payload) (sector_law o acts place fed.1 le)
 sector_law o (Complete tag payload ∷ acts) place fed le = completed-left o acts tag place payload ((facts o (log o acts)).held tag) refl fed.0 le (sector_law o acts place fed.1 le)
 sector_law o (Reset kind ∷ acts) place fed le = sector_law o acts place fed.1 le
+sector_law o (SoftwareReset ∷ acts) place fed le = sector_law o acts place fed.1 le

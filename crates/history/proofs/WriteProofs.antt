@@ -17,7 +17,7 @@ use Rattle.history.specs.Facts.{Facts}
 use Rattle.history.specs.Decisions.{not_found, aborted, fails, refuses, fails_queue, on_drive, ranges_in_force, verdict_on, queued_by, admitted, unqueued_by, is_trusted, is_session_com_id, discovery_com_id, received, while_failed, is_busy, completed_by, completed, resets, unqueued_of, known_of, commanded_of, is_received, unreceived}
 use Rattle.history.specs.Items.{Items}
 use Rattle.history.specs.Quiet.{is_quiet, IsQuiet}
-use Rattle.history.specs.History.{Act, Accept, Complete, Reset, event_in}
+use Rattle.history.specs.History.{Act, Accept, Complete, Reset, SoftwareReset, event_in}
 use Rattle.history.specs.Looked.{IsLookedAtBy}
 use Rattle.history.specs.TransferLaws.{IsPermitted, is_denied, Writes, WriteLaw}
 use Rattle.history.proofs.TransferProofs.{verdict_law}
@@ -144,3 +144,4 @@ pub write_law : WriteLaw
 write_law items still f (Accept fis payload) lba bytes g = accept-is items still f fis payload lba bytes g
 write_law items still f (Complete tag payload) lba bytes g = absurd (not-write (completed-none tag payload (f.held tag)) g)
 write_law items still f (Reset kind) lba bytes g = absurd (not-write refl g)
+write_law items still f SoftwareReset lba bytes g = absurd (not-write refl g)

@@ -17,7 +17,7 @@ use Rattle.history.specs.Readers.{factory_rows, in_force, view, byte_in_force, b
 use Rattle.history.specs.Facts.{Facts, facts}
 use Rattle.history.specs.Answers.{payload_of, expected}
 use Rattle.history.specs.Decisions.{is_session_com_id}
-use Rattle.history.specs.History.{Act, Accept, Complete, Reset, log}
+use Rattle.history.specs.History.{Act, Accept, Complete, Reset, SoftwareReset, log}
 
 -- Neither what a drive starts from nor a new drive has a cell there: then there is none after any
 -- events.
@@ -71,6 +71,7 @@ abbrev pub IsFed : Facts → Act → Type 0
 IsFed f (Accept fis payload) = length payload ≡ payload_of f.config fis
 IsFed f (Complete tag payload) = length payload ≡ expected (f.held tag)
 IsFed f (Reset kind) = Unit {0}
+IsFed f SoftwareReset = Unit {0}
 
 abbrev pub AreFed : Origin → List Act → Type 0
 AreFed o [] = Unit {0}

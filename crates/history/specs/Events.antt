@@ -27,6 +27,8 @@ pub data QueueDeed : Type 0 where
   CompletedWrite : (tag lba : ℕ) (bytes : List ℕ) → QueueDeed
   QueueFailed : (failure : Failure) → QueueDeed
   QueueMended : QueueDeed
+  -- what was held is gone, and no failure is left
+  QueueEnded : QueueDeed
 
 -- What an act did, by the part of the drive that it did it to.
 pub data Deed : Type 0 where

@@ -23,3 +23,4 @@ pub mod Bounds
 pub mod KeptStore
 pub mod KeptSessions
 pub mod KeptCalls
+pub mod SoftwareReset

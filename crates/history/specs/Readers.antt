@@ -26,7 +26,7 @@ use Rattle.sessions.specs.Deeds.{cells_set, Change, Sets, Restores, Resets, Begu
 use Rattle.sessions.specs.Block.{block_after, block_at_reset}
 use Rattle.history.specs.Changes.{apply_all, byte_in, with_tries}
 use Rattle.device_data.specs.declared.log_page.Failure.{Failure}
-use Rattle.history.specs.Events.{HeldCommand, QueueDeed, Held, Completed, CompletedWrite, QueueFailed, QueueMended, Deed, InSession, OfQueue, Wrote, Took, WasReset, BlockedSid, Event, latest, since, every, count}
+use Rattle.history.specs.Events.{HeldCommand, QueueDeed, Held, Completed, CompletedWrite, QueueFailed, QueueMended, QueueEnded, Deed, InSession, OfQueue, Wrote, Took, WasReset, BlockedSid, Event, latest, since, every, count}
 
 -- It speaks of this SP.
 abbrev pub on_sp : {A : Type 0} → Sp → Sp → A → Option A
@@ -293,6 +293,7 @@ holds_by tag (Completed its) = if its == tag then Some None else None
 holds_by tag (CompletedWrite its lba bytes) = if its == tag then Some None else None
 holds_by tag (QueueFailed failure) = Some None
 holds_by tag QueueMended = None
+holds_by tag QueueEnded = Some None
 
 abbrev pub holding : ℕ → Deed → Option (Option HeldCommand)
 holding tag (OfQueue deed) = holds_by tag deed
@@ -305,6 +306,7 @@ held past tag = unwrap_or (latest (holding tag) past) None
 abbrev pub fails_by : QueueDeed → Option (Option Failure)
 fails_by (QueueFailed failure) = Some (Some failure)
 fails_by QueueMended = Some None
+fails_by QueueEnded = Some None
 fails_by _ = None
 
 abbrev pub failing : Deed → Option (Option Failure)

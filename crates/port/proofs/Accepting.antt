@@ -52,6 +52,7 @@ events_from o None past before e = e
 events_from o (Some (AcceptFis fis bytes)) past before e = ap (λ (p : List Event). event o p (AcceptFis fis bytes) ∷ p) e
 events_from o (Some (Rattle.history.specs.History.Complete tag bytes)) past before e = ap (λ (p : List Event). event o p (Rattle.history.specs.History.Complete tag bytes) ∷ p) e
 events_from o (Some (Rattle.history.specs.History.Reset kind)) past before e = ap (λ (p : List Event). event o p (Rattle.history.specs.History.Reset kind) ∷ p) e
+events_from o (Some Rattle.history.specs.History.SoftwareReset) past before e = ap (λ (p : List Event). event o p Rattle.history.specs.History.SoftwareReset ∷ p) e
 
 pub events_are : (o : Origin) (list : List Step) → events (trace o list) ≡ log o (acts o list)
 events_are o [] = refl

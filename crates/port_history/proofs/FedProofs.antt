@@ -10,7 +10,7 @@ use Rattle.history.specs.Events.{Event}
 use Rattle.history.specs.Facts.{Facts, facts}
 use Rattle.history.specs.Answers.{payload_of, expected, expected_by}
 use Rattle.history.specs.Bounds.{IsFed, AreFed}
-use Rattle.history.specs.History.{Act, Accept as AcceptFis, Complete as CompleteTag, Reset as ResetDrive, event_by, log}
+use Rattle.history.specs.History.{Act, Accept as AcceptFis, Complete as CompleteTag, Reset as ResetDrive, SoftwareReset, event_by, log}
 use Rattle.history.specs.Tcg.{tcg}
 use Rattle.port_history.proofs.Acted.{tcg_for_ports}
 use Rattle.port_history.specs.declared.stages.Put.{Put}
@@ -30,6 +30,7 @@ effect_event : (f : Facts) (act : Act) → (effect_by f act).event ≡ event_by 
 effect_event f (AcceptFis fis bytes) = refl
 effect_event f (CompleteTag tag bytes) = refl
 effect_event f (ResetDrive kind) = refl
+effect_event f SoftwareReset = refl
 
 more_log : (o : Origin) (done : List Act) (past : List Event) (x : Option Act) → log o done ≡ past
     → log o (act_before x done)

@@ -12,7 +12,7 @@ use Rattle.history.specs.Tcg.{tcg}
 use Rattle.history.specs.Audit.{line_for}
 use Rattle.history.specs.Events.{Event}
 use Rattle.history.specs.Facts.{Facts, facts}
-use Rattle.history.specs.History.{Act, Accept as AcceptFis, Complete as CompleteTag, Reset as ResetDrive, event_in}
+use Rattle.history.specs.History.{Act, Accept as AcceptFis, Complete as CompleteTag, Reset as ResetDrive, SoftwareReset, event_in}
 use Rattle.history.specs.Opening.{Origin}
 use Rattle.history.specs.Readers.{failure}
 use Rattle.port_history.specs.declared.request.Answer.{Answer}
@@ -167,6 +167,11 @@ effect_in items f (CompleteTag tag bytes) = record {
 }
 effect_in items f (ResetDrive kind) = record {
   event = event_in items f (ResetDrive kind);
+  fises = [];
+  bytes = [];
+}
+effect_in items f SoftwareReset = record {
+  event = event_in items f SoftwareReset;
   fises = [];
   bytes = [];
 }

@@ -10,7 +10,7 @@ use Rattle.compacket.specs.Frames.{Frame, reading as frame_in}
 use Rattle.compacket.specs.declared.error.FrameError.{FrameError}
 use Rattle.history.specs.Opening.{Origin}
 use Rattle.history.specs.Readers.{in_force}
-use Rattle.history.specs.History.{Act, Accept, Complete, Reset, log}
+use Rattle.history.specs.History.{Act, Accept, Complete, Reset, SoftwareReset, log}
 use Rattle.reasons.specs.declared.explained.condition.Condition.{Condition}
 use Rattle.reasons.specs.declared.explained.onset.Source.{Source}
 use Rattle.reasons.specs.declared.explained.onset.Cause.{Cause}
@@ -63,6 +63,7 @@ abbrev pub cause_of : Act → Cause
 cause_of (Accept fis payload) = cause_in (h2d_at fis) (frame_in payload)
 cause_of (Complete tag payload) = NoCause
 cause_of (Reset kind) = ResetBy kind
+cause_of SoftwareReset = NoCause
 
 -- acts are counted from 1, as far as 64 bits count
 abbrev pub act_number : List Sourced → ℕ

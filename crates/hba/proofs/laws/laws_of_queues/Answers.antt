@@ -6,7 +6,7 @@ use Rattle.history.specs.Answers.{is_holding}
 use Rattle.history.specs.Facts.{facts}
 use Rattle.history.specs.History.{Accept, log, event_by}
 use Rattle.history.specs.Tcg.{command_read}
-use Rattle.hba.specs.History.{Wrote, Powered, Signed, Missed, Controlled, Fetched, Completed, account, acts_of, regs_of, drive_effect, effect_after}
+use Rattle.hba.specs.History.{Wrote, Powered, Signed, Missed, Controlled, Fetched, Completed, account, acts_of, regs_of, drive_effect, effect_after, Asserted, Restarted, Unheard}
 use Rattle.hba.specs.Laws.{ActiveLaw}
 use Rattle.hba.proofs.Active.{fetched_same, arrived_told}
 use Rattle.hba.proofs.laws.laws_of_queues.Goals as goal
@@ -17,6 +17,9 @@ active_law o before Powered = tt
 active_law o before Signed = refl
 active_law o before (Missed fetched miss) = refl
 active_law o before (Controlled tag) = refl
+active_law o before (Asserted tag) = refl
+active_law o before (Restarted tag) = refl
+active_law o before (Unheard tag) = refl
 active_law o before (Fetched tag fis payload arrival) =
     let f = facts o (log o (acts_of o before)) in
     let event = event_by f (Accept fis payload) in

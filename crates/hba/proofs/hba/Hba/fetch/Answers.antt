@@ -3,9 +3,9 @@ use Rattle.std.proofs.lemmas.Bool.Decides.{nat_tests}
 use Rattle.std.proofs.Common.{arith, Some, None, Ok, Err, sym, refl, ◌∙◌}
 use Rattle.hba.specs.declared.work.Done.TheVariants as dones
 use Rattle.hba.specs.Showing.{fault_of}
-use Rattle.hba.specs.Engine.{Executes, Fetches, FetchesFrom, FetchesFis, place_of}
+use Rattle.hba.specs.Engine.{HearsIf, Fetches, FetchesFrom, FetchesFis, place_of}
 use Rattle.std.proofs.lemmas.Result.{on_err_weaker}
-use Rattle.hba.proofs.Turns.{told_as, turn_missed, fetch_header, fetch_fis, fetch_control, fetch_executes, if_turned, read_first}
+use Rattle.hba.proofs.Turns.{told_as, turn_missed, fetch_header, fetch_fis, fetch_control, fetch_hears, if_turned, read_first}
 use Rattle.host_memory.specs.declared.hba_memory.miss.Miss.TheVariants as misses
 use Rattle.hba.proofs.hba.Hba.fetch.Goals as goal
 
@@ -34,40 +34,39 @@ returns-in_default-clause-done g c =
 
 pub returns-then-not-is_command-clause-done : goal.returns-then-not-is_command-clause-done
 returns-then-not-is_command-clause-done g c =
-    told_as g.M.HostMemory.does (λ o a. Fetches o a c.args.tag) c.args.self.now c.args.memory.now c.control.new.self c.read_array-2.new.memory c.control.result
-    dones.Control None c.control.ensures.told
-    (fetch_header g.M.HostMemory.does c.args.self.now c.args.memory.now c.read_array.new.memory c.control.new.self c.read_array-2.new.memory dones.Control None c.args.tag
+    fetch_header g.M.HostMemory.does c.args.self.now c.args.memory.now c.read_array.new.memory c.control.new.self c.control.new.memory c.control.result.done c.control.result.denied c.args.tag
     c.read_array.result (Ok c.in-Ok.header) (sym c.header_by.ensures ∙ c.in-Ok.is)
     (rw c.header_at.ensures.value at c.read_array.ensures)
-    (fetch_fis g.M.HostMemory.does c.args.self.now c.read_array.new.memory c.read_array-2.new.memory c.control.new.self c.read_array-2.new.memory
-    dones.Control None c.args.tag c.in-Ok.header (Some c.in-Some.fis)
+    (fetch_fis g.M.HostMemory.does c.args.self.now c.read_array.new.memory c.read_array-2.new.memory c.control.new.self c.control.new.memory
+    c.control.result.done c.control.result.denied c.args.tag c.in-Ok.header (Some c.in-Some.fis)
     (rw (c.from.ensures, c.in-Some.is) at c.read_array-2.ensures)
-    (fetch_control g.M.HostMemory.does c.args.self.now c.read_array-2.new.memory c.control.new.self c.args.tag c.in-Ok.header c.in-Some.fis
-    (sym c.is_command.ensures ∙ c.if-not-is_command.true) c.control.ensures.agrees)))
+    (fetch_control g.M.HostMemory.does c.args.self.now c.read_array-2.new.memory c.control.new.self c.control.new.memory c.control.result.done c.control.result.denied
+    c.args.tag c.in-Ok.header c.in-Some.fis
+    (sym c.is_command.ensures ∙ c.if-not-is_command.true) c.control.ensures))
 
-pub execute-requires-clause-kind : goal.execute-requires-clause-kind
-execute-requires-clause-kind g c =
+pub hear-requires-clause-kind : goal.hear-requires-clause-kind
+hear-requires-clause-kind g c =
     let is = sym c.is_command.ensures ∙ c.if-not-is_command.false in
     grind (arith, nat_tests, is)
 
 pub returns-clause-done : goal.returns-clause-done
 returns-clause-done g c =
-    if_turned g.M.HostMemory.does (λ o a. Fetches o a c.args.tag) (λ o a. Executes o a c.place_of-place.result c.args.tag c.in-Some.fis)
-    c.args.self.now c.args.memory.now c.read_array-2.new.memory c.execute.new.self c.execute.new.memory c.execute.result
+    if_turned g.M.HostMemory.does (λ o a. Fetches o a c.args.tag) (λ o a. HearsIf a.registers.in_reset o a c.place_of-place.result c.args.tag c.in-Some.fis)
+    c.args.self.now c.args.memory.now c.read_array-2.new.memory c.hear.new.self c.hear.new.memory c.hear.result
     (λ done denied t.
-    fetch_header g.M.HostMemory.does c.args.self.now c.args.memory.now c.read_array.new.memory c.execute.new.self c.execute.new.memory done denied c.args.tag
+    fetch_header g.M.HostMemory.does c.args.self.now c.args.memory.now c.read_array.new.memory c.hear.new.self c.hear.new.memory done denied c.args.tag
     c.read_array.result (Ok c.in-Ok.header) (sym c.header_by.ensures ∙ c.in-Ok.is)
     (rw c.header_at.ensures.value at c.read_array.ensures)
-    (fetch_fis g.M.HostMemory.does c.args.self.now c.read_array.new.memory c.read_array-2.new.memory c.execute.new.self c.execute.new.memory
+    (fetch_fis g.M.HostMemory.does c.args.self.now c.read_array.new.memory c.read_array-2.new.memory c.hear.new.self c.hear.new.memory
     done denied c.args.tag c.in-Ok.header (Some c.in-Some.fis)
     (rw (c.from.ensures, c.in-Some.is) at c.read_array-2.ensures)
-    (fetch_executes g.M.HostMemory.does c.args.self.now c.read_array-2.new.memory c.execute.new.self c.execute.new.memory done denied c.args.tag c.in-Ok.header
+    (fetch_hears g.M.HostMemory.does c.args.self.now c.read_array-2.new.memory c.hear.new.self c.hear.new.memory done denied c.args.tag c.in-Ok.header
     c.in-Some.fis c.place_of-place.result (sym c.is_command.ensures ∙ c.if-not-is_command.false) c.place_of-place.ensures.value t)))
-    c.execute.ensures.done
+    c.hear.ensures.done
 
 pub returns-clause-kept : goal.returns-clause-kept
 returns-clause-kept g c =
-    on_err_weaker c.execute.result
-    (λ h. read_first g.M.HostMemory.does c.args.memory.now c.read_array.new.memory c.execute.new.memory _ _ _ c.read_array.ensures
-    (read_first g.M.HostMemory.does c.read_array.new.memory c.read_array-2.new.memory c.execute.new.memory _ _ _ c.read_array-2.ensures h))
-    c.execute.ensures.kept
+    on_err_weaker c.hear.result
+    (λ h. read_first g.M.HostMemory.does c.args.memory.now c.read_array.new.memory c.hear.new.memory _ _ _ c.read_array.ensures
+    (read_first g.M.HostMemory.does c.read_array.new.memory c.read_array-2.new.memory c.hear.new.memory _ _ _ c.read_array-2.ensures h))
+    c.hear.ensures.kept
